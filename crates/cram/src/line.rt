@@ -1,0 +1,114 @@
+// One line of the users file.
+ghost use Rattle.std.specs.Prelude.{◌≡◌, ℕ, ◌<◌, ◌==◌, ◌∷◌, length, MatchOption};
+ghost use Rattle.std.specs.Str.Lines.{lines, strip_carriage_return};
+ghost use Rattle.cram.specs.Line.{is_blank, is_name, has_right_length, line_of, pair_of, pair_or_wrong, without_first_blanks, without_last_blanks};
+ghost use Rattle.cram.specs.Parts.{IsSplitAtFirst, IsWithout};
+ghost use Rattle.cram.specs.ParsedLine.{said_by};
+
+// The most bytes of a name or of a password.
+const MAX_LEN: usize = 255;
+
+/// What a line says.
+pub enum ParsedLine<'a> {
+    Blank,
+    Comment,
+    Header,
+    Pair { name: &'a [u8], password: &'a [u8] },
+    Wrong,
+}
+
+/// The first line, without its end, and the bytes behind its end. A line ends with LF or CRLF, and the
+/// last one also with the bytes.
+pub fn split_line(bytes: &[u8]) -> (&[u8], &[u8])
+    requires { 0 < length bytes.now }
+    ensures lines { lines bytes.now ≡ result.0.now ∷ lines result.1.now }
+    ensures shorter { length result.1.now < length bytes.now }
+{
+    match split_once(bytes, b'\n') {
+        Some((line, rest)) => (without_return(line), rest),
+        None => (bytes, &[]),
+    }
+}
+
+// What stands before the first separator and behind it.
+fn split_once(bytes: &[u8], separator: u8) -> Option<(&[u8], &[u8])>
+    ensures { let is_separator = λ (b : ℕ). b == separator in
+        MatchOption result (IsWithout is_separator bytes.now) (λ parts. IsSplitAtFirst is_separator bytes.now parts.0.now parts.1.now) }
+{
+    match bytes.iter().position(|b| *b == separator) {
+        Some(place) => Some((&bytes[..place], &bytes[place + 1..])),
+        None => None,
+    }
+}
+
+fn without_return(line: &[u8]) -> &[u8]
+    ensures { result.now ≡ strip_carriage_return line.now }
+{
+    line.strip_suffix(b"\r").unwrap_or(line)
+}
+
+/// Reads a line that has no end.
+#[tactic(auto, unfolding(crate::specs::Line::line_of))]
+pub fn parse_line(line: &[u8]) -> ParsedLine<'_>
+    ensures { said_by result ≡ line_of line.now }
+{
+    if line.iter().all(|b| is_blank(*b)) {
+        ParsedLine::Blank
+    } else if line.starts_with(b"#") {
+        ParsedLine::Comment
+    } else if line == b"[users]".as_slice() {
+        ParsedLine::Header
+    } else {
+        parse_pair(line)
+    }
+}
+
+#[tactic(auto, unfolding(crate::specs::Line::pair_of))]
+fn parse_pair(line: &[u8]) -> ParsedLine<'_>
+    ensures { said_by result ≡ pair_or_wrong (pair_of line.now) }
+{
+    let Some((name, password)) = split_once(line, b'=') else {
+        return ParsedLine::Wrong;
+    };
+    let name = without_last_blanks(name);
+    let password = without_first_blanks(password);
+    if is_name(name) && has_right_length(password) {
+        ParsedLine::Pair { name, password }
+    } else {
+        ParsedLine::Wrong
+    }
+}
+
+/// Whether a user may have the name: 1 to 255 bytes, none of them a space or a tab.
+pub fn is_name(bytes: &[u8]) -> bool
+    ensures { result ≡ is_name bytes.now }
+{
+    has_right_length(bytes) && !bytes.iter().any(|b| is_blank(*b))
+}
+
+// Whether a name or a password may have as many bytes.
+fn has_right_length(bytes: &[u8]) -> bool
+    ensures { result ≡ has_right_length bytes.now }
+{
+    !bytes.is_empty() && bytes.len() <= MAX_LEN
+}
+
+fn without_first_blanks(bytes: &[u8]) -> &[u8]
+    ensures { result.now ≡ without_first_blanks bytes.now }
+{
+    let count = bytes.iter().take_while(|b| is_blank(**b)).count();
+    &bytes[count..]
+}
+
+fn without_last_blanks(bytes: &[u8]) -> &[u8]
+    ensures { result.now ≡ without_last_blanks bytes.now }
+{
+    let count = bytes.iter().rev().take_while(|b| is_blank(**b)).count();
+    &bytes[..bytes.len() - count]
+}
+
+fn is_blank(byte: u8) -> bool
+    ensures { result ≡ is_blank byte }
+{
+    byte == b' ' || byte == b'\t'
+}

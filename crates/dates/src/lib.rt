@@ -1,0 +1,54 @@
+//! Dates as the protocol and the revision properties have them.
+#![tactic(auto)]
+
+ghost use Rattle.std.specs.Prelude.{◌≤◌, IfOk, string_bytes};
+ghost use Rattle.dates.specs.Dates.{IsDateText};
+
+use jiff::Timestamp;
+use jiff::fmt::temporal::DateTimePrinter;
+use std::alloc::{AllocError, Global};
+
+/// The last moment that has a date here, in microseconds since the beginning of 1970.
+pub const LAST_MOMENT: u64 = 200_000_000_000_000_000;
+
+/// The date of a moment, a count of microseconds since the beginning of 1970: 27 bytes
+/// `YYYY-MM-DDThh:mm:ss.uuuuuuZ`.
+pub fn date_text(alloc: Global, moment: u64) -> Result<String, AllocError>
+    requires { moment ≤ 200000000000000000 }
+    ensures { IfOk result (λ text. IsDateText moment (string_bytes text)) }
+{
+    let Ok(instant) = Timestamp::from_microsecond(moment as i64) else {
+        unreachable!()
+    };
+    let printer = DateTimePrinter::new().precision(Some(6));
+    let text = printer.timestamp_text(instant.to_plain());
+    String::from_str(alloc, text.as_str())
+}
+
+#[cfg(test)]
+mod tests {
+    use crate::date_text;
+    use std::test::Fail;
+
+    #[test]
+    fn dates_of_moments(rt: HostRuntime) -> Result<(), Fail> {
+        let alloc = rt.alloc();
+        assert_eq!(rt;
+            date_text(alloc, 0)?.as_str(),
+            "1970-01-01T00:00:00.000000Z"
+        );
+        assert_eq!(rt;
+            date_text(alloc, 999_999)?.as_str(),
+            "1970-01-01T00:00:00.999999Z"
+        );
+        assert_eq!(rt;
+            date_text(alloc, 951_827_696_123_456)?.as_str(),
+            "2000-02-29T12:34:56.123456Z"
+        );
+        assert_eq!(rt;
+            date_text(alloc, 200_000_000_000_000_000)?.as_str(),
+            "8307-10-01T19:33:20.000000Z"
+        );
+        Ok(())
+    }
+}

@@ -1,0 +1,9 @@
+use Rattle.std.proofs.Common.{◌-◌, length}
+use Rattle.items.specs.Run.{IsScanned}
+use Rattle.items.proofs.scan.proceed.Given as goal
+
+abbrev pub invariant-scanning : goal.invariant-scanning
+invariant-scanning l = IsScanned l.bytes l.count l.scan
+
+abbrev pub decreases-scanning : goal.decreases-scanning
+decreases-scanning l = length l.bytes - l.count

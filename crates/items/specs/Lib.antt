@@ -1,0 +1,14 @@
+pub mod Build
+pub mod Decoding
+pub mod Faults
+pub mod Print
+pub mod Reading
+pub mod Run
+pub mod Scan
+pub mod Spelling
+pub mod Stream
+pub mod Tree
+pub mod Unread
+pub mod View
+pub mod Word
+pub mod Written

@@ -1,0 +1,91 @@
+// What an item is.
+ghost use Rattle.std.specs.Prelude.{◌≡◌};
+ghost use Rattle.items.specs.Word.{IsWord};
+
+use std::marker::Model;
+
+/// A word: a letter, then letters, digits and dashes.
+#[derive(Drop)]
+pub struct Name {
+    bytes: Vec<u8>,
+}
+
+impl Model for Name {
+    ghost use Rattle.std.specs.Prelude.{List, ℕ};
+    ghost use Rattle.items.specs.Word.{IsWord};
+
+    ghost Value = { List ℕ };
+
+    ghost view = { λ n. n.bytes.items };
+
+    ghost invariant = { λ n. IsWord n.bytes.items };
+}
+
+impl Name {
+    /// The word of these bytes, which the caller knows to be one.
+    pub fn from_vec(bytes: Vec<u8>) -> Name
+        requires { IsWord bytes.items }
+        ensures { result ≡ bytes.items }
+    {
+        Name { bytes }
+    }
+
+    /// The bytes of the word, one of them at least.
+    pub fn as_bytes(&self) -> &[u8]
+        ensures value { result.now ≡ self.now }
+        ensures is_word { IsWord self.now }
+    {
+        self.bytes.as_slice()
+    }
+}
+
+/// The bytes of a string, which may be any.
+#[derive(Drop)]
+pub struct Text {
+    bytes: Vec<u8>,
+}
+
+impl Model for Text {
+    ghost use Rattle.std.specs.Prelude.{List, ℕ};
+
+    ghost Value = { List ℕ };
+
+    ghost view = { λ t. t.bytes.items };
+}
+
+impl Text {
+    /// The string of these bytes. An item with more than 16,777,216 of them is not read again.
+    pub fn from_vec(bytes: Vec<u8>) -> Text
+        ensures { result ≡ bytes.items }
+    {
+        Text { bytes }
+    }
+
+    /// The bytes themselves: none is copied.
+    pub fn into_vec(self) -> Vec<u8>
+        ensures { result.items ≡ self }
+    {
+        let Text { bytes } = self;
+        bytes
+    }
+
+    /// The bytes of the string.
+    pub fn as_bytes(&self) -> &[u8]
+        ensures { result.now ≡ self.now }
+    {
+        self.bytes.as_slice()
+    }
+}
+
+/// An item of the stream. On the wire whitespace, a space or a line feed, ends each.
+#[derive(Drop)]
+pub enum Item {
+    /// `word`
+    Word(Name),
+    /// `22`, in decimal
+    Number(u64),
+    /// `6:string`, a count of bytes and the bytes
+    Str(Text),
+    /// `( word 22 6:string ( ) )`
+    List(Vec<Item>),
+}

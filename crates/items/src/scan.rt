@@ -1,0 +1,246 @@
+// The scanner: it goes over the bytes once, up to the end of an item or to a byte that is wrong.
+ghost use Rattle.std.specs.Prelude.{◌≡◌, ◌≤◌, IfSome, IfNone, length};
+ghost use Rattle.items.specs.Tree.{limits};
+ghost use Rattle.items.specs.Scan.{step, after_step, gap_step, step_in, number_step, is_space, is_word_byte, StaysShallow};
+ghost use Rattle.items.specs.Run.{IsScanned, EndsSo, Skips};
+
+pub const MAX_DEPTH: u64 = 64;
+
+const MAX_STRING: u64 = 16_777_216;
+
+/// Where in an item a byte comes: between items, behind a `(`, in a word, in a number of this value
+/// so far, or in a string that lacks so many bytes. Behind a `)` a string lacks none.
+#[derive(Clone, Copy)]
+pub enum Lex {
+    Gap,
+    Open,
+    Word,
+    Number(u64),
+    Tail(u64),
+}
+
+/// What is wrong with a byte.
+#[derive(Clone, Copy)]
+pub enum Defect {
+    Malformed,
+    TooDeep,
+    StringTooLong,
+    NumberTooLarge,
+}
+
+/// How many lists are open, and where in an item the next byte comes.
+#[derive(Clone, Copy)]
+pub struct Scan {
+    pub depth: u64,
+    pub lex: Lex,
+}
+
+/// What a byte does: the item goes on, it is whole, or the byte is wrong.
+#[derive(Clone, Copy)]
+pub enum Step {
+    On(Scan),
+    Whole,
+    Bad(Defect),
+}
+
+/// How many bytes are scanned, and the scan behind them.
+#[derive(Clone, Copy)]
+pub struct Progress {
+    pub count: usize,
+    pub scan: Scan,
+}
+
+/// What comes behind the bytes that are scanned: none yet, the last byte of an item, or a wrong one.
+#[derive(Clone, Copy)]
+pub enum End {
+    More,
+    Whole,
+    Bad(Defect),
+}
+
+#[tactic(auto, using(crate::proofs::Scanned::scanned_more, crate::proofs::Scanned::scanned_skip))]
+/// Scans on, until an item is whole, a byte is wrong, or the bytes end.
+pub fn proceed(from: Progress, bytes: &[u8]) -> (Progress, End)
+    requires { IsScanned bytes.now from.count from.scan }
+    ensures scanned { IsScanned bytes.now result.0.count result.0.scan }
+    ensures ends { EndsSo bytes.now result.0.count result.0.scan result.1 }
+{
+    let mut count = from.count;
+    let mut scan = from.scan;
+    'scanning: while count < bytes.len() {
+        if let Some((behind, len)) = skip_string(scan, bytes.len() - count) {
+            scan = behind;
+            count += len;
+        } else {
+            match take_byte(scan, bytes[count]) {
+                Step::On(next) => {
+                    scan = next;
+                    count += 1;
+                }
+                Step::Whole => return (Progress { count, scan }, End::Whole),
+                Step::Bad(defect) => return (Progress { count, scan }, End::Bad(defect)),
+            }
+        }
+    }
+    (Progress { count, scan }, End::More)
+}
+
+// In a string: past as many of its bytes as there are.
+fn skip_string(scan: Scan, room: usize) -> Option<(Scan, usize)>
+    ensures { IfSome result (λ x. Skips scan x.0 x.1 room) }
+{
+    let Lex::Tail(left) = scan.lex else {
+        return None;
+    };
+    let len = left.min(room as u64);
+    if len == 0 {
+        return None;
+    }
+    let behind = Scan {
+        depth: scan.depth,
+        lex: Lex::Tail(left - len),
+    };
+    Some((behind, len as usize))
+}
+
+#[tactic(auto, unfolding(crate::specs::Scan::step_in))]
+pub fn take_byte(scan: Scan, byte: u8) -> Step
+    requires { scan.depth ≤ 64 }
+    ensures step { result ≡ step limits scan byte }
+    ensures shallow { StaysShallow result }
+{
+    let depth = scan.depth;
+    match scan.lex {
+        Lex::Gap => in_gap(depth, byte),
+        Lex::Open => behind_opening(depth, byte),
+        Lex::Word => in_word(depth, byte),
+        Lex::Number(n) => in_number(depth, n, byte),
+        Lex::Tail(left) => in_tail(depth, left, byte),
+    }
+}
+
+pub fn is_space(byte: u8) -> bool
+    ensures { result ≡ is_space byte }
+{
+    byte == b' ' || byte == b'\n'
+}
+
+pub fn is_word_byte(byte: u8) -> bool
+    ensures { result ≡ is_word_byte byte }
+{
+    byte.is_ascii_alphanumeric() || byte == b'-'
+}
+
+fn on(depth: u64, lex: Lex) -> Step
+    ensures { result ≡ Step.On (record { depth = depth; lex = lex }) }
+{
+    Step::On(Scan { depth, lex })
+}
+
+#[tactic(auto, unfolding(crate::specs::Scan::after_step))]
+fn behind_body(depth: u64, byte: u8) -> Step
+    requires { depth ≤ 64 }
+    ensures step { result ≡ after_step depth byte }
+    ensures shallow { StaysShallow result }
+{
+    if !is_space(byte) {
+        return Step::Bad(Defect::Malformed);
+    }
+    if depth == 0 {
+        Step::Whole
+    } else {
+        on(depth, Lex::Gap)
+    }
+}
+
+#[tactic(auto, unfolding(crate::specs::Scan::gap_step))]
+fn in_gap(depth: u64, byte: u8) -> Step
+    requires { depth ≤ 64 }
+    ensures step { result ≡ gap_step limits depth byte }
+    ensures shallow { StaysShallow result }
+{
+    if is_space(byte) {
+        on(depth, Lex::Gap)
+    } else if byte == b'(' {
+        if depth < MAX_DEPTH {
+            on(depth + 1, Lex::Open)
+        } else {
+            Step::Bad(Defect::TooDeep)
+        }
+    } else if byte == b')' {
+        if depth == 0 {
+            Step::Bad(Defect::Malformed)
+        } else {
+            on(depth - 1, Lex::Tail(0))
+        }
+    } else if byte.is_ascii_digit() {
+        on(depth, Lex::Number((byte - b'0') as u64))
+    } else if byte.is_ascii_alphabetic() {
+        on(depth, Lex::Word)
+    } else {
+        Step::Bad(Defect::Malformed)
+    }
+}
+
+#[tactic(auto, unfolding(crate::specs::Scan::step_in))]
+fn behind_opening(depth: u64, byte: u8) -> Step
+    requires { depth ≤ 64 }
+    ensures step { result ≡ step_in limits depth Lex.Open byte }
+    ensures shallow { StaysShallow result }
+{
+    if is_space(byte) {
+        on(depth, Lex::Gap)
+    } else {
+        Step::Bad(Defect::Malformed)
+    }
+}
+
+#[tactic(auto, unfolding(crate::specs::Scan::step_in))]
+fn in_word(depth: u64, byte: u8) -> Step
+    requires { depth ≤ 64 }
+    ensures step { result ≡ step_in limits depth Lex.Word byte }
+    ensures shallow { StaysShallow result }
+{
+    if is_word_byte(byte) {
+        on(depth, Lex::Word)
+    } else {
+        behind_body(depth, byte)
+    }
+}
+
+#[tactic(auto, unfolding(crate::specs::Scan::number_step))]
+fn in_number(depth: u64, n: u64, byte: u8) -> Step
+    requires { depth ≤ 64 }
+    ensures step { result ≡ number_step limits depth n byte }
+    ensures shallow { StaysShallow result }
+{
+    if byte.is_ascii_digit() {
+        let value = 10 * (n as u128) + (byte - b'0') as u128;
+        if value <= u64::MAX as u128 {
+            on(depth, Lex::Number(value as u64))
+        } else {
+            Step::Bad(Defect::NumberTooLarge)
+        }
+    } else if byte == b':' {
+        if n <= MAX_STRING {
+            on(depth, Lex::Tail(n))
+        } else {
+            Step::Bad(Defect::StringTooLong)
+        }
+    } else {
+        behind_body(depth, byte)
+    }
+}
+
+#[tactic(auto, unfolding(crate::specs::Scan::step_in))]
+fn in_tail(depth: u64, left: u64, byte: u8) -> Step
+    requires { depth ≤ 64 }
+    ensures step { result ≡ step_in limits depth (Lex.Tail left) byte }
+    ensures shallow { StaysShallow result }
+{
+    if left == 0 {
+        behind_body(depth, byte)
+    } else {
+        on(depth, Lex::Tail(left - 1))
+    }
+}

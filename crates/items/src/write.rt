@@ -1,0 +1,91 @@
+// An item as bytes.
+ghost use Rattle.std.specs.Prelude.{◌≡◌, ◌++◌, ◌∷◌, [], List, ℕ, length, OnOk, OnErr};
+ghost use Rattle.std.specs.Fmt.{decimal};
+ghost use Rattle.items.specs.View.{tree_of, trees_of};
+ghost use Rattle.items.specs.Tree.{limits, IsWithin};
+ghost use Rattle.items.specs.Stream.{IsItem};
+ghost use Rattle.items.specs.Written.{HasWords, HaveWords};
+ghost use Rattle.items.specs.Print.{printed, list_printed, Grows};
+
+use crate::item::Item;
+use std::alloc::{AllocError, Global};
+
+/// Writes the item at the end: each token, `(` and `)` with one space behind it, numbers without
+/// leading zeros. An `Err` changes nothing.
+pub fn write_item(item: &Item, out: &mut Vec<u8>) -> Result<(), AllocError>
+    ensures ok { OnOk result (out.new.items ≡ out.old.items ++ printed (tree_of item.now)) }
+    // So it is read again, whatever follows.
+    ensures spelled { OnOk result (IsWithin limits 0 (tree_of item.now)
+        → IsItem limits (tree_of item.now) (printed (tree_of item.now))) }
+    ensures err { OnErr result (out.new.items ≡ out.old.items) }
+{
+    let len = out.len();
+    let written = append_item(item, out);
+    if written.is_err() {
+        out.truncate(len);
+    }
+    written
+}
+
+// An `Err` leaves a part of the bytes behind the old ones.
+#[cycle(write)]
+fn append_item(item: &Item, out: &mut Vec<u8>) -> Result<(), AllocError>
+    ensures ok { OnOk result (out.new.items ≡ out.old.items ++ printed (tree_of item.now)) }
+    ensures words { OnOk result (HasWords (tree_of item.now)) }
+    ensures grows { Grows out.old.items out.new.items }
+{
+    match item {
+        Item::Word(name) => append_word(name.as_bytes(), out),
+        Item::Number(n) => append_number(*n, out),
+        Item::Str(text) => append_string(text.as_bytes(), out),
+        Item::List(items) => append_list(items.as_slice(), out),
+    }
+}
+
+#[cycle(write)]
+fn append_list(items: &[Item], out: &mut Vec<u8>) -> Result<(), AllocError>
+    ensures ok { OnOk result (out.new.items ≡ out.old.items ++ list_printed (trees_of items.now)) }
+    ensures words { OnOk result (HaveWords (trees_of items.now)) }
+    ensures grows { Grows out.old.items out.new.items }
+{
+    out.extend_from_slice(b"( ")?;
+    for item in items {
+        append_item(item, out)?;
+    }
+    out.extend_from_slice(b") ")
+}
+
+fn append_word(word: &[u8], out: &mut Vec<u8>) -> Result<(), AllocError>
+    ensures ok { OnOk result (out.new.items ≡ out.old.items ++ (word.now ++ 32 ∷ [])) }
+    ensures grows { Grows out.old.items out.new.items }
+{
+    out.extend_from_slice(word)?;
+    out.push(b' ').map_err(AllocError::from)
+}
+
+fn append_number(n: u64, out: &mut Vec<u8>) -> Result<(), AllocError>
+    ensures ok { OnOk result (out.new.items ≡ out.old.items ++ (decimal n ++ 32 ∷ [])) }
+    ensures grows { Grows out.old.items out.new.items }
+{
+    append_digits(n, out)?;
+    out.push(b' ').map_err(AllocError::from)
+}
+
+fn append_digits(n: u64, out: &mut Vec<u8>) -> Result<(), AllocError>
+    ensures ok { OnOk result (out.new.items ≡ out.old.items ++ decimal n) }
+    ensures grows { Grows out.old.items out.new.items }
+{
+    let mut buffer = itoa::Buffer::new();
+    out.extend_from_slice(buffer.format(n).as_bytes())
+}
+
+fn append_string(text: &[u8], out: &mut Vec<u8>) -> Result<(), AllocError>
+    ensures ok { OnOk result (out.new.items
+        ≡ out.old.items ++ (decimal (length text.now) ++ (58 ∷ (text.now ++ 32 ∷ [])))) }
+    ensures grows { Grows out.old.items out.new.items }
+{
+    append_digits(text.len() as u64, out)?;
+    out.push(b':').map_err(AllocError::from)?;
+    out.extend_from_slice(text)?;
+    out.push(b' ').map_err(AllocError::from)
+}

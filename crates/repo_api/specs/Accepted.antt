@@ -1,0 +1,35 @@
+-- The accepted changes of a repository, and what they make of it.
+use Rattle.std.specs.Prelude.{List, [], ◌∷◌, Result, Ok, Err}
+use Rattle.refusals.specs.declared.Refusal.{Refusal}
+use Rattle.repo_api.specs.States.{RepoState, TxnState}
+use Rattle.repo_api.specs.Commits.{committed}
+use Rattle.repo_api.specs.declared.ask.CommitAsk.{CommitAsk}
+use Rattle.repo_api.specs.declared.fault.ChangeFault.{ChangeFault}
+use Rattle.repo_api.specs.declared.fault.ChangeFault.TheVariants.{Refused, StoreFailed, Halted, NoMemory}
+
+-- an accepted change, with what was asked
+pub data Accepted : Type 0 where
+  Commits : CommitAsk → TxnState → Accepted
+
+abbrev pub changed : RepoState → Accepted → RepoState
+changed c (Commits ask t) = committed c ask t
+
+abbrev pub changed_all : RepoState → List Accepted → RepoState
+changed_all c [] = c
+changed_all c (e ∷ es) = changed_all (changed c e) es
+
+-- what a refusal says
+abbrev pub IfRefused : {T : Type 0} → Result T ChangeFault → (Refusal → Type 0) → Type 0
+IfRefused (Ok _) P = Unit {0}
+IfRefused (Err (Refused r)) P = P r
+IfRefused (Err StoreFailed) P = Unit {0}
+IfRefused (Err Halted) P = Unit {0}
+IfRefused (Err NoMemory) P = Unit {0}
+
+-- a repository in memory has no store that could fail
+abbrev pub IsOfMemory : {T : Type 0} → Result T ChangeFault → Type 0
+IsOfMemory (Ok _) = Unit {0}
+IsOfMemory (Err (Refused r)) = Unit {0}
+IsOfMemory (Err StoreFailed) = ⊥
+IsOfMemory (Err Halted) = ⊥
+IsOfMemory (Err NoMemory) = Unit {0}

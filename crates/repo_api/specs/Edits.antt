@@ -1,0 +1,42 @@
+-- The edits of a tree. Each opens `own` and `last` at its path, and `last` above it.
+use Rattle.std.specs.Prelude.{[], Some, None, option_map, if◌then◌else◌, length, drop}
+use Rattle.svnpath.specs.Paths.{PathValue, same_path, is_at_or_under}
+use Rattle.repo_api.specs.Trees.{Tree}
+use Rattle.repo_api.specs.declared.entry.Entry.{Entry}
+use Rattle.repo_api.specs.declared.entry.Mark.TheVariants.{Open}
+use Rattle.repo_api.specs.declared.entry.Content.{Content}
+use Rattle.repo_api.specs.declared.entry.Content.TheVariants.{Directory}
+use Rattle.repo_api.specs.declared.edit.EditOp.{EditOp}
+use Rattle.repo_api.specs.declared.edit.EditOp.TheVariants.{AddDirectory, Delete}
+
+-- the entry after a change beneath it
+abbrev pub touched : Entry → Entry
+touched e = record e { last = Open }
+
+abbrev pub new_entry : Content → Entry
+new_entry content = record { content = content; properties = []; own = Open; last = Open }
+
+-- `last` open at p and above it
+abbrev pub touched_above : PathValue → Tree → Tree
+touched_above p t q = if is_at_or_under p q then option_map touched (t q) else t q
+
+-- a new entry at p
+abbrev pub added : Tree → PathValue → Content → Tree
+added t p content q = if same_path p q then Some (new_entry content) else touched_above p t q
+
+-- at p and under it the tree `part`, whose paths begin at p
+abbrev pub grafted : Tree → PathValue → Tree → Tree
+grafted t p part q = if is_at_or_under q p then part (drop (length p) q) else touched_above p t q
+
+-- nothing at p and under it
+abbrev pub deleted : Tree → PathValue → Tree
+deleted t p = grafted t p (λ _. None)
+
+-- the tree after an edit
+abbrev pub edited : Tree → EditOp → Tree
+edited t (AddDirectory p) = added t p Directory
+edited t (Delete p) = deleted t p
+
+-- a new transaction: the youngest tree, the root's `last` open
+abbrev pub begun : Tree → Tree
+begun t = touched_above [] t

@@ -1,0 +1,31 @@
+-- What stands at a path, seen from outside.
+use Rattle.std.specs.Prelude.{ℕ, [], Option, Some, None, slice_get}
+use Rattle.std.specs.FinMap.{get}
+use Rattle.svnpath.specs.Paths.{PathValue}
+use Rattle.repo_api.specs.Properties.{PropertyList}
+use Rattle.repo_api.specs.States.{RepoState, tree_at}
+use Rattle.repo_api.specs.declared.entry.Content.{Content}
+use Rattle.repo_api.specs.declared.entry.Content.TheVariants.{Directory, File}
+use Rattle.repo_api.specs.declared.entry.Entry.{Entry}
+use Rattle.repo_api.specs.declared.entry.NodeKind.{NodeKind}
+use Rattle.repo_api.specs.declared.entry.NodeKind.TheVariants as kinds
+
+abbrev pub content_kind : Content → NodeKind
+content_kind Directory = kinds.Directory
+content_kind (File text) = kinds.File
+
+abbrev pub kind_of : Option Entry → NodeKind
+kind_of None = kinds.Absent
+kind_of (Some e) = content_kind e.content
+
+-- what stands at a path of a revision
+abbrev pub kind_at : RepoState → ℕ → PathValue → NodeKind
+kind_at c n p = kind_of (get (tree_at c n) p)
+
+abbrev pub or_empty : Option PropertyList → PropertyList
+or_empty None = []
+or_empty (Some ps) = ps
+
+-- the properties of a revision
+abbrev pub properties_at : RepoState → ℕ → PropertyList
+properties_at c n = or_empty (slice_get c.properties n)

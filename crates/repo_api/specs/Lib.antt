@@ -1,0 +1,9 @@
+pub mod Properties
+pub mod Trees
+pub mod Edits
+pub mod Changes
+pub mod States
+pub mod Commits
+pub mod Accepted
+pub mod Kinds
+pub mod Opening

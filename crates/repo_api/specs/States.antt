@@ -1,0 +1,81 @@
+-- What a repository contains, and what a transaction is.
+use Rattle.std.specs.Prelude.{◌≡◌, ℕ, ◌-◌, List, ◌++◌, Option, Some, None, length, slice_get}
+use Rattle.std.specs.FinMap.{FinMap, get, empty}
+use Rattle.svnpath.specs.Paths.{PathValue, path_cmp}
+use Rattle.repo_api.specs.Properties.{PropertyList}
+use Rattle.repo_api.specs.Trees.{Tree}
+use Rattle.repo_api.specs.Changes.{Changes, changes_after}
+use Rattle.repo_api.specs.Edits.{edited, begun}
+use Rattle.repo_api.specs.declared.entry.Entry.{Entry}
+use Rattle.repo_api.specs.declared.change.Change.{Change}
+use Rattle.repo_api.specs.declared.edit.EditOp.{EditOp}
+use Rattle.repo_api.specs.declared.lock.Lock.{Lock}
+
+-- the entries of a tree, the changes of a revision and the locks, by their paths
+abbrev pub TreeMap : Type 0
+TreeMap = FinMap path_cmp Entry
+
+abbrev pub ChangeMap : Type 0
+ChangeMap = FinMap path_cmp Change
+
+abbrev pub LockMap : Type 0
+LockMap = FinMap path_cmp Lock
+
+-- what stands at each path of a map
+abbrev pub tree_of : TreeMap → Tree
+tree_of m p = get m p
+
+abbrev pub changes_of : ChangeMap → Changes
+changes_of m p = get m p
+
+-- what never changes of a revision
+pub record Fixed : Type 0 where
+  pub tree : TreeMap
+  pub changes : ChangeMap
+
+-- a repository: its name among all repositories, its revisions from 0 on, the properties of each, its locks
+pub record RepoState : Type 0 where
+  pub uuid : ℕ
+  pub revisions : List Fixed
+  pub properties : List PropertyList
+  pub locks : LockMap
+
+-- an open transaction
+pub record TxnState : Type 0 where
+  -- the revisions that it was last shown
+  pub shown : List Fixed
+  -- the revision that it began from
+  pub base : ℕ
+  pub tree : TreeMap
+  pub changes : ChangeMap
+
+-- the number of the youngest revision
+abbrev pub youngest : RepoState → ℕ
+youngest c = length c.revisions - 1
+
+abbrev pub tree_in : Option Fixed → TreeMap
+tree_in None = empty
+tree_in (Some r) = r.tree
+
+-- the tree of a revision; a number that is none has no entries
+abbrev pub tree_at : RepoState → ℕ → TreeMap
+tree_at c n = tree_in (slice_get c.revisions n)
+
+-- the old list begins the new one
+pub record IsBeginning (old new : List Fixed) : Type 0 where
+  pub more : List Fixed
+  pub is : new ≡ old ++ more
+
+-- a transaction that begins at the youngest revision
+pub record IsBegun (c : RepoState) (t : TxnState) : Type 0 where
+  pub shown : t.shown ≡ c.revisions
+  pub base : t.base ≡ youngest c
+  pub tree : (p : PathValue) → get t.tree p ≡ begun (tree_of (tree_at c (youngest c))) p
+  pub changes : (p : PathValue) → get t.changes p ≡ None
+
+-- the transaction after an edit, over the revisions shown: by what stands at each path
+pub record IsEdited (shown : List Fixed) (old : TxnState) (op : EditOp) (new : TxnState) : Type 0 where
+  pub shown_now : new.shown ≡ shown
+  pub base : new.base ≡ old.base
+  pub tree : (p : PathValue) → get new.tree p ≡ edited (tree_of old.tree) op p
+  pub changes : (p : PathValue) → get new.changes p ≡ changes_after (changes_of old.changes) op p

@@ -1,0 +1,43 @@
+-- Trees: what stands at each path.
+use Rattle.std.specs.Prelude.{◌==◌, ℕ, Bool, true, false, ◌&&◌, List, [], ◌∷◌, ◌++◌, Option, Some, None, IsSome, IsSomeAnd, IsTrue, Contains}
+use Rattle.svnpath.specs.Paths.{PathValue, Component, same_path}
+use Rattle.repo_api.specs.declared.entry.Entry.{Entry}
+use Rattle.repo_api.specs.declared.entry.Mark.{Mark}
+use Rattle.repo_api.specs.declared.entry.Mark.TheVariants.{Open, Made}
+use Rattle.repo_api.specs.declared.entry.Content.{Content}
+use Rattle.repo_api.specs.declared.entry.Content.TheVariants.{Directory, File}
+
+-- the entry at each path that has one
+abbrev pub Tree : Type 0
+Tree = PathValue → Option Entry
+
+abbrev pub is_directory_content : Content → Bool
+is_directory_content Directory = true
+is_directory_content (File text) = false
+
+abbrev pub is_directory : Entry → Bool
+is_directory e = is_directory_content e.content
+
+abbrev pub HasDirectory : Tree → PathValue → Type 0
+HasDirectory t p = IsSomeAnd (t p) (λ e. IsTrue (is_directory e))
+
+-- finitely many entries; the root is a directory, and each other path's parent is one
+pub record IsTree (t : Tree) : Type 0 where
+  pub root : HasDirectory t []
+  pub parents : (p : PathValue) (c : Component) → IsSome (t (p ++ c ∷ [])) → HasDirectory t p
+  pub finite : (ps : List PathValue) × ((p : PathValue) → IsSome (t p) → Contains ps p)
+
+abbrev pub same_mark : Mark → Mark → Bool
+same_mark Open Open = true
+same_mark Open (Made r p) = false
+same_mark (Made r p) Open = false
+same_mark (Made r p) (Made s q) = (r == s) && same_path p q
+
+abbrev pub is_open : Mark → Bool
+is_open Open = true
+is_open (Made r p) = false
+
+-- the revision in which the mark was made
+abbrev pub revision_of : Mark → Option ℕ
+revision_of Open = None
+revision_of (Made r p) = Some r

@@ -1,0 +1,113 @@
+//! An entry of a tree.
+ghost use Rattle.std.specs.Prelude.{◌≡◌};
+ghost use Rattle.repo_api.specs.Kinds.{content_kind};
+ghost use Rattle.repo_api.specs.Trees.{same_mark, is_open, is_directory};
+
+use crate::properties::Properties;
+use std::alloc::AllocError;
+use svnpath::{Bytes, Path};
+
+/// The revision and the path at which a change was made, or open in a transaction.
+#[derive(Debug, Drop)]
+pub enum Mark {
+    Open,
+    Made(u32, Path),
+}
+
+/// What stands at a path, seen from outside.
+#[derive(Clone, Copy, Debug, PartialEq, Eq)]
+pub enum NodeKind {
+    Absent,
+    File,
+    Directory,
+}
+
+/// A directory, or a file with its text.
+#[derive(Debug, Drop)]
+pub enum Content {
+    Directory,
+    File(Bytes),
+}
+
+/// A path's entry: `own` is the last change of the entry itself, `last` the last at or under it.
+#[derive(Debug, Drop)]
+pub struct Entry {
+    pub content: Content,
+    pub properties: Properties,
+    pub own: Mark,
+    pub last: Mark,
+}
+
+impl Mark {
+    pub fn is_same(&self, other: &Mark) -> bool
+        ensures { result ≡ same_mark self.now other.now }
+    {
+        match (self, other) {
+            (Mark::Open, Mark::Open) => true,
+            (Mark::Made(revision, path), Mark::Made(other_revision, other_path)) => revision
+                == other_revision
+                && path == other_path,
+            _ => false,
+        }
+    }
+
+    pub fn is_open(&self) -> bool
+        ensures { result ≡ is_open self.now }
+    {
+        matches!(self, Mark::Open)
+    }
+}
+
+impl Entry {
+    /// Whether a directory stands there.
+    pub fn is_directory(&self) -> bool
+        ensures { result ≡ is_directory self.now }
+    {
+        matches!(self.content, Content::Directory)
+    }
+
+    /// What stands there.
+    pub fn kind(&self) -> NodeKind
+        ensures { result ≡ content_kind self.now.content }
+    {
+        match self.content {
+            Content::Directory => NodeKind::Directory,
+            Content::File(_) => NodeKind::File,
+        }
+    }
+}
+
+impl Clone for Mark {
+    ghost is_clone = { λ mark copy. copy ≡ mark };
+
+    fn clone(&self) -> Result<Self, AllocError> {
+        match self {
+            Mark::Open => Ok(Mark::Open),
+            Mark::Made(revision, path) => Ok(Mark::Made(*revision, path.clone()?)),
+        }
+    }
+}
+
+impl Clone for Content {
+    ghost is_clone = { λ content copy. copy ≡ content };
+
+    fn clone(&self) -> Result<Self, AllocError> {
+        match self {
+            Content::Directory => Ok(Content::Directory),
+            Content::File(text) => Ok(Content::File(text.clone()?)),
+        }
+    }
+}
+
+impl Clone for Entry {
+    ghost is_clone = { λ entry copy. copy ≡ entry };
+
+    fn clone(&self) -> Result<Self, AllocError> {
+        Ok(Entry {
+            content: self.content.clone()?,
+            properties: self.properties.clone()?,
+            own: self.own.clone()?,
+            last: self.last.clone()?,
+        })
+    }
+}

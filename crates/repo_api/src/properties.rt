@@ -1,0 +1,53 @@
+//! Properties by name.
+ghost use Rattle.std.specs.Prelude.{◌≡◌, [], OnOk, OnErr};
+ghost use Rattle.repo_api.specs.Properties.{PropertyList, with_property, without_property};
+
+use std::alloc::{AllocError, Global};
+use std::collections::BTreeMap;
+use std::marker::Model;
+use svnpath::Bytes;
+
+#[derive(Debug, Drop)]
+pub struct Properties {
+    values: BTreeMap<Bytes, Bytes>,
+}
+
+impl Model for Properties {
+    ghost Value = { PropertyList };
+
+    ghost view = { λ p. p.values.entries };
+}
+
+impl Properties {
+    pub fn new(alloc: Global) -> Self
+        ensures { result ≡ [] }
+    {
+        Properties {
+            values: BTreeMap::new(alloc),
+        }
+    }
+
+    pub fn set(&mut self, name: Bytes, value: Bytes) -> Result<(), AllocError>
+        ensures ok { OnOk result (self.new ≡ with_property self.old name value) }
+        ensures err { OnErr result (self.new ≡ self.old) }
+    {
+        self.values.insert(name, value)?;
+        Ok(())
+    }
+
+    pub fn remove(&mut self, name: &Bytes)
+        ensures { self.new ≡ without_property self.old name.now }
+    {
+        self.values.remove(name);
+    }
+}
+
+impl Clone for Properties {
+    ghost is_clone = { λ properties copy. copy ≡ properties };
+
+    fn clone(&self) -> Result<Self, AllocError> {
+        Ok(Properties {
+            values: self.values.clone()?,
+        })
+    }
+}

@@ -1,0 +1,68 @@
+//! A repository, by what it contains.
+ghost use Rattle.std.specs.Prelude.{◌≡◌, ◌<◌, length, IfOk, OnOk, OnErr, None, Some, option_copied, slice_get};
+ghost use Rattle.repo_api.specs.States.{RepoState, TxnState, IsBeginning, IsBegun, IsEdited, youngest};
+ghost use Rattle.repo_api.specs.Commits.{commit_refusal, committed};
+ghost use Rattle.repo_api.specs.Accepted.{IfRefused, IsOfMemory};
+ghost use Rattle.repo_api.specs.Kinds.{kind_at};
+
+use crate::ask::CommitAsk;
+use crate::edit::EditOp;
+use crate::entry::NodeKind;
+use crate::fault::ChangeFault;
+use crate::properties::Properties;
+use std::alloc::AllocError;
+use svnpath::Path;
+
+/// A repository, by what it contains, however that is kept. A call that is refused, or that lacks
+/// memory, changes nothing.
+pub trait Repository: Drop {
+    /// An open transaction.
+    type Txn: Drop;
+
+    /// What the repository contains.
+    ghost content: { Self → RepoState };
+
+    /// What a transaction is.
+    ghost txn_state: { Self.Txn → TxnState };
+
+    /// Another hold of the same content.
+    fn share(&self) -> Result<Self, AllocError>
+        ensures { IfOk result (λ other. content other ≡ content self.now) };
+
+    /// The repository's name among all repositories, as a number of 128 bits.
+    fn uuid(&self) -> u128
+        ensures { result ≡ (content self.now).uuid };
+
+    /// The number of the youngest revision.
+    fn youngest(&self) -> u64
+        ensures { result ≡ youngest (content self.now) };
+
+    /// What stands at a path of a revision.
+    fn kind(&self, revision: u64, path: &Path) -> NodeKind
+        ensures { result ≡ kind_at (content self.now) revision path.now };
+
+    /// The properties of a revision, none for a number that is no revision.
+    fn revision_properties(&self, revision: u64) -> Option<&Properties>
+        ensures { option_copied result ≡ slice_get (content self.now).properties revision };
+
+    /// A transaction that begins from the youngest revision.
+    fn begin(&self) -> Result<Self::Txn, AllocError>
+        ensures { IfOk result (λ txn. IsBegun (content self.now) (txn_state txn)) };
+
+    /// Makes an edit in a transaction, which was last shown a repository whose revisions begin this one's.
+    fn edit(&self, txn: &mut Self::Txn, op: &EditOp) -> Result<(), AllocError>
+        requires { IsBeginning (txn_state txn.old).shown (content self.now).revisions }
+        ensures ok { OnOk result (IsEdited (content self.now).revisions (txn_state txn.old) op.now (txn_state txn.new)) }
+        ensures err { OnErr result (txn_state txn.new ≡ txn_state txn.old) };
+
+    /// Makes the transaction the next revision, and answers its number. The transaction was last shown a
+    /// repository whose revisions begin this one's.
+    fn commit(&mut self, ask: CommitAsk, txn: Self::Txn) -> Result<u64, ChangeFault>
+        requires { IsBeginning (txn_state txn).shown (content self.old).revisions }
+        ensures accepted { OnOk result (commit_refusal (content self.old) (txn_state txn) ≡ None) }
+        ensures number { IfOk result (λ n. n ≡ length (content self.old).revisions) }
+        ensures ok { OnOk result (content self.new ≡ committed (content self.old) ask (txn_state txn)) }
+        ensures refused { IfRefused result (λ r. commit_refusal (content self.old) (txn_state txn) ≡ Some r) }
+        ensures memory { IsOfMemory result }
+        ensures err { OnErr result (content self.new ≡ content self.old) };
+}

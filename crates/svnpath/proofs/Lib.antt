@@ -1,0 +1,4 @@
+pub mod BeneathLemmas
+pub mod TextLemmas
+pub mod UrlLemmas
+pub mod ParsedTexts

@@ -1,0 +1,6 @@
+pub mod Paths
+pub mod PathLaws
+pub mod Components
+pub mod Texts
+pub mod Urls
+pub mod Spelled

@@ -1,0 +1,21 @@
+//! Paths of a repository: lists of components, their texts, and the URLs that name them.
+//!
+//! A `Path` is absolute and canonical, and contracts see it as the list of its components, each a
+//! list of bytes. A text or a URL that names no path is refused by a `PathFault`; which one is said
+//! by the definitions `beneath` and `path_of_url`.
+#![tactic(auto)]
+
+mod bytes;
+mod component;
+mod fault;
+mod path;
+mod repository_url;
+
+pub use bytes::Bytes;
+pub use component::{COMPONENT_LIMIT, DEPTH_LIMIT};
+pub use fault::PathFault;
+pub use path::Path;
+pub use repository_url::{RepositoryUrl, root_url};
+
+#[cfg(test)]
+mod tests;

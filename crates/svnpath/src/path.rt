@@ -1,0 +1,277 @@
+//! A path of the repository.
+ghost use Rattle.std.specs.Prelude.{◌≡◌, ◌+◌, ◌^◌, ◌<◌, ◌≤◌, ◌++◌, [], ◌∷◌, List, IfOk, IfErr, OnOk, OnErr, refl, length, take, drop, IsTrue, Some, ◌↔◌};
+ghost use Rattle.std.specs.Cmp.{partial_order_from_agreeing_total, partial_equiv_from_equiv};
+ghost use Rattle.std.specs.Cmp.Lexicographic.{lists_equiv, lists_total, lists_ties, nat_list_eq_equiv, nat_list_cmp_total, texts_ties};
+ghost use Rattle.std.specs.List.{flat_map};
+ghost use Rattle.svnpath.specs.Components.{beneath, Answers, IsRightPath};
+ghost use Rattle.svnpath.specs.Paths.{PathValue, is_at_or_under, same_path, path_cmp, path_cmp_total, path_ties};
+ghost use Rattle.svnpath.specs.Texts.{parsed, joined, parent, path_text, components_of, without_first_slash, without_last_slash};
+ghost use Rattle.svnpath.specs.Urls.{path_of_text, NamesPath};
+ghost use Rattle.svnpath.specs.declared.fault.PathFault.TheVariants.{NoMemory};
+
+use crate::bytes::Bytes;
+use crate::component::{Spelling, append_parts};
+use crate::fault::PathFault;
+use crate::repository_url::{path_of_url, read_url};
+use std::alloc::{AllocError, Global};
+use std::cmp::Ordering;
+use std::marker::Model;
+
+/// An absolute path without empty components, `.` or `..`, as `/a/b`: the list of its components.
+///
+/// `parse`, `join` and `from_url` make right paths only. `child` and `rebased` make a path of any
+/// components and of any depth, as the trees above need them.
+#[derive(Debug, Drop)]
+pub struct Path {
+    components: Vec<Bytes>,
+}
+
+impl Model for Path {
+    ghost Value = { PathValue };
+
+    ghost view = { λ p. p.components.items };
+}
+
+impl Path {
+    /// The root, `/`.
+    pub fn root(alloc: Global) -> Self
+        ensures { result ≡ [] }
+    {
+        Path {
+            components: Vec::new(alloc),
+        }
+    }
+
+    pub(crate) fn from_components(components: Vec<Bytes>) -> Self
+        ensures { result ≡ components.items }
+    {
+        Path { components }
+    }
+
+    /// Reads an absolute text: `/` is the root, and a slash stands before each component of the others.
+    ///
+    /// # Errors
+    ///
+    /// What refuses the first component from the left that is refused; `ForbiddenComponent` also for
+    /// a text that does not begin with `/`; `NoMemory`.
+    pub fn parse(alloc: Global, text: &[u8]) -> Result<Self, PathFault>
+        ensures value { Answers result (parsed text.now) }
+        ensures right { IfOk result IsRightPath }
+        ensures text { IfOk result (λ path. text.now ≡ path_text path) }
+        ensures refuses { (path : PathValue) → IsRightPath path → text.now ≡ path_text path → IfErr result (λ fault. fault ≡ NoMemory) }
+    {
+        match text.strip_prefix(b"/".as_slice()) {
+            Some(rest) => Path::root(alloc).extended(alloc, rest),
+            None => Err(PathFault::ForbiddenComponent),
+        }
+    }
+
+    /// The path that a text names relative to this one. One leading and one trailing `/` of the text
+    /// are dropped, and the empty text names this path itself.
+    ///
+    /// # Errors
+    ///
+    /// What refuses the first component of the text, from the left, that is refused; `NoMemory`.
+    pub fn join(&self, alloc: Global, relative: &[u8]) -> Result<Self, PathFault>
+        ensures value { Answers result (joined self.now relative.now) }
+        ensures right { IsRightPath self.now → IfOk result IsRightPath }
+    {
+        self.extended(alloc, without_last_slash(without_first_slash(relative)))
+    }
+
+    /// The path that a URL of the repository of this name names in it.
+    ///
+    /// The schemes are `svn` and `svn+ssh`. The URL's path is split at `/`, of which one at its end is
+    /// dropped, and then percent-decoded: the first segment is the name, and the others are the
+    /// components. A query and a fragment are passed over.
+    ///
+    /// # Errors
+    ///
+    /// `NotThisRepository` for a text that is no such URL, whatever its components; else as for `parse`.
+    pub fn from_url(alloc: Global, url: &[u8], name: &str) -> Result<Self, PathFault>
+        ensures value { Answers result (path_of_text url.now name.now) }
+        ensures names { IfOk result (NamesPath url.now name.now) }
+        ensures refuses { (path : PathValue) → NamesPath url.now name.now path → IfErr result (λ fault. fault ≡ NoMemory) }
+    {
+        path_of_url(alloc, &read_url(alloc, url)?, name)
+    }
+
+    /// This path, and beneath it the components of a text without outer slashes.
+    fn extended(&self, alloc: Global, text: &[u8]) -> Result<Self, PathFault>
+        ensures value { Answers result (beneath self.now (components_of text.now)) }
+        ensures right { IsRightPath self.now → IfOk result IsRightPath }
+    {
+        let above = self.copied()?;
+        if text.is_empty() {
+            return Ok(Path { components: above });
+        }
+        let components = append_parts(alloc, above, Spelling::Plain, text)?;
+        Ok(Path { components })
+    }
+
+    fn copied(&self) -> Result<Vec<Bytes>, AllocError>
+        ensures { IfOk result (λ components. components.items ≡ self.now) }
+    {
+        self.components.clone()
+    }
+
+    /// The path of an entry of this directory.
+    pub fn child(&self, alloc: Global, name: Bytes) -> Result<Self, AllocError>
+        ensures { IfOk result (λ p. p ≡ self.now ++ name ∷ []) }
+    {
+        let mut components = Vec::new(alloc);
+        append_all(&mut components, self.components.as_slice())?;
+        components.push(name)?;
+        Ok(Path { components })
+    }
+
+    /// The directory that this path is an entry of, or `None` for the root.
+    pub fn parent(&self, alloc: Global) -> Result<Option<Self>, AllocError>
+        ensures { IfOk result (λ above. above ≡ parent self.now) }
+    {
+        let Some((_, above)) = self.components.split_last() else {
+            return Ok(None);
+        };
+        let mut components = Vec::new(alloc);
+        append_all(&mut components, above)?;
+        Ok(Some(Path { components }))
+    }
+
+    /// How many components the path has.
+    pub fn len(&self) -> usize
+        ensures { result ≡ length self.now }
+    {
+        self.components.len()
+    }
+
+    pub fn is_root(&self) -> bool
+        ensures { IsTrue result ↔ (self.now ≡ []) }
+    {
+        self.components.is_empty()
+    }
+
+    /// The components, from the root down.
+    pub fn components(&self) -> &[Bytes]
+        ensures { result.now ≡ self.now }
+    {
+        self.components.as_slice()
+    }
+
+    /// Whether this path is `above`, or lies under it.
+    pub fn is_at_or_under(&self, above: &Path) -> bool
+        ensures value { result ≡ is_at_or_under self.now above.now }
+        ensures bound { IsTrue result → length above.now ≤ length self.now }
+    {
+        self.components.starts_with(above.components.as_slice())
+    }
+
+    /// This path with its first `from.len()` components replaced by `to`.
+    pub fn rebased(&self, alloc: Global, from: &Path, to: &Path) -> Result<Self, AllocError>
+        requires { length from.now ≤ length self.now }
+        ensures { IfOk result (λ p. p ≡ to.now ++ drop (length from.now) self.now) }
+    {
+        let mut components = Vec::new(alloc);
+        append_all(&mut components, to.components.as_slice())?;
+        append_all(&mut components, &self.components[from.components.len()..])?;
+        Ok(Path { components })
+    }
+
+    /// Appends the path's text, as `/a/b`; the root's is `/`. Without memory for it the buffer stays
+    /// as it was.
+    pub fn append_text(&self, out: &mut Vec<u8>) -> Result<(), AllocError>
+        ensures ok { OnOk result (out.new.items ≡ out.old.items ++ path_text self.now) }
+        ensures err { OnErr result (out.new.items ≡ out.old.items) }
+    {
+        if self.components.is_empty() {
+            out.push(b'/')?;
+            return Ok(());
+        }
+        let before = out.len();
+        let appended = append_texts(self.components.as_slice(), out);
+        if appended.is_err() {
+            out.truncate(before);
+        }
+        appended
+    }
+}
+
+fn without_first_slash(text: &[u8]) -> &[u8]
+    ensures { result.now ≡ without_first_slash text.now }
+{
+    text.strip_prefix(b"/".as_slice()).unwrap_or(text)
+}
+
+pub(crate) fn without_last_slash(text: &[u8]) -> &[u8]
+    ensures { result.now ≡ without_last_slash text.now }
+{
+    text.strip_suffix(b"/".as_slice()).unwrap_or(text)
+}
+
+fn append_all(to: &mut Vec<Bytes>, items: &[Bytes]) -> Result<(), AllocError>
+    ensures { IfOk result (λ _. to.new.items ≡ to.old.items ++ items.now) }
+{
+    for item in items {
+        to.push(item.clone()?)?;
+    }
+    Ok(())
+}
+
+/// Appends a slash and the component, for each of them.
+fn append_texts(components: &[Bytes], out: &mut Vec<u8>) -> Result<(), AllocError>
+    ensures ok { OnOk result (out.new.items ≡ out.old.items ++ flat_map (λ component. 47 ∷ component) components.now) }
+    ensures err { OnErr result (take (length out.old.items) out.new.items ≡ out.old.items) }
+{
+    for component in components {
+        out.push(b'/')?;
+        out.extend_from_slice(component.as_slice())?;
+    }
+    Ok(())
+}
+
+impl Clone for Path {
+    ghost is_clone = { λ path copy. copy ≡ path };
+
+    fn clone(&self) -> Result<Self, AllocError> {
+        Ok(Path {
+            components: self.components.clone()?,
+        })
+    }
+}
+
+impl PartialEq for Path {
+    ghost eq = { same_path };
+
+    ghost laws = { partial_equiv_from_equiv (lists_equiv nat_list_eq_equiv) };
+
+    fn eq(&self, other: &Self) -> bool {
+        self.components == other.components
+    }
+}
+
+impl Eq for Path {
+    ghost laws = { lists_equiv nat_list_eq_equiv };
+}
+
+impl Ord for Path {
+    ghost cmp = { path_cmp };
+
+    ghost total = { path_cmp_total };
+
+    ghost matches_partial_cmp = { λ x y. refl };
+
+    ghost matches_eq = { path_ties };
+
+    fn cmp(&self, other: &Self) -> Ordering {
+        self.components.cmp(&other.components)
+    }
+}
+
+impl PartialOrd for Path {
+    ghost partial_cmp = { λ x y. Some (path_cmp x y) };
+
+    ghost laws = { partial_order_from_agreeing_total path_cmp path_cmp_total (λ x y. refl) path_ties };
+
+    fn partial_cmp(&self, other: &Self) -> Option<Ordering> {
+        Some(self.cmp(other))
+    }
+}
