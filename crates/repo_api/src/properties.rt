@@ -4,6 +4,7 @@ ghost use Rattle.repo_api.specs.Properties.{PropertyList, with_property, without
 
 use std::alloc::{AllocError, Global};
 use std::collections::BTreeMap;
+use std::collections::btree_map::Iter;
 use std::marker::Model;
 use svnpath::Bytes;
 
@@ -25,6 +26,13 @@ impl Properties {
         Properties {
             values: BTreeMap::new(alloc),
         }
+    }
+
+    /// The names with their values, by the names' bytes.
+    pub fn iter(&self) -> Iter<'_, Bytes, Bytes>
+        ensures { result ≡ self.now }
+    {
+        self.values.iter()
     }
 
     pub fn set(&mut self, name: Bytes, value: Bytes) -> Result<(), AllocError>

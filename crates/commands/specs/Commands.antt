@@ -1,0 +1,55 @@
+-- The main commands, as the items that spell them.
+use Rattle.std.specs.Prelude.{ℕ, List, Option, Some, None, Result, Ok, Err, codes, if◌then◌else◌}
+use Rattle.items.specs.Tree.{Tree, word, number, string, list, Trees, none, more}
+use Rattle.commands.specs.Forms.{is_name, command_form, optional_number}
+use Rattle.commands.specs.declared.command.MainCommand.{MainCommand}
+use Rattle.commands.specs.declared.command.MainCommand.TheVariants.{GetLatestRev, CheckPath, RevProplist, AbortEdit}
+use Rattle.commands.specs.declared.fault.CommandFault.{CommandFault}
+use Rattle.commands.specs.declared.fault.CommandFault.TheVariants.{UnknownName, BadParameters}
+
+-- at the revision, if the list that should hold one is of that form
+abbrev pub path_at : List ℕ → Option (Option ℕ) → Result MainCommand CommandFault
+path_at path None = Err BadParameters
+path_at path (Some revision) = Ok (CheckPath path revision)
+
+-- the revision behind the path
+abbrev pub revision_behind : List ℕ → Trees → Result MainCommand CommandFault
+revision_behind path (more (list ts) rest) = path_at path (optional_number ts)
+revision_behind path (more (word w) rest) = Err BadParameters
+revision_behind path (more (number n) rest) = Err BadParameters
+revision_behind path (more (string s) rest) = Err BadParameters
+revision_behind path none = Err BadParameters
+
+-- `( path [ rev ] )`
+abbrev pub check_path : Trees → Result MainCommand CommandFault
+check_path (more (string path) rest) = revision_behind path rest
+check_path (more (word w) rest) = Err BadParameters
+check_path (more (number n) rest) = Err BadParameters
+check_path (more (list ts) rest) = Err BadParameters
+check_path none = Err BadParameters
+
+-- `( rev )`
+abbrev pub rev_proplist : Trees → Result MainCommand CommandFault
+rev_proplist (more (number n) rest) = Ok (RevProplist n)
+rev_proplist (more (word w) rest) = Err BadParameters
+rev_proplist (more (string s) rest) = Err BadParameters
+rev_proplist (more (list ts) rest) = Err BadParameters
+rev_proplist none = Err BadParameters
+
+-- the command of a name and its parameters
+abbrev pub command_named : List ℕ → Trees → Result MainCommand CommandFault
+command_named name params =
+    if is_name name (codes "get-latest-rev") then Ok GetLatestRev
+    else if is_name name (codes "check-path") then check_path params
+    else if is_name name (codes "rev-proplist") then rev_proplist params
+    else if is_name name (codes "abort-edit") then Ok AbortEdit
+    else Err UnknownName
+
+-- the command of a form, if the item has one
+abbrev pub command_of_form : Option (List ℕ × Trees) → Result MainCommand CommandFault
+command_of_form None = Err BadParameters
+command_of_form (Some form) = command_named form.0 form.1
+
+-- the command that an item is, or why it is none
+abbrev pub main_command : Tree → Result MainCommand CommandFault
+main_command t = command_of_form (command_form t)

@@ -1,0 +1,5 @@
+pub mod Answering
+pub mod Forms
+pub mod Commands
+pub mod Logins
+pub mod Replies

@@ -1,0 +1,5 @@
+pub mod Retained
+pub mod Seen
+pub mod Rules
+pub mod Places
+pub mod Edits

@@ -1,0 +1,135 @@
+-- The rules at one path, in the forms that the code gives and those of the definitions.
+use Rattle.std.proofs.Common.{◌≡◌, Bool, true, false, cond, [], Option, Some, None, option_map, refl, sym, ap, ◌∙◌}
+use Rattle.std.proofs.lemmas.Bool.{false≢true}
+use Rattle.std.specs.Prelude.{not, is_some, if◌then◌else◌}
+use Rattle.std.specs.Option.{option_or}
+use Rattle.std.specs.FinMap.{get, empty, get-empty}
+use Rattle.svnpath.specs.Paths.{PathValue, path_cmp, same_path, is_at_or_under}
+use Rattle.svnpath.specs.PathLaws.{same_path_is}
+use Rattle.repo_api.specs.Changes.{Changes, plain_change, after_delete, noted_delete}
+use Rattle.repo_api.specs.Edits.{new_entry, touched, begun}
+use Rattle.repo_api.specs.States.{TreeMap, Fixed, tree_of, tree_in}
+use Rattle.repo_api.specs.Trees.{Tree}
+use Rattle.repo_api.specs.declared.change.Action.TheVariants.{Add, Delete as Gone, Replace, Modify}
+use Rattle.repo_api.specs.declared.change.Change.{Change}
+use Rattle.repo_api.specs.declared.entry.Entry.{Entry}
+use Rattle.repo_api.specs.declared.entry.Content.TheVariants.{Directory}
+use Rattle.flatrepo.specs.Found.{with_room, is_added, kept_at}
+use Rattle.flatrepo.specs.Whole.{map_of}
+use Rattle.flatrepo.proofs.Seen.{same_tree}
+
+-- a test inside is a test outside
+pub map_if : {X : Type 0} (f : X → X) (b : Bool) (o : Option X) → option_map (λ e. if b then f e else e) o ≡ (if b then option_map f o else o)
+map_if f true o = refl
+map_if f false None = refl
+map_if f false (Some x) = refl
+
+pub cut_if : {X : Type 0} (f : X → X) (gone above : Bool) (o : Option X)
+    → cond (not gone) (option_map (λ e. if above then f e else e) o) None ≡ (if gone then None else (if above then option_map f o else o))
+cut_if f true above o = refl
+cut_if f false above o = map_if f above o
+
+pub map_same : {X : Type 0} (b : Bool) (o : Option X) → cond b (option_map (λ e. e) o) None ≡ (if b then o else None)
+map_same true None = refl
+map_same true (Some x) = refl
+map_same false o = refl
+
+some_first : {X : Type 0} (o y : Option X) → is_some o ≡ true → o ≡ option_or o y
+some_first None y h = absurd (false≢true h)
+some_first (Some x) y h = refl
+
+none_first : {X : Type 0} (o y : Option X) → is_some o ≡ false → y ≡ option_or o y
+none_first None y h = refl
+none_first (Some x) y h = absurd (false≢true (sym h))
+
+or_none : {X : Type 0} (o : Option X) → o ≡ option_or o None
+or_none None = refl
+or_none (Some x) = refl
+
+-- room is there where something stands
+pub room_taken : (t : Tree) (p q : PathValue) → is_some (t p) ≡ true → t q ≡ with_room t p q
+room_taken t p q some = by (same_path p q) refl
+  where
+    by : (b : Bool) → same_path p q ≡ b → t q ≡ option_or (t q) (if b then Some (new_entry Directory) else None)
+    by true same = some_first (t q) _ (ap (λ k. is_some (t k)) (sym (same_path_is p q same)) ∙ some)
+    by false same = or_none (t q)
+
+-- and it is made where nothing does
+pub room_made : (t : Tree) (p q : PathValue) (new : Option Entry) → is_some (t p) ≡ false → new ≡ (if same_path p q then Some (new_entry Directory) else t q) → new ≡ with_room t p q
+room_made t p q new none is = is ∙ by (same_path p q) refl
+  where
+    by : (b : Bool) → same_path p q ≡ b → (if b then Some (new_entry Directory) else t q) ≡ option_or (t q) (if b then Some (new_entry Directory) else None)
+    by true same = none_first (t q) _ (ap (λ k. is_some (t k)) (sym (same_path_is p q same)) ∙ none)
+    by false same = or_none (t q)
+
+after_delete_is : (o : Option Change) → after_delete o ≡ (if is_added o then None else Some (plain_change Gone None))
+after_delete_is None = refl
+after_delete_is (Some c) =
+    elim c.action as (λ a. after_delete (Some (record c { action = a })) ≡ (if is_added (Some (record c { action = a })) then None else Some (plain_change Gone None))) [
+      | Add ↦ refl
+      | Gone ↦ refl
+      | Replace ↦ refl
+      | Modify ↦ refl
+    ]
+
+outside : {X : Type 0} (under : Bool) (o : Option X) → (if not under then o else None) ≡ (if under then None else o)
+outside true o = refl
+outside false o = refl
+
+-- a delete takes out an add at its path
+pub delete_of_added : (cs : Changes) (p q : PathValue) → is_added (cs p) ≡ true → (if kept_at p false q then cs q else None) ≡ noted_delete cs p q
+delete_of_added cs p q add = by (same_path p q) refl
+  where
+    by : (b : Bool) → same_path p q ≡ b → (if (if b then false else not (is_at_or_under q p)) then cs q else None) ≡ (if b then after_delete (cs q) else (if is_at_or_under q p then None else cs q))
+    by true same =
+        sym (after_delete_is (cs q) ∙ ap (λ b. if b then None else Some (plain_change Gone None)) (ap (λ k. is_added (cs k)) (sym (same_path_is p q same)) ∙ add))
+    by false same = outside (is_at_or_under q p) (cs q)
+
+-- and leaves a delete at any other
+pub delete_of_other : (cs : Changes) (p q : PathValue) → is_added (cs p) ≡ false
+    → (if kept_at p true q then (if same_path p q then Some (plain_change Gone None) else cs q) else None) ≡ noted_delete cs p q
+delete_of_other cs p q other = by (same_path p q) refl
+  where
+    by : (b : Bool) → same_path p q ≡ b
+        → (if (if b then true else not (is_at_or_under q p)) then (if b then Some (plain_change Gone None) else cs q) else None) ≡ (if b then after_delete (cs q) else (if is_at_or_under q p then None else cs q))
+    by true same =
+        sym (after_delete_is (cs q) ∙ ap (λ b. if b then None else Some (plain_change Gone None)) (ap (λ k. is_added (cs k)) (sym (same_path_is p q same)) ∙ other))
+    by false same = outside (is_at_or_under q p) (cs q)
+
+-- room that is taken back leaves the tree as it was
+pub room_back : (old mid new : TreeMap) (p : PathValue) → true ≡ not (is_some (get old p))
+    → ((q : PathValue) → get mid q ≡ with_room (tree_of old) p q) → ((q : PathValue) → get new q ≡ (if same_path p q then None else get mid q)) → new ≡ old
+room_back old mid new p made room back = same_tree new old (λ q. back q ∙ ap (λ o. if same_path p q then None else o) (room q) ∙ by q (same_path p q) refl)
+  where
+    no : (b : Bool) → true ≡ not b → b ≡ false
+    no true e = absurd (false≢true (sym e))
+    no false e = refl
+
+    gone : (o : Option Entry) → is_some o ≡ false → None ≡ o
+    gone None h = refl
+    gone (Some x) h = absurd (false≢true (sym h))
+
+    by : (q : PathValue) (b : Bool) → same_path p q ≡ b → (if b then None else option_or (get old q) (if b then Some (new_entry Directory) else None)) ≡ get old q
+    by q true same = gone (get old q) (ap (λ k. is_some (get old k)) (sym (same_path_is p q same)) ∙ no (is_some (get old p)) made)
+    by q false same = sym (or_none (get old q))
+
+-- where there was room, nothing was made
+pub room_stays : (old mid : TreeMap) (p : PathValue) → false ≡ not (is_some (get old p)) → ((q : PathValue) → get mid q ≡ with_room (tree_of old) p q) → mid ≡ old
+room_stays old mid p made room = same_tree mid old (λ q. room q ∙ sym (room_taken (tree_of old) p q (yes (is_some (get old p)) made)))
+  where
+    yes : (b : Bool) → false ≡ not b → b ≡ true
+    yes true e = refl
+    yes false e = absurd (false≢true e)
+
+-- a transaction over no tree
+pub begun_empty : (q : PathValue) → get (empty {X = Entry} {R = path_cmp}) q ≡ begun (tree_of empty) q
+begun_empty q = get-empty path_cmp q ∙ by (is_at_or_under [] q)
+  where
+    by : (b : Bool) → None ≡ (if b then option_map touched (get (empty {X = Entry} {R = path_cmp}) q) else get (empty {X = Entry} {R = path_cmp}) q)
+    by true = ap (option_map touched) (sym (get-empty path_cmp q))
+    by false = sym (get-empty path_cmp q)
+
+-- the tree of a revision that there may be none of
+pub map_of_tree : (o : Option Fixed) → map_of (option_map (λ r. r.tree) o) ≡ tree_in o
+map_of_tree None = refl
+map_of_tree (Some r) = refl

@@ -1,0 +1,40 @@
+-- Maps from paths as lists of entries, and the steps of an edit in one.
+use Rattle.std.specs.Prelude.{List, Option, Some, None, Bool, true, false, not, if◌then◌else◌}
+use Rattle.std.specs.BTreeMap.{is_at}
+use Rattle.std.specs.Map.{lookup}
+use Rattle.std.specs.Option.{option_or}
+use Rattle.svnpath.specs.Paths.{PathValue, path_cmp, same_path, is_at_or_under}
+use Rattle.repo_api.specs.Edits.{touched, new_entry}
+use Rattle.repo_api.specs.Trees.{Tree}
+use Rattle.repo_api.specs.declared.entry.Entry.{Entry}
+use Rattle.repo_api.specs.declared.entry.Content.TheVariants.{Directory}
+use Rattle.repo_api.specs.declared.change.Action.{Action}
+use Rattle.repo_api.specs.declared.change.Action.TheVariants.{Add, Delete, Replace, Modify}
+use Rattle.repo_api.specs.declared.change.Change.{Change}
+
+-- what the entries have at the path
+abbrev pub found : {X : Type 0} → List (PathValue × X) → PathValue → Option X
+found es p = lookup (is_at (path_cmp p)) es
+
+-- a new directory at p, where nothing stands
+abbrev pub with_room : Tree → PathValue → Tree
+with_room t p q = option_or (t q) (if same_path p q then Some (new_entry Directory) else None)
+
+-- what an add at p makes of the entry at q
+abbrev pub opened_at : PathValue → PathValue → Entry → Entry
+opened_at p q e = if same_path p q then new_entry Directory else (if is_at_or_under p q then touched e else e)
+
+abbrev pub is_add_action : Action → Bool
+is_add_action Add = true
+is_add_action Delete = false
+is_add_action Replace = false
+is_add_action Modify = false
+
+-- whether the change is an add where nothing stood
+abbrev pub is_added : Option Change → Bool
+is_added None = false
+is_added (Some c) = is_add_action c.action
+
+-- whether the change at q is kept by a delete of p
+abbrev pub kept_at : PathValue → Bool → PathValue → Bool
+kept_at p kept q = if same_path p q then kept else not (is_at_or_under q p)

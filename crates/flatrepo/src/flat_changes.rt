@@ -1,0 +1,110 @@
+//! The changes of a transaction as one ordered map.
+ghost use Rattle.std.specs.Prelude.{◌≡◌, OnOk, OnErr, option_copied, if◌then◌else◌, None};
+ghost use Rattle.std.specs.FinMap.{get, empty};
+ghost use Rattle.svnpath.specs.Paths.{PathValue};
+ghost use Rattle.repo_api.specs.Changes.{plain_change, after_add, noted, noted_delete};
+ghost use Rattle.repo_api.specs.States.{changes_of};
+ghost use Rattle.flatrepo.specs.Found.{found, is_added, kept_at};
+
+use crate::path_map::put;
+use repo_api::{Action, Change};
+use std::alloc::{AllocError, Global};
+use std::collections::BTreeMap;
+use std::marker::Model;
+use svnpath::Path;
+
+/// The changes of a revision or of a transaction, in the order of their paths.
+#[derive(Drop)]
+pub(crate) struct FlatChanges {
+    changes: BTreeMap<Path, Change>,
+}
+
+impl Model for FlatChanges {
+    ghost use Rattle.std.specs.Coded.{codes};
+    ghost use Rattle.std.specs.FinMap.{from_entries, code as map_code};
+    ghost use Rattle.repo_api.specs.States.{ChangeMap};
+
+    ghost Value = { ChangeMap };
+
+    ghost coded = { Prim.hlevel (map_code, codes) };
+
+    ghost view = { λ c. from_entries c.changes.entries };
+}
+
+impl FlatChanges {
+    /// No changes.
+    pub(crate) fn new(alloc: Global) -> Self
+        ensures { result ≡ empty }
+    {
+        FlatChanges {
+            changes: BTreeMap::new(alloc),
+        }
+    }
+
+    /// Notes that an entry was added at the path, and copied from nowhere.
+    #[tactic(auto, using(crate::proofs::Seen::get_path))]
+    pub(crate) fn note_add(&mut self, path: &Path) -> Result<(), AllocError>
+        ensures ok { OnOk result ((q : PathValue) → get self.new q ≡ noted (changes_of self.old) path.now (after_add None (get self.old path.now)) q) }
+        ensures err { OnErr result (self.new ≡ self.old) }
+    {
+        let change = change_of_add(self.changes.get(path));
+        put(&mut self.changes, path.clone()?, change)
+    }
+
+    /// Notes that what stood at the path and under it was deleted.
+    pub(crate) fn note_delete(&mut self, path: &Path) -> Result<(), AllocError>
+        ensures ok { OnOk result ((q : PathValue) → get self.new q ≡ noted_delete (changes_of self.old) path.now q) }
+        ensures err { OnErr result (self.new ≡ self.old) }
+    {
+        let was_added = is_add(self.changes.get(path));
+        if !was_added {
+            put(&mut self.changes, path.clone()?, plain(Action::Delete))?;
+        }
+        prune(&mut self.changes, path, !was_added);
+        Ok(())
+    }
+}
+
+fn plain(action: Action) -> Change
+    ensures { result ≡ plain_change action None }
+{
+    Change {
+        action,
+        text: false,
+        properties: false,
+        source: None,
+    }
+}
+
+/// The change of an add, over the change before it.
+fn change_of_add(before: Option<&Change>) -> Change
+    ensures { result ≡ after_add None (option_copied before.entry) }
+{
+    match before {
+        None => plain(Action::Add),
+        Some(_) => plain(Action::Replace),
+    }
+}
+
+/// Whether the change is an add where nothing stood.
+fn is_add(change: Option<&Change>) -> bool
+    ensures { result ≡ is_added (option_copied change.entry) }
+{
+    match change {
+        None => false,
+        Some(change) => change.action == Action::Add,
+    }
+}
+
+/// Takes out the changes beneath the path, and the one at it if it is not kept.
+fn prune(changes: &mut BTreeMap<Path, Change>, path: &Path, kept: bool)
+    ensures { (q : PathValue) → found changes.new.entries q ≡ (if kept_at path.now kept q then found changes.old.entries q else None) }
+{
+    changes.retain(|key, _| {
+        if path == key {
+            kept
+        } else {
+            !key.is_at_or_under(path)
+        }
+    });
+}

@@ -1,0 +1,306 @@
+//! The repository and its transactions.
+ghost use Rattle.std.specs.Prelude.{◌≡◌, ◌≤◌, ◌<◌, List, ℕ, length, IfOk, OnOk, OnErr, option_copied, None};
+ghost use Rattle.std.specs.FinMap.{get};
+ghost use Rattle.dates.specs.Dates.{IsDateText};
+ghost use Rattle.svnpath.specs.Paths.{PathValue};
+ghost use Rattle.repo_api.specs.Changes.{changes_after, after_add, noted};
+ghost use Rattle.repo_api.specs.Commits.{revision_limit, commit_refusal, committed};
+ghost use Rattle.repo_api.specs.Edits.{edited, added, begun};
+ghost use Rattle.repo_api.specs.Opening.{opened};
+ghost use Rattle.repo_api.specs.declared.entry.Content.TheVariants.{Directory};
+ghost use Rattle.repo_api.specs.Kinds.{kind_of};
+ghost use Rattle.repo_api.specs.States.{tree_of, changes_of};
+ghost use Rattle.flatrepo.specs.Whole.{content_of, repo_content, txn_state_of, revisions_of, map_of};
+
+use crate::flat_changes::FlatChanges;
+use crate::flat_tree::FlatTree;
+use crate::held::{Held, Kept};
+use crate::revision::revision_properties;
+use dates::date_text;
+use refusals::Refusal;
+use repo_api::{ChangeFault, CommitAsk, EditOp, NodeKind, Properties, Repository};
+use std::alloc::{AllocError, Global};
+use std::sync::Arc;
+use svnpath::{Bytes, Path};
+
+/// A repository has revisions 0 to 262,143.
+const REVISION_LIMIT: u64 = 262_144;
+
+/// A repository in memory. A commit makes a new list of revisions, so that what was shared before stays
+/// as it was.
+#[derive(Drop)]
+pub struct FlatRepo {
+    alloc: Global,
+    held: Arc<Held>,
+}
+
+/// An open transaction.
+#[derive(Drop)]
+pub struct FlatTxn {
+    shown: Arc<Held>,
+    base: u64,
+    tree: FlatTree,
+    changes: FlatChanges,
+}
+
+impl FlatRepo {
+    /// An empty repository: revision 0, whose date is the moment's, a count of microseconds since the
+    /// beginning of 1970.
+    pub fn new(alloc: Global, uuid: u128, moment: u64) -> Result<Self, AllocError>
+        requires { moment ≤ 200000000000000000 }
+        ensures { IfOk result (λ r. (date : List ℕ) × IsDateText moment date × (repo_content r ≡ opened uuid date)) }
+    {
+        let date = date_of(alloc, moment)?;
+        let held = Held::opened(alloc, uuid, date)?;
+        Ok(FlatRepo {
+            alloc,
+            held: Arc::new(alloc, held)?,
+        })
+    }
+}
+
+impl Repository for FlatRepo {
+    ghost use Rattle.flatrepo.specs.Whole.{repo_content, txn_state_of};
+
+    type Txn = FlatTxn;
+
+    ghost content = { repo_content };
+
+    ghost txn_state = { txn_state_of };
+
+    fn share(&self) -> Result<Self, AllocError> {
+        Ok(FlatRepo {
+            alloc: self.alloc,
+            held: Arc::try_clone(&self.held)?,
+        })
+    }
+
+    fn uuid(&self) -> u128 {
+        self.held.uuid
+    }
+
+    fn youngest(&self) -> u64 {
+        self.held.youngest()
+    }
+
+    fn kind(&self, revision: u64, path: &Path) -> NodeKind {
+        kind_in(self.held.tree(revision), path)
+    }
+
+    fn revision_properties(&self, revision: u64) -> Option<&Properties> {
+        self.held.properties(revision)
+    }
+
+    fn begin(&self) -> Result<FlatTxn, AllocError> {
+        let base = self.held.youngest();
+        Ok(FlatTxn {
+            shown: Arc::try_clone(&self.held)?,
+            base,
+            tree: begun_tree(self.alloc, self.held.tree(base))?,
+            changes: FlatChanges::new(self.alloc),
+        })
+    }
+
+    fn edit(&self, txn: &mut FlatTxn, op: &EditOp) -> Result<(), AllocError> {
+        let shown = Arc::try_clone(&self.held)?;
+        edit_parts(self.alloc, &mut txn.tree, &mut txn.changes, op)?;
+        txn.shown = shown;
+        Ok(())
+    }
+
+    fn commit(&mut self, ask: CommitAsk, txn: FlatTxn) -> Result<u64, ChangeFault> {
+        if let Some(refusal) = refusal_of(&self.held, &txn) {
+            return Err(ChangeFault::Refused(refusal));
+        }
+        let number = self.held.count();
+        self.held = with_commit(self.alloc, &self.held, ask, txn)?;
+        Ok(number)
+    }
+}
+
+/// The date of the moment.
+fn date_of(alloc: Global, moment: u64) -> Result<Bytes, AllocError>
+    requires { moment ≤ 200000000000000000 }
+    ensures { IfOk result (λ date. IsDateText moment date) }
+{
+    Ok(Bytes::new(date_text(alloc, moment)?.into_bytes()))
+}
+
+/// What stands at the path of the tree.
+fn kind_in(tree: Option<&FlatTree>, path: &Path) -> NodeKind
+    ensures { result ≡ kind_of (get (map_of (option_copied tree.entry)) path.now) }
+{
+    let Some(tree) = tree else {
+        return NodeKind::Absent;
+    };
+    match tree.get(path) {
+        Some(entry) => entry.kind(),
+        None => NodeKind::Absent,
+    }
+}
+
+/// The tree of a transaction that begins from this one.
+fn begun_tree(alloc: Global, tree: Option<&FlatTree>) -> Result<FlatTree, AllocError>
+    ensures { IfOk result (λ t. (q : PathValue) → get t q ≡ begun (tree_of (map_of (option_copied tree.entry))) q) }
+{
+    match tree {
+        Some(tree) => tree.begun(alloc),
+        None => Ok(FlatTree::new(alloc)),
+    }
+}
+
+/// Makes the edit in the tree and the changes of a transaction.
+fn edit_parts(
+    alloc: Global,
+    tree: &mut FlatTree,
+    changes: &mut FlatChanges,
+    op: &EditOp,
+) -> Result<(), AllocError>
+    ensures tree { OnOk result ((q : PathValue) → get tree.new q ≡ edited (tree_of tree.old) op.now q) }
+    ensures changes { OnOk result ((q : PathValue) → get changes.new q ≡ changes_after (changes_of changes.old) op.now q) }
+    ensures tree_stays { OnErr result (tree.new ≡ tree.old) }
+    ensures changes_stay { OnErr result (changes.new ≡ changes.old) }
+{
+    match op {
+        EditOp::AddDirectory(path) => add_directory(alloc, tree, changes, path),
+        EditOp::Delete(path) => {
+            changes.note_delete(path)?;
+            tree.delete(path);
+            Ok(())
+        }
+    }
+}
+
+/// Adds a directory. What takes memory comes first, and is taken back where the rest of it is refused.
+fn add_directory(
+    alloc: Global,
+    tree: &mut FlatTree,
+    changes: &mut FlatChanges,
+    path: &Path,
+) -> Result<(), AllocError>
+    ensures tree { OnOk result ((q : PathValue) → get tree.new q ≡ added (tree_of tree.old) path.now Directory q) }
+    ensures changes { OnOk result ((q : PathValue) → get changes.new q ≡ noted (changes_of changes.old) path.now (after_add None (get changes.old path.now)) q) }
+    ensures tree_stays { OnErr result (tree.new ≡ tree.old) }
+    ensures changes_stay { OnErr result (changes.new ≡ changes.old) }
+{
+    let made = tree.make_room(alloc, path)?;
+    match changes.note_add(path) {
+        Ok(()) => {
+            tree.renew(alloc, path);
+            Ok(())
+        }
+        Err(error) => {
+            if made {
+                tree.remove(path);
+            }
+            Err(error)
+        }
+    }
+}
+
+/// Why the commit is refused, if it is.
+fn refusal_of(held: &Held, txn: &FlatTxn) -> Option<Refusal>
+    ensures { result ≡ commit_refusal (content_of held.now) (txn_state_of txn.now) }
+{
+    if txn.base < held.youngest() {
+        Some(Refusal::Conflict)
+    } else if held.count() >= REVISION_LIMIT {
+        Some(Refusal::NotSupported)
+    } else {
+        None
+    }
+}
+
+/// What is held after the commit.
+fn with_commit(
+    alloc: Global,
+    held: &Held,
+    ask: CommitAsk,
+    txn: FlatTxn,
+) -> Result<Arc<Held>, AllocError>
+    requires { length (revisions_of held.now) < revision_limit }
+    ensures { IfOk result (λ h. content_of h.value ≡ committed (content_of held.now) ask (txn_state_of txn)) }
+{
+    let FlatTxn {
+        shown,
+        base: _,
+        tree,
+        changes,
+    } = txn;
+    drop(shown);
+    let properties = revision_properties(alloc, ask)?;
+    let kept = Kept {
+        tree: tree.sealed(alloc, held.count() as u32)?,
+        changes,
+    };
+    let held = held.with_revision(alloc, kept, properties)?;
+    Ok(Arc::new(alloc, held)?)
+}
+
+#[cfg(test)]
+mod tests {
+    use crate::FlatRepo;
+    use refusals::Refusal;
+    use repo_api::{ChangeFault, CommitAsk, EditOp, NodeKind, Repository};
+    use std::alloc::{AllocError, Global};
+    use std::test::Fail;
+    use svnpath::{Bytes, Path};
+
+    fn bytes(alloc: Global, text: &str) -> Result<Bytes, AllocError> {
+        Ok(Bytes::new(text.as_bytes().to_vec(alloc)?))
+    }
+
+    fn path(alloc: Global, name: &str) -> Result<Path, AllocError> {
+        Path::root(alloc).child(bytes(alloc, name)?)
+    }
+
+    fn ask(alloc: Global) -> Result<CommitAsk, AllocError> {
+        Ok(CommitAsk {
+            date: bytes(alloc, "2000-02-29T12:34:56.123456Z")?,
+            author: Some(bytes(alloc, "sally")?),
+            message: bytes(alloc, "Make room.")?,
+            properties: None,
+        })
+    }
+
+    #[test]
+    fn a_new_repository(rt: HostRuntime) -> Result<(), Fail> {
+        let alloc = rt.alloc();
+        let repo = FlatRepo::new(alloc, 5, 951_827_696_123_456)?;
+        assert_eq!(rt; repo.uuid(), 5);
+        assert_eq!(rt; repo.youngest(), 0);
+        assert_eq!(rt; repo.kind(0, &Path::root(alloc)), NodeKind::Directory);
+        assert_eq!(rt; repo.kind(0, &path(alloc, "trunk")?), NodeKind::Absent);
+        assert_eq!(rt; repo.kind(1, &Path::root(alloc)), NodeKind::Absent);
+        assert!(rt; repo.revision_properties(0).is_some());
+        assert!(rt; repo.revision_properties(1).is_none());
+        Ok(())
+    }
+
+    #[test]
+    fn commits(rt: HostRuntime) -> Result<(), Fail> {
+        let alloc = rt.alloc();
+        let trunk = path(alloc, "trunk")?;
+        let mut repo = FlatRepo::new(alloc, 5, 0)?;
+        let before = repo.share()?;
+        let mut first = repo.begin()?;
+        let mut second = repo.begin()?;
+        repo.edit(&mut first, &EditOp::AddDirectory(trunk.clone()?))?;
+        repo.edit(&mut second, &EditOp::AddDirectory(trunk.clone()?))?;
+        assert_eq!(rt; repo.commit(ask(alloc)?, first), Ok(1));
+        assert_eq!(rt;
+            repo.commit(ask(alloc)?, second),
+            Err(ChangeFault::Refused(Refusal::Conflict))
+        );
+        assert_eq!(rt; repo.kind(1, &trunk), NodeKind::Directory);
+        assert_eq!(rt; before.youngest(), 0);
+
+        let mut third = repo.begin()?;
+        repo.edit(&mut third, &EditOp::Delete(trunk.clone()?))?;
+        assert_eq!(rt; repo.commit(ask(alloc)?, third), Ok(2));
+        assert_eq!(rt; repo.kind(1, &trunk), NodeKind::Directory);
+        assert_eq!(rt; repo.kind(2, &trunk), NodeKind::Absent);
+        assert_eq!(rt; repo.kind(2, &Path::root(alloc)), NodeKind::Directory);
+        Ok(())
+    }
+}

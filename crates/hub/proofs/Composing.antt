@@ -1,0 +1,175 @@
+-- A session's run is a run of the hub.
+use Rattle.std.proofs.Common.{◌≡◌, ℕ, List, [], ◌∷◌, ◌++◌, map, Option, Some, None, Bool, true, false, refl, sym, ap, subst, ◌∙◌, append-nil, append_assoc}
+use Rattle.repo_api.specs.States.{RepoState, Fixed, IsBeginning}
+use Rattle.repo_api.specs.Accepted.{Accepted, changed}
+use Rattle.commands.specs.declared.reply.Reply.{Reply}
+use Rattle.session.specs.Points.{Point, world}
+use Rattle.session.specs.Settings.{Settings}
+use Rattle.session.specs.Hearing.{Input}
+use Rattle.session.specs.Hearing.Input.{Whole, Broken}
+use Rattle.session.specs.Machine.{Verdict, Effect, SessionState, Answer, InputStep, is_open, says}
+use Rattle.session.specs.Machine.Effect.{Nothing, Changes, HaltsChanges}
+use Rattle.session.specs.Access.{Serves, Moves, SessionRun}
+use Rattle.session.specs.declared.env.Env.{Env}
+use Rattle.session.specs.declared.phase.Phase.{Phase}
+use Rattle.session.specs.declared.phase.Phase.TheVariants.{Greeted, LoggingIn, Serving, Ended}
+use Rattle.hub.specs.State.{HubState, session_of, updated, without, kept, content_after, halted_after}
+use Rattle.hub.specs.Runs.{Event, InputHappens, HubStep, HubRun, InputsAre, answered}
+use Rattle.hub.specs.Runs.Event.{Gets}
+use Rattle.hub.proofs.Places.{session_of-updated, updated_same, session_of-without, without_none, kept_kept}
+
+abbrev pub events_of : ℕ → List Input → List Event
+events_of n inputs = map (Gets n) inputs
+
+pub inputs_are : (n : ℕ) (inputs : List Input) → InputsAre n inputs (events_of n inputs)
+inputs_are n [] = tt
+inputs_are n (input ∷ inputs) = (refl, refl, inputs_are n inputs)
+
+-- the number has a session in this phase, or none where it has ended
+abbrev pub Holds : List (ℕ × SessionState) → ℕ → List ℕ → Phase → Type 0
+Holds xs n r Greeted = session_of xs n ≡ Some (record { rest = r; phase = Greeted })
+Holds xs n r (LoggingIn client) = session_of xs n ≡ Some (record { rest = r; phase = LoggingIn client })
+Holds xs n r (Serving client) = session_of xs n ≡ Some (record { rest = r; phase = Serving client })
+Holds xs n r Ended = session_of xs n ≡ None
+
+holds_kept : (xs : List (ℕ × SessionState)) (n : ℕ) (r : List ℕ) (s : SessionState) (phase : Phase) → session_of xs n ≡ Some s → Holds (kept xs n (record { rest = r; phase = phase })) n r phase
+holds_kept xs n r s Greeted h = session_of-updated xs n s _ h
+holds_kept xs n r s (LoggingIn client) h = session_of-updated xs n s _ h
+holds_kept xs n r s (Serving client) h = session_of-updated xs n s _ h
+holds_kept xs n r s Ended h = session_of-without xs n
+
+same_state : (xs : List (ℕ × SessionState)) (n : ℕ) (r : List ℕ) (phase : Phase) → Holds xs n r phase → kept xs n (record { rest = r; phase = phase }) ≡ xs
+same_state xs n r Greeted h = updated_same xs n _ h
+same_state xs n r (LoggingIn client) h = updated_same xs n _ h
+same_state xs n r (Serving client) h = updated_same xs n _ h
+same_state xs n r Ended h = without_none xs n h
+
+-- the hub at a point of its repository
+abbrev pub hub_at : Settings → Point → List (ℕ × SessionState) → ℕ → HubState
+hub_at s p xs used = record { settings = s; content = world p; halted = p.halted; sessions = xs; used = used }
+
+module _ (between : Point → Point → Type 0) (adds : Point → Accepted → Point → Type 0) (may : Verdict → Bool) (s : Settings)
+    (alone : (p q : Point) → between p q → (world p ≡ world q) × (p.halted ≡ q.halted))
+    (counts : (p : Point) (e : Accepted) (q : Point) → adds p e q → (world q ≡ changed (world p) e) × (q.halted ≡ p.halted)) where
+  moved : (p q : Point) (e : Effect) → Moves adds p e q → (world q ≡ content_after (world p) e) × (q.halted ≡ halted_after p.halted e)
+  moved p q Nothing m = (ap world m, ap (λ (x : Point). x.halted) m)
+  moved p q (Changes e) m = counts p e q m
+  moved p q HaltsChanges m = m
+
+  -- an input's effect leads to the next point
+  world_after : (env : Env) (p : Point) (phase : Phase) (input : Input) (a : Answer) (q : Point) → Serves between adds may s env p phase input a q → content_after (world p) a.effect ≡ world q
+  world_after env p phase input a q serves = ap (λ (w : RepoState). content_after w a.effect) (alone p serves.at serves.later).0 ∙ sym (moved serves.at q a.effect serves.moves).0
+
+  halt_after : (env : Env) (p : Point) (phase : Phase) (input : Input) (a : Answer) (q : Point) → Serves between adds may s env p phase input a q → halted_after p.halted a.effect ≡ q.halted
+  halt_after env p phase input a q serves = ap (λ (b : Bool). halted_after b a.effect) (alone p serves.at serves.later).1 ∙ sym (moved serves.at q a.effect serves.moves).1
+
+  answered_at : (env : Env) (p : Point) (r : List ℕ) (phase : Phase) (input : Input) (a : Answer) (q : Point) (xs : List (ℕ × SessionState)) (used n : ℕ)
+      → Serves between adds may s env p phase input a q
+      → hub_at s q (kept xs n (record { rest = r; phase = a.phase })) used ≡ answered (hub_at s p xs used) n (record { rest = r; phase = phase }) a
+  answered_at env p r phase input a q xs used n serves =
+      let content : world q ≡ content_after (world p) a.effect = sym (world_after env p phase input a q serves) in
+      let halted : q.halted ≡ halted_after p.halted a.effect = sym (halt_after env p phase input a q serves) in
+      λ i. record { settings = s; content = content i; halted = halted i; sessions = kept xs n (record { rest = r; phase = a.phase }); used = used }
+
+  -- a session that has ended does nothing more
+  record Quiet (env : Env) (p : Point) (told : List Reply) (env' : Env) (p' : Point) (phase' : Phase) : Type 0 where
+    world_is : world p' ≡ world p
+    halted_is : p'.halted ≡ p.halted
+    silent : told ≡ []
+    words : env' ≡ env
+    ended : phase' ≡ Ended
+
+  ended_step : (env : Env) (c : RepoState) (input : Input) (a : Answer) → InputStep may s env c Ended input a → a ≡ says env Ended []
+  ended_step env c (Whole t) a step = step
+  ended_step env c Broken a step = step
+
+  quiet : (env : Env) (p : Point) (inputs : List Input) (told : List Reply) (env' : Env) (p' : Point) (phase' : Phase)
+      → SessionRun between adds may s env p Ended inputs told env' p' phase' → Quiet env p told env' p' phase'
+  quiet env p [] told env' p' phase' run =
+      let same = alone p p' run.0 in
+      record { world_is = sym same.0; halted_is = sym same.1; silent = run.1; words = run.2; ended = run.3 }
+  quiet env p (input ∷ inputs) told env' p' phase' (a, q, more, serves, run, is_told) =
+      let is : a ≡ says env Ended [] = ended_step env (world serves.at) input a serves.step in
+      let run' : SessionRun between adds may s env q Ended inputs more env' p' phase' = subst (λ (b : Answer). SessionRun between adds may s b.env q b.phase inputs more env' p' phase') is run in
+      let moves : q ≡ serves.at = subst (λ (b : Answer). Moves adds serves.at b.effect q) is serves.moves in
+      let same = alone p serves.at serves.later in
+      let rest = quiet env q inputs more env' p' phase' run' in
+      record {
+        world_is = rest.world_is ∙ ap world moves ∙ sym same.0;
+        halted_is = rest.halted_is ∙ ap (λ (x : Point). x.halted) moves ∙ sym same.1;
+        silent = is_told ∙ ap (λ (b : Answer). b.replies ++ more) is ∙ rest.silent;
+        words = rest.words;
+        ended = rest.ended;
+      }
+
+  -- inputs of a session that isn't open are dropped
+  dropped : (old : HubState) (env : Env) (n : ℕ) (inputs : List Input) → session_of old.sessions n ≡ None → HubRun may old env (events_of n inputs) [] old env
+  dropped old env n [] h = (refl, refl, refl)
+  dropped old env n (input ∷ inputs) h =
+      ([], old, env, [], subst (λ (o : Option SessionState). InputHappens may old env n o input [] old env) (sym h) (refl, refl, refl), dropped old env n inputs h, refl)
+
+  -- the last state of the session alone counts
+  finals : (xs : List (ℕ × SessionState)) (n : ℕ) (r : List ℕ) (env : Env) (p : Point) (phase : Phase) (inputs : List Input) (told : List Reply) (env' : Env) (p' : Point) (phase' : Phase)
+      → SessionRun between adds may s env p phase inputs told env' p' phase'
+      → kept (kept xs n (record { rest = r; phase = phase })) n (record { rest = r; phase = phase' }) ≡ kept xs n (record { rest = r; phase = phase' })
+  finals xs n r env p Greeted inputs told env' p' phase' run = kept_kept xs n (record { rest = r; phase = Greeted }) (record { rest = r; phase = phase' }) refl
+  finals xs n r env p (LoggingIn client) inputs told env' p' phase' run = kept_kept xs n (record { rest = r; phase = LoggingIn client }) (record { rest = r; phase = phase' }) refl
+  finals xs n r env p (Serving client) inputs told env' p' phase' run = kept_kept xs n (record { rest = r; phase = Serving client }) (record { rest = r; phase = phase' }) refl
+  finals xs n r env p Ended inputs told env' p' phase' run =
+      subst (λ (x : Phase). kept (without xs n) n (record { rest = r; phase = x }) ≡ kept xs n (record { rest = r; phase = x })) (sym (quiet env p inputs told env' p' phase' run).ended)
+      (without_none (without xs n) n (session_of-without xs n))
+
+  nothing : (xs : List (ℕ × SessionState)) (used n : ℕ) (r : List ℕ) (p p' : Point) (phase phase' : Phase) → Holds xs n r phase → world p' ≡ world p → p'.halted ≡ p.halted → phase' ≡ phase
+      → hub_at s p' (kept xs n (record { rest = r; phase = phase' })) used ≡ hub_at s p xs used
+  nothing xs used n r p p' phase phase' h w e f =
+      let sessions : kept xs n (record { rest = r; phase = phase' }) ≡ xs = ap (λ (x : Phase). kept xs n (record { rest = r; phase = x })) f ∙ same_state xs n r phase h in
+      λ i. record { settings = s; content = w i; halted = e i; sessions = sessions i; used = used }
+
+  one_more : (xs : List (ℕ × SessionState)) (used n : ℕ) (r : List ℕ) (env : Env) (p : Point) (phase : Phase) (input : Input) (inputs : List Input) (told : List Reply) (env' : Env) (p' : Point) (phase' : Phase)
+      (a : Answer) (q : Point) (more : List Reply) (serves : Serves between adds may s env p phase input a q) (run : SessionRun between adds may s a.env q a.phase inputs more env' p' phase')
+      → told ≡ a.replies ++ more → session_of xs n ≡ Some (record { rest = r; phase = phase })
+      → HubRun may (hub_at s q (kept xs n (record { rest = r; phase = a.phase })) used) a.env (events_of n inputs) more
+      (hub_at s p' (kept (kept xs n (record { rest = r; phase = a.phase })) n (record { rest = r; phase = phase' })) used) env'
+      → HubRun may (hub_at s p xs used) env (events_of n (input ∷ inputs)) told (hub_at s p' (kept xs n (record { rest = r; phase = phase' })) used) env'
+  one_more xs used n r env p phase input inputs told env' p' phase' a q more serves run is_told h next =
+      let mid = hub_at s q (kept xs n (record { rest = r; phase = a.phase })) used in
+      let step : InputStep may s env (world p) phase input a = subst (λ (w : RepoState). InputStep may s env w phase input a) (sym (alone p serves.at serves.later).0) serves.step in (
+        a.replies,
+        mid,
+        a.env,
+        more,
+        subst (λ (o : Option SessionState). InputHappens may (hub_at s p xs used) env n o input a.replies mid a.env) (sym h) (a, step, refl, refl, answered_at env p r phase input a q xs used n serves),
+        subst (λ (ys : List (ℕ × SessionState)). HubRun may mid a.env (events_of n inputs) more (hub_at s p' ys used) env') (finals xs n r a.env q a.phase inputs more env' p' phase' run) next,
+        is_told,
+      )
+
+  pub composed : (xs : List (ℕ × SessionState)) (used n : ℕ) (r : List ℕ) (env : Env) (p : Point) (phase : Phase) (inputs : List Input) (told : List Reply) (env' : Env) (p' : Point) (phase' : Phase)
+      → Holds xs n r phase → SessionRun between adds may s env p phase inputs told env' p' phase'
+      → HubRun may (hub_at s p xs used) env (events_of n inputs) told (hub_at s p' (kept xs n (record { rest = r; phase = phase' })) used) env'
+  composed xs used n r env p phase [] told env' p' phase' h run =
+      let same = alone p p' run.0 in
+      (run.1, nothing xs used n r p p' phase phase' h (sym same.0) (sym same.1) run.3, run.2)
+  composed xs used n r env p Greeted (input ∷ inputs) told env' p' phase' h (a, q, more, serves, run, is_told) =
+      one_more xs used n r env p Greeted input inputs told env' p' phase' a q more serves run is_told h
+      (composed (kept xs n (record { rest = r; phase = a.phase })) used n r a.env q a.phase inputs more env' p' phase' (holds_kept xs n r _ a.phase h) run)
+  composed xs used n r env p (LoggingIn client) (input ∷ inputs) told env' p' phase' h (a, q, more, serves, run, is_told) =
+      one_more xs used n r env p (LoggingIn client) input inputs told env' p' phase' a q more serves run is_told h
+      (composed (kept xs n (record { rest = r; phase = a.phase })) used n r a.env q a.phase inputs more env' p' phase' (holds_kept xs n r _ a.phase h) run)
+  composed xs used n r env p (Serving client) (input ∷ inputs) told env' p' phase' h (a, q, more, serves, run, is_told) =
+      one_more xs used n r env p (Serving client) input inputs told env' p' phase' a q more serves run is_told h
+      (composed (kept xs n (record { rest = r; phase = a.phase })) used n r a.env q a.phase inputs more env' p' phase' (holds_kept xs n r _ a.phase h) run)
+  composed xs used n r env p Ended (input ∷ inputs) told env' p' phase' h run =
+      let k = quiet env p (input ∷ inputs) told env' p' phase' run in
+      let same : hub_at s p xs used ≡ hub_at s p' (kept xs n (record { rest = r; phase = phase' })) used = sym (nothing xs used n r p p' Ended phase' h k.world_is k.halted_is k.ended) in
+      subst (λ (x : List Reply). HubRun may (hub_at s p xs used) env (events_of n (input ∷ inputs)) x (hub_at s p' (kept xs n (record { rest = r; phase = phase' })) used) env') (sym k.silent)
+      (subst (λ (x : Env). HubRun may (hub_at s p xs used) env (events_of n (input ∷ inputs)) [] (hub_at s p' (kept xs n (record { rest = r; phase = phase' })) used) x) (sym k.words)
+      (subst (λ (x : HubState). HubRun may (hub_at s p xs used) env (events_of n (input ∷ inputs)) [] x env) same (dropped (hub_at s p xs used) env n (input ∷ inputs) h)))
+
+-- one event more
+pub run_more : (may : Verdict → Bool) (old : HubState) (env : Env) (es : List Event) (told : List Reply) (mid : HubState) (env' : Env) (e : Event) (last : List Reply) (new : HubState) (env'' : Env)
+    → HubRun may old env es told mid env' → HubStep may mid env' e last new env'' → HubRun may old env (es ++ e ∷ []) (told ++ last) new env''
+run_more may old env [] told mid env' e last new env'' run step =
+    let step' : HubStep may old env e last new env'' = subst (λ (x : HubState). HubStep may x env e last new env'') run.1 (subst (λ (x : Env). HubStep may mid x e last new env'') run.2 step) in
+    (last, new, env'', [], step', (refl, refl, refl), ap (λ (x : List Reply). x ++ last) run.0 ∙ sym (append-nil last))
+run_more may old env (f ∷ es) told mid env' e last new env'' (first, after, env1, more, step1, run, eq) step =
+    (first, after, env1, more ++ last, step1, run_more may after env1 es more mid env' e last new env'' run step, ap (λ (x : List Reply). x ++ last) eq ∙ append_assoc first more last)

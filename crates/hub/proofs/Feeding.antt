@@ -1,0 +1,107 @@
+-- What one piece does to the hub.
+use Rattle.std.proofs.Common.{◌≡◌, ℕ, List, [], ◌∷◌, ◌++◌, Option, Some, None, Bool, true, false, refl, sym, ap, subst, ◌∙◌, append-nil}
+use Rattle.std.specs.Prelude.{if◌then◌else◌, ◌==◌, not, filter}
+use Rattle.repo_api.specs.Accepted.{Accepted, changed}
+use Rattle.session.specs.Points.{Point, world}
+use Rattle.session.specs.Settings.{Settings}
+use Rattle.session.specs.Hearing.{IsSettled}
+use Rattle.session.specs.Machine.{Verdict, SessionState, is_open}
+use Rattle.session.specs.Access.{Fed, Lost}
+use Rattle.session.specs.declared.env.Env.{Env}
+use Rattle.session.specs.declared.phase.Phase.{Phase}
+use Rattle.session.specs.declared.phase.Phase.TheVariants.{Greeted, LoggingIn, Serving, Ended}
+use Rattle.hub.specs.State.{HubState, session_of, updated, without, kept, AllOpen}
+use Rattle.hub.specs.Runs.{Event, HubRun, IfOpen, heard, Feeds, Breaks, new_session}
+use Rattle.hub.specs.Runs.Event.{Drops}
+use Rattle.hub.proofs.Places.{session_of-updated, session_of-without, kept-updated, without-updated, without-kept}
+use Rattle.hub.proofs.Composing.{Holds, hub_at, events_of, inputs_are, composed, run_more}
+
+holds_open : (xs : List (ℕ × SessionState)) (n : ℕ) (r : List ℕ) (phase : Phase) → is_open phase ≡ true → session_of xs n ≡ Some (record { rest = r; phase = phase }) → Holds xs n r phase
+holds_open xs n r Greeted o h = h
+holds_open xs n r (LoggingIn client) o h = h
+holds_open xs n r (Serving client) o h = h
+holds_open xs n r Ended o h = cc
+
+if_open : (xs : List (ℕ × SessionState)) (n : ℕ) (session s' : SessionState) (rest : List ℕ) → session_of xs n ≡ Some session
+    → (is_open s'.phase ≡ true → IsSettled rest) → IfOpen (session_of (kept xs n s') n) rest
+if_open xs n session s' rest h settled = by (is_open s'.phase) refl
+  where
+    by : (b : Bool) → is_open s'.phase ≡ b → IfOpen (session_of (if b then updated xs n s' else without xs n) n) rest
+    by true e = subst (λ (o : Option SessionState). IfOpen o rest) (sym (session_of-updated xs n session s' h)) (settled e)
+    by false e = subst (λ (o : Option SessionState). IfOpen o rest) (sym (session_of-without xs n)) tt
+
+module _ (between : Point → Point → Type 0) (adds : Point → Accepted → Point → Type 0) (may : Verdict → Bool) (s : Settings)
+    (alone : (p q : Point) → between p q → (world p ≡ world q) × (p.halted ≡ q.halted))
+    (counts : (p : Point) (e : Accepted) (q : Point) → adds p e q → (world q ≡ changed (world p) e) × (q.halted ≡ p.halted)) where
+  pub fed_feeds : (xs : List (ℕ × SessionState)) (used n : ℕ) (session s' : SessionState) (env : Env) (p q : Point) (piece out : List ℕ)
+      → session_of xs n ≡ Some session → is_open session.phase ≡ true
+      → Fed between adds may s env p session.phase (session.rest ++ piece) s'.rest q s'.phase out
+      → Feeds may (hub_at s p xs used) env n piece out (hub_at s q (kept xs n s') used)
+  fed_feeds xs used n session s' env p q piece out is lives fed =
+      let h : SessionState = record { rest = s'.rest; phase = session.phase } in
+      let run = composed between adds may s alone counts (updated xs n h) used n s'.rest env p session.phase fed.inputs fed.told fed.env_after q s'.phase
+      (holds_open (updated xs n h) n s'.rest session.phase lives (session_of-updated xs n session h is)) fed.run in
+      let same : kept (updated xs n h) n s' ≡ kept xs n s' = kept-updated xs n h s' in
+      record {
+        session = session;
+        is_session = is;
+        inputs = fed.inputs;
+        rest = s'.rest;
+        comes = fed.comes;
+        settled = if_open xs n session s' s'.rest is fed.settled;
+        events = events_of n fed.inputs;
+        events_are = inputs_are n fed.inputs;
+        told = fed.told;
+        env_after = fed.env_after;
+        run = subst (λ (ys : List (ℕ × SessionState)). HubRun may (heard (hub_at s p xs used) n session s'.rest) env (events_of n fed.inputs) fed.told (hub_at s q ys used) fed.env_after) same run;
+        written = fed.written;
+      }
+
+  pub lost_breaks : (xs : List (ℕ × SessionState)) (used n : ℕ) (session : SessionState) (env : Env) (p q : Point) (piece : List ℕ)
+      → session_of xs n ≡ Some session → is_open session.phase ≡ true
+      → Lost between adds may s env p session.phase (session.rest ++ piece) q
+      → Breaks may (hub_at s p xs used) env n piece (hub_at s q (without xs n) used)
+  lost_breaks xs used n session env p q piece is lives lost =
+      let h : SessionState = record { rest = lost.rest; phase = session.phase } in
+      let t : SessionState = record { rest = lost.rest; phase = lost.phase_after } in
+      let ys = updated xs n h in
+      let run = composed between adds may s alone counts ys used n lost.rest env p session.phase lost.inputs lost.told lost.env_after q lost.phase_after
+      (holds_open ys n lost.rest session.phase lives (session_of-updated xs n session h is)) lost.run in
+      let gone : without xs n ≡ without (kept ys n t) n = sym (without-kept ys n t ∙ without-updated xs n h) in
+      record {
+        session = session;
+        is_session = is;
+        inputs = lost.inputs;
+        rest = lost.rest;
+        comes = lost.comes;
+        events = events_of n lost.inputs;
+        events_are = inputs_are n lost.inputs;
+        told = lost.told ++ [];
+        env_after = lost.env_after;
+        run = run_more may (heard (hub_at s p xs used) n session lost.rest) env (events_of n lost.inputs) lost.told (hub_at s q (kept ys n t) used) lost.env_after (Drops n) [] (hub_at s q (without xs n) used) lost.env_after
+            run (refl, refl, ap (λ (zs : List (ℕ × SessionState)). hub_at s q zs used) gone);
+      }
+
+-- all are open
+pub AllOpen-updated : (xs : List (ℕ × SessionState)) (n : ℕ) (s : SessionState) → AllOpen xs → is_open s.phase ≡ true → AllOpen (updated xs n s)
+AllOpen-updated [] n s r o = tt
+AllOpen-updated (x ∷ xs) n s r o = elim (x.0 == n) as (λ b. AllOpen (if b then (x.0, s) ∷ xs else x ∷ updated xs n s)) [ true ↦ (o, r.1) | false ↦ (r.0, AllOpen-updated xs n s r.1 o) ]
+
+pub AllOpen-without : (xs : List (ℕ × SessionState)) (n : ℕ) → AllOpen xs → AllOpen (without xs n)
+AllOpen-without [] n r = tt
+AllOpen-without (x ∷ xs) n r = elim (x.0 == n) as (λ b. AllOpen (if not b then x ∷ without xs n else without xs n)) [ true ↦ AllOpen-without xs n r.1 | false ↦ (r.0, AllOpen-without xs n r.1) ]
+
+pub AllOpen-at : (xs : List (ℕ × SessionState)) (n : ℕ) (s : SessionState) → AllOpen xs → session_of xs n ≡ Some s → is_open s.phase ≡ true
+AllOpen-at [] n s r h = cc
+AllOpen-at (x ∷ xs) n s r h =
+    elim (x.0 == n) as (λ b. (if b then Some x.1 else session_of xs n) ≡ Some s → is_open s.phase ≡ true)
+    [ true ↦ λ e. let e' : x.1 ≡ s = cc in subst (λ (z : SessionState). is_open z.phase ≡ true) e' r.0 | false ↦ λ e. AllOpen-at xs n s r.1 e ] h
+
+pub AllOpen-kept : (xs : List (ℕ × SessionState)) (n : ℕ) (s : SessionState) → AllOpen xs → AllOpen (kept xs n s)
+AllOpen-kept xs n s r =
+    elim (is_open s.phase) as (λ b. is_open s.phase ≡ b → AllOpen (if b then updated xs n s else without xs n))
+    [ true ↦ λ e. AllOpen-updated xs n s r e | false ↦ λ e. AllOpen-without xs n r ] refl
+
+pub AllOpen-push : (xs : List (ℕ × SessionState)) (n : ℕ) → AllOpen xs → AllOpen (xs ++ (n, new_session) ∷ [])
+AllOpen-push [] n r = (refl, tt)
+AllOpen-push (x ∷ xs) n r = (r.0, AllOpen-push xs n r.1)

@@ -1,0 +1,4 @@
+pub mod Places
+pub mod Composing
+pub mod Feeding
+pub mod Staying

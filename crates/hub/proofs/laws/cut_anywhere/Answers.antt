@@ -1,0 +1,5 @@
+use Rattle.hub.proofs.Staying.{comes_more}
+use Rattle.hub.proofs.laws.cut_anywhere.Goals as goal
+
+pub returns : goal.returns
+returns c = comes_more

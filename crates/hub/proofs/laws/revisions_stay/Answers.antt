@@ -1,0 +1,5 @@
+use Rattle.hub.proofs.Staying.{run_keeps}
+use Rattle.hub.proofs.laws.revisions_stay.Goals as goal
+
+pub returns : goal.returns
+returns c = run_keeps

@@ -1,0 +1,95 @@
+-- What happens to a hub, one event after another.
+use Rattle.std.specs.Prelude.{◌≡◌, ℕ, ◌+◌, Bool, false, true, List, [], ◌∷◌, ◌++◌, Option, Some, None}
+use Rattle.commands.specs.declared.reply.Reply.{Reply}
+use Rattle.commands.specs.declared.reply.Reply.TheVariants.{Greeting}
+use Rattle.session.specs.Hearing.{Input, Comes, IsSettled}
+use Rattle.session.specs.Machine.{Verdict, SessionState, Answer, InputStep, print}
+use Rattle.session.specs.declared.env.Env.{Env}
+use Rattle.session.specs.declared.phase.Phase.TheVariants.{Greeted}
+use Rattle.hub.specs.State.{HubState, session_of, updated, without, kept, content_after, halted_after}
+
+pub data Event : Type 0 where
+  Connects : ℕ → Event
+  -- a session's stream brings this
+  Gets : ℕ → Input → Event
+  Drops : ℕ → Event
+
+-- the hub after an answer to a session
+abbrev pub answered : HubState → ℕ → SessionState → Answer → HubState
+answered h n s a = record h {
+  content = content_after h.content a.effect;
+  halted = halted_after h.halted a.effect;
+  sessions = kept h.sessions n (record { rest = s.rest; phase = a.phase });
+}
+
+-- an input of an open session, or of one that has ended, which is dropped
+abbrev pub InputHappens : (Verdict → Bool) → HubState → Env → ℕ → Option SessionState → Input → List Reply → HubState → Env → Type 0
+InputHappens may old env n None input told new env' = (told ≡ []) × (new ≡ old) × (env' ≡ env)
+InputHappens may old env n (Some s) input told new env' =
+    (a : Answer) × InputStep may old.settings env old.content s.phase input a × (told ≡ a.replies) × (env' ≡ a.env) × (new ≡ answered old n s a)
+
+-- a session that has heard nothing
+abbrev pub new_session : SessionState
+new_session = record { rest = []; phase = Greeted }
+
+-- From old, with these words left, the event may draw these replies and lead to new, where the store may say
+-- so of a change.
+abbrev pub HubStep : (Verdict → Bool) → HubState → Env → Event → List Reply → HubState → Env → Type 0
+HubStep may old env (Connects n) told new env' =
+    (n ≡ old.used + 1) × (told ≡ Greeting ∷ []) × (env' ≡ env)
+    × (new ≡ record old { sessions = old.sessions ++ (n, new_session) ∷ []; used = n })
+HubStep may old env (Gets n input) told new env' = InputHappens may old env n (session_of old.sessions n) input told new env'
+HubStep may old env (Drops n) told new env' = (told ≡ []) × (env' ≡ env) × (new ≡ record old { sessions = without old.sessions n })
+
+-- one event after another
+abbrev pub HubRun : (Verdict → Bool) → HubState → Env → List Event → List Reply → HubState → Env → Type 0
+HubRun may old env [] told new env' = (told ≡ []) × (new ≡ old) × (env' ≡ env)
+HubRun may old env (e ∷ es) told new env' =
+    (first : List Reply) × (mid : HubState) × (env'' : Env) × (more : List Reply) × HubStep may old env e first mid env''
+    × HubRun may mid env'' es more new env' × (told ≡ first ++ more)
+
+-- these are the events of a session's inputs, in their order
+abbrev pub InputsAre : ℕ → List Input → List Event → Type 0
+InputsAre n [] [] = Unit {0}
+InputsAre n (input ∷ inputs) (Gets m heard ∷ events) = (m ≡ n) × (heard ≡ input) × InputsAre n inputs events
+InputsAre n [] (event ∷ events) = ⊥
+InputsAre n (input ∷ inputs) [] = ⊥
+InputsAre n (input ∷ inputs) (Connects m ∷ events) = ⊥
+InputsAre n (input ∷ inputs) (Drops m ∷ events) = ⊥
+
+-- the stream of a session has come so far that this is left of it
+abbrev pub heard : HubState → ℕ → SessionState → List ℕ → HubState
+heard old n s rest = record old { sessions = updated old.sessions n (record { rest = rest; phase = s.phase }) }
+
+-- where the session is still open, its stream has brought all that it does so far
+abbrev pub IfOpen : Option SessionState → List ℕ → Type 0
+IfOpen None rest = Unit {0}
+IfOpen (Some s) rest = IsSettled rest
+
+-- a piece of a session's stream, whose inputs draw this output
+pub record Feeds (may : Verdict → Bool) (old : HubState) (env : Env) (n : ℕ) (piece out : List ℕ) (new : HubState) : Type 0 where
+  pub session : SessionState
+  pub is_session : session_of old.sessions n ≡ Some session
+  pub inputs : List Input
+  pub rest : List ℕ
+  pub comes : Comes (session.rest ++ piece) inputs rest
+  pub settled : IfOpen (session_of new.sessions n) rest
+  pub events : List Event
+  pub events_are : InputsAre n inputs events
+  pub told : List Reply
+  pub env_after : Env
+  pub run : HubRun may (heard old n session rest) env events told new env_after
+  pub written : out ≡ print told
+
+-- for want of memory some of the piece's inputs happened in order, and then the session was dropped
+pub record Breaks (may : Verdict → Bool) (old : HubState) (env : Env) (n : ℕ) (piece : List ℕ) (new : HubState) : Type 0 where
+  pub session : SessionState
+  pub is_session : session_of old.sessions n ≡ Some session
+  pub inputs : List Input
+  pub rest : List ℕ
+  pub comes : Comes (session.rest ++ piece) inputs rest
+  pub events : List Event
+  pub events_are : InputsAre n inputs events
+  pub told : List Reply
+  pub env_after : Env
+  pub run : HubRun may (heard old n session rest) env (events ++ Drops n ∷ []) told new env_after

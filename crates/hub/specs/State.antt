@@ -1,0 +1,60 @@
+-- The state of a hub: what the repository contains, and its open sessions.
+use Rattle.std.specs.Prelude.{◌≡◌, ℕ, Bool, true, List, [], ◌∷◌, Option, Some, None, if◌then◌else◌, ◌==◌, ◌||◌, not, filter, ◌<◌, length, slice_get, slice_set}
+use Rattle.repo_api.specs.States.{RepoState}
+use Rattle.repo_api.specs.Accepted.{Accepted, changed}
+use Rattle.session.specs.Settings.{Settings}
+use Rattle.session.specs.Machine.{SessionState, Effect, is_open}
+use Rattle.session.specs.Machine.Effect.{Nothing, Changes, HaltsChanges}
+
+pub record HubState : Type 0 where
+  pub settings : Settings
+  pub content : RepoState
+  -- no change is made any more
+  pub halted : Bool
+  -- the open sessions by their numbers
+  pub sessions : List (ℕ × SessionState)
+  -- how many numbers were used
+  pub used : ℕ
+
+-- the session of a number, if it is open
+abbrev pub session_of : List (ℕ × SessionState) → ℕ → Option SessionState
+session_of [] n = None
+session_of (x ∷ xs) n = if x.0 == n then Some x.1 else session_of xs n
+
+-- with another state of that session
+abbrev pub updated : List (ℕ × SessionState) → ℕ → SessionState → List (ℕ × SessionState)
+updated [] n s = []
+updated (x ∷ xs) n s = if x.0 == n then (x.0, s) ∷ xs else x ∷ updated xs n s
+
+-- without that session
+abbrev pub without : List (ℕ × SessionState) → ℕ → List (ℕ × SessionState)
+without xs n = filter (λ x. not (x.0 == n)) xs
+
+-- the session goes on, or it has ended
+abbrev pub kept : List (ℕ × SessionState) → ℕ → SessionState → List (ℕ × SessionState)
+kept xs n s = if is_open s.phase then updated xs n s else without xs n
+
+-- the repository after an effect
+abbrev pub content_after : RepoState → Effect → RepoState
+content_after c Nothing = c
+content_after c (Changes e) = changed c e
+content_after c HaltsChanges = c
+
+-- whether changes have come to a halt, after an effect
+abbrev pub halted_after : Bool → Effect → Bool
+halted_after halted Nothing = halted
+halted_after halted (Changes e) = halted
+halted_after halted HaltsChanges = true
+
+-- each session is open
+abbrev pub AllOpen : List (ℕ × SessionState) → Type 0
+AllOpen [] = Unit {0}
+AllOpen (x ∷ xs) = (is_open x.1.phase ≡ true) × AllOpen xs
+
+-- the session of the number is at this place
+pub record Finds (xs : List (ℕ × SessionState)) (n i : ℕ) : Type 0 where
+  pub lt : i < length xs
+  pub session : SessionState
+  pub is : session_of xs n ≡ Some session
+  pub at : slice_get xs i ≡ Some (n, session)
+  pub update : (s : SessionState) → slice_set xs i (n, s) ≡ updated xs n s

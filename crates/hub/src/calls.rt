@@ -1,0 +1,63 @@
+//! Any calls of any sessions.
+ghost use Rattle.std.specs.Prelude.{IfOk};
+ghost use Rattle.std.specs.List.{All};
+ghost use Rattle.hub.specs.Calls.{CallStep, CallRun, IsTimely};
+
+use crate::hub::{Hub, HubFault, SessionId};
+use session::{Env, SoleAccess};
+use std::alloc::{AllocError, Global};
+
+/// A call of a hub.
+#[derive(Drop)]
+pub enum Call {
+    Connect,
+    Feed(SessionId, Vec<u8>, Env),
+    Disconnect(SessionId),
+}
+
+/// What a call answers.
+#[derive(Drop)]
+pub enum Outcome {
+    Connected(SessionId, Vec<u8>),
+    Wrote(Vec<u8>),
+    Dropped,
+    Failed(HubFault),
+}
+
+/// Makes one call.
+pub fn make_call<A: SoleAccess>(hub: &mut Hub<A>, call: &Call) -> Outcome
+    requires { IsTimely call.now }
+    ensures { CallStep A.may hub.old call.now result hub.new }
+{
+    match call {
+        Call::Connect => match hub.connect() {
+            Ok((n, out)) => Outcome::Connected(n, out),
+            Err(e) => Outcome::Failed(e),
+        },
+        Call::Feed(n, piece, env) => match hub.feed(*n, piece, *env) {
+            Ok(out) => Outcome::Wrote(out),
+            Err(e) => Outcome::Failed(e),
+        },
+        Call::Disconnect(n) => {
+            hub.disconnect(*n);
+            Outcome::Dropped
+        }
+    }
+}
+
+/// Makes calls in order. Whatever bytes the sessions send, cut and interleaved however, what is written and
+/// what is left are those of one run of the machine.
+pub fn make_calls<A: SoleAccess>(
+    alloc: Global,
+    hub: &mut Hub<A>,
+    calls: &[Call],
+) -> Result<Vec<Outcome>, AllocError>
+    requires { All IsTimely calls.now }
+    ensures { IfOk result (λ outcomes. CallRun A.may hub.old calls.now outcomes.items hub.new) }
+{
+    let mut outcomes = Vec::new(alloc);
+    for call in calls {
+        outcomes.push(make_call(hub, call))?;
+    }
+    Ok(outcomes)
+}

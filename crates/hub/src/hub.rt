@@ -1,0 +1,224 @@
+//! Many sessions over one repository.
+ghost use Rattle.std.specs.Prelude.{◌≡◌, ◌+◌, ◌<◌, ◌≤◌, ◌++◌, [], ◌∷◌, ℕ, Bool, true, false, not, ◌&&◌, length, MatchOption, IfOk, IfErr, OnOk, OnErr, None, is_some};
+ghost use Rattle.session.specs.Points.{world};
+ghost use Rattle.session.specs.Settings.{Settings};
+ghost use Rattle.session.specs.Machine.{print};
+ghost use Rattle.session.specs.declared.env.Env.{Env};
+ghost use Rattle.commands.specs.declared.reply.Reply.TheVariants.{Greeting};
+ghost use Rattle.hub.specs.State.{session_of, without, Finds, AllOpen};
+ghost use Rattle.hub.specs.Runs.{HubStep, Feeds, Breaks, new_session};
+ghost use Rattle.hub.specs.Runs.Event.{Drops};
+ghost use Rattle.hub.specs.Calls.{ConnectsAs, ConnectFails, FeedsAs, FeedFails};
+
+use crate::direct::Direct;
+use commands::Reply;
+use repo_api::Repository;
+use session::{Env, Options, Session, SoleAccess};
+use std::alloc::{AllocError, Global};
+use std::marker::Model;
+use thiserror::Error;
+
+/// The number of a session. Each is used once, from 1 on.
+pub type SessionId = u64;
+
+/// Why a hub did not do what it was asked for.
+#[derive(Clone, Copy, Debug, PartialEq, Eq, Error)]
+pub enum HubFault {
+    /// No session of that number is open.
+    #[error("no open session of that number")]
+    NoSession,
+    /// Memory was refused. A session that was fed has ended.
+    #[error("no memory")]
+    NoMemory,
+    /// The store failed badly, and nothing is served any more.
+    #[error("halted")]
+    Halted,
+    /// 16 sessions are open, or all numbers are used.
+    #[error("full")]
+    Full,
+}
+
+/// The place of a session.
+fn place(sessions: &[(SessionId, Session)], number: SessionId) -> Option<usize>
+    ensures { MatchOption result (session_of sessions.now number ≡ None) (λ i. Finds sessions.now number i) }
+{
+    for (i, entry) in sessions.iter().enumerate() {
+        if entry.0 == number {
+            return Some(i);
+        }
+    }
+    None
+}
+
+/// Drops a session.
+fn drop_session(sessions: &mut Vec<(SessionId, Session)>, number: SessionId)
+    ensures { sessions.new.items ≡ without sessions.old.items number }
+{
+    sessions.retain(|entry| entry.0 != number);
+}
+
+/// Adds a session that has heard nothing.
+fn add_session(
+    alloc: Global,
+    sessions: &mut Vec<(SessionId, Session)>,
+    number: SessionId,
+) -> Result<(), AllocError>
+    ensures ok { OnOk result (sessions.new.items ≡ sessions.old.items ++ (number, new_session) ∷ []) }
+    ensures err { OnErr result (sessions.new.items ≡ sessions.old.items) }
+{
+    sessions.push((number, Session::new(alloc)))?;
+    Ok(())
+}
+
+/// The greeting.
+fn greeting(alloc: Global) -> Result<Vec<u8>, AllocError>
+    ensures { IfOk result (λ out. out.items ≡ print (Greeting ∷ [])) }
+{
+    let mut out = Vec::new(alloc);
+    Reply::Greeting.write(alloc, &mut out)?;
+    Ok(out)
+}
+
+/// Feeds an open session; one that has ended then is dropped.
+fn feed_open<A: SoleAccess>(
+    alloc: Global,
+    options: &Options,
+    sessions: &mut Vec<(SessionId, Session)>,
+    number: SessionId,
+    i: usize,
+    access: &mut A,
+    piece: &[u8],
+    env: Env,
+) -> Result<Vec<u8>, AllocError>
+    requires found { Finds sessions.old.items number i }
+    requires open { AllOpen sessions.old.items }
+    requires moment { env.moment ≤ 200000000000000000 }
+    ensures ok { IfOk result (λ out. (used : ℕ) → Feeds A.may (record { settings = options.now; content = world (A.point access.old); halted = (A.point access.old).halted; sessions = sessions.old.items; used = used }) env number piece.now out.items (record { settings = options.now; content = world (A.point access.new); halted = (A.point access.new).halted; sessions = sessions.new.items; used = used })) }
+    ensures err { OnErr result ((used : ℕ) → Breaks A.may (record { settings = options.now; content = world (A.point access.old); halted = (A.point access.old).halted; sessions = sessions.old.items; used = used }) env number piece.now (record { settings = options.now; content = world (A.point access.new); halted = (A.point access.new).halted; sessions = sessions.new.items; used = used })) }
+    ensures open { AllOpen sessions.new.items }
+{
+    let entry = &mut sessions[i];
+    let fed = entry.1.feed(alloc, options, piece, access, env);
+    let is_open = entry.1.is_open();
+    if !is_open {
+        drop_session(sessions, number);
+    }
+    match fed {
+        Ok(out) => Ok(out),
+        Err(_) => Err(AllocError),
+    }
+}
+
+/// One repository and its open sessions. `A` is how the repository is reached.
+#[derive(Drop)]
+pub struct Hub<A: SoleAccess> {
+    alloc: Global,
+    options: Options,
+    access: A,
+    sessions: Vec<(SessionId, Session)>,
+    used: u64,
+}
+
+impl<A: SoleAccess> Model for Hub<A> {
+    ghost use Rattle.std.specs.Coded.{codes};
+    ghost use Rattle.std.specs.FinMap.{code as map_code};
+    ghost use Rattle.session.specs.Points.{world};
+    ghost use Rattle.hub.specs.State.{HubState, AllOpen};
+
+    ghost Value = { HubState };
+
+    ghost coded = { Prim.hlevel (map_code, codes) };
+
+    ghost view = { λ h. record { settings = h.options; content = world (A.point h.access); halted = (A.point h.access).halted; sessions = h.sessions.items; used = h.used } };
+
+    ghost invariant = { λ h. AllOpen h.sessions.items };
+}
+
+impl<R: Repository> Hub<Direct<R>> {
+    /// A hub without sessions over a repository in memory that nobody else has.
+    pub fn over(alloc: Global, repository: R, options: Options) -> Result<Self, HubFault>
+        ensures { IfOk result (λ hub. hub ≡ record { settings = options; content = R.content repository; halted = false; sessions = []; used = 0 }) }
+    {
+        Ok(Hub::with_access(alloc, Direct::new(repository), options))
+    }
+}
+
+impl<A: SoleAccess> Hub<A> {
+    /// A hub without sessions over what an access reaches.
+    pub fn with_access(alloc: Global, access: A, options: Options) -> Self
+        ensures { result ≡ record { settings = options; content = world (A.point access); halted = (A.point access).halted; sessions = []; used = 0 } }
+    {
+        Hub {
+            alloc,
+            options,
+            access,
+            sessions: Vec::new(alloc),
+            used: 0,
+        }
+    }
+
+    /// A new session: its number and the greeting that is written to its client.
+    pub fn connect(&mut self) -> Result<(SessionId, Vec<u8>), HubFault>
+        ensures ok { IfOk result (λ r. ConnectsAs A.may self.old r.0 r.1.items self.new) }
+        ensures err { IfErr result (λ e. ConnectFails self.old e self.new) }
+    {
+        if self.access.is_halted() {
+            return Err(HubFault::Halted);
+        }
+        if self.sessions.len() >= 16 || self.used == u64::MAX {
+            return Err(HubFault::Full);
+        }
+        let number = self.used + 1;
+        let Ok(out) = greeting(self.alloc) else {
+            return Err(HubFault::NoMemory);
+        };
+        match add_session(self.alloc, &mut self.sessions, number) {
+            Ok(()) => {
+                self.used = number;
+                Ok((number, out))
+            }
+            Err(_) => Err(HubFault::NoMemory),
+        }
+    }
+
+    /// Feeds a piece of what a client sends to its session, and answers what is written to it.
+    pub fn feed(&mut self, number: SessionId, piece: &[u8], env: Env) -> Result<Vec<u8>, HubFault>
+        requires { env.moment ≤ 200000000000000000 }
+        ensures ok { IfOk result (λ out. FeedsAs A.may self.old env number piece.now out.items self.new) }
+        ensures err { IfErr result (λ e. FeedFails A.may self.old env number piece.now e self.new) }
+    {
+        if self.access.is_halted() {
+            return Err(HubFault::Halted);
+        }
+        let Some(i) = place(&self.sessions, number) else {
+            return Err(HubFault::NoSession);
+        };
+        match feed_open(
+            self.alloc,
+            &self.options,
+            &mut self.sessions,
+            number,
+            i,
+            &mut self.access,
+            piece,
+            env,
+        ) {
+            Ok(out) => Ok(out),
+            Err(_) => Err(HubFault::NoMemory),
+        }
+    }
+
+    /// Whether a session of this number is open.
+    pub fn is_open(&self, number: SessionId) -> bool
+        ensures { result ≡ (is_some (session_of self.now.sessions number) && not self.now.halted) }
+    {
+        place(&self.sessions, number).is_some() && !self.access.is_halted()
+    }
+
+    /// Drops a session; a number that isn't open changes nothing.
+    pub fn disconnect(&mut self, number: SessionId)
+        ensures { (env : Env) → HubStep A.may self.old env (Drops number) [] self.new env }
+    {
+        drop_session(&mut self.sessions, number);
+    }
+}

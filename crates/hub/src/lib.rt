@@ -1,0 +1,16 @@
+//! Many sessions over one repository, and what holds of them all.
+#![tactic(auto)]
+
+mod calls;
+mod direct;
+mod hub;
+mod laws;
+
+pub use calls::{Call, Outcome, make_call, make_calls};
+pub use direct::Direct;
+pub use hub::{Hub, HubFault, SessionId};
+pub use laws::{
+    calls_keep_history, cut_anywhere, one_revision_an_event, refused_changes_nothing,
+    revisions_stay,
+};
+pub use session::{Env, Options, is_repository_name};

@@ -1,0 +1,83 @@
+//! Calls of a hub over a repository in memory.
+ghost use Rattle.std.specs.Prelude.{IfOk};
+ghost use Rattle.hub.specs.Calls.{IsTimely};
+
+use flatrepo::FlatRepo;
+use hub::{Call, Direct, Env, Hub, Options, Outcome, make_call, make_calls};
+use std::alloc::{AllocError, Global};
+use std::test::Fail;
+
+const UUID: u128 = 0x0000_0000_0000_4000_8000_0000_0000_0000;
+
+const ENV: Env = Env {
+    moment: 0,
+    token: 0,
+    nonce: 0,
+};
+
+/// A client that logs in and asks for the youngest revision.
+const CLIENT: &[u8] =
+    b"( 2 ( edit-pipeline ) 11:svn://h/r/t ) ( ANONYMOUS ( ) ) ( get-latest-rev ( ) ) ";
+
+const GREETING: &[u8] =
+    b"( success ( 2 2 ( ) ( edit-pipeline absent-entries commit-revprops ) ) ) ";
+
+const ANSWER: &[u8] =
+    b"( success ( ( ANONYMOUS ) 1:r ) ) ( success ( ) ) ( success ( 36:00000000-0000-4000-8000-000000000000 9:svn://h/r ( ) ) ) ( success ( ( ) 0: ) ) ( success ( 0 ) ) ";
+
+fn new_hub(alloc: Global) -> Result<Hub<Direct<FlatRepo>>, Fail> {
+    let repository = FlatRepo::new(alloc, UUID, 0)?;
+    let options = Options::new(alloc, "r")?;
+    Ok(Hub::over(alloc, repository, options)?)
+}
+
+fn feed_call(alloc: Global) -> Result<Call, AllocError>
+    ensures { IfOk result IsTimely }
+{
+    Ok(Call::Feed(1, Vec::from_slice(alloc, CLIENT)?, ENV))
+}
+
+fn wrote(outcome: &Outcome) -> &[u8] {
+    match outcome {
+        Outcome::Connected(_, out) => out.as_slice(),
+        Outcome::Wrote(out) => out.as_slice(),
+        Outcome::Dropped => b"dropped",
+        Outcome::Failed(_) => b"failed",
+    }
+}
+
+#[test]
+fn one_call_after_another(rt: HostRuntime) -> Result<(), Fail> {
+    let alloc = rt.alloc();
+    let mut hub = new_hub(alloc)?;
+    let connected = make_call(&mut hub, &Call::Connect);
+    assert_eq!(rt; wrote(&connected), GREETING);
+    let (number, greeting) = hub.connect()?;
+    assert_eq!(rt; number, 2);
+    assert_eq!(rt; greeting.as_slice(), GREETING);
+    let out = hub.feed(number, CLIENT, ENV)?;
+    assert_eq!(rt; out.as_slice(), ANSWER);
+    assert!(rt; hub.is_open(number));
+    hub.disconnect(number);
+    assert!(rt; !hub.is_open(number));
+    Ok(())
+}
+
+#[test]
+fn a_list_of_calls(rt: HostRuntime) -> Result<(), Fail> {
+    let alloc = rt.alloc();
+    let mut hub = new_hub(alloc)?;
+    let calls = vec![in alloc;
+        Call::Connect,
+        feed_call(alloc)?,
+        Call::Disconnect(1),
+        Call::Connect,
+    ]?;
+    let outcomes = make_calls(alloc, &mut hub, calls.as_slice())?;
+    assert_eq!(rt; outcomes.len(), 4);
+    assert_eq!(rt; wrote(&outcomes[0]), GREETING);
+    assert_eq!(rt; wrote(&outcomes[1]), ANSWER);
+    assert_eq!(rt; wrote(&outcomes[2]), b"dropped".as_slice());
+    assert_eq!(rt; wrote(&outcomes[3]), GREETING);
+    Ok(())
+}

@@ -1,0 +1,4 @@
+pub mod Quiet
+pub mod Refusing
+pub mod Runs
+pub mod Once

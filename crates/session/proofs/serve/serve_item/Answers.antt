@@ -1,0 +1,32 @@
+use Rattle.std.proofs.Common.{◌≡◌, ◌∷◌, ◌++◌, [], ℕ, Some, None, refl, sym, ap, subst, ◌∙◌, append-nil}
+use Rattle.std.specs.Prelude.{Ok, Err}
+use Rattle.items.specs.View.{tree_of}
+use Rattle.commands.specs.Commands.{main_command}
+use Rattle.commands.specs.Logins.{client_greeting, auth_response}
+use Rattle.session.specs.Points.{world}
+use Rattle.session.specs.Hearing.Input.{Whole}
+use Rattle.session.specs.Machine.{says, greeting_answer, login_answer, command_answer}
+use Rattle.session.specs.declared.phase.Phase.TheVariants.{Greeted, LoggingIn, Serving, Ended}
+use Rattle.session.proofs.Quiet.{said, quiet_greeting, quiet_login, quiet_command, quiet_end}
+use Rattle.session.proofs.serve.serve_item.Goals as goal
+
+pub returns-in_ok-after-in-Greeted-clause-ok : goal.returns-in_ok-after-in-Greeted-clause-ok
+returns-in_ok-after-in-Greeted-clause-ok g c =
+    let a = greeting_answer c.args.options.now c.args.env (client_greeting (tree_of c.args.item.now)) in
+    rw c.in-Greeted.is (said g.A.RepoAccess.between g.A.RepoAccess.adds g.A.RepoAccess.may c.args.options.now c.args.env _ _ Greeted _ (Whole (tree_of c.args.item.now)) a _ _
+    (g.met.A.RepoAccess.stays _) refl (quiet_greeting c.args.options.now c.args.env (client_greeting (tree_of c.args.item.now))) (c.in_ok-after-in-Greeted.ensures c.args.env))
+
+pub returns-in_ok-after-in-LoggingIn-clause-ok : goal.returns-in_ok-after-in-LoggingIn-clause-ok
+returns-in_ok-after-in-LoggingIn-clause-ok g c =
+    rw c.in-LoggingIn.is (said g.A.RepoAccess.between g.A.RepoAccess.adds g.A.RepoAccess.may c.args.options.now c.args.env _ _ (LoggingIn c.in-LoggingIn.client) _ (Whole (tree_of c.args.item.now)) (login_answer c.args.env (world (g.A.RepoAccess.point c.log_in.new.access)) c.in-LoggingIn.client (auth_response (tree_of c.args.item.now))) _ _
+    c.log_in.ensures.later refl (quiet_login c.args.env (world (g.A.RepoAccess.point c.log_in.new.access)) c.in-LoggingIn.client (auth_response (tree_of c.args.item.now))) (c.in_ok-after-in-LoggingIn.ensures.ok c.args.env))
+
+pub returns-in_ok-after-in-Serving-clause-ok : goal.returns-in_ok-after-in-Serving-clause-ok
+returns-in_ok-after-in-Serving-clause-ok g c =
+    rw c.in-Serving.is (said g.A.RepoAccess.between g.A.RepoAccess.adds g.A.RepoAccess.may c.args.options.now c.args.env _ _ (Serving c.in-Serving.client) _ (Whole (tree_of c.args.item.now)) (command_answer c.args.env (world (g.A.RepoAccess.point c.obey.new.access)) c.in-Serving.client (main_command (tree_of c.args.item.now))) _ _
+    c.obey.ensures.later refl (quiet_command c.args.env (world (g.A.RepoAccess.point c.obey.new.access)) c.in-Serving.client (main_command (tree_of c.args.item.now))) (c.in_ok-after-in-Serving.ensures.ok c.args.env))
+
+pub returns-in-Ended-clause-ok : goal.returns-in-Ended-clause-ok
+returns-in-Ended-clause-ok g c =
+    rw c.in-Ended.is (said g.A.RepoAccess.between g.A.RepoAccess.adds g.A.RepoAccess.may c.args.options.now c.args.env _ _ Ended Ended (Whole (tree_of c.args.item.now)) (says c.args.env Ended []) _ _
+    (g.met.A.RepoAccess.stays _) refl (quiet_end c.args.env) (record { phase_is = refl; written = sym (append-nil c.args.out.now.items) }))

@@ -1,0 +1,19 @@
+-- What an item takes from its stream.
+use Rattle.std.specs.Prelude.{ℕ, ◌<◌, List, length}
+use Rattle.items.specs.declared.reader.ItemFault.{ItemFault}
+use Rattle.items.specs.declared.reader.ItemFault.TheVariants as faults
+use Rattle.session.specs.declared.incoming.Incoming.{Incoming}
+use Rattle.session.specs.declared.incoming.Incoming.TheVariants.{Whole, Broken}
+
+-- an item leaves less of the stream than there was
+abbrev pub Shortens : Incoming → List ℕ → List ℕ → Type 0
+Shortens (Whole item) old new = length new < length old
+Shortens Broken old new = Unit {0}
+
+-- a fault of the stream itself
+abbrev pub IsBrokenFault : ItemFault → Type 0
+IsBrokenFault (faults.Malformed place) = Unit {0}
+IsBrokenFault (faults.TooDeep place) = Unit {0}
+IsBrokenFault (faults.StringTooLong place) = Unit {0}
+IsBrokenFault (faults.NumberTooLarge place) = Unit {0}
+IsBrokenFault faults.NoMemory = ⊥

@@ -1,0 +1,7 @@
+pub mod Settings
+pub mod Points
+pub mod Hearing
+pub mod Declines
+pub mod Machine
+pub mod Access
+pub mod Replying

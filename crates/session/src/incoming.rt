@@ -1,0 +1,39 @@
+//! What a stream of bytes brings.
+ghost use Rattle.std.specs.Prelude.{◌≡◌, ◌<◌, length, IfOk, OnErr, MatchOption, Some};
+ghost use Rattle.session.specs.Hearing.{Brings, input_of, IsSettled};
+ghost use Rattle.session.specs.Declines.{Shortens, IsBrokenFault};
+
+use items::{Item, ItemFault, ItemReader};
+use std::alloc::AllocError;
+
+/// An item, or a byte that goes on to none.
+#[derive(Drop)]
+pub enum Incoming {
+    Whole(Item),
+    Broken,
+}
+
+/// Takes what the stream brings next, if it is there.
+pub fn take_incoming(reader: &mut ItemReader) -> Result<Option<Incoming>, AllocError>
+    ensures taken { IfOk result (λ found. MatchOption found (IsSettled reader.old.rest × (reader.new ≡ reader.old)) (λ i. Brings reader.old.rest (input_of i) reader.new.rest × Shortens i reader.old.rest reader.new.rest)) }
+    ensures err { OnErr result (reader.new ≡ reader.old) }
+{
+    match reader.next() {
+        Ok(Some(item)) => Ok(Some(Incoming::Whole(item))),
+        Ok(None) => Ok(None),
+        Err(fault) => broken_unless_memory(fault),
+    }
+}
+
+/// A fault of the stream, or want of memory.
+fn broken_unless_memory(fault: ItemFault) -> Result<Option<Incoming>, AllocError>
+    ensures { IfOk result (λ found. IsBrokenFault fault × (found ≡ Some Incoming.Broken)) }
+{
+    match fault {
+        ItemFault::NoMemory => Err(AllocError),
+        ItemFault::Malformed(_) => Ok(Some(Incoming::Broken)),
+        ItemFault::TooDeep(_) => Ok(Some(Incoming::Broken)),
+        ItemFault::StringTooLong(_) => Ok(Some(Incoming::Broken)),
+        ItemFault::NumberTooLarge(_) => Ok(Some(Incoming::Broken)),
+    }
+}

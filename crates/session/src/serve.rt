@@ -1,0 +1,390 @@
+//! One input of a session.
+ghost use Rattle.std.specs.Prelude.{◌≡◌, ◌∷◌, ◌++◌, [], ℕ, Ok, IfOk, OnOk, OnErr, MatchOption};
+ghost use Rattle.commands.specs.Commands.{main_command};
+ghost use Rattle.commands.specs.Logins.{client_greeting, auth_response};
+ghost use Rattle.commands.specs.declared.reply.Reply.{Reply};
+ghost use Rattle.commands.specs.declared.reply.Reply.TheVariants as replies;
+ghost use Rattle.refusals.specs.declared.Refusal.TheVariants as refusals;
+ghost use Rattle.items.specs.View.{tree_of};
+ghost use Rattle.svnpath.specs.Texts.{joined};
+ghost use Rattle.session.specs.Points.{world};
+ghost use Rattle.session.specs.Hearing.{input_of};
+ghost use Rattle.session.specs.Hearing.Input.{Whole, Broken};
+ghost use Rattle.session.specs.Machine.{print, malformed, path_refusal, check_path_reply, rev_proplist_reply, at_revision, greeting_answer, login_answer, command_answer};
+ghost use Rattle.session.specs.Access.{Served, Fails};
+ghost use Rattle.session.specs.Replying.{IsAnswered};
+ghost use Rattle.session.specs.declared.env.Env.{Env};
+
+use crate::access::RepoAccess;
+use crate::env::Env;
+use crate::incoming::Incoming;
+use crate::options::Options;
+use crate::phase::{Client, Phase};
+use commands::{AuthResponse, ClientGreeting, CommandFault, MainCommand, Reply};
+use items::{Item, Text};
+use refusals::Refusal;
+use repo_api::{Properties, Repository};
+use std::alloc::{AllocError, Global};
+use svnpath::{Path, PathFault, RepositoryUrl};
+
+/// Writes one reply.
+fn say(alloc: Global, reply: &Reply, out: &mut Vec<u8>) -> Result<(), AllocError>
+    ensures { OnOk result (out.new.items ≡ out.old.items ++ print (reply.now ∷ [])) }
+{
+    reply.write(alloc, out)?;
+    Ok(())
+}
+
+/// Writes two replies.
+fn say_both(
+    alloc: Global,
+    first: &Reply,
+    second: &Reply,
+    out: &mut Vec<u8>,
+) -> Result<(), AllocError>
+    ensures { OnOk result (out.new.items ≡ out.old.items ++ print (first.now ∷ second.now ∷ [])) }
+{
+    first.write(alloc, out)?;
+    second.write(alloc, out)?;
+    Ok(())
+}
+
+/// Ends the session over what is no command.
+fn end_malformed(alloc: Global, out: &mut Vec<u8>) -> Result<Phase, AllocError>
+    ensures { IfOk result (λ phase. (env : Env) → IsAnswered (malformed env) phase out.old.items out.new.items) }
+{
+    say(alloc, &Reply::Failure(Refusal::MalformedData), out)?;
+    Ok(Phase::Ended)
+}
+
+/// How a client is told that a path or a URL is refused.
+fn path_refusal(fault: PathFault) -> Refusal
+    ensures { result ≡ path_refusal fault }
+{
+    match fault {
+        PathFault::EmptyComponent => Refusal::BadPath,
+        PathFault::ForbiddenComponent => Refusal::BadPath,
+        PathFault::TooLong => Refusal::BadPath,
+        PathFault::TooDeep => Refusal::BadPath,
+        PathFault::NotThisRepository => Refusal::NoSuchRepository,
+        PathFault::NoMemory => Refusal::BadPath,
+    }
+}
+
+/// The answer to the greeting.
+fn greet(
+    alloc: Global,
+    options: &Options,
+    item: &Item,
+    out: &mut Vec<u8>,
+) -> Result<Phase, AllocError>
+    ensures { IfOk result (λ phase. (env : Env) → IsAnswered (greeting_answer options.now env (client_greeting (tree_of item.now))) phase out.old.items out.new.items) }
+{
+    match ClientGreeting::from_item(alloc, item) {
+        Ok(greeting) => {
+            let phase = begin(alloc, options, &greeting, out)?;
+            Ok(phase)
+        }
+        Err(CommandFault::NoMemory) => Err(AllocError),
+        Err(CommandFault::UnknownName) => {
+            let phase = end_malformed(alloc, out)?;
+            Ok(phase)
+        }
+        Err(CommandFault::BadParameters) => {
+            let phase = end_malformed(alloc, out)?;
+            Ok(phase)
+        }
+    }
+}
+
+/// Asks a client for its login, if it speaks this protocol and names this repository.
+fn begin(
+    alloc: Global,
+    options: &Options,
+    greeting: &ClientGreeting,
+    out: &mut Vec<u8>,
+) -> Result<Phase, AllocError>
+    ensures { IfOk result (λ phase. (env : Env) → IsAnswered (greeting_answer options.now env (Ok greeting.now)) phase out.old.items out.new.items) }
+{
+    if greeting.version != 2 || !greeting.edit_pipeline {
+        return Ok(Phase::Ended);
+    }
+    match RepositoryUrl::read(alloc, greeting.url.as_bytes(), options.name()) {
+        Ok(named) => {
+            let RepositoryUrl { root, path } = named;
+            say(alloc, &Reply::Login(realm(alloc, options)?), out)?;
+            Ok(Phase::LoggingIn(Client {
+                path,
+                root,
+                user: None,
+            }))
+        }
+        Err(PathFault::NoMemory) => Err(AllocError),
+        Err(fault) => {
+            say(alloc, &Reply::Failure(path_refusal(fault)), out)?;
+            Ok(Phase::Ended)
+        }
+    }
+}
+
+/// What a login is for: the repository's name.
+fn realm(alloc: Global, options: &Options) -> Result<Text, AllocError>
+    ensures { IfOk result (λ realm. realm ≡ options.now.name) }
+{
+    Ok(Text::from_vec(Vec::from_slice(alloc, options.name().as_bytes())?))
+}
+
+/// The client is not served any more.
+fn forget(_client: Client) {}
+
+/// The choice of a mechanism.
+fn log_in<A: RepoAccess>(
+    alloc: Global,
+    client: Client,
+    item: &Item,
+    access: &mut A,
+    out: &mut Vec<u8>,
+) -> Result<Phase, AllocError>
+    ensures ok { IfOk result (λ phase. (env : Env) → IsAnswered (login_answer env (world (A.point access.new)) client (auth_response (tree_of item.now))) phase out.old.items out.new.items) }
+    ensures later { A.between (A.point access.old) (A.point access.new) }
+{
+    match AuthResponse::from_item(alloc, item) {
+        Ok(response) => {
+            let phase = admit(alloc, client, &response, access, out)?;
+            Ok(phase)
+        }
+        Err(CommandFault::NoMemory) => Err(AllocError),
+        Err(CommandFault::UnknownName) => {
+            forget(client);
+            let phase = end_malformed(alloc, out)?;
+            Ok(phase)
+        }
+        Err(CommandFault::BadParameters) => {
+            forget(client);
+            let phase = end_malformed(alloc, out)?;
+            Ok(phase)
+        }
+    }
+}
+
+/// Admits a client without a name. Any other mechanism is not offered, and another choice is awaited.
+fn admit<A: RepoAccess>(
+    alloc: Global,
+    client: Client,
+    response: &AuthResponse,
+    access: &mut A,
+    out: &mut Vec<u8>,
+) -> Result<Phase, AllocError>
+    ensures ok { IfOk result (λ phase. (env : Env) → IsAnswered (login_answer env (world (A.point access.new)) client (Ok response.now)) phase out.old.items out.new.items) }
+    ensures later { A.between (A.point access.old) (A.point access.new) }
+{
+    if response.mechanism.as_bytes() != b"ANONYMOUS".as_slice() {
+        say(alloc, &Reply::MechanismNotOffered, out)?;
+        return Ok(Phase::LoggingIn(client));
+    }
+    let view = access.look()?;
+    let root = Text::from_vec(Vec::from_slice(alloc, client.root.as_slice())?);
+    say_both(
+        alloc,
+        &Reply::Success,
+        &Reply::ReposInfo(view.uuid(), root),
+        out,
+    )?;
+    Ok(Phase::Serving(client))
+}
+
+/// A command.
+fn obey<A: RepoAccess>(
+    alloc: Global,
+    client: Client,
+    item: &Item,
+    access: &mut A,
+    out: &mut Vec<u8>,
+) -> Result<Phase, AllocError>
+    ensures ok { IfOk result (λ phase. (env : Env) → IsAnswered (command_answer env (world (A.point access.new)) client (main_command (tree_of item.now))) phase out.old.items out.new.items) }
+    ensures later { A.between (A.point access.old) (A.point access.new) }
+{
+    match MainCommand::from_item(alloc, item) {
+        Ok(command) => {
+            let phase = run(alloc, client, &command, access, out)?;
+            Ok(phase)
+        }
+        Err(CommandFault::UnknownName) => {
+            say(alloc, &Reply::Failure(Refusal::UnknownCommand), out)?;
+            Ok(Phase::Serving(client))
+        }
+        Err(CommandFault::BadParameters) => {
+            forget(client);
+            let phase = end_malformed(alloc, out)?;
+            Ok(phase)
+        }
+        Err(CommandFault::NoMemory) => Err(AllocError),
+    }
+}
+
+/// A command that is known.
+fn run<A: RepoAccess>(
+    alloc: Global,
+    client: Client,
+    command: &MainCommand,
+    access: &mut A,
+    out: &mut Vec<u8>,
+) -> Result<Phase, AllocError>
+    ensures ok { IfOk result (λ phase. (env : Env) → IsAnswered (command_answer env (world (A.point access.new)) client (Ok command.now)) phase out.old.items out.new.items) }
+    ensures later { A.between (A.point access.old) (A.point access.new) }
+{
+    match command {
+        MainCommand::GetLatestRev => {
+            let view = access.look()?;
+            say_both(
+                alloc,
+                &Reply::NoLogin,
+                &Reply::Revision(view.youngest()),
+                out,
+            )?;
+            Ok(Phase::Serving(client))
+        }
+        MainCommand::CheckPath(path, revision) => {
+            let view = access.look()?;
+            let reply = check_path(alloc, &view, &client.path, path, *revision)?;
+            say_both(alloc, &Reply::NoLogin, &reply, out)?;
+            Ok(Phase::Serving(client))
+        }
+        MainCommand::RevProplist(revision) => {
+            let view = access.look()?;
+            let reply = rev_proplist(alloc, &view, *revision)?;
+            say_both(alloc, &Reply::NoLogin, &reply, out)?;
+            Ok(Phase::Serving(client))
+        }
+        MainCommand::AbortEdit => Ok(Phase::Serving(client)),
+    }
+}
+
+/// The revision that is named, or the youngest; `None` above the youngest.
+fn known_revision<R: Repository>(view: &R, revision: Option<u64>) -> Option<u64>
+    ensures { MatchOption result ((f : ℕ → Reply) → at_revision (R.content view.now) revision f ≡ replies.Failure refusals.NoSuchRevision) (λ n. (f : ℕ → Reply) → at_revision (R.content view.now) revision f ≡ f n) }
+{
+    let youngest = view.youngest();
+    match revision {
+        None => Some(youngest),
+        Some(n) => { if youngest < n { None } else { Some(n) } }
+    }
+}
+
+/// What stands at a path.
+fn check_path<R: Repository>(
+    alloc: Global,
+    view: &R,
+    base: &Path,
+    path: &Text,
+    revision: Option<u64>,
+) -> Result<Reply, AllocError>
+    ensures { IfOk result (λ reply. reply ≡ check_path_reply (R.content view.now) revision (joined base.now path.now)) }
+{
+    match base.join(alloc, path.as_bytes()) {
+        Ok(path) => match known_revision(view, revision) {
+            Some(n) => Ok(Reply::Kind(view.kind(n, &path))),
+            None => Ok(Reply::Failure(Refusal::NoSuchRevision)),
+        },
+        Err(PathFault::NoMemory) => Err(AllocError),
+        Err(fault) => Ok(Reply::Failure(path_refusal(fault))),
+    }
+}
+
+/// The properties of a revision.
+fn rev_proplist<R: Repository>(alloc: Global, view: &R, revision: u64) -> Result<Reply, AllocError>
+    ensures { IfOk result (λ reply. reply ≡ rev_proplist_reply (R.content view.now) revision) }
+{
+    match known_revision(view, Some(revision)) {
+        Some(n) => match view.revision_properties(n) {
+            Some(properties) => Ok(Reply::Properties(properties.clone()?)),
+            None => Ok(Reply::Properties(Properties::new(alloc))),
+        },
+        None => Ok(Reply::Failure(Refusal::NoSuchRevision)),
+    }
+}
+
+/// An item.
+fn serve_item<A: RepoAccess>(
+    alloc: Global,
+    options: &Options,
+    phase: Phase,
+    item: &Item,
+    access: &mut A,
+    env: Env,
+    out: &mut Vec<u8>,
+) -> Result<Phase, AllocError>
+    ensures ok { IfOk result (λ after. Served A.between A.adds A.may options.now env (A.point access.old) phase (Whole (tree_of item.now)) out.old.items env (A.point access.new) after out.new.items) }
+    ensures later { A.between (A.point access.old) (A.point access.new) }
+{
+    match phase {
+        Phase::Greeted => {
+            let after = greet(alloc, options, item, out)?;
+            Ok(after)
+        }
+        Phase::LoggingIn(client) => {
+            let after = log_in(alloc, client, item, access, out)?;
+            Ok(after)
+        }
+        Phase::Serving(client) => {
+            let after = obey(alloc, client, item, access, out)?;
+            Ok(after)
+        }
+        Phase::Ended => Ok(Phase::Ended),
+    }
+}
+
+/// A byte that goes on to no item.
+fn serve_broken<A: RepoAccess>(
+    alloc: Global,
+    options: &Options,
+    phase: Phase,
+    access: &A,
+    env: Env,
+    out: &mut Vec<u8>,
+) -> Result<Phase, AllocError>
+    ensures { IfOk result (λ after. Served A.between A.adds A.may options.now env (A.point access.now) phase Broken out.old.items env (A.point access.now) after out.new.items) }
+{
+    match phase {
+        Phase::Greeted => {
+            let after = end_malformed(alloc, out)?;
+            Ok(after)
+        }
+        Phase::LoggingIn(client) => {
+            forget(client);
+            let after = end_malformed(alloc, out)?;
+            Ok(after)
+        }
+        Phase::Serving(client) => {
+            forget(client);
+            let after = end_malformed(alloc, out)?;
+            Ok(after)
+        }
+        Phase::Ended => Ok(Phase::Ended),
+    }
+}
+
+/// One input: an `Err` is want of memory.
+pub fn serve<A: RepoAccess>(
+    alloc: Global,
+    options: &Options,
+    phase: Phase,
+    incoming: &Incoming,
+    access: &mut A,
+    env: Env,
+    out: &mut Vec<u8>,
+) -> Result<Phase, AllocError>
+    ensures ok { IfOk result (λ after. Served A.between A.adds A.may options.now env (A.point access.old) phase (input_of incoming.now) out.old.items env (A.point access.new) after out.new.items) }
+    ensures err { OnErr result (Fails A.between A.adds A.may options.now env (A.point access.old) phase (input_of incoming.now) (A.point access.new)) }
+{
+    match incoming {
+        Incoming::Whole(item) => {
+            let after = serve_item(alloc, options, phase, item, access, env, out)?;
+            Ok(after)
+        }
+        Incoming::Broken => {
+            let after = serve_broken(alloc, options, phase, access, env, out)?;
+            Ok(after)
+        }
+    }
+}

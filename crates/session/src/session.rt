@@ -1,0 +1,129 @@
+//! A session with one client.
+ghost use Rattle.std.specs.Prelude.{◌≡◌, ◌++◌, ◌≤◌, [], true, false, IfOk, OnOk, OnErr, IfErr, IsErrOf};
+ghost use Rattle.session.specs.Points.{world};
+ghost use Rattle.session.specs.Machine.{is_open};
+ghost use Rattle.session.specs.Access.{Fed, Lost};
+ghost use Rattle.session.specs.declared.phase.Phase.TheVariants.{Greeted};
+
+use crate::access::RepoAccess;
+use crate::env::Env;
+use crate::incoming::{Incoming, take_incoming};
+use crate::open::is_open;
+use crate::options::Options;
+use crate::phase::Phase;
+use crate::serve::serve;
+use items::ItemReader;
+use std::alloc::{AllocError, Global};
+use std::marker::Model;
+use std::mem;
+use thiserror::Error;
+
+/// Why a session was not served.
+#[derive(Clone, Copy, Debug, PartialEq, Eq, Error)]
+pub enum SessionFault {
+    /// Memory was refused. The session has ended.
+    #[error("no memory")]
+    NoMemory,
+    /// The session had ended before.
+    #[error("the session has ended")]
+    Ended,
+}
+
+/// What was served is not wanted any more.
+fn discard(_incoming: Incoming) {}
+
+/// Serves what the reader holds, up to the end of the session or of the items.
+fn serve_all<A: RepoAccess>(
+    alloc: Global,
+    options: &Options,
+    reader: &mut ItemReader,
+    phase: Phase,
+    access: &mut A,
+    env: Env,
+) -> Result<(Phase, Vec<u8>), AllocError>
+    ensures ok { IfOk result (λ r. Fed A.between A.adds A.may options.now env (A.point access.old) phase reader.old.rest reader.new.rest (A.point access.new) r.0 r.1.items) }
+    ensures err { OnErr result (Lost A.between A.adds A.may options.now env (A.point access.old) phase reader.old.rest (A.point access.new)) }
+{
+    let mut phase = phase;
+    let mut out = Vec::new(alloc);
+    'inputs: loop {
+        match take_incoming(reader)? {
+            None => return Ok((phase, out)),
+            Some(incoming) => {
+                let served = serve(alloc, options, phase, &incoming, access, env, &mut out);
+                discard(incoming);
+                phase = served?;
+                if !is_open(&phase) {
+                    return Ok((phase, out));
+                }
+            }
+        }
+    }
+}
+
+/// A session with one client.
+#[derive(Drop)]
+pub struct Session {
+    reader: ItemReader,
+    phase: Phase,
+}
+
+impl Model for Session {
+    ghost use Rattle.session.specs.Machine.{SessionState};
+
+    ghost Value = { SessionState };
+
+    ghost view = { λ s. record { rest = s.reader.rest; phase = s.phase } };
+}
+
+impl Session {
+    /// A session that has heard nothing.
+    pub fn new(alloc: Global) -> Self
+        ensures { result ≡ record { rest = []; phase = Greeted } }
+    {
+        Session {
+            reader: ItemReader::new(alloc),
+            phase: Phase::Greeted,
+        }
+    }
+
+    /// Whether the session hears what comes.
+    pub fn is_open(&self) -> bool
+        ensures { result ≡ is_open self.now.phase }
+    {
+        is_open(&self.phase)
+    }
+
+    /// Takes the next piece of what the client sends, and answers what is written to it. After an `Err` the
+    /// session has ended.
+    pub fn feed<A: RepoAccess>(
+        &mut self,
+        alloc: Global,
+        options: &Options,
+        piece: &[u8],
+        access: &mut A,
+        env: Env,
+    ) -> Result<Vec<u8>, SessionFault>
+        requires { env.moment ≤ 200000000000000000 }
+        ensures ok { IfOk result (λ out. Fed A.between A.adds A.may options.now env (A.point access.old) self.old.phase (self.old.rest ++ piece.now) self.new.rest (A.point access.new) self.new.phase out.items) }
+        ensures was_open { OnOk result (is_open self.old.phase ≡ true) }
+        ensures ended { IsErrOf result SessionFault.Ended → is_open self.old.phase ≡ false }
+        ensures lost { OnErr result (is_open self.old.phase ≡ true → Lost A.between A.adds A.may options.now env (A.point access.old) self.old.phase (self.old.rest ++ piece.now) (A.point access.new)) }
+        ensures err { OnErr result (is_open self.new.phase ≡ false) }
+    {
+        if !self.is_open() {
+            return Err(SessionFault::Ended);
+        }
+        let phase = mem::replace(&mut self.phase, Phase::Ended);
+        if self.reader.feed(piece).is_err() {
+            return Err(SessionFault::NoMemory);
+        }
+        match serve_all(alloc, options, &mut self.reader, phase, access, env) {
+            Ok((phase, out)) => {
+                self.phase = phase;
+                Ok(out)
+            }
+            Err(_) => Err(SessionFault::NoMemory),
+        }
+    }
+}

@@ -1,0 +1,10 @@
+pub mod Steady
+pub mod Sections
+pub mod Integers
+pub mod Headers
+pub mod Windows
+pub mod Documents
+pub mod Stages
+pub mod Fulls
+pub mod Sounds
+pub mod Completes

@@ -1,0 +1,10 @@
+pub mod Read
+pub mod Integer
+pub mod Instruction
+pub mod Sums
+pub mod Window
+pub mod Document
+pub mod Applying
+pub mod Stages
+pub mod Full
+pub mod Format

@@ -1,0 +1,23 @@
+//! Text deltas in svndiff version 0: a document is read over a base, and a text is written as one.
+//!
+//! The format is that of Subversion's document `svndiff`, version 0. Copies from the target view are refused.
+#![tactic(auto)]
+
+mod applier;
+mod fault;
+mod format;
+mod full;
+mod instruction;
+mod integer;
+mod reading;
+mod section;
+mod stage;
+mod window;
+
+pub use applier::Applier;
+pub use fault::DiffFault;
+pub use format::has_the_text_of_the_format;
+pub use full::encode_full;
+
+#[cfg(test)]
+mod tests;
