@@ -1,0 +1,57 @@
+//! What calls are answered, as lines.
+
+use hub::{Call, HubFault, Outcome};
+use std::alloc::{AllocError, Global};
+
+/// The line that a call is answered by.
+pub fn answer_line(alloc: Global, call: &Call, outcome: &Outcome) -> Result<String, AllocError> {
+    let call = call_text(alloc, call)?;
+    let outcome = outcome_text(alloc, outcome)?;
+    format!(in alloc; "{call}{outcome}")
+}
+
+/// How the answer to a call begins.
+fn call_text(alloc: Global, call: &Call) -> Result<String, AllocError> {
+    match call {
+        Call::Connect => String::from_str(alloc, "connect"),
+        Call::Feed(session, _, _) => format!(in alloc; "feed {session}"),
+        Call::Disconnect(session) => format!(in alloc; "disconnect {session}"),
+    }
+}
+
+/// How the answer goes on.
+fn outcome_text(alloc: Global, outcome: &Outcome) -> Result<String, AllocError> {
+    match outcome {
+        Outcome::Connected(session, bytes) => {
+            let bytes = bytes_text(alloc, bytes)?;
+            format!(in alloc; " {session} {bytes}")
+        }
+        Outcome::Wrote(bytes) => {
+            let bytes = bytes_text(alloc, bytes)?;
+            format!(in alloc; " {bytes}")
+        }
+        Outcome::Dropped => Ok(String::new(alloc)),
+        Outcome::Failed(fault) => {
+            let fault = fault_text(*fault);
+            format!(in alloc; " {fault}")
+        }
+    }
+}
+
+/// Bytes by their digits, or `-` for none.
+fn bytes_text(alloc: Global, bytes: &[u8]) -> Result<String, AllocError> {
+    if bytes.is_empty() {
+        return String::from_str(alloc, "-");
+    }
+    hex::encode(alloc, bytes)
+}
+
+/// The number of a fault.
+fn fault_text(fault: HubFault) -> &'static str {
+    match fault {
+        HubFault::NoSession => "H1",
+        HubFault::NoMemory => "H2",
+        HubFault::Halted => "H3",
+        HubFault::Full => "H4",
+    }
+}

@@ -1,0 +1,54 @@
+//! Why a script is not played to its end.
+
+use std::alloc::AllocError;
+use std::io;
+use std::process::ExitCode;
+use thiserror::Error;
+
+/// Why a line is not played.
+#[derive(Clone, Copy, Debug, PartialEq, Eq, Error)]
+pub enum LineFault {
+    /// It is none of the lines of a script.
+    #[error("not a line of a script")]
+    Unknown,
+    /// It is a call, and no hub was made before it.
+    #[error("no hub yet")]
+    NoHub,
+    /// Memory was refused.
+    #[error("no memory")]
+    NoMemory,
+}
+
+impl From<AllocError> for LineFault {
+    fn from(_error: AllocError) -> Self {
+        LineFault::NoMemory
+    }
+}
+
+/// Why a script is not played to its end.
+#[derive(Debug, Drop, Error)]
+pub enum ScriptFault {
+    /// The line of this number, from 1 on, is not played.
+    #[error("line {0}: {1}")]
+    Line(usize, LineFault),
+    /// The script is not read, or an answer is not written.
+    #[error("{0}")]
+    Stream(io::Error),
+}
+
+impl ScriptFault {
+    /// What the program ends with.
+    pub fn exit_code(&self) -> ExitCode {
+        match self {
+            ScriptFault::Line(_, LineFault::NoMemory) => ExitCode::FAILURE,
+            ScriptFault::Line(_, _) => ExitCode::from(2),
+            ScriptFault::Stream(_) => ExitCode::FAILURE,
+        }
+    }
+}
+
+impl From<io::Error> for ScriptFault {
+    fn from(error: io::Error) -> Self {
+        ScriptFault::Stream(error)
+    }
+}

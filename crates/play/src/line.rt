@@ -1,0 +1,110 @@
+//! The lines of a script.
+ghost use Rattle.std.specs.Prelude.{◌≤◌, IfOk};
+
+use crate::fault::LineFault;
+use crate::words::{parse_bytes, parse_moment, parse_number, parse_uuid, parse_wide_number};
+use hub::{Env, Options, SessionId, is_repository_name};
+use std::alloc::Global;
+use std::str;
+
+/// A hub that is asked for, over an empty repository whose revision 0 is dated at the moment.
+#[derive(Drop)]
+pub struct NewHub {
+    pub options: Options,
+    pub uuid: u128,
+    pub moment: u64,
+    ghost timely: { moment ≤ 200000000000000000 },
+}
+
+/// A piece for a session.
+#[derive(Drop)]
+pub struct Piece {
+    pub session: SessionId,
+    pub bytes: Vec<u8>,
+    pub env: Env,
+    ghost timely: { env.moment ≤ 200000000000000000 },
+}
+
+/// A line of a script.
+#[derive(Drop)]
+pub enum Line {
+    /// Text for a reader.
+    Comment,
+    /// A new hub, in place of the one before.
+    Hub(NewHub),
+    /// A new session.
+    Connect,
+    /// A session is sent a piece.
+    Feed(Piece),
+    /// Whether a session is open is asked.
+    Open(SessionId),
+    /// A session's client goes.
+    Disconnect(SessionId),
+}
+
+impl Line {
+    /// The line that a text is.
+    pub fn parse(alloc: Global, text: &[u8]) -> Result<Line, LineFault> {
+        let Ok(text) = str::from_utf8(text) else {
+            return Err(LineFault::Unknown);
+        };
+        if text.starts_with('#') {
+            return Ok(Line::Comment);
+        }
+        let words: Vec<&str> = text.split(' ').collect(alloc)?;
+        Line::from_words(alloc, &words)
+    }
+
+    fn from_words(alloc: Global, words: &[&str]) -> Result<Line, LineFault> {
+        match *words {
+            ["hub", name, uuid, moment] => Ok(Line::Hub(parse_hub(alloc, name, uuid, moment)?)),
+            ["connect"] => Ok(Line::Connect),
+            ["feed", session, moment, token, nonce, bytes] => {
+                let session = parse_session(session)?;
+                let env = parse_env(moment, token, nonce)?;
+                Ok(Line::Feed(Piece {
+                    session,
+                    bytes: parse_bytes(alloc, bytes)?,
+                    env,
+                }))
+            }
+            ["open", session] => Ok(Line::Open(parse_session(session)?)),
+            ["disconnect", session] => Ok(Line::Disconnect(parse_session(session)?)),
+            _ => Err(LineFault::Unknown),
+        }
+    }
+}
+
+/// The number of a session.
+fn parse_session(word: &str) -> Result<SessionId, LineFault> {
+    parse_number(word).ok_or(LineFault::Unknown)
+}
+
+/// What a call hands in from outside.
+fn parse_env(moment: &str, token: &str, nonce: &str) -> Result<Env, LineFault>
+    ensures { IfOk result (λ env. env.moment ≤ 200000000000000000) }
+{
+    let moment = parse_moment(moment).ok_or(LineFault::Unknown)?;
+    let token = parse_wide_number(token).ok_or(LineFault::Unknown)?;
+    let nonce = parse_number(nonce).ok_or(LineFault::Unknown)?;
+    Ok(Env {
+        moment,
+        token,
+        nonce,
+    })
+}
+
+/// A hub of this name.
+fn parse_hub(alloc: Global, name: &str, uuid: &str, moment: &str) -> Result<NewHub, LineFault> {
+    if !is_repository_name(name) {
+        return Err(LineFault::Unknown);
+    }
+    let uuid = parse_uuid(uuid).ok_or(LineFault::Unknown)?;
+    let moment = parse_moment(moment).ok_or(LineFault::Unknown)?;
+    let options = Options::new(alloc, name)?;
+    Ok(NewHub {
+        options,
+        uuid,
+        moment,
+    })
+}

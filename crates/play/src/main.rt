@@ -1,0 +1,33 @@
+//! Plays a script of calls to a hub: reads its lines from standard input and prints what each call answers.
+//!
+//!     # any text                             nothing
+//!     hub NAME UUID MOMENT                   a new hub, in place of the one before, over an empty repository
+//!     connect                                a new session: `connect ID HEX`, HEX the greeting
+//!     feed ID MOMENT TOKEN NONCE HEX         a piece for a session: `feed ID HEX`, HEX what is written back
+//!     open ID                                `open ID true` or `open ID false`
+//!     disconnect ID                          the client goes: `disconnect ID`
+//!
+//! Numbers are decimal, and HEX has lower-case digits, or is `-` for no bytes. A call that fails is answered
+//! by its fault in place of HEX: `H1` for a session that isn't open, `H2` for want of memory, `H3` for a hub
+//! that has halted, `H4` for one that is full. Any other line ends the program with status 2.
+#![tactic(auto)]
+
+mod answer;
+mod fault;
+mod line;
+mod player;
+mod script;
+mod words;
+
+use script::play_script;
+use std::process::ExitCode;
+
+fn main(rt: HostRuntime) -> ExitCode {
+    match play_script(&rt, rt.alloc()) {
+        Ok(()) => ExitCode::SUCCESS,
+        Err(fault) => {
+            let _ = eprintln!(rt; "play: {fault}");
+            fault.exit_code()
+        }
+    }
+}

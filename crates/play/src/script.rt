@@ -1,0 +1,43 @@
+//! A script, line by line.
+
+use crate::fault::ScriptFault;
+use crate::line::Line;
+use crate::player::Player;
+use std::alloc::Global;
+use std::io::{self, BufRead, BufReader, BufWriter, Write};
+
+/// Plays the script on standard input, up to its end or to the first line that is not played.
+pub fn play_script(rt: &(impl Input + Print), alloc: Global) -> Result<(), ScriptFault> {
+    let mut output = BufWriter::new(alloc, io::writer(rt))?;
+    let mut player = Player::new(alloc);
+    for (i, text) in BufReader::new(alloc, rt.reader())?
+        .split(alloc, b'\n')
+        .enumerate()
+    {
+        play_line(alloc, &mut player, i.saturating_add(1), &text?, &mut output)?;
+    }
+    output.flush()?;
+    Ok(())
+}
+
+/// Plays the line of this number, and writes what it is answered.
+fn play_line<W: Write>(
+    alloc: Global,
+    player: &mut Player,
+    number: usize,
+    text: &[u8],
+    output: &mut W,
+) -> Result<(), ScriptFault> {
+    let played = match Line::parse(alloc, text) {
+        Ok(line) => player.play(line),
+        Err(fault) => Err(fault),
+    };
+    match played {
+        Ok(Some(answer)) => {
+            writeln!(output, "{answer}")?;
+            Ok(())
+        }
+        Ok(None) => Ok(()),
+        Err(fault) => Err(ScriptFault::Line(number, fault)),
+    }
+}

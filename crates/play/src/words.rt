@@ -1,0 +1,72 @@
+//! The words of a line.
+ghost use Rattle.std.specs.Prelude.{◌≤◌, IfSome};
+
+use crate::fault::LineFault;
+use hex::FromHexError;
+use std::alloc::Global;
+use uuid::Uuid;
+
+/// The last moment that has a date, in microseconds since the beginning of 1970.
+const LAST_MOMENT: u64 = 200_000_000_000_000_000;
+
+fn is_decimal(word: &str) -> bool {
+    word.bytes().all(|b| b.is_ascii_digit())
+}
+
+fn is_lower_hex(word: &str) -> bool {
+    word.bytes()
+        .all(|b| b.is_ascii_digit() || (b'a' <= b && b <= b'f'))
+}
+
+/// A decimal number.
+pub fn parse_number(word: &str) -> Option<u64> {
+    if !is_decimal(word) {
+        return None;
+    }
+    word.parse::<u64>().ok()
+}
+
+/// A decimal number of up to 128 bits.
+pub fn parse_wide_number(word: &str) -> Option<u128> {
+    if !is_decimal(word) {
+        return None;
+    }
+    word.parse::<u128>().ok()
+}
+
+/// A moment that has a date.
+pub fn parse_moment(word: &str) -> Option<u64>
+    ensures { IfSome result (λ moment. moment ≤ 200000000000000000) }
+{
+    let moment = parse_number(word)?;
+    if LAST_MOMENT < moment {
+        return None;
+    }
+    Some(moment)
+}
+
+/// A UUID with its hyphens.
+pub fn parse_uuid(word: &str) -> Option<u128> {
+    if word.len() != 36 {
+        return None;
+    }
+    match Uuid::try_parse(word) {
+        Ok(uuid) => Some(uuid.as_u128()),
+        Err(_) => None,
+    }
+}
+
+/// Bytes by their digits, or `-` for none.
+pub fn parse_bytes(alloc: Global, word: &str) -> Result<Vec<u8>, LineFault> {
+    if word == "-" {
+        return Ok(Vec::new(alloc));
+    }
+    if word.is_empty() || !is_lower_hex(word) {
+        return Err(LineFault::Unknown);
+    }
+    match hex::decode(alloc, word) {
+        Ok(bytes) => Ok(bytes),
+        Err(FromHexError::OutOfMemory) => Err(LineFault::NoMemory),
+        Err(_) => Err(LineFault::Unknown),
+    }
+}

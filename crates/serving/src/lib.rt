@@ -1,0 +1,11 @@
+//! One session over a reader and a writer.
+#![tactic(auto)]
+
+mod envs;
+mod fault;
+mod stdio;
+
+pub use envs::EnvSource;
+pub use fault::ServeFault;
+pub use session::Env;
+pub use stdio::run_stdio;

@@ -1,0 +1,57 @@
+//! The system's clock, and random words.
+ghost use Rattle.std.specs.Prelude.{◌≤◌};
+
+use rand::rngs::StdRng;
+use rand_core::Rng;
+use serving::{Env, EnvSource};
+use std::io;
+use std::random::RandomSource;
+use std::time::{Clock, SystemTime, UNIX_EPOCH};
+
+/// The last moment that has a date here.
+const LAST_MOMENT: u64 = 200_000_000_000_000_000;
+
+/// The moment in microseconds since the beginning of 1970: 0 where the clock fails or shows an earlier time,
+/// and the last moment where it shows a later one.
+fn moment_now<C: Clock>(clock: &C) -> u64
+    ensures { result ≤ 200000000000000000 }
+{
+    let Ok(now) = SystemTime::now(clock) else {
+        return 0;
+    };
+    let Ok(since) = now.duration_since(UNIX_EPOCH) else {
+        return 0;
+    };
+    u64::try_from(since.as_micros())
+        .unwrap_or(LAST_MOMENT)
+        .min(LAST_MOMENT)
+}
+
+/// A clock, and words of a generator that began with the system's random bytes.
+#[derive(Drop)]
+pub struct SystemEnvs<'a, C: Clock> {
+    clock: &'a C,
+    words: StdRng,
+}
+
+impl<'a, C: Clock + RandomSource> SystemEnvs<'a, C> {
+    /// Fails where the system gives no random bytes.
+    pub fn new(rt: &'a C) -> io::Result<Self> {
+        Ok(SystemEnvs {
+            clock: rt,
+            words: rand::make_rng(rt)?,
+        })
+    }
+}
+
+impl<'a, C: Clock> EnvSource for SystemEnvs<'a, C> {
+    fn next_env(&mut self) -> Env {
+        let mut token = [0; 16];
+        self.words.fill_bytes(&mut token);
+        Env {
+            moment: moment_now(self.clock),
+            token: u128::from_le_bytes(token),
+            nonce: self.words.next_u64(),
+        }
+    }
+}

@@ -1,0 +1,92 @@
+//! Serves a Subversion repository.
+#![tactic(auto)]
+
+mod envs;
+mod fault;
+#[cfg(test)]
+mod tests;
+
+use command_line::{CommandLineFault, Order, read_command_line};
+use envs::SystemEnvs;
+use fault::ProgramFault;
+use flatrepo::FlatRepo;
+use hub::{Direct, Hub, HubFault, Options, is_repository_name};
+use serving::run_stdio;
+use std::alloc::Global;
+use std::env;
+use std::io::ErrorKind;
+use std::process::ExitCode;
+
+/// The UUID of an empty repository in memory.
+const EMPTY_UUID: u128 = 0x0000_0000_0000_4000_8000_0000_0000_0000;
+
+/// The words of the command line.
+fn words(rt: &HostRuntime) -> Result<Vec<String>, ProgramFault> {
+    match env::args(rt) {
+        Ok(arguments) => Ok(arguments.collect(rt.alloc())?),
+        Err(error) if error.kind() == ErrorKind::OutOfMemory => Err(ProgramFault::Hub(
+            HubFault::NoMemory,
+        )),
+        Err(_) => Err(ProgramFault::CommandLine(String::from_str(
+            rt.alloc(),
+            "error: a word of the command line is not UTF-8\n",
+        )?)),
+    }
+}
+
+/// What the command line asks for; none where it asked for the help, which is printed.
+fn order(rt: &HostRuntime) -> Result<Option<Order>, ProgramFault> {
+    match read_command_line(rt.alloc(), words(rt)?.as_slice()) {
+        Ok(order) => Ok(Some(order)),
+        Err(CommandLineFault::Help(text)) => {
+            print!(rt; "{text}")?;
+            Ok(None)
+        }
+        Err(CommandLineFault::Bad(text)) => Err(ProgramFault::CommandLine(text)),
+        Err(CommandLineFault::NoMemory) => Err(ProgramFault::Hub(HubFault::NoMemory)),
+    }
+}
+
+/// A hub over an empty repository in memory of this name.
+fn empty_hub(alloc: Global, name: &str) -> Result<Hub<Direct<FlatRepo>>, ProgramFault> {
+    if !is_repository_name(name) {
+        return Err(ProgramFault::Name);
+    }
+    let options = Options::new(alloc, name)?;
+    let repository = FlatRepo::new(alloc, EMPTY_UUID, 0)?;
+    Ok(Hub::over(alloc, repository, options)?)
+}
+
+/// Serves one session over the standard streams, on an empty repository in memory.
+fn serve_stdio(rt: &HostRuntime, name: &str) -> Result<(), ProgramFault> {
+    let alloc = rt.alloc();
+    let mut hub = empty_hub(alloc, name)?;
+    let mut envs = SystemEnvs::new(rt)?;
+    run_stdio(
+        alloc,
+        &mut hub,
+        &mut rt.stdin(),
+        &mut rt.stdout(),
+        &mut envs,
+    )?;
+    Ok(())
+}
+
+/// Does what the command line asks for.
+fn run(rt: &HostRuntime) -> Result<(), ProgramFault> {
+    match order(rt)? {
+        Some(Order::Stdio { name }) => serve_stdio(rt, name.as_str()),
+        None => Ok(()),
+    }
+}
+
+fn main(rt: HostRuntime) -> ExitCode {
+    match run(&rt) {
+        Ok(()) => ExitCode::SUCCESS,
+        Err(fault) => {
+            // where standard error fails too, the status alone tells
+            let _ = eprint!(rt; "{fault}");
+            ExitCode::from(fault.status())
+        }
+    }
+}

@@ -1,0 +1,133 @@
+//! The loop over a reader and a writer, byte by byte and where a stream fails.
+use super::*;
+use serving::{Env, EnvSource, ServeFault};
+use std::io;
+use std::io::{Read, Write};
+use std::test::Fail;
+
+const INPUT: &[u8] =
+    b"( 2 ( edit-pipeline ) 15:svn://h/r/trunk ) ( ANONYMOUS ( 0: ) ) ( get-latest-rev ( ) ) ( check-path ( 0: ( ) ) ) ( rev-proplist ( 0 ) ) ";
+
+const OUTPUT: &[u8] =
+    b"( success ( 2 2 ( ) ( edit-pipeline absent-entries commit-revprops ) ) ) ( success ( ( ANONYMOUS ) 1:r ) ) ( success ( ) ) ( success ( 36:00000000-0000-4000-8000-000000000000 9:svn://h/r ( ) ) ) ( success ( ( ) 0: ) ) ( success ( 0 ) ) ( success ( ( ) 0: ) ) ( success ( none ) ) ( success ( ( ) 0: ) ) ( success ( ( ( 8:svn:date 27:1970-01-01T00:00:00.000000Z ) ) ) ) ";
+
+/// A clock that stands still.
+#[derive(Drop)]
+struct Still;
+
+impl EnvSource for Still {
+    fn next_env(&mut self) -> Env {
+        Env {
+            moment: 0,
+            token: 0,
+            nonce: 0,
+        }
+    }
+}
+
+/// Gives a byte at each second read, as each first one is interrupted; then it ends, or fails.
+#[derive(Drop)]
+struct Dripping {
+    bytes: &'static [u8],
+    is_ready: bool,
+    fails: bool,
+}
+
+impl Read for Dripping {
+    fn read(&mut self, buf: &mut [u8]) -> io::Result<usize> {
+        self.is_ready = !self.is_ready;
+        if !self.is_ready {
+            return Err(io::Error::from(ErrorKind::Interrupted));
+        }
+        let Some((first, rest)) = self.bytes.split_first() else {
+            return if self.fails {
+                Err(io::Error::from(ErrorKind::ConnectionReset))
+            } else {
+                Ok(0)
+            };
+        };
+        if buf.is_empty() {
+            return Ok(0);
+        }
+        buf[0] = *first;
+        self.bytes = rest;
+        Ok(1)
+    }
+}
+
+/// Takes the greeting, and fails then.
+#[derive(Drop)]
+struct Closing {
+    is_greeted: bool,
+}
+
+impl Write for Closing {
+    fn write(&mut self, buf: &[u8]) -> io::Result<usize> {
+        if self.is_greeted {
+            return Err(io::Error::from(ErrorKind::BrokenPipe));
+        }
+        self.is_greeted = true;
+        Ok(buf.len())
+    }
+
+    fn flush(&mut self) -> io::Result<()> {
+        Ok(())
+    }
+}
+
+fn drip(bytes: &'static [u8], fails: bool) -> Dripping {
+    Dripping {
+        bytes,
+        is_ready: true,
+        fails,
+    }
+}
+
+#[test]
+fn answers_byte_by_byte(rt: HostRuntime) -> Result<(), Fail> {
+    let alloc = rt.alloc();
+    let mut hub = empty_hub(alloc, "r")?;
+    let mut output = Vec::new(alloc);
+    run_stdio(
+        alloc,
+        &mut hub,
+        &mut drip(INPUT, false),
+        &mut output,
+        &mut Still,
+    )?;
+    assert_eq!(rt; output.as_slice(), OUTPUT);
+    Ok(())
+}
+
+#[test]
+fn stops_where_the_reader_fails(rt: HostRuntime) -> Result<(), Fail> {
+    let alloc = rt.alloc();
+    let mut hub = empty_hub(alloc, "r")?;
+    let mut output = Vec::new(alloc);
+    let ended = run_stdio(
+        alloc,
+        &mut hub,
+        &mut drip(&INPUT[..65], true),
+        &mut output,
+        &mut Still,
+    );
+    assert!(rt; matches!(ended, Err(ServeFault::Io(_))));
+    assert!(rt; OUTPUT.starts_with(output.as_slice()));
+    Ok(())
+}
+
+#[test]
+fn stops_where_the_writer_fails(rt: HostRuntime) -> Result<(), Fail> {
+    let alloc = rt.alloc();
+    let mut hub = empty_hub(alloc, "r")?;
+    let mut output = Closing { is_greeted: false };
+    let ended = run_stdio(
+        alloc,
+        &mut hub,
+        &mut drip(INPUT, false),
+        &mut output,
+        &mut Still,
+    );
+    assert!(rt; matches!(ended, Err(ServeFault::Io(_))));
+    Ok(())
+}
