@@ -106,14 +106,18 @@ mod tests {
         Ok(read_command_line(alloc, words.as_slice()))
     }
 
+    /// Whether the line asks for a session of the repository `r`.
+    fn asks_for_r(alloc: Global, line: &str) -> Result<bool, AllocError> {
+        match read(alloc, line)? {
+            Ok(Order::Stdio { name }) => Ok(name.as_str() == "r"),
+            Err(_) => Ok(false),
+        }
+    }
+
     #[test]
     fn reads_the_name(rt: HostRuntime) -> Result<(), Fail> {
-        for line in ["svnserved stdio - --name r", "svnserved stdio --name=r -"] {
-            match read(rt.alloc(), line)? {
-                Ok(Order::Stdio { name }) => assert_eq!(rt; name.as_str(), "r", "{line}"),
-                Err(_) => assert!(rt; false, "{line}"),
-            }
-        }
+        assert!(rt; asks_for_r(rt.alloc(), "svnserved stdio - --name r")?);
+        assert!(rt; asks_for_r(rt.alloc(), "svnserved stdio --name=r -")?);
         Ok(())
     }
 

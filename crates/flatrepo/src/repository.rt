@@ -251,7 +251,7 @@ mod tests {
     }
 
     fn path(alloc: Global, name: &str) -> Result<Path, AllocError> {
-        Path::root(alloc).child(bytes(alloc, name)?)
+        Path::root(alloc).child(alloc, bytes(alloc, name)?)
     }
 
     fn ask(alloc: Global) -> Result<CommitAsk, AllocError> {
