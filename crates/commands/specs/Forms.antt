@@ -1,5 +1,5 @@
 -- Forms of items that commands share. A reader ignores items past those that it knows.
-use Rattle.std.specs.Prelude.{ℕ, Bool, ◌==◌, List, Option, Some, None}
+use Rattle.std.specs.Prelude.{ℕ, Bool, true, false, ◌==◌, List, [], ◌∷◌, Option, Some, None, codes, if◌then◌else◌}
 use Rattle.std.specs.Cmp.Lexicographic.{pointwise}
 use Rattle.items.specs.Tree.{Tree, word, number, string, list, Trees, none, more}
 
@@ -45,3 +45,43 @@ optional_string (more (string s) rest) = Some (Some s)
 optional_string (more (word w) rest) = None
 optional_string (more (number n) rest) = None
 optional_string (more (list ts) rest) = None
+
+-- the word `true` or `false`
+abbrev pub boolean : Tree → Option Bool
+boolean (word w) = if is_name w (codes "true") then Some true else (if is_name w (codes "false") then Some false else None)
+boolean (number n) = None
+boolean (string s) = None
+boolean (list ts) = None
+
+-- two strings
+abbrev pub second_of_pair : List ℕ → Trees → Option (List ℕ × List ℕ)
+second_of_pair first (more (string second) rest) = Some (first, second)
+second_of_pair first (more (word w) rest) = None
+second_of_pair first (more (number n) rest) = None
+second_of_pair first (more (list ts) rest) = None
+second_of_pair first none = None
+
+abbrev pub first_of_pair : Trees → Option (List ℕ × List ℕ)
+first_of_pair (more (string first) rest) = second_of_pair first rest
+first_of_pair (more (word w) rest) = None
+first_of_pair (more (number n) rest) = None
+first_of_pair (more (list ts) rest) = None
+first_of_pair none = None
+
+-- `( string string )`
+abbrev pub pair : Tree → Option (List ℕ × List ℕ)
+pair (list ts) = first_of_pair ts
+pair (word w) = None
+pair (number n) = None
+pair (string s) = None
+
+-- one in front of others, if all are pairs
+abbrev pub pair_before : Option (List ℕ × List ℕ) → Option (List (List ℕ × List ℕ)) → Option (List (List ℕ × List ℕ))
+pair_before None ps = None
+pair_before (Some p) None = None
+pair_before (Some p) (Some ps) = Some (p ∷ ps)
+
+-- `( string string ) ...`
+abbrev pub pairs : Trees → Option (List (List ℕ × List ℕ))
+pairs none = Some []
+pairs (more t rest) = pair_before (pair t) (pairs rest)

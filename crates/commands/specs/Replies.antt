@@ -1,5 +1,5 @@
 -- The items that replies are sent as.
-use Rattle.std.specs.Prelude.{ℕ, List, [], ◌∷◌, codes}
+use Rattle.std.specs.Prelude.{ℕ, List, [], ◌∷◌, Option, Some, None, codes}
 use Rattle.std.specs.Int.{to_be_bytes, w128}
 use Rattle.uuid.specs.Text.{hyphenated_text, lower}
 use Rattle.items.specs.Tree.{Tree, word, number, string, list, Trees, none, more}
@@ -8,7 +8,7 @@ use Rattle.repo_api.specs.Properties.{PropertyList}
 use Rattle.repo_api.specs.declared.entry.NodeKind.{NodeKind}
 use Rattle.repo_api.specs.declared.entry.NodeKind.TheVariants as kinds
 use Rattle.commands.specs.declared.reply.Reply.{Reply}
-use Rattle.commands.specs.declared.reply.Reply.TheVariants.{Greeting, NoLogin, Login, MechanismNotOffered, Success, ReposInfo, Revision, Kind, Properties, Failure}
+use Rattle.commands.specs.declared.reply.Reply.TheVariants.{Greeting, NoLogin, Login, MechanismNotOffered, Success, ReposInfo, Revision, Kind, Properties, CommitInfo, Failure}
 
 -- the text of a number of 128 bits: `8-4-4-4-12` lower-case hexadecimal digits
 abbrev pub uuid_text : ℕ → List ℕ
@@ -41,6 +41,16 @@ abbrev pub property_trees : PropertyList → Trees
 property_trees [] = none
 property_trees (p ∷ ps) = more (list (both (string p.0) (string p.1))) (property_trees ps)
 
+-- `[ string ]`
+abbrev pub optional_string_trees : Option (List ℕ) → Trees
+optional_string_trees None = none
+optional_string_trees (Some s) = only (string s)
+
+-- `( rev [ date ] [ author ] [ post-commit-err ] )`: what a client is told of its commit
+abbrev pub commit_info : ℕ → List ℕ → Option (List ℕ) → Tree
+commit_info revision date author =
+    list (more (number revision) (more (list (only (string date))) (both (list (optional_string_trees author)) (list none))))
+
 -- what the server can do
 abbrev pub capabilities : Trees
 capabilities = more (word (codes "edit-pipeline")) (both (word (codes "absent-entries")) (word (codes "commit-revprops")))
@@ -56,4 +66,5 @@ reply_tree (ReposInfo uuid root) = success (more (string (uuid_text uuid)) (both
 reply_tree (Revision n) = success (only (number n))
 reply_tree (Kind kind) = success (only (word (kind_word kind)))
 reply_tree (Properties ps) = success (only (list (property_trees ps)))
+reply_tree (CommitInfo revision date author) = commit_info revision date author
 reply_tree (Failure refusal) = failure (only (list (more (number (number_of refusal)) (more (string (text_of refusal)) (both (string []) (number 0))))))

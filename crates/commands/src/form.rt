@@ -1,7 +1,8 @@
 //! Forms of items that commands share.
 ghost use Rattle.std.specs.Prelude.{◌≡◌, IfOk, option_map};
 ghost use Rattle.items.specs.View.{tree_of, trees_of};
-ghost use Rattle.commands.specs.Forms.{command_form, named_first, params_first, optional_number, optional_string};
+ghost use Rattle.items.specs.Tree.{word};
+ghost use Rattle.commands.specs.Forms.{command_form, named_first, params_first, optional_number, optional_string, boolean};
 
 use items::{Item, Text};
 use std::alloc::{AllocError, Global};
@@ -55,6 +56,28 @@ pub fn read_optional_string(items: &[Item]) -> Option<Option<&Text>>
         [] => Some(None),
         [Item::Str(text), ..] => Some(Some(text)),
         _ => None,
+    }
+}
+
+/// The word `true` or `false`.
+pub fn read_boolean(item: &Item) -> Option<bool>
+    ensures { result ≡ boolean (tree_of item.now) }
+{
+    match item {
+        Item::Word(word) => boolean_named(word.as_bytes()),
+        _ => None,
+    }
+}
+
+fn boolean_named(name: &[u8]) -> Option<bool>
+    ensures { result ≡ boolean (word name.now) }
+{
+    if name == b"true".as_slice() {
+        Some(true)
+    } else if name == b"false".as_slice() {
+        Some(false)
+    } else {
+        None
     }
 }
 

@@ -3,14 +3,18 @@
 
 mod build;
 mod command;
+mod editing;
 mod fault;
 mod form;
 mod login;
+mod pairs;
+mod refusing;
 mod reply;
-#[cfg(test)]
-mod tests;
 
-pub use command::MainCommand;
+pub use command::{CommitCommand, MainCommand};
+pub use editing::{AddedEntry, EditorCommand, OpenedEntry, ends_edit};
 pub use fault::CommandFault;
 pub use login::{AuthResponse, ClientGreeting};
+pub use pairs::Pairs;
+pub use refusing::path_refusal;
 pub use reply::Reply;

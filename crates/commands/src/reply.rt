@@ -3,7 +3,7 @@ ghost use Rattle.std.specs.Prelude.{◌≡◌, ◌++◌, IfOk, OnOk, OnErr, code
 ghost use Rattle.items.specs.View.{tree_of, trees_of};
 ghost use Rattle.items.specs.Tree.{word, string, list, none, more};
 ghost use Rattle.items.specs.Print.{printed, Grows};
-ghost use Rattle.commands.specs.Replies.{reply_tree, success, failure, only, both, property_trees, capabilities, uuid_text};
+ghost use Rattle.commands.specs.Replies.{reply_tree, success, failure, only, both, property_trees, capabilities, uuid_text, commit_info, optional_string_trees};
 
 use crate::build::{list_item, number_item, string_item, word_item};
 use items::{Item, Text, write_item};
@@ -33,6 +33,8 @@ pub enum Reply {
     Kind(NodeKind),
     /// The properties of a revision.
     Properties(Properties),
+    /// The number of the revision that a commit has made, its date, and its author if it has one.
+    CommitInfo(u64, Text, Option<Text>),
     /// The command is refused.
     Failure(Refusal),
 }
@@ -58,6 +60,12 @@ impl Reply {
                 alloc,
                 [properties_item(alloc, properties)?],
             ),
+            Reply::CommitInfo(revision, date, author) => commit_info_item(
+                alloc,
+                *revision,
+                date.as_bytes(),
+                author,
+            ),
             Reply::Failure(refusal) => refusal_item(alloc, *refusal),
         }
     }
@@ -78,9 +86,11 @@ impl Reply {
             Reply::Success => out.extend_from_slice(b"( success ( ) ) "),
             Reply::Revision(n) => write_revision(*n, out),
             Reply::Kind(kind) => write_kind(*kind, out),
-            Reply::Login(_) | Reply::ReposInfo(..) | Reply::Properties(_) | Reply::Failure(_) => {
-                write_item(&self.to_item(alloc)?, out)
-            }
+            Reply::Login(_)
+            | Reply::ReposInfo(..)
+            | Reply::Properties(_)
+            | Reply::CommitInfo(..)
+            | Reply::Failure(_) => write_item(&self.to_item(alloc)?, out),
         }
     }
 }
@@ -217,6 +227,32 @@ fn properties_item(alloc: Global, properties: &Properties) -> Result<Item, Alloc
         items.push(item).map_err(AllocError::from)?;
     }
     Ok(Item::List(items))
+}
+
+/// `( rev [ date ] [ author ] [ post-commit-err ] )`
+fn commit_info_item(
+    alloc: Global,
+    revision: u64,
+    date: &[u8],
+    author: &Option<Text>,
+) -> Result<Item, AllocError>
+    ensures { IfOk result (λ item. tree_of item ≡ commit_info revision date.now author.now) }
+{
+    let date = string_item(alloc, date)?;
+    let date = list_item(alloc, [date])?;
+    let author = optional_string_item(alloc, author)?;
+    let error = list_item(alloc, [])?;
+    list_item(alloc, [number_item(revision), date, author, error])
+}
+
+/// `[ string ]`
+fn optional_string_item(alloc: Global, text: &Option<Text>) -> Result<Item, AllocError>
+    ensures { IfOk result (λ item. tree_of item ≡ list (optional_string_trees text.now)) }
+{
+    match text {
+        Some(text) => list_item(alloc, [string_item(alloc, text.as_bytes())?]),
+        None => list_item(alloc, []),
+    }
 }
 
 fn refusal_item(alloc: Global, refusal: Refusal) -> Result<Item, AllocError>

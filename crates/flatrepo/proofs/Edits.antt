@@ -11,7 +11,8 @@ use Rattle.repo_api.specs.declared.change.Change.{Change}
 use Rattle.repo_api.specs.declared.entry.Entry.{Entry}
 use Rattle.repo_api.specs.declared.entry.Content.TheVariants.{Directory}
 use Rattle.flatrepo.specs.Found.{found, with_room, is_added, kept_at}
-use Rattle.flatrepo.proofs.Seen.{get_path, seen_at}
+use Rattle.repo_api.specs.StateLaws.{get_path}
+use Rattle.flatrepo.proofs.Seen.{seen_at}
 use Rattle.flatrepo.proofs.Rules.{room_taken, room_made, delete_of_added, delete_of_other}
 
 pub touch_seen : (m : TreeMap) (old new : List (PathValue × Entry)) (p q : PathValue) → from_entries old ≡ m → found new q ≡ touched_above p (found old) q

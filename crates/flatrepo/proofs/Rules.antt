@@ -16,7 +16,7 @@ use Rattle.repo_api.specs.declared.entry.Entry.{Entry}
 use Rattle.repo_api.specs.declared.entry.Content.TheVariants.{Directory}
 use Rattle.flatrepo.specs.Found.{with_room, is_added, kept_at}
 use Rattle.flatrepo.specs.Whole.{map_of}
-use Rattle.flatrepo.proofs.Seen.{same_tree}
+use Rattle.repo_api.specs.StateLaws.{same_tree}
 
 -- a test inside is a test outside
 pub map_if : {X : Type 0} (f : X → X) (b : Bool) (o : Option X) → option_map (λ e. if b then f e else e) o ≡ (if b then option_map f o else o)

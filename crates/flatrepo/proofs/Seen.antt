@@ -1,52 +1,30 @@
 -- The map that the entries make, and what the entries have at each path.
-use Rattle.std.proofs.Common.{◌≡◌, Bool, true, false, cond, ℕ, List, [], ◌∷◌, ◌++◌, map, Option, Some, None, option_map, refl, sym, ap, ◌∙◌}
+use Rattle.std.proofs.Common.{◌≡◌, Bool, true, false, cond, ℕ, List, [], ◌∷◌, ◌++◌, Option, Some, None, option_map, refl, sym, ap, ◌∙◌}
 use Rattle.std.specs.Prelude.{if◌then◌else◌}
 use Rattle.std.specs.Option.{option_or}
 use Rattle.std.specs.BTreeMap.{is_at}
 use Rattle.std.specs.Cmp.{eq_by_cmp_equiv}
-use Rattle.std.specs.FinMap.{FinMap, get, entries, from_entries, find, get-from_entries, get-entries, same_map, IsAntisymmetric, slice_cmp-IsAntisymmetric, nat_cmp-IsAntisymmetric}
+use Rattle.std.specs.FinMap.{FinMap, get, from_entries}
 use Rattle.svnpath.specs.Paths.{PathValue, path_cmp, path_cmp_total, same_path}
 use Rattle.svnpath.specs.PathLaws.{at_is, at_is_same}
 use Rattle.repo_api.specs.Commits.{sealed, sealed_tree}
 use Rattle.repo_api.specs.States.{TreeMap}
+use Rattle.repo_api.specs.StateLaws.{same_tree, get_path, get_sealed_tree}
 use Rattle.repo_api.specs.declared.entry.Entry.{Entry}
 use Rattle.flatrepo.specs.Found.{found}
-
-find_path : {X : Type 0} (es : List (PathValue × X)) (q : PathValue) → find path_cmp q es ≡ found es q
-find_path [] q = refl
-find_path (e ∷ es) q = ap (cond (is_at (path_cmp q) e.0) (Some e.1)) (find_path es q)
-
-pub get_path : {X : Type 0} (es : List (PathValue × X)) (q : PathValue) → get (from_entries {R = path_cmp} es) q ≡ found es q
-get_path es q = get-from_entries path_cmp_total es q ∙ find_path es q
-
-path_cmp-IsAntisymmetric : IsAntisymmetric path_cmp
-path_cmp-IsAntisymmetric = slice_cmp-IsAntisymmetric (slice_cmp-IsAntisymmetric nat_cmp-IsAntisymmetric)
-
--- trees that have the same at each path are one
-pub same_tree : (m n : TreeMap) → ((q : PathValue) → get m q ≡ get n q) → m ≡ n
-same_tree = same_map path_cmp_total path_cmp-IsAntisymmetric
 
 at_is_same_back : (q k : PathValue) → is_at (path_cmp q) k ≡ same_path k q
 at_is_same_back q k = (eq_by_cmp_equiv path_cmp_total).symm q k ∙ at_is_same k q
 
-sealed_cond : (n : ℕ) (q k : PathValue) (e : Entry) (a b : Option Entry) (here : Bool) → is_at (path_cmp q) k ≡ here → a ≡ option_map (sealed n q) b
-    → cond here (Some (sealed n k e)) a ≡ option_map (sealed n q) (cond here (Some e) b)
-sealed_cond n q k e a b true here ih = ap (λ p. Some (sealed n p e)) (sym (at_is q k here))
-sealed_cond n q k e a b false here ih = ih
-
-found-sealed : (n : ℕ) (es : List (PathValue × Entry)) (q : PathValue) → found (map (λ e. (e.0, sealed n e.0 e.1)) es) q ≡ option_map (sealed n q) (found es q)
-found-sealed n [] q = refl
-found-sealed n (e ∷ es) q = sealed_cond n q e.0 e.1 _ _ (is_at (path_cmp q) e.0) refl (found-sealed n es q)
+-- what a map has, by the entries that make it
+pub seen_at : {X : Type 0} (es : List (PathValue × X)) (m : FinMap path_cmp X) (q : PathValue) → from_entries es ≡ m → get m q ≡ found es q
+seen_at {X} es m q is = ap (λ (t : FinMap path_cmp X). get t q) (sym is) ∙ get_path es q
 
 -- entries that are sealed at each path make the sealed tree
 pub sealed_seen : (n : ℕ) (out es : List (PathValue × Entry)) (m : TreeMap) → from_entries es ≡ m
     → ((q : PathValue) → found out q ≡ option_map (sealed n q) (found es q)) → from_entries out ≡ sealed_tree n m
 sealed_seen n out es m is h =
-    same_tree (from_entries out) (sealed_tree n m) (λ q.
-    get_path out q ∙ h q
-    ∙ ap (option_map (sealed n q)) (sym (get_path es q) ∙ ap (λ (t : TreeMap). get t q) is ∙ get-entries m q ∙ find_path (entries m) q)
-    ∙ sym (found-sealed n (entries m) q)
-    ∙ sym (get_path (map (λ (e : PathValue × Entry). (e.0, sealed n e.0 e.1)) (entries m)) q))
+    same_tree (from_entries out) (sealed_tree n m) (λ q. get_path out q ∙ h q ∙ ap (option_map (sealed n q)) (sym (seen_at es m q is)) ∙ sym (get_sealed_tree n m q))
 
 last_sealed : (n : ℕ) (p q : PathValue) (e : Entry) (out new : Option Entry) (here : Bool) → is_at (path_cmp q) p ≡ here → new ≡ (if same_path p q then Some (sealed n p e) else out)
     → new ≡ option_or (option_map (sealed n q) (cond here (Some e) None)) out
@@ -66,7 +44,3 @@ pub sealed_more : (n : ℕ) (es : List (PathValue × Entry)) (p : PathValue) (e 
     → option_or (option_map (sealed n q) (found es q)) new ≡ option_or (option_map (sealed n q) (found (es ++ (p, e) ∷ []) q)) out
 sealed_more n [] p e q out new is = last_sealed n p q e out new (is_at (path_cmp q) p) refl is
 sealed_more n (x ∷ es) p e q out new is = past_other n q x.1 _ _ out new (is_at (path_cmp q) x.0) (sealed_more n es p e q out new is)
-
--- what a map has, by the entries that make it
-pub seen_at : {X : Type 0} (es : List (PathValue × X)) (m : FinMap path_cmp X) (q : PathValue) → from_entries es ≡ m → get m q ≡ found es q
-seen_at {X} es m q is = ap (λ (t : FinMap path_cmp X). get t q) (sym is) ∙ get_path es q

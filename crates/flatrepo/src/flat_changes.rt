@@ -42,7 +42,7 @@ impl FlatChanges {
     }
 
     /// Notes that an entry was added at the path, and copied from nowhere.
-    #[tactic(auto, using(crate::proofs::Seen::get_path))]
+    #[tactic(auto, using(repo_api::specs::StateLaws::get_path))]
     pub(crate) fn note_add(&mut self, path: &Path) -> Result<(), AllocError>
         ensures ok { OnOk result ((q : PathValue) → get self.new q ≡ noted (changes_of self.old) path.now (after_add None (get self.old path.now)) q) }
         ensures err { OnErr result (self.new ≡ self.old) }

@@ -54,7 +54,7 @@ impl FlatTree {
     }
 
     /// The entry at the path.
-    #[tactic(auto, using(crate::proofs::Seen::get_path))]
+    #[tactic(auto, using(repo_api::specs::StateLaws::get_path))]
     pub(crate) fn get(&self, path: &Path) -> Option<&Entry>
         ensures { option_copied result ≡ get self.now path.now }
     {
@@ -71,7 +71,7 @@ impl FlatTree {
     }
 
     /// Puts a new directory at the path if nothing stands there, and answers whether nothing did.
-    #[tactic(auto, using(crate::proofs::Seen::get_path))]
+    #[tactic(auto, using(repo_api::specs::StateLaws::get_path))]
     pub(crate) fn make_room(&mut self, alloc: Global, path: &Path) -> Result<bool, AllocError>
         ensures made { IfOk result (λ made. made ≡ not (is_some (get self.old path.now))) }
         ensures ok { OnOk result ((q : PathValue) → get self.new q ≡ with_room (tree_of self.old) path.now q) }
@@ -85,7 +85,7 @@ impl FlatTree {
     }
 
     /// Takes out the entry at the path.
-    #[tactic(auto, using(crate::proofs::Seen::get_path))]
+    #[tactic(auto, using(repo_api::specs::StateLaws::get_path))]
     pub(crate) fn remove(&mut self, path: &Path)
         ensures { (q : PathValue) → get self.new q ≡ (if same_path path.now q then None else get self.old q) }
     {
@@ -93,7 +93,7 @@ impl FlatTree {
     }
 
     /// Makes the entry at the path a new directory, where there is one. It takes no memory.
-    #[tactic(auto, using(crate::proofs::Seen::get_path))]
+    #[tactic(auto, using(repo_api::specs::StateLaws::get_path))]
     pub(crate) fn renew(&mut self, alloc: Global, path: &Path)
         ensures { (q : PathValue) → get self.new q ≡ option_map (opened_at path.now q) (get self.old q) }
     {
@@ -101,7 +101,7 @@ impl FlatTree {
     }
 
     /// Takes out what is at or under the path.
-    #[tactic(auto, using(crate::proofs::Seen::get_path))]
+    #[tactic(auto, using(repo_api::specs::StateLaws::get_path))]
     pub(crate) fn delete(&mut self, path: &Path)
         ensures { (q : PathValue) → get self.new q ≡ deleted (tree_of self.old) path.now q }
     {

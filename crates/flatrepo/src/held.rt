@@ -1,6 +1,7 @@
 //! What a repository holds.
 ghost use Rattle.std.specs.Prelude.{◌≡◌, ◌∷◌, [], ◌++◌, ◌-◌, length, IfOk, slice_get, option_copied, option_map};
-ghost use Rattle.repo_api.specs.Opening.{opened};
+ghost use Rattle.std.specs.FinMap.{empty};
+ghost use Rattle.repo_api.specs.Opening.{opened, opening_tree};
 ghost use Rattle.flatrepo.specs.Whole.{fixed_of, values, revisions_of, properties_of, content_of};
 
 use crate::flat_changes::FlatChanges;
@@ -18,6 +19,19 @@ pub(crate) struct Kept {
     pub(crate) changes: FlatChanges,
 }
 
+impl Kept {
+    /// Revision 0: the root alone, and no changes.
+    fn opening(alloc: Global) -> Result<Self, AllocError>
+        ensures tree { IfOk result (λ k. k.tree ≡ opening_tree) }
+        ensures changes { IfOk result (λ k. k.changes ≡ empty) }
+    {
+        Ok(Kept {
+            tree: FlatTree::opening(alloc)?,
+            changes: FlatChanges::new(alloc),
+        })
+    }
+}
+
 /// The repository's name, its revisions from 0 on, and the properties of each.
 #[derive(Drop)]
 pub(crate) struct Held {
@@ -31,15 +45,10 @@ impl Held {
     pub(crate) fn opened(alloc: Global, uuid: u128, date: Bytes) -> Result<Self, AllocError>
         ensures { IfOk result (λ h. content_of h ≡ opened uuid date) }
     {
-        let first = Kept {
-            tree: FlatTree::opening(alloc)?,
-            changes: FlatChanges::new(alloc),
-        };
-        let properties = opening_properties(alloc, date)?;
         Ok(Held {
             uuid,
-            revisions: one(alloc, first)?,
-            properties: one(alloc, properties)?,
+            revisions: one(alloc, Kept::opening(alloc)?)?,
+            properties: one(alloc, opening_properties(alloc, date)?)?,
         })
     }
 

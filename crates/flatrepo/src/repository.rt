@@ -84,11 +84,15 @@ impl Repository for FlatRepo {
     }
 
     fn kind(&self, revision: u64, path: &Path) -> NodeKind {
-        kind_in(self.held.tree(revision), path)
+        kind_at(self.held.tree(revision), path)
     }
 
     fn revision_properties(&self, revision: u64) -> Option<&Properties> {
         self.held.properties(revision)
+    }
+
+    fn kind_in(&self, txn: &FlatTxn, path: &Path) -> NodeKind {
+        kind_at(Some(&txn.tree), path)
     }
 
     fn begin(&self) -> Result<FlatTxn, AllocError> {
@@ -127,7 +131,7 @@ fn date_of(alloc: Global, moment: u64) -> Result<Bytes, AllocError>
 }
 
 /// What stands at the path of the tree.
-fn kind_in(tree: Option<&FlatTree>, path: &Path) -> NodeKind
+fn kind_at(tree: Option<&FlatTree>, path: &Path) -> NodeKind
     ensures { result ≡ kind_of (get (map_of (option_copied tree.entry)) path.now) }
 {
     let Some(tree) = tree else {
@@ -235,72 +239,4 @@ fn with_commit(
     };
     let held = held.with_revision(alloc, kept, properties)?;
     Ok(Arc::new(alloc, held)?)
-}
-
-#[cfg(test)]
-mod tests {
-    use crate::FlatRepo;
-    use refusals::Refusal;
-    use repo_api::{ChangeFault, CommitAsk, EditOp, NodeKind, Repository};
-    use std::alloc::{AllocError, Global};
-    use std::test::Fail;
-    use svnpath::{Bytes, Path};
-
-    fn bytes(alloc: Global, text: &str) -> Result<Bytes, AllocError> {
-        Ok(Bytes::new(text.as_bytes().to_vec(alloc)?))
-    }
-
-    fn path(alloc: Global, name: &str) -> Result<Path, AllocError> {
-        Path::root(alloc).child(alloc, bytes(alloc, name)?)
-    }
-
-    fn ask(alloc: Global) -> Result<CommitAsk, AllocError> {
-        Ok(CommitAsk {
-            date: bytes(alloc, "2000-02-29T12:34:56.123456Z")?,
-            author: Some(bytes(alloc, "sally")?),
-            message: bytes(alloc, "Make room.")?,
-            properties: None,
-        })
-    }
-
-    #[test]
-    fn a_new_repository(rt: HostRuntime) -> Result<(), Fail> {
-        let alloc = rt.alloc();
-        let repo = FlatRepo::new(alloc, 5, 951_827_696_123_456)?;
-        assert_eq!(rt; repo.uuid(), 5);
-        assert_eq!(rt; repo.youngest(), 0);
-        assert_eq!(rt; repo.kind(0, &Path::root(alloc)), NodeKind::Directory);
-        assert_eq!(rt; repo.kind(0, &path(alloc, "trunk")?), NodeKind::Absent);
-        assert_eq!(rt; repo.kind(1, &Path::root(alloc)), NodeKind::Absent);
-        assert!(rt; repo.revision_properties(0).is_some());
-        assert!(rt; repo.revision_properties(1).is_none());
-        Ok(())
-    }
-
-    #[test]
-    fn commits(rt: HostRuntime) -> Result<(), Fail> {
-        let alloc = rt.alloc();
-        let trunk = path(alloc, "trunk")?;
-        let mut repo = FlatRepo::new(alloc, 5, 0)?;
-        let before = repo.share()?;
-        let mut first = repo.begin()?;
-        let mut second = repo.begin()?;
-        repo.edit(&mut first, &EditOp::AddDirectory(trunk.clone()?))?;
-        repo.edit(&mut second, &EditOp::AddDirectory(trunk.clone()?))?;
-        assert_eq!(rt; repo.commit(ask(alloc)?, first), Ok(1));
-        assert_eq!(rt;
-            repo.commit(ask(alloc)?, second),
-            Err(ChangeFault::Refused(Refusal::Conflict))
-        );
-        assert_eq!(rt; repo.kind(1, &trunk), NodeKind::Directory);
-        assert_eq!(rt; before.youngest(), 0);
-
-        let mut third = repo.begin()?;
-        repo.edit(&mut third, &EditOp::Delete(trunk.clone()?))?;
-        assert_eq!(rt; repo.commit(ask(alloc)?, third), Ok(2));
-        assert_eq!(rt; repo.kind(1, &trunk), NodeKind::Directory);
-        assert_eq!(rt; repo.kind(2, &trunk), NodeKind::Absent);
-        assert_eq!(rt; repo.kind(2, &Path::root(alloc)), NodeKind::Directory);
-        Ok(())
-    }
 }

@@ -1,4 +1,5 @@
 -- A session's run is a run of the hub.
+use Rattle.std.specs.Prelude.{if◌then◌else◌}
 use Rattle.std.proofs.Common.{◌≡◌, ℕ, List, [], ◌∷◌, ◌++◌, map, Option, Some, None, Bool, true, false, refl, sym, ap, subst, ◌∙◌, append-nil, append_assoc}
 use Rattle.repo_api.specs.States.{RepoState, Fixed, IsBeginning}
 use Rattle.repo_api.specs.Accepted.{Accepted, changed}
@@ -7,16 +8,17 @@ use Rattle.session.specs.Points.{Point, world}
 use Rattle.session.specs.Settings.{Settings}
 use Rattle.session.specs.Hearing.{Input}
 use Rattle.session.specs.Hearing.Input.{Whole, Broken}
-use Rattle.session.specs.Machine.{Verdict, Effect, SessionState, Answer, InputStep, is_open, says}
+use Rattle.session.specs.Stages.{Stage, SessionState, is_open}
+use Rattle.session.specs.Machine.{Verdict, Effect, Answer, InputStep, says, content_after, halted_after}
 use Rattle.session.specs.Machine.Effect.{Nothing, Changes, HaltsChanges}
 use Rattle.session.specs.Access.{Serves, Moves, SessionRun}
 use Rattle.session.specs.declared.env.Env.{Env}
-use Rattle.session.specs.declared.phase.Phase.{Phase}
-use Rattle.session.specs.declared.phase.Phase.TheVariants.{Greeted, LoggingIn, Serving, Ended}
-use Rattle.hub.specs.State.{HubState, session_of, updated, without, kept, content_after, halted_after}
+use Rattle.session.specs.declared.phase.Phase.TheVariants.{Greeted, LoggingIn, Serving, Editing, Skipping, Ended}
+use Rattle.hub.specs.State.{HubState, session_of, updated, without, kept}
 use Rattle.hub.specs.Runs.{Event, InputHappens, HubStep, HubRun, InputsAre, answered}
 use Rattle.hub.specs.Runs.Event.{Gets}
-use Rattle.hub.proofs.Places.{session_of-updated, updated_same, session_of-without, without_none, kept_kept}
+use Rattle.hub.specs.SessionLaws.{session_of-updated, session_of-without}
+use Rattle.hub.proofs.Places.{updated_same, without_none, kept_kept, kept_ended, without-kept}
 
 abbrev pub events_of : ℕ → List Input → List Event
 events_of n inputs = map (Gets n) inputs
@@ -25,24 +27,50 @@ pub inputs_are : (n : ℕ) (inputs : List Input) → InputsAre n inputs (events_
 inputs_are n [] = tt
 inputs_are n (input ∷ inputs) = (refl, refl, inputs_are n inputs)
 
--- the number has a session in this phase, or none where it has ended
-abbrev pub Holds : List (ℕ × SessionState) → ℕ → List ℕ → Phase → Type 0
-Holds xs n r Greeted = session_of xs n ≡ Some (record { rest = r; phase = Greeted })
-Holds xs n r (LoggingIn client) = session_of xs n ≡ Some (record { rest = r; phase = LoggingIn client })
-Holds xs n r (Serving client) = session_of xs n ≡ Some (record { rest = r; phase = Serving client })
-Holds xs n r Ended = session_of xs n ≡ None
+-- a session's state, if it is open
+abbrev pub living : SessionState → Option SessionState
+living s = if is_open s.phase then Some s else None
 
-holds_kept : (xs : List (ℕ × SessionState)) (n : ℕ) (r : List ℕ) (s : SessionState) (phase : Phase) → session_of xs n ≡ Some s → Holds (kept xs n (record { rest = r; phase = phase })) n r phase
-holds_kept xs n r s Greeted h = session_of-updated xs n s _ h
-holds_kept xs n r s (LoggingIn client) h = session_of-updated xs n s _ h
-holds_kept xs n r s (Serving client) h = session_of-updated xs n s _ h
-holds_kept xs n r s Ended h = session_of-without xs n
+-- the number has this session, or none where it has ended
+abbrev pub Holds : List (ℕ × SessionState) → ℕ → List ℕ → Stage → Type 0
+Holds xs n r phase = session_of xs n ≡ living (record { rest = r; phase = phase })
 
-same_state : (xs : List (ℕ × SessionState)) (n : ℕ) (r : List ℕ) (phase : Phase) → Holds xs n r phase → kept xs n (record { rest = r; phase = phase }) ≡ xs
-same_state xs n r Greeted h = updated_same xs n _ h
-same_state xs n r (LoggingIn client) h = updated_same xs n _ h
-same_state xs n r (Serving client) h = updated_same xs n _ h
-same_state xs n r Ended h = without_none xs n h
+if_true : {A : Type 0} (b : Bool) (x y : A) → b ≡ true → (if b then x else y) ≡ x
+if_true true x y e = refl
+if_true false x y e = cc
+
+if_false : {A : Type 0} (b : Bool) (x y : A) → b ≡ false → (if b then x else y) ≡ y
+if_false false x y e = refl
+if_false true x y e = cc
+
+ended_is : (phase : Stage) → is_open phase ≡ false → phase ≡ Ended
+ended_is Greeted e = cc
+ended_is (LoggingIn client) e = cc
+ended_is (Serving client) e = cc
+ended_is (Editing client asked edit) e = cc
+ended_is (Skipping client) e = cc
+ended_is Ended e = refl
+
+pub holds_open : (xs : List (ℕ × SessionState)) (n : ℕ) (r : List ℕ) (phase : Stage) → is_open phase ≡ true → session_of xs n ≡ Some (record { rest = r; phase = phase }) → Holds xs n r phase
+holds_open xs n r phase o h = h ∙ sym (if_true (is_open phase) (Some (record { rest = r; phase = phase })) None o)
+
+found_open : (xs : List (ℕ × SessionState)) (n : ℕ) (r : List ℕ) (phase : Stage) → is_open phase ≡ true → Holds xs n r phase → session_of xs n ≡ Some (record { rest = r; phase = phase })
+found_open xs n r phase o h = h ∙ if_true (is_open phase) (Some (record { rest = r; phase = phase })) None o
+
+none_ended : (xs : List (ℕ × SessionState)) (n : ℕ) (r : List ℕ) (phase : Stage) → is_open phase ≡ false → Holds xs n r phase → session_of xs n ≡ None
+none_ended xs n r phase o h = h ∙ if_false (is_open phase) (Some (record { rest = r; phase = phase })) None o
+
+holds_kept : (xs : List (ℕ × SessionState)) (n : ℕ) (r : List ℕ) (s : SessionState) (phase : Stage) → session_of xs n ≡ Some s → Holds (kept xs n (record { rest = r; phase = phase })) n r phase
+holds_kept xs n r s phase h =
+    let t : SessionState = record { rest = r; phase = phase } in
+    elim (is_open phase) as (λ b. session_of (if b then updated xs n t else without xs n) n ≡ (if b then Some t else None))
+    [ true ↦ session_of-updated xs n s t h | false ↦ session_of-without xs n ]
+
+same_state : (xs : List (ℕ × SessionState)) (n : ℕ) (r : List ℕ) (phase : Stage) → Holds xs n r phase → kept xs n (record { rest = r; phase = phase }) ≡ xs
+same_state xs n r phase h =
+    let t : SessionState = record { rest = r; phase = phase } in
+    elim (is_open phase) as (λ b. session_of xs n ≡ (if b then Some t else None) → (if b then updated xs n t else without xs n) ≡ xs)
+    [ true ↦ λ e. updated_same xs n t e | false ↦ λ e. without_none xs n e ] h
 
 -- the hub at a point of its repository
 abbrev pub hub_at : Settings → Point → List (ℕ × SessionState) → ℕ → HubState
@@ -57,13 +85,13 @@ module _ (between : Point → Point → Type 0) (adds : Point → Accepted → P
   moved p q HaltsChanges m = m
 
   -- an input's effect leads to the next point
-  world_after : (env : Env) (p : Point) (phase : Phase) (input : Input) (a : Answer) (q : Point) → Serves between adds may s env p phase input a q → content_after (world p) a.effect ≡ world q
+  world_after : (env : Env) (p : Point) (phase : Stage) (input : Input) (a : Answer) (q : Point) → Serves between adds may s env p phase input a q → content_after (world p) a.effect ≡ world q
   world_after env p phase input a q serves = ap (λ (w : RepoState). content_after w a.effect) (alone p serves.at serves.later).0 ∙ sym (moved serves.at q a.effect serves.moves).0
 
-  halt_after : (env : Env) (p : Point) (phase : Phase) (input : Input) (a : Answer) (q : Point) → Serves between adds may s env p phase input a q → halted_after p.halted a.effect ≡ q.halted
+  halt_after : (env : Env) (p : Point) (phase : Stage) (input : Input) (a : Answer) (q : Point) → Serves between adds may s env p phase input a q → halted_after p.halted a.effect ≡ q.halted
   halt_after env p phase input a q serves = ap (λ (b : Bool). halted_after b a.effect) (alone p serves.at serves.later).1 ∙ sym (moved serves.at q a.effect serves.moves).1
 
-  answered_at : (env : Env) (p : Point) (r : List ℕ) (phase : Phase) (input : Input) (a : Answer) (q : Point) (xs : List (ℕ × SessionState)) (used n : ℕ)
+  answered_at : (env : Env) (p : Point) (r : List ℕ) (phase : Stage) (input : Input) (a : Answer) (q : Point) (xs : List (ℕ × SessionState)) (used n : ℕ)
       → Serves between adds may s env p phase input a q
       → hub_at s q (kept xs n (record { rest = r; phase = a.phase })) used ≡ answered (hub_at s p xs used) n (record { rest = r; phase = phase }) a
   answered_at env p r phase input a q xs used n serves =
@@ -72,24 +100,20 @@ module _ (between : Point → Point → Type 0) (adds : Point → Accepted → P
       λ i. record { settings = s; content = content i; halted = halted i; sessions = kept xs n (record { rest = r; phase = a.phase }); used = used }
 
   -- a session that has ended does nothing more
-  record Quiet (env : Env) (p : Point) (told : List Reply) (env' : Env) (p' : Point) (phase' : Phase) : Type 0 where
+  record Quiet (env : Env) (p : Point) (told : List Reply) (env' : Env) (p' : Point) (phase' : Stage) : Type 0 where
     world_is : world p' ≡ world p
     halted_is : p'.halted ≡ p.halted
     silent : told ≡ []
     words : env' ≡ env
     ended : phase' ≡ Ended
 
-  ended_step : (env : Env) (c : RepoState) (input : Input) (a : Answer) → InputStep may s env c Ended input a → a ≡ says env Ended []
-  ended_step env c (Whole t) a step = step
-  ended_step env c Broken a step = step
-
-  quiet : (env : Env) (p : Point) (inputs : List Input) (told : List Reply) (env' : Env) (p' : Point) (phase' : Phase)
+  quiet : (env : Env) (p : Point) (inputs : List Input) (told : List Reply) (env' : Env) (p' : Point) (phase' : Stage)
       → SessionRun between adds may s env p Ended inputs told env' p' phase' → Quiet env p told env' p' phase'
   quiet env p [] told env' p' phase' run =
       let same = alone p p' run.0 in
       record { world_is = sym same.0; halted_is = sym same.1; silent = run.1; words = run.2; ended = run.3 }
   quiet env p (input ∷ inputs) told env' p' phase' (a, q, more, serves, run, is_told) =
-      let is : a ≡ says env Ended [] = ended_step env (world serves.at) input a serves.step in
+      let is : a ≡ says env Ended [] = serves.step_is in
       let run' : SessionRun between adds may s env q Ended inputs more env' p' phase' = subst (λ (b : Answer). SessionRun between adds may s b.env q b.phase inputs more env' p' phase') is run in
       let moves : q ≡ serves.at = subst (λ (b : Answer). Moves adds serves.at b.effect q) is serves.moves in
       let same = alone p serves.at serves.later in
@@ -109,23 +133,27 @@ module _ (between : Point → Point → Type 0) (adds : Point → Accepted → P
       ([], old, env, [], subst (λ (o : Option SessionState). InputHappens may old env n o input [] old env) (sym h) (refl, refl, refl), dropped old env n inputs h, refl)
 
   -- the last state of the session alone counts
-  finals : (xs : List (ℕ × SessionState)) (n : ℕ) (r : List ℕ) (env : Env) (p : Point) (phase : Phase) (inputs : List Input) (told : List Reply) (env' : Env) (p' : Point) (phase' : Phase)
+  finals : (xs : List (ℕ × SessionState)) (n : ℕ) (r : List ℕ) (env : Env) (p : Point) (phase : Stage) (inputs : List Input) (told : List Reply) (env' : Env) (p' : Point) (phase' : Stage)
       → SessionRun between adds may s env p phase inputs told env' p' phase'
       → kept (kept xs n (record { rest = r; phase = phase })) n (record { rest = r; phase = phase' }) ≡ kept xs n (record { rest = r; phase = phase' })
-  finals xs n r env p Greeted inputs told env' p' phase' run = kept_kept xs n (record { rest = r; phase = Greeted }) (record { rest = r; phase = phase' }) refl
-  finals xs n r env p (LoggingIn client) inputs told env' p' phase' run = kept_kept xs n (record { rest = r; phase = LoggingIn client }) (record { rest = r; phase = phase' }) refl
-  finals xs n r env p (Serving client) inputs told env' p' phase' run = kept_kept xs n (record { rest = r; phase = Serving client }) (record { rest = r; phase = phase' }) refl
-  finals xs n r env p Ended inputs told env' p' phase' run =
-      subst (λ (x : Phase). kept (without xs n) n (record { rest = r; phase = x }) ≡ kept xs n (record { rest = r; phase = x })) (sym (quiet env p inputs told env' p' phase' run).ended)
-      (without_none (without xs n) n (session_of-without xs n))
+  finals xs n r env p phase inputs told env' p' phase' run =
+      let t : SessionState = record { rest = r; phase = phase } in
+      let t' : SessionState = record { rest = r; phase = phase' } in
+      elim (is_open phase) as (λ b. is_open phase ≡ b → kept (kept xs n t) n t' ≡ kept xs n t') [
+        | true ↦ λ e. kept_kept xs n t t' e
+        | false ↦ λ e.
+            let k = quiet env p inputs told env' p' phase' (subst (λ (x : Stage). SessionRun between adds may s env p x inputs told env' p' phase') (ended_is phase e) run) in
+            let e' : is_open phase' ≡ false = ap is_open k.ended in
+            kept_ended (kept xs n t) n t' e' ∙ without-kept xs n t ∙ sym (kept_ended xs n t' e')
+      ] refl
 
-  nothing : (xs : List (ℕ × SessionState)) (used n : ℕ) (r : List ℕ) (p p' : Point) (phase phase' : Phase) → Holds xs n r phase → world p' ≡ world p → p'.halted ≡ p.halted → phase' ≡ phase
+  nothing : (xs : List (ℕ × SessionState)) (used n : ℕ) (r : List ℕ) (p p' : Point) (phase phase' : Stage) → Holds xs n r phase → world p' ≡ world p → p'.halted ≡ p.halted → phase' ≡ phase
       → hub_at s p' (kept xs n (record { rest = r; phase = phase' })) used ≡ hub_at s p xs used
   nothing xs used n r p p' phase phase' h w e f =
-      let sessions : kept xs n (record { rest = r; phase = phase' }) ≡ xs = ap (λ (x : Phase). kept xs n (record { rest = r; phase = x })) f ∙ same_state xs n r phase h in
+      let sessions : kept xs n (record { rest = r; phase = phase' }) ≡ xs = ap (λ (x : Stage). kept xs n (record { rest = r; phase = x })) f ∙ same_state xs n r phase h in
       λ i. record { settings = s; content = w i; halted = e i; sessions = sessions i; used = used }
 
-  one_more : (xs : List (ℕ × SessionState)) (used n : ℕ) (r : List ℕ) (env : Env) (p : Point) (phase : Phase) (input : Input) (inputs : List Input) (told : List Reply) (env' : Env) (p' : Point) (phase' : Phase)
+  one_more : (xs : List (ℕ × SessionState)) (used n : ℕ) (r : List ℕ) (env : Env) (p : Point) (phase : Stage) (input : Input) (inputs : List Input) (told : List Reply) (env' : Env) (p' : Point) (phase' : Stage)
       (a : Answer) (q : Point) (more : List Reply) (serves : Serves between adds may s env p phase input a q) (run : SessionRun between adds may s a.env q a.phase inputs more env' p' phase')
       → told ≡ a.replies ++ more → session_of xs n ≡ Some (record { rest = r; phase = phase })
       → HubRun may (hub_at s q (kept xs n (record { rest = r; phase = a.phase })) used) a.env (events_of n inputs) more
@@ -133,7 +161,7 @@ module _ (between : Point → Point → Type 0) (adds : Point → Accepted → P
       → HubRun may (hub_at s p xs used) env (events_of n (input ∷ inputs)) told (hub_at s p' (kept xs n (record { rest = r; phase = phase' })) used) env'
   one_more xs used n r env p phase input inputs told env' p' phase' a q more serves run is_told h next =
       let mid = hub_at s q (kept xs n (record { rest = r; phase = a.phase })) used in
-      let step : InputStep may s env (world p) phase input a = subst (λ (w : RepoState). InputStep may s env w phase input a) (sym (alone p serves.at serves.later).0) serves.step in (
+      let step : InputStep may s env (world p) phase input a = subst (λ (w : RepoState). InputStep may s env w phase input a) (sym (alone p serves.at serves.later).0) serves.step_is in (
         a.replies,
         mid,
         a.env,
@@ -143,27 +171,35 @@ module _ (between : Point → Point → Type 0) (adds : Point → Accepted → P
         is_told,
       )
 
-  pub composed : (xs : List (ℕ × SessionState)) (used n : ℕ) (r : List ℕ) (env : Env) (p : Point) (phase : Phase) (inputs : List Input) (told : List Reply) (env' : Env) (p' : Point) (phase' : Phase)
+  -- after the end nothing more happens
+  ended_run : (xs : List (ℕ × SessionState)) (used n : ℕ) (r : List ℕ) (env : Env) (p : Point) (inputs : List Input) (told : List Reply) (env' : Env) (p' : Point) (phase' : Stage)
+      → session_of xs n ≡ None → SessionRun between adds may s env p Ended inputs told env' p' phase'
+      → HubRun may (hub_at s p xs used) env (events_of n inputs) told (hub_at s p' (kept xs n (record { rest = r; phase = phase' })) used) env'
+  ended_run xs used n r env p inputs told env' p' phase' h run =
+      let k = quiet env p inputs told env' p' phase' run in
+      let new = hub_at s p' (kept xs n (record { rest = r; phase = phase' })) used in
+      let same : hub_at s p xs used ≡ new = sym (nothing xs used n r p p' Ended phase' h k.world_is k.halted_is k.ended) in
+      subst (λ (x : List Reply). HubRun may (hub_at s p xs used) env (events_of n inputs) x new env') (sym k.silent)
+      (subst (λ (x : Env). HubRun may (hub_at s p xs used) env (events_of n inputs) [] new x) (sym k.words)
+      (subst (λ (x : HubState). HubRun may (hub_at s p xs used) env (events_of n inputs) [] x env) same (dropped (hub_at s p xs used) env n inputs h)))
+
+  pub composed : (xs : List (ℕ × SessionState)) (used n : ℕ) (r : List ℕ) (env : Env) (p : Point) (phase : Stage) (inputs : List Input) (told : List Reply) (env' : Env) (p' : Point) (phase' : Stage)
       → Holds xs n r phase → SessionRun between adds may s env p phase inputs told env' p' phase'
       → HubRun may (hub_at s p xs used) env (events_of n inputs) told (hub_at s p' (kept xs n (record { rest = r; phase = phase' })) used) env'
   composed xs used n r env p phase [] told env' p' phase' h run =
       let same = alone p p' run.0 in
       (run.1, nothing xs used n r p p' phase phase' h (sym same.0) (sym same.1) run.3, run.2)
-  composed xs used n r env p Greeted (input ∷ inputs) told env' p' phase' h (a, q, more, serves, run, is_told) =
-      one_more xs used n r env p Greeted input inputs told env' p' phase' a q more serves run is_told h
-      (composed (kept xs n (record { rest = r; phase = a.phase })) used n r a.env q a.phase inputs more env' p' phase' (holds_kept xs n r _ a.phase h) run)
-  composed xs used n r env p (LoggingIn client) (input ∷ inputs) told env' p' phase' h (a, q, more, serves, run, is_told) =
-      one_more xs used n r env p (LoggingIn client) input inputs told env' p' phase' a q more serves run is_told h
-      (composed (kept xs n (record { rest = r; phase = a.phase })) used n r a.env q a.phase inputs more env' p' phase' (holds_kept xs n r _ a.phase h) run)
-  composed xs used n r env p (Serving client) (input ∷ inputs) told env' p' phase' h (a, q, more, serves, run, is_told) =
-      one_more xs used n r env p (Serving client) input inputs told env' p' phase' a q more serves run is_told h
-      (composed (kept xs n (record { rest = r; phase = a.phase })) used n r a.env q a.phase inputs more env' p' phase' (holds_kept xs n r _ a.phase h) run)
-  composed xs used n r env p Ended (input ∷ inputs) told env' p' phase' h run =
-      let k = quiet env p (input ∷ inputs) told env' p' phase' run in
-      let same : hub_at s p xs used ≡ hub_at s p' (kept xs n (record { rest = r; phase = phase' })) used = sym (nothing xs used n r p p' Ended phase' h k.world_is k.halted_is k.ended) in
-      subst (λ (x : List Reply). HubRun may (hub_at s p xs used) env (events_of n (input ∷ inputs)) x (hub_at s p' (kept xs n (record { rest = r; phase = phase' })) used) env') (sym k.silent)
-      (subst (λ (x : Env). HubRun may (hub_at s p xs used) env (events_of n (input ∷ inputs)) [] (hub_at s p' (kept xs n (record { rest = r; phase = phase' })) used) x) (sym k.words)
-      (subst (λ (x : HubState). HubRun may (hub_at s p xs used) env (events_of n (input ∷ inputs)) [] x env) same (dropped (hub_at s p xs used) env n (input ∷ inputs) h)))
+  composed xs used n r env p phase (input ∷ inputs) told env' p' phase' h run =
+      let t' : SessionState = record { rest = r; phase = phase' } in
+      elim (is_open phase) as (λ b. is_open phase ≡ b → HubRun may (hub_at s p xs used) env (events_of n (input ∷ inputs)) told (hub_at s p' (kept xs n t') used) env') [
+        | true ↦ λ e.
+            let found = found_open xs n r phase e h in
+            one_more xs used n r env p phase input inputs told env' p' phase' run.0 run.1 run.2 run.3 run.4 run.5 found
+            (composed (kept xs n (record { rest = r; phase = run.0.phase })) used n r run.0.env run.1 run.0.phase inputs run.2 env' p' phase' (holds_kept xs n r _ run.0.phase found) run.4)
+        | false ↦ λ e.
+            ended_run xs used n r env p (input ∷ inputs) told env' p' phase' (none_ended xs n r phase e h)
+            (subst (λ (x : Stage). SessionRun between adds may s env p x (input ∷ inputs) told env' p' phase') (ended_is phase e) run)
+      ] refl
 
 -- one event more
 pub run_more : (may : Verdict → Bool) (old : HubState) (env : Env) (es : List Event) (told : List Reply) (mid : HubState) (env' : Env) (e : Event) (last : List Reply) (new : HubState) (env'' : Env)

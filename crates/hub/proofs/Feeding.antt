@@ -5,22 +5,16 @@ use Rattle.repo_api.specs.Accepted.{Accepted, changed}
 use Rattle.session.specs.Points.{Point, world}
 use Rattle.session.specs.Settings.{Settings}
 use Rattle.session.specs.Hearing.{IsSettled}
-use Rattle.session.specs.Machine.{Verdict, SessionState, is_open}
+use Rattle.session.specs.Stages.{SessionState, is_open}
+use Rattle.session.specs.Machine.{Verdict}
 use Rattle.session.specs.Access.{Fed, Lost}
 use Rattle.session.specs.declared.env.Env.{Env}
-use Rattle.session.specs.declared.phase.Phase.{Phase}
-use Rattle.session.specs.declared.phase.Phase.TheVariants.{Greeted, LoggingIn, Serving, Ended}
-use Rattle.hub.specs.State.{HubState, session_of, updated, without, kept, AllOpen}
+use Rattle.hub.specs.State.{HubState, session_of, updated, without, kept}
 use Rattle.hub.specs.Runs.{Event, HubRun, IfOpen, heard, Feeds, Breaks, new_session}
 use Rattle.hub.specs.Runs.Event.{Drops}
-use Rattle.hub.proofs.Places.{session_of-updated, session_of-without, kept-updated, without-updated, without-kept}
-use Rattle.hub.proofs.Composing.{Holds, hub_at, events_of, inputs_are, composed, run_more}
-
-holds_open : (xs : List (ℕ × SessionState)) (n : ℕ) (r : List ℕ) (phase : Phase) → is_open phase ≡ true → session_of xs n ≡ Some (record { rest = r; phase = phase }) → Holds xs n r phase
-holds_open xs n r Greeted o h = h
-holds_open xs n r (LoggingIn client) o h = h
-holds_open xs n r (Serving client) o h = h
-holds_open xs n r Ended o h = cc
+use Rattle.hub.specs.SessionLaws.{session_of-updated, session_of-without, kept-updated, without-updated}
+use Rattle.hub.proofs.Places.{without-kept}
+use Rattle.hub.proofs.Composing.{hub_at, holds_open, events_of, inputs_are, composed, run_more}
 
 if_open : (xs : List (ℕ × SessionState)) (n : ℕ) (session s' : SessionState) (rest : List ℕ) → session_of xs n ≡ Some session
     → (is_open s'.phase ≡ true → IsSettled rest) → IfOpen (session_of (kept xs n s') n) rest
@@ -81,27 +75,3 @@ module _ (between : Point → Point → Type 0) (adds : Point → Accepted → P
         run = run_more may (heard (hub_at s p xs used) n session lost.rest) env (events_of n lost.inputs) lost.told (hub_at s q (kept ys n t) used) lost.env_after (Drops n) [] (hub_at s q (without xs n) used) lost.env_after
             run (refl, refl, ap (λ (zs : List (ℕ × SessionState)). hub_at s q zs used) gone);
       }
-
--- all are open
-pub AllOpen-updated : (xs : List (ℕ × SessionState)) (n : ℕ) (s : SessionState) → AllOpen xs → is_open s.phase ≡ true → AllOpen (updated xs n s)
-AllOpen-updated [] n s r o = tt
-AllOpen-updated (x ∷ xs) n s r o = elim (x.0 == n) as (λ b. AllOpen (if b then (x.0, s) ∷ xs else x ∷ updated xs n s)) [ true ↦ (o, r.1) | false ↦ (r.0, AllOpen-updated xs n s r.1 o) ]
-
-pub AllOpen-without : (xs : List (ℕ × SessionState)) (n : ℕ) → AllOpen xs → AllOpen (without xs n)
-AllOpen-without [] n r = tt
-AllOpen-without (x ∷ xs) n r = elim (x.0 == n) as (λ b. AllOpen (if not b then x ∷ without xs n else without xs n)) [ true ↦ AllOpen-without xs n r.1 | false ↦ (r.0, AllOpen-without xs n r.1) ]
-
-pub AllOpen-at : (xs : List (ℕ × SessionState)) (n : ℕ) (s : SessionState) → AllOpen xs → session_of xs n ≡ Some s → is_open s.phase ≡ true
-AllOpen-at [] n s r h = cc
-AllOpen-at (x ∷ xs) n s r h =
-    elim (x.0 == n) as (λ b. (if b then Some x.1 else session_of xs n) ≡ Some s → is_open s.phase ≡ true)
-    [ true ↦ λ e. let e' : x.1 ≡ s = cc in subst (λ (z : SessionState). is_open z.phase ≡ true) e' r.0 | false ↦ λ e. AllOpen-at xs n s r.1 e ] h
-
-pub AllOpen-kept : (xs : List (ℕ × SessionState)) (n : ℕ) (s : SessionState) → AllOpen xs → AllOpen (kept xs n s)
-AllOpen-kept xs n s r =
-    elim (is_open s.phase) as (λ b. is_open s.phase ≡ b → AllOpen (if b then updated xs n s else without xs n))
-    [ true ↦ λ e. AllOpen-updated xs n s r e | false ↦ λ e. AllOpen-without xs n r ] refl
-
-pub AllOpen-push : (xs : List (ℕ × SessionState)) (n : ℕ) → AllOpen xs → AllOpen (xs ++ (n, new_session) ∷ [])
-AllOpen-push [] n r = (refl, tt)
-AllOpen-push (x ∷ xs) n r = (r.0, AllOpen-push xs n r.1)

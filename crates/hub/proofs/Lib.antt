@@ -2,3 +2,5 @@ pub mod Places
 pub mod Composing
 pub mod Feeding
 pub mod Staying
+pub mod Everywhere
+pub mod Trees

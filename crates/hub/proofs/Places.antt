@@ -2,32 +2,17 @@
 use Rattle.std.proofs.Common.{◌≡◌, ℕ, List, [], ◌∷◌, ◌++◌, Option, Some, None, Bool, true, false, cond, eqb, refl, sym, ap, subst, ◌∙◌, arith}
 use Rattle.std.specs.Prelude.{if◌then◌else◌, ◌==◌, not, filter}
 use Rattle.std.proofs.lemmas.Bool.Decides.{nat_tests}
-use Rattle.session.specs.Machine.{SessionState, is_open}
+use Rattle.session.specs.Stages.{SessionState, is_open}
 use Rattle.std.proofs.Common.{◌<◌, ◌≤◌, ◌+◌, below_more, length, suc, zero}
 use Rattle.std.proofs.lemmas.Option.{slice_get_within}
 use Rattle.std.specs.List.{slice_get}
 use Rattle.std.specs.Prelude.{slice_set}
 use Rattle.hub.specs.State.{session_of, updated, without, kept, Finds}
-
-pub session_of-updated : (xs : List (ℕ × SessionState)) (n : ℕ) (s t : SessionState) → session_of xs n ≡ Some s → session_of (updated xs n t) n ≡ Some t
-session_of-updated [] n s t h = cc
-session_of-updated (x ∷ xs) n s t h = grind (arith, nat_tests, session_of-updated xs n s t)
+use Rattle.hub.specs.SessionLaws.{updated_updated, without-updated, session_of-without}
 
 pub updated_same : (xs : List (ℕ × SessionState)) (n : ℕ) (s : SessionState) → session_of xs n ≡ Some s → updated xs n s ≡ xs
 updated_same [] n s h = refl
 updated_same ((m, t) ∷ xs) n s h = grind (arith, nat_tests, updated_same xs n s)
-
-pub updated_updated : (xs : List (ℕ × SessionState)) (n : ℕ) (s t : SessionState) → updated (updated xs n s) n t ≡ updated xs n t
-updated_updated [] n s t = refl
-updated_updated (x ∷ xs) n s t = grind (arith, nat_tests, updated_updated xs n s t)
-
-pub without-updated : (xs : List (ℕ × SessionState)) (n : ℕ) (s : SessionState) → without (updated xs n s) n ≡ without xs n
-without-updated [] n s = refl
-without-updated (x ∷ xs) n s = grind (arith, nat_tests, without-updated xs n s)
-
-pub session_of-without : (xs : List (ℕ × SessionState)) (n : ℕ) → session_of (without xs n) n ≡ None
-session_of-without [] n = refl
-session_of-without (x ∷ xs) n = grind (arith, nat_tests, session_of-without xs n)
 
 pub without_none : (xs : List (ℕ × SessionState)) (n : ℕ) → session_of xs n ≡ None → without xs n ≡ xs
 without_none [] n h = refl
@@ -35,9 +20,6 @@ without_none (x ∷ xs) n h = grind (arith, nat_tests, without_none xs n)
 
 pub kept_kept : (xs : List (ℕ × SessionState)) (n : ℕ) (s t : SessionState) → is_open s.phase ≡ true → kept (kept xs n s) n t ≡ kept xs n t
 kept_kept xs n s t o = grind (arith, updated_updated xs n s t, without-updated xs n s)
-
-pub kept-updated : (xs : List (ℕ × SessionState)) (n : ℕ) (s t : SessionState) → kept (updated xs n s) n t ≡ kept xs n t
-kept-updated xs n s t = grind (arith, updated_updated xs n s t, without-updated xs n s)
 
 without-without : (xs : List (ℕ × SessionState)) (n : ℕ) → without (without xs n) n ≡ without xs n
 without-without xs n = without_none (without xs n) n (session_of-without xs n)
@@ -81,12 +63,13 @@ none_found (y ∷ ys) n b =
     grind (arith, nat_tests)
 
 -- the session's new state is written, and it is dropped where it has ended
-pub settled_open : (xs ys : List (ℕ × SessionState)) (n i m : ℕ) (s : SessionState) → Finds xs n i → m ≡ n → ys ≡ slice_set xs i (m, s) → true ≡ is_open s.phase → ys ≡ kept xs n s
-settled_open xs ys n i m s f e is lives = is ∙ ap (λ (k : ℕ). slice_set xs i (k, s)) e ∙ f.update s ∙ ap (λ (b : Bool). if b then updated xs n s else without xs n) lives
-
-pub settled_ended : (xs ys : List (ℕ × SessionState)) (n i m : ℕ) (s : SessionState) → Finds xs n i → m ≡ n → ys ≡ without (slice_set xs i (m, s)) n → false ≡ is_open s.phase → ys ≡ kept xs n s
-settled_ended xs ys n i m s f e is ends =
-    is ∙ ap (λ (k : ℕ). without (slice_set xs i (k, s)) n) e ∙ ap (λ (zs : List (ℕ × SessionState)). without zs n) (f.update s) ∙ without-updated xs n s ∙ ap (λ (b : Bool). if b then updated xs n s else without xs n) ends
+pub settled : (xs ys : List (ℕ × SessionState)) (n i m : ℕ) (s : SessionState) (b : Bool) → Finds xs n i → m ≡ n → b ≡ is_open s.phase
+    → ys ≡ (if b then slice_set xs i (m, s) else without (slice_set xs i (m, s)) n) → ys ≡ kept xs n s
+settled xs ys n i m s b f e lives is =
+    let sets : slice_set xs i (m, s) ≡ updated xs n s = ap (λ (k : ℕ). slice_set xs i (k, s)) e ∙ f.update s in
+    is ∙ ap (λ (zs : List (ℕ × SessionState)). if b then zs else without zs n) sets
+    ∙ (elim b as (λ x. (if x then updated xs n s else without (updated xs n s) n) ≡ (if x then updated xs n s else without xs n)) [ true ↦ refl | false ↦ without-updated xs n s ])
+    ∙ ap (λ (x : Bool). if x then updated xs n s else without xs n) lives
 
 pub kept_ended : (xs : List (ℕ × SessionState)) (n : ℕ) (s : SessionState) → is_open s.phase ≡ false → kept xs n s ≡ without xs n
 kept_ended xs n s e = ap (λ (b : Bool). if b then updated xs n s else without xs n) e

@@ -6,11 +6,12 @@ use Rattle.repo_api.specs.Accepted.Accepted.{Commits}
 use Rattle.commands.specs.declared.reply.Reply.{Reply}
 use Rattle.session.specs.Hearing.{Input, Brings, Comes}
 use Rattle.session.specs.Hearing.Input.{Whole, Broken}
-use Rattle.session.specs.Machine.{Verdict, Effect, SessionState, Answer}
+use Rattle.session.specs.Stages.{SessionState}
+use Rattle.session.specs.Machine.{Verdict, Effect, Answer, content_after}
 use Rattle.session.specs.Machine.Effect.{Nothing, Changes, HaltsChanges}
 use Rattle.session.specs.declared.env.Env.{Env}
-use Rattle.hub.specs.State.{HubState, session_of, content_after}
-use Rattle.hub.specs.Runs.{Event, InputHappens, HubStep, HubRun, heard}
+use Rattle.hub.specs.State.{HubState, session_of}
+use Rattle.hub.specs.Runs.{Event, InputHappens, HubStep, HubRun, heard, Feeds, Breaks}
 use Rattle.hub.specs.Runs.Event.{Connects, Gets, Drops}
 use Rattle.hub.specs.Calls.{CallStep, CallRun}
 use Rattle.hub.specs.Laws.{IsAccepted, IsUnbroken}
@@ -70,12 +71,25 @@ run_keeps may old new env after [] told h = subst (λ (x : HubState). IsBeginnin
 run_keeps may old new env after (e ∷ es) told (first, mid, between, more, step, run, eq) =
     joins old.content.revisions mid.content.revisions new.content.revisions (event_keeps may old mid env between e first step) (run_keeps may mid new between after es more run)
 
-pub calls_more : (may : Verdict → Bool) (old : HubState) (calls : List Call) (outcomes : List Outcome) (mid : HubState) (call : Call) (outcome : Outcome) (new : HubState)
+pub feeds_keep : (may : Verdict → Bool) (old : HubState) (env : Env) (n : ℕ) (piece out : List ℕ) (new : HubState) → Feeds may old env n piece out new → IsBeginning old.content.revisions new.content.revisions
+feeds_keep may old env n piece out new f = run_keeps may (heard old n f.session f.rest) new env f.env_after f.events f.told f.run
+
+pub breaks_keep : (may : Verdict → Bool) (old : HubState) (env : Env) (n : ℕ) (piece : List ℕ) (new : HubState) → Breaks may old env n piece new → IsBeginning old.content.revisions new.content.revisions
+breaks_keep may old env n piece new f = run_keeps may (heard old n f.session f.rest) new env f.env_after (f.events ++ Drops n ∷ []) f.told f.run
+
+calls_more : (may : Verdict → Bool) (old : HubState) (calls : List Call) (outcomes : List Outcome) (mid : HubState) (call : Call) (outcome : Outcome) (new : HubState)
     → CallRun may old calls outcomes mid → CallStep may mid call outcome new → CallRun may old (calls ++ call ∷ []) (outcomes ++ outcome ∷ []) new
 calls_more may old [] [] mid call outcome new run step = (new, subst (λ (x : HubState). CallStep may x call outcome new) run step, refl)
 calls_more may old (k ∷ calls) (o ∷ outcomes) mid call outcome new (next, first, run) step = (next, first, calls_more may next calls outcomes mid call outcome new run step)
 calls_more may old [] (o ∷ outcomes) mid call outcome new run step = absurd run
 calls_more may old (k ∷ calls) [] mid call outcome new run step = absurd run
+
+-- a call more, at the end
+pub calls_next : (may : Verdict → Bool) (old : HubState) (calls front : List Call) (outcomes all : List Outcome) (mid : HubState) (call : Call) (outcome : Outcome) (new : HubState)
+    → front ≡ calls ++ call ∷ [] → all ≡ outcomes ++ outcome ∷ [] → CallRun may old calls outcomes mid → CallStep may mid call outcome new → CallRun may old front all new
+calls_next may old calls front outcomes all mid call outcome new is are run step =
+    subst (λ (xs : List Call). CallRun may old xs all new) (sym is)
+    (subst (λ (os : List Outcome). CallRun may old (calls ++ call ∷ []) os new) (sym are) (calls_more may old calls outcomes mid call outcome new run step))
 
 some_words : Env
 some_words = record { moment = 0; token = 0; nonce = 0 }
@@ -91,9 +105,9 @@ call_keeps may old Connect (Failed Halted) new h = same_keeps old new h.1
 call_keeps may old Connect (Failed Full) new h = same_keeps old new h.2
 call_keeps may old Connect (Wrote out) new h = absurd h
 call_keeps may old Connect Dropped new h = absurd h
-call_keeps may old (Feed n piece env) (Wrote out) new h = run_keeps may (heard old n h.feeds.session h.feeds.rest) new env h.feeds.env_after h.feeds.events h.feeds.told h.feeds.run
+call_keeps may old (Feed n piece env) (Wrote out) new h = feeds_keep may old env n piece.items out.items new h.feeds
 call_keeps may old (Feed n piece env) (Failed NoSession) new h = same_keeps old new h.2
-call_keeps may old (Feed n piece env) (Failed NoMemory) new h = run_keeps may (heard old n h.1.session h.1.rest) new env h.1.env_after (h.1.events ++ Drops n ∷ []) h.1.told h.1.run
+call_keeps may old (Feed n piece env) (Failed NoMemory) new h = breaks_keep may old env n piece.items new h.1
 call_keeps may old (Feed n piece env) (Failed Halted) new h = same_keeps old new h.1
 call_keeps may old (Feed n piece env) (Failed Full) new h = absurd h
 call_keeps may old (Feed n piece env) (Connected m out) new h = absurd h
@@ -108,10 +122,3 @@ calls_keep may old new [] [] run = same_keeps old new run
 calls_keep may old new (call ∷ calls) (outcome ∷ outcomes) (mid, step, run) = joins old.content.revisions mid.content.revisions new.content.revisions (call_keeps may old call outcome mid step) (calls_keep may mid new calls outcomes run)
 calls_keep may old new [] (o ∷ outcomes) run = absurd run
 calls_keep may old new (call ∷ calls) [] run = absurd run
-
--- what more bytes there are doesn't matter to what came before
-pub comes_more : (first second : List ℕ) (inputs more : List Input) (rest end : List ℕ) → IsUnbroken inputs → Comes first inputs rest → Comes (rest ++ second) more end → Comes (first ++ second) (inputs ++ more) end
-comes_more first second [] more rest end u is after = subst (λ (x : List ℕ). Comes (x ++ second) more end) is after
-comes_more first second (Whole t ∷ inputs) more rest end u (after, (front, item, whole), come) then =
-    (after ++ second, (front, item, ap (λ (x : List ℕ). x ++ second) whole ∙ append_assoc front after second), comes_more after second inputs more rest end u come then)
-comes_more first second (Broken ∷ inputs) more rest end u come then = absurd u

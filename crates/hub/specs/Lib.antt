@@ -3,3 +3,4 @@ pub mod Runs
 pub mod Calls
 pub mod Alone
 pub mod Laws
+pub mod SessionLaws

@@ -3,10 +3,11 @@ use Rattle.std.specs.Prelude.{◌≡◌, ℕ, ◌+◌, Bool, false, true, List, 
 use Rattle.commands.specs.declared.reply.Reply.{Reply}
 use Rattle.commands.specs.declared.reply.Reply.TheVariants.{Greeting}
 use Rattle.session.specs.Hearing.{Input, Comes, IsSettled}
-use Rattle.session.specs.Machine.{Verdict, SessionState, Answer, InputStep, print}
+use Rattle.session.specs.Stages.{SessionState}
+use Rattle.session.specs.Machine.{Verdict, Answer, InputStep, print, content_after, halted_after}
 use Rattle.session.specs.declared.env.Env.{Env}
 use Rattle.session.specs.declared.phase.Phase.TheVariants.{Greeted}
-use Rattle.hub.specs.State.{HubState, session_of, updated, without, kept, content_after, halted_after}
+use Rattle.hub.specs.State.{HubState, session_of, updated, without, kept}
 
 pub data Event : Type 0 where
   Connects : ℕ → Event

@@ -1,10 +1,8 @@
 -- The state of a hub: what the repository contains, and its open sessions.
 use Rattle.std.specs.Prelude.{◌≡◌, ℕ, Bool, true, List, [], ◌∷◌, Option, Some, None, if◌then◌else◌, ◌==◌, ◌||◌, not, filter, ◌<◌, length, slice_get, slice_set}
 use Rattle.repo_api.specs.States.{RepoState}
-use Rattle.repo_api.specs.Accepted.{Accepted, changed}
 use Rattle.session.specs.Settings.{Settings}
-use Rattle.session.specs.Machine.{SessionState, Effect, is_open}
-use Rattle.session.specs.Machine.Effect.{Nothing, Changes, HaltsChanges}
+use Rattle.session.specs.Stages.{SessionState, is_open, RestsOn}
 
 pub record HubState : Type 0 where
   pub settings : Settings
@@ -34,22 +32,15 @@ without xs n = filter (λ x. not (x.0 == n)) xs
 abbrev pub kept : List (ℕ × SessionState) → ℕ → SessionState → List (ℕ × SessionState)
 kept xs n s = if is_open s.phase then updated xs n s else without xs n
 
--- the repository after an effect
-abbrev pub content_after : RepoState → Effect → RepoState
-content_after c Nothing = c
-content_after c (Changes e) = changed c e
-content_after c HaltsChanges = c
-
--- whether changes have come to a halt, after an effect
-abbrev pub halted_after : Bool → Effect → Bool
-halted_after halted Nothing = halted
-halted_after halted (Changes e) = halted
-halted_after halted HaltsChanges = true
-
 -- each session is open
 abbrev pub AllOpen : List (ℕ × SessionState) → Type 0
 AllOpen [] = Unit {0}
 AllOpen (x ∷ xs) = (is_open x.1.phase ≡ true) × AllOpen xs
+
+-- the edit of each session, if it has one, has seen revisions that begin the repository's
+abbrev pub AllRest : RepoState → List (ℕ × SessionState) → Type 0
+AllRest c [] = Unit {0}
+AllRest c (x ∷ xs) = RestsOn x.1.phase c × AllRest c xs
 
 -- the session of the number is at this place
 pub record Finds (xs : List (ℕ × SessionState)) (n i : ℕ) : Type 0 where

@@ -1,11 +1,11 @@
 //! Many sessions over one repository.
-ghost use Rattle.std.specs.Prelude.{◌≡◌, ◌+◌, ◌<◌, ◌≤◌, ◌++◌, [], ◌∷◌, ℕ, Bool, true, false, not, ◌&&◌, length, MatchOption, IfOk, IfErr, OnOk, OnErr, None, is_some};
+ghost use Rattle.std.specs.Prelude.{◌≡◌, if◌then◌else◌, ◌+◌, ◌<◌, ◌≤◌, ◌++◌, [], ◌∷◌, ℕ, Bool, true, false, not, ◌&&◌, length, MatchOption, IfOk, IfErr, OnOk, OnErr, None, is_some};
 ghost use Rattle.session.specs.Points.{world};
 ghost use Rattle.session.specs.Settings.{Settings};
 ghost use Rattle.session.specs.Machine.{print};
 ghost use Rattle.session.specs.declared.env.Env.{Env};
 ghost use Rattle.commands.specs.declared.reply.Reply.TheVariants.{Greeting};
-ghost use Rattle.hub.specs.State.{session_of, without, Finds, AllOpen};
+ghost use Rattle.hub.specs.State.{session_of, without, Finds, AllOpen, AllRest};
 ghost use Rattle.hub.specs.Runs.{HubStep, Feeds, Breaks, new_session};
 ghost use Rattle.hub.specs.Runs.Event.{Drops};
 ghost use Rattle.hub.specs.Calls.{ConnectsAs, ConnectFails, FeedsAs, FeedFails};
@@ -39,7 +39,7 @@ pub enum HubFault {
 }
 
 /// The place of a session.
-fn place(sessions: &[(SessionId, Session)], number: SessionId) -> Option<usize>
+fn place<R: Repository>(sessions: &[(SessionId, Session<R>)], number: SessionId) -> Option<usize>
     ensures { MatchOption result (session_of sessions.now number ≡ None) (λ i. Finds sessions.now number i) }
 {
     for (i, entry) in sessions.iter().enumerate() {
@@ -51,16 +51,29 @@ fn place(sessions: &[(SessionId, Session)], number: SessionId) -> Option<usize>
 }
 
 /// Drops a session.
-fn drop_session(sessions: &mut Vec<(SessionId, Session)>, number: SessionId)
+fn drop_session<R: Repository>(sessions: &mut Vec<(SessionId, Session<R>)>, number: SessionId)
     ensures { sessions.new.items ≡ without sessions.old.items number }
 {
     sessions.retain(|entry| entry.0 != number);
 }
 
+/// Drops a session unless it is open.
+fn drop_unless<R: Repository>(
+    is_open: bool,
+    sessions: &mut Vec<(SessionId, Session<R>)>,
+    number: SessionId,
+)
+    ensures { sessions.new.items ≡ (if is_open then sessions.old.items else without sessions.old.items number) }
+{
+    if !is_open {
+        drop_session(sessions, number);
+    }
+}
+
 /// Adds a session that has heard nothing.
-fn add_session(
+fn add_session<R: Repository>(
     alloc: Global,
-    sessions: &mut Vec<(SessionId, Session)>,
+    sessions: &mut Vec<(SessionId, Session<R>)>,
     number: SessionId,
 ) -> Result<(), AllocError>
     ensures ok { OnOk result (sessions.new.items ≡ sessions.old.items ++ (number, new_session) ∷ []) }
@@ -83,7 +96,7 @@ fn greeting(alloc: Global) -> Result<Vec<u8>, AllocError>
 fn feed_open<A: SoleAccess>(
     alloc: Global,
     options: &Options,
-    sessions: &mut Vec<(SessionId, Session)>,
+    sessions: &mut Vec<(SessionId, Session<A::View>)>,
     number: SessionId,
     i: usize,
     access: &mut A,
@@ -92,17 +105,17 @@ fn feed_open<A: SoleAccess>(
 ) -> Result<Vec<u8>, AllocError>
     requires found { Finds sessions.old.items number i }
     requires open { AllOpen sessions.old.items }
+    requires rests { AllRest (world (A.point access.old)) sessions.old.items }
     requires moment { env.moment ≤ 200000000000000000 }
     ensures ok { IfOk result (λ out. (used : ℕ) → Feeds A.may (record { settings = options.now; content = world (A.point access.old); halted = (A.point access.old).halted; sessions = sessions.old.items; used = used }) env number piece.now out.items (record { settings = options.now; content = world (A.point access.new); halted = (A.point access.new).halted; sessions = sessions.new.items; used = used })) }
     ensures err { OnErr result ((used : ℕ) → Breaks A.may (record { settings = options.now; content = world (A.point access.old); halted = (A.point access.old).halted; sessions = sessions.old.items; used = used }) env number piece.now (record { settings = options.now; content = world (A.point access.new); halted = (A.point access.new).halted; sessions = sessions.new.items; used = used })) }
     ensures open { AllOpen sessions.new.items }
+    ensures rests { AllRest (world (A.point access.new)) sessions.new.items }
 {
     let entry = &mut sessions[i];
     let fed = entry.1.feed(alloc, options, piece, access, env);
     let is_open = entry.1.is_open();
-    if !is_open {
-        drop_session(sessions, number);
-    }
+    drop_unless(is_open, sessions, number);
     match fed {
         Ok(out) => Ok(out),
         Err(_) => Err(AllocError),
@@ -115,7 +128,7 @@ pub struct Hub<A: SoleAccess> {
     alloc: Global,
     options: Options,
     access: A,
-    sessions: Vec<(SessionId, Session)>,
+    sessions: Vec<(SessionId, Session<A::View>)>,
     used: u64,
 }
 
@@ -123,7 +136,7 @@ impl<A: SoleAccess> Model for Hub<A> {
     ghost use Rattle.std.specs.Coded.{codes};
     ghost use Rattle.std.specs.FinMap.{code as map_code};
     ghost use Rattle.session.specs.Points.{world};
-    ghost use Rattle.hub.specs.State.{HubState, AllOpen};
+    ghost use Rattle.hub.specs.State.{HubState, AllOpen, AllRest};
 
     ghost Value = { HubState };
 
@@ -131,7 +144,7 @@ impl<A: SoleAccess> Model for Hub<A> {
 
     ghost view = { λ h. record { settings = h.options; content = world (A.point h.access); halted = (A.point h.access).halted; sessions = h.sessions.items; used = h.used } };
 
-    ghost invariant = { λ h. AllOpen h.sessions.items };
+    ghost invariant = { λ h. AllOpen h.sessions.items × AllRest (world (A.point h.access)) h.sessions.items };
 }
 
 impl<R: Repository> Hub<Direct<R>> {

@@ -1,9 +1,11 @@
 //! What holds of every run of a hub. The functions do nothing: their contracts are the laws.
-ghost use Rattle.std.specs.Prelude.{◌≤◌, ◌+◌, ◌≡◌, ◌⊎◌, ◌++◌, ℕ, Bool, List, length};
+ghost use Rattle.std.specs.Prelude.{◌≤◌, ◌+◌, ◌≡◌, ◌⊎◌, ◌++◌, ℕ, Bool, false, [], List, length};
 ghost use Rattle.repo_api.specs.States.{IsBeginning};
 ghost use Rattle.commands.specs.declared.reply.Reply.{Reply};
 ghost use Rattle.session.specs.Hearing.{Input, Comes};
-ghost use Rattle.hub.specs.Laws.{IsAccepted, IsUnbroken};
+ghost use Rattle.repo_api.specs.Opening.{opened};
+ghost use Rattle.session.specs.Settings.{Settings};
+ghost use Rattle.hub.specs.Laws.{IsAccepted, IsUnbroken, HasTrees};
 ghost use Rattle.session.specs.Machine.{Verdict};
 ghost use Rattle.session.specs.declared.env.Env.{Env};
 ghost use Rattle.hub.specs.State.{HubState};
@@ -37,3 +39,17 @@ pub fn calls_keep_history()
 pub fn cut_anywhere()
     ensures { (first second : List ℕ) (inputs more : List Input) (rest end : List ℕ) → IsUnbroken inputs → Comes first inputs rest → Comes (rest ++ second) more end → Comes (first ++ second) (inputs ++ more) end }
 {}
+
+/// Every tree is a tree, those of the revisions and those of the open edits: where it is so, it stays so.
+pub fn trees_stay_trees()
+    ensures { (may : Verdict → Bool) (old new : HubState) (env after : Env) (events : List Event) (told : List Reply) → HasTrees old → HubRun may old env events told new after → HasTrees new }
+{
+    session::steps_keep_trees();
+}
+
+/// In a hub that is new over a new repository every tree is a tree.
+pub fn new_trees_are_trees()
+    ensures { (settings : Settings) (uuid : ℕ) (date : List ℕ) → HasTrees (record { settings = settings; content = opened uuid date; halted = false; sessions = []; used = 0 }) }
+{
+    repo_api::opening_is_a_tree();
+}

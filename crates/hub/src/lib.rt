@@ -10,7 +10,7 @@ pub use calls::{Call, Outcome, make_call, make_calls};
 pub use direct::Direct;
 pub use hub::{Hub, HubFault, SessionId};
 pub use laws::{
-    calls_keep_history, cut_anywhere, one_revision_an_event, refused_changes_nothing,
-    revisions_stay,
+    calls_keep_history, cut_anywhere, new_trees_are_trees, one_revision_an_event,
+    refused_changes_nothing, revisions_stay, trees_stay_trees,
 };
 pub use session::{Env, Options, is_repository_name};

@@ -16,6 +16,3 @@ pub use laws::{fault_is_answered_again, fault_stays, one_fault, one_reading, wri
 pub use reader::{ItemFault, ItemReader};
 pub use stream::decode;
 pub use write::write_item;
-
-#[cfg(test)]
-mod tests;

@@ -3,7 +3,7 @@ use Rattle.std.specs.Prelude.{ℕ, [], Option, Some, None, slice_get}
 use Rattle.std.specs.FinMap.{get}
 use Rattle.svnpath.specs.Paths.{PathValue}
 use Rattle.repo_api.specs.Properties.{PropertyList}
-use Rattle.repo_api.specs.States.{RepoState, tree_at}
+use Rattle.repo_api.specs.States.{RepoState, TxnState, tree_at}
 use Rattle.repo_api.specs.declared.entry.Content.{Content}
 use Rattle.repo_api.specs.declared.entry.Content.TheVariants.{Directory, File}
 use Rattle.repo_api.specs.declared.entry.Entry.{Entry}
@@ -21,6 +21,10 @@ kind_of (Some e) = content_kind e.content
 -- what stands at a path of a revision
 abbrev pub kind_at : RepoState → ℕ → PathValue → NodeKind
 kind_at c n p = kind_of (get (tree_at c n) p)
+
+-- what stands at a path of a transaction
+abbrev pub kind_in : TxnState → PathValue → NodeKind
+kind_in t p = kind_of (get t.tree p)
 
 abbrev pub or_empty : Option PropertyList → PropertyList
 or_empty None = []

@@ -7,3 +7,4 @@ pub mod Commits
 pub mod Accepted
 pub mod Kinds
 pub mod Opening
+pub mod StateLaws

@@ -7,6 +7,7 @@ mod change;
 mod edit;
 mod entry;
 mod fault;
+mod laws;
 mod lock;
 mod properties;
 mod repository;
@@ -16,6 +17,10 @@ pub use change::{Action, Change, Source};
 pub use edit::EditOp;
 pub use entry::{Content, Entry, Mark, NodeKind};
 pub use fault::ChangeFault;
+pub use laws::{
+    beginnings_are_trees, commits_keep_trees, edits_keep_trees, opening_is_a_tree,
+    same_entries_make_a_tree,
+};
 pub use lock::Lock;
 pub use properties::Properties;
 pub use repository::Repository;

@@ -3,7 +3,7 @@ ghost use Rattle.std.specs.Prelude.{◌≡◌, ◌<◌, length, IfOk, OnOk, OnEr
 ghost use Rattle.repo_api.specs.States.{RepoState, TxnState, IsBeginning, IsBegun, IsEdited, youngest};
 ghost use Rattle.repo_api.specs.Commits.{commit_refusal, committed};
 ghost use Rattle.repo_api.specs.Accepted.{IfRefused, IsOfMemory};
-ghost use Rattle.repo_api.specs.Kinds.{kind_at};
+ghost use Rattle.repo_api.specs.Kinds.{kind_at, kind_in};
 
 use crate::ask::CommitAsk;
 use crate::edit::EditOp;
@@ -48,6 +48,11 @@ pub trait Repository: Drop {
     /// A transaction that begins from the youngest revision.
     fn begin(&self) -> Result<Self::Txn, AllocError>
         ensures { IfOk result (λ txn. IsBegun (content self.now) (txn_state txn)) };
+
+    /// What stands at a path of a transaction, which was last shown a repository whose revisions begin this one's.
+    fn kind_in(&self, txn: &Self::Txn, path: &Path) -> NodeKind
+        requires { IsBeginning (txn_state txn.now).shown (content self.now).revisions }
+        ensures { result ≡ kind_in (txn_state txn.now) path.now };
 
     /// Makes an edit in a transaction, which was last shown a repository whose revisions begin this one's.
     fn edit(&self, txn: &mut Self::Txn, op: &EditOp) -> Result<(), AllocError>

@@ -2,4 +2,6 @@
 #![tactic(auto)]
 
 #[cfg(test)]
+mod flat;
+#[cfg(test)]
 mod tests;

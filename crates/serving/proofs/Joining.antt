@@ -7,16 +7,15 @@ use Rattle.repo_api.specs.States.{RepoState}
 use Rattle.session.specs.Settings.{Settings}
 use Rattle.session.specs.Hearing.{Input, Comes}
 use Rattle.session.specs.Hearing.Input.{Whole, Broken}
-use Rattle.session.specs.Machine.{Verdict, SessionState, Answer, InputStep, is_open}
+use Rattle.session.specs.Stages.{Stage, SessionState, is_open}
+use Rattle.session.specs.Machine.{Verdict, Answer, InputStep, content_after, halted_after}
 use Rattle.session.specs.declared.env.Env.{Env}
-use Rattle.session.specs.declared.phase.Phase.{Phase}
-use Rattle.session.specs.declared.phase.Phase.TheVariants.{Greeted, LoggingIn, Serving, Ended}
-use Rattle.hub.specs.State.{HubState, session_of, updated, without, kept, content_after, halted_after}
+use Rattle.session.specs.declared.phase.Phase.TheVariants.{Greeted, LoggingIn, Serving, Editing, Skipping, Ended}
+use Rattle.hub.specs.State.{HubState, session_of, updated, without, kept}
 use Rattle.hub.specs.Runs.{Event, HubStep, HubRun, InputHappens, InputsAre, Feeds, answered, heard}
 use Rattle.hub.specs.Runs.Event.{Connects, Gets, Drops}
 use Rattle.hub.specs.Laws.{IsUnbroken}
-use Rattle.hub.proofs.Places.{session_of-updated, updated_updated, session_of-without, kept-updated}
-use Rattle.hub.proofs.Staying.{comes_more}
+use Rattle.hub.specs.SessionLaws.{session_of-updated, updated_updated, session_of-without, kept-updated, comes_more}
 use Rattle.serving.specs.Stream.{InputRun, StreamRun, Draws}
 
 -- the events of a piece are those of its inputs
@@ -55,10 +54,12 @@ both_runs may n (input ∷ inputs) others old mid new told more (env, first, aft
 )
 
 -- a wrong byte ends the session
-broken_ends : (may : Verdict → Bool) (s : Settings) (env : Env) (c : RepoState) (phase : Phase) (a : Answer) → InputStep may s env c phase Broken a → a.phase ≡ Ended
+broken_ends : (may : Verdict → Bool) (s : Settings) (env : Env) (c : RepoState) (phase : Stage) (a : Answer) → InputStep may s env c phase Broken a → a.phase ≡ Ended
 broken_ends may s env c Greeted a step = ap (λ (x : Answer). x.phase) step
 broken_ends may s env c (LoggingIn client) a step = ap (λ (x : Answer). x.phase) step
 broken_ends may s env c (Serving client) a step = ap (λ (x : Answer). x.phase) step
+broken_ends may s env c (Editing client asked edit) a step = ap (λ (x : Answer). x.phase) step
+broken_ends may s env c (Skipping client) a step = ap (λ (x : Answer). x.phase) step
 broken_ends may s env c Ended a step = ap (λ (x : Answer). x.phase) step
 
 either_way : (b : Bool) → (b ≡ true) ⊎ (b ≡ false)
@@ -80,7 +81,7 @@ record Stays (may : Verdict → Bool) (old : HubState) (n : ℕ) (s : SessionSta
   unbroken : IsUnbroken inputs
   anyway : (rest : List ℕ) → InputRun may (heard old n s rest) n inputs told (heard new n t rest)
 
-unbroken_more : (may : Verdict → Bool) (s : Settings) (env : Env) (c : RepoState) (phase : Phase) (input : Input) (inputs : List Input) (a : Answer)
+unbroken_more : (may : Verdict → Bool) (s : Settings) (env : Env) (c : RepoState) (phase : Stage) (input : Input) (inputs : List Input) (a : Answer)
     → InputStep may s env c phase input a → is_open a.phase ≡ true → IsUnbroken inputs → IsUnbroken (input ∷ inputs)
 unbroken_more may s env c phase (Whole t) inputs a step goes u = u
 unbroken_more may s env c phase Broken inputs a step goes u =

@@ -3,7 +3,8 @@ use Rattle.std.specs.Prelude.{◌≡◌, ℕ, Bool, true, ◌&&◌, not, is_some
 use Rattle.std.specs.Io.KnownBytes.{Consumes, Appends, IsAtEnd}
 use Rattle.commands.specs.declared.reply.Reply.{Reply}
 use Rattle.session.specs.Hearing.{Input, Comes}
-use Rattle.session.specs.Machine.{Verdict, SessionState, print}
+use Rattle.session.specs.Stages.{SessionState}
+use Rattle.session.specs.Machine.{Verdict, print}
 use Rattle.session.specs.declared.env.Env.{Env}
 use Rattle.hub.specs.State.{HubState, session_of}
 use Rattle.hub.specs.Runs.{HubStep, IfOpen, heard}

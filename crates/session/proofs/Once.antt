@@ -1,5 +1,5 @@
 -- A stream brings its inputs in one way.
-use Rattle.std.proofs.Common.{◌≡◌, ℕ, ◌+◌, List, [], ◌∷◌, ◌++◌, refl, sym, ap, subst, ◌∙◌}
+use Rattle.std.proofs.Common.{◌≡◌, ℕ, ◌+◌, List, [], ◌∷◌, ◌++◌, refl, sym, subst, ◌∙◌}
 use Rattle.items.specs.Tree.{Tree, limits}
 use Rattle.items.specs.Stream.{IsItem, IsFaulty, IsDefect}
 use Rattle.items.specs.Unread.{Unread}

@@ -1,5 +1,5 @@
 -- Answers that change nothing, and inputs that are answered so.
-use Rattle.std.proofs.Common.{◌≡◌, ℕ, List, [], ◌∷◌, ◌++◌, Bool, true, false, Option, Some, None, refl, sym, ap, subst, ◌∙◌}
+use Rattle.std.proofs.Common.{◌≡◌, ℕ, List, [], ◌∷◌, Bool, true, false, Option, Some, None, refl, sym, ap, subst}
 use Rattle.std.specs.Prelude.{Result, Ok, Err, if◌then◌else◌, codes}
 use Rattle.svnpath.specs.Urls.{path_of_text, root_of_text}
 use Rattle.commands.specs.Forms.{is_name}
@@ -8,27 +8,26 @@ use Rattle.svnpath.specs.Paths.{PathValue}
 use Rattle.svnpath.specs.declared.fault.PathFault.{PathFault}
 use Rattle.repo_api.specs.States.{RepoState}
 use Rattle.repo_api.specs.Accepted.{Accepted}
-use Rattle.commands.specs.Commands.{main_command}
-use Rattle.commands.specs.Logins.{client_greeting, auth_response}
 use Rattle.commands.specs.declared.command.MainCommand.{MainCommand}
-use Rattle.commands.specs.declared.command.MainCommand.TheVariants.{GetLatestRev, CheckPath, RevProplist, AbortEdit}
+use Rattle.commands.specs.declared.command.MainCommand.TheVariants.{GetLatestRev, CheckPath, RevProplist, Commit, AbortEdit}
 use Rattle.commands.specs.declared.login.ClientGreeting.{ClientGreeting}
 use Rattle.commands.specs.declared.login.AuthResponse.{AuthResponse}
 use Rattle.commands.specs.declared.fault.CommandFault.{CommandFault}
 use Rattle.commands.specs.declared.fault.CommandFault.TheVariants.{UnknownName, BadParameters, NoMemory}
 use Rattle.commands.specs.declared.reply.Reply.{Reply}
-use Rattle.items.specs.Tree.{Tree}
+use Rattle.refusals.specs.declared.Refusal.{Refusal}
+use Rattle.session.specs.declared.asked.Asked.{Asked}
 use Rattle.session.specs.Points.{Point, world}
 use Rattle.session.specs.Settings.{Settings}
 use Rattle.session.specs.Hearing.{Input}
-use Rattle.session.specs.Hearing.Input.{Whole, Broken}
-use Rattle.session.specs.Machine.{Verdict, Effect, Answer, InputStep, says, speaks, malformed, url_answer, greeting_answer, login_answer, command_answer}
+use Rattle.session.specs.Hearing.Input.{Broken}
+use Rattle.session.specs.Machine.{Verdict, Effect, Answer, InputStep, says, speaks, malformed, url_answer, greeting_answer, login_answer, command_answer, asked_by, lock_tokens, commit_begins, skipping_answer}
 use Rattle.session.specs.Machine.Effect.{Nothing}
-use Rattle.session.specs.Access.{Serves, Served, Moves}
+use Rattle.session.specs.Access.{Served, Moves}
 use Rattle.session.specs.Replying.{IsAnswered}
 use Rattle.session.specs.declared.env.Env.{Env}
-use Rattle.session.specs.declared.phase.Phase.{Phase}
-use Rattle.session.specs.declared.phase.Phase.TheVariants.{Greeted, LoggingIn, Serving, Ended}
+use Rattle.session.specs.Stages.{Stage}
+use Rattle.session.specs.declared.phase.Phase.TheVariants.{Greeted, LoggingIn, Serving, Editing, Skipping, Ended}
 use Rattle.session.specs.declared.phase.Client.{Client}
 
 -- an answer that uses no word and changes nothing
@@ -36,7 +35,7 @@ pub record IsQuiet (env : Env) (a : Answer) : Type 0 where
   pub effect : a.effect ≡ Nothing
   pub env_is : a.env ≡ env
 
-quiet_says : (env : Env) (phase : Phase) (told : List Reply) → IsQuiet env (says env phase told)
+quiet_says : (env : Env) (phase : Stage) (told : List Reply) → IsQuiet env (says env phase told)
 quiet_says env phase told = record { effect = refl; env_is = refl }
 
 quiet_if : (env : Env) (b : Bool) (x y : Answer) → IsQuiet env x → IsQuiet env y → IsQuiet env (if b then x else y)
@@ -62,14 +61,24 @@ quiet_login env c client (Ok r) =
     quiet_if env (is_name r.mechanism (codes "ANONYMOUS")) (says env (Serving client) welcome) (says env (LoggingIn client) again) (quiet_says env (Serving client) welcome) (quiet_says env (LoggingIn client) again)
 quiet_login env c client (Err fault) = quiet_says env _ _
 
-pub quiet_command : (env : Env) (c : RepoState) (client : Client) (r : Result MainCommand CommandFault) → IsQuiet env (command_answer env c client r)
-quiet_command env c client (Ok GetLatestRev) = quiet_says env _ _
-quiet_command env c client (Ok (CheckPath path revision)) = quiet_says env _ _
-quiet_command env c client (Ok (RevProplist n)) = quiet_says env _ _
-quiet_command env c client (Ok AbortEdit) = quiet_says env _ _
-quiet_command env c client (Err UnknownName) = quiet_says env _ _
-quiet_command env c client (Err BadParameters) = quiet_says env _ _
-quiet_command env c client (Err NoMemory) = quiet_says env _ _
+quiet_begins : (s : Settings) (env : Env) (client : Client) (r : Result Asked Refusal) → IsQuiet env (commit_begins s env client r)
+quiet_begins s env client (Ok asked) = quiet_says env _ _
+quiet_begins s env client (Err r) = quiet_says env _ _
+
+pub quiet_command : (s : Settings) (env : Env) (c : RepoState) (client : Client) (r : Result MainCommand CommandFault) → IsQuiet env (command_answer s env c client r)
+quiet_command s env c client (Ok GetLatestRev) = quiet_says env _ _
+quiet_command s env c client (Ok (CheckPath path revision)) = quiet_says env _ _
+quiet_command s env c client (Ok (RevProplist n)) = quiet_says env _ _
+quiet_command s env c client (Ok (Commit command)) = quiet_begins s env client (asked_by command (lock_tokens client.path command.tokens))
+quiet_command s env c client (Ok AbortEdit) = quiet_says env _ _
+quiet_command s env c client (Err UnknownName) = quiet_says env _ _
+quiet_command s env c client (Err BadParameters) = quiet_says env _ _
+quiet_command s env c client (Err NoMemory) = quiet_says env _ _
+
+pub quiet_skipping : (env : Env) (client : Client) (ends : Option Bool) → IsQuiet env (skipping_answer env client ends)
+quiet_skipping env client None = quiet_says env _ _
+quiet_skipping env client (Some true) = quiet_says env _ _
+quiet_skipping env client (Some false) = quiet_says env _ _
 
 pub quiet_malformed : (env : Env) → IsQuiet env (malformed env)
 quiet_malformed env = quiet_says env _ _
@@ -79,20 +88,22 @@ quiet_end env = quiet_says env _ _
 
 module _ (between : Point → Point → Type 0) (adds : Point → Accepted → Point → Type 0) (may : Verdict → Bool) (s : Settings) where
   -- an input that is answered so, at the point that was looked at
-  pub said : (env : Env) (p q : Point) (phase after : Phase) (input : Input) (a : Answer) (out out' : List ℕ)
+  pub said : (env : Env) (p q : Point) (phase after : Stage) (input : Input) (a : Answer) (out out' : List ℕ)
       → between p q → InputStep may s env (world q) phase input a → IsQuiet env a → IsAnswered a after out out'
       → Served between adds may s env p phase input out env q after out'
   said env p q phase after input a out out' later step quiet answered = record {
     answer = a;
-    serves = record { at = q; later = later; step = step; moves = subst (λ (e : Effect). Moves adds q e q) (sym quiet.effect) refl };
+    serves = record { at = q; later = later; step_is = step; moves = subst (λ (e : Effect). Moves adds q e q) (sym quiet.effect) refl };
     env_after = sym quiet.env_is;
     phase_after = answered.phase_is;
     written = answered.written;
   }
 
 -- after a byte that goes on to no item, and after the end, the session has ended
-pub broken_ends : (may : Verdict → Bool) (s : Settings) (env : Env) (c : RepoState) (phase : Phase) (a : Answer) → InputStep may s env c phase Broken a → a.phase ≡ Ended
+pub broken_ends : (may : Verdict → Bool) (s : Settings) (env : Env) (c : RepoState) (phase : Stage) (a : Answer) → InputStep may s env c phase Broken a → a.phase ≡ Ended
 broken_ends may s env c Greeted a step = ap (λ (x : Answer). x.phase) step
 broken_ends may s env c (LoggingIn client) a step = ap (λ (x : Answer). x.phase) step
 broken_ends may s env c (Serving client) a step = ap (λ (x : Answer). x.phase) step
+broken_ends may s env c (Editing client asked edit) a step = ap (λ (x : Answer). x.phase) step
+broken_ends may s env c (Skipping client) a step = ap (λ (x : Answer). x.phase) step
 broken_ends may s env c Ended a step = ap (λ (x : Answer). x.phase) step

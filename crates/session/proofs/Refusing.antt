@@ -1,6 +1,6 @@
 -- What an item is that was refused.
 use Rattle.std.proofs.Common.{◌≡◌, ◌⊎◌, inl, inr, refl, Bool, true, false}
-use Rattle.std.specs.Prelude.{Result, Ok, Err, not}
+use Rattle.std.specs.Prelude.{Result, Err, not}
 use Rattle.commands.specs.declared.fault.CommandFault.{CommandFault}
 use Rattle.commands.specs.declared.fault.CommandFault.TheVariants.{UnknownName, BadParameters, NoMemory}
 

@@ -1,36 +1,35 @@
 -- How far a run has come.
-use Rattle.std.proofs.Common.{◌≡◌, ℕ, List, [], ◌∷◌, ◌++◌, Bool, true, false, Option, Some, None, refl, sym, ap, subst, ◌∙◌, ◌⊎◌, inl, inr, append-nil, append_assoc}
-use Rattle.std.specs.List.{flat_map}
+use Rattle.std.proofs.Common.{◌≡◌, ℕ, List, [], ◌∷◌, ◌++◌, Bool, true, refl, sym, ap, subst, ◌∙◌, inl, inr, append-nil, append_assoc}
 use Rattle.items.specs.Print.{printed}
 use Rattle.repo_api.specs.Accepted.{Accepted}
 use Rattle.commands.specs.Replies.{reply_tree}
 use Rattle.commands.specs.declared.reply.Reply.{Reply}
-use Rattle.session.specs.Points.{Point, world}
+use Rattle.session.specs.Points.{Point}
 use Rattle.session.specs.Settings.{Settings}
 use Rattle.session.specs.Hearing.{Input, Brings, Comes, IsSettled}
-use Rattle.session.specs.Machine.{Verdict, Answer, is_open, print}
-use Rattle.session.specs.Access.{Serves, Served, SessionRun, Fails, Fed, Lost}
+use Rattle.session.specs.Machine.{Verdict, print}
+use Rattle.session.specs.Access.{Served, SessionRun, Fails, Fed, Lost}
 use Rattle.session.specs.declared.env.Env.{Env}
-use Rattle.session.specs.declared.phase.Phase.{Phase}
+use Rattle.session.specs.Stages.{Stage, is_open}
 
 pub print-append : (xs ys : List Reply) → print (xs ++ ys) ≡ print xs ++ print ys
 print-append [] ys = refl
 print-append (x ∷ xs) ys = ap (λ t. printed (reply_tree x) ++ t) (print-append xs ys) ∙ sym (append_assoc (printed (reply_tree x)) (print xs) (print ys))
 
 -- from (env0, p0, phase0) over the inputs done to (env, p, phase); what is told is written
-pub record Progress (between : Point → Point → Type 0) (adds : Point → Accepted → Point → Type 0) (may : Verdict → Bool) (s : Settings) (env0 : Env) (p0 : Point) (phase0 : Phase) (stream : List ℕ) (env : Env) (p : Point) (phase : Phase) (rest : List ℕ) (out : List ℕ) : Type 0 where
+pub record Progress (between : Point → Point → Type 0) (adds : Point → Accepted → Point → Type 0) (may : Verdict → Bool) (s : Settings) (env0 : Env) (p0 : Point) (phase0 : Stage) (stream : List ℕ) (env : Env) (p : Point) (phase : Stage) (rest : List ℕ) (out : List ℕ) : Type 0 where
   pub done : List Input
   pub told : List Reply
   pub came : (more : List Input) (end : List ℕ) → Comes rest more end → Comes stream (done ++ more) end
   pub written : out ≡ print told
-  pub goes : (inputs : List Input) (replies : List Reply) (env' : Env) (p' : Point) (phase' : Phase)
+  pub goes : (inputs : List Input) (replies : List Reply) (env' : Env) (p' : Point) (phase' : Stage)
       → SessionRun between adds may s env p phase inputs replies env' p' phase' → SessionRun between adds may s env0 p0 phase0 (done ++ inputs) (told ++ replies) env' p' phase'
 
-module _ (between : Point → Point → Type 0) (adds : Point → Accepted → Point → Type 0) (may : Verdict → Bool) (s : Settings) (stays : (p : Point) → between p p) (env0 : Env) (p0 : Point) (phase0 : Phase) (stream : List ℕ) where
+module _ (between : Point → Point → Type 0) (adds : Point → Accepted → Point → Type 0) (may : Verdict → Bool) (s : Settings) (stays : (p : Point) → between p p) (env0 : Env) (p0 : Point) (phase0 : Stage) (stream : List ℕ) where
   pub start : (out : List ℕ) → out ≡ [] → Progress between adds may s env0 p0 phase0 stream env0 p0 phase0 stream out
   start out e = record { done = []; told = []; came = λ more end comes. comes; written = e; goes = λ inputs replies env' p' phase' run. run }
 
-  pub more : (env env' : Env) (p q : Point) (phase phase' : Phase) (rest rest' out out' : List ℕ) (input : Input)
+  pub more : (env env' : Env) (p q : Point) (phase phase' : Stage) (rest rest' out out' : List ℕ) (input : Input)
       → Progress between adds may s env0 p0 phase0 stream env p phase rest out
       → Brings rest input rest'
       → Served between adds may s env p phase input out env' q phase' out'
@@ -45,13 +44,13 @@ module _ (between : Point → Point → Type 0) (adds : Point → Accepted → P
         goes = λ inputs replies env'' p'' phase'' run.
             let run' : SessionRun between adds may s a.env q a.phase inputs replies env'' p'' phase'' =
             subst (λ (x : Env). SessionRun between adds may s x q a.phase inputs replies env'' p'' phase'') served.env_after
-            (subst (λ (x : Phase). SessionRun between adds may s env' q x inputs replies env'' p'' phase'') served.phase_after run) in
+            (subst (λ (x : Stage). SessionRun between adds may s env' q x inputs replies env'' p'' phase'') served.phase_after run) in
             let whole = h.goes (input ∷ inputs) (a.replies ++ replies) env'' p'' phase'' (a, q, replies, served.serves, run', refl) in
             subst (λ (x : List Input). SessionRun between adds may s env0 p0 phase0 x ((h.told ++ a.replies) ++ replies) env'' p'' phase'') (sym (append_assoc h.done (input ∷ []) inputs))
             (subst (λ (x : List Reply). SessionRun between adds may s env0 p0 phase0 (h.done ++ input ∷ inputs) x env'' p'' phase'') (sym (append_assoc h.told a.replies replies)) whole);
       }
 
-  pub finish : (env : Env) (p : Point) (phase : Phase) (rest out : List ℕ) → Progress between adds may s env0 p0 phase0 stream env p phase rest out
+  pub finish : (env : Env) (p : Point) (phase : Stage) (rest out : List ℕ) → Progress between adds may s env0 p0 phase0 stream env p phase rest out
       → (is_open phase ≡ true → IsSettled rest)
       → Fed between adds may s env0 p0 phase0 stream rest p phase out
   finish env p phase rest out h settled =
@@ -65,7 +64,7 @@ module _ (between : Point → Point → Type 0) (adds : Point → Accepted → P
         written = h.written ∙ ap print (sym (append-nil h.told));
       }
 
-  pub stop : (env : Env) (p q : Point) (phase : Phase) (rest rest' out : List ℕ) (input : Input) → Progress between adds may s env0 p0 phase0 stream env p phase rest out
+  pub stop : (env : Env) (p q : Point) (phase : Stage) (rest rest' out : List ℕ) (input : Input) → Progress between adds may s env0 p0 phase0 stream env p phase rest out
       → Brings rest input rest' → Fails between adds may s env p phase input q → Lost between adds may s env0 p0 phase0 stream q
   stop env p q phase rest rest' out input h brings (inl later) =
       record {
@@ -89,7 +88,7 @@ module _ (between : Point → Point → Type 0) (adds : Point → Accepted → P
       }
 
   -- without another input
-  pub halt : (env : Env) (p : Point) (phase : Phase) (rest out : List ℕ) → Progress between adds may s env0 p0 phase0 stream env p phase rest out → Lost between adds may s env0 p0 phase0 stream p
+  pub halt : (env : Env) (p : Point) (phase : Stage) (rest out : List ℕ) → Progress between adds may s env0 p0 phase0 stream env p phase rest out → Lost between adds may s env0 p0 phase0 stream p
   halt env p phase rest out h =
       record {
         inputs = h.done ++ [];

@@ -1,11 +1,12 @@
 //! Whether a session is open.
 ghost use Rattle.std.specs.Prelude.{◌≡◌};
-ghost use Rattle.session.specs.Machine.{is_open};
+ghost use Rattle.session.specs.Stages.{is_open};
 
-use crate::phase::Phase;
+use crate::phase::{Phase, SessionPhase};
+use repo_api::Repository;
 
 /// Whether the session hears what comes.
-pub fn is_open(phase: &Phase) -> bool
+pub fn is_open<R: Repository>(phase: &SessionPhase<R>) -> bool
     ensures { result ≡ is_open phase.now }
 {
     !matches!(phase, Phase::Ended)

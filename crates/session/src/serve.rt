@@ -1,5 +1,5 @@
 //! One input of a session.
-ghost use Rattle.std.specs.Prelude.{◌≡◌, ◌∷◌, ◌++◌, [], ℕ, Ok, IfOk, OnOk, OnErr, MatchOption};
+ghost use Rattle.std.specs.Prelude.{◌≡◌, ◌∷◌, ◌++◌, [], ℕ, Ok, IfOk, OnOk, OnErr, MatchOption, ◌≤◌};
 ghost use Rattle.commands.specs.Commands.{main_command};
 ghost use Rattle.commands.specs.Logins.{client_greeting, auth_response};
 ghost use Rattle.commands.specs.declared.reply.Reply.{Reply};
@@ -10,74 +10,33 @@ ghost use Rattle.svnpath.specs.Texts.{joined};
 ghost use Rattle.session.specs.Points.{world};
 ghost use Rattle.session.specs.Hearing.{input_of};
 ghost use Rattle.session.specs.Hearing.Input.{Whole, Broken};
-ghost use Rattle.session.specs.Machine.{print, malformed, path_refusal, check_path_reply, rev_proplist_reply, at_revision, greeting_answer, login_answer, command_answer};
+ghost use Rattle.session.specs.Machine.{check_path_reply, rev_proplist_reply, at_revision, greeting_answer, login_answer, command_answer};
+ghost use Rattle.session.specs.Stages.{RestsOn};
 ghost use Rattle.session.specs.Access.{Served, Fails};
 ghost use Rattle.session.specs.Replying.{IsAnswered};
 ghost use Rattle.session.specs.declared.env.Env.{Env};
 
 use crate::access::RepoAccess;
+use crate::edit::{begin_edit, edit_item, skip};
 use crate::env::Env;
 use crate::incoming::Incoming;
 use crate::options::Options;
-use crate::phase::{Client, Phase};
-use commands::{AuthResponse, ClientGreeting, CommandFault, MainCommand, Reply};
+use crate::phase::{Client, Phase, SessionPhase, drop_edit, forget};
+use crate::writing::{end_malformed, say, say_both};
+use commands::{AuthResponse, ClientGreeting, CommandFault, MainCommand, Reply, path_refusal};
 use items::{Item, Text};
 use refusals::Refusal;
 use repo_api::{Properties, Repository};
 use std::alloc::{AllocError, Global};
 use svnpath::{Path, PathFault, RepositoryUrl};
 
-/// Writes one reply.
-fn say(alloc: Global, reply: &Reply, out: &mut Vec<u8>) -> Result<(), AllocError>
-    ensures { OnOk result (out.new.items ≡ out.old.items ++ print (reply.now ∷ [])) }
-{
-    reply.write(alloc, out)?;
-    Ok(())
-}
-
-/// Writes two replies.
-fn say_both(
-    alloc: Global,
-    first: &Reply,
-    second: &Reply,
-    out: &mut Vec<u8>,
-) -> Result<(), AllocError>
-    ensures { OnOk result (out.new.items ≡ out.old.items ++ print (first.now ∷ second.now ∷ [])) }
-{
-    first.write(alloc, out)?;
-    second.write(alloc, out)?;
-    Ok(())
-}
-
-/// Ends the session over what is no command.
-fn end_malformed(alloc: Global, out: &mut Vec<u8>) -> Result<Phase, AllocError>
-    ensures { IfOk result (λ phase. (env : Env) → IsAnswered (malformed env) phase out.old.items out.new.items) }
-{
-    say(alloc, &Reply::Failure(Refusal::MalformedData), out)?;
-    Ok(Phase::Ended)
-}
-
-/// How a client is told that a path or a URL is refused.
-fn path_refusal(fault: PathFault) -> Refusal
-    ensures { result ≡ path_refusal fault }
-{
-    match fault {
-        PathFault::EmptyComponent => Refusal::BadPath,
-        PathFault::ForbiddenComponent => Refusal::BadPath,
-        PathFault::TooLong => Refusal::BadPath,
-        PathFault::TooDeep => Refusal::BadPath,
-        PathFault::NotThisRepository => Refusal::NoSuchRepository,
-        PathFault::NoMemory => Refusal::BadPath,
-    }
-}
-
 /// The answer to the greeting.
-fn greet(
+fn greet<R: Repository>(
     alloc: Global,
     options: &Options,
     item: &Item,
     out: &mut Vec<u8>,
-) -> Result<Phase, AllocError>
+) -> Result<SessionPhase<R>, AllocError>
     ensures { IfOk result (λ phase. (env : Env) → IsAnswered (greeting_answer options.now env (client_greeting (tree_of item.now))) phase out.old.items out.new.items) }
 {
     match ClientGreeting::from_item(alloc, item) {
@@ -98,12 +57,12 @@ fn greet(
 }
 
 /// Asks a client for its login, if it speaks this protocol and names this repository.
-fn begin(
+fn begin<R: Repository>(
     alloc: Global,
     options: &Options,
     greeting: &ClientGreeting,
     out: &mut Vec<u8>,
-) -> Result<Phase, AllocError>
+) -> Result<SessionPhase<R>, AllocError>
     ensures { IfOk result (λ phase. (env : Env) → IsAnswered (greeting_answer options.now env (Ok greeting.now)) phase out.old.items out.new.items) }
 {
     if greeting.version != 2 || !greeting.edit_pipeline {
@@ -134,17 +93,14 @@ fn realm(alloc: Global, options: &Options) -> Result<Text, AllocError>
     Ok(Text::from_vec(Vec::from_slice(alloc, options.name().as_bytes())?))
 }
 
-/// The client is not served any more.
-fn forget(_client: Client) {}
-
 /// The choice of a mechanism.
-fn log_in<A: RepoAccess>(
+fn log_in<R: Repository, A: RepoAccess<View = R>>(
     alloc: Global,
     client: Client,
     item: &Item,
     access: &mut A,
     out: &mut Vec<u8>,
-) -> Result<Phase, AllocError>
+) -> Result<SessionPhase<R>, AllocError>
     ensures ok { IfOk result (λ phase. (env : Env) → IsAnswered (login_answer env (world (A.point access.new)) client (auth_response (tree_of item.now))) phase out.old.items out.new.items) }
     ensures later { A.between (A.point access.old) (A.point access.new) }
 {
@@ -168,13 +124,13 @@ fn log_in<A: RepoAccess>(
 }
 
 /// Admits a client without a name. Any other mechanism is not offered, and another choice is awaited.
-fn admit<A: RepoAccess>(
+fn admit<R: Repository, A: RepoAccess<View = R>>(
     alloc: Global,
     client: Client,
     response: &AuthResponse,
     access: &mut A,
     out: &mut Vec<u8>,
-) -> Result<Phase, AllocError>
+) -> Result<SessionPhase<R>, AllocError>
     ensures ok { IfOk result (λ phase. (env : Env) → IsAnswered (login_answer env (world (A.point access.new)) client (Ok response.now)) phase out.old.items out.new.items) }
     ensures later { A.between (A.point access.old) (A.point access.new) }
 {
@@ -194,19 +150,20 @@ fn admit<A: RepoAccess>(
 }
 
 /// A command.
-fn obey<A: RepoAccess>(
+fn obey<R: Repository, A: RepoAccess<View = R>>(
     alloc: Global,
+    options: &Options,
     client: Client,
     item: &Item,
     access: &mut A,
     out: &mut Vec<u8>,
-) -> Result<Phase, AllocError>
-    ensures ok { IfOk result (λ phase. (env : Env) → IsAnswered (command_answer env (world (A.point access.new)) client (main_command (tree_of item.now))) phase out.old.items out.new.items) }
+) -> Result<SessionPhase<R>, AllocError>
+    ensures ok { IfOk result (λ phase. (env : Env) → IsAnswered (command_answer options.now env (world (A.point access.new)) client (main_command (tree_of item.now))) phase out.old.items out.new.items) }
     ensures later { A.between (A.point access.old) (A.point access.new) }
 {
     match MainCommand::from_item(alloc, item) {
         Ok(command) => {
-            let phase = run(alloc, client, &command, access, out)?;
+            let phase = run(alloc, options, client, &command, access, out)?;
             Ok(phase)
         }
         Err(CommandFault::UnknownName) => {
@@ -223,14 +180,15 @@ fn obey<A: RepoAccess>(
 }
 
 /// A command that is known.
-fn run<A: RepoAccess>(
+fn run<R: Repository, A: RepoAccess<View = R>>(
     alloc: Global,
+    options: &Options,
     client: Client,
     command: &MainCommand,
     access: &mut A,
     out: &mut Vec<u8>,
-) -> Result<Phase, AllocError>
-    ensures ok { IfOk result (λ phase. (env : Env) → IsAnswered (command_answer env (world (A.point access.new)) client (Ok command.now)) phase out.old.items out.new.items) }
+) -> Result<SessionPhase<R>, AllocError>
+    ensures ok { IfOk result (λ phase. (env : Env) → IsAnswered (command_answer options.now env (world (A.point access.new)) client (Ok command.now)) phase out.old.items out.new.items) }
     ensures later { A.between (A.point access.old) (A.point access.new) }
 {
     match command {
@@ -255,6 +213,10 @@ fn run<A: RepoAccess>(
             let reply = rev_proplist(alloc, &view, *revision)?;
             say_both(alloc, &Reply::NoLogin, &reply, out)?;
             Ok(Phase::Serving(client))
+        }
+        MainCommand::Commit(commit) => {
+            let phase = begin_edit(alloc, options, client, commit, out)?;
+            Ok(phase)
         }
         MainCommand::AbortEdit => Ok(Phase::Serving(client)),
     }
@@ -305,17 +267,19 @@ fn rev_proplist<R: Repository>(alloc: Global, view: &R, revision: u64) -> Result
 }
 
 /// An item.
-fn serve_item<A: RepoAccess>(
+fn serve_item<R: Repository, A: RepoAccess<View = R>>(
     alloc: Global,
     options: &Options,
-    phase: Phase,
+    phase: SessionPhase<R>,
     item: &Item,
     access: &mut A,
     env: Env,
     out: &mut Vec<u8>,
-) -> Result<Phase, AllocError>
+) -> Result<SessionPhase<R>, AllocError>
+    requires rests { RestsOn phase (world (A.point access.old)) }
+    requires moment { env.moment ≤ 200000000000000000 }
     ensures ok { IfOk result (λ after. Served A.between A.adds A.may options.now env (A.point access.old) phase (Whole (tree_of item.now)) out.old.items env (A.point access.new) after out.new.items) }
-    ensures later { A.between (A.point access.old) (A.point access.new) }
+    ensures err { OnErr result (Fails A.between A.adds A.may options.now env (A.point access.old) phase (Whole (tree_of item.now)) (A.point access.new)) }
 {
     match phase {
         Phase::Greeted => {
@@ -327,7 +291,15 @@ fn serve_item<A: RepoAccess>(
             Ok(after)
         }
         Phase::Serving(client) => {
-            let after = obey(alloc, client, item, access, out)?;
+            let after = obey(alloc, options, client, item, access, out)?;
+            Ok(after)
+        }
+        Phase::Editing(client, asked, editor) => {
+            let after = edit_item(alloc, client, asked, editor, item, access, env, out)?;
+            Ok(after)
+        }
+        Phase::Skipping(client) => {
+            let after = skip(alloc, client, item, out)?;
             Ok(after)
         }
         Phase::Ended => Ok(Phase::Ended),
@@ -335,14 +307,14 @@ fn serve_item<A: RepoAccess>(
 }
 
 /// A byte that goes on to no item.
-fn serve_broken<A: RepoAccess>(
+fn serve_broken<R: Repository, A: RepoAccess<View = R>>(
     alloc: Global,
     options: &Options,
-    phase: Phase,
+    phase: SessionPhase<R>,
     access: &A,
     env: Env,
     out: &mut Vec<u8>,
-) -> Result<Phase, AllocError>
+) -> Result<SessionPhase<R>, AllocError>
     ensures { IfOk result (λ after. Served A.between A.adds A.may options.now env (A.point access.now) phase Broken out.old.items env (A.point access.now) after out.new.items) }
 {
     match phase {
@@ -360,20 +332,33 @@ fn serve_broken<A: RepoAccess>(
             let after = end_malformed(alloc, out)?;
             Ok(after)
         }
+        Phase::Editing(client, asked, editor) => {
+            forget(client);
+            drop_edit(asked, editor);
+            let after = end_malformed(alloc, out)?;
+            Ok(after)
+        }
+        Phase::Skipping(client) => {
+            forget(client);
+            let after = end_malformed(alloc, out)?;
+            Ok(after)
+        }
         Phase::Ended => Ok(Phase::Ended),
     }
 }
 
 /// One input: an `Err` is want of memory.
-pub fn serve<A: RepoAccess>(
+pub fn serve<R: Repository, A: RepoAccess<View = R>>(
     alloc: Global,
     options: &Options,
-    phase: Phase,
+    phase: SessionPhase<R>,
     incoming: &Incoming,
     access: &mut A,
     env: Env,
     out: &mut Vec<u8>,
-) -> Result<Phase, AllocError>
+) -> Result<SessionPhase<R>, AllocError>
+    requires rests { RestsOn phase (world (A.point access.old)) }
+    requires moment { env.moment ≤ 200000000000000000 }
     ensures ok { IfOk result (λ after. Served A.between A.adds A.may options.now env (A.point access.old) phase (input_of incoming.now) out.old.items env (A.point access.new) after out.new.items) }
     ensures err { OnErr result (Fails A.between A.adds A.may options.now env (A.point access.old) phase (input_of incoming.now) (A.point access.new)) }
 {

@@ -1,7 +1,7 @@
 //! A session with one client.
 ghost use Rattle.std.specs.Prelude.{◌≡◌, ◌++◌, ◌≤◌, [], true, false, IfOk, OnOk, OnErr, IfErr, IsErrOf};
 ghost use Rattle.session.specs.Points.{world};
-ghost use Rattle.session.specs.Machine.{is_open};
+ghost use Rattle.session.specs.Stages.{is_open, RestsOn};
 ghost use Rattle.session.specs.Access.{Fed, Lost};
 ghost use Rattle.session.specs.declared.phase.Phase.TheVariants.{Greeted};
 
@@ -10,9 +10,10 @@ use crate::env::Env;
 use crate::incoming::{Incoming, take_incoming};
 use crate::open::is_open;
 use crate::options::Options;
-use crate::phase::Phase;
+use crate::phase::{Phase, SessionPhase};
 use crate::serve::serve;
 use items::ItemReader;
+use repo_api::Repository;
 use std::alloc::{AllocError, Global};
 use std::marker::Model;
 use std::mem;
@@ -33,16 +34,19 @@ pub enum SessionFault {
 fn discard(_incoming: Incoming) {}
 
 /// Serves what the reader holds, up to the end of the session or of the items.
-fn serve_all<A: RepoAccess>(
+fn serve_all<R: Repository, A: RepoAccess<View = R>>(
     alloc: Global,
     options: &Options,
     reader: &mut ItemReader,
-    phase: Phase,
+    phase: SessionPhase<R>,
     access: &mut A,
     env: Env,
-) -> Result<(Phase, Vec<u8>), AllocError>
+) -> Result<(SessionPhase<R>, Vec<u8>), AllocError>
+    requires rests { RestsOn phase (world (A.point access.old)) }
+    requires moment { env.moment ≤ 200000000000000000 }
     ensures ok { IfOk result (λ r. Fed A.between A.adds A.may options.now env (A.point access.old) phase reader.old.rest reader.new.rest (A.point access.new) r.0 r.1.items) }
     ensures err { OnErr result (Lost A.between A.adds A.may options.now env (A.point access.old) phase reader.old.rest (A.point access.new)) }
+    ensures rests { IfOk result (λ r. RestsOn r.0 (world (A.point access.new))) }
 {
     let mut phase = phase;
     let mut out = Vec::new(alloc);
@@ -63,20 +67,24 @@ fn serve_all<A: RepoAccess>(
 
 /// A session with one client.
 #[derive(Drop)]
-pub struct Session {
+pub struct Session<R: Repository> {
     reader: ItemReader,
-    phase: Phase,
+    phase: SessionPhase<R>,
 }
 
-impl Model for Session {
-    ghost use Rattle.session.specs.Machine.{SessionState};
+impl<R: Repository> Model for Session<R> {
+    ghost use Rattle.std.specs.Coded.{codes};
+    ghost use Rattle.std.specs.FinMap.{code as map_code};
+    ghost use Rattle.session.specs.Stages.{SessionState};
 
     ghost Value = { SessionState };
+
+    ghost coded = { Prim.hlevel (map_code, codes) };
 
     ghost view = { λ s. record { rest = s.reader.rest; phase = s.phase } };
 }
 
-impl Session {
+impl<R: Repository> Session<R> {
     /// A session that has heard nothing.
     pub fn new(alloc: Global) -> Self
         ensures { result ≡ record { rest = []; phase = Greeted } }
@@ -96,7 +104,7 @@ impl Session {
 
     /// Takes the next piece of what the client sends, and answers what is written to it. After an `Err` the
     /// session has ended.
-    pub fn feed<A: RepoAccess>(
+    pub fn feed<A: RepoAccess<View = R>>(
         &mut self,
         alloc: Global,
         options: &Options,
@@ -104,12 +112,14 @@ impl Session {
         access: &mut A,
         env: Env,
     ) -> Result<Vec<u8>, SessionFault>
-        requires { env.moment ≤ 200000000000000000 }
+        requires rests { RestsOn self.old.phase (world (A.point access.old)) }
+        requires moment { env.moment ≤ 200000000000000000 }
         ensures ok { IfOk result (λ out. Fed A.between A.adds A.may options.now env (A.point access.old) self.old.phase (self.old.rest ++ piece.now) self.new.rest (A.point access.new) self.new.phase out.items) }
         ensures was_open { OnOk result (is_open self.old.phase ≡ true) }
         ensures ended { IsErrOf result SessionFault.Ended → is_open self.old.phase ≡ false }
         ensures lost { OnErr result (is_open self.old.phase ≡ true → Lost A.between A.adds A.may options.now env (A.point access.old) self.old.phase (self.old.rest ++ piece.now) (A.point access.new)) }
         ensures err { OnErr result (is_open self.new.phase ≡ false) }
+        ensures rests { RestsOn self.new.phase (world (A.point access.new)) }
     {
         if !self.is_open() {
             return Err(SessionFault::Ended);

@@ -18,6 +18,3 @@ pub use applier::Applier;
 pub use fault::DiffFault;
 pub use format::has_the_text_of_the_format;
 pub use full::encode_full;
-
-#[cfg(test)]
-mod tests;

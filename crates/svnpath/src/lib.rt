@@ -16,6 +16,3 @@ pub use component::{COMPONENT_LIMIT, DEPTH_LIMIT};
 pub use fault::PathFault;
 pub use path::Path;
 pub use repository_url::{RepositoryUrl, root_url};
-
-#[cfg(test)]
-mod tests;

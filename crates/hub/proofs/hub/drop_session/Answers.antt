@@ -4,4 +4,4 @@ use Rattle.std.proofs.lemmas.Fn.{filter_same}
 use Rattle.hub.proofs.hub.drop_session.Goals as goal
 
 pub returns : goal.returns
-returns c = filter_same _ (λ x. not (x.0 == c.args.number)) _ (λ x b f' t. search rules) _ _ c.retain.ensures.filtered
+returns g c = filter_same _ (λ x. not (x.0 == c.args.number)) _ (λ x b f' t. search rules) _ _ c.retain.ensures.filtered

@@ -1,4 +1,4 @@
-use Rattle.hub.proofs.Staying.{comes_more}
+use Rattle.hub.specs.SessionLaws.{comes_more}
 use Rattle.hub.proofs.laws.cut_anywhere.Goals as goal
 
 pub returns : goal.returns

@@ -1,5 +1,3 @@
-use Rattle.std.proofs.Common.{◌≡◌, ◌∷◌, ◌++◌, [], ℕ, Some, None, refl, sym, ap, subst, ◌∙◌}
-use Rattle.std.specs.Prelude.{Ok, Err}
 use Rattle.items.specs.View.{tree_of}
 use Rattle.commands.specs.Logins.{auth_response}
 use Rattle.session.proofs.Refusing.{bad, unknown}

@@ -1,6 +1,5 @@
-use Rattle.std.proofs.Common.{◌≡◌, ◌∷◌, ◌++◌, [], ℕ, Some, None, refl, sym, ap, subst, ◌∙◌}
-use Rattle.std.specs.Prelude.{Ok, Err}
-use Rattle.std.specs.Prelude.{Option, option_copied}
+use Rattle.std.proofs.Common.{sym, ap, ◌∙◌}
+use Rattle.std.specs.Prelude.{option_copied}
 use Rattle.repo_api.specs.Kinds.{properties_at, or_empty}
 use Rattle.commands.specs.declared.reply.Reply.TheVariants as replies
 use Rattle.session.proofs.serve.rev_proplist.Goals as goal

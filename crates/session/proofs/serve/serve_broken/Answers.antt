@@ -1,12 +1,7 @@
-use Rattle.std.proofs.Common.{◌≡◌, ◌∷◌, ◌++◌, [], ℕ, Some, None, refl, sym, ap, subst, ◌∙◌, append-nil}
-use Rattle.std.specs.Prelude.{Ok, Err}
-use Rattle.items.specs.View.{tree_of}
-use Rattle.commands.specs.Commands.{main_command}
-use Rattle.commands.specs.Logins.{client_greeting, auth_response}
-use Rattle.session.specs.Points.{world}
+use Rattle.std.proofs.Common.{[], refl, sym, append-nil}
 use Rattle.session.specs.Hearing.Input.{Broken}
 use Rattle.session.specs.Machine.{says, malformed}
-use Rattle.session.specs.declared.phase.Phase.TheVariants.{Greeted, LoggingIn, Serving, Ended}
+use Rattle.session.specs.declared.phase.Phase.TheVariants.{Greeted, LoggingIn, Serving, Editing, Skipping, Ended}
 use Rattle.session.proofs.Quiet.{said, quiet_malformed, quiet_end}
 use Rattle.session.proofs.serve.serve_broken.Goals as goal
 
@@ -29,3 +24,13 @@ pub returns-in-Ended : goal.returns-in-Ended
 returns-in-Ended g c =
     rw c.in-Ended.is (said g.A.RepoAccess.between g.A.RepoAccess.adds g.A.RepoAccess.may c.args.options.now c.args.env _ _ Ended Ended Broken (says c.args.env Ended []) _ _
     (g.met.A.RepoAccess.stays _) refl (quiet_end c.args.env) (record { phase_is = refl; written = sym (append-nil c.args.out.now.items) }))
+
+pub returns-in_ok-after-in-Editing : goal.returns-in_ok-after-in-Editing
+returns-in_ok-after-in-Editing g c =
+    rw c.in-Editing.is (said g.A.RepoAccess.between g.A.RepoAccess.adds g.A.RepoAccess.may c.args.options.now c.args.env _ _ (Editing c.in-Editing.client c.in-Editing.asked c.in-Editing.editor) _ Broken (malformed c.args.env) _ _
+    (g.met.A.RepoAccess.stays _) refl (quiet_malformed c.args.env) (c.in_ok-after-in-Editing.ensures c.args.env))
+
+pub returns-in_ok-after-in-Skipping : goal.returns-in_ok-after-in-Skipping
+returns-in_ok-after-in-Skipping g c =
+    rw c.in-Skipping.is (said g.A.RepoAccess.between g.A.RepoAccess.adds g.A.RepoAccess.may c.args.options.now c.args.env _ _ (Skipping c.in-Skipping.client) _ Broken (malformed c.args.env) _ _
+    (g.met.A.RepoAccess.stays _) refl (quiet_malformed c.args.env) (c.in_ok-after-in-Skipping.ensures c.args.env))

@@ -6,4 +6,4 @@ use Rattle.hub.proofs.direct.DirectRepoAccess.commit.Goals as goal
 pub returns-in-Ok-clause-ok : goal.returns-in-Ok-clause-ok
 returns-in-Ok-clause-ok g c =
     let now : RepoState → Point = λ w. record { first = w; changes = []; halted = false } in
-    (now (g.R.Repository.content c.args.self.now.repository), refl, c.in-Ok.ensures.accepted, c.in-Ok.ensures.number, ap now c.in-Ok.ensures.ok)
+    (now (g.R.Repository.content c.args.self.now.repository), refl, c.in-Ok.ensures.accepted, c.in-Ok.ensures.number, refl, ap now c.in-Ok.ensures.ok)

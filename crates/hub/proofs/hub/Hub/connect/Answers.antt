@@ -1,13 +1,18 @@
-use Rattle.std.proofs.Common.{rules, ◌≡◌, [], ◌∷◌, ◌+◌, refl, sym, ap, subst, ◌∙◌}
+use Rattle.std.proofs.Common.{rules, ◌⊎◌, inl, inr, ◌≤◌, ◌^◌, length, false, ◌≡◌, [], ◌∷◌, ◌+◌, refl, sym, ap, subst, ◌∙◌}
 use Rattle.session.specs.Points.{world}
 use Rattle.commands.specs.declared.reply.Reply.TheVariants.{Greeting}
 use Rattle.hub.specs.State.{HubState}
 use Rattle.hub.specs.Calls.{ConnectsAs}
-use Rattle.hub.proofs.Feeding.{AllOpen-push}
+use Rattle.hub.specs.Runs.{new_session}
+use Rattle.hub.proofs.Everywhere.{AllOpen-push, AllRest-push}
 use Rattle.hub.proofs.hub.Hub.connect.Goals as goal
+use Rattle.hub.proofs.hub.Hub.connect.Goals.{then-len-ge16-via-then-len-ge16, then-len-ge16-via-else-len-ge16+then-self}
 
 pub invariant_of-self : goal.invariant_of-self
-invariant_of-self g c = rw c.in-Ok-add_session.ensures.ok (AllOpen-push c.self.inside.sessions.items (c.self.inside.used + 1) c.self.invariant)
+invariant_of-self g c =
+    let xs = c.self.inside.sessions.items in
+    let n = c.self.inside.used + 1 in
+    rw c.in-Ok-add_session.ensures.ok (AllOpen-push xs n new_session c.self.invariant.0 refl, AllRest-push (world (g.A.RepoAccess.point c.self.inside.access)) xs n new_session c.self.invariant.1 tt)
 
 pub returns-in-Ok-add_session-clause-ok : goal.returns-in-Ok-add_session-clause-ok
 returns-in-Ok-add_session-clause-ok g c =
@@ -24,3 +29,13 @@ returns-in-Ok-add_session-clause-ok g c =
       step = λ env. (refl, refl, refl, λ i. record { settings = c.self.inside.options; content = world p; halted = p.halted; sessions = sessions i; used = number });
       written = c.in-Ok.ensures;
     })
+
+pub returns-then-len-ge16-clause-err : goal.returns-then-len-ge16-clause-err
+returns-then-len-ge16-clause-err g c =
+    let full : (16 ≤ length c.self.inside.sessions.items) ⊎ (2 ^ 64 ≤ c.self.inside.used + 1) =
+    elim c.then-len-ge16.branch [
+      | then-len-ge16-via-then-len-ge16 w ↦ inl (search rules)
+      | then-len-ge16-via-else-len-ge16+then-self w ↦ inr (search rules)
+    ] in
+    subst (λ (h : HubState). (h.halted ≡ false) × ((16 ≤ length h.sessions) ⊎ (2 ^ 64 ≤ h.used + 1)) × (h ≡ h)) c.self.view_is
+    (sym c.is_halted.ensures ∙ c.if-is_halted.false, full, refl)

@@ -1,6 +1,9 @@
 use Rattle.std.proofs.Common.{◌≡◌}
-use Rattle.hub.proofs.Feeding.{AllOpen-without}
+use Rattle.session.specs.Points.{world}
+use Rattle.hub.proofs.Everywhere.{AllOpen-without, AllRest-without}
 use Rattle.hub.proofs.hub.Hub.disconnect.Goals as goal
 
 pub invariant_of-self : goal.invariant_of-self
-invariant_of-self g c = rw c.drop_session.ensures (AllOpen-without c.self.inside.sessions.items c.args.number c.self.invariant)
+invariant_of-self g c =
+    let xs = c.self.inside.sessions.items in
+    rw c.drop_session.ensures (AllOpen-without xs c.args.number c.self.invariant.0, AllRest-without (world (g.A.RepoAccess.point c.self.inside.access)) xs c.args.number c.self.invariant.1)

@@ -1,0 +1,98 @@
+-- The steps of an edit: what is put in, and what is taken out again.
+use Rattle.std.proofs.Common.{◌≡◌, ℕ, Bool, true, false, cond, not, ◌&&◌, List, [], ◌∷◌, Option, Some, None, is_some, Ok, refl, sym, ap, subst, ◌∙◌}
+use Rattle.std.specs.BTreeMap.{insert_entry, is_at}
+use Rattle.std.specs.Map.{lookup, remove_entry}
+use Rattle.std.specs.Cmp.Lexicographic.{slice_cmp, nat_list_cmp_total}
+use Rattle.std.specs.Ordering.{nat_cmp, match_ordering, is_eq, ordering_reverse}
+use Rattle.std.specs.declared.cmp.Ordering.{Ordering}
+use Rattle.std.specs.declared.cmp.Ordering.TheVariants.{Less, Equal, Greater}
+use Rattle.svnpath.specs.Paths.{PathValue}
+use Rattle.svnpath.specs.Texts.{joined}
+use Rattle.repo_api.specs.States.{RepoState, TxnState, IsBegun, IsEdited}
+use Rattle.repo_api.specs.declared.edit.EditOp.TheVariants.{AddDirectory}
+use Rattle.refusals.specs.declared.Refusal.{Refusal}
+use Rattle.refusals.specs.declared.Refusal.TheVariants as refusals
+use Rattle.commands.specs.declared.editing.AddedEntry.{AddedEntry}
+use Rattle.editor.specs.Tokens.{Tokens, with_token, without_token, directory_of, is_placed, is_within}
+use Rattle.editor.specs.Editor.{EditState, OpensRoot, AddsDirectory, first, unless, source_fault, place_refusal, copy_refusal, add_refusal, standing, add_directory_refusal}
+use Rattle.editor.specs.Judging.{Puts}
+
+pub puts : (c : RepoState) (now old : EditState) (token key : List ℕ) (path copy : PathValue) (before after : TxnState) (tokens : Tokens) → now ≡ old → now.txn ≡ Some before → key ≡ token → copy ≡ path → IsEdited c.revisions before (AddDirectory copy) after → tokens ≡ with_token now.tokens key path → Puts c old token path (record now { txn = Some after; tokens = tokens })
+puts c now old token key path copy before after tokens same had is_key is_path edited put =
+    subst (λ (o : EditState). Puts c o token path (record now { txn = Some after; tokens = tokens })) same
+    (record { before = before; had = had; after = after; edited = subst (λ (p : PathValue). IsEdited c.revisions before (AddDirectory p) after) is_path edited; is = ap (λ (ts : Tokens). record now { txn = Some after; tokens = ts }) (put ∙ ap (λ (k : List ℕ). with_token now.tokens k path) is_key) })
+
+pub opens : (c : RepoState) (now old : EditState) (token key : List ℕ) (copy : PathValue) (txn : TxnState) (tokens : Tokens) → now ≡ old → key ≡ token → copy ≡ now.path → IsBegun c txn → tokens ≡ with_token now.tokens key copy → OpensRoot c old token (record now { txn = Some txn; tokens = tokens })
+opens c now old token key copy txn tokens same is_key is_path begun put =
+    subst (λ (o : EditState). OpensRoot c o token (record now { txn = Some txn; tokens = tokens })) same
+    (record { txn = txn; begun = begun; is = ap (λ (ts : Tokens). record now { txn = Some txn; tokens = ts }) (put ∙ (λ i. with_token now.tokens (is_key i) (is_path i))) })
+
+pub adds : (c : RepoState) (old new : EditState) (entry : AddedEntry) (key : List ℕ) (path : PathValue) → joined old.path entry.path ≡ Ok path → key ≡ entry.token → Puts c old key path new → AddsDirectory c old entry new
+adds c old new entry key path named is_key p =
+    record { path = path; named = named; before = p.before; had = p.had; after = p.after; edited = p.edited; is = p.is ∙ ap (λ (k : List ℕ). record old { txn = Some p.after; tokens = with_token old.tokens k path }) is_key }
+
+-- ---- what is taken out again
+
+by_ordering : {K X : Type 0} (cmp : K → K → Ordering) (e : K × X) (es : List (K × X)) (k : K) (v : X) (o : Ordering) → cmp k k ≡ Equal → cmp k e.0 ≡ o → lookup (is_at (cmp k)) (e ∷ es) ≡ None → remove_entry (is_at (cmp k)) (insert_entry cmp es k v) ≡ es → remove_entry (is_at (cmp k)) (match_ordering o ((k, v) ∷ e ∷ es) ((e.0, v) ∷ es) (e ∷ insert_entry cmp es k v)) ≡ e ∷ es
+by_ordering cmp e es k v Less same o none rest = ap (λ (r : Ordering). cond (is_eq r) (e ∷ es) ((k, v) ∷ remove_entry (is_at (cmp k)) (e ∷ es))) same
+by_ordering cmp e es k v Equal same o none rest = cc (ap (λ (r : Ordering). cond (is_eq r) (Some e.1) (lookup (is_at (cmp k)) es)) o)
+by_ordering cmp e es k v Greater same o none rest = ap (λ (r : Ordering). cond (is_eq r) (insert_entry cmp es k v) (e ∷ remove_entry (is_at (cmp k)) (insert_entry cmp es k v))) o ∙ ap (λ (rs : List _). e ∷ rs) rest
+
+none_after : {K X : Type 0} (test : K → Bool) (e : K × X) (es : List (K × X)) (b : Bool) → test e.0 ≡ b → cond b (Some e.1) (lookup test es) ≡ None → lookup test es ≡ None
+none_after test e es true t none = cc
+none_after test e es false t none = none
+
+pub taken_out : {K X : Type 0} (cmp : K → K → Ordering) (k : K) (v : X) → cmp k k ≡ Equal → (es : List (K × X)) → lookup (is_at (cmp k)) es ≡ None → remove_entry (is_at (cmp k)) (insert_entry cmp es k v) ≡ es
+taken_out cmp k v same [] none = ap (λ (r : Ordering). cond (is_eq r) [] ((k, v) ∷ [])) same
+taken_out cmp k v same (e ∷ es) none =
+    by_ordering cmp e es k v (cmp k e.0) same refl none
+    (taken_out cmp k v same es (none_after (is_at (cmp k)) e es (is_at (cmp k) e.0) refl none))
+
+same_both_ways : (o : Ordering) → o ≡ ordering_reverse o → o ≡ Equal
+same_both_ways Less e = cc
+same_both_ways Equal e = refl
+same_both_ways Greater e = cc
+
+same_token : (token : List ℕ) → slice_cmp nat_cmp token token ≡ Equal
+same_token token = same_both_ways (slice_cmp nat_cmp token token) (nat_list_cmp_total.antisymm token token)
+
+-- a token that was new is put in and taken out again, and the transaction is as it was
+pub restored : (now old : EditState) (token key : List ℕ) (path : PathValue) (before after : TxnState) (more less : Tokens) → now ≡ old → now.txn ≡ Some before → key ≡ token → directory_of old.tokens token ≡ None → more ≡ with_token now.tokens key path → after ≡ before → less ≡ without_token more token → record now { txn = Some after; tokens = less } ≡ old
+restored now old token key path before after more less same had is_key is_new put kept taken =
+    let is_less : less ≡ now.tokens =
+    taken ∙ ap (λ (ts : Tokens). without_token ts token) (put ∙ ap (λ (k : List ℕ). with_token now.tokens k path) is_key)
+    ∙ taken_out (slice_cmp nat_cmp) token path (same_token token) now.tokens (ap (λ (e : EditState). directory_of e.tokens token) same ∙ is_new) in
+    let is_txn : Some after ≡ now.txn = ap (λ (t : TxnState). Some t) kept ∙ sym had in
+    (λ i. record now { txn = is_txn i; tokens = is_less i }) ∙ same
+
+-- ---- what a judgement says
+
+both : (a b : Bool) → unless (a && b) refusals.MalformedData ≡ None → (a ≡ true) × (b ≡ true)
+both true true e = (refl, refl)
+both true false e = cc
+both false b e = cc
+
+pub none_first : (a b : Option Refusal) → first a b ≡ None → (a ≡ None) × (b ≡ None)
+none_first None b e = (refl, e)
+none_first (Some r) b e = cc
+
+not_some : {A : Type 0} (o : Option A) (b : Bool) → not (is_some o) && b ≡ true → o ≡ None
+not_some None b e = refl
+not_some (Some x) b e = cc
+
+-- a place that is not refused
+pub record IsPlaced (e : EditState) (parent token : List ℕ) (p : PathValue) : Type 0 where
+  pub has_txn : is_some e.txn ≡ true
+  pub is_new : directory_of e.tokens token ≡ None
+  pub placed : is_placed e.tokens parent token p ≡ true
+
+pub placed : (e : EditState) (parent token : List ℕ) (p : PathValue) → place_refusal e parent token p ≡ None → IsPlaced e parent token p
+placed e parent token p none =
+    let b = both (is_some e.txn) (is_placed e.tokens parent token p) none in
+    record { has_txn = b.0; is_new = not_some (directory_of e.tokens token) (is_within (directory_of e.tokens parent) p) b.1; placed = b.1 }
+
+pub placed_to_add : (e : EditState) (entry : AddedEntry) (p : PathValue) → add_directory_refusal e entry (Ok p) ≡ None → IsPlaced e entry.parent entry.token p
+placed_to_add e entry p none =
+    let after = none_first (source_fault e.name entry.source) (first (place_refusal e entry.parent entry.token p) (first (copy_refusal entry.source) (add_refusal (standing e.txn p)))) none in
+    let place = none_first (place_refusal e entry.parent entry.token p) (first (copy_refusal entry.source) (add_refusal (standing e.txn p))) after.1 in
+    placed e entry.parent entry.token p place.0

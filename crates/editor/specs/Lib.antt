@@ -1,0 +1,4 @@
+pub mod Tokens
+pub mod Editor
+pub mod Judging
+pub mod Soundness

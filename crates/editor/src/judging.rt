@@ -1,0 +1,105 @@
+//! The rules by which a command of an edit is refused, each by itself.
+ghost use Rattle.std.specs.Prelude.{◌≡◌, option_copied, string_bytes};
+ghost use Rattle.svnpath.specs.Components.{Answers};
+ghost use Rattle.svnpath.specs.Texts.{joined};
+ghost use Rattle.editor.specs.Tokens.{is_within};
+ghost use Rattle.editor.specs.Editor.{add_refusal, copy_refusal, directory_refusal, source_fault, source_path, unless};
+ghost use Rattle.editor.specs.Judging.{Judges, Names};
+
+use crate::fault::EditFault;
+use items::Text;
+use refusals::Refusal;
+use repo_api::NodeKind;
+use std::alloc::Global;
+use svnpath::{Path, PathFault};
+
+/// What does not hold is refused so.
+pub fn judge(holds: bool, refusal: Refusal) -> Result<(), EditFault>
+    ensures { Judges result (unless holds refusal) }
+{
+    if holds {
+        Ok(())
+    } else {
+        Err(EditFault::Refused(refusal))
+    }
+}
+
+/// A directory has to stand there.
+pub fn judge_directory(kind: NodeKind) -> Result<(), EditFault>
+    ensures { Judges result (directory_refusal kind) }
+{
+    match kind {
+        NodeKind::Directory => Ok(()),
+        NodeKind::File => Err(EditFault::Refused(Refusal::NotADirectory)),
+        NodeKind::Absent => Err(EditFault::Refused(Refusal::NotFound)),
+    }
+}
+
+/// Nothing may stand there.
+pub fn judge_absence(kind: NodeKind) -> Result<(), EditFault>
+    ensures { Judges result (add_refusal kind) }
+{
+    match kind {
+        NodeKind::Absent => Ok(()),
+        NodeKind::File => Err(EditFault::Refused(Refusal::AlreadyExists)),
+        NodeKind::Directory => Err(EditFault::Refused(Refusal::AlreadyExists)),
+    }
+}
+
+/// Copies are not made yet.
+pub fn judge_copy(source: &Option<(Text, u64)>) -> Result<(), EditFault>
+    ensures { Judges result (copy_refusal source.now) }
+{
+    match source {
+        None => Ok(()),
+        Some(_) => Err(EditFault::Refused(Refusal::NotSupported)),
+    }
+}
+
+/// The source of a copy has to be a path, or a URL of the repository of this name.
+pub fn judge_source(
+    alloc: Global,
+    name: &str,
+    source: &Option<(Text, u64)>,
+) -> Result<(), EditFault>
+    ensures { Judges result (source_fault name.now source.now) }
+{
+    match source {
+        None => Ok(()),
+        Some((text, _)) => {
+            source_path(alloc, name, text.as_bytes())?;
+            Ok(())
+        }
+    }
+}
+
+/// The path of a copy's source.
+fn source_path(alloc: Global, name: &str, text: &[u8]) -> Result<Path, PathFault>
+    ensures { Answers result (source_path name.now text.now) }
+{
+    if text.starts_with(b"/".as_slice()) {
+        let path = Path::parse(alloc, text)?;
+        Ok(path)
+    } else {
+        let path = Path::from_url(alloc, text, name)?;
+        Ok(path)
+    }
+}
+
+/// The path that a command names.
+pub fn path_named(alloc: Global, root: &Path, text: &Text) -> Result<Path, EditFault>
+    ensures { Names result (joined root.now text.now) }
+{
+    let path = root.join(alloc, text.as_bytes())?;
+    Ok(path)
+}
+
+/// Whether the path is one name beneath the directory, if there is one.
+pub fn is_within(directory: Option<&Path>, path: &Path) -> bool
+    ensures { result ≡ is_within (option_copied directory.entry) path.now }
+{
+    match directory {
+        None => false,
+        Some(directory) => path.is_at_or_under(directory) && path.len() - directory.len() == 1,
+    }
+}

@@ -1,0 +1,18 @@
+//! What holds of every edit. The functions do nothing: their contracts are the laws.
+ghost use Rattle.std.specs.Prelude.{◌≡◌, ℕ, List, None};
+ghost use Rattle.svnpath.specs.Paths.{PathValue};
+ghost use Rattle.repo_api.specs.States.{RepoState};
+ghost use Rattle.commands.specs.declared.editing.EditorCommand.{EditorCommand};
+ghost use Rattle.editor.specs.Editor.{EditState, new_edit, edit_refusal, Applies};
+ghost use Rattle.editor.specs.Soundness.{AreTrees, IsSoundEdit};
+
+/// An edit that has heard nothing is sound, and so is an edit after each command that is not refused, where
+/// every tree of the repository is a tree.
+pub fn edits_keep_trees()
+    ensures begins { (path : PathValue) (name : List ℕ) → IsSoundEdit (new_edit path name) }
+    ensures goes_on { (c : RepoState) (old new : EditState) (command : EditorCommand) → AreTrees c.revisions → IsSoundEdit old → edit_refusal c old command ≡ None → Applies c old command new → IsSoundEdit new }
+{
+    repo_api::beginnings_are_trees();
+    repo_api::edits_keep_trees();
+    repo_api::same_entries_make_a_tree();
+}

@@ -1,0 +1,115 @@
+-- What keeps a tree a tree.
+use Rattle.std.proofs.Common.{◌≡◌, Bool, true, false, List, [], ◌∷◌, ◌++◌, drop, length, Option, Some, None, option_map, refl, sym, ap, subst, append_assoc, arith, ◌∙◌}
+use Rattle.std.proofs.lemmas.Bool.{false≢true}
+use Rattle.std.proofs.lemmas.List.Elements.{Contains-get_or, Contains-append_right}
+use Rattle.std.specs.Prelude.{if◌then◌else◌, IsSome, IsSomeAnd, IsTrue, Contains}
+use Rattle.std.specs.Option.{unwrap_or}
+use Rattle.svnpath.specs.Paths.{PathValue, Component, same_path, is_at_or_under}
+use Rattle.svnpath.specs.PathLaws.{same_path_is, under_is, under_append, parent_child}
+use Rattle.svnpath.specs.Texts.{parent}
+use Rattle.repo_api.specs.Trees.{Tree, IsTree, HasDirectory, is_directory, is_directory_content}
+use Rattle.repo_api.specs.Edits.{touched, touched_above, new_entry, added, deleted}
+use Rattle.repo_api.specs.declared.entry.Entry.{Entry}
+use Rattle.repo_api.specs.declared.entry.Content.TheVariants.{Directory}
+
+abbrev IsDirectoryAt : Option Entry → Type 0
+IsDirectoryAt o = IsSomeAnd o (λ e. IsTrue (is_directory e))
+
+-- an entry that is renewed with its content stays what it was
+renewed_directory : (f : Entry → Entry) → ((e : Entry) → (f e).content ≡ e.content) → (o : Option Entry) → IsDirectoryAt o → IsDirectoryAt (option_map f o)
+renewed_directory f same None h = h
+renewed_directory f same (Some e) h = ap is_directory_content (same e) ∙ h
+
+some_renewed : (f : Entry → Entry) (o : Option Entry) → IsSome (option_map f o) → IsSome o
+some_renewed f None h = h
+some_renewed f (Some e) h = refl
+
+-- a tree whose entries are renewed is a tree
+pub renewed_tree : (t : Tree) (f : PathValue → Entry → Entry) → ((p : PathValue) (e : Entry) → (f p e).content ≡ e.content) → IsTree t → IsTree (λ p. option_map (f p) (t p))
+renewed_tree t f same is = record {
+  root = renewed_directory (f []) (same []) (t []) is.root;
+  parents = λ p c some. renewed_directory (f p) (same p) (t p) (is.parents p c (some_renewed (f (p ++ c ∷ [])) (t (p ++ c ∷ [])) some));
+  finite = (is.finite.0, λ p some. is.finite.1 p (some_renewed (f p) (t p) some));
+}
+
+-- what answers the same everywhere is the same
+pub tree_by_paths : (t u : Tree) → ((p : PathValue) → t p ≡ u p) → IsTree t → IsTree u
+tree_by_paths t u same is = subst IsTree (λ i p. same p i) is
+
+touched_directory : (above : Bool) (o : Option Entry) → IsDirectoryAt o → IsDirectoryAt (if above then option_map touched o else o)
+touched_directory true o h = renewed_directory touched (λ e. refl) o h
+touched_directory false o h = h
+
+some_touched : (above : Bool) (o : Option Entry) → IsSome (if above then option_map touched o else o) → IsSome o
+some_touched true o h = some_renewed touched o h
+some_touched false o h = h
+
+same_parent : (p q : PathValue) (c d : Component) → p ++ c ∷ [] ≡ q ++ d ∷ [] → p ≡ q
+same_parent p q c d same = some_is (sym (parent_child p c) ∙ ap parent same ∙ parent_child q d)
+  where
+    some_is : ◌≡◌ {A = Option PathValue} (Some p) (Some q) → p ≡ q
+    some_is e = ap (λ o. unwrap_or o p) e
+
+-- a directory stays one where a directory is added
+added_directory : (t : Tree) (p q : PathValue) → HasDirectory t q → HasDirectory (added t p Directory) q
+added_directory t p q h = by (same_path p q)
+  where
+    by : (b : Bool) → IsDirectoryAt (if b then Some (new_entry Directory) else touched_above p t q)
+    by true = refl
+    by false = touched_directory (is_at_or_under p q) (t q) h
+
+added_parents : (t : Tree) (p q : PathValue) (c d : Component) → IsTree t → HasDirectory t p → IsSome (added t (p ++ c ∷ []) Directory (q ++ d ∷ [])) → HasDirectory t q
+added_parents t p q c d is has = by (same_path (p ++ c ∷ []) (q ++ d ∷ [])) refl
+  where
+    by : (b : Bool) → same_path (p ++ c ∷ []) (q ++ d ∷ []) ≡ b → IsSome (if b then Some (new_entry Directory) else touched_above (p ++ c ∷ []) t (q ++ d ∷ [])) → HasDirectory t q
+    by true same some = subst (HasDirectory t) (same_parent p q c d (same_path_is (p ++ c ∷ []) (q ++ d ∷ []) same)) has
+    by false same some = is.parents q d (some_touched (is_at_or_under (p ++ c ∷ []) (q ++ d ∷ [])) (t (q ++ d ∷ [])) some)
+
+added_finite : (t : Tree) (p q : PathValue) (ps : List PathValue) → (IsSome (t q) → Contains ps q) → IsSome (added t p Directory q) → Contains (p ∷ ps) q
+added_finite t p q ps all = by (same_path p q) refl
+  where
+    by : (b : Bool) → same_path p q ≡ b → IsSome (if b then Some (new_entry Directory) else touched_above p t q) → Contains (p ∷ ps) q
+    by true same some = subst (Contains (p ∷ ps)) (same_path_is p q same) (Contains-get_or (p ∷ ps) 0 p (omega arith))
+    by false same some = Contains-append_right (p ∷ []) ps q (all (some_touched (is_at_or_under p q) (t q) some))
+
+-- a directory that is added to a directory
+pub added_tree : (t : Tree) (p : PathValue) (c : Component) → IsTree t → HasDirectory t p → IsTree (added t (p ++ c ∷ []) Directory)
+added_tree t p c is has = record {
+  root = added_directory t (p ++ c ∷ []) [] is.root;
+  parents = λ q d some. added_directory t (p ++ c ∷ []) q (added_parents t p q c d is has some);
+  finite = ((p ++ c ∷ []) ∷ is.finite.0, λ q some. added_finite t (p ++ c ∷ []) q is.finite.0 (is.finite.1 q) some);
+}
+
+-- what isn't under the path of a delete stays
+outside_directory : (t : Tree) (p q : PathValue) → is_at_or_under q p ≡ false → HasDirectory t q → HasDirectory (deleted t p) q
+outside_directory t p q outside h = subst (λ b. IsDirectoryAt (if b then None else touched_above p t q)) (sym outside) (touched_directory (is_at_or_under p q) (t q) h)
+
+some_outside : (t : Tree) (p q : PathValue) → IsSome (deleted t p q) → (is_at_or_under q p ≡ false) × IsSome (t q)
+some_outside t p q = by (is_at_or_under q p) refl
+  where
+    by : (b : Bool) → is_at_or_under q p ≡ b → IsSome (if b then None else touched_above p t q) → (is_at_or_under q p ≡ false) × IsSome (t q)
+    by true under some = absurd (false≢true some)
+    by false outside some = (outside, some_touched (is_at_or_under p q) (t q) some)
+
+root_outside : (p : PathValue) (c : Component) → is_at_or_under [] (p ++ c ∷ []) ≡ false
+root_outside [] c = refl
+root_outside (d ∷ p) c = refl
+
+-- what is under a path has all that is under it there
+parent_outside : (p q : PathValue) (d : Component) → is_at_or_under (q ++ d ∷ []) p ≡ false → is_at_or_under q p ≡ false
+parent_outside p q d outside = by (is_at_or_under q p) refl
+  where
+    by : (b : Bool) → is_at_or_under q p ≡ b → b ≡ false
+    by true under =
+        absurd (false≢true (sym outside ∙ ap (λ r. is_at_or_under (r ++ d ∷ []) p) (under_is q p under) ∙ ap (λ r. is_at_or_under r p) (append_assoc p (drop (length p) q) (d ∷ [])) ∙ under_append p (drop (length p) q ++ d ∷ [])))
+    by false under = refl
+
+-- a delete below the root
+pub deleted_tree : (t : Tree) (p : PathValue) (c : Component) → IsTree t → IsTree (deleted t (p ++ c ∷ []))
+deleted_tree t p c is = record {
+  root = outside_directory t (p ++ c ∷ []) [] (root_outside p c) is.root;
+  parents = λ q d some.
+      let out = some_outside t (p ++ c ∷ []) (q ++ d ∷ []) some in
+      outside_directory t (p ++ c ∷ []) q (parent_outside (p ++ c ∷ []) q d out.0) (is.parents q d out.1);
+  finite = (is.finite.0, λ q some. is.finite.1 q (some_outside t (p ++ c ∷ []) q some).1);
+}
