@@ -1,11 +1,11 @@
 -- The main commands, as the items that spell them.
 use Rattle.std.specs.Prelude.{ℕ, Bool, true, List, [], Option, Some, None, option_map, Result, Ok, Err, codes, if◌then◌else◌}
 use Rattle.items.specs.Tree.{Tree, word, number, string, list, Trees, none, more}
-use Rattle.commands.specs.Forms.{is_name, command_form, optional_number, boolean, pairs}
+use Rattle.forms.specs.Forms.{is_name, command_form, optional_number, boolean, pairs}
 use Rattle.commands.specs.declared.command.MainCommand.{MainCommand}
 use Rattle.commands.specs.declared.command.MainCommand.TheVariants.{GetLatestRev, CheckPath, RevProplist, Commit, AbortEdit}
-use Rattle.commands.specs.declared.fault.CommandFault.{CommandFault}
-use Rattle.commands.specs.declared.fault.CommandFault.TheVariants.{UnknownName, BadParameters}
+use Rattle.forms.specs.declared.fault.CommandFault.{CommandFault}
+use Rattle.forms.specs.declared.fault.CommandFault.TheVariants.{UnknownName, BadParameters}
 
 -- at the revision, if the list that should hold one is of that form
 abbrev pub path_at : List ℕ → Option (Option ℕ) → Result MainCommand CommandFault

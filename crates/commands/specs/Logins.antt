@@ -1,11 +1,11 @@
 -- What a client sends before its first command.
 use Rattle.std.specs.Prelude.{ℕ, Bool, true, false, ◌||◌, List, Option, Some, None, Result, Ok, Err, codes, if◌then◌else◌}
 use Rattle.items.specs.Tree.{Tree, word, number, string, list, Trees, none, more}
-use Rattle.commands.specs.Forms.{is_name, optional_string}
+use Rattle.forms.specs.Forms.{is_name, optional_string}
 use Rattle.commands.specs.declared.login.ClientGreeting.{ClientGreeting}
 use Rattle.commands.specs.declared.login.AuthResponse.{AuthResponse}
-use Rattle.commands.specs.declared.fault.CommandFault.{CommandFault}
-use Rattle.commands.specs.declared.fault.CommandFault.TheVariants.{BadParameters}
+use Rattle.forms.specs.declared.fault.CommandFault.{CommandFault}
+use Rattle.forms.specs.declared.fault.CommandFault.TheVariants.{BadParameters}
 
 -- each is a word
 abbrev pub are_words : Trees → Bool

@@ -1,14 +1,14 @@
 //! The main commands.
 ghost use Rattle.items.specs.View.{tree_of, trees_of};
-ghost use Rattle.commands.specs.Answering.{Answers};
+ghost use Rattle.forms.specs.Answering.{Answers};
 ghost use Rattle.commands.specs.Commands.{main_command, command_named, check_path, revision_behind, path_at, rev_proplist, commit, tokens_first, keep_locks_first, commit_of, properties_at_end};
-ghost use Rattle.commands.specs.Forms.{pairs};
-ghost use Rattle.commands.specs.declared.fault.CommandFault.TheVariants.{BadParameters};
+ghost use Rattle.forms.specs.Forms.{pairs};
+ghost use Rattle.forms.specs.declared.fault.CommandFault.TheVariants.{BadParameters};
 ghost use Rattle.std.specs.Option.{ok_or};
 
-use crate::fault::CommandFault;
-use crate::form::{copy_text, read_boolean, read_form, read_optional_number};
-use crate::pairs::{Pairs, read_pairs};
+use forms::{
+    CommandFault, Pairs, copy_text, read_boolean, read_form, read_optional_number, read_pairs,
+};
 use items::{Item, Text};
 use std::alloc::Global;
 

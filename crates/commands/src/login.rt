@@ -1,11 +1,10 @@
 //! What a client sends before its first command.
 ghost use Rattle.std.specs.Prelude.{◌≡◌, option_map};
 ghost use Rattle.items.specs.View.{tree_of, trees_of};
-ghost use Rattle.commands.specs.Answering.{Answers};
+ghost use Rattle.forms.specs.Answering.{Answers};
 ghost use Rattle.commands.specs.Logins.{client_greeting, version_first, capabilities_first, url_first, greeting, auth_response, mechanism_first, token_first, response, are_words, has_word, are_clients, client_first, is_client};
 
-use crate::fault::CommandFault;
-use crate::form::{copy_text, read_optional_string};
+use forms::{CommandFault, copy_text, read_optional_string};
 use items::{Item, Text};
 use std::alloc::Global;
 

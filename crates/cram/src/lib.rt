@@ -12,6 +12,3 @@ pub use challenge::Challenge;
 pub use fault::CramFault;
 pub use hmac::hmac_md5;
 pub use users::{User, Users};
-
-#[cfg(test)]
-mod tests;

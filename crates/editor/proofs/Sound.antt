@@ -26,10 +26,10 @@ use Rattle.repo_api.specs.declared.entry.Entry.{Entry}
 use Rattle.repo_api.specs.declared.entry.Content.{Content}
 use Rattle.repo_api.specs.declared.entry.Content.TheVariants.{Directory, File}
 use Rattle.repo_api.specs.declared.edit.EditOp.TheVariants.{AddDirectory as Adds}
-use Rattle.commands.specs.declared.editing.EditorCommand.{EditorCommand}
-use Rattle.commands.specs.declared.editing.EditorCommand.TheVariants.{OpenRoot, AddDirectory, OpenDirectory, CloseDirectory, CloseEdit, AbortEdit}
-use Rattle.commands.specs.declared.editing.AddedEntry.{AddedEntry}
-use Rattle.commands.specs.declared.editing.OpenedEntry.{OpenedEntry}
+use Rattle.edit_commands.specs.declared.editing.EditorCommand.{EditorCommand}
+use Rattle.edit_commands.specs.declared.editing.EditorCommand.TheVariants.{OpenRoot, AddDirectory, OpenDirectory, CloseDirectory, CloseEdit, AbortEdit}
+use Rattle.edit_commands.specs.declared.editing.AddedEntry.{AddedEntry}
+use Rattle.edit_commands.specs.declared.editing.OpenedEntry.{OpenedEntry}
 use Rattle.editor.specs.Tokens.{Tokens, with_token, without_token, directory_of, is_within}
 use Rattle.editor.specs.Editor.{EditState, unless, directory_refusal, standing, place_refusal, open_root_refusal, add_directory_refusal, open_directory_refusal, edit_refusal, command_refusal, OpensRoot, AddsDirectory, OpensDirectory, Applies}
 use Rattle.editor.specs.Soundness.{AreTrees, IsSoundIn, IsSoundEdit}

@@ -12,7 +12,7 @@ use Rattle.repo_api.specs.States.{RepoState, TxnState, IsBegun, IsEdited}
 use Rattle.repo_api.specs.declared.edit.EditOp.TheVariants.{AddDirectory}
 use Rattle.refusals.specs.declared.Refusal.{Refusal}
 use Rattle.refusals.specs.declared.Refusal.TheVariants as refusals
-use Rattle.commands.specs.declared.editing.AddedEntry.{AddedEntry}
+use Rattle.edit_commands.specs.declared.editing.AddedEntry.{AddedEntry}
 use Rattle.editor.specs.Tokens.{Tokens, with_token, without_token, directory_of, is_placed, is_within}
 use Rattle.editor.specs.Editor.{EditState, OpensRoot, AddsDirectory, first, unless, source_fault, place_refusal, copy_refusal, add_refusal, standing, add_directory_refusal}
 use Rattle.editor.specs.Judging.{Puts}

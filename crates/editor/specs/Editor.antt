@@ -11,11 +11,11 @@ use Rattle.repo_api.specs.Kinds.{kind_at, kind_in}
 use Rattle.repo_api.specs.declared.entry.NodeKind.{NodeKind}
 use Rattle.repo_api.specs.declared.entry.NodeKind.TheVariants as kinds
 use Rattle.repo_api.specs.declared.edit.EditOp.TheVariants as edits
-use Rattle.commands.specs.Refusing.{path_refusal}
-use Rattle.commands.specs.declared.editing.EditorCommand.{EditorCommand}
-use Rattle.commands.specs.declared.editing.EditorCommand.TheVariants.{OpenRoot, AddDirectory, OpenDirectory, CloseDirectory, CloseEdit, AbortEdit}
-use Rattle.commands.specs.declared.editing.AddedEntry.{AddedEntry}
-use Rattle.commands.specs.declared.editing.OpenedEntry.{OpenedEntry}
+use Rattle.refusals.specs.Refusing.{path_refusal}
+use Rattle.edit_commands.specs.declared.editing.EditorCommand.{EditorCommand}
+use Rattle.edit_commands.specs.declared.editing.EditorCommand.TheVariants.{OpenRoot, AddDirectory, OpenDirectory, CloseDirectory, CloseEdit, AbortEdit}
+use Rattle.edit_commands.specs.declared.editing.AddedEntry.{AddedEntry}
+use Rattle.edit_commands.specs.declared.editing.OpenedEntry.{OpenedEntry}
 use Rattle.editor.specs.Tokens.{Tokens, with_token, without_token, is_placed, directory_of}
 use Rattle.editor.specs.declared.fault.EditFault.{EditFault}
 use Rattle.editor.specs.declared.fault.EditFault.TheVariants as edit_faults

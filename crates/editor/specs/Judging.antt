@@ -4,7 +4,7 @@ use Rattle.svnpath.specs.Paths.{PathValue}
 use Rattle.svnpath.specs.declared.fault.PathFault.{PathFault}
 use Rattle.svnpath.specs.declared.fault.PathFault.TheVariants as path_faults
 use Rattle.refusals.specs.declared.Refusal.{Refusal}
-use Rattle.commands.specs.Refusing.{path_refusal}
+use Rattle.refusals.specs.Refusing.{path_refusal}
 use Rattle.editor.specs.declared.fault.EditFault.{EditFault}
 use Rattle.editor.specs.declared.fault.EditFault.TheVariants as edit_faults
 use Rattle.repo_api.specs.States.{RepoState, TxnState, IsEdited}

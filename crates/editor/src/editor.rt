@@ -11,7 +11,7 @@ use crate::fault::EditFault;
 use crate::judging::{
     is_within, judge, judge_absence, judge_copy, judge_directory, judge_source, path_named,
 };
-use commands::{AddedEntry, EditorCommand, OpenedEntry};
+use edit_commands::{AddedEntry, EditorCommand, OpenedEntry};
 use items::Text;
 use refusals::Refusal;
 use repo_api::{EditOp, NodeKind, Repository};

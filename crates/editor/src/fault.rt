@@ -1,6 +1,6 @@
 //! Why a command of an edit was not carried out.
-use commands::path_refusal;
-use refusals::Refusal;
+
+use refusals::{Refusal, path_refusal};
 use std::alloc::{AllocError, AllocFailed};
 use svnpath::PathFault;
 

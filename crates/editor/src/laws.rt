@@ -2,7 +2,7 @@
 ghost use Rattle.std.specs.Prelude.{◌≡◌, ℕ, List, None};
 ghost use Rattle.svnpath.specs.Paths.{PathValue};
 ghost use Rattle.repo_api.specs.States.{RepoState};
-ghost use Rattle.commands.specs.declared.editing.EditorCommand.{EditorCommand};
+ghost use Rattle.edit_commands.specs.declared.editing.EditorCommand.{EditorCommand};
 ghost use Rattle.editor.specs.Editor.{EditState, new_edit, edit_refusal, Applies};
 ghost use Rattle.editor.specs.Soundness.{AreTrees, IsSoundEdit};
 

@@ -3,17 +3,17 @@ use Rattle.std.specs.Prelude.{if◌then◌else◌}
 use Rattle.std.proofs.Common.{◌≡◌, ℕ, List, [], ◌∷◌, ◌++◌, map, Option, Some, None, Bool, true, false, refl, sym, ap, subst, ◌∙◌, append-nil, append_assoc}
 use Rattle.repo_api.specs.States.{RepoState, Fixed, IsBeginning}
 use Rattle.repo_api.specs.Accepted.{Accepted, changed}
-use Rattle.commands.specs.declared.reply.Reply.{Reply}
-use Rattle.session.specs.Points.{Point, world}
-use Rattle.session.specs.Settings.{Settings}
-use Rattle.session.specs.Hearing.{Input}
-use Rattle.session.specs.Hearing.Input.{Whole, Broken}
-use Rattle.session.specs.Stages.{Stage, SessionState, is_open}
-use Rattle.session.specs.Machine.{Verdict, Effect, Answer, InputStep, says, content_after, halted_after}
-use Rattle.session.specs.Machine.Effect.{Nothing, Changes, HaltsChanges}
-use Rattle.session.specs.Access.{Serves, Moves, SessionRun}
-use Rattle.session.specs.declared.env.Env.{Env}
-use Rattle.session.specs.declared.phase.Phase.TheVariants.{Greeted, LoggingIn, Serving, Editing, Skipping, Ended}
+use Rattle.replies.specs.declared.reply.Reply.{Reply}
+use Rattle.machine.specs.Points.{Point, world}
+use Rattle.machine.specs.Settings.{Settings}
+use Rattle.machine.specs.Hearing.{Input}
+use Rattle.machine.specs.Hearing.Input.{Whole, Broken}
+use Rattle.machine.specs.Stages.{Stage, SessionState, is_open}
+use Rattle.machine.specs.Machine.{Verdict, Effect, Answer, InputStep, says, content_after, halted_after}
+use Rattle.machine.specs.Machine.Effect.{Nothing, Changes, HaltsChanges}
+use Rattle.machine.specs.Access.{Serves, Moves, SessionRun}
+use Rattle.machine.specs.declared.env.Env.{Env}
+use Rattle.machine.specs.declared.phase.Phase.TheVariants.{Greeted, LoggingIn, Serving, Editing, Skipping, Ended}
 use Rattle.hub.specs.State.{HubState, session_of, updated, without, kept}
 use Rattle.hub.specs.Runs.{Event, InputHappens, HubStep, HubRun, InputsAre, answered}
 use Rattle.hub.specs.Runs.Event.{Gets}

@@ -3,9 +3,9 @@ use Rattle.std.proofs.Common.{◌≡◌, ℕ, List, [], ◌∷◌, ◌++◌, Opt
 use Rattle.std.specs.Prelude.{if◌then◌else◌, ◌==◌, not}
 use Rattle.repo_api.specs.States.{RepoState, TxnState, Fixed, IsBeginning}
 use Rattle.editor.specs.Editor.{RestsIn}
-use Rattle.session.specs.Stages.{Stage, SessionState, is_open, RestsOn}
-use Rattle.session.specs.declared.phase.Phase.TheVariants.{Greeted, LoggingIn, Serving, Editing, Skipping, Ended}
-use Rattle.session.specs.Soundness.{IsSound}
+use Rattle.machine.specs.Stages.{Stage, SessionState, is_open, RestsOn}
+use Rattle.machine.specs.declared.phase.Phase.TheVariants.{Greeted, LoggingIn, Serving, Editing, Skipping, Ended}
+use Rattle.machine.specs.Soundness.{IsSound}
 use Rattle.hub.specs.State.{session_of, updated, without, kept, AllOpen, AllRest}
 use Rattle.hub.specs.Laws.{AllSound}
 use Rattle.hub.proofs.Staying.{joins}

@@ -2,13 +2,13 @@
 use Rattle.std.proofs.Common.{◌≡◌, ℕ, List, [], ◌∷◌, ◌++◌, Option, Some, None, Bool, true, false, refl, sym, ap, subst, ◌∙◌, append-nil}
 use Rattle.std.specs.Prelude.{if◌then◌else◌, ◌==◌, not, filter}
 use Rattle.repo_api.specs.Accepted.{Accepted, changed}
-use Rattle.session.specs.Points.{Point, world}
-use Rattle.session.specs.Settings.{Settings}
-use Rattle.session.specs.Hearing.{IsSettled}
-use Rattle.session.specs.Stages.{SessionState, is_open}
-use Rattle.session.specs.Machine.{Verdict}
-use Rattle.session.specs.Access.{Fed, Lost}
-use Rattle.session.specs.declared.env.Env.{Env}
+use Rattle.machine.specs.Points.{Point, world}
+use Rattle.machine.specs.Settings.{Settings}
+use Rattle.machine.specs.Hearing.{IsSettled}
+use Rattle.machine.specs.Stages.{SessionState, is_open}
+use Rattle.machine.specs.Machine.{Verdict}
+use Rattle.machine.specs.Access.{Fed, Lost}
+use Rattle.machine.specs.declared.env.Env.{Env}
 use Rattle.hub.specs.State.{HubState, session_of, updated, without, kept}
 use Rattle.hub.specs.Runs.{Event, HubRun, IfOpen, heard, Feeds, Breaks, new_session}
 use Rattle.hub.specs.Runs.Event.{Drops}

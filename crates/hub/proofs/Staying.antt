@@ -3,13 +3,13 @@ use Rattle.std.proofs.Common.{◌≡◌, Bool, ◌⊎◌, inl, inr, ℕ, ◌+◌
 use Rattle.repo_api.specs.States.{RepoState, Fixed, IsBeginning}
 use Rattle.repo_api.specs.Accepted.{Accepted, changed}
 use Rattle.repo_api.specs.Accepted.Accepted.{Commits}
-use Rattle.commands.specs.declared.reply.Reply.{Reply}
-use Rattle.session.specs.Hearing.{Input, Brings, Comes}
-use Rattle.session.specs.Hearing.Input.{Whole, Broken}
-use Rattle.session.specs.Stages.{SessionState}
-use Rattle.session.specs.Machine.{Verdict, Effect, Answer, content_after}
-use Rattle.session.specs.Machine.Effect.{Nothing, Changes, HaltsChanges}
-use Rattle.session.specs.declared.env.Env.{Env}
+use Rattle.replies.specs.declared.reply.Reply.{Reply}
+use Rattle.machine.specs.Hearing.{Input, Brings, Comes}
+use Rattle.machine.specs.Hearing.Input.{Whole, Broken}
+use Rattle.machine.specs.Stages.{SessionState}
+use Rattle.machine.specs.Machine.{Verdict, Effect, Answer, content_after}
+use Rattle.machine.specs.Machine.Effect.{Nothing, Changes, HaltsChanges}
+use Rattle.machine.specs.declared.env.Env.{Env}
 use Rattle.hub.specs.State.{HubState, session_of}
 use Rattle.hub.specs.Runs.{Event, InputHappens, HubStep, HubRun, heard, Feeds, Breaks}
 use Rattle.hub.specs.Runs.Event.{Connects, Gets, Drops}

@@ -3,14 +3,14 @@ use Rattle.std.proofs.Common.{◌≡◌, ℕ, List, [], ◌∷◌, ◌++◌, Boo
 use Rattle.repo_api.specs.Trees.{IsTree}
 use Rattle.repo_api.specs.States.{RepoState, tree_of}
 use Rattle.repo_api.specs.Opening.{opened, opening_tree}
-use Rattle.commands.specs.declared.reply.Reply.{Reply}
+use Rattle.replies.specs.declared.reply.Reply.{Reply}
 use Rattle.editor.specs.Soundness.{AreTrees}
-use Rattle.session.specs.Settings.{Settings}
-use Rattle.session.specs.Hearing.{Input}
-use Rattle.session.specs.Stages.{Stage, SessionState}
-use Rattle.session.specs.Soundness.{IsSound}
-use Rattle.session.specs.Machine.{Verdict, Answer, InputStep, content_after}
-use Rattle.session.specs.declared.env.Env.{Env}
+use Rattle.machine.specs.Settings.{Settings}
+use Rattle.machine.specs.Hearing.{Input}
+use Rattle.machine.specs.Stages.{Stage, SessionState}
+use Rattle.machine.specs.Soundness.{IsSound}
+use Rattle.machine.specs.Machine.{Verdict, Answer, InputStep, content_after}
+use Rattle.machine.specs.declared.env.Env.{Env}
 use Rattle.hub.specs.State.{HubState, session_of}
 use Rattle.hub.specs.Runs.{Event, InputHappens, HubStep, HubRun, new_session}
 use Rattle.hub.specs.Runs.Event.{Connects, Gets, Drops}

@@ -3,9 +3,9 @@ use Rattle.std.specs.Prelude.{◌≡◌, Bool, true, false, List, [], refl}
 use Rattle.std.proofs.Common.{sym, ap, subst, append-nil}
 use Rattle.repo_api.specs.States.{RepoState, Fixed, IsBeginning}
 use Rattle.repo_api.specs.Accepted.{Accepted, changed}
-use Rattle.session.specs.Points.{Point, world}
-use Rattle.session.specs.Machine.{Verdict}
-use Rattle.session.specs.Machine.Verdict.{Went, Failed, Halts}
+use Rattle.machine.specs.Points.{Point, world}
+use Rattle.machine.specs.Machine.{Verdict}
+use Rattle.machine.specs.Machine.Verdict.{Went, Failed, Halts}
 
 pub same_keeps : (p q : Point) → q ≡ p → IsBeginning (world p).revisions (world q).revisions
 same_keeps p q e = subst (λ (x : Point). IsBeginning (world p).revisions (world x).revisions) (sym e) (record { more = []; is = sym (append-nil (world p).revisions) })

@@ -1,8 +1,8 @@
 -- What the calls of a hub do.
 use Rattle.std.specs.Prelude.{◌≡◌, ◌⊎◌, ℕ, ◌+◌, ◌<◌, ◌≤◌, ◌^◌, Bool, true, false, List, [], ◌∷◌, length, None}
-use Rattle.commands.specs.declared.reply.Reply.{Reply}
-use Rattle.session.specs.Machine.{Verdict, print}
-use Rattle.session.specs.declared.env.Env.{Env}
+use Rattle.replies.specs.declared.reply.Reply.{Reply}
+use Rattle.machine.specs.Machine.{Verdict, print}
+use Rattle.machine.specs.declared.env.Env.{Env}
 use Rattle.hub.specs.declared.hub.HubFault.{HubFault}
 use Rattle.hub.specs.declared.hub.HubFault.TheVariants.{NoSession, NoMemory, Halted, Full}
 use Rattle.hub.specs.declared.calls.Call.{Call}

@@ -3,11 +3,11 @@ use Rattle.std.specs.Prelude.{◌≡◌, ℕ, List, [], ◌∷◌}
 use Rattle.repo_api.specs.States.{RepoState}
 use Rattle.repo_api.specs.Accepted.{Accepted, changed}
 use Rattle.editor.specs.Soundness.{AreTrees}
-use Rattle.session.specs.Stages.{SessionState}
-use Rattle.session.specs.Soundness.{IsSound}
+use Rattle.machine.specs.Stages.{SessionState}
+use Rattle.machine.specs.Soundness.{IsSound}
 use Rattle.hub.specs.State.{HubState}
-use Rattle.session.specs.Hearing.{Input}
-use Rattle.session.specs.Hearing.Input.{Whole, Broken}
+use Rattle.machine.specs.Hearing.{Input}
+use Rattle.machine.specs.Hearing.Input.{Whole, Broken}
 
 -- a change was accepted, and this is what it made of the repository
 abbrev pub IsAccepted : RepoState → RepoState → Type 0

@@ -1,12 +1,12 @@
 -- What happens to a hub, one event after another.
 use Rattle.std.specs.Prelude.{◌≡◌, ℕ, ◌+◌, Bool, false, true, List, [], ◌∷◌, ◌++◌, Option, Some, None}
-use Rattle.commands.specs.declared.reply.Reply.{Reply}
-use Rattle.commands.specs.declared.reply.Reply.TheVariants.{Greeting}
-use Rattle.session.specs.Hearing.{Input, Comes, IsSettled}
-use Rattle.session.specs.Stages.{SessionState}
-use Rattle.session.specs.Machine.{Verdict, Answer, InputStep, print, content_after, halted_after}
-use Rattle.session.specs.declared.env.Env.{Env}
-use Rattle.session.specs.declared.phase.Phase.TheVariants.{Greeted}
+use Rattle.replies.specs.declared.reply.Reply.{Reply}
+use Rattle.replies.specs.declared.reply.Reply.TheVariants.{Greeting}
+use Rattle.machine.specs.Hearing.{Input, Comes, IsSettled}
+use Rattle.machine.specs.Stages.{SessionState}
+use Rattle.machine.specs.Machine.{Verdict, Answer, InputStep, print, content_after, halted_after}
+use Rattle.machine.specs.declared.env.Env.{Env}
+use Rattle.machine.specs.declared.phase.Phase.TheVariants.{Greeted}
 use Rattle.hub.specs.State.{HubState, session_of, updated, without, kept}
 
 pub data Event : Type 0 where

@@ -1,9 +1,9 @@
 -- Laws of a hub's sessions and of their streams, for the crates above.
 use Rattle.std.proofs.Common.{◌≡◌, ℕ, List, [], ◌∷◌, ◌++◌, Option, Some, None, Bool, true, false, refl, sym, ap, subst, ◌∙◌, append_assoc}
 use Rattle.std.specs.Prelude.{if◌then◌else◌, ◌==◌, not}
-use Rattle.session.specs.Hearing.{Input, Brings, Comes}
-use Rattle.session.specs.Hearing.Input.{Whole, Broken}
-use Rattle.session.specs.Stages.{SessionState, is_open}
+use Rattle.machine.specs.Hearing.{Input, Brings, Comes}
+use Rattle.machine.specs.Hearing.Input.{Whole, Broken}
+use Rattle.machine.specs.Stages.{SessionState, is_open}
 use Rattle.hub.specs.State.{session_of, updated, without, kept}
 use Rattle.hub.specs.Laws.{IsUnbroken}
 

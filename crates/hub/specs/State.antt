@@ -1,8 +1,8 @@
 -- The state of a hub: what the repository contains, and its open sessions.
 use Rattle.std.specs.Prelude.{◌≡◌, ℕ, Bool, true, List, [], ◌∷◌, Option, Some, None, if◌then◌else◌, ◌==◌, ◌||◌, not, filter, ◌<◌, length, slice_get, slice_set}
 use Rattle.repo_api.specs.States.{RepoState}
-use Rattle.session.specs.Settings.{Settings}
-use Rattle.session.specs.Stages.{SessionState, is_open, RestsOn}
+use Rattle.machine.specs.Settings.{Settings}
+use Rattle.machine.specs.Stages.{SessionState, is_open, RestsOn}
 
 pub record HubState : Type 0 where
   pub settings : Settings

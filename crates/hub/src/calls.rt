@@ -4,7 +4,7 @@ ghost use Rattle.std.specs.List.{All};
 ghost use Rattle.hub.specs.Calls.{CallStep, CallRun, IsTimely};
 
 use crate::hub::{Hub, HubFault, SessionId};
-use session::{Env, SoleAccess};
+use machine::{Env, SoleAccess};
 use std::alloc::{AllocError, Global};
 
 /// A call of a hub.

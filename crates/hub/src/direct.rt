@@ -1,8 +1,8 @@
 //! A repository that one hub alone has.
 ghost use Rattle.std.specs.Prelude.{◌≡◌};
 
+use machine::{RepoAccess, SoleAccess};
 use repo_api::{ChangeFault, CommitAsk, Repository};
-use session::{RepoAccess, SoleAccess};
 use std::alloc::AllocError;
 
 /// A repository in memory that one hub alone has: nobody else changes it, and no store can fail.
@@ -23,7 +23,7 @@ impl<R: Repository> Direct<R> {
 impl<R: Repository> RepoAccess for Direct<R> {
     ghost use Rattle.std.specs.Prelude.{◌≡◌, [], refl, false};
     ghost use Rattle.repo_api.specs.Accepted.{changed};
-    ghost use Rattle.session.specs.Points.{world};
+    ghost use Rattle.machine.specs.Points.{world};
     ghost use Rattle.hub.specs.Alone.{same_keeps, adds_counts, always_goes};
     ghost use Rattle.std.proofs.Common.{◌∙◌};
 

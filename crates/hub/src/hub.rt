@@ -1,19 +1,20 @@
 //! Many sessions over one repository.
 ghost use Rattle.std.specs.Prelude.{◌≡◌, if◌then◌else◌, ◌+◌, ◌<◌, ◌≤◌, ◌++◌, [], ◌∷◌, ℕ, Bool, true, false, not, ◌&&◌, length, MatchOption, IfOk, IfErr, OnOk, OnErr, None, is_some};
-ghost use Rattle.session.specs.Points.{world};
-ghost use Rattle.session.specs.Settings.{Settings};
-ghost use Rattle.session.specs.Machine.{print};
-ghost use Rattle.session.specs.declared.env.Env.{Env};
-ghost use Rattle.commands.specs.declared.reply.Reply.TheVariants.{Greeting};
+ghost use Rattle.machine.specs.Points.{world};
+ghost use Rattle.machine.specs.Settings.{Settings};
+ghost use Rattle.machine.specs.Machine.{print};
+ghost use Rattle.machine.specs.declared.env.Env.{Env};
+ghost use Rattle.replies.specs.declared.reply.Reply.TheVariants.{Greeting};
 ghost use Rattle.hub.specs.State.{session_of, without, Finds, AllOpen, AllRest};
 ghost use Rattle.hub.specs.Runs.{HubStep, Feeds, Breaks, new_session};
 ghost use Rattle.hub.specs.Runs.Event.{Drops};
 ghost use Rattle.hub.specs.Calls.{ConnectsAs, ConnectFails, FeedsAs, FeedFails};
 
 use crate::direct::Direct;
-use commands::Reply;
+use machine::{Env, Options, SoleAccess};
+use replies::Reply;
 use repo_api::Repository;
-use session::{Env, Options, Session, SoleAccess};
+use session::Session;
 use std::alloc::{AllocError, Global};
 use std::marker::Model;
 use thiserror::Error;
@@ -135,7 +136,7 @@ pub struct Hub<A: SoleAccess> {
 impl<A: SoleAccess> Model for Hub<A> {
     ghost use Rattle.std.specs.Coded.{codes};
     ghost use Rattle.std.specs.FinMap.{code as map_code};
-    ghost use Rattle.session.specs.Points.{world};
+    ghost use Rattle.machine.specs.Points.{world};
     ghost use Rattle.hub.specs.State.{HubState, AllOpen, AllRest};
 
     ghost Value = { HubState };

@@ -1,13 +1,13 @@
 //! What holds of every run of a hub. The functions do nothing: their contracts are the laws.
 ghost use Rattle.std.specs.Prelude.{◌≤◌, ◌+◌, ◌≡◌, ◌⊎◌, ◌++◌, ℕ, Bool, false, [], List, length};
 ghost use Rattle.repo_api.specs.States.{IsBeginning};
-ghost use Rattle.commands.specs.declared.reply.Reply.{Reply};
-ghost use Rattle.session.specs.Hearing.{Input, Comes};
+ghost use Rattle.replies.specs.declared.reply.Reply.{Reply};
+ghost use Rattle.machine.specs.Hearing.{Input, Comes};
 ghost use Rattle.repo_api.specs.Opening.{opened};
-ghost use Rattle.session.specs.Settings.{Settings};
+ghost use Rattle.machine.specs.Settings.{Settings};
 ghost use Rattle.hub.specs.Laws.{IsAccepted, IsUnbroken, HasTrees};
-ghost use Rattle.session.specs.Machine.{Verdict};
-ghost use Rattle.session.specs.declared.env.Env.{Env};
+ghost use Rattle.machine.specs.Machine.{Verdict};
+ghost use Rattle.machine.specs.declared.env.Env.{Env};
 ghost use Rattle.hub.specs.State.{HubState};
 ghost use Rattle.hub.specs.Runs.{Event, HubStep, HubRun};
 ghost use Rattle.hub.specs.Calls.{CallRun};
@@ -44,7 +44,7 @@ pub fn cut_anywhere()
 pub fn trees_stay_trees()
     ensures { (may : Verdict → Bool) (old new : HubState) (env after : Env) (events : List Event) (told : List Reply) → HasTrees old → HubRun may old env events told new after → HasTrees new }
 {
-    session::steps_keep_trees();
+    machine::steps_keep_trees();
 }
 
 /// In a hub that is new over a new repository every tree is a tree.

@@ -13,4 +13,4 @@ pub use laws::{
     calls_keep_history, cut_anywhere, new_trees_are_trees, one_revision_an_event,
     refused_changes_nothing, revisions_stay, trees_stay_trees,
 };
-pub use session::{Env, Options, is_repository_name};
+pub use machine::{Env, Options, is_repository_name};

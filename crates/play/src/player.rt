@@ -10,7 +10,7 @@ use crate::fault::LineFault;
 use crate::line::{Line, NewHub, Piece};
 use flatrepo::FlatRepo;
 use hub::{Call, Direct, Hub, SessionId, make_call};
-use session::SoleAccess;
+use machine::SoleAccess;
 use std::alloc::{AllocError, Global};
 
 /// A hub over a repository in memory.

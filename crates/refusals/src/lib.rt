@@ -1,8 +1,12 @@
 //! Why a command is refused: the numbers are Subversion's, the texts are this server's own.
 #![tactic(auto)]
 
+mod refusing;
+
 ghost use Rattle.std.specs.Prelude.{◌≡◌};
 ghost use Rattle.refusals.specs.Table.{number_of, text_of};
+
+pub use refusing::path_refusal;
 
 /// Why a command is refused.
 #[derive(Clone, Copy, Debug, PartialEq, Eq)]

@@ -2,15 +2,15 @@
 use Rattle.std.proofs.Common.{◌≡◌, ℕ, ◌<◌, List, [], ◌∷◌, ◌++◌, length, arith, Bool, true, false, Option, Some, None, inl, inr, refl, sym, ap, subst, ◌∙◌, append_assoc}
 use Rattle.std.specs.Prelude.{◌⊎◌, if◌then◌else◌}
 use Rattle.std.proofs.lemmas.Grind.{flat_map-append}
-use Rattle.commands.specs.declared.reply.Reply.{Reply}
+use Rattle.replies.specs.declared.reply.Reply.{Reply}
 use Rattle.repo_api.specs.States.{RepoState}
-use Rattle.session.specs.Settings.{Settings}
-use Rattle.session.specs.Hearing.{Input, Comes}
-use Rattle.session.specs.Hearing.Input.{Whole, Broken}
-use Rattle.session.specs.Stages.{Stage, SessionState, is_open}
-use Rattle.session.specs.Machine.{Verdict, Answer, InputStep, content_after, halted_after}
-use Rattle.session.specs.declared.env.Env.{Env}
-use Rattle.session.specs.declared.phase.Phase.TheVariants.{Greeted, LoggingIn, Serving, Editing, Skipping, Ended}
+use Rattle.machine.specs.Settings.{Settings}
+use Rattle.machine.specs.Hearing.{Input, Comes}
+use Rattle.machine.specs.Hearing.Input.{Whole, Broken}
+use Rattle.machine.specs.Stages.{Stage, SessionState, is_open}
+use Rattle.machine.specs.Machine.{Verdict, Answer, InputStep, content_after, halted_after}
+use Rattle.machine.specs.declared.env.Env.{Env}
+use Rattle.machine.specs.declared.phase.Phase.TheVariants.{Greeted, LoggingIn, Serving, Editing, Skipping, Ended}
 use Rattle.hub.specs.State.{HubState, session_of, updated, without, kept}
 use Rattle.hub.specs.Runs.{Event, HubStep, HubRun, InputHappens, InputsAre, Feeds, answered, heard}
 use Rattle.hub.specs.Runs.Event.{Connects, Gets, Drops}

@@ -3,8 +3,8 @@ use Rattle.std.proofs.Common.{ℕ, ◌<◌, List, ◌++◌, length, Bool}
 use Rattle.std.specs.Prelude.{Option, Result, Ok, Err, OnOk}
 use Rattle.std.proofs.KnownBytes.{Consumes-trans, Appends-trans}
 use Rattle.std.specs.Io.KnownBytes.{Consumes, Appends}
-use Rattle.session.specs.Machine.{Verdict}
-use Rattle.session.specs.declared.env.Env.{Env}
+use Rattle.machine.specs.Machine.{Verdict}
+use Rattle.machine.specs.declared.env.Env.{Env}
 use Rattle.hub.specs.State.{HubState}
 use Rattle.hub.specs.Calls.{ConnectsAs, FeedsAs}
 use Rattle.serving.specs.Stream.{Hears, IsServed, Serves}

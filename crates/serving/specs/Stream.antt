@@ -1,11 +1,11 @@
 -- What it is to serve one session over a stream.
 use Rattle.std.specs.Prelude.{◌≡◌, ℕ, Bool, true, ◌&&◌, not, is_some, List, [], ◌∷◌, ◌++◌, Option, Some}
 use Rattle.std.specs.Io.KnownBytes.{Consumes, Appends, IsAtEnd}
-use Rattle.commands.specs.declared.reply.Reply.{Reply}
-use Rattle.session.specs.Hearing.{Input, Comes}
-use Rattle.session.specs.Stages.{SessionState}
-use Rattle.session.specs.Machine.{Verdict, print}
-use Rattle.session.specs.declared.env.Env.{Env}
+use Rattle.replies.specs.declared.reply.Reply.{Reply}
+use Rattle.machine.specs.Hearing.{Input, Comes}
+use Rattle.machine.specs.Stages.{SessionState}
+use Rattle.machine.specs.Machine.{Verdict, print}
+use Rattle.machine.specs.declared.env.Env.{Env}
 use Rattle.hub.specs.State.{HubState, session_of}
 use Rattle.hub.specs.Runs.{HubStep, IfOpen, heard}
 use Rattle.hub.specs.Runs.Event.{Gets}

@@ -1,7 +1,7 @@
 //! Where what calls hand in from outside comes from.
 ghost use Rattle.std.specs.Prelude.{◌≤◌};
 
-use session::Env;
+use machine::Env;
 
 /// A source of what calls hand in from outside: a clock and random words, say.
 pub trait EnvSource {

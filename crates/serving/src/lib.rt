@@ -7,5 +7,5 @@ mod stdio;
 
 pub use envs::EnvSource;
 pub use fault::ServeFault;
-pub use session::Env;
+pub use machine::Env;
 pub use stdio::run_stdio;

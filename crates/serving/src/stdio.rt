@@ -7,7 +7,7 @@ ghost use Rattle.serving.specs.Stream.{Hears, IsServed, Serves};
 use crate::envs::EnvSource;
 use crate::fault::ServeFault;
 use hub::{Hub, HubFault, SessionId};
-use session::SoleAccess;
+use machine::SoleAccess;
 use std::alloc::Global;
 use std::io;
 use std::io::{ErrorKind, Read, Write};

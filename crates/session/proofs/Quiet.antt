@@ -2,8 +2,8 @@
 use Rattle.std.proofs.Common.{◌≡◌, ℕ, List, [], ◌∷◌, Bool, true, false, Option, Some, None, refl, sym, ap, subst}
 use Rattle.std.specs.Prelude.{Result, Ok, Err, if◌then◌else◌, codes}
 use Rattle.svnpath.specs.Urls.{path_of_text, root_of_text}
-use Rattle.commands.specs.Forms.{is_name}
-use Rattle.commands.specs.declared.reply.Reply.TheVariants as replies
+use Rattle.forms.specs.Forms.{is_name}
+use Rattle.replies.specs.declared.reply.Reply.TheVariants as replies
 use Rattle.svnpath.specs.Paths.{PathValue}
 use Rattle.svnpath.specs.declared.fault.PathFault.{PathFault}
 use Rattle.repo_api.specs.States.{RepoState}
@@ -12,23 +12,23 @@ use Rattle.commands.specs.declared.command.MainCommand.{MainCommand}
 use Rattle.commands.specs.declared.command.MainCommand.TheVariants.{GetLatestRev, CheckPath, RevProplist, Commit, AbortEdit}
 use Rattle.commands.specs.declared.login.ClientGreeting.{ClientGreeting}
 use Rattle.commands.specs.declared.login.AuthResponse.{AuthResponse}
-use Rattle.commands.specs.declared.fault.CommandFault.{CommandFault}
-use Rattle.commands.specs.declared.fault.CommandFault.TheVariants.{UnknownName, BadParameters, NoMemory}
-use Rattle.commands.specs.declared.reply.Reply.{Reply}
+use Rattle.forms.specs.declared.fault.CommandFault.{CommandFault}
+use Rattle.forms.specs.declared.fault.CommandFault.TheVariants.{UnknownName, BadParameters, NoMemory}
+use Rattle.replies.specs.declared.reply.Reply.{Reply}
 use Rattle.refusals.specs.declared.Refusal.{Refusal}
-use Rattle.session.specs.declared.asked.Asked.{Asked}
-use Rattle.session.specs.Points.{Point, world}
-use Rattle.session.specs.Settings.{Settings}
-use Rattle.session.specs.Hearing.{Input}
-use Rattle.session.specs.Hearing.Input.{Broken}
-use Rattle.session.specs.Machine.{Verdict, Effect, Answer, InputStep, says, speaks, malformed, url_answer, greeting_answer, login_answer, command_answer, asked_by, lock_tokens, commit_begins, skipping_answer}
-use Rattle.session.specs.Machine.Effect.{Nothing}
-use Rattle.session.specs.Access.{Served, Moves}
-use Rattle.session.specs.Replying.{IsAnswered}
-use Rattle.session.specs.declared.env.Env.{Env}
-use Rattle.session.specs.Stages.{Stage}
-use Rattle.session.specs.declared.phase.Phase.TheVariants.{Greeted, LoggingIn, Serving, Editing, Skipping, Ended}
-use Rattle.session.specs.declared.phase.Client.{Client}
+use Rattle.machine.specs.declared.asked.Asked.{Asked}
+use Rattle.machine.specs.Points.{Point, world}
+use Rattle.machine.specs.Settings.{Settings}
+use Rattle.machine.specs.Hearing.{Input}
+use Rattle.machine.specs.Hearing.Input.{Broken}
+use Rattle.machine.specs.Machine.{Verdict, Effect, Answer, InputStep, says, speaks, malformed, url_answer, greeting_answer, login_answer, command_answer, asked_by, lock_tokens, commit_begins, skipping_answer}
+use Rattle.machine.specs.Machine.Effect.{Nothing}
+use Rattle.machine.specs.Access.{Served, Moves}
+use Rattle.machine.specs.Replying.{IsAnswered}
+use Rattle.machine.specs.declared.env.Env.{Env}
+use Rattle.machine.specs.Stages.{Stage}
+use Rattle.machine.specs.declared.phase.Phase.TheVariants.{Greeted, LoggingIn, Serving, Editing, Skipping, Ended}
+use Rattle.machine.specs.declared.phase.Client.{Client}
 
 -- an answer that uses no word and changes nothing
 pub record IsQuiet (env : Env) (a : Answer) : Type 0 where

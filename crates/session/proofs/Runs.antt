@@ -2,15 +2,15 @@
 use Rattle.std.proofs.Common.{◌≡◌, ℕ, List, [], ◌∷◌, ◌++◌, Bool, true, refl, sym, ap, subst, ◌∙◌, inl, inr, append-nil, append_assoc}
 use Rattle.items.specs.Print.{printed}
 use Rattle.repo_api.specs.Accepted.{Accepted}
-use Rattle.commands.specs.Replies.{reply_tree}
-use Rattle.commands.specs.declared.reply.Reply.{Reply}
-use Rattle.session.specs.Points.{Point}
-use Rattle.session.specs.Settings.{Settings}
-use Rattle.session.specs.Hearing.{Input, Brings, Comes, IsSettled}
-use Rattle.session.specs.Machine.{Verdict, print}
-use Rattle.session.specs.Access.{Served, SessionRun, Fails, Fed, Lost}
-use Rattle.session.specs.declared.env.Env.{Env}
-use Rattle.session.specs.Stages.{Stage, is_open}
+use Rattle.replies.specs.Replies.{reply_tree}
+use Rattle.replies.specs.declared.reply.Reply.{Reply}
+use Rattle.machine.specs.Points.{Point}
+use Rattle.machine.specs.Settings.{Settings}
+use Rattle.machine.specs.Hearing.{Input, Brings, Comes, IsSettled}
+use Rattle.machine.specs.Machine.{Verdict, print}
+use Rattle.machine.specs.Access.{Served, SessionRun, Fails, Fed, Lost}
+use Rattle.machine.specs.declared.env.Env.{Env}
+use Rattle.machine.specs.Stages.{Stage, is_open}
 
 pub print-append : (xs ys : List Reply) → print (xs ++ ys) ≡ print xs ++ print ys
 print-append [] ys = refl

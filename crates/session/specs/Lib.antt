@@ -1,9 +1,1 @@
-pub mod Settings
-pub mod Points
-pub mod Hearing
-pub mod Declines
-pub mod Stages
-pub mod Machine
-pub mod Access
-pub mod Replying
-pub mod Soundness
+pub mod Taking

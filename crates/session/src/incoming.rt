@@ -1,7 +1,7 @@
 //! What a stream of bytes brings.
 ghost use Rattle.std.specs.Prelude.{◌≡◌, ◌<◌, length, IfOk, OnErr, MatchOption, Some};
-ghost use Rattle.session.specs.Hearing.{Brings, input_of, IsSettled};
-ghost use Rattle.session.specs.Declines.{Shortens, IsBrokenFault};
+ghost use Rattle.machine.specs.Hearing.{Brings, IsSettled};
+ghost use Rattle.session.specs.Taking.{input_of, Shortens, IsBrokenFault};
 
 use items::{Item, ItemFault, ItemReader};
 use std::alloc::AllocError;

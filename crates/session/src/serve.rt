@@ -2,30 +2,31 @@
 ghost use Rattle.std.specs.Prelude.{◌≡◌, ◌∷◌, ◌++◌, [], ℕ, Ok, IfOk, OnOk, OnErr, MatchOption, ◌≤◌};
 ghost use Rattle.commands.specs.Commands.{main_command};
 ghost use Rattle.commands.specs.Logins.{client_greeting, auth_response};
-ghost use Rattle.commands.specs.declared.reply.Reply.{Reply};
-ghost use Rattle.commands.specs.declared.reply.Reply.TheVariants as replies;
+ghost use Rattle.replies.specs.declared.reply.Reply.{Reply};
+ghost use Rattle.replies.specs.declared.reply.Reply.TheVariants as replies;
 ghost use Rattle.refusals.specs.declared.Refusal.TheVariants as refusals;
 ghost use Rattle.items.specs.View.{tree_of};
 ghost use Rattle.svnpath.specs.Texts.{joined};
-ghost use Rattle.session.specs.Points.{world};
-ghost use Rattle.session.specs.Hearing.{input_of};
-ghost use Rattle.session.specs.Hearing.Input.{Whole, Broken};
-ghost use Rattle.session.specs.Machine.{check_path_reply, rev_proplist_reply, at_revision, greeting_answer, login_answer, command_answer};
-ghost use Rattle.session.specs.Stages.{RestsOn};
-ghost use Rattle.session.specs.Access.{Served, Fails};
-ghost use Rattle.session.specs.Replying.{IsAnswered};
-ghost use Rattle.session.specs.declared.env.Env.{Env};
+ghost use Rattle.machine.specs.Points.{world};
+ghost use Rattle.session.specs.Taking.{input_of};
+ghost use Rattle.machine.specs.Hearing.Input.{Whole, Broken};
+ghost use Rattle.machine.specs.Machine.{check_path_reply, rev_proplist_reply, at_revision, greeting_answer, login_answer, command_answer};
+ghost use Rattle.machine.specs.Stages.{RestsOn};
+ghost use Rattle.machine.specs.Access.{Served, Fails};
+ghost use Rattle.machine.specs.Replying.{IsAnswered};
+ghost use Rattle.machine.specs.declared.env.Env.{Env};
 
-use crate::access::RepoAccess;
-use crate::edit::{begin_edit, edit_item, skip};
-use crate::env::Env;
 use crate::incoming::Incoming;
-use crate::options::Options;
-use crate::phase::{Client, Phase, SessionPhase, drop_edit, forget};
-use crate::writing::{end_malformed, say, say_both};
-use commands::{AuthResponse, ClientGreeting, CommandFault, MainCommand, Reply, path_refusal};
+use commands::{AuthResponse, ClientGreeting, MainCommand};
+use committing::{begin_edit, edit_item, skip};
+use forms::CommandFault;
 use items::{Item, Text};
-use refusals::Refusal;
+use machine::{
+    Client, Env, Options, Phase, RepoAccess, SessionPhase, drop_edit, end_malformed, forget, say,
+    say_both, text_of,
+};
+use refusals::{Refusal, path_refusal};
+use replies::Reply;
 use repo_api::{Properties, Repository};
 use std::alloc::{AllocError, Global};
 use svnpath::{Path, PathFault, RepositoryUrl};
@@ -90,7 +91,7 @@ fn begin<R: Repository>(
 fn realm(alloc: Global, options: &Options) -> Result<Text, AllocError>
     ensures { IfOk result (λ realm. realm ≡ options.now.name) }
 {
-    Ok(Text::from_vec(Vec::from_slice(alloc, options.name().as_bytes())?))
+    Ok(text_of(alloc, options.name().as_bytes())?)
 }
 
 /// The choice of a mechanism.
@@ -139,7 +140,7 @@ fn admit<R: Repository, A: RepoAccess<View = R>>(
         return Ok(Phase::LoggingIn(client));
     }
     let view = access.look()?;
-    let root = Text::from_vec(Vec::from_slice(alloc, client.root.as_slice())?);
+    let root = text_of(alloc, client.root.as_slice())?;
     say_both(
         alloc,
         &Reply::Success,

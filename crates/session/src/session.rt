@@ -1,18 +1,14 @@
 //! A session with one client.
 ghost use Rattle.std.specs.Prelude.{◌≡◌, ◌++◌, ◌≤◌, [], true, false, IfOk, OnOk, OnErr, IfErr, IsErrOf};
-ghost use Rattle.session.specs.Points.{world};
-ghost use Rattle.session.specs.Stages.{is_open, RestsOn};
-ghost use Rattle.session.specs.Access.{Fed, Lost};
-ghost use Rattle.session.specs.declared.phase.Phase.TheVariants.{Greeted};
+ghost use Rattle.machine.specs.Points.{world};
+ghost use Rattle.machine.specs.Stages.{is_open, RestsOn};
+ghost use Rattle.machine.specs.Access.{Fed, Lost};
+ghost use Rattle.machine.specs.declared.phase.Phase.TheVariants.{Greeted};
 
-use crate::access::RepoAccess;
-use crate::env::Env;
 use crate::incoming::{Incoming, take_incoming};
-use crate::open::is_open;
-use crate::options::Options;
-use crate::phase::{Phase, SessionPhase};
 use crate::serve::serve;
 use items::ItemReader;
+use machine::{Env, Options, Phase, RepoAccess, SessionPhase, is_open};
 use repo_api::Repository;
 use std::alloc::{AllocError, Global};
 use std::marker::Model;
@@ -75,7 +71,7 @@ pub struct Session<R: Repository> {
 impl<R: Repository> Model for Session<R> {
     ghost use Rattle.std.specs.Coded.{codes};
     ghost use Rattle.std.specs.FinMap.{code as map_code};
-    ghost use Rattle.session.specs.Stages.{SessionState};
+    ghost use Rattle.machine.specs.Stages.{SessionState};
 
     ghost Value = { SessionState };
 

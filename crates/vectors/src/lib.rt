@@ -2,6 +2,8 @@
 #![tactic(auto)]
 
 #[cfg(test)]
+mod challenges;
+#[cfg(test)]
 mod deltas;
 #[cfg(test)]
 mod paths;

@@ -1,7 +1,7 @@
 use Rattle.std.proofs.Common.{◌≡◌, ℕ, List, Some, sym, ap, subst, ◌∙◌}
 use Rattle.std.proofs.lemmas.Option.{get_or_from_slice_get}
-use Rattle.session.specs.Points.{world}
-use Rattle.session.specs.Stages.{SessionState}
+use Rattle.machine.specs.Points.{world}
+use Rattle.machine.specs.Stages.{SessionState}
 use Rattle.hub.specs.State.{session_of, without, kept}
 use Rattle.hub.specs.Runs.{Feeds, Breaks}
 use Rattle.hub.proofs.Composing.{hub_at}

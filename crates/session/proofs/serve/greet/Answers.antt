@@ -1,6 +1,6 @@
 use Rattle.items.specs.View.{tree_of}
 use Rattle.commands.specs.Logins.{client_greeting}
-use Rattle.session.proofs.Refusing.{bad, unknown}
+use Rattle.machine.proofs.Refusing.{bad, unknown}
 use Rattle.session.proofs.serve.greet.Goals as goal
 
 pub returns-in_ok-phase-in-Err-UnknownName : goal.returns-in_ok-phase-in-Err-UnknownName

@@ -1,6 +1,6 @@
 use Rattle.items.specs.View.{tree_of}
 use Rattle.commands.specs.Logins.{auth_response}
-use Rattle.session.proofs.Refusing.{bad, unknown}
+use Rattle.machine.proofs.Refusing.{bad, unknown}
 use Rattle.session.proofs.serve.log_in.Goals as goal
 
 pub returns-in_ok-phase-in-Err-UnknownName-clause-ok : goal.returns-in_ok-phase-in-Err-UnknownName-clause-ok

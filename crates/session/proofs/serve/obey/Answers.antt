@@ -1,6 +1,6 @@
 use Rattle.items.specs.View.{tree_of}
 use Rattle.commands.specs.Commands.{main_command}
-use Rattle.session.proofs.Refusing.{bad}
+use Rattle.machine.proofs.Refusing.{bad}
 use Rattle.session.proofs.serve.obey.Goals as goal
 
 pub returns-in_ok-phase-in-Err-BadParameters-clause-ok : goal.returns-in_ok-phase-in-Err-BadParameters-clause-ok

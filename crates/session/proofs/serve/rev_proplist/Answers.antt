@@ -1,7 +1,7 @@
 use Rattle.std.proofs.Common.{sym, ap, ◌∙◌}
 use Rattle.std.specs.Prelude.{option_copied}
 use Rattle.repo_api.specs.Kinds.{properties_at, or_empty}
-use Rattle.commands.specs.declared.reply.Reply.TheVariants as replies
+use Rattle.replies.specs.declared.reply.Reply.TheVariants as replies
 use Rattle.session.proofs.serve.rev_proplist.Goals as goal
 
 pub returns-in_ok-clone-in-Some-revision_properties : goal.returns-in_ok-clone-in-Some-revision_properties

@@ -1,7 +1,7 @@
 use Rattle.std.proofs.Common.{[], refl, sym, append-nil}
-use Rattle.session.specs.Hearing.Input.{Broken}
-use Rattle.session.specs.Machine.{says, malformed}
-use Rattle.session.specs.declared.phase.Phase.TheVariants.{Greeted, LoggingIn, Serving, Editing, Skipping, Ended}
+use Rattle.machine.specs.Hearing.Input.{Broken}
+use Rattle.machine.specs.Machine.{says, malformed}
+use Rattle.machine.specs.declared.phase.Phase.TheVariants.{Greeted, LoggingIn, Serving, Editing, Skipping, Ended}
 use Rattle.session.proofs.Quiet.{said, quiet_malformed, quiet_end}
 use Rattle.session.proofs.serve.serve_broken.Goals as goal
 

@@ -2,14 +2,14 @@ use Rattle.std.proofs.Common.{[], refl, sym, append-nil}
 use Rattle.items.specs.View.{tree_of}
 use Rattle.commands.specs.Commands.{main_command}
 use Rattle.commands.specs.Logins.{client_greeting, auth_response}
-use Rattle.session.specs.Points.{world}
-use Rattle.session.specs.Hearing.Input.{Whole}
-use Rattle.session.specs.Machine.{says, greeting_answer, login_answer, command_answer, skipping_answer}
-use Rattle.session.specs.declared.phase.Phase.TheVariants.{Greeted, LoggingIn, Serving, Skipping, Ended}
+use Rattle.machine.specs.Points.{world}
+use Rattle.machine.specs.Hearing.Input.{Whole}
+use Rattle.machine.specs.Machine.{says, greeting_answer, login_answer, command_answer, skipping_answer}
+use Rattle.machine.specs.declared.phase.Phase.TheVariants.{Greeted, LoggingIn, Serving, Skipping, Ended}
 use Rattle.session.proofs.Quiet.{said, quiet_greeting, quiet_login, quiet_command, quiet_skipping, quiet_end}
-use Rattle.session.proofs.Edits.{edit_served, edit_fails}
+use Rattle.session.proofs.Editing.{edit_served, edit_fails}
 use Rattle.std.proofs.lemmas.Result.{err_from_is_err_and}
-use Rattle.commands.specs.Editing.{ends_edit}
+use Rattle.edit_commands.specs.Editing.{ends_edit}
 use Rattle.session.proofs.serve.serve_item.Goals as goal
 
 pub returns-in_ok-after-in-Greeted-clause-ok : goal.returns-in_ok-after-in-Greeted-clause-ok

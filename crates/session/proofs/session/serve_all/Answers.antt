@@ -1,8 +1,8 @@
 use Rattle.std.proofs.Common.{sym, ◌∙◌}
 use Rattle.std.proofs.lemmas.Result.{err_from_is_err_and}
 use Rattle.std.proofs.lemmas.Bool.{false≢true}
-use Rattle.session.specs.Hearing.{input_of}
-use Rattle.session.proofs.Resting.{rests_served}
+use Rattle.session.specs.Taking.{input_of}
+use Rattle.machine.proofs.Resting.{rests_served}
 use Rattle.session.proofs.Runs.{start, more, finish, stop, halt}
 use Rattle.session.proofs.session.serve_all.Goals as goal
 

@@ -1,6 +1,6 @@
 use Rattle.std.proofs.Common.{length}
-use Rattle.session.specs.Points.{world}
-use Rattle.session.specs.Stages.{RestsOn}
+use Rattle.machine.specs.Points.{world}
+use Rattle.machine.specs.Stages.{RestsOn}
 use Rattle.session.proofs.Runs.{Progress}
 use Rattle.session.proofs.session.serve_all.Given as goal
 

@@ -1,6 +1,6 @@
 use Rattle.std.proofs.Common.{◌≡◌, [], refl, ap, false}
 use Rattle.repo_api.specs.States.{RepoState}
-use Rattle.session.specs.Points.{Point}
+use Rattle.machine.specs.Points.{Point}
 use Rattle.hub.proofs.direct.DirectRepoAccess.commit.Goals as goal
 
 pub returns-in-Ok-clause-ok : goal.returns-in-Ok-clause-ok

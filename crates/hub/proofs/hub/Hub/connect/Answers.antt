@@ -1,6 +1,6 @@
 use Rattle.std.proofs.Common.{rules, ◌⊎◌, inl, inr, ◌≤◌, ◌^◌, length, false, ◌≡◌, [], ◌∷◌, ◌+◌, refl, sym, ap, subst, ◌∙◌}
-use Rattle.session.specs.Points.{world}
-use Rattle.commands.specs.declared.reply.Reply.TheVariants.{Greeting}
+use Rattle.machine.specs.Points.{world}
+use Rattle.replies.specs.declared.reply.Reply.TheVariants.{Greeting}
 use Rattle.hub.specs.State.{HubState}
 use Rattle.hub.specs.Calls.{ConnectsAs}
 use Rattle.hub.specs.Runs.{new_session}

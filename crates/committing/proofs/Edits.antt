@@ -1,0 +1,120 @@
+-- The steps of an edit.
+use Rattle.std.proofs.Common.{◌≡◌, ℕ, List, [], ◌∷◌, ◌++◌, Bool, Option, Some, None, refl, sym, ap, subst, ◌∙◌, ◌⊎◌, inl, inr}
+use Rattle.std.specs.Prelude.{Result, Ok, Err, IsTrue}
+use Rattle.dates.specs.Dates.{IsDateText}
+use Rattle.items.specs.Tree.{Tree}
+use Rattle.refusals.specs.declared.Refusal.{Refusal}
+use Rattle.repo_api.specs.States.{RepoState, TxnState}
+use Rattle.repo_api.specs.Commits.{commit_refusal}
+use Rattle.repo_api.specs.Accepted.{Accepted}
+use Rattle.repo_api.specs.Accepted.Accepted.{Commits}
+use Rattle.repo_api.specs.declared.ask.CommitAsk.{CommitAsk}
+use Rattle.edit_commands.specs.Editing.{editor_command}
+use Rattle.edit_commands.specs.declared.editing.EditorCommand.{EditorCommand}
+use Rattle.edit_commands.specs.declared.editing.EditorCommand.TheVariants.{OpenRoot, AddDirectory, OpenDirectory, CloseDirectory, CloseEdit, AbortEdit}
+use Rattle.edit_commands.specs.declared.editing.AddedEntry.{AddedEntry}
+use Rattle.edit_commands.specs.declared.editing.OpenedEntry.{OpenedEntry}
+use Rattle.forms.specs.declared.fault.CommandFault.{CommandFault}
+use Rattle.forms.specs.declared.fault.CommandFault.TheVariants.{UnknownName, BadParameters, NoMemory}
+use Rattle.replies.specs.declared.reply.Reply.{Reply}
+use Rattle.replies.specs.declared.reply.Reply.TheVariants as replies
+use Rattle.editor.specs.Editor.{EditState, edit_refusal, finished, Applies}
+use Rattle.machine.specs.Points.{Point, world}
+use Rattle.machine.specs.Settings.{Settings}
+use Rattle.machine.specs.Stages.{Stage}
+use Rattle.machine.specs.Hearing.Input.{Whole}
+use Rattle.machine.specs.Machine.{Verdict, Answer, Edits, EditStep, CommitStep, CloseStep, EditingStep, commit_answer, commit_ask, says, gives_up, print}
+use Rattle.machine.specs.Machine.Verdict.{Went, Failed, Halts}
+use Rattle.machine.specs.Access.{Happens, Made, Misses, Served, Fails, IsHalt}
+use Rattle.machine.specs.declared.asked.Asked.{Asked}
+use Rattle.machine.specs.declared.env.Env.{Env}
+use Rattle.machine.specs.declared.phase.Phase.TheVariants.{Serving, Editing}
+use Rattle.machine.specs.declared.phase.Client.{Client}
+
+-- ---- which commands edit
+
+-- the command is one of those that edit
+abbrev pub IsEditing : EditorCommand → Type 0
+IsEditing command =
+    ((x : Option ℕ) × (y : List ℕ) × (command ≡ OpenRoot x y))
+    ⊎ (((x : AddedEntry) × (command ≡ AddDirectory x))
+    ⊎ (((x : OpenedEntry) × (command ≡ OpenDirectory x)) ⊎ ((x : List ℕ) × (command ≡ CloseDirectory x))))
+
+pub edits_step : (may : Verdict → Bool) (env : Env) (c : RepoState) (client : Client) (asked : Asked) (edit : EditState) (command : EditorCommand) (a : Answer)
+    → IsEditing command → EditStep env c client asked edit command a → EditingStep may env c client asked edit (Ok command) a
+edits_step may env c client asked edit command a (inl (x, y, is)) step = rw is (rw is at step)
+edits_step may env c client asked edit command a (inr (inl (x, is))) step = rw is (rw is at step)
+edits_step may env c client asked edit command a (inr (inr (inl (x, is)))) step = rw is (rw is at step)
+edits_step may env c client asked edit command a (inr (inr (inr (x, is)))) step = rw is (rw is at step)
+
+-- ---- what they answer
+
+pub edit_goes_on : (env : Env) (c : RepoState) (client : Client) (asked : Asked) (edit after : EditState) (command : EditorCommand)
+    → edit_refusal c edit command ≡ None → Applies c edit command after → EditStep env c client asked edit command (says env (Editing client asked after) [])
+edit_goes_on env c client asked edit after command accepted applies =
+    subst (λ (r : Option Refusal). Edits env c client asked edit command r (says env (Editing client asked after) [])) (sym accepted) (after, applies, refl)
+
+pub edit_ends : (env : Env) (c : RepoState) (client : Client) (asked : Asked) (edit : EditState) (command : EditorCommand) (r : Refusal)
+    → edit_refusal c edit command ≡ Some r → EditStep env c client asked edit command (gives_up env client r)
+edit_ends env c client asked edit command r refused =
+    subst (λ (o : Option Refusal). Edits env c client asked edit command o (gives_up env client r)) (sym refused) refl
+
+pub commit_accepted : (may : Verdict → Bool) (env : Env) (c : RepoState) (client : Client) (asked : Asked) (t : TxnState) (v : Verdict) (date : List ℕ)
+    → commit_refusal c t ≡ None → IsTrue (may v) → IsDateText env.moment date → CloseStep may env c client asked (Ok t) (commit_answer env c client asked t date v)
+commit_accepted may env c client asked t v date accepted allowed is_date =
+    subst (λ (o : Option Refusal). CommitStep may env c client asked t o (commit_answer env c client asked t date v)) (sym accepted) (v, allowed, date, is_date, refl)
+
+pub commit_refused : (may : Verdict → Bool) (env : Env) (c : RepoState) (client : Client) (asked : Asked) (t : TxnState) (r : Refusal)
+    → commit_refusal c t ≡ Some r → CloseStep may env c client asked (Ok t) (says env (Serving client) (replies.Failure r ∷ []))
+commit_refused may env c client asked t r refused =
+    subst (λ (o : Option Refusal). CommitStep may env c client asked t o (says env (Serving client) (replies.Failure r ∷ []))) (sym refused) refl
+
+pub close_refused : (may : Verdict → Bool) (env : Env) (c : RepoState) (client : Client) (asked : Asked) (f : Result TxnState Refusal) (r : Refusal)
+    → f ≡ Err r → CloseStep may env c client asked f (says env (Serving client) (replies.Failure r ∷ []))
+close_refused may env c client asked f r is =
+    subst (λ (x : Result TxnState Refusal). CloseStep may env c client asked x (says env (Serving client) (replies.Failure r ∷ []))) (sym is) refl
+
+module _ (between : Point → Point → Type 0) (adds : Point → Accepted → Point → Type 0) (step : RepoState → Answer → Type 0) where
+  -- a step that changes nothing, at the point that was looked at
+  pub made : (p q : Point) (env : Env) (phase : Stage) (told : List Reply) (out out' : List ℕ)
+      → between p q → step (world q) (says env phase told) → out' ≡ out ++ print told → Made between adds step p out q phase out'
+  made p q env phase told out out' later step_is written = record {
+    answer = says env phase told;
+    happens = record { at = q; later = later; step_is = step_is; moves = refl };
+    phase_after = refl;
+    written = written;
+  }
+
+module _ (between : Point → Point → Type 0) (adds : Point → Accepted → Point → Type 0) (may : Verdict → Bool) (env : Env) (client : Client) (asked : Asked) (t : TxnState) (date : List ℕ) (is_date : IsDateText env.moment date) where
+  -- a commit that is written
+  pub committed : (p at q : Point) (ask : CommitAsk) → between p at → commit_refusal (world at) t ≡ None → IsTrue (may Went)
+      → ask ≡ commit_ask client asked date → adds at (Commits ask t) q
+      → Happens between adds (λ c a. CloseStep may env c client asked (Ok t) a) p (commit_answer env (world at) client asked t date Went) q
+  committed p at q ask later accepted allowed asks added = record {
+    at = at;
+    later = later;
+    step_is = commit_accepted may env (world at) client asked t Went date accepted allowed is_date;
+    moves = subst (λ (x : CommitAsk). adds at (Commits x t) q) asks added;
+  }
+
+  -- a commit of which nobody knows whether it is written
+  pub halted : (p at q : Point) → between p at → commit_refusal (world at) t ≡ None → IsTrue (may Halts) → IsHalt at q
+      → Happens between adds (λ c a. CloseStep may env c client asked (Ok t) a) p (commit_answer env (world at) client asked t date Halts) q
+  halted p at q later accepted allowed halts = record {
+    at = at;
+    later = later;
+    step_is = commit_accepted may env (world at) client asked t Halts date accepted allowed is_date;
+    moves = halts;
+  }
+
+-- a step that is made is made as any other that it is
+pub made_as : (between : Point → Point → Type 0) (adds : Point → Accepted → Point → Type 0) (step step' : RepoState → Answer → Type 0) → ((c : RepoState) (a : Answer) → step c a → step' c a)
+    → (p q : Point) (phase : Stage) (out out' : List ℕ) → Made between adds step p out q phase out' → Made between adds step' p out q phase out'
+made_as between adds step step' as_step p q phase out out' m =
+    let h = m.happens in
+    record {
+      answer = m.answer;
+      happens = record { at = h.at; later = h.later; step_is = as_step (world h.at) m.answer h.step_is; moves = h.moves };
+      phase_after = m.phase_after;
+      written = m.written;
+    }

@@ -1,0 +1,415 @@
+//! A commit: its beginning, its commands and its end.
+ghost use Rattle.std.specs.Prelude.{◌≡◌, ◌++◌, ◌∷◌, ◌≤◌, [], ℕ, List, Ok, Err, Some, None, IfOk, OnOk, OnErr, MatchResult, option_map, Option, Bool};
+ghost use Rattle.std.specs.List.{list_all};
+ghost use Rattle.svnpath.specs.Paths.{PathValue};
+ghost use Rattle.svnpath.specs.Components.{Answers};
+ghost use Rattle.items.specs.View.{tree_of};
+ghost use Rattle.dates.specs.Dates.{IsDateText};
+ghost use Rattle.repo_api.specs.States.{IsBeginning};
+ghost use Rattle.repo_api.specs.Properties.{PropertyList};
+ghost use Rattle.edit_commands.specs.Editing.{editor_command, ends_edit};
+ghost use Rattle.editor.specs.Editor.{IfRefused, finished, RestsOn};
+ghost use Rattle.machine.specs.Points.{world};
+ghost use Rattle.machine.specs.Machine.{print, lock_tokens, is_property_name, are_named, set_all, asked_by, commit_begins, skipping_answer, CommitStep, CloseStep, EditStep, EditingStep};
+ghost use Rattle.machine.specs.Access.{Made, Misses};
+ghost use Rattle.machine.specs.Replying.{IsAnswered};
+ghost use Rattle.machine.specs.declared.env.Env.{Env};
+
+use commands::CommitCommand;
+use dates::date_text;
+use edit_commands::{EditorCommand, ends_edit};
+use editor::{CommitEditor, EditFault};
+use forms::{CommandFault, Pairs};
+use items::{Item, Text};
+use machine::{
+    Asked, Client, Env, LockTokens, Options, Phase, RepoAccess, SessionPhase, bytes_of, drop_asked,
+    drop_edit, end_malformed, forget, give_up, refuse, say, say_both, text_of,
+};
+use refusals::{Refusal, path_refusal};
+use replies::Reply;
+use repo_api::{ChangeFault, CommitAsk, Properties, Repository};
+use std::alloc::{AllocError, Global};
+use svnpath::{Bytes, Path, PathFault};
+
+/// The lock tokens that are handed in, with the paths that they name.
+fn lock_tokens(alloc: Global, base: &Path, pairs: &[(Text, Text)]) -> Result<LockTokens, PathFault>
+    ensures { Answers result (lock_tokens base.now pairs.now) }
+{
+    let mut tokens = LockTokens::new(alloc);
+    for pair in pairs {
+        let path = base.join(alloc, pair.0.as_bytes())?;
+        let token = text_of(alloc, pair.1.as_bytes())?;
+        tokens.push(path, token)?;
+    }
+    Ok(tokens)
+}
+
+/// Whether a property may have this name: it has 1 to 255 bytes.
+fn is_property_name(name: &Text) -> bool
+    ensures { result ≡ is_property_name name.now }
+{
+    let bytes = name.as_bytes();
+    0 < bytes.len() && bytes.len() <= 255
+}
+
+/// Whether each property may have its name.
+fn are_names(pairs: &[(Text, Text)]) -> bool
+    ensures { result ≡ list_all (λ pair. is_property_name pair.0) pairs.now }
+{
+    pairs.iter().all(|pair| is_property_name(&pair.0))
+}
+
+/// Whether each revision property that is handed in may have its name.
+fn are_named(properties: &Option<Pairs>) -> bool
+    ensures { result ≡ are_named properties.now }
+{
+    match properties {
+        None => true,
+        Some(pairs) => are_names(pairs.as_slice()),
+    }
+}
+
+/// The pairs as properties.
+fn properties_of(alloc: Global, pairs: &[(Text, Text)]) -> Result<Properties, AllocError>
+    ensures { IfOk result (λ ps. ps ≡ set_all [] pairs.now) }
+{
+    let mut properties = Properties::new(alloc);
+    for pair in pairs {
+        let name = bytes_of(alloc, pair.0.as_bytes())?;
+        let value = bytes_of(alloc, pair.1.as_bytes())?;
+        properties.set(name, value)?;
+    }
+    Ok(properties)
+}
+
+/// The list of revision properties, if there is one.
+fn optional_properties(
+    alloc: Global,
+    pairs: &Option<Pairs>,
+) -> Result<Option<Properties>, AllocError>
+    ensures { IfOk result (λ ps. ps ≡ option_map (set_all []) pairs.now) }
+{
+    match pairs {
+        None => Ok(None),
+        Some(pairs) => Ok(Some(properties_of(alloc, pairs.as_slice())?)),
+    }
+}
+
+/// What a commit asks for, with its lock tokens read.
+fn asked(alloc: Global, command: &CommitCommand, tokens: LockTokens) -> Result<Asked, AllocError>
+    ensures { IfOk result (λ asked. asked ≡ record { message = command.now.message; properties = option_map (set_all []) command.now.properties; tokens = tokens; keep_locks = command.now.keep_locks }) }
+{
+    Ok(Asked {
+        message: bytes_of(alloc, command.message.as_bytes())?,
+        properties: optional_properties(alloc, &command.properties)?,
+        tokens,
+        keep_locks: command.keep_locks,
+    })
+}
+
+/// What a commit asks for, with its lock tokens read, if its revision properties may have their names.
+fn asked_with(
+    alloc: Global,
+    command: &CommitCommand,
+    tokens: LockTokens,
+) -> Result<Asked, EditFault>
+    ensures { MatchResult result (λ asked. asked_by command.now (Ok tokens) ≡ Ok asked) (λ fault. IfRefused fault (λ r. asked_by command.now (Ok tokens) ≡ Err r)) }
+{
+    if !are_named(&command.properties) {
+        return Err(EditFault::Refused(Refusal::NotSupported));
+    }
+    match asked(alloc, command, tokens) {
+        Ok(asked) => Ok(asked),
+        Err(_) => Err(EditFault::NoMemory),
+    }
+}
+
+/// What a commit asks for.
+fn asked_by(alloc: Global, base: &Path, command: &CommitCommand) -> Result<Asked, EditFault>
+    ensures { MatchResult result (λ asked. asked_by command.now (lock_tokens base.now command.now.tokens) ≡ Ok asked) (λ fault. IfRefused fault (λ r. asked_by command.now (lock_tokens base.now command.now.tokens) ≡ Err r)) }
+{
+    match lock_tokens(alloc, base, command.tokens.as_slice()) {
+        Ok(tokens) => {
+            let asked = asked_with(alloc, command, tokens)?;
+            Ok(asked)
+        }
+        Err(PathFault::NoMemory) => Err(EditFault::NoMemory),
+        Err(fault) => Err(EditFault::Refused(path_refusal(fault))),
+    }
+}
+
+/// The beginning of an edit.
+pub fn begin_edit<R: Repository>(
+    alloc: Global,
+    options: &Options,
+    client: Client,
+    command: &CommitCommand,
+    out: &mut Vec<u8>,
+) -> Result<SessionPhase<R>, AllocError>
+    ensures { IfOk result (λ phase. (env : Env) → IsAnswered (commit_begins options.now env client (asked_by command.now (lock_tokens client.path command.now.tokens))) phase out.old.items out.new.items) }
+{
+    match asked_by(alloc, &client.path, command) {
+        Ok(asked) => {
+            let name = String::from_str(alloc, options.name())?;
+            let editor = CommitEditor::new(alloc, client.path.clone()?, name);
+            say_both(alloc, &Reply::NoLogin, &Reply::Success, out)?;
+            Ok(Phase::Editing(client, asked, editor))
+        }
+        Err(EditFault::Refused(refusal)) => {
+            say_both(alloc, &Reply::NoLogin, &Reply::Failure(refusal), out)?;
+            Ok(Phase::Serving(client))
+        }
+        Err(EditFault::NoMemory) => Err(AllocError),
+    }
+}
+
+/// A command that edits. One that is refused gives the edit up.
+fn edit<R: Repository, A: RepoAccess<View = R>>(
+    alloc: Global,
+    client: Client,
+    asked: Asked,
+    editor: CommitEditor<R>,
+    command: &EditorCommand,
+    access: &mut A,
+    env: Env,
+    out: &mut Vec<u8>,
+) -> Result<SessionPhase<R>, AllocError>
+    requires rests { RestsOn editor (world (A.point access.old)) }
+    ensures ok { IfOk result (λ phase. Made A.between A.adds (λ c a. EditStep env c client asked editor command.now a) (A.point access.old) out.old.items (A.point access.new) phase out.new.items) }
+    ensures later { A.between (A.point access.old) (A.point access.new) }
+{
+    let mut editor = editor;
+    let view = access.look()?;
+    match editor.apply(command, &view) {
+        Ok(()) => Ok(Phase::Editing(client, asked, editor)),
+        Err(EditFault::Refused(refusal)) => {
+            say(alloc, &Reply::Failure(refusal), out)?;
+            Ok(give_up(client, asked, editor))
+        }
+        Err(EditFault::NoMemory) => Err(AllocError),
+    }
+}
+
+/// The date of a moment.
+fn date_of(alloc: Global, moment: u64) -> Result<Text, AllocError>
+    requires { moment ≤ 200000000000000000 }
+    ensures { IfOk result (λ date. IsDateText moment date) }
+{
+    let date = date_text(alloc, moment)?;
+    Ok(text_of(alloc, date.as_bytes())?)
+}
+
+/// Who a client is told to have made its commit.
+fn author_of(alloc: Global, user: &Option<Bytes>) -> Result<Option<Text>, AllocError>
+    ensures { IfOk result (λ author. author ≡ user.now) }
+{
+    match user {
+        None => Ok(None),
+        Some(user) => Ok(Some(text_of(alloc, user.as_slice())?)),
+    }
+}
+
+/// What a commit is asked to record.
+fn commit_ask(
+    alloc: Global,
+    user: &Option<Bytes>,
+    asked: Asked,
+    date: &Text,
+) -> Result<CommitAsk, AllocError>
+    ensures { IfOk result (λ ask. ask ≡ record { date = date.now; author = user.now; message = asked.message; properties = asked.properties }) }
+{
+    let Asked {
+        message,
+        properties,
+        ..
+    } = asked;
+    Ok(CommitAsk {
+        date: bytes_of(alloc, date.as_bytes())?,
+        author: user_of(user)?,
+        message,
+        properties,
+    })
+}
+
+/// A copy of a client's user.
+fn user_of(user: &Option<Bytes>) -> Result<Option<Bytes>, AllocError>
+    ensures { IfOk result (λ copy. copy ≡ user.now) }
+{
+    match user {
+        None => Ok(None),
+        Some(user) => Ok(Some(user.clone()?)),
+    }
+}
+
+/// Tells of a commit.
+fn report(
+    alloc: Global,
+    revision: u64,
+    date: Text,
+    author: Option<Text>,
+    out: &mut Vec<u8>,
+) -> Result<(), AllocError>
+    ensures { OnOk result (out.new.items ≡ out.old.items ++ print (Reply.Success ∷ Reply.NoLogin ∷ Reply.CommitInfo revision date author ∷ [])) }
+{
+    say_both(alloc, &Reply::Success, &Reply::NoLogin, out)?;
+    say(alloc, &Reply::CommitInfo(revision, date, author), out)
+}
+
+/// Commits a transaction.
+fn commit<R: Repository, A: RepoAccess<View = R>>(
+    alloc: Global,
+    client: Client,
+    asked: Asked,
+    txn: R::Txn,
+    access: &mut A,
+    env: Env,
+    out: &mut Vec<u8>,
+) -> Result<SessionPhase<R>, AllocError>
+    requires rests { IsBeginning (R.txn_state txn).shown (world (A.point access.old)).revisions }
+    requires moment { env.moment ≤ 200000000000000000 }
+    ensures ok { IfOk result (λ phase. Made A.between A.adds (λ c a. CloseStep A.may env c client asked (Ok (R.txn_state txn)) a) (A.point access.old) out.old.items (A.point access.new) phase out.new.items) }
+    ensures err { OnErr result (Misses A.between A.adds (λ c a. CloseStep A.may env c client asked (Ok (R.txn_state txn)) a) (A.point access.old) (A.point access.new)) }
+{
+    let date = date_of(alloc, env.moment)?;
+    let author = author_of(alloc, &client.user)?;
+    let ask = commit_ask(alloc, &client.user, asked, &date)?;
+    match access.commit(ask, txn) {
+        Ok(revision) => {
+            report(alloc, revision, date, author, out)?;
+            Ok(Phase::Serving(client))
+        }
+        Err(ChangeFault::Refused(refusal)) => {
+            let phase = refuse(alloc, client, refusal, out)?;
+            Ok(phase)
+        }
+        Err(ChangeFault::StoreFailed) => {
+            let phase = refuse(alloc, client, Refusal::StoreFailed, out)?;
+            Ok(phase)
+        }
+        Err(ChangeFault::Halted) => {
+            forget(client);
+            say(alloc, &Reply::Failure(Refusal::StoreFailed), out)?;
+            Ok(Phase::Ended)
+        }
+        Err(ChangeFault::NoMemory) => Err(AllocError),
+    }
+}
+
+/// The end of an edit: its transaction is committed, if it has one.
+fn close<R: Repository, A: RepoAccess<View = R>>(
+    alloc: Global,
+    client: Client,
+    asked: Asked,
+    editor: CommitEditor<R>,
+    access: &mut A,
+    env: Env,
+    out: &mut Vec<u8>,
+) -> Result<SessionPhase<R>, AllocError>
+    requires rests { RestsOn editor (world (A.point access.old)) }
+    requires moment { env.moment ≤ 200000000000000000 }
+    ensures ok { IfOk result (λ phase. Made A.between A.adds (λ c a. CloseStep A.may env c client asked (finished editor) a) (A.point access.old) out.old.items (A.point access.new) phase out.new.items) }
+    ensures err { OnErr result (Misses A.between A.adds (λ c a. CloseStep A.may env c client asked (finished editor) a) (A.point access.old) (A.point access.new)) }
+{
+    match editor.finish() {
+        Ok(txn) => {
+            let phase = commit(alloc, client, asked, txn, access, env, out)?;
+            Ok(phase)
+        }
+        Err(refusal) => {
+            drop_asked(asked);
+            let phase = refuse(alloc, client, refusal, out)?;
+            Ok(phase)
+        }
+    }
+}
+
+/// A command of an edit.
+fn obey<R: Repository, A: RepoAccess<View = R>>(
+    alloc: Global,
+    client: Client,
+    asked: Asked,
+    editor: CommitEditor<R>,
+    command: &EditorCommand,
+    access: &mut A,
+    env: Env,
+    out: &mut Vec<u8>,
+) -> Result<SessionPhase<R>, AllocError>
+    requires rests { RestsOn editor (world (A.point access.old)) }
+    requires moment { env.moment ≤ 200000000000000000 }
+    ensures ok { IfOk result (λ phase. Made A.between A.adds (λ c a. EditingStep A.may env c client asked editor (Ok command.now) a) (A.point access.old) out.old.items (A.point access.new) phase out.new.items) }
+    ensures err { OnErr result (Misses A.between A.adds (λ c a. EditingStep A.may env c client asked editor (Ok command.now) a) (A.point access.old) (A.point access.new)) }
+{
+    match command {
+        EditorCommand::CloseEdit => {
+            let phase = close(alloc, client, asked, editor, access, env, out)?;
+            Ok(phase)
+        }
+        EditorCommand::AbortEdit => {
+            drop_edit(asked, editor);
+            say(alloc, &Reply::Success, out)?;
+            Ok(Phase::Serving(client))
+        }
+        EditorCommand::OpenRoot(..)
+        | EditorCommand::AddDirectory(_)
+        | EditorCommand::OpenDirectory(_)
+        | EditorCommand::CloseDirectory(_) => {
+            let phase = edit(alloc, client, asked, editor, command, access, env, out)?;
+            Ok(phase)
+        }
+    }
+}
+
+/// An item within an edit.
+pub fn edit_item<R: Repository, A: RepoAccess<View = R>>(
+    alloc: Global,
+    client: Client,
+    asked: Asked,
+    editor: CommitEditor<R>,
+    item: &Item,
+    access: &mut A,
+    env: Env,
+    out: &mut Vec<u8>,
+) -> Result<SessionPhase<R>, AllocError>
+    requires rests { RestsOn editor (world (A.point access.old)) }
+    requires moment { env.moment ≤ 200000000000000000 }
+    ensures ok { IfOk result (λ phase. Made A.between A.adds (λ c a. EditingStep A.may env c client asked editor (editor_command (tree_of item.now)) a) (A.point access.old) out.old.items (A.point access.new) phase out.new.items) }
+    ensures err { OnErr result (Misses A.between A.adds (λ c a. EditingStep A.may env c client asked editor (editor_command (tree_of item.now)) a) (A.point access.old) (A.point access.new)) }
+{
+    match EditorCommand::from_item(alloc, item) {
+        Ok(command) => {
+            let phase = obey(alloc, client, asked, editor, &command, access, env, out)?;
+            Ok(phase)
+        }
+        Err(CommandFault::UnknownName) => {
+            say(alloc, &Reply::Failure(Refusal::UnknownCommand), out)?;
+            Ok(give_up(client, asked, editor))
+        }
+        Err(CommandFault::BadParameters) => {
+            forget(client);
+            drop_edit(asked, editor);
+            let phase = end_malformed(alloc, out)?;
+            Ok(phase)
+        }
+        Err(CommandFault::NoMemory) => Err(AllocError),
+    }
+}
+
+/// An item of an edit that was given up.
+pub fn skip<R: Repository>(
+    alloc: Global,
+    client: Client,
+    item: &Item,
+    out: &mut Vec<u8>,
+) -> Result<SessionPhase<R>, AllocError>
+    ensures { IfOk result (λ phase. (env : Env) → IsAnswered (skipping_answer env client (ends_edit (tree_of item.now))) phase out.old.items out.new.items) }
+{
+    match ends_edit(item) {
+        Some(true) => Ok(Phase::Serving(client)),
+        Some(false) => Ok(Phase::Skipping(client)),
+        None => {
+            forget(client);
+            let phase = end_malformed(alloc, out)?;
+            Ok(phase)
+        }
+    }
+}

@@ -1,0 +1,10 @@
+//! The forms of commands: a name and its parameters, what a parameter may be, and why an item is no command.
+#![tactic(auto)]
+
+mod fault;
+mod form;
+mod pairs;
+
+pub use fault::CommandFault;
+pub use form::{copy_text, read_boolean, read_form, read_optional_number, read_optional_string};
+pub use pairs::{Pairs, read_pairs};

@@ -1,0 +1,4 @@
+pub mod Once
+pub mod Refusing
+pub mod Resting
+pub mod Sound

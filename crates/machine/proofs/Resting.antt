@@ -1,0 +1,202 @@
+-- An edit rests on revisions that stay.
+use Rattle.std.proofs.Common.{◌≡◌, ℕ, List, [], ◌++◌, Bool, true, false, Option, Some, None, refl, sym, ap, subst, ◌∙◌, append-nil, append_assoc}
+use Rattle.std.specs.Prelude.{Result, Ok, Err, if◌then◌else◌, codes}
+use Rattle.svnpath.specs.Paths.{PathValue}
+use Rattle.svnpath.specs.Urls.{path_of_text, root_of_text}
+use Rattle.svnpath.specs.declared.fault.PathFault.{PathFault}
+use Rattle.refusals.specs.declared.Refusal.{Refusal}
+use Rattle.repo_api.specs.States.{RepoState, TxnState, Fixed, IsBeginning}
+use Rattle.repo_api.specs.Commits.{commit_refusal}
+use Rattle.repo_api.specs.Accepted.{Accepted, changed}
+use Rattle.repo_api.specs.Accepted.Accepted.{Commits}
+use Rattle.forms.specs.Forms.{is_name}
+use Rattle.commands.specs.Commands.{main_command}
+use Rattle.commands.specs.Logins.{client_greeting, auth_response}
+use Rattle.edit_commands.specs.Editing.{editor_command, ends_edit}
+use Rattle.commands.specs.declared.command.MainCommand.{MainCommand}
+use Rattle.commands.specs.declared.command.MainCommand.TheVariants.{GetLatestRev, CheckPath, RevProplist, Commit}
+use Rattle.commands.specs.declared.command.MainCommand.TheVariants as commands
+use Rattle.edit_commands.specs.declared.editing.EditorCommand.{EditorCommand}
+use Rattle.edit_commands.specs.declared.editing.EditorCommand.TheVariants.{OpenRoot, AddDirectory, OpenDirectory, CloseDirectory, CloseEdit, AbortEdit}
+use Rattle.commands.specs.declared.login.ClientGreeting.{ClientGreeting}
+use Rattle.commands.specs.declared.login.AuthResponse.{AuthResponse}
+use Rattle.forms.specs.declared.fault.CommandFault.{CommandFault}
+use Rattle.forms.specs.declared.fault.CommandFault.TheVariants.{UnknownName, BadParameters, NoMemory}
+use Rattle.editor.specs.Editor.{EditState, RestsIn, RestsOn as EditRestsOn, Applies, edit_refusal, finished}
+use Rattle.machine.specs.Points.{Point, world}
+use Rattle.machine.specs.Settings.{Settings}
+use Rattle.machine.specs.Stages.{Stage, RestsOn}
+use Rattle.machine.specs.Hearing.{Input}
+use Rattle.machine.specs.Hearing.Input.{Whole, Broken}
+use Rattle.machine.specs.Machine.{Verdict, Effect, Answer, InputStep, Edits, CommitStep, CloseStep, EditingStep, content_after, says, speaks, url_answer, greeting_answer, login_answer, command_answer, asked_by, lock_tokens, commit_begins, commit_answer, skipping_answer}
+use Rattle.machine.specs.Machine.Effect.{Nothing, Changes, HaltsChanges}
+use Rattle.machine.specs.Machine.Verdict.{Went, Failed, Halts}
+use Rattle.machine.specs.Access.{Served, Moves}
+use Rattle.machine.specs.declared.asked.Asked.{Asked}
+use Rattle.machine.specs.declared.env.Env.{Env}
+use Rattle.machine.specs.declared.phase.Phase.TheVariants.{Greeted, LoggingIn, Serving, Editing, Skipping, Ended}
+use Rattle.machine.specs.declared.phase.Client.{Client}
+
+-- ---- beginnings
+
+begins : (xs : List Fixed) → IsBeginning xs xs
+begins xs = record { more = []; is = sym (append-nil xs) }
+
+pub beginning_trans : (a b c : List Fixed) → IsBeginning a b → IsBeginning b c → IsBeginning a c
+beginning_trans a b c x y = record { more = x.more ++ y.more; is = y.is ∙ ap (λ z. z ++ y.more) x.is ∙ append_assoc a x.more y.more }
+
+rests_in_trans : (o : Option TxnState) (c d : RepoState) → RestsIn o c → IsBeginning c.revisions d.revisions → RestsIn o d
+rests_in_trans None c d r b = tt
+rests_in_trans (Some t) c d r b = beginning_trans t.shown c.revisions d.revisions r b
+
+pub edit_rests : (e : EditState) (c d : RepoState) → EditRestsOn e c → IsBeginning c.revisions d.revisions → EditRestsOn e d
+edit_rests e c d r b = rests_in_trans e.txn c d r b
+
+rests_trans : (phase : Stage) (c d : RepoState) → RestsOn phase c → IsBeginning c.revisions d.revisions → RestsOn phase d
+rests_trans Greeted c d r b = tt
+rests_trans (LoggingIn client) c d r b = tt
+rests_trans (Serving client) c d r b = tt
+rests_trans (Editing client asked edit) c d r b = edit_rests edit c d r b
+rests_trans (Skipping client) c d r b = tt
+rests_trans Ended c d r b = tt
+
+-- ---- the answers
+
+rests_is : (c : RepoState) (a b : Answer) → a ≡ b → RestsOn b.phase c → RestsOn a.phase c
+rests_is c a b e r = subst (λ (x : Answer). RestsOn x.phase c) (sym e) r
+
+rests_if : (c : RepoState) (b : Bool) (x y : Answer) → RestsOn x.phase c → RestsOn y.phase c → RestsOn (if b then x else y).phase c
+rests_if c true x y p q = p
+rests_if c false x y p q = q
+
+rests_url : (c : RepoState) (s : Settings) (env : Env) (path : Result PathValue PathFault) (root : Result (List ℕ) PathFault) → RestsOn (url_answer s env path root).phase c
+rests_url c s env (Ok path) (Ok root) = tt
+rests_url c s env (Ok path) (Err fault) = tt
+rests_url c s env (Err fault) root = tt
+
+rests_greeting : (c : RepoState) (s : Settings) (env : Env) (r : Result ClientGreeting CommandFault) → RestsOn (greeting_answer s env r).phase c
+rests_greeting c s env (Ok g) =
+    let path = path_of_text g.url s.name in
+    let root = root_of_text g.url s.name in
+    rests_if c (speaks g) (url_answer s env path root) (says env Ended []) (rests_url c s env path root) tt
+rests_greeting c s env (Err fault) = tt
+
+rests_login : (c : RepoState) (env : Env) (client : Client) (r : Result AuthResponse CommandFault) → RestsOn (login_answer env c client r).phase c
+rests_login c env client (Ok r) = rests_if c (is_name r.mechanism (codes "ANONYMOUS")) (says env (Serving client) _) (says env (LoggingIn client) _) tt tt
+rests_login c env client (Err fault) = tt
+
+rests_begins : (c : RepoState) (s : Settings) (env : Env) (client : Client) (r : Result Asked Refusal) → RestsOn (commit_begins s env client r).phase c
+rests_begins c s env client (Ok asked) = tt
+rests_begins c s env client (Err r) = tt
+
+rests_command : (c : RepoState) (s : Settings) (env : Env) (client : Client) (r : Result MainCommand CommandFault) → RestsOn (command_answer s env c client r).phase c
+rests_command c s env client (Ok GetLatestRev) = tt
+rests_command c s env client (Ok (CheckPath path revision)) = tt
+rests_command c s env client (Ok (RevProplist n)) = tt
+rests_command c s env client (Ok (Commit command)) = rests_begins c s env client (asked_by command (lock_tokens client.path command.tokens))
+rests_command c s env client (Ok commands.AbortEdit) = tt
+rests_command c s env client (Err UnknownName) = tt
+rests_command c s env client (Err BadParameters) = tt
+rests_command c s env client (Err NoMemory) = tt
+
+rests_skipping : (c : RepoState) (env : Env) (client : Client) (ends : Option Bool) → RestsOn (skipping_answer env client ends).phase c
+rests_skipping c env client None = tt
+rests_skipping c env client (Some true) = tt
+rests_skipping c env client (Some false) = tt
+
+-- ---- the steps of an edit
+
+-- a transaction that was last shown the repository's revisions
+rests_shown : (c : RepoState) (t : TxnState) → t.shown ≡ c.revisions → RestsIn (Some t) c
+rests_shown c t e = record { more = []; is = sym e ∙ sym (append-nil t.shown) }
+
+rests_at : (c : RepoState) (e : EditState) (o : Option TxnState) → e.txn ≡ o → RestsIn o c → EditRestsOn e c
+rests_at c e o is r = subst (λ (x : Option TxnState). RestsIn x c) (sym is) r
+
+rests_applied : (c : RepoState) (old new : EditState) (command : EditorCommand) → EditRestsOn old c → Applies c old command new → EditRestsOn new c
+rests_applied c old new (OpenRoot revision token) r h = rests_at c new (Some h.txn) (ap (λ (e : EditState). e.txn) h.is) (rests_shown c h.txn h.begun.shown)
+rests_applied c old new (AddDirectory entry) r h = rests_at c new (Some h.after) (ap (λ (e : EditState). e.txn) h.is) (rests_shown c h.after h.edited.shown_now)
+rests_applied c old new (OpenDirectory entry) r h = rests_at c new old.txn (ap (λ (e : EditState). e.txn) h.is) r
+rests_applied c old new (CloseDirectory token) r h = rests_at c new old.txn (ap (λ (e : EditState). e.txn) h) r
+rests_applied c old new CloseEdit r h = absurd h
+rests_applied c old new AbortEdit r h = absurd h
+
+rests_edits : (env : Env) (c : RepoState) (client : Client) (asked : Asked) (edit : EditState) (command : EditorCommand) (r : Option Refusal) (a : Answer)
+    → EditRestsOn edit c → Edits env c client asked edit command r a → RestsOn a.phase c
+rests_edits env c client asked edit command None a rests (after, applies, is) = rests_is c a _ is (rests_applied c edit after command rests applies)
+rests_edits env c client asked edit command (Some r) a rests is = rests_is c a _ is tt
+
+rests_committed : (env : Env) (c : RepoState) (client : Client) (asked : Asked) (t : TxnState) (date : List ℕ) (v : Verdict) → RestsOn (commit_answer env c client asked t date v).phase c
+rests_committed env c client asked t date Went = tt
+rests_committed env c client asked t date Failed = tt
+rests_committed env c client asked t date Halts = tt
+
+rests_commit : (may : Verdict → Bool) (env : Env) (c : RepoState) (client : Client) (asked : Asked) (t : TxnState) (r : Option Refusal) (a : Answer)
+    → CommitStep may env c client asked t r a → RestsOn a.phase c
+rests_commit may env c client asked t (Some r) a is = rests_is c a _ is tt
+rests_commit may env c client asked t None a (v, allowed, date, is_date, is) = rests_is c a _ is (rests_committed env c client asked t date v)
+
+rests_close : (may : Verdict → Bool) (env : Env) (c : RepoState) (client : Client) (asked : Asked) (r : Result TxnState Refusal) (a : Answer)
+    → CloseStep may env c client asked r a → RestsOn a.phase c
+rests_close may env c client asked (Ok t) a step = rests_commit may env c client asked t (commit_refusal c t) a step
+rests_close may env c client asked (Err r) a is = rests_is c a _ is tt
+
+rests_editing : (may : Verdict → Bool) (env : Env) (c : RepoState) (client : Client) (asked : Asked) (edit : EditState) (r : Result EditorCommand CommandFault) (a : Answer)
+    → EditRestsOn edit c → EditingStep may env c client asked edit r a → RestsOn a.phase c
+rests_editing may env c client asked edit (Ok (OpenRoot revision token)) a rests step = rests_edits env c client asked edit (OpenRoot revision token) (edit_refusal c edit (OpenRoot revision token)) a rests step
+rests_editing may env c client asked edit (Ok (AddDirectory entry)) a rests step = rests_edits env c client asked edit (AddDirectory entry) (edit_refusal c edit (AddDirectory entry)) a rests step
+rests_editing may env c client asked edit (Ok (OpenDirectory entry)) a rests step = rests_edits env c client asked edit (OpenDirectory entry) (edit_refusal c edit (OpenDirectory entry)) a rests step
+rests_editing may env c client asked edit (Ok (CloseDirectory token)) a rests step = rests_edits env c client asked edit (CloseDirectory token) (edit_refusal c edit (CloseDirectory token)) a rests step
+rests_editing may env c client asked edit (Ok CloseEdit) a rests step = rests_close may env c client asked (finished edit) a step
+rests_editing may env c client asked edit (Ok AbortEdit) a rests is = rests_is c a _ is tt
+rests_editing may env c client asked edit (Err UnknownName) a rests is = rests_is c a _ is tt
+rests_editing may env c client asked edit (Err BadParameters) a rests is = rests_is c a _ is tt
+rests_editing may env c client asked edit (Err NoMemory) a rests is = rests_is c a _ is tt
+
+-- ---- an input
+
+rests_step : (may : Verdict → Bool) (s : Settings) (env : Env) (c : RepoState) (phase : Stage) (input : Input) (a : Answer) → RestsOn phase c → InputStep may s env c phase input a → RestsOn a.phase c
+rests_step may s env c Greeted (Whole t) a rests is = rests_is c a _ is (rests_greeting c s env (client_greeting t))
+rests_step may s env c (LoggingIn client) (Whole t) a rests is = rests_is c a _ is (rests_login c env client (auth_response t))
+rests_step may s env c (Serving client) (Whole t) a rests is = rests_is c a _ is (rests_command c s env client (main_command t))
+rests_step may s env c (Editing client asked edit) (Whole t) a rests step = rests_editing may env c client asked edit (editor_command t) a rests step
+rests_step may s env c (Skipping client) (Whole t) a rests is = rests_is c a _ is (rests_skipping c env client (ends_edit t))
+rests_step may s env c Greeted Broken a rests is = rests_is c a _ is tt
+rests_step may s env c (LoggingIn client) Broken a rests is = rests_is c a _ is tt
+rests_step may s env c (Serving client) Broken a rests is = rests_is c a _ is tt
+rests_step may s env c (Editing client asked edit) Broken a rests is = rests_is c a _ is tt
+rests_step may s env c (Skipping client) Broken a rests is = rests_is c a _ is tt
+rests_step may s env c Ended input a rests is = rests_is c a _ is tt
+
+change_keeps : (c : RepoState) (e : Accepted) → IsBeginning c.revisions (changed c e).revisions
+change_keeps c (Commits ask t) = record { more = _; is = refl }
+
+effect_keeps : (c : RepoState) (e : Effect) → IsBeginning c.revisions (content_after c e).revisions
+effect_keeps c Nothing = begins c.revisions
+effect_keeps c (Changes e) = change_keeps c e
+effect_keeps c HaltsChanges = begins c.revisions
+
+pub rests_on : (may : Verdict → Bool) (s : Settings) (env : Env) (c : RepoState) (phase : Stage) (input : Input) (a : Answer) → RestsOn phase c → InputStep may s env c phase input a → RestsOn a.phase (content_after c a.effect)
+rests_on may s env c phase input a rests step = rests_trans a.phase c (content_after c a.effect) (rests_step may s env c phase input a rests step) (effect_keeps c a.effect)
+
+module _ (between : Point → Point → Type 0) (adds : Point → Accepted → Point → Type 0)
+    (keeps : (p q : Point) → between p q → IsBeginning (world p).revisions (world q).revisions)
+    (counts : (p : Point) (e : Accepted) (q : Point) → adds p e q → (world q ≡ changed (world p) e) × (q.halted ≡ p.halted)) where
+  pub moved : (p : Point) (e : Effect) (q : Point) → Moves adds p e q → world q ≡ content_after (world p) e
+  moved p Nothing q m = ap world m
+  moved p (Changes e) q m = (counts p e q m).0
+  moved p HaltsChanges q m = m.0
+
+  pub rests_served : (may : Verdict → Bool) (s : Settings) (env env' : Env) (p q : Point) (phase after : Stage) (input : Input) (out out' : List ℕ)
+      → Served between adds may s env p phase input out env' q after out' → RestsOn phase (world p) → RestsOn after (world q)
+  rests_served may s env env' p q phase after input out out' h rests =
+      let a = h.answer in
+      let at = h.serves.at in
+      let before = rests_trans phase (world p) (world at) rests (keeps p at h.serves.later) in
+      let here = rests_on may s env (world at) phase input a before h.serves.step_is in
+      subst (λ (x : Stage). RestsOn x (world q)) (sym h.phase_after)
+      (subst (λ (c : RepoState). RestsOn a.phase c) (sym (moved at a.effect q h.serves.moves)) here)
+
+pub edit_rests_later : (between : Point → Point → Type 0) → ((p q : Point) → between p q → IsBeginning (world p).revisions (world q).revisions)
+    → (e : EditState) (p q : Point) → EditRestsOn e (world p) → between p q → EditRestsOn e (world q)
+edit_rests_later between keeps e p q rests later = edit_rests e (world p) (world q) rests (keeps p q later)

@@ -1,0 +1,5 @@
+use Rattle.machine.proofs.Sound.{leaves_trees}
+use Rattle.machine.proofs.laws.steps_keep_trees.Goals as goal
+
+pub returns : goal.returns
+returns c = leaves_trees c.edits_keep_trees.ensures.begins c.edits_keep_trees.ensures.goes_on c.commits_keep_trees.ensures

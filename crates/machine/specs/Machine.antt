@@ -1,0 +1,265 @@
+-- One session of the machine: where it stands, and what each input does.
+use Rattle.std.specs.Prelude.{◌≡◌, ℕ, Bool, true, false, ◌&&◌, ◌==◌, nat_lt, nat_le, List, [], ◌∷◌, length, Option, Some, None, option_map, Result, Ok, Err, IsTrue, if◌then◌else◌, codes}
+use Rattle.std.specs.List.{flat_map, list_all}
+use Rattle.svnpath.specs.Paths.{PathValue}
+use Rattle.svnpath.specs.Texts.{joined}
+use Rattle.svnpath.specs.Urls.{path_of_text, root_of_text}
+use Rattle.svnpath.specs.declared.fault.PathFault.{PathFault}
+use Rattle.items.specs.Print.{printed}
+use Rattle.refusals.specs.declared.Refusal.{Refusal}
+use Rattle.refusals.specs.declared.Refusal.TheVariants as refusals
+use Rattle.dates.specs.Dates.{IsDateText}
+use Rattle.repo_api.specs.Properties.{PropertyList, with_property}
+use Rattle.repo_api.specs.States.{RepoState, TxnState, youngest}
+use Rattle.repo_api.specs.Commits.{commit_refusal}
+use Rattle.repo_api.specs.Accepted.{Accepted, changed}
+use Rattle.repo_api.specs.Accepted.Accepted.{Commits}
+use Rattle.repo_api.specs.Kinds.{kind_at, properties_at}
+use Rattle.repo_api.specs.declared.ask.CommitAsk.{CommitAsk}
+use Rattle.forms.specs.Forms.{is_name}
+use Rattle.commands.specs.Commands.{main_command}
+use Rattle.commands.specs.Logins.{client_greeting, auth_response}
+use Rattle.edit_commands.specs.Editing.{editor_command, ends_edit}
+use Rattle.refusals.specs.Refusing.{path_refusal}
+use Rattle.replies.specs.Replies.{reply_tree}
+use Rattle.commands.specs.declared.command.CommitCommand.{CommitCommand}
+use Rattle.commands.specs.declared.command.MainCommand.{MainCommand}
+use Rattle.commands.specs.declared.command.MainCommand.TheVariants.{GetLatestRev, CheckPath, RevProplist, Commit, AbortEdit}
+use Rattle.edit_commands.specs.declared.editing.EditorCommand.{EditorCommand}
+use Rattle.edit_commands.specs.declared.editing.EditorCommand.TheVariants.{OpenRoot, AddDirectory, OpenDirectory, CloseDirectory, CloseEdit}
+use Rattle.edit_commands.specs.declared.editing.EditorCommand.TheVariants as edits
+use Rattle.commands.specs.declared.login.ClientGreeting.{ClientGreeting}
+use Rattle.commands.specs.declared.login.AuthResponse.{AuthResponse}
+use Rattle.forms.specs.declared.fault.CommandFault.{CommandFault}
+use Rattle.forms.specs.declared.fault.CommandFault.TheVariants.{UnknownName, BadParameters, NoMemory}
+use Rattle.replies.specs.declared.reply.Reply.{Reply}
+use Rattle.replies.specs.declared.reply.Reply.TheVariants as replies
+use Rattle.editor.specs.Editor.{EditState, new_edit, edit_refusal, Applies, finished}
+use Rattle.machine.specs.Settings.{Settings}
+use Rattle.machine.specs.Hearing.{Input}
+use Rattle.machine.specs.Hearing.Input.{Whole, Broken}
+use Rattle.machine.specs.Stages.{Stage}
+use Rattle.machine.specs.declared.env.Env.{Env}
+use Rattle.machine.specs.declared.asked.Asked.{Asked}
+use Rattle.machine.specs.declared.phase.Phase.TheVariants.{Greeted, LoggingIn, Serving, Editing, Skipping, Ended}
+use Rattle.machine.specs.declared.phase.Client.{Client}
+
+-- paths with the tokens of the locks that stand there
+abbrev pub LockTokens : Type 0
+LockTokens = List (PathValue × List ℕ)
+
+-- what the store says of a change: it is written, it is not, or nobody knows and no change is made any more
+pub data Verdict : Type 0 where
+  Went : Verdict
+  Failed : Verdict
+  Halts : Verdict
+
+-- what an input does to the repository
+pub data Effect : Type 0 where
+  Nothing : Effect
+  Changes : Accepted → Effect
+  HaltsChanges : Effect
+
+-- the repository after an effect
+abbrev pub content_after : RepoState → Effect → RepoState
+content_after c Nothing = c
+content_after c (Changes e) = changed c e
+content_after c HaltsChanges = c
+
+-- whether changes have come to a halt, after an effect
+abbrev pub halted_after : Bool → Effect → Bool
+halted_after halted Nothing = halted
+halted_after halted (Changes e) = halted
+halted_after halted HaltsChanges = true
+
+-- what an input does: the replies, where the session stands then, the words that are left, and the effect
+pub record Answer : Type 0 where
+  pub replies : List Reply
+  pub phase : Stage
+  pub env : Env
+  pub effect : Effect
+
+-- the bytes of replies
+abbrev pub print : List Reply → List ℕ
+print rs = flat_map (λ r. printed (reply_tree r)) rs
+
+-- replies that change nothing
+abbrev pub says : Env → Stage → List Reply → Answer
+says env phase told = record { replies = told; phase = phase; env = env; effect = Nothing }
+
+-- what is no command ends the session
+abbrev pub malformed : Env → Answer
+malformed env = says env Ended (replies.Failure refusals.MalformedData ∷ [])
+
+-- ---- the answer to the greeting
+
+abbrev pub url_answer : Settings → Env → Result PathValue PathFault → Result (List ℕ) PathFault → Answer
+url_answer s env (Ok path) (Ok root) = says env (LoggingIn (record { path = path; root = root; user = None })) (replies.Login s.name ∷ [])
+url_answer s env (Ok path) (Err fault) = says env Ended (replies.Failure (path_refusal fault) ∷ [])
+url_answer s env (Err fault) root = says env Ended (replies.Failure (path_refusal fault) ∷ [])
+
+-- another version, or a client that waits within edits, is left without a word
+abbrev pub speaks : ClientGreeting → Bool
+speaks g = (g.version == 2) && g.edit_pipeline
+
+abbrev pub greeting_answer : Settings → Env → Result ClientGreeting CommandFault → Answer
+greeting_answer s env (Ok g) =
+    if speaks g then url_answer s env (path_of_text g.url s.name) (root_of_text g.url s.name) else says env Ended []
+greeting_answer s env (Err fault) = malformed env
+
+-- ---- the login
+
+-- after a mechanism that is not offered another choice is awaited
+abbrev pub login_answer : Env → RepoState → Client → Result AuthResponse CommandFault → Answer
+login_answer env c client (Ok r) =
+    if is_name r.mechanism (codes "ANONYMOUS")
+    then says env (Serving client) (replies.Success ∷ replies.ReposInfo c.uuid client.root ∷ [])
+    else says env (LoggingIn client) (replies.MechanismNotOffered ∷ [])
+login_answer env c client (Err fault) = malformed env
+
+-- ---- commands
+
+-- the youngest revision where none is named; one above it is refused
+abbrev pub at_revision : RepoState → Option ℕ → (ℕ → Reply) → Reply
+at_revision c None f = f (youngest c)
+at_revision c (Some n) f = if nat_lt (youngest c) n then replies.Failure refusals.NoSuchRevision else f n
+
+abbrev pub check_path_reply : RepoState → Option ℕ → Result PathValue PathFault → Reply
+check_path_reply c revision (Ok path) = at_revision c revision (λ n. replies.Kind (kind_at c n path))
+check_path_reply c revision (Err fault) = replies.Failure (path_refusal fault)
+
+abbrev pub rev_proplist_reply : RepoState → ℕ → Reply
+rev_proplist_reply c n = at_revision c (Some n) (λ m. replies.Properties (properties_at c m))
+
+-- a command that is known is answered by a login request first, which asks for nothing
+abbrev pub served : Env → Client → Reply → Answer
+served env client reply = says env (Serving client) (replies.NoLogin ∷ reply ∷ [])
+
+-- ---- the beginning of a commit
+
+-- a lock's path and token in front of others, or the first fault of a path
+abbrev pub token_before : List ℕ → Result PathValue PathFault → Result LockTokens PathFault → Result LockTokens PathFault
+token_before token (Err fault) rest = Err fault
+token_before token (Ok path) (Err fault) = Err fault
+token_before token (Ok path) (Ok tokens) = Ok ((path, token) ∷ tokens)
+
+-- the lock tokens that are handed in, with the paths that they name
+abbrev pub lock_tokens : PathValue → List (List ℕ × List ℕ) → Result LockTokens PathFault
+lock_tokens base [] = Ok []
+lock_tokens base (pair ∷ pairs) = token_before pair.1 (joined base pair.0) (lock_tokens base pairs)
+
+-- a property's name has 1 to 255 bytes
+abbrev pub is_property_name : List ℕ → Bool
+is_property_name name = nat_lt 0 (length name) && nat_le (length name) 255
+
+abbrev pub are_named : Option (List (List ℕ × List ℕ)) → Bool
+are_named None = true
+are_named (Some pairs) = list_all (λ pair. is_property_name pair.0) pairs
+
+-- the pairs as properties: of two of one name the later counts
+abbrev pub set_all : PropertyList → List (List ℕ × List ℕ) → PropertyList
+set_all ps [] = ps
+set_all ps (pair ∷ pairs) = set_all (with_property ps pair.0 pair.1) pairs
+
+-- what a commit asks for, or why it is refused
+abbrev pub asked_by : CommitCommand → Result LockTokens PathFault → Result Asked Refusal
+asked_by command (Err fault) = Err (path_refusal fault)
+asked_by command (Ok tokens) =
+    if are_named command.properties
+    then Ok (record { message = command.message; properties = option_map (set_all []) command.properties; tokens = tokens; keep_locks = command.keep_locks })
+    else Err refusals.NotSupported
+
+-- an edit begins, or is refused in its place
+abbrev pub commit_begins : Settings → Env → Client → Result Asked Refusal → Answer
+commit_begins s env client (Ok asked) = says env (Editing client asked (new_edit client.path s.name)) (replies.NoLogin ∷ replies.Success ∷ [])
+commit_begins s env client (Err r) = served env client (replies.Failure r)
+
+-- ---- a command
+
+abbrev pub command_answer : Settings → Env → RepoState → Client → Result MainCommand CommandFault → Answer
+command_answer s env c client (Ok GetLatestRev) = served env client (replies.Revision (youngest c))
+command_answer s env c client (Ok (CheckPath path revision)) = served env client (check_path_reply c revision (joined client.path path))
+command_answer s env c client (Ok (RevProplist n)) = served env client (rev_proplist_reply c n)
+command_answer s env c client (Ok (Commit command)) = commit_begins s env client (asked_by command (lock_tokens client.path command.tokens))
+command_answer s env c client (Ok AbortEdit) = says env (Serving client) []
+command_answer s env c client (Err UnknownName) = says env (Serving client) (replies.Failure refusals.UnknownCommand ∷ [])
+command_answer s env c client (Err BadParameters) = malformed env
+command_answer s env c client (Err NoMemory) = malformed env
+
+-- ---- an edit
+
+-- what refuses a command gives the edit up: the commands up to its end are passed over
+abbrev pub gives_up : Env → Client → Refusal → Answer
+gives_up env client r = says env (Skipping client) (replies.Failure r ∷ [])
+
+-- a command of an edit that was judged so
+abbrev pub Edits : Env → RepoState → Client → Asked → EditState → EditorCommand → Option Refusal → Answer → Type 0
+Edits env c client asked edit command None a = (after : EditState) × Applies c edit command after × (a ≡ says env (Editing client asked after) [])
+Edits env c client asked edit command (Some r) a = a ≡ gives_up env client r
+
+abbrev pub EditStep : Env → RepoState → Client → Asked → EditState → EditorCommand → Answer → Type 0
+EditStep env c client asked edit command a = Edits env c client asked edit command (edit_refusal c edit command) a
+
+-- ---- the end of an edit
+
+abbrev pub commit_ask : Client → Asked → List ℕ → CommitAsk
+commit_ask client asked date = record { date = date; author = client.user; message = asked.message; properties = asked.properties }
+
+-- a commit that is accepted, by what the store says
+abbrev pub commit_answer : Env → RepoState → Client → Asked → TxnState → List ℕ → Verdict → Answer
+commit_answer env c client asked t date Went = record {
+  replies = replies.Success ∷ replies.NoLogin ∷ replies.CommitInfo (length c.revisions) date client.user ∷ [];
+  phase = Serving client;
+  env = env;
+  effect = Changes (Commits (commit_ask client asked date) t);
+}
+commit_answer env c client asked t date Failed = says env (Serving client) (replies.Failure refusals.StoreFailed ∷ [])
+commit_answer env c client asked t date Halts = record { replies = replies.Failure refusals.StoreFailed ∷ []; phase = Ended; env = env; effect = HaltsChanges }
+
+-- a commit that was judged so: a refused one changes nothing, and another is dated by the moment
+abbrev pub CommitStep : (Verdict → Bool) → Env → RepoState → Client → Asked → TxnState → Option Refusal → Answer → Type 0
+CommitStep may env c client asked t (Some r) a = a ≡ says env (Serving client) (replies.Failure r ∷ [])
+CommitStep may env c client asked t None a =
+    (v : Verdict) × IsTrue (may v) × (date : List ℕ) × IsDateText env.moment date × (a ≡ commit_answer env c client asked t date v)
+
+-- the edit's transaction is committed, if it has one
+abbrev pub CloseStep : (Verdict → Bool) → Env → RepoState → Client → Asked → Result TxnState Refusal → Answer → Type 0
+CloseStep may env c client asked (Ok t) a = CommitStep may env c client asked t (commit_refusal c t) a
+CloseStep may env c client asked (Err r) a = a ≡ says env (Serving client) (replies.Failure r ∷ [])
+
+-- ---- a command within an edit
+
+abbrev pub EditingStep : (Verdict → Bool) → Env → RepoState → Client → Asked → EditState → Result EditorCommand CommandFault → Answer → Type 0
+EditingStep may env c client asked edit (Ok (OpenRoot revision token)) a = EditStep env c client asked edit (OpenRoot revision token) a
+EditingStep may env c client asked edit (Ok (AddDirectory entry)) a = EditStep env c client asked edit (AddDirectory entry) a
+EditingStep may env c client asked edit (Ok (OpenDirectory entry)) a = EditStep env c client asked edit (OpenDirectory entry) a
+EditingStep may env c client asked edit (Ok (CloseDirectory token)) a = EditStep env c client asked edit (CloseDirectory token) a
+EditingStep may env c client asked edit (Ok CloseEdit) a = CloseStep may env c client asked (finished edit) a
+EditingStep may env c client asked edit (Ok edits.AbortEdit) a = a ≡ says env (Serving client) (replies.Success ∷ [])
+EditingStep may env c client asked edit (Err UnknownName) a = a ≡ gives_up env client refusals.UnknownCommand
+EditingStep may env c client asked edit (Err BadParameters) a = a ≡ malformed env
+EditingStep may env c client asked edit (Err NoMemory) a = a ≡ malformed env
+
+-- a command of an edit that was given up is read by its name alone, and draws no reply
+abbrev pub skipping_answer : Env → Client → Option Bool → Answer
+skipping_answer env client None = malformed env
+skipping_answer env client (Some true) = says env (Serving client) []
+skipping_answer env client (Some false) = says env (Skipping client) []
+
+-- ---- an input
+
+-- What an input does in a state of the repository, where the store may say so of a change. (A relation where
+-- the program or the store may choose.)
+abbrev pub InputStep : (Verdict → Bool) → Settings → Env → RepoState → Stage → Input → Answer → Type 0
+InputStep may s env c Greeted (Whole t) a = a ≡ greeting_answer s env (client_greeting t)
+InputStep may s env c (LoggingIn client) (Whole t) a = a ≡ login_answer env c client (auth_response t)
+InputStep may s env c (Serving client) (Whole t) a = a ≡ command_answer s env c client (main_command t)
+InputStep may s env c (Editing client asked edit) (Whole t) a = EditingStep may env c client asked edit (editor_command t) a
+InputStep may s env c (Skipping client) (Whole t) a = a ≡ skipping_answer env client (ends_edit t)
+InputStep may s env c Greeted Broken a = a ≡ malformed env
+InputStep may s env c (LoggingIn client) Broken a = a ≡ malformed env
+InputStep may s env c (Serving client) Broken a = a ≡ malformed env
+InputStep may s env c (Editing client asked edit) Broken a = a ≡ malformed env
+InputStep may s env c (Skipping client) Broken a = a ≡ malformed env
+-- what comes after the end is dropped
+InputStep may s env c Ended input a = a ≡ says env Ended []

@@ -1,0 +1,33 @@
+//! What holds of all that a stream brings. The functions do nothing: their contracts are the laws.
+ghost use Rattle.std.specs.Prelude.{◌≡◌, ℕ, List, Bool};
+ghost use Rattle.repo_api.specs.States.{RepoState};
+ghost use Rattle.editor.specs.Soundness.{AreTrees};
+ghost use Rattle.machine.specs.Settings.{Settings};
+ghost use Rattle.machine.specs.Stages.{Stage, RestsOn};
+ghost use Rattle.machine.specs.Soundness.{IsSound};
+ghost use Rattle.machine.specs.Machine.{Verdict, Answer, InputStep, content_after};
+ghost use Rattle.machine.specs.declared.env.Env.{Env};
+ghost use Rattle.machine.specs.Hearing.{Input, Comes, IsSettled};
+
+/// A stream that has brought all that it does so far has brought these inputs and no others, and this is left
+/// of it.
+pub fn one_hearing()
+    ensures { (stream : List ℕ) (xs ys : List Input) (rest end : List ℕ) → Comes stream xs rest → Comes stream ys end → IsSettled rest → IsSettled end → (xs ≡ ys) × (rest ≡ end) }
+{
+    items::one_reading();
+    items::one_fault();
+    items::fault_is_answered_again();
+}
+
+/// A session's edit goes on to rest on what the repository contains.
+pub fn steps_rest()
+    ensures { (may : Verdict → Bool) (s : Settings) (env : Env) (c : RepoState) (phase : Stage) (input : Input) (a : Answer) → RestsOn phase c → InputStep may s env c phase input a → RestsOn a.phase (content_after c a.effect) }
+{}
+
+/// Where every tree of the repository is a tree, and the session's edit has one, so it is after an input.
+pub fn steps_keep_trees()
+    ensures { (may : Verdict → Bool) (s : Settings) (env : Env) (c : RepoState) (phase : Stage) (input : Input) (a : Answer) → AreTrees c.revisions → IsSound phase → InputStep may s env c phase input a → AreTrees (content_after c a.effect).revisions × IsSound a.phase }
+{
+    editor::edits_keep_trees();
+    repo_api::commits_keep_trees();
+}

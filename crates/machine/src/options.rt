@@ -1,0 +1,74 @@
+//! What a server is started with.
+ghost use Rattle.std.specs.Prelude.{◌≡◌, IsTrue, IfOk, None, false, string_bytes};
+ghost use Rattle.std.specs.List.{list_all};
+ghost use Rattle.machine.specs.Settings.{is_repository_name, has_name_length, is_dots, is_name_byte};
+
+use std::alloc::{AllocError, Global};
+use std::marker::Model;
+
+/// What a server is started with: the repository's name.
+#[derive(Drop)]
+pub struct Options {
+    name: String,
+}
+
+impl Model for Options {
+    ghost use Rattle.std.specs.Prelude.{None, false, string_bytes};
+    ghost use Rattle.machine.specs.Settings.{Settings};
+
+    ghost Value = { Settings };
+
+    ghost view = { λ o. record { name = string_bytes o.name; users = None; revprops = false } };
+}
+
+impl Options {
+    /// The options of a repository of this name, which `is_repository_name` accepts.
+    pub fn new(alloc: Global, name: &str) -> Result<Options, AllocError>
+        requires { IsTrue (is_repository_name name.now) }
+        ensures { IfOk result (λ o. o ≡ record { name = name.now; users = None; revprops = false }) }
+    {
+        Ok(Options {
+            name: String::from_str(alloc, name)?,
+        })
+    }
+
+    /// The repository's name.
+    pub fn name(&self) -> &str
+        ensures { result.now ≡ self.now.name }
+    {
+        self.name.as_str()
+    }
+}
+
+/// Whether a repository may have this name: 1 to 64 of ASCII letters, digits, `-`, `_` and `.`, and not `.`
+/// or `..`.
+pub fn is_repository_name(name: &str) -> bool
+    ensures { result ≡ is_repository_name name.now }
+{
+    let bytes = name.as_bytes();
+    has_name_length(bytes) && are_name_bytes(bytes) && !is_dots(bytes)
+}
+
+fn has_name_length(name: &[u8]) -> bool
+    ensures { result ≡ has_name_length name.now }
+{
+    0 < name.len() && name.len() <= 64
+}
+
+fn are_name_bytes(name: &[u8]) -> bool
+    ensures { result ≡ list_all is_name_byte name.now }
+{
+    name.iter().all(|b| is_name_byte(*b))
+}
+
+fn is_dots(name: &[u8]) -> bool
+    ensures { result ≡ is_dots name.now }
+{
+    name == b".".as_slice() || name == b"..".as_slice()
+}
+
+fn is_name_byte(b: u8) -> bool
+    ensures { result ≡ is_name_byte b }
+{
+    b.is_ascii_alphanumeric() || b == b'-' || b == b'_' || b == b'.'
+}

@@ -1,0 +1,24 @@
+-- The replies that are always the same bytes.
+use Rattle.std.specs.Prelude.{Result, Ok, Err, is_ok, OnOk, if◌then◌else◌}
+use Rattle.std.proofs.Common.{◌≡◌, ℕ, List, ◌++◌, ◌∙◌, ap, sym, codes, refl}
+use Rattle.std.specs.Fmt.{digits}
+use Rattle.items.specs.Print.{printed}
+use Rattle.replies.specs.Replies.{reply_tree}
+use Rattle.replies.specs.declared.reply.Reply.TheVariants.{Greeting, NoLogin, MechanismNotOffered}
+
+pub printed-greeting : printed (reply_tree Greeting) ≡ codes "( success ( 2 2 ( ) ( edit-pipeline absent-entries commit-revprops ) ) ) "
+unfolding digits
+printed-greeting = refl
+
+pub printed-no_login : printed (reply_tree NoLogin) ≡ codes "( success ( ( ) 0: ) ) "
+unfolding digits
+printed-no_login = refl
+
+pub printed-not_offered : printed (reply_tree MechanismNotOffered) ≡ codes "( failure ( 21:mechanism not offered ) ) "
+unfolding digits
+printed-not_offered = refl
+
+-- what is wanted is what was appended
+pub appended : {T E : Type 0} (r : Result T E) (old new text wanted : List ℕ) → new ≡ (if is_ok r then old ++ text else old) → wanted ≡ text → OnOk r (new ≡ old ++ wanted)
+appended (Ok x) old new text wanted grown same = grown ∙ ap (λ t. old ++ t) (sym same)
+appended (Err e) old new text wanted grown same = tt

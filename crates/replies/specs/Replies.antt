@@ -1,0 +1,70 @@
+-- The items that replies are sent as.
+use Rattle.std.specs.Prelude.{ℕ, List, [], ◌∷◌, Option, Some, None, codes}
+use Rattle.std.specs.Int.{to_be_bytes, w128}
+use Rattle.uuid.specs.Text.{hyphenated_text, lower}
+use Rattle.items.specs.Tree.{Tree, word, number, string, list, Trees, none, more}
+use Rattle.refusals.specs.Table.{number_of, text_of}
+use Rattle.repo_api.specs.Properties.{PropertyList}
+use Rattle.repo_api.specs.declared.entry.NodeKind.{NodeKind}
+use Rattle.repo_api.specs.declared.entry.NodeKind.TheVariants as kinds
+use Rattle.replies.specs.declared.reply.Reply.{Reply}
+use Rattle.replies.specs.declared.reply.Reply.TheVariants.{Greeting, NoLogin, Login, MechanismNotOffered, Success, ReposInfo, Revision, Kind, Properties, CommitInfo, Failure}
+
+-- the text of a number of 128 bits: `8-4-4-4-12` lower-case hexadecimal digits
+abbrev pub uuid_text : ℕ → List ℕ
+uuid_text n = hyphenated_text lower (to_be_bytes w128 n)
+
+-- a list of one item
+abbrev pub only : Tree → Trees
+only t = more t none
+
+-- a list of two items
+abbrev pub both : Tree → Tree → Trees
+both t u = more t (only u)
+
+-- `( success ( params ) )`
+abbrev pub success : Trees → Tree
+success params = list (both (word (codes "success")) (list params))
+
+-- `( failure ( params ) )`
+abbrev pub failure : Trees → Tree
+failure params = list (both (word (codes "failure")) (list params))
+
+-- the word of a kind
+abbrev pub kind_word : NodeKind → List ℕ
+kind_word kinds.Absent = codes "none"
+kind_word kinds.File = codes "file"
+kind_word kinds.Directory = codes "dir"
+
+-- `( name value ) ...`
+abbrev pub property_trees : PropertyList → Trees
+property_trees [] = none
+property_trees (p ∷ ps) = more (list (both (string p.0) (string p.1))) (property_trees ps)
+
+-- `[ string ]`
+abbrev pub optional_string_trees : Option (List ℕ) → Trees
+optional_string_trees None = none
+optional_string_trees (Some s) = only (string s)
+
+-- `( rev [ date ] [ author ] [ post-commit-err ] )`: what a client is told of its commit
+abbrev pub commit_info : ℕ → List ℕ → Option (List ℕ) → Tree
+commit_info revision date author =
+    list (more (number revision) (more (list (only (string date))) (both (list (optional_string_trees author)) (list none))))
+
+-- what the server can do
+abbrev pub capabilities : Trees
+capabilities = more (word (codes "edit-pipeline")) (both (word (codes "absent-entries")) (word (codes "commit-revprops")))
+
+-- the item of each reply
+abbrev pub reply_tree : Reply → Tree
+reply_tree Greeting = success (more (number 2) (more (number 2) (both (list none) (list capabilities))))
+reply_tree NoLogin = success (both (list none) (string []))
+reply_tree (Login realm) = success (both (list (only (word (codes "ANONYMOUS")))) (string realm))
+reply_tree MechanismNotOffered = failure (only (string (codes "mechanism not offered")))
+reply_tree Success = success none
+reply_tree (ReposInfo uuid root) = success (more (string (uuid_text uuid)) (both (string root) (list none)))
+reply_tree (Revision n) = success (only (number n))
+reply_tree (Kind kind) = success (only (word (kind_word kind)))
+reply_tree (Properties ps) = success (only (list (property_trees ps)))
+reply_tree (CommitInfo revision date author) = commit_info revision date author
+reply_tree (Failure refusal) = failure (only (list (more (number (number_of refusal)) (more (string (text_of refusal)) (both (string []) (number 0))))))

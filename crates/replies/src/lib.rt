@@ -1,0 +1,7 @@
+//! The replies of the server, as items of the protocol.
+#![tactic(auto)]
+
+mod build;
+mod reply;
+
+pub use reply::Reply;

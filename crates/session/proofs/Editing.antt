@@ -1,0 +1,86 @@
+-- An item within an edit is served once its step is made.
+use Rattle.std.proofs.Common.{◌≡◌, ℕ, List, [], ◌∷◌, ◌++◌, Bool, Option, Some, None, refl, sym, ap, subst, ◌∙◌, ◌⊎◌, inl, inr}
+use Rattle.std.specs.Prelude.{Result, Ok, Err, IsTrue}
+use Rattle.dates.specs.Dates.{IsDateText}
+use Rattle.items.specs.Tree.{Tree}
+use Rattle.refusals.specs.declared.Refusal.{Refusal}
+use Rattle.repo_api.specs.States.{RepoState, TxnState}
+use Rattle.repo_api.specs.Commits.{commit_refusal}
+use Rattle.repo_api.specs.Accepted.{Accepted}
+use Rattle.repo_api.specs.Accepted.Accepted.{Commits}
+use Rattle.repo_api.specs.declared.ask.CommitAsk.{CommitAsk}
+use Rattle.edit_commands.specs.Editing.{editor_command}
+use Rattle.edit_commands.specs.declared.editing.EditorCommand.{EditorCommand}
+use Rattle.edit_commands.specs.declared.editing.EditorCommand.TheVariants.{OpenRoot, AddDirectory, OpenDirectory, CloseDirectory, CloseEdit, AbortEdit}
+use Rattle.edit_commands.specs.declared.editing.AddedEntry.{AddedEntry}
+use Rattle.edit_commands.specs.declared.editing.OpenedEntry.{OpenedEntry}
+use Rattle.forms.specs.declared.fault.CommandFault.{CommandFault}
+use Rattle.forms.specs.declared.fault.CommandFault.TheVariants.{UnknownName, BadParameters, NoMemory}
+use Rattle.replies.specs.declared.reply.Reply.{Reply}
+use Rattle.replies.specs.declared.reply.Reply.TheVariants as replies
+use Rattle.editor.specs.Editor.{EditState, edit_refusal, finished, Applies}
+use Rattle.machine.specs.Points.{Point, world}
+use Rattle.machine.specs.Settings.{Settings}
+use Rattle.machine.specs.Stages.{Stage}
+use Rattle.machine.specs.Hearing.Input.{Whole}
+use Rattle.machine.specs.Machine.{Verdict, Answer, Edits, EditStep, CommitStep, CloseStep, EditingStep, commit_answer, commit_ask, says, gives_up, print}
+use Rattle.machine.specs.Machine.Verdict.{Went, Failed, Halts}
+use Rattle.machine.specs.Access.{Happens, Made, Misses, Served, Fails, IsHalt}
+use Rattle.machine.specs.declared.asked.Asked.{Asked}
+use Rattle.machine.specs.declared.env.Env.{Env}
+use Rattle.machine.specs.declared.phase.Phase.TheVariants.{Serving, Editing}
+use Rattle.machine.specs.declared.phase.Client.{Client}
+
+-- ---- they use no word
+
+edits_env : (env : Env) (c : RepoState) (client : Client) (asked : Asked) (edit : EditState) (command : EditorCommand) (r : Option Refusal) (a : Answer)
+    → Edits env c client asked edit command r a → a.env ≡ env
+edits_env env c client asked edit command None a step = ap (λ (x : Answer). x.env) step.2
+edits_env env c client asked edit command (Some r) a step = ap (λ (x : Answer). x.env) step
+
+commit_env : (env : Env) (c : RepoState) (client : Client) (asked : Asked) (t : TxnState) (date : List ℕ) (v : Verdict) → (commit_answer env c client asked t date v).env ≡ env
+commit_env env c client asked t date Went = refl
+commit_env env c client asked t date Failed = refl
+commit_env env c client asked t date Halts = refl
+
+committing_env : (may : Verdict → Bool) (env : Env) (c : RepoState) (client : Client) (asked : Asked) (t : TxnState) (r : Option Refusal) (a : Answer)
+    → CommitStep may env c client asked t r a → a.env ≡ env
+committing_env may env c client asked t (Some r) a step = ap (λ (x : Answer). x.env) step
+committing_env may env c client asked t None a (v, allowed, date, is_date, is) = ap (λ (x : Answer). x.env) is ∙ commit_env env c client asked t date v
+
+closing_env : (may : Verdict → Bool) (env : Env) (c : RepoState) (client : Client) (asked : Asked) (r : Result TxnState Refusal) (a : Answer)
+    → CloseStep may env c client asked r a → a.env ≡ env
+closing_env may env c client asked (Ok t) a step = committing_env may env c client asked t (commit_refusal c t) a step
+closing_env may env c client asked (Err r) a step = ap (λ (x : Answer). x.env) step
+
+editing_env : (may : Verdict → Bool) (env : Env) (c : RepoState) (client : Client) (asked : Asked) (edit : EditState) (r : Result EditorCommand CommandFault) (a : Answer)
+    → EditingStep may env c client asked edit r a → a.env ≡ env
+editing_env may env c client asked edit (Ok (OpenRoot revision token)) a step = edits_env env c client asked edit (OpenRoot revision token) (edit_refusal c edit (OpenRoot revision token)) a step
+editing_env may env c client asked edit (Ok (AddDirectory entry)) a step = edits_env env c client asked edit (AddDirectory entry) (edit_refusal c edit (AddDirectory entry)) a step
+editing_env may env c client asked edit (Ok (OpenDirectory entry)) a step = edits_env env c client asked edit (OpenDirectory entry) (edit_refusal c edit (OpenDirectory entry)) a step
+editing_env may env c client asked edit (Ok (CloseDirectory token)) a step = edits_env env c client asked edit (CloseDirectory token) (edit_refusal c edit (CloseDirectory token)) a step
+editing_env may env c client asked edit (Ok CloseEdit) a step = closing_env may env c client asked (finished edit) a step
+editing_env may env c client asked edit (Ok AbortEdit) a step = ap (λ (x : Answer). x.env) step
+editing_env may env c client asked edit (Err UnknownName) a step = ap (λ (x : Answer). x.env) step
+editing_env may env c client asked edit (Err BadParameters) a step = ap (λ (x : Answer). x.env) step
+editing_env may env c client asked edit (Err NoMemory) a step = ap (λ (x : Answer). x.env) step
+
+module _ (between : Point → Point → Type 0) (adds : Point → Accepted → Point → Type 0) (may : Verdict → Bool) (s : Settings) where
+  -- an item within an edit is served once its step is made
+  pub edit_served : (env : Env) (p q : Point) (client : Client) (asked : Asked) (edit : EditState) (after : Stage) (t : Tree) (out out' : List ℕ)
+      → Made between adds (λ c a. EditingStep may env c client asked edit (editor_command t) a) p out q after out'
+      → Served between adds may s env p (Editing client asked edit) (Whole t) out env q after out'
+  edit_served env p q client asked edit after t out out' made =
+      let h = made.happens in
+      record {
+        answer = made.answer;
+        serves = record { at = h.at; later = h.later; step_is = h.step_is; moves = h.moves };
+        env_after = sym (editing_env may env (world h.at) client asked edit (editor_command t) made.answer h.step_is);
+        phase_after = made.phase_after;
+        written = made.written;
+      }
+
+  pub edit_fails : (env : Env) (p q : Point) (client : Client) (asked : Asked) (edit : EditState) (t : Tree)
+      → Misses between adds (λ c a. EditingStep may env c client asked edit (editor_command t) a) p q
+      → Fails between adds may s env p (Editing client asked edit) (Whole t) q
+  edit_fails env p q client asked edit t misses = misses

@@ -1,5 +1,0 @@
-use Rattle.session.proofs.Once.{once}
-use Rattle.session.proofs.laws.one_hearing.Goals as goal
-
-pub returns : goal.returns
-returns c = once c.one_reading.ensures c.one_fault.ensures.some_kind c.fault_is_answered_again.ensures.not_none

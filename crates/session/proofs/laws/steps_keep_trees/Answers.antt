@@ -1,5 +1,0 @@
-use Rattle.session.proofs.Sound.{leaves_trees}
-use Rattle.session.proofs.laws.steps_keep_trees.Goals as goal
-
-pub returns : goal.returns
-returns c = leaves_trees c.edits_keep_trees.ensures.begins c.edits_keep_trees.ensures.goes_on c.commits_keep_trees.ensures

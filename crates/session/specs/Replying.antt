@@ -1,9 +1,0 @@
--- What a part of an answer is, once it is written.
-use Rattle.std.specs.Prelude.{◌≡◌, List, ◌++◌, ℕ}
-use Rattle.session.specs.Stages.{Stage}
-use Rattle.session.specs.Machine.{Answer, print}
-
--- the session stands where the answer says, and the answer's replies are written
-pub record IsAnswered (a : Answer) (phase : Stage) (out out' : List ℕ) : Type 0 where
-  pub phase_is : phase ≡ a.phase
-  pub written : out' ≡ out ++ print a.replies
