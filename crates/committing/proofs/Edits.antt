@@ -1,51 +1,28 @@
 -- The steps of an edit.
-use Rattle.std.proofs.Common.{◌≡◌, ℕ, List, [], ◌∷◌, ◌++◌, Bool, Option, Some, None, refl, sym, ap, subst, ◌∙◌, ◌⊎◌, inl, inr}
+use Rattle.std.proofs.Common.{◌≡◌, ℕ, List, [], ◌∷◌, ◌++◌, Bool, Option, Some, None, refl, sym, subst}
 use Rattle.std.specs.Prelude.{Result, Ok, Err, IsTrue}
 use Rattle.dates.specs.Dates.{IsDateText}
-use Rattle.items.specs.Tree.{Tree}
 use Rattle.refusals.specs.declared.Refusal.{Refusal}
 use Rattle.repo_api.specs.States.{RepoState, TxnState}
 use Rattle.repo_api.specs.Commits.{commit_refusal}
 use Rattle.repo_api.specs.Accepted.{Accepted}
 use Rattle.repo_api.specs.Accepted.Accepted.{Commits}
 use Rattle.repo_api.specs.declared.ask.CommitAsk.{CommitAsk}
-use Rattle.edit_commands.specs.Editing.{editor_command}
 use Rattle.edit_commands.specs.declared.editing.EditorCommand.{EditorCommand}
-use Rattle.edit_commands.specs.declared.editing.EditorCommand.TheVariants.{OpenRoot, AddDirectory, OpenDirectory, CloseDirectory, CloseEdit, AbortEdit}
-use Rattle.edit_commands.specs.declared.editing.AddedEntry.{AddedEntry}
-use Rattle.edit_commands.specs.declared.editing.OpenedEntry.{OpenedEntry}
-use Rattle.forms.specs.declared.fault.CommandFault.{CommandFault}
-use Rattle.forms.specs.declared.fault.CommandFault.TheVariants.{UnknownName, BadParameters, NoMemory}
 use Rattle.replies.specs.declared.reply.Reply.{Reply}
 use Rattle.replies.specs.declared.reply.Reply.TheVariants as replies
-use Rattle.editor.specs.Editor.{EditState, edit_refusal, finished, Applies}
+use Rattle.editor.specs.Edits.{EditState}
+use Rattle.editor.specs.Refusing.{edit_refusal}
+use Rattle.editor.specs.Editor.{Applies}
 use Rattle.machine.specs.Points.{Point, world}
-use Rattle.machine.specs.Settings.{Settings}
 use Rattle.machine.specs.Stages.{Stage}
-use Rattle.machine.specs.Hearing.Input.{Whole}
-use Rattle.machine.specs.Machine.{Verdict, Answer, Edits, EditStep, CommitStep, CloseStep, EditingStep, commit_answer, commit_ask, says, gives_up, print}
-use Rattle.machine.specs.Machine.Verdict.{Went, Failed, Halts}
-use Rattle.machine.specs.Access.{Happens, Made, Misses, Served, Fails, IsHalt}
+use Rattle.machine.specs.Machine.{Verdict, Answer, Edits, EditStep, CommitStep, CloseStep, commit_answer, commit_ask, says, gives_up, print}
+use Rattle.machine.specs.Machine.Verdict.{Went, Halts}
+use Rattle.machine.specs.Access.{Happens, Made, IsHalt}
 use Rattle.machine.specs.declared.asked.Asked.{Asked}
 use Rattle.machine.specs.declared.env.Env.{Env}
 use Rattle.machine.specs.declared.phase.Phase.TheVariants.{Serving, Editing}
 use Rattle.machine.specs.declared.phase.Client.{Client}
-
--- ---- which commands edit
-
--- the command is one of those that edit
-abbrev pub IsEditing : EditorCommand → Type 0
-IsEditing command =
-    ((x : Option ℕ) × (y : List ℕ) × (command ≡ OpenRoot x y))
-    ⊎ (((x : AddedEntry) × (command ≡ AddDirectory x))
-    ⊎ (((x : OpenedEntry) × (command ≡ OpenDirectory x)) ⊎ ((x : List ℕ) × (command ≡ CloseDirectory x))))
-
-pub edits_step : (may : Verdict → Bool) (env : Env) (c : RepoState) (client : Client) (asked : Asked) (edit : EditState) (command : EditorCommand) (a : Answer)
-    → IsEditing command → EditStep env c client asked edit command a → EditingStep may env c client asked edit (Ok command) a
-edits_step may env c client asked edit command a (inl (x, y, is)) step = rw is (rw is at step)
-edits_step may env c client asked edit command a (inr (inl (x, is))) step = rw is (rw is at step)
-edits_step may env c client asked edit command a (inr (inr (inl (x, is)))) step = rw is (rw is at step)
-edits_step may env c client asked edit command a (inr (inr (inr (x, is)))) step = rw is (rw is at step)
 
 -- ---- what they answer
 
@@ -106,15 +83,3 @@ module _ (between : Point → Point → Type 0) (adds : Point → Accepted → P
     step_is = commit_accepted may env (world at) client asked t Halts date accepted allowed is_date;
     moves = halts;
   }
-
--- a step that is made is made as any other that it is
-pub made_as : (between : Point → Point → Type 0) (adds : Point → Accepted → Point → Type 0) (step step' : RepoState → Answer → Type 0) → ((c : RepoState) (a : Answer) → step c a → step' c a)
-    → (p q : Point) (phase : Stage) (out out' : List ℕ) → Made between adds step p out q phase out' → Made between adds step' p out q phase out'
-made_as between adds step step' as_step p q phase out out' m =
-    let h = m.happens in
-    record {
-      answer = m.answer;
-      happens = record { at = h.at; later = h.later; step_is = as_step (world h.at) m.answer h.step_is; moves = h.moves };
-      phase_after = m.phase_after;
-      written = m.written;
-    }

@@ -10,7 +10,8 @@ ghost use Rattle.repo_api.specs.Properties.{PropertyList};
 ghost use Rattle.edit_commands.specs.Editing.{editor_command, ends_edit};
 ghost use Rattle.editor.specs.Editor.{IfRefused, finished, RestsOn};
 ghost use Rattle.machine.specs.Points.{world};
-ghost use Rattle.machine.specs.Machine.{print, lock_tokens, is_property_name, are_named, set_all, asked_by, commit_begins, skipping_answer, CommitStep, CloseStep, EditStep, EditingStep};
+ghost use Rattle.editor.specs.Refusing.{is_property_name};
+ghost use Rattle.machine.specs.Machine.{print, lock_tokens, are_named, set_all, asked_by, commit_begins, skipping_answer, CommitStep, CloseStep, EditStep, EditingStep};
 ghost use Rattle.machine.specs.Access.{Made, Misses};
 ghost use Rattle.machine.specs.Replying.{IsAnswered};
 ghost use Rattle.machine.specs.declared.env.Env.{Env};
@@ -18,12 +19,13 @@ ghost use Rattle.machine.specs.declared.env.Env.{Env};
 use commands::CommitCommand;
 use dates::date_text;
 use edit_commands::{EditorCommand, ends_edit};
-use editor::{CommitEditor, EditFault};
+use editor::{CommitEditor, EditFault, is_property_name};
 use forms::{CommandFault, Pairs};
 use items::{Item, Text};
 use machine::{
-    Asked, Client, Env, LockTokens, Options, Phase, RepoAccess, SessionPhase, bytes_of, drop_asked,
-    drop_edit, end_malformed, forget, give_up, refuse, say, say_both, text_of,
+    Asked, Client, Ending, Env, LockTokens, Options, Phase, RepoAccess, SessionPhase, bytes_of,
+    drop_asked, drop_edit, end_malformed, ending_of, forget, give_up, refuse, say, say_both,
+    text_of,
 };
 use refusals::{Refusal, path_refusal};
 use replies::Reply;
@@ -44,19 +46,11 @@ fn lock_tokens(alloc: Global, base: &Path, pairs: &[(Text, Text)]) -> Result<Loc
     Ok(tokens)
 }
 
-/// Whether a property may have this name: it has 1 to 255 bytes.
-fn is_property_name(name: &Text) -> bool
-    ensures { result ≡ is_property_name name.now }
-{
-    let bytes = name.as_bytes();
-    0 < bytes.len() && bytes.len() <= 255
-}
-
 /// Whether each property may have its name.
 fn are_names(pairs: &[(Text, Text)]) -> bool
     ensures { result ≡ list_all (λ pair. is_property_name pair.0) pairs.now }
 {
-    pairs.iter().all(|pair| is_property_name(&pair.0))
+    pairs.iter().all(|pair| is_property_name(pair.0.as_bytes()))
 }
 
 /// Whether each revision property that is handed in may have its name.
@@ -339,20 +333,17 @@ fn obey<R: Repository, A: RepoAccess<View = R>>(
     ensures ok { IfOk result (λ phase. Made A.between A.adds (λ c a. EditingStep A.may env c client asked editor (Ok command.now) a) (A.point access.old) out.old.items (A.point access.new) phase out.new.items) }
     ensures err { OnErr result (Misses A.between A.adds (λ c a. EditingStep A.may env c client asked editor (Ok command.now) a) (A.point access.old) (A.point access.new)) }
 {
-    match command {
-        EditorCommand::CloseEdit => {
+    match ending_of(command) {
+        Some(Ending::Commits) => {
             let phase = close(alloc, client, asked, editor, access, env, out)?;
             Ok(phase)
         }
-        EditorCommand::AbortEdit => {
+        Some(Ending::GivesUp) => {
             drop_edit(asked, editor);
             say(alloc, &Reply::Success, out)?;
             Ok(Phase::Serving(client))
         }
-        EditorCommand::OpenRoot(..)
-        | EditorCommand::AddDirectory(_)
-        | EditorCommand::OpenDirectory(_)
-        | EditorCommand::CloseDirectory(_) => {
+        None => {
             let phase = edit(alloc, client, asked, editor, command, access, env, out)?;
             Ok(phase)
         }

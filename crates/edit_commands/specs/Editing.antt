@@ -2,18 +2,26 @@
 use Rattle.std.specs.Prelude.{ℕ, Bool, ◌||◌, List, Option, Some, None, option_map, Result, Ok, Err, codes, if◌then◌else◌}
 use Rattle.items.specs.Tree.{Tree, word, number, string, list, Trees, none, more}
 use Rattle.forms.specs.Forms.{is_name, command_form, optional_number}
+use Rattle.edit_commands.specs.Places.{token_first, two, place, added, opened, deleted, absent}
+use Rattle.edit_commands.specs.Texts.{property, with_checksum, chunk, token_alone}
 use Rattle.edit_commands.specs.declared.editing.EditorCommand.{EditorCommand}
-use Rattle.edit_commands.specs.declared.editing.EditorCommand.TheVariants.{OpenRoot, AddDirectory, OpenDirectory, CloseDirectory, CloseEdit, AbortEdit}
+use Rattle.edit_commands.specs.declared.editing.EditorCommand.TheVariants.{TargetRevision, OpenRoot, DeleteEntry, AddDirectory, AddFile, OpenDirectory, OpenFile, AbsentDirectory, AbsentFile, ChangeDirectoryProperty, ChangeFileProperty, ApplyTextDelta, TextDeltaChunk, TextDeltaEnd, CloseDirectory, CloseFile, CloseEdit, AbortEdit}
 use Rattle.forms.specs.declared.fault.CommandFault.{CommandFault}
 use Rattle.forms.specs.declared.fault.CommandFault.TheVariants.{UnknownName, BadParameters}
 
--- a token that stands alone or in front
-abbrev pub token_first : Trees → Option (List ℕ)
-token_first (more (string token) rest) = Some token
-token_first (more (word w) rest) = None
-token_first (more (number n) rest) = None
-token_first (more (list ts) rest) = None
-token_first none = None
+-- the command of what was read
+abbrev pub made : {T : Type 0} → (T → EditorCommand) → Result T CommandFault → Result EditorCommand CommandFault
+made command (Ok x) = Ok (command x)
+made command (Err fault) = Err fault
+
+-- ---- `( rev )`
+
+abbrev pub target_revision : Trees → Result EditorCommand CommandFault
+target_revision (more (number revision) rest) = Ok (TargetRevision revision)
+target_revision (more (word w) rest) = Err BadParameters
+target_revision (more (string s) rest) = Err BadParameters
+target_revision (more (list ts) rest) = Err BadParameters
+target_revision none = Err BadParameters
 
 -- ---- `( [ rev ] token )`
 
@@ -29,97 +37,35 @@ open_root (more (number n) rest) = Err BadParameters
 open_root (more (string s) rest) = Err BadParameters
 open_root none = Err BadParameters
 
--- ---- `path parent token`, and what stands behind them
+-- ---- by name
 
-abbrev pub Place : Type 0
-Place = List ℕ × List ℕ × List ℕ × Trees
-
-abbrev pub token_of : List ℕ → List ℕ → Trees → Option Place
-token_of path parent (more (string token) rest) = Some (path, parent, token, rest)
-token_of path parent (more (word w) rest) = None
-token_of path parent (more (number n) rest) = None
-token_of path parent (more (list ts) rest) = None
-token_of path parent none = None
-
-abbrev pub parent_of : List ℕ → Trees → Option Place
-parent_of path (more (string parent) rest) = token_of path parent rest
-parent_of path (more (word w) rest) = None
-parent_of path (more (number n) rest) = None
-parent_of path (more (list ts) rest) = None
-parent_of path none = None
-
-abbrev pub place : Trees → Option Place
-place (more (string path) rest) = parent_of path rest
-place (more (word w) rest) = None
-place (more (number n) rest) = None
-place (more (list ts) rest) = None
-place none = None
-
--- ---- `( path parent token [ copy-path copy-rev ] )`
-
--- `[ copy-path copy-rev ]`: what is in the list
-abbrev pub source_revision : List ℕ → Trees → Option (Option (List ℕ × ℕ))
-source_revision path (more (number revision) rest) = Some (Some (path, revision))
-source_revision path (more (word w) rest) = None
-source_revision path (more (string s) rest) = None
-source_revision path (more (list ts) rest) = None
-source_revision path none = None
-
-abbrev pub optional_source : Trees → Option (Option (List ℕ × ℕ))
-optional_source none = Some None
-optional_source (more (string path) rest) = source_revision path rest
-optional_source (more (word w) rest) = None
-optional_source (more (number n) rest) = None
-optional_source (more (list ts) rest) = None
-
-abbrev pub source_first : Trees → Option (Option (List ℕ × ℕ))
-source_first (more (list ts) rest) = optional_source ts
-source_first (more (word w) rest) = None
-source_first (more (number n) rest) = None
-source_first (more (string s) rest) = None
-source_first none = None
-
-abbrev pub added_from : Place → Option (Option (List ℕ × ℕ)) → Result EditorCommand CommandFault
-added_from at None = Err BadParameters
-added_from (path, parent, token, rest) (Some source) = Ok (AddDirectory (record { path = path; parent = parent; token = token; source = source }))
-
-abbrev pub added : Option Place → Result EditorCommand CommandFault
-added None = Err BadParameters
-added (Some (path, parent, token, rest)) = added_from (path, parent, token, rest) (source_first rest)
-
--- ---- `( path parent token [ rev ] )`; a bare number is also read
-
-abbrev pub revision_first : Trees → Option (Option ℕ)
-revision_first (more (list ts) rest) = optional_number ts
-revision_first (more (number n) rest) = Some (Some n)
-revision_first (more (word w) rest) = None
-revision_first (more (string s) rest) = None
-revision_first none = None
-
-abbrev pub opened_at : Place → Option (Option ℕ) → Result EditorCommand CommandFault
-opened_at at None = Err BadParameters
-opened_at (path, parent, token, rest) (Some revision) = Ok (OpenDirectory (record { path = path; parent = parent; token = token; revision = revision }))
-
-abbrev pub opened : Option Place → Result EditorCommand CommandFault
-opened None = Err BadParameters
-opened (Some (path, parent, token, rest)) = opened_at (path, parent, token, rest) (revision_first rest)
-
--- ---- `( token )`
-
-abbrev pub closed_of : Option (List ℕ) → Result EditorCommand CommandFault
-closed_of None = Err BadParameters
-closed_of (Some token) = Ok (CloseDirectory token)
+-- a command of a file, by its name and its parameters
+abbrev pub file_named : List ℕ → Trees → Result EditorCommand CommandFault
+file_named name params =
+    if is_name name (codes "add-file") then made AddFile (added (place params))
+    else if is_name name (codes "open-file") then made OpenFile (opened (place params))
+    else if is_name name (codes "change-file-prop") then made ChangeFileProperty (property (two params))
+    else if is_name name (codes "apply-textdelta") then made (λ p. ApplyTextDelta p.0 p.1) (with_checksum params)
+    else if is_name name (codes "textdelta-chunk") then made (λ p. TextDeltaChunk p.0 p.1) (chunk (two params))
+    else if is_name name (codes "textdelta-end") then made TextDeltaEnd (token_alone (token_first params))
+    else if is_name name (codes "close-file") then made (λ p. CloseFile p.0 p.1) (with_checksum params)
+    else if is_name name (codes "absent-file") then made AbsentFile (absent (two params))
+    else Err UnknownName
 
 -- the command of a name and its parameters
 abbrev pub editing_named : List ℕ → Trees → Result EditorCommand CommandFault
 editing_named name params =
-    if is_name name (codes "open-root") then open_root params
-    else if is_name name (codes "add-dir") then added (place params)
-    else if is_name name (codes "open-dir") then opened (place params)
-    else if is_name name (codes "close-dir") then closed_of (token_first params)
+    if is_name name (codes "target-rev") then target_revision params
+    else if is_name name (codes "open-root") then open_root params
+    else if is_name name (codes "delete-entry") then made DeleteEntry (deleted params)
+    else if is_name name (codes "add-dir") then made AddDirectory (added (place params))
+    else if is_name name (codes "open-dir") then made OpenDirectory (opened (place params))
+    else if is_name name (codes "change-dir-prop") then made ChangeDirectoryProperty (property (two params))
+    else if is_name name (codes "close-dir") then made CloseDirectory (token_alone (token_first params))
+    else if is_name name (codes "absent-dir") then made AbsentDirectory (absent (two params))
     else if is_name name (codes "close-edit") then Ok CloseEdit
     else if is_name name (codes "abort-edit") then Ok AbortEdit
-    else Err UnknownName
+    else file_named name params
 
 abbrev pub editing_of_form : Option (List ℕ × Trees) → Result EditorCommand CommandFault
 editing_of_form None = Err BadParameters

@@ -1,13 +1,16 @@
 //! The commands of an edit.
-ghost use Rattle.std.specs.Prelude.{◌≡◌, option_map, IfOk};
+ghost use Rattle.std.specs.Prelude.{◌≡◌};
 ghost use Rattle.items.specs.View.{tree_of, trees_of};
 ghost use Rattle.forms.specs.Answering.{Answers};
 ghost use Rattle.forms.specs.Forms.{optional_number};
-ghost use Rattle.edit_commands.specs.Editing.{editor_command, editing_named, open_root, root_of, token_first, place, parent_of, token_of, added, added_from, source_first, optional_source, source_revision, opened, opened_at, revision_first, closed_of, ends_edit, is_last};
+ghost use Rattle.edit_commands.specs.Editing.{editor_command, editing_named, file_named, target_revision, open_root, root_of, ends_edit, is_last};
+ghost use Rattle.edit_commands.specs.Places.{token_first};
 
+use crate::places::{read_absent, read_added, read_deleted, read_opened, read_token};
+use crate::texts::{read_chunk, read_property, read_token_alone, read_with_checksum};
 use forms::{CommandFault, copy_text, read_form, read_optional_number};
 use items::{Item, Text};
-use std::alloc::{AllocError, Global};
+use std::alloc::Global;
 
 /// An entry that is added: its path, the token of the directory that it is added to, its own token, and the
 /// path or URL and the revision of which it is a copy.
@@ -29,17 +32,66 @@ pub struct OpenedEntry {
     pub revision: Option<u64>,
 }
 
-/// A command of an edit, with its parameters. Paths are relative to the session's URL.
+/// An entry that is deleted: its path, the token of the directory that it is in, and the revision that the
+/// client has of it.
+#[derive(Drop)]
+pub struct DeletedEntry {
+    pub path: Text,
+    pub parent: Text,
+    pub revision: Option<u64>,
+}
+
+/// An entry that the client must not see: its path, and the token of the directory that it is in.
+#[derive(Drop)]
+pub struct AbsentEntry {
+    pub path: Text,
+    pub parent: Text,
+}
+
+/// A property of what is open under a token: its name, and its value, or `None` where it is taken out.
+#[derive(Drop)]
+pub struct PropertyChange {
+    pub token: Text,
+    pub name: Text,
+    pub value: Option<Text>,
+}
+
+/// A command of an edit, with its parameters. Paths are relative to the session's URL; a checksum is the MD5 of a
+/// text, as hexadecimal digits.
 #[derive(Drop)]
 pub enum EditorCommand {
+    /// Names the revision that an edit leads to.
+    TargetRevision(u64),
     /// Opens the directory at the session's URL.
     OpenRoot(Option<u64>, Text),
+    /// Deletes an entry.
+    DeleteEntry(DeletedEntry),
     /// Adds a directory.
     AddDirectory(AddedEntry),
+    /// Adds a file.
+    AddFile(AddedEntry),
     /// Opens a directory.
     OpenDirectory(OpenedEntry),
+    /// Opens a file.
+    OpenFile(OpenedEntry),
+    /// Names a directory that the client must not see.
+    AbsentDirectory(AbsentEntry),
+    /// Names a file that the client must not see.
+    AbsentFile(AbsentEntry),
+    /// Changes a property of an open directory.
+    ChangeDirectoryProperty(PropertyChange),
+    /// Changes a property of an open file.
+    ChangeFileProperty(PropertyChange),
+    /// Begins a text delta of an open file, over a text of this checksum.
+    ApplyTextDelta(Text, Option<Text>),
+    /// Brings the next bytes of a text delta.
+    TextDeltaChunk(Text, Text),
+    /// Ends a text delta.
+    TextDeltaEnd(Text),
     /// Closes a directory.
     CloseDirectory(Text),
+    /// Closes a file, whose text has this checksum.
+    CloseFile(Text, Option<Text>),
     /// Commits the edit.
     CloseEdit,
     /// Gives the edit up.
@@ -47,7 +99,8 @@ pub enum EditorCommand {
 }
 
 impl EditorCommand {
-    /// The command that an item is.
+    /// The command that an item is: `( name ( params ) )`. Items behind the parameters that a command
+    /// knows are ignored.
     pub fn from_item(alloc: Global, item: &Item) -> Result<EditorCommand, CommandFault>
         ensures { Answers result (editor_command (tree_of item.now)) }
     {
@@ -61,20 +114,70 @@ impl EditorCommand {
 fn read_named(alloc: Global, name: &[u8], params: &[Item]) -> Result<EditorCommand, CommandFault>
     ensures { Answers result (editing_named name.now (trees_of params.now)) }
 {
-    if name == b"open-root".as_slice() {
+    if name == b"target-rev".as_slice() {
+        read_target_revision(params)
+    } else if name == b"open-root".as_slice() {
         read_open_root(alloc, params)
+    } else if name == b"delete-entry".as_slice() {
+        Ok(EditorCommand::DeleteEntry(read_deleted(alloc, params)?))
     } else if name == b"add-dir".as_slice() {
-        read_add_directory(alloc, params)
+        Ok(EditorCommand::AddDirectory(read_added(alloc, params)?))
     } else if name == b"open-dir".as_slice() {
-        read_open_directory(alloc, params)
+        Ok(EditorCommand::OpenDirectory(read_opened(alloc, params)?))
+    } else if name == b"change-dir-prop".as_slice() {
+        Ok(EditorCommand::ChangeDirectoryProperty(read_property(alloc, params)?))
     } else if name == b"close-dir".as_slice() {
-        read_close_directory(alloc, params)
+        Ok(EditorCommand::CloseDirectory(read_token_alone(alloc, params)?))
+    } else if name == b"absent-dir".as_slice() {
+        Ok(EditorCommand::AbsentDirectory(read_absent(alloc, params)?))
     } else if name == b"close-edit".as_slice() {
         Ok(EditorCommand::CloseEdit)
     } else if name == b"abort-edit".as_slice() {
         Ok(EditorCommand::AbortEdit)
     } else {
+        read_file_named(alloc, name, params)
+    }
+}
+
+/// A command of a file.
+fn read_file_named(
+    alloc: Global,
+    name: &[u8],
+    params: &[Item],
+) -> Result<EditorCommand, CommandFault>
+    ensures { Answers result (file_named name.now (trees_of params.now)) }
+{
+    if name == b"add-file".as_slice() {
+        Ok(EditorCommand::AddFile(read_added(alloc, params)?))
+    } else if name == b"open-file".as_slice() {
+        Ok(EditorCommand::OpenFile(read_opened(alloc, params)?))
+    } else if name == b"change-file-prop".as_slice() {
+        Ok(EditorCommand::ChangeFileProperty(read_property(alloc, params)?))
+    } else if name == b"apply-textdelta".as_slice() {
+        let (token, checksum) = read_with_checksum(alloc, params)?;
+        Ok(EditorCommand::ApplyTextDelta(token, checksum))
+    } else if name == b"textdelta-chunk".as_slice() {
+        let (token, bytes) = read_chunk(alloc, params)?;
+        Ok(EditorCommand::TextDeltaChunk(token, bytes))
+    } else if name == b"textdelta-end".as_slice() {
+        Ok(EditorCommand::TextDeltaEnd(read_token_alone(alloc, params)?))
+    } else if name == b"close-file".as_slice() {
+        let (token, checksum) = read_with_checksum(alloc, params)?;
+        Ok(EditorCommand::CloseFile(token, checksum))
+    } else if name == b"absent-file".as_slice() {
+        Ok(EditorCommand::AbsentFile(read_absent(alloc, params)?))
+    } else {
         Err(CommandFault::UnknownName)
+    }
+}
+
+/// `( rev )`
+fn read_target_revision(params: &[Item]) -> Result<EditorCommand, CommandFault>
+    ensures { Answers result (target_revision (trees_of params.now)) }
+{
+    match params {
+        [Item::Number(revision), ..] => Ok(EditorCommand::TargetRevision(*revision)),
+        _ => Err(CommandFault::BadParameters),
     }
 }
 
@@ -98,145 +201,6 @@ fn make_open_root(
     let revision = read_optional_number(revision).ok_or(CommandFault::BadParameters)?;
     let token = read_token(rest).ok_or(CommandFault::BadParameters)?;
     Ok(EditorCommand::OpenRoot(revision, copy_text(alloc, token)?))
-}
-
-/// `( token )`
-fn read_close_directory(alloc: Global, params: &[Item]) -> Result<EditorCommand, CommandFault>
-    ensures { Answers result (closed_of (token_first (trees_of params.now))) }
-{
-    let token = read_token(params).ok_or(CommandFault::BadParameters)?;
-    Ok(EditorCommand::CloseDirectory(copy_text(alloc, token)?))
-}
-
-/// A token in front.
-fn read_token(items: &[Item]) -> Option<&Text>
-    ensures { option_map (λ text. text.now) result ≡ token_first (trees_of items.now) }
-{
-    match items {
-        [Item::Str(token), ..] => Some(token),
-        _ => None,
-    }
-}
-
-/// `path parent token`, and what stands behind them.
-#[derive(Clone, Copy)]
-struct Place<'a> {
-    path: &'a Text,
-    parent: &'a Text,
-    token: &'a Text,
-    rest: &'a [Item],
-}
-
-fn read_place(items: &[Item]) -> Option<Place<'_>>
-    ensures { option_map (λ p. (p.path.now, p.parent.now, p.token.now, trees_of p.rest.now)) result ≡ place (trees_of items.now) }
-{
-    match items {
-        [Item::Str(path), rest @ ..] => read_parent(path, rest),
-        _ => None,
-    }
-}
-
-fn read_parent<'a>(path: &'a Text, items: &'a [Item]) -> Option<Place<'a>>
-    ensures { option_map (λ p. (p.path.now, p.parent.now, p.token.now, trees_of p.rest.now)) result ≡ parent_of path.now (trees_of items.now) }
-{
-    match items {
-        [Item::Str(parent), rest @ ..] => read_own_token(path, parent, rest),
-        _ => None,
-    }
-}
-
-fn read_own_token<'a>(path: &'a Text, parent: &'a Text, items: &'a [Item]) -> Option<Place<'a>>
-    ensures { option_map (λ p. (p.path.now, p.parent.now, p.token.now, trees_of p.rest.now)) result ≡ token_of path.now parent.now (trees_of items.now) }
-{
-    match items {
-        [Item::Str(token), rest @ ..] => Some(Place {
-            path,
-            parent,
-            token,
-            rest,
-        }),
-        _ => None,
-    }
-}
-
-/// `( path parent token [ copy-path copy-rev ] )`
-fn read_add_directory(alloc: Global, params: &[Item]) -> Result<EditorCommand, CommandFault>
-    ensures { Answers result (added (place (trees_of params.now))) }
-{
-    let place = read_place(params).ok_or(CommandFault::BadParameters)?;
-    let source = read_source(place.rest).ok_or(CommandFault::BadParameters)?;
-    Ok(EditorCommand::AddDirectory(AddedEntry {
-        path: copy_text(alloc, place.path)?,
-        parent: copy_text(alloc, place.parent)?,
-        token: copy_text(alloc, place.token)?,
-        source: copy_source(alloc, source)?,
-    }))
-}
-
-/// `[ copy-path copy-rev ]`
-fn read_source(items: &[Item]) -> Option<Option<(&Text, u64)>>
-    ensures { option_map (option_map (λ s. (s.0.now, s.1))) result ≡ source_first (trees_of items.now) }
-{
-    match items {
-        [Item::List(source), ..] => read_optional_source(source.as_slice()),
-        _ => None,
-    }
-}
-
-fn read_optional_source(items: &[Item]) -> Option<Option<(&Text, u64)>>
-    ensures { option_map (option_map (λ s. (s.0.now, s.1))) result ≡ optional_source (trees_of items.now) }
-{
-    match items {
-        [] => Some(None),
-        [Item::Str(path), rest @ ..] => read_source_revision(path, rest),
-        _ => None,
-    }
-}
-
-fn read_source_revision<'a>(path: &'a Text, items: &[Item]) -> Option<Option<(&'a Text, u64)>>
-    ensures { option_map (option_map (λ s. (s.0.now, s.1))) result ≡ source_revision path.now (trees_of items.now) }
-{
-    match items {
-        [Item::Number(revision), ..] => Some(Some((path, *revision))),
-        _ => None,
-    }
-}
-
-fn copy_source(
-    alloc: Global,
-    source: Option<(&Text, u64)>,
-) -> Result<Option<(Text, u64)>, AllocError>
-    ensures { IfOk result (λ copy. copy ≡ option_map (λ s. (s.0.now, s.1)) source.entry) }
-{
-    match source {
-        Some((path, revision)) => Ok(Some((copy_text(alloc, path)?, revision))),
-        None => Ok(None),
-    }
-}
-
-/// `( path parent token [ rev ] )`
-fn read_open_directory(alloc: Global, params: &[Item]) -> Result<EditorCommand, CommandFault>
-    ensures { Answers result (opened (place (trees_of params.now))) }
-{
-    let place = read_place(params).ok_or(CommandFault::BadParameters)?;
-    let revision = read_revision(place.rest).ok_or(CommandFault::BadParameters)?;
-    Ok(EditorCommand::OpenDirectory(OpenedEntry {
-        path: copy_text(alloc, place.path)?,
-        parent: copy_text(alloc, place.parent)?,
-        token: copy_text(alloc, place.token)?,
-        revision,
-    }))
-}
-
-/// `[ rev ]`, or a bare number.
-fn read_revision(items: &[Item]) -> Option<Option<u64>>
-    ensures { result ≡ revision_first (trees_of items.now) }
-{
-    match items {
-        [Item::List(revision), ..] => read_optional_number(revision.as_slice()),
-        [Item::Number(revision), ..] => Some(Some(*revision)),
-        _ => None,
-    }
 }
 
 /// Whether a command that is read by its name alone ends an edit; `None` for an item that is no command.

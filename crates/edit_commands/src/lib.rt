@@ -2,5 +2,9 @@
 #![tactic(auto)]
 
 mod editing;
+mod places;
+mod texts;
 
-pub use editing::{AddedEntry, EditorCommand, OpenedEntry, ends_edit};
+pub use editing::{
+    AbsentEntry, AddedEntry, DeletedEntry, EditorCommand, OpenedEntry, PropertyChange, ends_edit,
+};

@@ -1,2 +1,3 @@
-pub mod Steps
 pub mod Sound
+pub mod Steps
+pub mod TextSteps

@@ -3,72 +3,101 @@ use Rattle.std.proofs.Common.{◌≡◌, ℕ, zero, suc, ◌+◌, ◌==◌, Bool
 use Rattle.std.proofs.lemmas.Bool.{eqb-true}
 use Rattle.std.proofs.lemmas.List.{length-drop}
 use Rattle.std.proofs.lemmas.List.Elements.{All-nil, All-cons, All-head, All-tail, All-weaker}
-use Rattle.std.specs.Prelude.{if◌then◌else◌, IsSomeAnd, IsTrue, Result, Ok, slice_get}
-use Rattle.std.specs.List.{All}
+use Rattle.std.specs.Prelude.{if◌then◌else◌, IsSomeAnd, Result, Ok, option_and_then, slice_get}
+use Rattle.std.specs.List.{All, filter}
 use Rattle.std.specs.BTreeMap.{insert_entry, is_at}
-use Rattle.std.specs.Map.{lookup, remove_entry}
+use Rattle.std.specs.Map.{lookup, remove_entry, set_value}
 use Rattle.std.specs.FinMap.{get, get-empty}
 use Rattle.std.specs.Cmp.Lexicographic.{slice_cmp}
 use Rattle.std.specs.Ordering.{nat_cmp, match_ordering}
 use Rattle.std.specs.declared.cmp.Ordering.{Ordering}
 use Rattle.std.specs.declared.cmp.Ordering.TheVariants.{Less, Equal, Greater}
 use Rattle.svnpath.specs.Paths.{PathValue, Component, path_cmp, same_path, is_at_or_under}
-use Rattle.svnpath.specs.PathLaws.{under_is, same_path_refl}
+use Rattle.svnpath.specs.PathLaws.{under_is, same_path_is, same_path_refl}
 use Rattle.svnpath.specs.Texts.{joined}
 use Rattle.svnpath.specs.declared.fault.PathFault.{PathFault}
+use Rattle.svndiff0.specs.Applying.{fed}
 use Rattle.refusals.specs.declared.Refusal.{Refusal}
 use Rattle.refusals.specs.declared.Refusal.TheVariants as refusals
-use Rattle.repo_api.specs.Trees.{Tree, IsTree, HasDirectory, is_directory, is_directory_content}
-use Rattle.repo_api.specs.Edits.{touched, touched_above, new_entry, added, edited, begun}
+use Rattle.repo_api.specs.Trees.{Tree, IsTree, HasDirectory, HasFile, is_directory, is_directory_content}
+use Rattle.repo_api.specs.Edits.{touched, opened, touched_above, new_entry, added, revised, with_text, with_value, without_value, deleted, edited, begun}
 use Rattle.repo_api.specs.States.{RepoState, TxnState, Fixed, tree_of, tree_in, tree_at, youngest}
 use Rattle.repo_api.specs.Kinds.{kind_of, kind_at, content_kind}
 use Rattle.repo_api.specs.declared.entry.Entry.{Entry}
 use Rattle.repo_api.specs.declared.entry.Content.{Content}
-use Rattle.repo_api.specs.declared.entry.Content.TheVariants.{Directory, File}
-use Rattle.repo_api.specs.declared.edit.EditOp.TheVariants.{AddDirectory as Adds}
+use Rattle.repo_api.specs.declared.entry.Content.TheVariants as contents
+use Rattle.repo_api.specs.declared.edit.EditOp.{EditOp}
+use Rattle.repo_api.specs.declared.edit.EditOp.TheVariants as edits
 use Rattle.edit_commands.specs.declared.editing.EditorCommand.{EditorCommand}
-use Rattle.edit_commands.specs.declared.editing.EditorCommand.TheVariants.{OpenRoot, AddDirectory, OpenDirectory, CloseDirectory, CloseEdit, AbortEdit}
+use Rattle.edit_commands.specs.declared.editing.EditorCommand.TheVariants.{TargetRevision, OpenRoot, DeleteEntry, AddDirectory, AddFile, OpenDirectory, OpenFile, AbsentDirectory, AbsentFile, ChangeDirectoryProperty, ChangeFileProperty, ApplyTextDelta, TextDeltaChunk, TextDeltaEnd, CloseDirectory, CloseFile, CloseEdit, AbortEdit}
 use Rattle.edit_commands.specs.declared.editing.AddedEntry.{AddedEntry}
 use Rattle.edit_commands.specs.declared.editing.OpenedEntry.{OpenedEntry}
-use Rattle.editor.specs.Tokens.{Tokens, with_token, without_token, directory_of, is_within}
-use Rattle.editor.specs.Editor.{EditState, unless, directory_refusal, standing, place_refusal, open_root_refusal, add_directory_refusal, open_directory_refusal, edit_refusal, command_refusal, OpensRoot, AddsDirectory, OpensDirectory, Applies}
-use Rattle.editor.specs.Soundness.{AreTrees, IsSoundIn, IsSoundEdit}
-use Rattle.editor.proofs.Steps.{placed_to_add, none_first}
+use Rattle.edit_commands.specs.declared.editing.DeletedEntry.{DeletedEntry}
+use Rattle.edit_commands.specs.declared.editing.PropertyChange.{PropertyChange}
+use Rattle.editor.specs.Tokens.{Tokens, with_token, without_token, with_change, opened_under, path_of, directory_path, directory_of, closed_beneath, is_within, is_placed}
+use Rattle.editor.specs.Edits.{EditState, standing, created, open_in, file_text}
+use Rattle.editor.specs.Refusing.{first, unless, directory_refusal, add_refusal, age_refusal, file_refusal, delete_refusal, place_refusal, parent_refusal, source_fault, copy_refusal, open_root_refusal, before_root, delete_entry_refusal, add_entry_refusal, open_directory_refusal, open_file_refusal, begin_delta_refusal, edit_refusal, command_refusal}
+use Rattle.editor.specs.Editor.{OpensRoot, Edits, Named, Opens, ChangesProperty, property_edit, unread, BeginsDelta, FeedsDelta, EndsDelta, Closes, Applies}
+use Rattle.editor.specs.Soundness.{AreTrees, StandsIn, IsSoundIn, IsSoundEdit}
+use Rattle.editor.specs.declared.opened.Opened.{Opened}
+use Rattle.editor.specs.declared.opened.Opened.TheVariants.{Directory, File}
+use Rattle.editor.specs.declared.opened.Delta.{Delta}
+use Rattle.editor.specs.declared.opened.Delta.TheVariants.{Untouched, Reading, Made}
 
--- ---- the open directories
+-- ---- what is open
 
--- what holds of the path of each open directory
-abbrev OfPaths : (PathValue → Type 0) → List ℕ × PathValue → Type 0
-OfPaths P e = P e.1
+-- what holds of each thing that is open
+abbrev OfOpened : (Opened → Type 0) → List ℕ × Opened → Type 0
+OfOpened P e = P e.1
 
-all_inserted : (P : PathValue → Type 0) (cmp : List ℕ → List ℕ → Ordering) (es : Tokens) (k : List ℕ) (p : PathValue) → P p → All (OfPaths P) es → All (OfPaths P) (insert_entry cmp es k p)
-all_inserted P cmp [] k p here all = All-cons (OfPaths P) (k, p) [] here (All-nil (OfPaths P))
-all_inserted P cmp (e ∷ es) k p here all = by (cmp k e.0) (all_inserted P cmp es k p here (All-tail (OfPaths P) e es all))
+all_inserted : (P : Opened → Type 0) (cmp : List ℕ → List ℕ → Ordering) (es : Tokens) (k : List ℕ) (o : Opened) → P o → All (OfOpened P) es → All (OfOpened P) (insert_entry cmp es k o)
+all_inserted P cmp [] k o here all = All-cons (OfOpened P) (k, o) [] here (All-nil (OfOpened P))
+all_inserted P cmp (e ∷ es) k o here all = by (cmp k e.0) (all_inserted P cmp es k o here (All-tail (OfOpened P) e es all))
   where
-    by : (o : Ordering) → All (OfPaths P) (insert_entry cmp es k p) → All (OfPaths P) (match_ordering o ((k, p) ∷ e ∷ es) ((e.0, p) ∷ es) (e ∷ insert_entry cmp es k p))
-    by Less later = All-cons (OfPaths P) (k, p) (e ∷ es) here all
-    by Equal later = All-cons (OfPaths P) (e.0, p) es here (All-tail (OfPaths P) e es all)
-    by Greater later = All-cons (OfPaths P) e (insert_entry cmp es k p) (All-head (OfPaths P) e es all) later
+    by : (r : Ordering) → All (OfOpened P) (insert_entry cmp es k o) → All (OfOpened P) (match_ordering r ((k, o) ∷ e ∷ es) ((e.0, o) ∷ es) (e ∷ insert_entry cmp es k o))
+    by Less later = All-cons (OfOpened P) (k, o) (e ∷ es) here all
+    by Equal later = All-cons (OfOpened P) (e.0, o) es here (All-tail (OfOpened P) e es all)
+    by Greater later = All-cons (OfOpened P) e (insert_entry cmp es k o) (All-head (OfOpened P) e es all) later
 
-all_removed : (P : PathValue → Type 0) (test : List ℕ → Bool) (es : Tokens) → All (OfPaths P) es → All (OfPaths P) (remove_entry test es)
+all_removed : (P : Opened → Type 0) (test : List ℕ → Bool) (es : Tokens) → All (OfOpened P) es → All (OfOpened P) (remove_entry test es)
 all_removed P test [] all = all
-all_removed P test (e ∷ es) all = by (test e.0) (all_removed P test es (All-tail (OfPaths P) e es all))
+all_removed P test (e ∷ es) all = by (test e.0) (all_removed P test es (All-tail (OfOpened P) e es all))
   where
-    by : (b : Bool) → All (OfPaths P) (remove_entry test es) → All (OfPaths P) (cond b es (e ∷ remove_entry test es))
-    by true later = All-tail (OfPaths P) e es all
-    by false later = All-cons (OfPaths P) e (remove_entry test es) (All-head (OfPaths P) e es all) later
+    by : (b : Bool) → All (OfOpened P) (remove_entry test es) → All (OfOpened P) (cond b es (e ∷ remove_entry test es))
+    by true later = All-tail (OfOpened P) e es all
+    by false later = All-cons (OfOpened P) e (remove_entry test es) (All-head (OfOpened P) e es all) later
 
-abbrev IfFound : (PathValue → Type 0) → Option PathValue → Type 0
+all_changed : (P : Opened → Type 0) (test : List ℕ → Bool) (es : Tokens) (o : Opened) → P o → All (OfOpened P) es → All (OfOpened P) (set_value test es o)
+all_changed P test [] o here all = all
+all_changed P test (e ∷ es) o here all = by (test e.0) (all_changed P test es o here (All-tail (OfOpened P) e es all))
+  where
+    by : (b : Bool) → All (OfOpened P) (set_value test es o) → All (OfOpened P) (cond b ((e.0, o) ∷ es) (e ∷ set_value test es o))
+    by true later = All-cons (OfOpened P) (e.0, o) es here (All-tail (OfOpened P) e es all)
+    by false later = All-cons (OfOpened P) e (set_value test es o) (All-head (OfOpened P) e es all) later
+
+-- what holds of those that are kept
+all_kept : (P Q : Opened → Type 0) (keep : List ℕ × Opened → Bool) → ((e : List ℕ × Opened) → keep e ≡ true → P e.1 → Q e.1) → (es : Tokens) → All (OfOpened P) es → All (OfOpened Q) (filter keep es)
+all_kept P Q keep holds [] all = All-nil (OfOpened Q)
+all_kept P Q keep holds (e ∷ es) all = by (keep e) refl (all_kept P Q keep holds es (All-tail (OfOpened P) e es all))
+  where
+    by : (b : Bool) → keep e ≡ b → All (OfOpened Q) (filter keep es) → All (OfOpened Q) (cond b (e ∷ filter keep es) (filter keep es))
+    by true kept later = All-cons (OfOpened Q) e (filter keep es) (holds e kept (All-head (OfOpened P) e es all)) later
+    by false kept later = later
+
+abbrev IfFound : (Opened → Type 0) → Option Opened → Type 0
 IfFound P None = Unit {0}
-IfFound P (Some p) = P p
+IfFound P (Some o) = P o
 
-all_found : (P : PathValue → Type 0) (test : List ℕ → Bool) (es : Tokens) → All (OfPaths P) es → IfFound P (lookup test es)
+all_found : (P : Opened → Type 0) (test : List ℕ → Bool) (es : Tokens) → All (OfOpened P) es → IfFound P (lookup test es)
 all_found P test [] all = tt
-all_found P test (e ∷ es) all = by (test e.0) (all_found P test es (All-tail (OfPaths P) e es all))
+all_found P test (e ∷ es) all = by (test e.0) (all_found P test es (All-tail (OfOpened P) e es all))
   where
     by : (b : Bool) → IfFound P (lookup test es) → IfFound P (cond b (Some e.1) (lookup test es))
-    by true later = All-head (OfPaths P) e es all
+    by true later = All-head (OfOpened P) e es all
     by false later = later
+
+found_under : (P : Opened → Type 0) (tokens : Tokens) (token : List ℕ) (o : Opened) → All (OfOpened P) tokens → opened_under tokens token ≡ Some o → P o
+found_under P tokens token o all at = subst (IfFound P) at (all_found P (is_at (slice_cmp nat_cmp token)) tokens all)
 
 -- ---- one name beneath a directory
 
@@ -92,113 +121,330 @@ beneath d p within =
     let rest = alone (drop (length d) p) (omega (arith, length-drop (length d) p)) in
     (rest.0, under_is p d both.0 ∙ ap (λ (r : List Component). d ++ r) rest.1)
 
--- the directory under the parent's token, and the name in it
-within_found : (P : PathValue → Type 0) (o : Option PathValue) (p : PathValue) → IfFound P o → is_within o p ≡ true → (d : PathValue) × (P d × IsBeneath d p)
-within_found P None p found within = cc
-within_found P (Some d) p found within = (d, (found, beneath d p within))
+-- a path whose parent is a directory of the tree
+abbrev HasParent : Tree → PathValue → Type 0
+HasParent t p = (d : PathValue) × (HasDirectory t d × IsBeneath d p)
+
+within_found : (t : Tree) (o : Option Opened) (p : PathValue) → IfFound (StandsIn t) o → is_within (option_and_then directory_path o) p ≡ true → HasParent t p
+within_found t None p found within = cc
+within_found t (Some (Directory d revision)) p found within = (d, (found, beneath d p within))
+within_found t (Some (File d delta)) p found within = cc
 
 -- ---- what stands where
 
-abbrev IsDirectoryAt : Option Entry → Type 0
-IsDirectoryAt o = IsSomeAnd o (λ e. IsTrue (is_directory e))
+-- a directory stands there, or a file, by the flag
+abbrev StandsAs : Bool → Option Entry → Type 0
+StandsAs kind o = IsSomeAnd o (λ e. is_directory e ≡ kind)
 
-is_directory_kind : (x : Content) → directory_refusal (content_kind x) ≡ None → IsTrue (is_directory_content x)
-is_directory_kind Directory e = refl
-is_directory_kind (File text) e = cc
+opened_stands : (t u : Tree) (o : Opened) → ((kind : Bool) → StandsAs kind (t (path_of o)) → StandsAs kind (u (path_of o))) → StandsIn t o → StandsIn u o
+opened_stands t u (Directory p revision) keeps h = keeps true h
+opened_stands t u (File p delta) keeps h = keeps false h
 
-directory_there : (o : Option Entry) → directory_refusal (kind_of o) ≡ None → IsDirectoryAt o
-directory_there None e = cc
-directory_there (Some x) e = is_directory_kind x.content e
+stays_same : (t u : Tree) → ((p : PathValue) → t p ≡ u p) → (o : Opened) → StandsIn t o → StandsIn u o
+stays_same t u same o h = opened_stands t u o (λ kind s. subst (StandsAs kind) (same (path_of o)) s) h
 
-directory_touched : (above : Bool) (o : Option Entry) → IsDirectoryAt o → IsDirectoryAt (if above then option_map touched o else o)
-directory_touched true None h = h
-directory_touched true (Some e) h = h
-directory_touched false o h = h
+stays_touched : (kind above : Bool) (o : Option Entry) → StandsAs kind o → StandsAs kind (if above then option_map touched o else o)
+stays_touched kind true None h = h
+stays_touched kind true (Some e) h = h
+stays_touched kind false o h = h
 
-begun_directory : (t : Tree) (p : PathValue) → HasDirectory t p → HasDirectory (begun t) p
-begun_directory t p h = directory_touched (is_at_or_under [] p) (t p) h
+stays_begun : (t : Tree) (p : PathValue) → HasDirectory t p → HasDirectory (begun t) p
+stays_begun t p h = stays_touched true (is_at_or_under [] p) (t p) h
 
-added_directory : (t : Tree) (p q : PathValue) → HasDirectory t q → HasDirectory (added t p Directory) q
-added_directory t p q h = by (same_path p q)
+-- what stands elsewhere than at a path where nothing did stays
+stays_added : (t : Tree) (p : PathValue) (content : Content) → t p ≡ None → (o : Opened) → StandsIn t o → StandsIn (added t p content) o
+stays_added t p content none o h = opened_stands t (added t p content) o (λ kind. at_path kind (path_of o)) h
   where
-    by : (b : Bool) → IsDirectoryAt (if b then Some (new_entry Directory) else touched_above p t q)
-    by true = refl
-    by false = directory_touched (is_at_or_under p q) (t q) h
+    at_path : (kind : Bool) (q : PathValue) → StandsAs kind (t q) → StandsAs kind (added t p content q)
+    at_path kind q s = by (same_path p q) refl
+      where
+        by : (b : Bool) → same_path p q ≡ b → StandsAs kind (if b then Some (new_entry content) else touched_above p t q)
+        by true same = absurd (subst (StandsAs kind) (ap t (sym (same_path_is p q same)) ∙ none) s)
+        by false same = stays_touched kind (is_at_or_under p q) (t q) s
 
-new_directory : (t : Tree) (p : PathValue) → HasDirectory (added t p Directory) p
-new_directory t p = subst (λ (b : Bool). IsDirectoryAt (if b then Some (new_entry Directory) else touched_above p t p)) (sym (same_path_refl p)) refl
+new_stands : (t : Tree) (p : PathValue) (content : Content) → StandsAs (is_directory_content content) (added t p content p)
+new_stands t p content = subst (λ (b : Bool). StandsAs (is_directory_content content) (if b then Some (new_entry content) else touched_above p t p)) (sym (same_path_refl p)) refl
 
-same_directory : (t u : Tree) → ((p : PathValue) → t p ≡ u p) → (p : PathValue) → HasDirectory t p → HasDirectory u p
-same_directory t u same p h = subst IsDirectoryAt (same p) h
+-- an entry that is changed and stays what it was
+stays_revised : (t : Tree) (p : PathValue) (f : Entry → Entry) → ((kind : Bool) → StandsAs kind (t p) → StandsAs kind (option_map (λ e. opened (f e)) (t p))) → (o : Opened) → StandsIn t o → StandsIn (revised t p f) o
+stays_revised t p f keeps o h = opened_stands t (revised t p f) o (λ kind. at_path kind (path_of o)) h
+  where
+    at_path : (kind : Bool) (q : PathValue) → StandsAs kind (t q) → StandsAs kind (revised t p f q)
+    at_path kind q s = by (same_path p q) refl
+      where
+        by : (b : Bool) → same_path p q ≡ b → StandsAs kind (if b then option_map (λ e. opened (f e)) (t q) else touched_above p t q)
+        by true same =
+            let is : p ≡ q = same_path_is p q same in
+            subst (λ (r : PathValue). StandsAs kind (option_map (λ e. opened (f e)) (t r))) is (keeps kind (subst (λ (r : PathValue). StandsAs kind (t r)) (sym is) s))
+        by false same = stays_touched kind (is_at_or_under p q) (t q) s
 
--- a directory stands in a tree
+stays_renewed : (f : Entry → Entry) → ((e : Entry) → (f e).content ≡ e.content) → (kind : Bool) (o : Option Entry) → StandsAs kind o → StandsAs kind (option_map (λ e. opened (f e)) o)
+stays_renewed f same kind None h = h
+stays_renewed f same kind (Some e) h = ap is_directory_content (same e) ∙ h
+
+stays_written : (text : List ℕ) (kind : Bool) (o : Option Entry) → StandsAs false o → StandsAs kind o → StandsAs kind (option_map (λ e. opened (with_text text e)) o)
+stays_written text kind None file h = h
+stays_written text kind (Some e) file h = sym file ∙ h
+
+-- what is neither at the path of a delete nor under it stays
+stays_outside : (t : Tree) (p : PathValue) (o : Opened) → not (is_at_or_under (path_of o) p) ≡ true → StandsIn t o → StandsIn (deleted t p) o
+stays_outside t p o kept h = opened_stands t (deleted t p) o (λ kind. by kind (path_of o) (is_at_or_under (path_of o) p) kept) h
+  where
+    by : (kind : Bool) (q : PathValue) (b : Bool) → not b ≡ true → StandsAs kind (t q) → StandsAs kind (if b then None else touched_above p t q)
+    by kind q true kept s = cc
+    by kind q false kept s = stays_touched kind (is_at_or_under p q) (t q) s
+
+-- ---- what the refusals say
+
+directory_content : (x : Content) → directory_refusal (content_kind x) ≡ None → is_directory_content x ≡ true
+directory_content contents.Directory e = refl
+directory_content (contents.File text) e = cc
+
+directory_there : (o : Option Entry) → directory_refusal (kind_of o) ≡ None → StandsAs true o
+directory_there None e = cc
+directory_there (Some x) e = directory_content x.content e
+
+first_none : (a b : Option Refusal) → first a b ≡ None → (a ≡ None) × (b ≡ None)
+first_none None b e = (refl, e)
+first_none (Some r) b e = cc
+
+file_content : (x : Content) (age : Option Refusal) → file_refusal (content_kind x) age ≡ None → is_directory_content x ≡ false
+file_content contents.Directory age e = cc (first_none age (Some refusals.NotAFile) e).1
+file_content (contents.File text) age e = refl
+
+file_there : (o : Option Entry) (age : Option Refusal) → file_refusal (kind_of o) age ≡ None → StandsAs false o
+file_there None age e = cc
+file_there (Some x) age e = file_content x.content age e
+
+no_content : (x : Content) → add_refusal (content_kind x) ≡ None → ⊥
+no_content contents.Directory e = cc
+no_content (contents.File text) e = cc
+
+nothing_there : (o : Option Entry) → add_refusal (kind_of o) ≡ None → o ≡ None
+nothing_there None e = refl
+nothing_there (Some x) e = absurd (no_content x.content e)
+
+-- what has to hold does
+holds : (b : Bool) (r : Refusal) → unless b r ≡ None → b ≡ true
+holds true r e = refl
+holds false r e = cc
+
+-- where a directory stands in a revision's tree there is such a revision, and so its tree is a tree
 tree_there : (rs : List Fixed) (n : ℕ) (p : PathValue) → AreTrees rs → directory_refusal (kind_of (get (tree_in (slice_get rs n)) p)) ≡ None → IsTree (tree_of (tree_in (slice_get rs n)))
 tree_there [] n p trees e = cc (ap (λ (o : Option Entry). directory_refusal (kind_of o)) (get-empty path_cmp p))
 tree_there (r ∷ rs) zero p trees e = trees.0
 tree_there (r ∷ rs) (suc n) p trees e = tree_there rs n p trees.1 e
 
--- ---- what each command keeps
+named_none : (judged : Result PathValue PathFault → Option Refusal) (path : Result PathValue PathFault) (p : PathValue) → path ≡ Ok p → judged path ≡ None → judged (Ok p) ≡ None
+named_none judged path p named none = subst (λ (r : Result PathValue PathFault). judged r ≡ None) named none
+
+-- the parent's directory stands, where the path is one name beneath it
+parent_there : (t : Tree) (tokens : Tokens) (parent : List ℕ) (p : PathValue) → All (OfOpened (StandsIn t)) tokens → is_within (directory_of tokens parent) p ≡ true → HasParent t p
+parent_there t tokens parent p all within =
+    within_found t (opened_under tokens parent) p (all_found (StandsIn t) (is_at (slice_cmp nat_cmp parent)) tokens all) within
+
+placed_there : (t : Tree) (old : EditState) (parent token : List ℕ) (p : PathValue) → All (OfOpened (StandsIn t)) old.tokens → place_refusal old parent token p ≡ None → HasParent t p
+placed_there t old parent token p all none =
+    let has = both_true (is_some old.txn) (is_placed old.tokens parent token p) (holds (is_some old.txn && is_placed old.tokens parent token p) refusals.MalformedData none) in
+    let within = both_true (not (is_some (opened_under old.tokens token))) (is_within (directory_of old.tokens parent) p) has.1 in
+    parent_there t old.tokens parent p all within.1
+
+beneath_there : (t : Tree) (old : EditState) (parent : List ℕ) (p : PathValue) → All (OfOpened (StandsIn t)) old.tokens → parent_refusal old parent p ≡ None → HasParent t p
+beneath_there t old parent p all none =
+    let has = both_true (is_some old.txn) (is_within (directory_of old.tokens parent) p) (holds (is_some old.txn && is_within (directory_of old.tokens parent) p) refusals.MalformedData none) in
+    parent_there t old.tokens parent p all has.1
+
+-- what stands is a file, where a text delta may begin
+begins_at : (t : Tree) (e : EditState) (checksum : Option (List ℕ)) (o : Opened) → begin_delta_refusal e checksum (Some o) ≡ None → StandsIn t o → HasFile t (path_of o)
+begins_at t e checksum (Directory p revision) none h = cc
+begins_at t e checksum (File p delta) none h = h
+
+-- ---- what each command keeps, where the transaction stays as it is
 
 no_tokens : (txn : Option TxnState) (tokens : Tokens) → IsSoundIn txn tokens → unless (not (is_some txn)) refusals.MalformedData ≡ None → tokens ≡ []
 no_tokens None tokens sound e = sound
 no_tokens (Some t) tokens sound e = cc
 
-opened_in : (txn : Option TxnState) (tokens : Tokens) (token : List ℕ) (p : PathValue) → IsSoundIn txn tokens → directory_refusal (standing txn p) ≡ None → IsSoundIn txn (with_token tokens token p)
-opened_in None tokens token p sound e = cc
-opened_in (Some t) tokens token p sound e =
-    (sound.0, all_inserted (HasDirectory (tree_of t.tree)) (slice_cmp nat_cmp) tokens token p (directory_there (get t.tree p) e) sound.1)
+opened_directory_in : (txn : Option TxnState) (tokens : Tokens) (token : List ℕ) (p : PathValue) (revision : Option ℕ) → IsSoundIn txn tokens → directory_refusal (standing txn p) ≡ None → IsSoundIn txn (with_token tokens token (Directory p revision))
+opened_directory_in None tokens token p revision sound e = cc
+opened_directory_in (Some t) tokens token p revision sound e =
+    (sound.0, all_inserted (StandsIn (tree_of t.tree)) (slice_cmp nat_cmp) tokens token (Directory p revision) (directory_there (get t.tree p) e) sound.1)
+
+opened_file_in : (txn : Option TxnState) (tokens : Tokens) (token : List ℕ) (p : PathValue) (age : Option Refusal) → IsSoundIn txn tokens → file_refusal (standing txn p) age ≡ None → IsSoundIn txn (with_token tokens token (File p Untouched))
+opened_file_in None tokens token p age sound e = cc
+opened_file_in (Some t) tokens token p age sound e =
+    (sound.0, all_inserted (StandsIn (tree_of t.tree)) (slice_cmp nat_cmp) tokens token (File p Untouched) (file_there (get t.tree p) age e) sound.1)
 
 closed_in : (txn : Option TxnState) (tokens : Tokens) (token : List ℕ) → IsSoundIn txn tokens → IsSoundIn txn (without_token tokens token)
 closed_in None tokens token sound = ap (λ (ts : Tokens). without_token ts token) sound
-closed_in (Some t) tokens token sound = (sound.0, all_removed (HasDirectory (tree_of t.tree)) (is_at (slice_cmp nat_cmp token)) tokens sound.1)
+closed_in (Some t) tokens token sound = (sound.0, all_removed (StandsIn (tree_of t.tree)) (is_at (slice_cmp nat_cmp token)) tokens sound.1)
+
+-- something else is open under a token, and stands where what was open there did
+changed_in : (txn : Option TxnState) (tokens : Tokens) (token : List ℕ) (o o' : Opened) → opened_under tokens token ≡ Some o → ((t : Tree) → StandsIn t o → StandsIn t o') → IsSoundIn txn tokens → IsSoundIn txn (with_change tokens token o')
+changed_in None tokens token o o' at stands sound = ap (λ (ts : Tokens). with_change ts token o') sound
+changed_in (Some t) tokens token o o' at stands sound =
+    let u : Tree = tree_of t.tree in
+    (sound.0, all_changed (StandsIn u) (is_at (slice_cmp nat_cmp token)) tokens o' (stands u (found_under (StandsIn u) tokens token o sound.1 at)) sound.1)
+
+begun_delta_in : (txn : Option TxnState) (tokens : Tokens) (token : List ℕ) (e : EditState) (checksum : Option (List ℕ)) (o : Opened) (delta : Delta) → begin_delta_refusal e checksum (open_in txn tokens token) ≡ None → opened_under tokens token ≡ Some o → IsSoundIn txn tokens → IsSoundIn txn (with_change tokens token (File (path_of o) delta))
+begun_delta_in None tokens token e checksum o delta none at sound = cc
+begun_delta_in (Some t) tokens token e checksum o delta none at sound =
+    let here : begin_delta_refusal e checksum (Some o) ≡ None = subst (λ (x : Option Opened). begin_delta_refusal e checksum x ≡ None) at none in
+    changed_in (Some t) tokens token o (File (path_of o) delta) at (λ u h. begins_at u e checksum o here h) sound
 
 not_refused : (refused : Bool) (o : Option Refusal) → (if refused then Some refusals.EditAborted else o) ≡ None → o ≡ None
 not_refused true o e = cc
 not_refused false o e = e
 
-opens_directory : (old new : EditState) (entry : OpenedEntry) → IsSoundEdit old → open_directory_refusal old entry (joined old.path entry.path) ≡ None → OpensDirectory old entry new → IsSoundEdit new
-opens_directory old new entry sound none o =
-    let here : open_directory_refusal old entry (Ok o.path) ≡ None = subst (λ (r : Result PathValue PathFault). open_directory_refusal old entry r ≡ None) o.named none in
-    let kind = none_first (place_refusal old entry.parent entry.token o.path) (directory_refusal (standing old.txn o.path)) here in
-    subst IsSoundEdit (sym o.is) (opened_in old.txn old.tokens entry.token o.path sound kind.1)
+opens_directory : (old new : EditState) (entry : OpenedEntry) → IsSoundEdit old → open_directory_refusal old entry (joined old.path entry.path) ≡ None → Named old entry.path (λ p. Opens old entry.token (Directory p entry.revision) new) → IsSoundEdit new
+opens_directory old new entry sound none (p, named, is) =
+    let here : open_directory_refusal old entry (Ok p) ≡ None = named_none (open_directory_refusal old entry) (joined old.path entry.path) p named none in
+    let kind = first_none (place_refusal old entry.parent entry.token p) (directory_refusal (standing old.txn p)) here in
+    subst IsSoundEdit (sym is) (opened_directory_in old.txn old.tokens entry.token p entry.revision sound kind.1)
 
-closes_directory : (old new : EditState) (token : List ℕ) → IsSoundEdit old → new ≡ record old { tokens = without_token old.tokens token } → IsSoundEdit new
-closes_directory old new token sound is = subst IsSoundEdit (sym is) (closed_in old.txn old.tokens token sound)
+opens_file : (old new : EditState) (entry : OpenedEntry) → IsSoundEdit old → open_file_refusal old entry (joined old.path entry.path) ≡ None → Named old entry.path (λ p. Opens old entry.token (File p Untouched) new) → IsSoundEdit new
+opens_file old new entry sound none (p, named, is) =
+    let age : Option Refusal = age_refusal entry.revision (created old.txn p) in
+    let here : open_file_refusal old entry (Ok p) ≡ None = named_none (open_file_refusal old entry) (joined old.path entry.path) p named none in
+    let kind = first_none (place_refusal old entry.parent entry.token p) (file_refusal (standing old.txn p) age) here in
+    subst IsSoundEdit (sym is) (opened_file_in old.txn old.tokens entry.token p age sound kind.1)
+
+begins_delta : (old new : EditState) (token : List ℕ) (checksum : Option (List ℕ)) → IsSoundEdit old → begin_delta_refusal old checksum (open_in old.txn old.tokens token) ≡ None → BeginsDelta old token new → IsSoundEdit new
+begins_delta old new token checksum sound none (o, at, is) =
+    subst IsSoundEdit (sym is) (begun_delta_in old.txn old.tokens token old checksum o (Reading (unread (file_text old (path_of o)))) none at sound)
+
+feeds_delta : (old new : EditState) (token bytes : List ℕ) → IsSoundEdit old → FeedsDelta old token bytes new → IsSoundEdit new
+feeds_delta old new token bytes sound (p, a, at, is) =
+    subst IsSoundEdit (sym is) (changed_in old.txn old.tokens token (File p (Reading a)) (File p (Reading (fed a bytes))) at (λ t h. h) sound)
+
+closes : (old new : EditState) (token : List ℕ) → IsSoundEdit old → Closes old token new → IsSoundEdit new
+closes old new token sound is = subst IsSoundEdit (sym is) (closed_in old.txn old.tokens token sound)
+
+unchanged : (old new : EditState) → IsSoundEdit old → new ≡ old → IsSoundEdit new
+unchanged old new sound is = subst IsSoundEdit (sym is) sound
+
+-- ---- what each command keeps that edits the transaction
 
 module _ (begins : (t : Tree) → IsTree t → IsTree (begun t))
-    (adds : (t : Tree) (p : PathValue) (c : Component) → IsTree t → HasDirectory t p → IsTree (edited t (Adds (p ++ c ∷ []))))
+    (adds : (t : Tree) (p : PathValue) (c : Component) → IsTree t → HasDirectory t p → IsTree (edited t (edits.AddDirectory (p ++ c ∷ []))))
+    (adds_files : (t : Tree) (p : PathValue) (c : Component) → IsTree t → HasDirectory t p → t (p ++ c ∷ []) ≡ None → IsTree (edited t (edits.AddFile (p ++ c ∷ []))))
+    (deletes : (t : Tree) (p : PathValue) (c : Component) → IsTree t → IsTree (edited t (edits.Delete (p ++ c ∷ []))))
+    (sets : (t : Tree) (p : PathValue) (name value : List ℕ) → IsTree t → IsTree (edited t (edits.SetProperty p name value)))
+    (removes : (t : Tree) (p : PathValue) (name : List ℕ) → IsTree t → IsTree (edited t (edits.RemoveProperty p name)))
+    (writes : (t : Tree) (p : PathValue) (text : List ℕ) → IsTree t → HasFile t p → IsTree (edited t (edits.SetText p text)))
     (same : (t u : Tree) → ((p : PathValue) → t p ≡ u p) → IsTree t → IsTree u) where
-  opens_root : (c : RepoState) (old new : EditState) (token : List ℕ) → AreTrees c.revisions → IsSoundEdit old → open_root_refusal c old ≡ None → OpensRoot c old token new → IsSoundEdit new
-  opens_root c old new token trees sound none o =
-      let f = none_first (unless (not (is_some old.txn)) refusals.MalformedData) (directory_refusal (kind_at c (youngest c) old.path)) none in
+  opens_root : (c : RepoState) (old new : EditState) (revision : Option ℕ) (token : List ℕ) → AreTrees c.revisions → IsSoundEdit old → open_root_refusal c old ≡ None → OpensRoot c old revision token new → IsSoundEdit new
+  opens_root c old new revision token trees sound none o =
+      let f = first_none (before_root old) (directory_refusal (kind_at c (youngest c) old.path)) none in
       let t : Tree = tree_of (tree_at c (youngest c)) in
       let u : Tree = tree_of o.txn.tree in
       let alike : (p : PathValue) → begun t p ≡ u p = λ p. sym (o.begun.tree p) in
       let is_tree : IsTree u = same (begun t) u alike (begins t (tree_there c.revisions (youngest c) old.path trees f.1)) in
-      let here : HasDirectory u old.path = same_directory (begun t) u alike old.path (begun_directory t old.path (directory_there (t old.path) f.1)) in
-      let none_open : All (OfPaths (HasDirectory u)) old.tokens = subst (λ (ts : Tokens). All (OfPaths (HasDirectory u)) ts) (sym (no_tokens old.txn old.tokens sound f.0)) (All-nil (OfPaths (HasDirectory u))) in
-      subst IsSoundEdit (sym o.is) (is_tree, all_inserted (HasDirectory u) (slice_cmp nat_cmp) old.tokens token old.path here none_open)
+      let here : HasDirectory u old.path = subst (StandsAs true) (alike old.path) (stays_begun t old.path (directory_there (t old.path) f.1)) in
+      let none_open : All (OfOpened (StandsIn u)) old.tokens = subst (λ (ts : Tokens). All (OfOpened (StandsIn u)) ts) (sym (no_tokens old.txn old.tokens sound f.0)) (All-nil (OfOpened (StandsIn u))) in
+      subst IsSoundEdit (sym o.is) (is_tree, all_inserted (StandsIn u) (slice_cmp nat_cmp) old.tokens token (Directory old.path revision) here none_open)
 
-  adds_directory : (c : RepoState) (old new : EditState) (entry : AddedEntry) → IsSoundEdit old → add_directory_refusal old entry (joined old.path entry.path) ≡ None → AddsDirectory c old entry new → IsSoundEdit new
-  adds_directory c old new entry sound none a =
-      let place = placed_to_add old entry a.path (subst (λ (r : Result PathValue PathFault). add_directory_refusal old entry r ≡ None) a.named none) in
-      let t : Tree = tree_of a.before.tree in
+  -- an edit is sound afterwards where the edited tree is a tree and what is open then stands in it
+  after : (c : RepoState) (old new : EditState) (op : EditOp) (tokens : Tokens) (a : Edits c old op tokens new) → IsTree (edited (tree_of a.before.tree) op) → All (OfOpened (StandsIn (edited (tree_of a.before.tree) op))) tokens → IsSoundEdit new
+  after c old new op tokens a is_tree all =
+      let t : Tree = edited (tree_of a.before.tree) op in
       let u : Tree = tree_of a.after.tree in
-      let s : IsSoundIn (Some a.before) old.tokens = subst (λ (o : Option TxnState). IsSoundIn o old.tokens) a.had sound in
-      let within = both_true (not (is_some (directory_of old.tokens entry.token))) (is_within (directory_of old.tokens entry.parent) a.path) place.placed in
-      let found = within_found (HasDirectory t) (directory_of old.tokens entry.parent) a.path (all_found (HasDirectory t) (is_at (slice_cmp nat_cmp entry.parent)) old.tokens s.1) within.1 in
-      let alike : (p : PathValue) → edited t (Adds a.path) p ≡ u p = λ p. sym (a.edited.tree p) in
-      let edited_tree : IsTree (edited t (Adds a.path)) = subst (λ (p : PathValue). IsTree (edited t (Adds p))) (sym found.1.1.1) (adds t found.0 found.1.1.0 s.0 found.1.0) in
-      let is_tree : IsTree u = same (edited t (Adds a.path)) u alike edited_tree in
-      let here : HasDirectory u a.path = same_directory (edited t (Adds a.path)) u alike a.path (new_directory t a.path) in
-      let others : All (OfPaths (HasDirectory u)) old.tokens = All-weaker (OfPaths (HasDirectory t)) (OfPaths (HasDirectory u)) (λ e h. same_directory (edited t (Adds a.path)) u alike e.1 (added_directory t a.path e.1 h)) old.tokens s.1 in
-      subst IsSoundEdit (sym a.is) (is_tree, all_inserted (HasDirectory u) (slice_cmp nat_cmp) old.tokens entry.token a.path here others)
+      let alike : (p : PathValue) → t p ≡ u p = λ p. sym (a.edited.tree p) in
+      subst IsSoundEdit (sym a.is) (same t u alike is_tree, All-weaker (OfOpened (StandsIn t)) (OfOpened (StandsIn u)) (λ e h. stays_same t u alike e.1 h) tokens all)
+
+  -- the transaction was sound before
+  before : (c : RepoState) (old new : EditState) (op : EditOp) (tokens : Tokens) (a : Edits c old op tokens new) → IsSoundEdit old → IsSoundIn (Some a.before) old.tokens
+  before c old new op tokens a sound = subst (λ (o : Option TxnState). IsSoundIn o old.tokens) a.had sound
+
+  deletes_entry : (c : RepoState) (old new : EditState) (entry : DeletedEntry) → IsSoundEdit old → delete_entry_refusal old entry (joined old.path entry.path) ≡ None → Named old entry.path (λ p. Edits c old (edits.Delete p) (closed_beneath old.tokens p) new) → IsSoundEdit new
+  deletes_entry c old new entry sound none (p, named, a) =
+      let t : Tree = tree_of a.before.tree in
+      let s = before c old new (edits.Delete p) (closed_beneath old.tokens p) a sound in
+      let here : delete_entry_refusal old entry (Ok p) ≡ None = named_none (delete_entry_refusal old entry) (joined old.path entry.path) p named none in
+      let place = first_none (parent_refusal old entry.parent p) (delete_refusal (standing old.txn p) (age_refusal entry.revision (created old.txn p))) here in
+      let up : HasParent t p = beneath_there t old entry.parent p s.1 place.0 in
+      let is_tree : IsTree (edited t (edits.Delete p)) = subst (λ (q : PathValue). IsTree (edited t (edits.Delete q))) (sym up.1.1.1) (deletes t up.0 up.1.1.0 s.0) in
+      let all : All (OfOpened (StandsIn (edited t (edits.Delete p)))) (closed_beneath old.tokens p) =
+      all_kept (StandsIn t) (StandsIn (edited t (edits.Delete p))) (λ e. not (is_at_or_under (path_of e.1) p)) (λ e kept h. stays_outside t p e.1 kept h) old.tokens s.1 in
+      after c old new (edits.Delete p) (closed_beneath old.tokens p) a is_tree all
+
+  -- what the refusals say of what is added: its parent is a directory, and nothing stands there
+  room : (old : EditState) (entry : AddedEntry) (p : PathValue) (txn : TxnState) → old.txn ≡ Some txn → All (OfOpened (StandsIn (tree_of txn.tree))) old.tokens → add_entry_refusal old entry (joined old.path entry.path) ≡ None → joined old.path entry.path ≡ Ok p → HasParent (tree_of txn.tree) p × (tree_of txn.tree p ≡ None)
+  room old entry p txn had all none named =
+      let here : add_entry_refusal old entry (Ok p) ≡ None = named_none (add_entry_refusal old entry) (joined old.path entry.path) p named none in
+      let source = first_none (source_fault old.name entry.source) (first (place_refusal old entry.parent entry.token p) (first (copy_refusal entry.source) (add_refusal (standing old.txn p)))) here in
+      let place = first_none (place_refusal old entry.parent entry.token p) (first (copy_refusal entry.source) (add_refusal (standing old.txn p))) source.1 in
+      let copy = first_none (copy_refusal entry.source) (add_refusal (standing old.txn p)) place.1 in
+      (placed_there (tree_of txn.tree) old entry.parent entry.token p all place.0, nothing_there (get txn.tree p) (subst (λ (o : Option TxnState). add_refusal (standing o p) ≡ None) had copy.1))
+
+  adds_directory : (c : RepoState) (old new : EditState) (entry : AddedEntry) → IsSoundEdit old → add_entry_refusal old entry (joined old.path entry.path) ≡ None → Named old entry.path (λ p. Edits c old (edits.AddDirectory p) (with_token old.tokens entry.token (Directory p None)) new) → IsSoundEdit new
+  adds_directory c old new entry sound none (p, named, a) =
+      let op : EditOp = edits.AddDirectory p in
+      let tokens : Tokens = with_token old.tokens entry.token (Directory p None) in
+      let t : Tree = tree_of a.before.tree in
+      let s = before c old new op tokens a sound in
+      let free = room old entry p a.before a.had s.1 none named in
+      let is_tree : IsTree (edited t op) = subst (λ (q : PathValue). IsTree (edited t (edits.AddDirectory q))) (sym free.0.1.1.1) (adds t free.0.0 free.0.1.1.0 s.0 free.0.1.0) in
+      let others : All (OfOpened (StandsIn (edited t op))) old.tokens = All-weaker (OfOpened (StandsIn t)) (OfOpened (StandsIn (edited t op))) (λ e h. stays_added t p contents.Directory free.1 e.1 h) old.tokens s.1 in
+      after c old new op tokens a is_tree (all_inserted (StandsIn (edited t op)) (slice_cmp nat_cmp) old.tokens entry.token (Directory p None) (new_stands t p contents.Directory) others)
+
+  adds_file : (c : RepoState) (old new : EditState) (entry : AddedEntry) → IsSoundEdit old → add_entry_refusal old entry (joined old.path entry.path) ≡ None → Named old entry.path (λ p. Edits c old (edits.AddFile p) (with_token old.tokens entry.token (File p Untouched)) new) → IsSoundEdit new
+  adds_file c old new entry sound none (p, named, a) =
+      let op : EditOp = edits.AddFile p in
+      let tokens : Tokens = with_token old.tokens entry.token (File p Untouched) in
+      let t : Tree = tree_of a.before.tree in
+      let s = before c old new op tokens a sound in
+      let free = room old entry p a.before a.had s.1 none named in
+      let beneath : p ≡ free.0.0 ++ free.0.1.1.0 ∷ [] = free.0.1.1.1 in
+      let is_tree : IsTree (edited t op) = subst (λ (q : PathValue). IsTree (edited t (edits.AddFile q))) (sym beneath) (adds_files t free.0.0 free.0.1.1.0 s.0 free.0.1.0 (ap t (sym beneath) ∙ free.1)) in
+      let others : All (OfOpened (StandsIn (edited t op))) old.tokens = All-weaker (OfOpened (StandsIn t)) (OfOpened (StandsIn (edited t op))) (λ e h. stays_added t p (contents.File []) free.1 e.1 h) old.tokens s.1 in
+      after c old new op tokens a is_tree (all_inserted (StandsIn (edited t op)) (slice_cmp nat_cmp) old.tokens entry.token (File p Untouched) (new_stands t p (contents.File [])) others)
+
+  property_tree : (t : Tree) (p : PathValue) (name : List ℕ) (value : Option (List ℕ)) → IsTree t → IsTree (edited t (property_edit p name value))
+  property_tree t p name None is = removes t p name is
+  property_tree t p name (Some value) is = sets t p name value is
+
+  stays_with_property : (t : Tree) (p : PathValue) (name : List ℕ) (value : Option (List ℕ)) (o : Opened) → StandsIn t o → StandsIn (edited t (property_edit p name value)) o
+  stays_with_property t p name None o h = stays_revised t p (without_value name) (λ kind. stays_renewed (without_value name) (λ e. refl) kind (t p)) o h
+  stays_with_property t p name (Some value) o h = stays_revised t p (with_value name value) (λ kind. stays_renewed (with_value name value) (λ e. refl) kind (t p)) o h
+
+  changes_property : (c : RepoState) (old new : EditState) (change : PropertyChange) → IsSoundEdit old → ChangesProperty c old change new → IsSoundEdit new
+  changes_property c old new change sound (o, at, a) =
+      let op : EditOp = property_edit (path_of o) change.name change.value in
+      let t : Tree = tree_of a.before.tree in
+      let s = before c old new op old.tokens a sound in
+      after c old new op old.tokens a (property_tree t (path_of o) change.name change.value s.0)
+      (All-weaker (OfOpened (StandsIn t)) (OfOpened (StandsIn (edited t op))) (λ e h. stays_with_property t (path_of o) change.name change.value e.1 h) old.tokens s.1)
+
+  -- the text goes to a path where a file is open, and so stands
+  ends_delta : (c : RepoState) (old new : EditState) (token : List ℕ) → IsSoundEdit old → EndsDelta c old token new → IsSoundEdit new
+  ends_delta c old new token sound (p, r, at, (text, is_text, a)) =
+      let op : EditOp = edits.SetText p text in
+      let tokens : Tokens = with_change old.tokens token (File p Made) in
+      let t : Tree = tree_of a.before.tree in
+      let s = before c old new op tokens a sound in
+      let file : HasFile t p = found_under (StandsIn t) old.tokens token (File p (Reading r)) s.1 at in
+      let stays : (o : Opened) → StandsIn t o → StandsIn (edited t op) o = stays_revised t p (with_text text) (λ kind. stays_written text kind (t p) file) in
+      let others : All (OfOpened (StandsIn (edited t op))) old.tokens = All-weaker (OfOpened (StandsIn t)) (OfOpened (StandsIn (edited t op))) (λ e h. stays e.1 h) old.tokens s.1 in
+      after c old new op tokens a (writes t p text s.0 file) (all_changed (StandsIn (edited t op)) (is_at (slice_cmp nat_cmp token)) old.tokens (File p Made) (stays (File p Made) file) others)
 
   by_command : (c : RepoState) (old new : EditState) (command : EditorCommand) → AreTrees c.revisions → IsSoundEdit old → command_refusal c old command ≡ None → Applies c old command new → IsSoundEdit new
-  by_command c old new (OpenRoot revision token) trees sound none applies = opens_root c old new token trees sound none applies
+  by_command c old new (TargetRevision revision) trees sound none applies = unchanged old new sound applies
+  by_command c old new (OpenRoot revision token) trees sound none applies = opens_root c old new revision token trees sound none applies
+  by_command c old new (DeleteEntry entry) trees sound none applies = deletes_entry c old new entry sound none applies
   by_command c old new (AddDirectory entry) trees sound none applies = adds_directory c old new entry sound none applies
+  by_command c old new (AddFile entry) trees sound none applies = adds_file c old new entry sound none applies
   by_command c old new (OpenDirectory entry) trees sound none applies = opens_directory old new entry sound none applies
-  by_command c old new (CloseDirectory token) trees sound none applies = closes_directory old new token sound applies
+  by_command c old new (OpenFile entry) trees sound none applies = opens_file old new entry sound none applies
+  by_command c old new (AbsentDirectory entry) trees sound none applies = unchanged old new sound applies
+  by_command c old new (AbsentFile entry) trees sound none applies = unchanged old new sound applies
+  by_command c old new (ChangeDirectoryProperty change) trees sound none applies = changes_property c old new change sound applies
+  by_command c old new (ChangeFileProperty change) trees sound none applies = changes_property c old new change sound applies
+  by_command c old new (ApplyTextDelta token checksum) trees sound none applies = begins_delta old new token checksum sound none applies
+  by_command c old new (TextDeltaChunk token bytes) trees sound none applies = feeds_delta old new token bytes sound applies
+  by_command c old new (TextDeltaEnd token) trees sound none applies = ends_delta c old new token sound applies
+  by_command c old new (CloseDirectory token) trees sound none applies = closes old new token sound applies
+  by_command c old new (CloseFile token checksum) trees sound none applies = closes old new token sound applies
   by_command c old new CloseEdit trees sound none applies = absurd applies
   by_command c old new AbortEdit trees sound none applies = absurd applies
 

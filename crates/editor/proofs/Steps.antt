@@ -1,5 +1,6 @@
 -- The steps of an edit: what is put in, and what is taken out again.
 use Rattle.std.proofs.Common.{◌≡◌, ℕ, Bool, true, false, cond, not, ◌&&◌, List, [], ◌∷◌, Option, Some, None, is_some, Ok, refl, sym, ap, subst, ◌∙◌}
+use Rattle.std.specs.Prelude.{Result, Err, OnOk}
 use Rattle.std.specs.BTreeMap.{insert_entry, is_at}
 use Rattle.std.specs.Map.{lookup, remove_entry}
 use Rattle.std.specs.Cmp.Lexicographic.{slice_cmp, nat_list_cmp_total}
@@ -7,29 +8,51 @@ use Rattle.std.specs.Ordering.{nat_cmp, match_ordering, is_eq, ordering_reverse}
 use Rattle.std.specs.declared.cmp.Ordering.{Ordering}
 use Rattle.std.specs.declared.cmp.Ordering.TheVariants.{Less, Equal, Greater}
 use Rattle.svnpath.specs.Paths.{PathValue}
-use Rattle.svnpath.specs.Texts.{joined}
 use Rattle.repo_api.specs.States.{RepoState, TxnState, IsBegun, IsEdited}
-use Rattle.repo_api.specs.declared.edit.EditOp.TheVariants.{AddDirectory}
+use Rattle.repo_api.specs.declared.edit.EditOp.{EditOp}
 use Rattle.refusals.specs.declared.Refusal.{Refusal}
 use Rattle.refusals.specs.declared.Refusal.TheVariants as refusals
 use Rattle.edit_commands.specs.declared.editing.AddedEntry.{AddedEntry}
-use Rattle.editor.specs.Tokens.{Tokens, with_token, without_token, directory_of, is_placed, is_within}
-use Rattle.editor.specs.Editor.{EditState, OpensRoot, AddsDirectory, first, unless, source_fault, place_refusal, copy_refusal, add_refusal, standing, add_directory_refusal}
-use Rattle.editor.specs.Judging.{Puts}
+use Rattle.editor.specs.declared.opened.Opened.{Opened}
+use Rattle.editor.specs.declared.opened.Opened.TheVariants.{Directory}
+use Rattle.editor.specs.Tokens.{Tokens, with_token, without_token, opened_under, directory_of, is_placed, is_within}
+use Rattle.editor.specs.Edits.{EditState, standing}
+use Rattle.editor.specs.Refusing.{first, unless, source_fault, place_refusal, parent_refusal, copy_refusal, add_refusal, add_entry_refusal}
+use Rattle.editor.specs.Editor.{OpensRoot, Edits}
 
-pub puts : (c : RepoState) (now old : EditState) (token key : List ℕ) (path copy : PathValue) (before after : TxnState) (tokens : Tokens) → now ≡ old → now.txn ≡ Some before → key ≡ token → copy ≡ path → IsEdited c.revisions before (AddDirectory copy) after → tokens ≡ with_token now.tokens key path → Puts c old token path (record now { txn = Some after; tokens = tokens })
-puts c now old token key path copy before after tokens same had is_key is_path edited put =
-    subst (λ (o : EditState). Puts c o token path (record now { txn = Some after; tokens = tokens })) same
-    (record { before = before; had = had; after = after; edited = subst (λ (p : PathValue). IsEdited c.revisions before (AddDirectory p) after) is_path edited; is = ap (λ (ts : Tokens). record now { txn = Some after; tokens = ts }) (put ∙ ap (λ (k : List ℕ). with_token now.tokens k path) is_key) })
+pub on_ok : {T E : Type 0} {P Q : Type 0} (r : Result T E) → (P → Q) → OnOk r P → OnOk r Q
+on_ok (Ok x) f p = f p
+on_ok (Err e) f p = tt
 
-pub opens : (c : RepoState) (now old : EditState) (token key : List ℕ) (copy : PathValue) (txn : TxnState) (tokens : Tokens) → now ≡ old → key ≡ token → copy ≡ now.path → IsBegun c txn → tokens ≡ with_token now.tokens key copy → OpensRoot c old token (record now { txn = Some txn; tokens = tokens })
-opens c now old token key copy txn tokens same is_key is_path begun put =
-    subst (λ (o : EditState). OpensRoot c o token (record now { txn = Some txn; tokens = tokens })) same
-    (record { txn = txn; begun = begun; is = ap (λ (ts : Tokens). record now { txn = Some txn; tokens = ts }) (put ∙ (λ i. with_token now.tokens (is_key i) (is_path i))) })
+-- an edit that is made, with what is open then
+pub made : (c : RepoState) (now old : EditState) (op : EditOp) (before after : TxnState) (wanted tokens : Tokens) → now ≡ old → now.txn ≡ Some before → IsEdited c.revisions before op after → tokens ≡ wanted
+    → Edits c old op wanted (record now { txn = Some after; tokens = tokens })
+made c now old op before after wanted tokens same had edited is =
+    subst (λ (o : EditState). Edits c o op wanted (record now { txn = Some after; tokens = tokens })) same
+    (record { before = before; had = had; after = after; edited = edited; is = ap (λ (ts : Tokens). record now { txn = Some after; tokens = ts }) is })
 
-pub adds : (c : RepoState) (old new : EditState) (entry : AddedEntry) (key : List ℕ) (path : PathValue) → joined old.path entry.path ≡ Ok path → key ≡ entry.token → Puts c old key path new → AddsDirectory c old entry new
-adds c old new entry key path named is_key p =
-    record { path = path; named = named; before = p.before; had = p.had; after = p.after; edited = p.edited; is = p.is ∙ ap (λ (k : List ℕ). record old { txn = Some p.after; tokens = with_token old.tokens k path }) is_key }
+-- what is open after an edit that is made
+pub with_open : (c : RepoState) (old new : EditState) (op op' : EditOp) (ts wanted : Tokens) → op ≡ op' → ts ≡ wanted → Edits c old op ts new → Edits c old op' wanted new
+with_open c old new op op' ts wanted is_op is h =
+    record { before = h.before; had = h.had; after = h.after; edited = subst (λ (o : EditOp). IsEdited c.revisions h.before o h.after) is_op h.edited; is = h.is ∙ ap (λ (x : Tokens). record old { txn = Some h.after; tokens = x }) is }
+
+-- an edit that is made, once something else is open
+pub reopened : (c : RepoState) (old mid now : EditState) (op op' : EditOp) (ts tokens wanted : Tokens) → Edits c old op ts mid → now ≡ mid → op ≡ op' → tokens ≡ wanted
+    → Edits c old op' wanted (record now { tokens = tokens })
+reopened c old mid now op op' ts tokens wanted h same is_op is =
+    record {
+      before = h.before;
+      had = h.had;
+      after = h.after;
+      edited = subst (λ (o : EditOp). IsEdited c.revisions h.before o h.after) is_op h.edited;
+      is = (λ i. record (same i) { tokens = is i }) ∙ ap (λ (e : EditState). record e { tokens = wanted }) h.is;
+    }
+
+pub opens : (c : RepoState) (now old : EditState) (revision : Option ℕ) (token key : List ℕ) (copy : PathValue) (txn : TxnState) (tokens : Tokens) → now ≡ old → key ≡ token → copy ≡ now.path → IsBegun c txn
+    → tokens ≡ with_token now.tokens key (Directory copy revision) → OpensRoot c old revision token (record now { txn = Some txn; tokens = tokens })
+opens c now old revision token key copy txn tokens same is_key is_path begun put =
+    subst (λ (o : EditState). OpensRoot c o revision token (record now { txn = Some txn; tokens = tokens })) same
+    (record { txn = txn; begun = begun; is = ap (λ (ts : Tokens). record now { txn = Some txn; tokens = ts }) (put ∙ (λ i. with_token now.tokens (is_key i) (Directory (is_path i) revision))) })
 
 -- ---- what is taken out again
 
@@ -57,11 +80,12 @@ same_token : (token : List ℕ) → slice_cmp nat_cmp token token ≡ Equal
 same_token token = same_both_ways (slice_cmp nat_cmp token token) (nat_list_cmp_total.antisymm token token)
 
 -- a token that was new is put in and taken out again, and the transaction is as it was
-pub restored : (now old : EditState) (token key : List ℕ) (path : PathValue) (before after : TxnState) (more less : Tokens) → now ≡ old → now.txn ≡ Some before → key ≡ token → directory_of old.tokens token ≡ None → more ≡ with_token now.tokens key path → after ≡ before → less ≡ without_token more token → record now { txn = Some after; tokens = less } ≡ old
-restored now old token key path before after more less same had is_key is_new put kept taken =
+pub restored : (now old : EditState) (token key : List ℕ) (opened : Opened) (before after : TxnState) (more less : Tokens) → now ≡ old → now.txn ≡ Some before → key ≡ token → opened_under old.tokens token ≡ None
+    → more ≡ with_token now.tokens key opened → after ≡ before → less ≡ without_token more token → record now { txn = Some after; tokens = less } ≡ old
+restored now old token key opened before after more less same had is_key is_new put kept taken =
     let is_less : less ≡ now.tokens =
-    taken ∙ ap (λ (ts : Tokens). without_token ts token) (put ∙ ap (λ (k : List ℕ). with_token now.tokens k path) is_key)
-    ∙ taken_out (slice_cmp nat_cmp) token path (same_token token) now.tokens (ap (λ (e : EditState). directory_of e.tokens token) same ∙ is_new) in
+    taken ∙ ap (λ (ts : Tokens). without_token ts token) (put ∙ ap (λ (k : List ℕ). with_token now.tokens k opened) is_key)
+    ∙ taken_out (slice_cmp nat_cmp) token opened (same_token token) now.tokens (ap (λ (e : EditState). opened_under e.tokens token) same ∙ is_new) in
     let is_txn : Some after ≡ now.txn = ap (λ (t : TxnState). Some t) kept ∙ sym had in
     (λ i. record now { txn = is_txn i; tokens = is_less i }) ∙ same
 
@@ -83,16 +107,20 @@ not_some (Some x) b e = cc
 -- a place that is not refused
 pub record IsPlaced (e : EditState) (parent token : List ℕ) (p : PathValue) : Type 0 where
   pub has_txn : is_some e.txn ≡ true
-  pub is_new : directory_of e.tokens token ≡ None
+  pub is_new : opened_under e.tokens token ≡ None
   pub placed : is_placed e.tokens parent token p ≡ true
 
 pub placed : (e : EditState) (parent token : List ℕ) (p : PathValue) → place_refusal e parent token p ≡ None → IsPlaced e parent token p
 placed e parent token p none =
     let b = both (is_some e.txn) (is_placed e.tokens parent token p) none in
-    record { has_txn = b.0; is_new = not_some (directory_of e.tokens token) (is_within (directory_of e.tokens parent) p) b.1; placed = b.1 }
+    record { has_txn = b.0; is_new = not_some (opened_under e.tokens token) (is_within (directory_of e.tokens parent) p) b.1; placed = b.1 }
 
-pub placed_to_add : (e : EditState) (entry : AddedEntry) (p : PathValue) → add_directory_refusal e entry (Ok p) ≡ None → IsPlaced e entry.parent entry.token p
+pub placed_to_add : (e : EditState) (entry : AddedEntry) (p : PathValue) → add_entry_refusal e entry (Ok p) ≡ None → IsPlaced e entry.parent entry.token p
 placed_to_add e entry p none =
     let after = none_first (source_fault e.name entry.source) (first (place_refusal e entry.parent entry.token p) (first (copy_refusal entry.source) (add_refusal (standing e.txn p)))) none in
     let place = none_first (place_refusal e entry.parent entry.token p) (first (copy_refusal entry.source) (add_refusal (standing e.txn p))) after.1 in
     placed e entry.parent entry.token p place.0
+
+-- a parent that is not refused is open in a transaction
+pub has_txn : (e : EditState) (parent : List ℕ) (p : PathValue) → parent_refusal e parent p ≡ None → is_some e.txn ≡ true
+has_txn e parent p none = (both (is_some e.txn) (is_within (directory_of e.tokens parent) p) none).0

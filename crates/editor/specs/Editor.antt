@@ -1,144 +1,105 @@
--- The editor of a commit: which command is refused, and what each other makes of it.
-use Rattle.std.specs.Prelude.{◌≡◌, ℕ, Bool, true, false, not, ◌&&◌, is_some, List, [], Option, Some, None, Result, Ok, Err, if◌then◌else◌}
+-- The editor of a commit: an edit, and what each command makes of it.
+use Rattle.std.specs.Prelude.{◌≡◌, ℕ, true, List, [], Option, Some, None, Result, Ok, Err, if◌then◌else◌}
 use Rattle.svnpath.specs.Paths.{PathValue}
-use Rattle.svnpath.specs.Texts.{parsed, joined, starts_with_slash}
-use Rattle.svnpath.specs.Urls.{path_of_text}
-use Rattle.svnpath.specs.declared.fault.PathFault.{PathFault}
+use Rattle.svnpath.specs.Texts.{joined}
 use Rattle.refusals.specs.declared.Refusal.{Refusal}
 use Rattle.refusals.specs.declared.Refusal.TheVariants as refusals
-use Rattle.repo_api.specs.States.{RepoState, TxnState, IsBegun, IsEdited, youngest, IsBeginning}
-use Rattle.repo_api.specs.Kinds.{kind_at, kind_in}
-use Rattle.repo_api.specs.declared.entry.NodeKind.{NodeKind}
-use Rattle.repo_api.specs.declared.entry.NodeKind.TheVariants as kinds
+use Rattle.repo_api.specs.States.{RepoState, TxnState, IsBegun, IsEdited, IsBeginning}
+use Rattle.repo_api.specs.declared.edit.EditOp.{EditOp}
 use Rattle.repo_api.specs.declared.edit.EditOp.TheVariants as edits
-use Rattle.refusals.specs.Refusing.{path_refusal}
+use Rattle.svndiff0.specs.Applying.{Applying, fed}
+use Rattle.svndiff0.specs.Document.{read, outcome}
 use Rattle.edit_commands.specs.declared.editing.EditorCommand.{EditorCommand}
-use Rattle.edit_commands.specs.declared.editing.EditorCommand.TheVariants.{OpenRoot, AddDirectory, OpenDirectory, CloseDirectory, CloseEdit, AbortEdit}
-use Rattle.edit_commands.specs.declared.editing.AddedEntry.{AddedEntry}
-use Rattle.edit_commands.specs.declared.editing.OpenedEntry.{OpenedEntry}
-use Rattle.editor.specs.Tokens.{Tokens, with_token, without_token, is_placed, directory_of}
+use Rattle.edit_commands.specs.declared.editing.EditorCommand.TheVariants.{TargetRevision, OpenRoot, DeleteEntry, AddDirectory, AddFile, OpenDirectory, OpenFile, AbsentDirectory, AbsentFile, ChangeDirectoryProperty, ChangeFileProperty, ApplyTextDelta, TextDeltaChunk, TextDeltaEnd, CloseDirectory, CloseFile, CloseEdit, AbortEdit}
+use Rattle.edit_commands.specs.declared.editing.PropertyChange.{PropertyChange}
+use Rattle.editor.specs.Tokens.{Tokens, with_token, without_token, with_change, opened_under, path_of, closed_beneath, has_unfinished}
+use Rattle.editor.specs.Edits.{EditState, file_text}
+use Rattle.editor.specs.Refusing.{edit_refusal}
 use Rattle.editor.specs.declared.fault.EditFault.{EditFault}
 use Rattle.editor.specs.declared.fault.EditFault.TheVariants as edit_faults
-
--- an edit: the path of its root, the repository's name, its transaction once the root is open, the open
--- directories, and whether a command was refused
-pub record EditState : Type 0 where
-  pub path : PathValue
-  pub name : List ℕ
-  pub txn : Option TxnState
-  pub tokens : Tokens
-  pub refused : Bool
-
--- an edit that has heard nothing
-abbrev pub new_edit : PathValue → List ℕ → EditState
-new_edit path name = record { path = path; name = name; txn = None; tokens = []; refused = false }
+use Rattle.editor.specs.declared.opened.Opened.{Opened}
+use Rattle.editor.specs.declared.opened.Opened.TheVariants.{Directory, File}
+use Rattle.editor.specs.declared.opened.Delta.TheVariants.{Untouched, Reading, Made}
 
 -- an edit that is refused: its transaction is dropped
 abbrev pub given_up : EditState → EditState
 given_up e = record e { txn = None; tokens = []; refused = true }
 
--- ---- what is refused
-
--- the first refusal, if there is one
-abbrev pub first : Option Refusal → Option Refusal → Option Refusal
-first None later = later
-first (Some r) later = Some r
-
--- what does not hold is refused so
-abbrev pub unless : Bool → Refusal → Option Refusal
-unless true r = None
-unless false r = Some r
-
-abbrev pub directory_refusal : NodeKind → Option Refusal
-directory_refusal kinds.Directory = None
-directory_refusal kinds.File = Some refusals.NotADirectory
-directory_refusal kinds.Absent = Some refusals.NotFound
-
-abbrev pub add_refusal : NodeKind → Option Refusal
-add_refusal kinds.Absent = None
-add_refusal kinds.File = Some refusals.AlreadyExists
-add_refusal kinds.Directory = Some refusals.AlreadyExists
-
--- what stands at a path of the transaction, nothing where there is none
-abbrev pub standing : Option TxnState → PathValue → NodeKind
-standing None p = kinds.Absent
-standing (Some t) p = kind_in t p
-
--- the root is open, the token is new, and the path is one name beneath its parent's directory
-abbrev pub place_refusal : EditState → List ℕ → List ℕ → PathValue → Option Refusal
-place_refusal e parent token p = unless (is_some e.txn && is_placed e.tokens parent token p) refusals.MalformedData
-
--- the path of a copy's source: a URL, or a path with a slash in front
-abbrev pub source_path : List ℕ → List ℕ → Result PathValue PathFault
-source_path name text = if starts_with_slash text then parsed text else path_of_text text name
-
-abbrev pub path_fault : Result PathValue PathFault → Option Refusal
-path_fault (Ok p) = None
-path_fault (Err fault) = Some (path_refusal fault)
-
-abbrev pub source_fault : List ℕ → Option (List ℕ × ℕ) → Option Refusal
-source_fault name None = None
-source_fault name (Some source) = path_fault (source_path name source.0)
-
--- copies are not made yet
-abbrev pub copy_refusal : Option (List ℕ × ℕ) → Option Refusal
-copy_refusal None = None
-copy_refusal (Some source) = Some refusals.NotSupported
-
-abbrev pub open_root_refusal : RepoState → EditState → Option Refusal
-open_root_refusal c e =
-    first (unless (not (is_some e.txn)) refusals.MalformedData) (directory_refusal (kind_at c (youngest c) e.path))
-
-abbrev pub add_directory_refusal : EditState → AddedEntry → Result PathValue PathFault → Option Refusal
-add_directory_refusal e entry (Err fault) = Some (path_refusal fault)
-add_directory_refusal e entry (Ok p) =
-    first (source_fault e.name entry.source) (first (place_refusal e entry.parent entry.token p)
-    (first (copy_refusal entry.source) (add_refusal (standing e.txn p))))
-
-abbrev pub open_directory_refusal : EditState → OpenedEntry → Result PathValue PathFault → Option Refusal
-open_directory_refusal e entry (Err fault) = Some (path_refusal fault)
-open_directory_refusal e entry (Ok p) = first (place_refusal e entry.parent entry.token p) (directory_refusal (standing e.txn p))
-
-abbrev pub command_refusal : RepoState → EditState → EditorCommand → Option Refusal
-command_refusal c e (OpenRoot revision token) = open_root_refusal c e
-command_refusal c e (AddDirectory entry) = add_directory_refusal e entry (joined e.path entry.path)
-command_refusal c e (OpenDirectory entry) = open_directory_refusal e entry (joined e.path entry.path)
-command_refusal c e (CloseDirectory token) = unless (is_some (directory_of e.tokens token)) refusals.MalformedData
--- these end an edit, and are not the editor's
-command_refusal c e CloseEdit = Some refusals.MalformedData
-command_refusal c e AbortEdit = Some refusals.MalformedData
-
--- why a command is refused, if it is; after a refusal each is
-abbrev pub edit_refusal : RepoState → EditState → EditorCommand → Option Refusal
-edit_refusal c e command = if e.refused then Some refusals.EditAborted else command_refusal c e command
-
 -- ---- what a command does that is not refused
 
 -- a transaction begins at the youngest revision, whichever the client names
-pub record OpensRoot (c : RepoState) (old : EditState) (token : List ℕ) (new : EditState) : Type 0 where
+pub record OpensRoot (c : RepoState) (old : EditState) (revision : Option ℕ) (token : List ℕ) (new : EditState) : Type 0 where
   pub txn : TxnState
   pub begun : IsBegun c txn
-  pub is : new ≡ record old { txn = Some txn; tokens = with_token old.tokens token old.path }
+  pub is : new ≡ record old { txn = Some txn; tokens = with_token old.tokens token (Directory old.path revision) }
 
-pub record AddsDirectory (c : RepoState) (old : EditState) (entry : AddedEntry) (new : EditState) : Type 0 where
-  pub path : PathValue
-  pub named : joined old.path entry.path ≡ Ok path
+-- the transaction is edited, and these are open then
+pub record Edits (c : RepoState) (old : EditState) (op : EditOp) (tokens : Tokens) (new : EditState) : Type 0 where
   pub before : TxnState
   pub had : old.txn ≡ Some before
   pub after : TxnState
-  pub edited : IsEdited c.revisions before (edits.AddDirectory path) after
-  pub is : new ≡ record old { txn = Some after; tokens = with_token old.tokens entry.token path }
+  pub edited : IsEdited c.revisions before op after
+  pub is : new ≡ record old { txn = Some after; tokens = tokens }
 
-pub record OpensDirectory (old : EditState) (entry : OpenedEntry) (new : EditState) : Type 0 where
-  pub path : PathValue
-  pub named : joined old.path entry.path ≡ Ok path
-  pub is : new ≡ record old { tokens = with_token old.tokens entry.token path }
+-- of the path that a command names
+abbrev pub Named : EditState → List ℕ → (PathValue → Type 0) → Type 0
+Named e text P = (p : PathValue) × (joined e.path text ≡ Ok p) × P p
+
+-- the entry is opened under its token
+abbrev pub Opens : EditState → List ℕ → Opened → EditState → Type 0
+Opens old token opened new = new ≡ record old { tokens = with_token old.tokens token opened }
+
+abbrev pub property_edit : PathValue → List ℕ → Option (List ℕ) → EditOp
+property_edit p name None = edits.RemoveProperty p name
+property_edit p name (Some value) = edits.SetProperty p name value
+
+-- of what is open under the token
+abbrev pub Under : EditState → List ℕ → (Opened → Type 0) → Type 0
+Under e token P = (opened : Opened) × (opened_under e.tokens token ≡ Some opened) × P opened
+
+abbrev pub ChangesProperty : RepoState → EditState → PropertyChange → EditState → Type 0
+ChangesProperty c old change new = Under old change.token (λ o. Edits c old (property_edit (path_of o) change.name change.value) old.tokens new)
+
+-- a document that nothing has come of, over a base
+abbrev pub unread : List ℕ → Applying
+unread base = record { base = base; reading = read base [] }
+
+-- the delta is over the file's text as it stands
+abbrev pub BeginsDelta : EditState → List ℕ → EditState → Type 0
+BeginsDelta old token new = Under old token (λ o. new ≡ record old { tokens = with_change old.tokens token (File (path_of o) (Reading (unread (file_text old (path_of o))))) })
+
+-- of a file whose delta is being read
+abbrev pub ReadsUnder : EditState → List ℕ → (PathValue → Applying → Type 0) → Type 0
+ReadsUnder e token P = (p : PathValue) × (a : Applying) × (opened_under e.tokens token ≡ Some (File p (Reading a))) × P p a
+
+abbrev pub FeedsDelta : EditState → List ℕ → List ℕ → EditState → Type 0
+FeedsDelta old token bytes new = ReadsUnder old token (λ p a. new ≡ record old { tokens = with_change old.tokens token (File p (Reading (fed a bytes))) })
+
+-- the document's text is the file's
+abbrev pub EndsDelta : RepoState → EditState → List ℕ → EditState → Type 0
+EndsDelta c old token new =
+    ReadsUnder old token (λ p a. (text : List ℕ) × (outcome a.reading ≡ Ok text) × Edits c old (edits.SetText p text) (with_change old.tokens token (File p Made)) new)
+
+abbrev pub Closes : EditState → List ℕ → EditState → Type 0
+Closes old token new = new ≡ record old { tokens = without_token old.tokens token }
 
 abbrev pub Applies : RepoState → EditState → EditorCommand → EditState → Type 0
-Applies c old (OpenRoot revision token) new = OpensRoot c old token new
-Applies c old (AddDirectory entry) new = AddsDirectory c old entry new
-Applies c old (OpenDirectory entry) new = OpensDirectory old entry new
-Applies c old (CloseDirectory token) new = new ≡ record old { tokens = without_token old.tokens token }
+Applies c old (TargetRevision revision) new = new ≡ old
+Applies c old (OpenRoot revision token) new = OpensRoot c old revision token new
+Applies c old (DeleteEntry entry) new = Named old entry.path (λ p. Edits c old (edits.Delete p) (closed_beneath old.tokens p) new)
+Applies c old (AddDirectory entry) new = Named old entry.path (λ p. Edits c old (edits.AddDirectory p) (with_token old.tokens entry.token (Directory p None)) new)
+Applies c old (AddFile entry) new = Named old entry.path (λ p. Edits c old (edits.AddFile p) (with_token old.tokens entry.token (File p Untouched)) new)
+Applies c old (OpenDirectory entry) new = Named old entry.path (λ p. Opens old entry.token (Directory p entry.revision) new)
+Applies c old (OpenFile entry) new = Named old entry.path (λ p. Opens old entry.token (File p Untouched) new)
+Applies c old (AbsentDirectory entry) new = new ≡ old
+Applies c old (AbsentFile entry) new = new ≡ old
+Applies c old (ChangeDirectoryProperty change) new = ChangesProperty c old change new
+Applies c old (ChangeFileProperty change) new = ChangesProperty c old change new
+Applies c old (ApplyTextDelta token checksum) new = BeginsDelta old token new
+Applies c old (TextDeltaChunk token bytes) new = FeedsDelta old token bytes new
+Applies c old (TextDeltaEnd token) new = EndsDelta c old token new
+Applies c old (CloseDirectory token) new = Closes old token new
+Applies c old (CloseFile token checksum) new = Closes old token new
 Applies c old CloseEdit new = ⊥
 Applies c old AbortEdit new = ⊥
 
@@ -154,13 +115,14 @@ IfRefused edit_faults.NoMemory P = Unit {0}
 
 -- ---- the end of an edit
 
-abbrev pub finished_txn : Option TxnState → Result TxnState Refusal
-finished_txn None = Err refusals.MalformedData
-finished_txn (Some t) = Ok t
+-- a text delta that has not ended is refused
+abbrev pub finished_txn : Tokens → Option TxnState → Result TxnState Refusal
+finished_txn tokens None = Err refusals.MalformedData
+finished_txn tokens (Some t) = if has_unfinished tokens then Err refusals.MalformedData else Ok t
 
 -- the transaction that is to be committed, or why there is none
 abbrev pub finished : EditState → Result TxnState Refusal
-finished e = if e.refused then Err refusals.EditAborted else finished_txn e.txn
+finished e = if e.refused then Err refusals.EditAborted else finished_txn e.tokens e.txn
 
 -- ---- the revisions that an edit has seen
 

@@ -1,5 +1,5 @@
 -- What the judging of a command answers.
-use Rattle.std.specs.Prelude.{◌≡◌, ℕ, List, Option, Some, None, Result, Ok, Err}
+use Rattle.std.specs.Prelude.{◌≡◌, Option, Some, None, Result, Ok, Err}
 use Rattle.svnpath.specs.Paths.{PathValue}
 use Rattle.svnpath.specs.declared.fault.PathFault.{PathFault}
 use Rattle.svnpath.specs.declared.fault.PathFault.TheVariants as path_faults
@@ -7,10 +7,9 @@ use Rattle.refusals.specs.declared.Refusal.{Refusal}
 use Rattle.refusals.specs.Refusing.{path_refusal}
 use Rattle.editor.specs.declared.fault.EditFault.{EditFault}
 use Rattle.editor.specs.declared.fault.EditFault.TheVariants as edit_faults
-use Rattle.repo_api.specs.States.{RepoState, TxnState, IsEdited}
-use Rattle.repo_api.specs.declared.edit.EditOp.TheVariants.{AddDirectory}
-use Rattle.editor.specs.Tokens.{with_token}
-use Rattle.editor.specs.Editor.{EditState, IfRefused, path_fault}
+use Rattle.editor.specs.Edits.{EditState}
+use Rattle.editor.specs.Refusing.{path_fault}
+use Rattle.editor.specs.Editor.{IfRefused, given_up}
 
 -- it goes on where nothing is refused, and ends by what is
 abbrev pub Judges : {T : Type 0} → Result T EditFault → Option Refusal → Type 0
@@ -31,10 +30,12 @@ fault_of_path path_faults.TooDeep = edit_faults.Refused (path_refusal path_fault
 fault_of_path path_faults.NotThisRepository = edit_faults.Refused (path_refusal path_faults.NotThisRepository)
 fault_of_path path_faults.NoMemory = edit_faults.NoMemory
 
--- the directory is added to the transaction, and opened under the token
-pub record Puts (c : RepoState) (old : EditState) (token : List ℕ) (path : PathValue) (new : EditState) : Type 0 where
-  pub before : TxnState
-  pub had : old.txn ≡ Some before
-  pub after : TxnState
-  pub edited : IsEdited c.revisions before (AddDirectory path) after
-  pub is : new ≡ record old { txn = Some after; tokens = with_token old.tokens token path }
+-- what is known where memory was refused
+abbrev pub IfNoMemory : EditFault → Type 0 → Type 0
+IfNoMemory (edit_faults.Refused r) P = Unit {0}
+IfNoMemory edit_faults.NoMemory P = P
+
+-- what a command leaves that ends so: want of memory nothing, and a refusal nothing that the edit keeps
+abbrev pub Leaves : EditState → EditFault → EditState → Type 0
+Leaves old (edit_faults.Refused r) new = given_up new ≡ given_up old
+Leaves old edit_faults.NoMemory new = new ≡ old

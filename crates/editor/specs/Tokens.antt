@@ -1,24 +1,62 @@
--- The directories that are open in an edit, by their tokens.
-use Rattle.std.specs.Prelude.{ℕ, Bool, false, ◌+◌, ◌==◌, ◌&&◌, not, is_some, List, length, Option, Some, None}
+-- What is open in an edit, by its tokens.
+use Rattle.std.specs.Prelude.{ℕ, Bool, true, false, ◌+◌, ◌==◌, ◌&&◌, not, is_some, List, length, Option, Some, None, option_and_then}
+use Rattle.std.specs.List.{filter, list_any}
 use Rattle.std.specs.BTreeMap.{insert_entry, is_at}
-use Rattle.std.specs.Map.{lookup, remove_entry}
+use Rattle.std.specs.Map.{lookup, remove_entry, set_value, values_of}
 use Rattle.std.specs.Cmp.Lexicographic.{slice_cmp}
 use Rattle.std.specs.Ordering.{nat_cmp}
 use Rattle.svnpath.specs.Paths.{PathValue, is_at_or_under}
+use Rattle.editor.specs.declared.opened.Opened.{Opened}
+use Rattle.editor.specs.declared.opened.Opened.TheVariants.{Directory, File}
+use Rattle.editor.specs.declared.opened.Delta.{Delta}
+use Rattle.editor.specs.declared.opened.Delta.TheVariants.{Untouched, Reading, Made}
 
--- a token with the path of its directory, by the tokens' bytes
+-- a token with what is open under it, by the tokens' bytes
 abbrev pub Tokens : Type 0
-Tokens = List (List ℕ × PathValue)
+Tokens = List (List ℕ × Opened)
 
-abbrev pub with_token : Tokens → List ℕ → PathValue → Tokens
+abbrev pub with_token : Tokens → List ℕ → Opened → Tokens
 with_token = insert_entry (slice_cmp nat_cmp)
 
 abbrev pub without_token : Tokens → List ℕ → Tokens
 without_token tokens token = remove_entry (is_at (slice_cmp nat_cmp token)) tokens
 
+-- something else under a token that is open
+abbrev pub with_change : Tokens → List ℕ → Opened → Tokens
+with_change tokens token opened = set_value (is_at (slice_cmp nat_cmp token)) tokens opened
+
+-- what is open under a token
+abbrev pub opened_under : Tokens → List ℕ → Option Opened
+opened_under tokens token = lookup (is_at (slice_cmp nat_cmp token)) tokens
+
+abbrev pub path_of : Opened → PathValue
+path_of (Directory p revision) = p
+path_of (File p delta) = p
+
+abbrev pub directory_path : Opened → Option PathValue
+directory_path (Directory p revision) = Some p
+directory_path (File p delta) = None
+
 -- the directory that is open under a token
 abbrev pub directory_of : Tokens → List ℕ → Option PathValue
-directory_of tokens token = lookup (is_at (slice_cmp nat_cmp token)) tokens
+directory_of tokens token = option_and_then directory_path (opened_under tokens token)
+
+-- nothing at or under the path is open any more
+abbrev pub closed_beneath : Tokens → PathValue → Tokens
+closed_beneath tokens p = filter (λ e. not (is_at_or_under (path_of e.1) p)) tokens
+
+abbrev pub is_reading_delta : Delta → Bool
+is_reading_delta Untouched = false
+is_reading_delta (Reading applier) = true
+is_reading_delta Made = false
+
+-- whether it is a file whose text delta has not ended
+abbrev pub is_unfinished : Opened → Bool
+is_unfinished (Directory p revision) = false
+is_unfinished (File p delta) = is_reading_delta delta
+
+abbrev pub has_unfinished : Tokens → Bool
+has_unfinished tokens = list_any is_unfinished (values_of tokens)
 
 -- the path is that of a directory, and one name more
 abbrev pub is_within : Option PathValue → PathValue → Bool
@@ -27,4 +65,4 @@ is_within (Some directory) p = is_at_or_under p directory && (length p == length
 
 -- the token is new, and the path is that of the directory open under the parent's token, and one name more
 abbrev pub is_placed : Tokens → List ℕ → List ℕ → PathValue → Bool
-is_placed tokens parent token p = not (is_some (directory_of tokens token)) && is_within (directory_of tokens parent) p
+is_placed tokens parent token p = not (is_some (opened_under tokens token)) && is_within (directory_of tokens parent) p

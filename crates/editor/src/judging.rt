@@ -3,7 +3,7 @@ ghost use Rattle.std.specs.Prelude.{◌≡◌, option_copied, string_bytes};
 ghost use Rattle.svnpath.specs.Components.{Answers};
 ghost use Rattle.svnpath.specs.Texts.{joined};
 ghost use Rattle.editor.specs.Tokens.{is_within};
-ghost use Rattle.editor.specs.Editor.{add_refusal, copy_refusal, directory_refusal, source_fault, source_path, unless};
+ghost use Rattle.editor.specs.Refusing.{add_refusal, age_refusal, copy_refusal, delete_refusal, directory_refusal, file_refusal, is_below, is_property_name, is_reserved, may_be_named, name_refusal, source_fault, source_path, unless};
 ghost use Rattle.editor.specs.Judging.{Judges, Names};
 
 use crate::fault::EditFault;
@@ -44,6 +44,83 @@ pub fn judge_absence(kind: NodeKind) -> Result<(), EditFault>
         NodeKind::File => Err(EditFault::Refused(Refusal::AlreadyExists)),
         NodeKind::Directory => Err(EditFault::Refused(Refusal::AlreadyExists)),
     }
+}
+
+/// Whether the revision that the client has is below the one in which an entry was last changed.
+fn is_below(revision: Option<u64>, made: Option<u64>) -> bool
+    ensures { result ≡ is_below revision made }
+{
+    match revision {
+        None => false,
+        Some(revision) => match made {
+            None => false,
+            Some(made) => revision < made,
+        },
+    }
+}
+
+/// The entry may not have changed since the revision that the client has.
+pub fn judge_age(revision: Option<u64>, made: Option<u64>) -> Result<(), EditFault>
+    ensures { Judges result (age_refusal revision made) }
+{
+    judge(!is_below(revision, made), Refusal::OutOfDate)
+}
+
+/// A file has to stand there, unchanged since the revision that the client has.
+pub fn judge_file(kind: NodeKind, revision: Option<u64>, made: Option<u64>) -> Result<(), EditFault>
+    ensures { Judges result (file_refusal kind (age_refusal revision made)) }
+{
+    match kind {
+        NodeKind::Absent => Err(EditFault::Refused(Refusal::NotFound)),
+        NodeKind::File => judge_age(revision, made),
+        NodeKind::Directory => {
+            judge_age(revision, made)?;
+            Err(EditFault::Refused(Refusal::NotAFile))
+        }
+    }
+}
+
+/// Something has to stand there, unchanged since the revision that the client has.
+pub fn judge_presence(
+    kind: NodeKind,
+    revision: Option<u64>,
+    made: Option<u64>,
+) -> Result<(), EditFault>
+    ensures { Judges result (delete_refusal kind (age_refusal revision made)) }
+{
+    match kind {
+        NodeKind::Absent => Err(EditFault::Refused(Refusal::OutOfDate)),
+        NodeKind::File => judge_age(revision, made),
+        NodeKind::Directory => judge_age(revision, made),
+    }
+}
+
+/// A property may have to have another name.
+pub fn judge_name(name: &[u8]) -> Result<(), EditFault>
+    ensures { Judges result (name_refusal name.now) }
+{
+    judge(may_be_named(name), Refusal::NotSupported)
+}
+
+/// Whether a commit may change a property of this name.
+fn may_be_named(name: &[u8]) -> bool
+    ensures { result ≡ may_be_named name.now }
+{
+    is_property_name(name) && !is_reserved(name)
+}
+
+/// Whether a property may have this name: it has 1 to 255 bytes.
+pub fn is_property_name(name: &[u8]) -> bool
+    ensures { result ≡ is_property_name name.now }
+{
+    0 < name.len() && name.len() <= 255
+}
+
+/// Whether the name belongs to clients or to this protocol.
+fn is_reserved(name: &[u8]) -> bool
+    ensures { result ≡ is_reserved name.now }
+{
+    name.starts_with(b"svn:entry:".as_slice()) || name.starts_with(b"svn:wc:".as_slice())
 }
 
 /// Copies are not made yet.

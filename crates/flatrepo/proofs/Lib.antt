@@ -3,3 +3,4 @@ pub mod Seen
 pub mod Rules
 pub mod Places
 pub mod Edits
+pub mod Parts

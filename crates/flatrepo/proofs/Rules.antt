@@ -1,20 +1,20 @@
 -- The rules at one path, in the forms that the code gives and those of the definitions.
-use Rattle.std.proofs.Common.{◌≡◌, Bool, true, false, cond, [], Option, Some, None, option_map, refl, sym, ap, ◌∙◌}
+use Rattle.std.proofs.Common.{◌≡◌, Bool, true, false, cond, [], Option, Some, None, option_map, refl, sym, ap, subst, ◌∙◌}
 use Rattle.std.proofs.lemmas.Bool.{false≢true}
 use Rattle.std.specs.Prelude.{not, is_some, if◌then◌else◌}
 use Rattle.std.specs.Option.{option_or}
 use Rattle.std.specs.FinMap.{get, empty, get-empty}
 use Rattle.svnpath.specs.Paths.{PathValue, path_cmp, same_path, is_at_or_under}
 use Rattle.svnpath.specs.PathLaws.{same_path_is}
-use Rattle.repo_api.specs.Changes.{Changes, plain_change, after_delete, noted_delete}
-use Rattle.repo_api.specs.Edits.{new_entry, touched, begun}
+use Rattle.repo_api.specs.Changes.{Changes, plain_change, or_modified, after_delete, noted, noted_delete}
+use Rattle.repo_api.specs.Edits.{new_entry, touched, opened, touched_above, revised, begun}
 use Rattle.repo_api.specs.States.{TreeMap, Fixed, tree_of, tree_in}
 use Rattle.repo_api.specs.Trees.{Tree}
 use Rattle.repo_api.specs.declared.change.Action.TheVariants.{Add, Delete as Gone, Replace, Modify}
 use Rattle.repo_api.specs.declared.change.Change.{Change}
 use Rattle.repo_api.specs.declared.entry.Entry.{Entry}
-use Rattle.repo_api.specs.declared.entry.Content.TheVariants.{Directory}
-use Rattle.flatrepo.specs.Found.{with_room, is_added, kept_at}
+use Rattle.repo_api.specs.declared.entry.Content.{Content}
+use Rattle.flatrepo.specs.Found.{with_room, is_added, kept_at, part_at}
 use Rattle.flatrepo.specs.Whole.{map_of}
 use Rattle.repo_api.specs.StateLaws.{same_tree}
 
@@ -47,18 +47,18 @@ or_none None = refl
 or_none (Some x) = refl
 
 -- room is there where something stands
-pub room_taken : (t : Tree) (p q : PathValue) → is_some (t p) ≡ true → t q ≡ with_room t p q
-room_taken t p q some = by (same_path p q) refl
+pub room_taken : (t : Tree) (p q : PathValue) (content : Content) → is_some (t p) ≡ true → t q ≡ with_room t p content q
+room_taken t p q content some = by (same_path p q) refl
   where
-    by : (b : Bool) → same_path p q ≡ b → t q ≡ option_or (t q) (if b then Some (new_entry Directory) else None)
+    by : (b : Bool) → same_path p q ≡ b → t q ≡ option_or (t q) (if b then Some (new_entry content) else None)
     by true same = some_first (t q) _ (ap (λ k. is_some (t k)) (sym (same_path_is p q same)) ∙ some)
     by false same = or_none (t q)
 
 -- and it is made where nothing does
-pub room_made : (t : Tree) (p q : PathValue) (new : Option Entry) → is_some (t p) ≡ false → new ≡ (if same_path p q then Some (new_entry Directory) else t q) → new ≡ with_room t p q
-room_made t p q new none is = is ∙ by (same_path p q) refl
+pub room_made : (t : Tree) (p q : PathValue) (content : Content) (new : Option Entry) → is_some (t p) ≡ false → new ≡ (if same_path p q then Some (new_entry content) else t q) → new ≡ with_room t p content q
+room_made t p q content new none is = is ∙ by (same_path p q) refl
   where
-    by : (b : Bool) → same_path p q ≡ b → (if b then Some (new_entry Directory) else t q) ≡ option_or (t q) (if b then Some (new_entry Directory) else None)
+    by : (b : Bool) → same_path p q ≡ b → (if b then Some (new_entry content) else t q) ≡ option_or (t q) (if b then Some (new_entry content) else None)
     by true same = none_first (t q) _ (ap (λ k. is_some (t k)) (sym (same_path_is p q same)) ∙ none)
     by false same = or_none (t q)
 
@@ -97,9 +97,9 @@ delete_of_other cs p q other = by (same_path p q) refl
     by false same = outside (is_at_or_under q p) (cs q)
 
 -- room that is taken back leaves the tree as it was
-pub room_back : (old mid new : TreeMap) (p : PathValue) → true ≡ not (is_some (get old p))
-    → ((q : PathValue) → get mid q ≡ with_room (tree_of old) p q) → ((q : PathValue) → get new q ≡ (if same_path p q then None else get mid q)) → new ≡ old
-room_back old mid new p made room back = same_tree new old (λ q. back q ∙ ap (λ o. if same_path p q then None else o) (room q) ∙ by q (same_path p q) refl)
+pub room_back : (old mid new : TreeMap) (p : PathValue) (content : Content) → true ≡ not (is_some (get old p))
+    → ((q : PathValue) → get mid q ≡ with_room (tree_of old) p content q) → ((q : PathValue) → get new q ≡ (if same_path p q then None else get mid q)) → new ≡ old
+room_back old mid new p content made room back = same_tree new old (λ q. back q ∙ ap (λ o. if same_path p q then None else o) (room q) ∙ by q (same_path p q) refl)
   where
     no : (b : Bool) → true ≡ not b → b ≡ false
     no true e = absurd (false≢true (sym e))
@@ -109,17 +109,95 @@ room_back old mid new p made room back = same_tree new old (λ q. back q ∙ ap 
     gone None h = refl
     gone (Some x) h = absurd (false≢true (sym h))
 
-    by : (q : PathValue) (b : Bool) → same_path p q ≡ b → (if b then None else option_or (get old q) (if b then Some (new_entry Directory) else None)) ≡ get old q
+    by : (q : PathValue) (b : Bool) → same_path p q ≡ b → (if b then None else option_or (get old q) (if b then Some (new_entry content) else None)) ≡ get old q
     by q true same = gone (get old q) (ap (λ k. is_some (get old k)) (sym (same_path_is p q same)) ∙ no (is_some (get old p)) made)
     by q false same = sym (or_none (get old q))
 
 -- where there was room, nothing was made
-pub room_stays : (old mid : TreeMap) (p : PathValue) → false ≡ not (is_some (get old p)) → ((q : PathValue) → get mid q ≡ with_room (tree_of old) p q) → mid ≡ old
-room_stays old mid p made room = same_tree mid old (λ q. room q ∙ sym (room_taken (tree_of old) p q (yes (is_some (get old p)) made)))
+pub room_stays : (old mid : TreeMap) (p : PathValue) (content : Content) → false ≡ not (is_some (get old p)) → ((q : PathValue) → get mid q ≡ with_room (tree_of old) p content q) → mid ≡ old
+room_stays old mid p content made room = same_tree mid old (λ q. room q ∙ sym (room_taken (tree_of old) p q content (yes (is_some (get old p)) made)))
   where
     yes : (b : Bool) → false ≡ not b → b ≡ true
     yes true e = refl
     yes false e = absurd (false≢true e)
+
+-- an entry that has a part changed, and then `last` opened at its path and above it
+pub part_touched : (t : Tree) (p q : PathValue) (f : Entry → Entry) → touched_above p (λ r. part_at p f r (t r)) q ≡ revised t p f q
+part_touched t p q f = by (same_path p q) refl
+  where
+    opened_twice : (o : Option Entry) → option_map touched (option_map (λ e. opened (f e)) o) ≡ option_map (λ e. opened (f e)) o
+    opened_twice None = refl
+    opened_twice (Some e) = refl
+
+    at : (under : Bool) (o : Option Entry) → is_at_or_under p q ≡ under → same_path p q ≡ true → (if under then option_map touched (option_map (λ e. opened (f e)) o) else option_map (λ e. opened (f e)) o) ≡ option_map (λ e. opened (f e)) o
+    at true o is same = opened_twice o
+    at false o is same = refl
+
+    by : (b : Bool) → same_path p q ≡ b
+        → (if is_at_or_under p q then option_map touched (if b then option_map (λ e. opened (f e)) (t q) else t q) else (if b then option_map (λ e. opened (f e)) (t q) else t q))
+        ≡ (if b then option_map (λ e. opened (f e)) (t q) else touched_above p t q)
+    by true same = at (is_at_or_under p q) (t q) refl same
+    by false same = refl
+
+-- a change of what stands there is that of any that does the same
+pub revised_as : (t : Tree) (p q : PathValue) (f g : Entry → Entry) → ((e : Entry) → t p ≡ Some e → f e ≡ g e) → revised t p f q ≡ revised t p g q
+revised_as t p q f g same = by (same_path p q) refl
+  where
+    here : (o : Option Entry) → ((e : Entry) → o ≡ Some e → f e ≡ g e) → option_map (λ e. opened (f e)) o ≡ option_map (λ e. opened (g e)) o
+    here None h = refl
+    here (Some e) h = ap (λ x. Some (opened x)) (h e refl)
+
+    by : (b : Bool) → same_path p q ≡ b → (if b then option_map (λ e. opened (f e)) (t q) else touched_above p t q) ≡ (if b then option_map (λ e. opened (g e)) (t q) else touched_above p t q)
+    by true is = subst (λ k. option_map (λ e. opened (f e)) (t k) ≡ option_map (λ e. opened (g e)) (t k)) (same_path_is p q is) (here (t p) same)
+    by false is = refl
+
+-- where nothing stands nothing is changed
+pub revised_nothing : (t : Tree) (p q : PathValue) (f : Entry → Entry) → t p ≡ None → touched_above p t q ≡ revised t p f q
+revised_nothing t p q f none = by (same_path p q) refl
+  where
+    gone : (under : Bool) (o : Option Entry) → o ≡ None → (if under then option_map touched o else o) ≡ option_map (λ e. opened (f e)) o
+    gone under None e = none_touched under
+      where
+        none_touched : (under : Bool) → (if under then option_map touched None else None) ≡ option_map (λ e. opened (f e)) None
+        none_touched true = refl
+        none_touched false = refl
+    gone under (Some x) e = cc
+
+    by : (b : Bool) → same_path p q ≡ b → touched_above p t q ≡ (if b then option_map (λ e. opened (f e)) (t q) else touched_above p t q)
+    by true is = gone (is_at_or_under p q) (t q) (ap t (sym (same_path_is p q is)) ∙ none)
+    by false is = refl
+
+-- a flag that is set where a change stands
+pub flagged : (cs mid : Changes) (p q : PathValue) (f : Change → Change) → mid q ≡ noted cs p (or_modified (cs p)) q
+    → option_map (λ c. if same_path p q then f c else c) (mid q) ≡ noted cs p (f (or_modified (cs p))) q
+flagged cs mid p q f is = ap (option_map (λ c. if same_path p q then f c else c)) is ∙ by (same_path p q)
+  where
+    same : (o : Option Change) → option_map (λ c. c) o ≡ o
+    same None = refl
+    same (Some c) = refl
+
+    by : (b : Bool) → option_map (λ c. if b then f c else c) (if b then Some (or_modified (cs p)) else cs q) ≡ (if b then Some (f (or_modified (cs p))) else cs q)
+    by true = refl
+    by false = same (cs q)
+
+-- where a change stands, it is no new one
+pub modified_already : (cs : Changes) (p q : PathValue) → true ≡ is_some (cs p) → cs q ≡ noted cs p (or_modified (cs p)) q
+modified_already cs p q some = by (same_path p q) refl
+  where
+    here : (o : Option Change) → true ≡ is_some o → o ≡ Some (or_modified o)
+    here None e = absurd (false≢true (sym e))
+    here (Some c) e = refl
+
+    by : (b : Bool) → same_path p q ≡ b → cs q ≡ (if b then Some (or_modified (cs p)) else cs q)
+    by true is = ap cs (sym (same_path_is p q is)) ∙ here (cs p) some
+    by false is = refl
+
+pub modified_now : (cs : Changes) (p q : PathValue) → false ≡ is_some (cs p) → (if same_path p q then Some (plain_change Modify None) else cs q) ≡ noted cs p (or_modified (cs p)) q
+modified_now cs p q none = ap (λ c. if same_path p q then Some c else cs q) (here (cs p) none)
+  where
+    here : (o : Option Change) → false ≡ is_some o → plain_change Modify None ≡ or_modified o
+    here None e = refl
+    here (Some c) e = absurd (false≢true e)
 
 -- a transaction over no tree
 pub begun_empty : (q : PathValue) → get (empty {X = Entry} {R = path_cmp}) q ≡ begun (tree_of empty) q

@@ -1,13 +1,15 @@
 -- Maps from paths as lists of entries, and the steps of an edit in one.
-use Rattle.std.specs.Prelude.{List, Option, Some, None, Bool, true, false, not, if◌then◌else◌}
+use Rattle.std.specs.Prelude.{List, [], option_map, Option, Some, None, Bool, true, false, not, if◌then◌else◌}
 use Rattle.std.specs.BTreeMap.{is_at}
 use Rattle.std.specs.Map.{lookup}
 use Rattle.std.specs.Option.{option_or}
 use Rattle.svnpath.specs.Paths.{PathValue, path_cmp, same_path, is_at_or_under}
-use Rattle.repo_api.specs.Edits.{touched, new_entry}
+use Rattle.repo_api.specs.Edits.{touched, opened, new_entry}
+use Rattle.repo_api.specs.Properties.{PropertyList}
 use Rattle.repo_api.specs.Trees.{Tree}
 use Rattle.repo_api.specs.declared.entry.Entry.{Entry}
-use Rattle.repo_api.specs.declared.entry.Content.TheVariants.{Directory}
+use Rattle.repo_api.specs.declared.entry.Content.{Content}
+use Rattle.repo_api.specs.declared.entry.Content.TheVariants.{Directory, File}
 use Rattle.repo_api.specs.declared.change.Action.{Action}
 use Rattle.repo_api.specs.declared.change.Action.TheVariants.{Add, Delete, Replace, Modify}
 use Rattle.repo_api.specs.declared.change.Change.{Change}
@@ -16,13 +18,32 @@ use Rattle.repo_api.specs.declared.change.Change.{Change}
 abbrev pub found : {X : Type 0} → List (PathValue × X) → PathValue → Option X
 found es p = lookup (is_at (path_cmp p)) es
 
--- a new directory at p, where nothing stands
-abbrev pub with_room : Tree → PathValue → Tree
-with_room t p q = option_or (t q) (if same_path p q then Some (new_entry Directory) else None)
+-- what is added: a directory, or an empty file
+abbrev pub empty_content : Bool → Content
+empty_content true = File []
+empty_content false = Directory
+
+-- a new entry at p, where nothing stands
+abbrev pub with_room : Tree → PathValue → Content → Tree
+with_room t p content q = option_or (t q) (if same_path p q then Some (new_entry content) else None)
 
 -- what an add at p makes of the entry at q
-abbrev pub opened_at : PathValue → PathValue → Entry → Entry
-opened_at p q e = if same_path p q then new_entry Directory else (if is_at_or_under p q then touched e else e)
+abbrev pub opened_at : PathValue → Content → PathValue → Entry → Entry
+opened_at p content q e = if same_path p q then new_entry content else (if is_at_or_under p q then touched e else e)
+
+-- the change at q once a change at p is of a property, and of the text
+abbrev pub property_flagged : PathValue → PathValue → Change → Change
+property_flagged p q c = if same_path p q then record c { properties = true } else c
+
+abbrev pub text_flagged : PathValue → PathValue → Change → Change
+text_flagged p q c = if same_path p q then record c { text = true } else c
+
+-- the entry at q once the one at p has a part changed
+abbrev pub part_at : PathValue → (Entry → Entry) → PathValue → Option Entry → Option Entry
+part_at p f q o = if same_path p q then option_map (λ e. opened (f e)) o else o
+
+abbrev pub with_properties : PropertyList → Entry → Entry
+with_properties properties e = record e { properties = properties }
 
 abbrev pub is_add_action : Action → Bool
 is_add_action Add = true

@@ -1,10 +1,10 @@
 //! The changes of a transaction as one ordered map.
-ghost use Rattle.std.specs.Prelude.{◌≡◌, OnOk, OnErr, option_copied, if◌then◌else◌, None};
+ghost use Rattle.std.specs.Prelude.{◌≡◌, OnOk, OnErr, option_copied, option_map, if◌then◌else◌, None};
 ghost use Rattle.std.specs.FinMap.{get, empty};
 ghost use Rattle.svnpath.specs.Paths.{PathValue};
-ghost use Rattle.repo_api.specs.Changes.{plain_change, after_add, noted, noted_delete};
+ghost use Rattle.repo_api.specs.Changes.{plain_change, after_add, or_modified, after_property, after_text, noted, noted_delete};
 ghost use Rattle.repo_api.specs.States.{changes_of};
-ghost use Rattle.flatrepo.specs.Found.{found, is_added, kept_at};
+ghost use Rattle.flatrepo.specs.Found.{found, is_added, kept_at, property_flagged, text_flagged};
 
 use crate::path_map::put;
 use repo_api::{Action, Change};
@@ -51,6 +51,26 @@ impl FlatChanges {
         put(&mut self.changes, path.clone()?, change)
     }
 
+    /// Notes that a property was changed at the path.
+    pub(crate) fn note_property(&mut self, path: &Path) -> Result<(), AllocError>
+        ensures ok { OnOk result ((q : PathValue) → get self.new q ≡ noted (changes_of self.old) path.now (after_property (get self.old path.now)) q) }
+        ensures err { OnErr result (self.new ≡ self.old) }
+    {
+        make_modified(&mut self.changes, path)?;
+        flag_property(&mut self.changes, path);
+        Ok(())
+    }
+
+    /// Notes that the text was changed at the path.
+    pub(crate) fn note_text(&mut self, path: &Path) -> Result<(), AllocError>
+        ensures ok { OnOk result ((q : PathValue) → get self.new q ≡ noted (changes_of self.old) path.now (after_text (get self.old path.now)) q) }
+        ensures err { OnErr result (self.new ≡ self.old) }
+    {
+        make_modified(&mut self.changes, path)?;
+        flag_text(&mut self.changes, path);
+        Ok(())
+    }
+
     /// Notes that what stood at the path and under it was deleted.
     pub(crate) fn note_delete(&mut self, path: &Path) -> Result<(), AllocError>
         ensures ok { OnOk result ((q : PathValue) → get self.new q ≡ noted_delete (changes_of self.old) path.now q) }
@@ -74,6 +94,41 @@ fn plain(action: Action) -> Change
         properties: false,
         source: None,
     }
+}
+
+/// Puts a modification at the path if nothing was changed there.
+fn make_modified(changes: &mut BTreeMap<Path, Change>, path: &Path) -> Result<(), AllocError>
+    ensures ok { OnOk result ((q : PathValue) → found changes.new.entries q ≡ noted (found changes.old.entries) path.now (or_modified (found changes.old.entries path.now)) q) }
+    ensures err { OnErr result (changes.new.entries ≡ changes.old.entries) }
+{
+    if changes.contains_key(path) {
+        return Ok(());
+    }
+    put(changes, path.clone()?, plain(Action::Modify))
+}
+
+/// Notes at the path that a property was changed, where there is a change.
+fn flag_property(changes: &mut BTreeMap<Path, Change>, path: &Path)
+    ensures { (q : PathValue) → found changes.new.entries q ≡ option_map (property_flagged path.now q) (found changes.old.entries q) }
+{
+    changes.retain(|key, change| {
+        if path == key {
+            change.properties = true;
+        }
+        true
+    });
+}
+
+/// Notes at the path that the text was changed, where there is a change.
+fn flag_text(changes: &mut BTreeMap<Path, Change>, path: &Path)
+    ensures { (q : PathValue) → found changes.new.entries q ≡ option_map (text_flagged path.now q) (found changes.old.entries q) }
+{
+    changes.retain(|key, change| {
+        if path == key {
+            change.text = true;
+        }
+        true
+    });
 }
 
 /// The change of an add, over the change before it.

@@ -2,19 +2,19 @@
 ghost use Rattle.std.specs.Prelude.{◌≡◌, not, IfOk, OnOk, OnErr, is_some, option_map, option_copied, if◌then◌else◌, None};
 ghost use Rattle.std.specs.FinMap.{get, empty};
 ghost use Rattle.svnpath.specs.Paths.{PathValue, same_path};
-ghost use Rattle.repo_api.specs.Edits.{new_entry, touched_above, deleted, begun};
+ghost use Rattle.repo_api.specs.Edits.{new_entry, touched_above, revised, with_text, deleted, begun};
 ghost use Rattle.repo_api.specs.Commits.{closed, sealed, sealed_tree};
 ghost use Rattle.repo_api.specs.Opening.{opening_root, opening_tree};
 ghost use Rattle.repo_api.specs.States.{tree_of};
-ghost use Rattle.repo_api.specs.declared.entry.Content.TheVariants.{Directory};
-ghost use Rattle.flatrepo.specs.Found.{found, with_room, opened_at};
+ghost use Rattle.repo_api.specs.Properties.{with_property, without_property};
+ghost use Rattle.flatrepo.specs.Found.{found, empty_content, with_room, opened_at, part_at, with_properties};
 
 use crate::path_map::{put, take_out};
 use repo_api::{Content, Entry, Mark, Properties};
 use std::alloc::{AllocError, Global};
 use std::collections::BTreeMap;
 use std::marker::Model;
-use svnpath::Path;
+use svnpath::{Bytes, Path};
 
 /// The entries of a tree, in the order of their paths.
 #[derive(Drop)]
@@ -70,17 +70,22 @@ impl FlatTree {
         Ok(FlatTree { entries })
     }
 
-    /// Puts a new directory at the path if nothing stands there, and answers whether nothing did.
+    /// Puts a new entry at the path if nothing stands there, and answers whether nothing did.
     #[tactic(auto, using(repo_api::specs::StateLaws::get_path))]
-    pub(crate) fn make_room(&mut self, alloc: Global, path: &Path) -> Result<bool, AllocError>
+    pub(crate) fn make_room(
+        &mut self,
+        alloc: Global,
+        path: &Path,
+        is_file: bool,
+    ) -> Result<bool, AllocError>
         ensures made { IfOk result (λ made. made ≡ not (is_some (get self.old path.now))) }
-        ensures ok { OnOk result ((q : PathValue) → get self.new q ≡ with_room (tree_of self.old) path.now q) }
+        ensures ok { OnOk result ((q : PathValue) → get self.new q ≡ with_room (tree_of self.old) path.now (empty_content is_file) q) }
         ensures err { OnErr result (self.new ≡ self.old) }
     {
         if self.entries.contains_key(path) {
             return Ok(false);
         }
-        put(&mut self.entries, path.clone()?, new_directory(alloc))?;
+        put(&mut self.entries, path.clone()?, new_entry(alloc, is_file))?;
         Ok(true)
     }
 
@@ -92,12 +97,77 @@ impl FlatTree {
         take_out(&mut self.entries, path);
     }
 
-    /// Makes the entry at the path a new directory, where there is one. It takes no memory.
+    /// Makes the entry at the path a new one, where there is one. It takes no memory.
     #[tactic(auto, using(repo_api::specs::StateLaws::get_path))]
-    pub(crate) fn renew(&mut self, alloc: Global, path: &Path)
-        ensures { (q : PathValue) → get self.new q ≡ option_map (opened_at path.now q) (get self.old q) }
+    pub(crate) fn renew(&mut self, alloc: Global, path: &Path, is_file: bool)
+        ensures { (q : PathValue) → get self.new q ≡ option_map (opened_at path.now (empty_content is_file) q) (get self.old q) }
     {
-        renew_at(&mut self.entries, alloc, path);
+        renew_at(&mut self.entries, alloc, path, is_file);
+    }
+
+    /// The properties of the entry at the path with one set, if there is an entry.
+    #[tactic(auto, using(repo_api::specs::StateLaws::get_path))]
+    pub(crate) fn properties_with(
+        &self,
+        path: &Path,
+        name: &Bytes,
+        value: &Bytes,
+    ) -> Result<Option<Properties>, AllocError>
+        ensures { IfOk result (λ o. o ≡ option_map (λ e. with_property e.properties name.now value.now) (get self.now path.now)) }
+    {
+        match self.entries.get(path) {
+            None => Ok(None),
+            Some(entry) => {
+                let mut properties = entry.properties.clone()?;
+                properties.set(name.clone()?, value.clone()?)?;
+                Ok(Some(properties))
+            }
+        }
+    }
+
+    /// The properties of the entry at the path with one taken out, if there is an entry.
+    #[tactic(auto, using(repo_api::specs::StateLaws::get_path))]
+    pub(crate) fn properties_without(
+        &self,
+        path: &Path,
+        name: &Bytes,
+    ) -> Result<Option<Properties>, AllocError>
+        ensures { IfOk result (λ o. o ≡ option_map (λ e. without_property e.properties name.now) (get self.now path.now)) }
+    {
+        match self.entries.get(path) {
+            None => Ok(None),
+            Some(entry) => {
+                let mut properties = entry.properties.clone()?;
+                properties.remove(name);
+                Ok(Some(properties))
+            }
+        }
+    }
+
+    /// Gives the entry at the path these properties, where there is one. It takes no memory.
+    #[tactic(auto, using(repo_api::specs::StateLaws::get_path))]
+    pub(crate) fn set_properties(&mut self, path: &Path, properties: Properties)
+        ensures { (q : PathValue) → get self.new q ≡ revised (tree_of self.old) path.now (with_properties properties) q }
+    {
+        put_properties(&mut self.entries, path, properties);
+        touch_above(&mut self.entries, path);
+    }
+
+    /// Gives the entry at the path this text, where there is one. It takes no memory.
+    #[tactic(auto, using(repo_api::specs::StateLaws::get_path))]
+    pub(crate) fn set_text(&mut self, path: &Path, text: Bytes)
+        ensures { (q : PathValue) → get self.new q ≡ revised (tree_of self.old) path.now (with_text text) q }
+    {
+        put_text(&mut self.entries, path, text);
+        touch_above(&mut self.entries, path);
+    }
+
+    /// Opens `last` at the path and above it. It takes no memory.
+    #[tactic(auto, using(repo_api::specs::StateLaws::get_path))]
+    pub(crate) fn touch(&mut self, path: &Path)
+        ensures { (q : PathValue) → get self.new q ≡ touched_above path.now (tree_of self.old) q }
+    {
+        touch_above(&mut self.entries, path);
     }
 
     /// Takes out what is at or under the path.
@@ -128,14 +198,25 @@ fn opening_root(alloc: Global) -> Entry
     }
 }
 
-fn new_directory(alloc: Global) -> Entry
-    ensures { result ≡ new_entry Directory }
+fn new_entry(alloc: Global, is_file: bool) -> Entry
+    ensures { result ≡ new_entry (empty_content is_file) }
 {
     Entry {
-        content: Content::Directory,
+        content: empty_content(alloc, is_file),
         properties: Properties::new(alloc),
         own: Mark::Open,
         last: Mark::Open,
+    }
+}
+
+/// What an entry that is added has: a file no text yet.
+fn empty_content(alloc: Global, is_file: bool) -> Content
+    ensures { result ≡ empty_content is_file }
+{
+    if is_file {
+        Content::File(Bytes::new(Vec::new(alloc)))
+    } else {
+        Content::Directory
     }
 }
 
@@ -151,18 +232,40 @@ fn touch_above(entries: &mut BTreeMap<Path, Entry>, path: &Path)
     });
 }
 
-/// Makes the entry at the path a new directory, and opens `last` above it.
-fn renew_at(entries: &mut BTreeMap<Path, Entry>, alloc: Global, path: &Path)
-    ensures { (q : PathValue) → found entries.new.entries q ≡ option_map (opened_at path.now q) (found entries.old.entries q) }
+/// Makes the entry at the path a new one, and opens `last` above it.
+fn renew_at(entries: &mut BTreeMap<Path, Entry>, alloc: Global, path: &Path, is_file: bool)
+    ensures { (q : PathValue) → found entries.new.entries q ≡ option_map (opened_at path.now (empty_content is_file) q) (found entries.old.entries q) }
 {
     entries.retain(|key, entry| {
         if path == key {
-            *entry = new_directory(alloc);
+            *entry = new_entry(alloc, is_file);
         } else if path.is_at_or_under(key) {
             entry.last = Mark::Open;
         }
         true
     });
+}
+
+/// Gives the entry at the path these properties, and opens its marks.
+fn put_properties(entries: &mut BTreeMap<Path, Entry>, path: &Path, properties: Properties)
+    ensures { (q : PathValue) → found entries.new.entries q ≡ part_at path.now (with_properties properties) q (found entries.old.entries q) }
+{
+    if let Some(entry) = entries.get_mut(path) {
+        entry.properties = properties;
+        entry.own = Mark::Open;
+        entry.last = Mark::Open;
+    }
+}
+
+/// Gives the entry at the path this text, and opens its marks.
+fn put_text(entries: &mut BTreeMap<Path, Entry>, path: &Path, text: Bytes)
+    ensures { (q : PathValue) → found entries.new.entries q ≡ part_at path.now (with_text text) q (found entries.old.entries q) }
+{
+    if let Some(entry) = entries.get_mut(path) {
+        entry.content = Content::File(text);
+        entry.own = Mark::Open;
+        entry.last = Mark::Open;
+    }
 }
 
 /// Takes out what is at or under the path, and opens `last` above it.

@@ -1,14 +1,15 @@
 //! The repository and its transactions.
-ghost use Rattle.std.specs.Prelude.{◌≡◌, ◌≤◌, ◌<◌, List, ℕ, length, IfOk, OnOk, OnErr, option_copied, None};
+ghost use Rattle.std.specs.Prelude.{◌≡◌, ◌≤◌, ◌<◌, List, ℕ, length, IfOk, OnOk, OnErr, option_copied, option_map, None};
 ghost use Rattle.std.specs.FinMap.{get};
 ghost use Rattle.dates.specs.Dates.{IsDateText};
 ghost use Rattle.svnpath.specs.Paths.{PathValue};
-ghost use Rattle.repo_api.specs.Changes.{changes_after, after_add, noted};
+ghost use Rattle.repo_api.specs.Changes.{changes_after, after_add, after_property, noted};
 ghost use Rattle.repo_api.specs.Commits.{revision_limit, commit_refusal, committed};
-ghost use Rattle.repo_api.specs.Edits.{edited, added, begun};
+ghost use Rattle.repo_api.specs.Edits.{edited, added, revised, begun};
 ghost use Rattle.repo_api.specs.Opening.{opened};
-ghost use Rattle.repo_api.specs.declared.entry.Content.TheVariants.{Directory};
-ghost use Rattle.repo_api.specs.Kinds.{kind_of};
+ghost use Rattle.repo_api.specs.declared.entry.Entry.{Entry};
+ghost use Rattle.flatrepo.specs.Found.{empty_content, with_properties};
+ghost use Rattle.repo_api.specs.Kinds.{kind_of, created_of, text_of};
 ghost use Rattle.repo_api.specs.States.{tree_of, changes_of};
 ghost use Rattle.flatrepo.specs.Whole.{content_of, repo_content, txn_state_of, revisions_of, map_of};
 
@@ -18,7 +19,9 @@ use crate::held::{Held, Kept};
 use crate::revision::revision_properties;
 use dates::date_text;
 use refusals::Refusal;
-use repo_api::{ChangeFault, CommitAsk, EditOp, NodeKind, Properties, Repository};
+use repo_api::{
+    ChangeFault, CommitAsk, Content, EditOp, Entry, Mark, NodeKind, Properties, Repository,
+};
 use std::alloc::{AllocError, Global};
 use std::sync::Arc;
 use svnpath::{Bytes, Path};
@@ -95,6 +98,14 @@ impl Repository for FlatRepo {
         kind_at(Some(&txn.tree), path)
     }
 
+    fn created_in(&self, txn: &FlatTxn, path: &Path) -> Option<u64> {
+        created(txn.tree.get(path))
+    }
+
+    fn text_in<'a>(&'a self, txn: &'a FlatTxn, path: &Path) -> Option<&'a Bytes> {
+        text(txn.tree.get(path))
+    }
+
     fn begin(&self) -> Result<FlatTxn, AllocError> {
         let base = self.held.youngest();
         Ok(FlatTxn {
@@ -143,6 +154,32 @@ fn kind_at(tree: Option<&FlatTree>, path: &Path) -> NodeKind
     }
 }
 
+/// The revision that last changed the entry, at or under its path.
+fn created(entry: Option<&Entry>) -> Option<u64>
+    ensures { result ≡ created_of (option_copied entry.entry) }
+{
+    match entry {
+        None => None,
+        Some(entry) => match entry.last {
+            Mark::Open => None,
+            Mark::Made(revision, _) => Some(revision as u64),
+        },
+    }
+}
+
+/// The text of the entry, if it is a file.
+fn text(entry: Option<&Entry>) -> Option<&Bytes>
+    ensures { option_copied result ≡ text_of (option_copied entry.entry) }
+{
+    match entry {
+        None => None,
+        Some(entry) => match &entry.content {
+            Content::Directory => None,
+            Content::File(text) => Some(text),
+        },
+    }
+}
+
 /// The tree of a transaction that begins from this one.
 fn begun_tree(alloc: Global, tree: Option<&FlatTree>) -> Result<FlatTree, AllocError>
     ensures { IfOk result (λ t. (q : PathValue) → get t q ≡ begun (tree_of (map_of (option_copied tree.entry))) q) }
@@ -166,31 +203,68 @@ fn edit_parts(
     ensures changes_stay { OnErr result (changes.new ≡ changes.old) }
 {
     match op {
-        EditOp::AddDirectory(path) => add_directory(alloc, tree, changes, path),
+        EditOp::AddDirectory(path) => add(alloc, tree, changes, path, false),
+        EditOp::AddFile(path) => add(alloc, tree, changes, path, true),
         EditOp::Delete(path) => {
             changes.note_delete(path)?;
             tree.delete(path);
             Ok(())
         }
+        EditOp::SetProperty(path, name, value) => {
+            let properties = tree.properties_with(path, name, value)?;
+            revise_properties(tree, changes, path, properties)
+        }
+        EditOp::RemoveProperty(path, name) => {
+            let properties = tree.properties_without(path, name)?;
+            revise_properties(tree, changes, path, properties)
+        }
+        EditOp::SetText(path, text) => {
+            let text = text.clone()?;
+            changes.note_text(path)?;
+            tree.set_text(path, text);
+            Ok(())
+        }
     }
 }
 
-/// Adds a directory. What takes memory comes first, and is taken back where the rest of it is refused.
-fn add_directory(
+/// Gives the entry at the path these properties, if there is one. What takes memory comes first.
+fn revise_properties(
+    tree: &mut FlatTree,
+    changes: &mut FlatChanges,
+    path: &Path,
+    properties: Option<Properties>,
+) -> Result<(), AllocError>
+    ensures tree { OnOk result ((f : Entry → Entry) → properties ≡ option_map (λ e. (f e).properties) (get tree.old path.now) → ((e : Entry) → f e ≡ with_properties (f e).properties e) → (q : PathValue) → get tree.new q ≡ revised (tree_of tree.old) path.now f q) }
+    ensures changes { OnOk result ((q : PathValue) → get changes.new q ≡ noted (changes_of changes.old) path.now (after_property (get changes.old path.now)) q) }
+    ensures tree_stays { OnErr result (tree.new ≡ tree.old) }
+    ensures changes_stay { OnErr result (changes.new ≡ changes.old) }
+{
+    changes.note_property(path)?;
+    match properties {
+        Some(properties) => tree.set_properties(path, properties),
+        None => tree.touch(path),
+    }
+    Ok(())
+}
+
+/// Adds a directory, or an empty file. What takes memory comes first, and is taken back where the rest of it
+/// is refused.
+fn add(
     alloc: Global,
     tree: &mut FlatTree,
     changes: &mut FlatChanges,
     path: &Path,
+    is_file: bool,
 ) -> Result<(), AllocError>
-    ensures tree { OnOk result ((q : PathValue) → get tree.new q ≡ added (tree_of tree.old) path.now Directory q) }
+    ensures tree { OnOk result ((q : PathValue) → get tree.new q ≡ added (tree_of tree.old) path.now (empty_content is_file) q) }
     ensures changes { OnOk result ((q : PathValue) → get changes.new q ≡ noted (changes_of changes.old) path.now (after_add None (get changes.old path.now)) q) }
     ensures tree_stays { OnErr result (tree.new ≡ tree.old) }
     ensures changes_stay { OnErr result (changes.new ≡ changes.old) }
 {
-    let made = tree.make_room(alloc, path)?;
+    let made = tree.make_room(alloc, path, is_file)?;
     match changes.note_add(path) {
         Ok(()) => {
-            tree.renew(alloc, path);
+            tree.renew(alloc, path, is_file);
             Ok(())
         }
         Err(error) => {

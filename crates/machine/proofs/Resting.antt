@@ -9,6 +9,7 @@ use Rattle.repo_api.specs.States.{RepoState, TxnState, Fixed, IsBeginning}
 use Rattle.repo_api.specs.Commits.{commit_refusal}
 use Rattle.repo_api.specs.Accepted.{Accepted, changed}
 use Rattle.repo_api.specs.Accepted.Accepted.{Commits}
+use Rattle.repo_api.specs.declared.edit.EditOp.{EditOp}
 use Rattle.forms.specs.Forms.{is_name}
 use Rattle.commands.specs.Commands.{main_command}
 use Rattle.commands.specs.Logins.{client_greeting, auth_response}
@@ -17,23 +18,28 @@ use Rattle.commands.specs.declared.command.MainCommand.{MainCommand}
 use Rattle.commands.specs.declared.command.MainCommand.TheVariants.{GetLatestRev, CheckPath, RevProplist, Commit}
 use Rattle.commands.specs.declared.command.MainCommand.TheVariants as commands
 use Rattle.edit_commands.specs.declared.editing.EditorCommand.{EditorCommand}
-use Rattle.edit_commands.specs.declared.editing.EditorCommand.TheVariants.{OpenRoot, AddDirectory, OpenDirectory, CloseDirectory, CloseEdit, AbortEdit}
+use Rattle.edit_commands.specs.declared.editing.EditorCommand.TheVariants.{TargetRevision, OpenRoot, DeleteEntry, AddDirectory, AddFile, OpenDirectory, OpenFile, AbsentDirectory, AbsentFile, ChangeDirectoryProperty, ChangeFileProperty, ApplyTextDelta, TextDeltaChunk, TextDeltaEnd, CloseDirectory, CloseFile, CloseEdit, AbortEdit}
 use Rattle.commands.specs.declared.login.ClientGreeting.{ClientGreeting}
 use Rattle.commands.specs.declared.login.AuthResponse.{AuthResponse}
 use Rattle.forms.specs.declared.fault.CommandFault.{CommandFault}
 use Rattle.forms.specs.declared.fault.CommandFault.TheVariants.{UnknownName, BadParameters, NoMemory}
-use Rattle.editor.specs.Editor.{EditState, RestsIn, RestsOn as EditRestsOn, Applies, edit_refusal, finished}
+use Rattle.editor.specs.Tokens.{Tokens}
+use Rattle.editor.specs.Edits.{EditState}
+use Rattle.editor.specs.Refusing.{edit_refusal}
+use Rattle.editor.specs.Editor.{RestsIn, RestsOn as EditRestsOn, Edits as EditsTxn, Applies, finished}
 use Rattle.machine.specs.Points.{Point, world}
 use Rattle.machine.specs.Settings.{Settings}
 use Rattle.machine.specs.Stages.{Stage, RestsOn}
 use Rattle.machine.specs.Hearing.{Input}
 use Rattle.machine.specs.Hearing.Input.{Whole, Broken}
-use Rattle.machine.specs.Machine.{Verdict, Effect, Answer, InputStep, Edits, CommitStep, CloseStep, EditingStep, content_after, says, speaks, url_answer, greeting_answer, login_answer, command_answer, asked_by, lock_tokens, commit_begins, commit_answer, skipping_answer}
+use Rattle.machine.specs.Machine.{Verdict, Effect, Answer, InputStep, Edits, CommitStep, CloseStep, CommandStep, EditingStep, ending_of, content_after, says, speaks, url_answer, greeting_answer, login_answer, command_answer, asked_by, lock_tokens, commit_begins, commit_answer, skipping_answer}
 use Rattle.machine.specs.Machine.Effect.{Nothing, Changes, HaltsChanges}
 use Rattle.machine.specs.Machine.Verdict.{Went, Failed, Halts}
 use Rattle.machine.specs.Access.{Served, Moves}
 use Rattle.machine.specs.declared.asked.Asked.{Asked}
 use Rattle.machine.specs.declared.env.Env.{Env}
+use Rattle.machine.specs.declared.ending.Ending.{Ending}
+use Rattle.machine.specs.declared.ending.Ending.TheVariants.{Commits as ToCommit, GivesUp}
 use Rattle.machine.specs.declared.phase.Phase.TheVariants.{Greeted, LoggingIn, Serving, Editing, Skipping, Ended}
 use Rattle.machine.specs.declared.phase.Client.{Client}
 
@@ -113,11 +119,35 @@ rests_shown c t e = record { more = []; is = sym e ∙ sym (append-nil t.shown) 
 rests_at : (c : RepoState) (e : EditState) (o : Option TxnState) → e.txn ≡ o → RestsIn o c → EditRestsOn e c
 rests_at c e o is r = subst (λ (x : Option TxnState). RestsIn x c) (sym is) r
 
+-- an edit that is as it was
+rests_same : (c : RepoState) (old new : EditState) → EditRestsOn old c → new ≡ old → EditRestsOn new c
+rests_same c old new r is = subst (λ (e : EditState). EditRestsOn e c) (sym is) r
+
+-- an edit with other tokens
+rests_opened : (c : RepoState) (old new : EditState) (tokens : Tokens) → EditRestsOn old c → new ≡ record old { tokens = tokens } → EditRestsOn new c
+rests_opened c old new tokens r is = rests_at c new old.txn (ap (λ (e : EditState). e.txn) is) r
+
+-- an edit whose transaction is edited
+rests_edited : (c : RepoState) (old new : EditState) (op : EditOp) (tokens : Tokens) → EditsTxn c old op tokens new → EditRestsOn new c
+rests_edited c old new op tokens h = rests_at c new (Some h.after) (ap (λ (e : EditState). e.txn) h.is) (rests_shown c h.after h.edited.shown_now)
+
 rests_applied : (c : RepoState) (old new : EditState) (command : EditorCommand) → EditRestsOn old c → Applies c old command new → EditRestsOn new c
+rests_applied c old new (TargetRevision revision) r is = rests_same c old new r is
 rests_applied c old new (OpenRoot revision token) r h = rests_at c new (Some h.txn) (ap (λ (e : EditState). e.txn) h.is) (rests_shown c h.txn h.begun.shown)
-rests_applied c old new (AddDirectory entry) r h = rests_at c new (Some h.after) (ap (λ (e : EditState). e.txn) h.is) (rests_shown c h.after h.edited.shown_now)
-rests_applied c old new (OpenDirectory entry) r h = rests_at c new old.txn (ap (λ (e : EditState). e.txn) h.is) r
-rests_applied c old new (CloseDirectory token) r h = rests_at c new old.txn (ap (λ (e : EditState). e.txn) h) r
+rests_applied c old new (DeleteEntry entry) r (p, named, h) = rests_edited c old new _ _ h
+rests_applied c old new (AddDirectory entry) r (p, named, h) = rests_edited c old new _ _ h
+rests_applied c old new (AddFile entry) r (p, named, h) = rests_edited c old new _ _ h
+rests_applied c old new (OpenDirectory entry) r (p, named, is) = rests_opened c old new _ r is
+rests_applied c old new (OpenFile entry) r (p, named, is) = rests_opened c old new _ r is
+rests_applied c old new (AbsentDirectory entry) r is = rests_same c old new r is
+rests_applied c old new (AbsentFile entry) r is = rests_same c old new r is
+rests_applied c old new (ChangeDirectoryProperty change) r (opened, under, h) = rests_edited c old new _ _ h
+rests_applied c old new (ChangeFileProperty change) r (opened, under, h) = rests_edited c old new _ _ h
+rests_applied c old new (ApplyTextDelta token checksum) r (opened, under, is) = rests_opened c old new _ r is
+rests_applied c old new (TextDeltaChunk token bytes) r (p, a, under, is) = rests_opened c old new _ r is
+rests_applied c old new (TextDeltaEnd token) r (p, a, under, (text, ended, h)) = rests_edited c old new _ _ h
+rests_applied c old new (CloseDirectory token) r is = rests_opened c old new _ r is
+rests_applied c old new (CloseFile token checksum) r is = rests_opened c old new _ r is
 rests_applied c old new CloseEdit r h = absurd h
 rests_applied c old new AbortEdit r h = absurd h
 
@@ -141,14 +171,15 @@ rests_close : (may : Verdict → Bool) (env : Env) (c : RepoState) (client : Cli
 rests_close may env c client asked (Ok t) a step = rests_commit may env c client asked t (commit_refusal c t) a step
 rests_close may env c client asked (Err r) a is = rests_is c a _ is tt
 
+rests_told : (may : Verdict → Bool) (env : Env) (c : RepoState) (client : Client) (asked : Asked) (edit : EditState) (command : EditorCommand) (ending : Option Ending) (a : Answer)
+    → EditRestsOn edit c → CommandStep may env c client asked edit command ending a → RestsOn a.phase c
+rests_told may env c client asked edit command None a rests step = rests_edits env c client asked edit command (edit_refusal c edit command) a rests step
+rests_told may env c client asked edit command (Some ToCommit) a rests step = rests_close may env c client asked (finished edit) a step
+rests_told may env c client asked edit command (Some GivesUp) a rests is = rests_is c a _ is tt
+
 rests_editing : (may : Verdict → Bool) (env : Env) (c : RepoState) (client : Client) (asked : Asked) (edit : EditState) (r : Result EditorCommand CommandFault) (a : Answer)
     → EditRestsOn edit c → EditingStep may env c client asked edit r a → RestsOn a.phase c
-rests_editing may env c client asked edit (Ok (OpenRoot revision token)) a rests step = rests_edits env c client asked edit (OpenRoot revision token) (edit_refusal c edit (OpenRoot revision token)) a rests step
-rests_editing may env c client asked edit (Ok (AddDirectory entry)) a rests step = rests_edits env c client asked edit (AddDirectory entry) (edit_refusal c edit (AddDirectory entry)) a rests step
-rests_editing may env c client asked edit (Ok (OpenDirectory entry)) a rests step = rests_edits env c client asked edit (OpenDirectory entry) (edit_refusal c edit (OpenDirectory entry)) a rests step
-rests_editing may env c client asked edit (Ok (CloseDirectory token)) a rests step = rests_edits env c client asked edit (CloseDirectory token) (edit_refusal c edit (CloseDirectory token)) a rests step
-rests_editing may env c client asked edit (Ok CloseEdit) a rests step = rests_close may env c client asked (finished edit) a step
-rests_editing may env c client asked edit (Ok AbortEdit) a rests is = rests_is c a _ is tt
+rests_editing may env c client asked edit (Ok command) a rests step = rests_told may env c client asked edit command (ending_of command) a rests step
 rests_editing may env c client asked edit (Err UnknownName) a rests is = rests_is c a _ is tt
 rests_editing may env c client asked edit (Err BadParameters) a rests is = rests_is c a _ is tt
 rests_editing may env c client asked edit (Err NoMemory) a rests is = rests_is c a _ is tt

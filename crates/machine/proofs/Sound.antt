@@ -17,23 +17,26 @@ use Rattle.commands.specs.declared.command.MainCommand.{MainCommand}
 use Rattle.commands.specs.declared.command.MainCommand.TheVariants.{GetLatestRev, CheckPath, RevProplist, Commit}
 use Rattle.commands.specs.declared.command.MainCommand.TheVariants as commands
 use Rattle.edit_commands.specs.declared.editing.EditorCommand.{EditorCommand}
-use Rattle.edit_commands.specs.declared.editing.EditorCommand.TheVariants.{OpenRoot, AddDirectory, OpenDirectory, CloseDirectory, CloseEdit, AbortEdit}
 use Rattle.commands.specs.declared.login.ClientGreeting.{ClientGreeting}
 use Rattle.commands.specs.declared.login.AuthResponse.{AuthResponse}
 use Rattle.forms.specs.declared.fault.CommandFault.{CommandFault}
 use Rattle.forms.specs.declared.fault.CommandFault.TheVariants.{UnknownName, BadParameters, NoMemory}
-use Rattle.editor.specs.Tokens.{Tokens}
-use Rattle.editor.specs.Editor.{EditState, new_edit, Applies, edit_refusal, finished, finished_txn}
+use Rattle.editor.specs.Tokens.{Tokens, has_unfinished}
+use Rattle.editor.specs.Edits.{EditState, new_edit}
+use Rattle.editor.specs.Refusing.{edit_refusal}
+use Rattle.editor.specs.Editor.{Applies, finished, finished_txn}
 use Rattle.editor.specs.Soundness.{AreTrees, IsSoundEdit, IsSoundIn}
 use Rattle.machine.specs.Settings.{Settings}
 use Rattle.machine.specs.Stages.{Stage}
 use Rattle.machine.specs.Soundness.{IsSound}
 use Rattle.machine.specs.Hearing.{Input}
 use Rattle.machine.specs.Hearing.Input.{Whole, Broken}
-use Rattle.machine.specs.Machine.{Verdict, Answer, InputStep, Edits, CommitStep, CloseStep, EditingStep, content_after, says, speaks, url_answer, greeting_answer, login_answer, command_answer, asked_by, lock_tokens, commit_begins, commit_answer, skipping_answer}
+use Rattle.machine.specs.Machine.{Verdict, Answer, InputStep, Edits, CommitStep, CloseStep, CommandStep, EditingStep, ending_of, content_after, says, speaks, url_answer, greeting_answer, login_answer, command_answer, asked_by, lock_tokens, commit_begins, commit_answer, skipping_answer}
 use Rattle.machine.specs.Machine.Verdict.{Went, Failed, Halts}
 use Rattle.machine.specs.declared.asked.Asked.{Asked}
 use Rattle.machine.specs.declared.env.Env.{Env}
+use Rattle.machine.specs.declared.ending.Ending.{Ending}
+use Rattle.machine.specs.declared.ending.Ending.TheVariants.{Commits, GivesUp}
 use Rattle.machine.specs.declared.phase.Phase.TheVariants.{Greeted, LoggingIn, Serving, Editing, Skipping, Ended}
 use Rattle.machine.specs.declared.phase.Client.{Client}
 
@@ -41,14 +44,17 @@ trees_more : (rs : List Fixed) (r : Fixed) → AreTrees rs → IsTree (tree_of r
 trees_more [] r trees one = (one, tt)
 trees_more (x ∷ rs) r trees one = (trees.0, trees_more rs r trees.1 one)
 
+-- the transaction that is answered where a text delta may not have ended
+finished_is_it : (unfinished : Bool) (u t : TxnState) → ◌≡◌ {A = Result TxnState Refusal} (if unfinished then Err refusals.MalformedData else Ok u) (Ok t) → u ≡ t
+finished_is_it true u t is = cc
+finished_is_it false u t is = cc
+
 -- the transaction of a sound edit is a tree
 finished_is_a_tree : (refused : Bool) (o : Option TxnState) (tokens : Tokens) (t : TxnState)
-    → IsSoundIn o tokens → ◌≡◌ {A = Result TxnState Refusal} (if refused then Err refusals.EditAborted else finished_txn o) (Ok t) → IsTree (tree_of t.tree)
+    → IsSoundIn o tokens → ◌≡◌ {A = Result TxnState Refusal} (if refused then Err refusals.EditAborted else finished_txn tokens o) (Ok t) → IsTree (tree_of t.tree)
 finished_is_a_tree true o tokens t sound is = cc
 finished_is_a_tree false None tokens t sound is = cc
-finished_is_a_tree false (Some u) tokens t sound is =
-    let same : u ≡ t = cc in
-    subst (λ (x : TxnState). IsTree (tree_of x.tree)) same sound.0
+finished_is_a_tree false (Some u) tokens t sound is = subst (λ (x : TxnState). IsTree (tree_of x.tree)) (finished_is_it (has_unfinished tokens) u t is) sound.0
 
 -- after an answer the repository's trees are trees, and the session's edit is sound
 abbrev pub LeavesTrees : RepoState → Answer → Type 0
@@ -120,14 +126,15 @@ module _ (begins : (path : PathValue) (name : List ℕ) → IsSoundEdit (new_edi
   leaves_close may env c client asked edit (Ok t) a trees sound is step = leaves_commit may env c client asked t (commit_refusal c t) a trees (finished_is_a_tree edit.refused edit.txn edit.tokens t sound is) step
   leaves_close may env c client asked edit (Err r) a trees sound is step = leaves_is c a _ step (trees, tt)
 
+  leaves_told : (may : Verdict → Bool) (env : Env) (c : RepoState) (client : Client) (asked : Asked) (edit : EditState) (command : EditorCommand) (ending : Option Ending) (a : Answer)
+      → AreTrees c.revisions → IsSoundEdit edit → CommandStep may env c client asked edit command ending a → LeavesTrees c a
+  leaves_told may env c client asked edit command None a trees sound step = leaves_edits env c client asked edit command (edit_refusal c edit command) a trees sound refl step
+  leaves_told may env c client asked edit command (Some Commits) a trees sound step = leaves_close may env c client asked edit (finished edit) a trees sound refl step
+  leaves_told may env c client asked edit command (Some GivesUp) a trees sound is = leaves_is c a _ is (trees, tt)
+
   leaves_editing : (may : Verdict → Bool) (env : Env) (c : RepoState) (client : Client) (asked : Asked) (edit : EditState) (r : Result EditorCommand CommandFault) (a : Answer)
       → AreTrees c.revisions → IsSoundEdit edit → EditingStep may env c client asked edit r a → LeavesTrees c a
-  leaves_editing may env c client asked edit (Ok (OpenRoot revision token)) a trees sound step = leaves_edits env c client asked edit (OpenRoot revision token) (edit_refusal c edit (OpenRoot revision token)) a trees sound refl step
-  leaves_editing may env c client asked edit (Ok (AddDirectory entry)) a trees sound step = leaves_edits env c client asked edit (AddDirectory entry) (edit_refusal c edit (AddDirectory entry)) a trees sound refl step
-  leaves_editing may env c client asked edit (Ok (OpenDirectory entry)) a trees sound step = leaves_edits env c client asked edit (OpenDirectory entry) (edit_refusal c edit (OpenDirectory entry)) a trees sound refl step
-  leaves_editing may env c client asked edit (Ok (CloseDirectory token)) a trees sound step = leaves_edits env c client asked edit (CloseDirectory token) (edit_refusal c edit (CloseDirectory token)) a trees sound refl step
-  leaves_editing may env c client asked edit (Ok CloseEdit) a trees sound step = leaves_close may env c client asked edit (finished edit) a trees sound refl step
-  leaves_editing may env c client asked edit (Ok AbortEdit) a trees sound is = leaves_is c a _ is (trees, tt)
+  leaves_editing may env c client asked edit (Ok command) a trees sound step = leaves_told may env c client asked edit command (ending_of command) a trees sound step
   leaves_editing may env c client asked edit (Err UnknownName) a trees sound is = leaves_is c a _ is (trees, tt)
   leaves_editing may env c client asked edit (Err BadParameters) a trees sound is = leaves_is c a _ is (trees, tt)
   leaves_editing may env c client asked edit (Err NoMemory) a trees sound is = leaves_is c a _ is (trees, tt)

@@ -1,5 +1,5 @@
 -- One session of the machine: where it stands, and what each input does.
-use Rattle.std.specs.Prelude.{◌≡◌, ℕ, Bool, true, false, ◌&&◌, ◌==◌, nat_lt, nat_le, List, [], ◌∷◌, length, Option, Some, None, option_map, Result, Ok, Err, IsTrue, if◌then◌else◌, codes}
+use Rattle.std.specs.Prelude.{◌≡◌, ℕ, Bool, true, false, ◌&&◌, ◌==◌, nat_lt, List, [], ◌∷◌, length, Option, Some, None, option_map, Result, Ok, Err, IsTrue, if◌then◌else◌, codes}
 use Rattle.std.specs.List.{flat_map, list_all}
 use Rattle.svnpath.specs.Paths.{PathValue}
 use Rattle.svnpath.specs.Texts.{joined}
@@ -26,7 +26,7 @@ use Rattle.commands.specs.declared.command.CommitCommand.{CommitCommand}
 use Rattle.commands.specs.declared.command.MainCommand.{MainCommand}
 use Rattle.commands.specs.declared.command.MainCommand.TheVariants.{GetLatestRev, CheckPath, RevProplist, Commit, AbortEdit}
 use Rattle.edit_commands.specs.declared.editing.EditorCommand.{EditorCommand}
-use Rattle.edit_commands.specs.declared.editing.EditorCommand.TheVariants.{OpenRoot, AddDirectory, OpenDirectory, CloseDirectory, CloseEdit}
+use Rattle.edit_commands.specs.declared.editing.EditorCommand.TheVariants.{TargetRevision, OpenRoot, DeleteEntry, AddDirectory, AddFile, OpenDirectory, OpenFile, AbsentDirectory, AbsentFile, ChangeDirectoryProperty, ChangeFileProperty, ApplyTextDelta, TextDeltaChunk, TextDeltaEnd, CloseDirectory, CloseFile, CloseEdit}
 use Rattle.edit_commands.specs.declared.editing.EditorCommand.TheVariants as edits
 use Rattle.commands.specs.declared.login.ClientGreeting.{ClientGreeting}
 use Rattle.commands.specs.declared.login.AuthResponse.{AuthResponse}
@@ -34,13 +34,17 @@ use Rattle.forms.specs.declared.fault.CommandFault.{CommandFault}
 use Rattle.forms.specs.declared.fault.CommandFault.TheVariants.{UnknownName, BadParameters, NoMemory}
 use Rattle.replies.specs.declared.reply.Reply.{Reply}
 use Rattle.replies.specs.declared.reply.Reply.TheVariants as replies
-use Rattle.editor.specs.Editor.{EditState, new_edit, edit_refusal, Applies, finished}
+use Rattle.editor.specs.Edits.{EditState, new_edit}
+use Rattle.editor.specs.Refusing.{is_property_name, edit_refusal}
+use Rattle.editor.specs.Editor.{Applies, finished}
 use Rattle.machine.specs.Settings.{Settings}
 use Rattle.machine.specs.Hearing.{Input}
 use Rattle.machine.specs.Hearing.Input.{Whole, Broken}
 use Rattle.machine.specs.Stages.{Stage}
 use Rattle.machine.specs.declared.env.Env.{Env}
 use Rattle.machine.specs.declared.asked.Asked.{Asked}
+use Rattle.machine.specs.declared.ending.Ending.{Ending}
+use Rattle.machine.specs.declared.ending.Ending.TheVariants.{Commits, GivesUp}
 use Rattle.machine.specs.declared.phase.Phase.TheVariants.{Greeted, LoggingIn, Serving, Editing, Skipping, Ended}
 use Rattle.machine.specs.declared.phase.Client.{Client}
 
@@ -148,10 +152,6 @@ abbrev pub lock_tokens : PathValue → List (List ℕ × List ℕ) → Result Lo
 lock_tokens base [] = Ok []
 lock_tokens base (pair ∷ pairs) = token_before pair.1 (joined base pair.0) (lock_tokens base pairs)
 
--- a property's name has 1 to 255 bytes
-abbrev pub is_property_name : List ℕ → Bool
-is_property_name name = nat_lt 0 (length name) && nat_le (length name) 255
-
 abbrev pub are_named : Option (List (List ℕ × List ℕ)) → Bool
 are_named None = true
 are_named (Some pairs) = list_all (λ pair. is_property_name pair.0) pairs
@@ -229,13 +229,34 @@ CloseStep may env c client asked (Err r) a = a ≡ says env (Serving client) (re
 
 -- ---- a command within an edit
 
+-- whether a command ends an edit: it is to be committed, or it is given up
+abbrev pub ending_of : EditorCommand → Option Ending
+ending_of (TargetRevision revision) = None
+ending_of (OpenRoot revision token) = None
+ending_of (DeleteEntry entry) = None
+ending_of (AddDirectory entry) = None
+ending_of (AddFile entry) = None
+ending_of (OpenDirectory entry) = None
+ending_of (OpenFile entry) = None
+ending_of (AbsentDirectory entry) = None
+ending_of (AbsentFile entry) = None
+ending_of (ChangeDirectoryProperty change) = None
+ending_of (ChangeFileProperty change) = None
+ending_of (ApplyTextDelta token checksum) = None
+ending_of (TextDeltaChunk token bytes) = None
+ending_of (TextDeltaEnd token) = None
+ending_of (CloseDirectory token) = None
+ending_of (CloseFile token checksum) = None
+ending_of CloseEdit = Some Commits
+ending_of edits.AbortEdit = Some GivesUp
+
+abbrev pub CommandStep : (Verdict → Bool) → Env → RepoState → Client → Asked → EditState → EditorCommand → Option Ending → Answer → Type 0
+CommandStep may env c client asked edit command None a = EditStep env c client asked edit command a
+CommandStep may env c client asked edit command (Some Commits) a = CloseStep may env c client asked (finished edit) a
+CommandStep may env c client asked edit command (Some GivesUp) a = a ≡ says env (Serving client) (replies.Success ∷ [])
+
 abbrev pub EditingStep : (Verdict → Bool) → Env → RepoState → Client → Asked → EditState → Result EditorCommand CommandFault → Answer → Type 0
-EditingStep may env c client asked edit (Ok (OpenRoot revision token)) a = EditStep env c client asked edit (OpenRoot revision token) a
-EditingStep may env c client asked edit (Ok (AddDirectory entry)) a = EditStep env c client asked edit (AddDirectory entry) a
-EditingStep may env c client asked edit (Ok (OpenDirectory entry)) a = EditStep env c client asked edit (OpenDirectory entry) a
-EditingStep may env c client asked edit (Ok (CloseDirectory token)) a = EditStep env c client asked edit (CloseDirectory token) a
-EditingStep may env c client asked edit (Ok CloseEdit) a = CloseStep may env c client asked (finished edit) a
-EditingStep may env c client asked edit (Ok edits.AbortEdit) a = a ≡ says env (Serving client) (replies.Success ∷ [])
+EditingStep may env c client asked edit (Ok command) a = CommandStep may env c client asked edit command (ending_of command) a
 EditingStep may env c client asked edit (Err UnknownName) a = a ≡ gives_up env client refusals.UnknownCommand
 EditingStep may env c client asked edit (Err BadParameters) a = a ≡ malformed env
 EditingStep may env c client asked edit (Err NoMemory) a = a ≡ malformed env

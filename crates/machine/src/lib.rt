@@ -5,6 +5,7 @@
 mod access;
 mod asked;
 mod copies;
+mod ending;
 mod env;
 mod laws;
 mod open;
@@ -15,6 +16,7 @@ mod writing;
 pub use access::{RepoAccess, SoleAccess};
 pub use asked::{Asked, LockTokens};
 pub use copies::{bytes_of, text_of};
+pub use ending::{Ending, ending_of};
 pub use env::Env;
 pub use laws::{one_hearing, steps_keep_trees, steps_rest};
 pub use open::is_open;

@@ -1,5 +1,5 @@
 -- What keeps a tree a tree.
-use Rattle.std.proofs.Common.{◌≡◌, Bool, true, false, List, [], ◌∷◌, ◌++◌, drop, length, Option, Some, None, option_map, refl, sym, ap, subst, append_assoc, arith, ◌∙◌}
+use Rattle.std.proofs.Common.{◌≡◌, ℕ, Bool, true, false, List, [], ◌∷◌, ◌++◌, drop, length, Option, Some, None, option_map, refl, sym, ap, subst, append_assoc, arith, ◌∙◌}
 use Rattle.std.proofs.lemmas.Bool.{false≢true}
 use Rattle.std.proofs.lemmas.List.Elements.{Contains-get_or, Contains-append_right}
 use Rattle.std.specs.Prelude.{if◌then◌else◌, IsSome, IsSomeAnd, IsTrue, Contains}
@@ -7,10 +7,11 @@ use Rattle.std.specs.Option.{unwrap_or}
 use Rattle.svnpath.specs.Paths.{PathValue, Component, same_path, is_at_or_under}
 use Rattle.svnpath.specs.PathLaws.{same_path_is, under_is, under_append, parent_child}
 use Rattle.svnpath.specs.Texts.{parent}
-use Rattle.repo_api.specs.Trees.{Tree, IsTree, HasDirectory, is_directory, is_directory_content}
-use Rattle.repo_api.specs.Edits.{touched, touched_above, new_entry, added, deleted}
+use Rattle.repo_api.specs.Trees.{Tree, IsTree, HasDirectory, HasFile, is_directory, is_directory_content}
+use Rattle.repo_api.specs.Edits.{touched, opened, touched_above, new_entry, added, revised, with_text, deleted}
 use Rattle.repo_api.specs.declared.entry.Entry.{Entry}
-use Rattle.repo_api.specs.declared.entry.Content.TheVariants.{Directory}
+use Rattle.repo_api.specs.declared.entry.Content.{Content}
+use Rattle.repo_api.specs.declared.entry.Content.TheVariants.{Directory, File}
 
 abbrev IsDirectoryAt : Option Entry → Type 0
 IsDirectoryAt o = IsSomeAnd o (λ e. IsTrue (is_directory e))
@@ -50,35 +51,75 @@ same_parent p q c d same = some_is (sym (parent_child p c) ∙ ap parent same �
     some_is : ◌≡◌ {A = Option PathValue} (Some p) (Some q) → p ≡ q
     some_is e = ap (λ o. unwrap_or o p) e
 
--- a directory stays one where a directory is added
-added_directory : (t : Tree) (p q : PathValue) → HasDirectory t q → HasDirectory (added t p Directory) q
-added_directory t p q h = by (same_path p q)
+-- a directory stays one where something is added, and where that is a directory if one stood there
+added_directory : (t : Tree) (p q : PathValue) (content : Content) → (HasDirectory t p → IsTrue (is_directory_content content)) → HasDirectory t q → HasDirectory (added t p content) q
+added_directory t p q content keeps h = by (same_path p q) refl
   where
-    by : (b : Bool) → IsDirectoryAt (if b then Some (new_entry Directory) else touched_above p t q)
-    by true = refl
-    by false = touched_directory (is_at_or_under p q) (t q) h
+    by : (b : Bool) → same_path p q ≡ b → IsDirectoryAt (if b then Some (new_entry content) else touched_above p t q)
+    by true same = keeps (subst (HasDirectory t) (sym (same_path_is p q same)) h)
+    by false same = touched_directory (is_at_or_under p q) (t q) h
 
-added_parents : (t : Tree) (p q : PathValue) (c d : Component) → IsTree t → HasDirectory t p → IsSome (added t (p ++ c ∷ []) Directory (q ++ d ∷ [])) → HasDirectory t q
-added_parents t p q c d is has = by (same_path (p ++ c ∷ []) (q ++ d ∷ [])) refl
+added_parents : (t : Tree) (p q : PathValue) (c d : Component) (content : Content) → IsTree t → HasDirectory t p → IsSome (added t (p ++ c ∷ []) content (q ++ d ∷ [])) → HasDirectory t q
+added_parents t p q c d content is has = by (same_path (p ++ c ∷ []) (q ++ d ∷ [])) refl
   where
-    by : (b : Bool) → same_path (p ++ c ∷ []) (q ++ d ∷ []) ≡ b → IsSome (if b then Some (new_entry Directory) else touched_above (p ++ c ∷ []) t (q ++ d ∷ [])) → HasDirectory t q
+    by : (b : Bool) → same_path (p ++ c ∷ []) (q ++ d ∷ []) ≡ b → IsSome (if b then Some (new_entry content) else touched_above (p ++ c ∷ []) t (q ++ d ∷ [])) → HasDirectory t q
     by true same some = subst (HasDirectory t) (same_parent p q c d (same_path_is (p ++ c ∷ []) (q ++ d ∷ []) same)) has
     by false same some = is.parents q d (some_touched (is_at_or_under (p ++ c ∷ []) (q ++ d ∷ [])) (t (q ++ d ∷ [])) some)
 
-added_finite : (t : Tree) (p q : PathValue) (ps : List PathValue) → (IsSome (t q) → Contains ps q) → IsSome (added t p Directory q) → Contains (p ∷ ps) q
-added_finite t p q ps all = by (same_path p q) refl
+added_finite : (t : Tree) (p q : PathValue) (content : Content) (ps : List PathValue) → (IsSome (t q) → Contains ps q) → IsSome (added t p content q) → Contains (p ∷ ps) q
+added_finite t p q content ps all = by (same_path p q) refl
   where
-    by : (b : Bool) → same_path p q ≡ b → IsSome (if b then Some (new_entry Directory) else touched_above p t q) → Contains (p ∷ ps) q
+    by : (b : Bool) → same_path p q ≡ b → IsSome (if b then Some (new_entry content) else touched_above p t q) → Contains (p ∷ ps) q
     by true same some = subst (Contains (p ∷ ps)) (same_path_is p q same) (Contains-get_or (p ∷ ps) 0 p (omega arith))
     by false same some = Contains-append_right (p ∷ []) ps q (all (some_touched (is_at_or_under p q) (t q) some))
 
--- a directory that is added to a directory
-pub added_tree : (t : Tree) (p : PathValue) (c : Component) → IsTree t → HasDirectory t p → IsTree (added t (p ++ c ∷ []) Directory)
-added_tree t p c is has = record {
-  root = added_directory t (p ++ c ∷ []) [] is.root;
-  parents = λ q d some. added_directory t (p ++ c ∷ []) q (added_parents t p q c d is has some);
-  finite = ((p ++ c ∷ []) ∷ is.finite.0, λ q some. added_finite t (p ++ c ∷ []) q is.finite.0 (is.finite.1 q) some);
+-- what is added to a directory
+added_tree : (t : Tree) (p : PathValue) (c : Component) (content : Content) → (HasDirectory t (p ++ c ∷ []) → IsTrue (is_directory_content content)) → IsTree t → HasDirectory t p → IsTree (added t (p ++ c ∷ []) content)
+added_tree t p c content keeps is has = record {
+  root = added_directory t (p ++ c ∷ []) [] content keeps is.root;
+  parents = λ q d some. added_directory t (p ++ c ∷ []) q content keeps (added_parents t p q c d content is has some);
+  finite = ((p ++ c ∷ []) ∷ is.finite.0, λ q some. added_finite t (p ++ c ∷ []) q content is.finite.0 (is.finite.1 q) some);
 }
+
+pub directory_tree : (t : Tree) (p : PathValue) (c : Component) → IsTree t → HasDirectory t p → IsTree (added t (p ++ c ∷ []) Directory)
+directory_tree t p c = added_tree t p c Directory (λ h. refl)
+
+pub file_tree : (t : Tree) (p : PathValue) (c : Component) → IsTree t → HasDirectory t p → t (p ++ c ∷ []) ≡ None → IsTree (added t (p ++ c ∷ []) (File []))
+file_tree t p c is has none = added_tree t p c (File []) (λ h. absurd (subst IsDirectoryAt none h)) is has
+
+-- a directory stays one where an entry is changed that goes on to be one if it was
+revised_directory : (t : Tree) (p q : PathValue) (f : Entry → Entry) → (HasDirectory t p → IsDirectoryAt (option_map (λ e. opened (f e)) (t p))) → HasDirectory t q → HasDirectory (revised t p f) q
+revised_directory t p q f keeps h = by (same_path p q) refl
+  where
+    by : (b : Bool) → same_path p q ≡ b → IsDirectoryAt (if b then option_map (λ e. opened (f e)) (t q) else touched_above p t q)
+    by true same = subst (λ r. IsDirectoryAt (option_map (λ e. opened (f e)) (t r))) (same_path_is p q same) (keeps (subst (HasDirectory t) (sym (same_path_is p q same)) h))
+    by false same = touched_directory (is_at_or_under p q) (t q) h
+
+some_revised : (t : Tree) (p q : PathValue) (f : Entry → Entry) → IsSome (revised t p f q) → IsSome (t q)
+some_revised t p q f = by (same_path p q)
+  where
+    by : (b : Bool) → IsSome (if b then option_map (λ e. opened (f e)) (t q) else touched_above p t q) → IsSome (t q)
+    by true some = some_renewed (λ e. opened (f e)) (t q) some
+    by false some = some_touched (is_at_or_under p q) (t q) some
+
+revised_tree : (t : Tree) (p : PathValue) (f : Entry → Entry) → (HasDirectory t p → IsDirectoryAt (option_map (λ e. opened (f e)) (t p))) → IsTree t → IsTree (revised t p f)
+revised_tree t p f keeps is = record {
+  root = revised_directory t p [] f keeps is.root;
+  parents = λ q d some. revised_directory t p q f keeps (is.parents q d (some_revised t p (q ++ d ∷ []) f some));
+  finite = (is.finite.0, λ q some. is.finite.1 q (some_revised t p q f some));
+}
+
+-- a property of an entry
+pub property_tree : (t : Tree) (p : PathValue) (f : Entry → Entry) → ((e : Entry) → (f e).content ≡ e.content) → IsTree t → IsTree (revised t p f)
+property_tree t p f same = revised_tree t p f (renewed_directory (λ e. opened (f e)) same (t p))
+
+no_directory : (o : Option Entry) → IsSomeAnd o (λ e. is_directory e ≡ false) → IsDirectoryAt o → ⊥
+no_directory None file h = file
+no_directory (Some e) file h = false≢true (sym file ∙ h)
+
+-- the text of a file
+pub text_tree : (t : Tree) (p : PathValue) (text : List ℕ) → IsTree t → HasFile t p → IsTree (revised t p (with_text text))
+text_tree t p text is file = revised_tree t p (with_text text) (λ h. absurd (no_directory (t p) file h)) is
 
 -- what isn't under the path of a delete stays
 outside_directory : (t : Tree) (p q : PathValue) → is_at_or_under q p ≡ false → HasDirectory t q → HasDirectory (deleted t p) q

@@ -1,12 +1,12 @@
 -- The changes of a transaction: its edits folded, path by path.
-use Rattle.std.specs.Prelude.{false, Option, Some, None, if◌then◌else◌}
+use Rattle.std.specs.Prelude.{true, false, Option, Some, None, if◌then◌else◌}
 use Rattle.svnpath.specs.Paths.{PathValue, same_path, is_at_or_under}
 use Rattle.repo_api.specs.declared.change.Action.{Action}
 use Rattle.repo_api.specs.declared.change.Action.TheVariants.{Add, Delete as Gone, Replace, Modify}
 use Rattle.repo_api.specs.declared.change.Change.{Change}
 use Rattle.repo_api.specs.declared.change.Source.{Source}
 use Rattle.repo_api.specs.declared.edit.EditOp.{EditOp}
-use Rattle.repo_api.specs.declared.edit.EditOp.TheVariants.{AddDirectory, Delete}
+use Rattle.repo_api.specs.declared.edit.EditOp.TheVariants.{AddDirectory, AddFile, Delete, SetProperty, RemoveProperty, SetText}
 
 abbrev pub Changes : Type 0
 Changes = PathValue → Option Change
@@ -30,6 +30,17 @@ abbrev pub after_delete : Option Change → Option Change
 after_delete None = Some (plain_change Gone None)
 after_delete (Some c) = after_delete_of c.action
 
+-- modified where nothing was changed yet
+abbrev pub or_modified : Option Change → Change
+or_modified None = plain_change Modify None
+or_modified (Some c) = c
+
+abbrev pub after_property : Option Change → Change
+after_property before = record (or_modified before) { properties = true }
+
+abbrev pub after_text : Option Change → Change
+after_text before = record (or_modified before) { text = true }
+
 -- the changes with this one at p
 abbrev pub noted : Changes → PathValue → Change → Changes
 noted cs p c q = if same_path p q then Some c else cs q
@@ -42,4 +53,8 @@ noted_delete cs p q =
 -- the changes after one edit more
 abbrev pub changes_after : Changes → EditOp → Changes
 changes_after cs (AddDirectory p) = noted cs p (after_add None (cs p))
+changes_after cs (AddFile p) = noted cs p (after_add None (cs p))
 changes_after cs (Delete p) = noted_delete cs p
+changes_after cs (SetProperty p name value) = noted cs p (after_property (cs p))
+changes_after cs (RemoveProperty p name) = noted cs p (after_property (cs p))
+changes_after cs (SetText p text) = noted cs p (after_text (cs p))

@@ -1,17 +1,21 @@
 -- The edits of a tree. Each opens `own` and `last` at its path, and `last` above it.
-use Rattle.std.specs.Prelude.{[], Some, None, option_map, if◌then◌else◌, length, drop}
+use Rattle.std.specs.Prelude.{ℕ, List, [], Some, None, option_map, if◌then◌else◌, length, drop}
 use Rattle.svnpath.specs.Paths.{PathValue, same_path, is_at_or_under}
+use Rattle.repo_api.specs.Properties.{with_property, without_property}
 use Rattle.repo_api.specs.Trees.{Tree}
 use Rattle.repo_api.specs.declared.entry.Entry.{Entry}
 use Rattle.repo_api.specs.declared.entry.Mark.TheVariants.{Open}
 use Rattle.repo_api.specs.declared.entry.Content.{Content}
-use Rattle.repo_api.specs.declared.entry.Content.TheVariants.{Directory}
+use Rattle.repo_api.specs.declared.entry.Content.TheVariants.{Directory, File}
 use Rattle.repo_api.specs.declared.edit.EditOp.{EditOp}
-use Rattle.repo_api.specs.declared.edit.EditOp.TheVariants.{AddDirectory, Delete}
+use Rattle.repo_api.specs.declared.edit.EditOp.TheVariants.{AddDirectory, AddFile, Delete, SetProperty, RemoveProperty, SetText}
 
--- the entry after a change beneath it
+-- the entry after a change beneath it, and after one of its own
 abbrev pub touched : Entry → Entry
 touched e = record e { last = Open }
+
+abbrev pub opened : Entry → Entry
+opened e = record e { own = Open; last = Open }
 
 abbrev pub new_entry : Content → Entry
 new_entry content = record { content = content; properties = []; own = Open; last = Open }
@@ -24,6 +28,19 @@ touched_above p t q = if is_at_or_under p q then option_map touched (t q) else t
 abbrev pub added : Tree → PathValue → Content → Tree
 added t p content q = if same_path p q then Some (new_entry content) else touched_above p t q
 
+-- the entry at p changed by f
+abbrev pub revised : Tree → PathValue → (Entry → Entry) → Tree
+revised t p f q = if same_path p q then option_map (λ e. opened (f e)) (t q) else touched_above p t q
+
+abbrev pub with_value : List ℕ → List ℕ → Entry → Entry
+with_value name value e = record e { properties = with_property e.properties name value }
+
+abbrev pub without_value : List ℕ → Entry → Entry
+without_value name e = record e { properties = without_property e.properties name }
+
+abbrev pub with_text : List ℕ → Entry → Entry
+with_text text e = record e { content = File text }
+
 -- at p and under it the tree `part`, whose paths begin at p
 abbrev pub grafted : Tree → PathValue → Tree → Tree
 grafted t p part q = if is_at_or_under q p then part (drop (length p) q) else touched_above p t q
@@ -35,7 +52,11 @@ deleted t p = grafted t p (λ _. None)
 -- the tree after an edit
 abbrev pub edited : Tree → EditOp → Tree
 edited t (AddDirectory p) = added t p Directory
+edited t (AddFile p) = added t p (File [])
 edited t (Delete p) = deleted t p
+edited t (SetProperty p name value) = revised t p (with_value name value)
+edited t (RemoveProperty p name) = revised t p (without_value name)
+edited t (SetText p text) = revised t p (with_text text)
 
 -- a new transaction: the youngest tree, the root's `last` open
 abbrev pub begun : Tree → Tree

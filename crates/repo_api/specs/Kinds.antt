@@ -1,9 +1,10 @@
 -- What stands at a path, seen from outside.
-use Rattle.std.specs.Prelude.{ℕ, [], Option, Some, None, slice_get}
+use Rattle.std.specs.Prelude.{ℕ, List, [], Option, Some, None, slice_get}
 use Rattle.std.specs.FinMap.{get}
 use Rattle.svnpath.specs.Paths.{PathValue}
 use Rattle.repo_api.specs.Properties.{PropertyList}
 use Rattle.repo_api.specs.States.{RepoState, TxnState, tree_at}
+use Rattle.repo_api.specs.Trees.{revision_of}
 use Rattle.repo_api.specs.declared.entry.Content.{Content}
 use Rattle.repo_api.specs.declared.entry.Content.TheVariants.{Directory, File}
 use Rattle.repo_api.specs.declared.entry.Entry.{Entry}
@@ -25,6 +26,26 @@ kind_at c n p = kind_of (get (tree_at c n) p)
 -- what stands at a path of a transaction
 abbrev pub kind_in : TxnState → PathValue → NodeKind
 kind_in t p = kind_of (get t.tree p)
+
+abbrev pub created_of : Option Entry → Option ℕ
+created_of None = None
+created_of (Some e) = revision_of e.last
+
+-- the revision that last changed what stands at a path of a transaction, none where the transaction has
+abbrev pub created_in : TxnState → PathValue → Option ℕ
+created_in t p = created_of (get t.tree p)
+
+abbrev pub content_text : Content → Option (List ℕ)
+content_text Directory = None
+content_text (File text) = Some text
+
+abbrev pub text_of : Option Entry → Option (List ℕ)
+text_of None = None
+text_of (Some e) = content_text e.content
+
+-- the text of the file at a path of a transaction
+abbrev pub text_in : TxnState → PathValue → Option (List ℕ)
+text_in t p = text_of (get t.tree p)
 
 abbrev pub or_empty : Option PropertyList → PropertyList
 or_empty None = []

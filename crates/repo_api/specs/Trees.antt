@@ -1,5 +1,5 @@
 -- Trees: what stands at each path.
-use Rattle.std.specs.Prelude.{◌==◌, ℕ, Bool, true, false, ◌&&◌, List, [], ◌∷◌, ◌++◌, Option, Some, None, IsSome, IsSomeAnd, IsTrue, Contains}
+use Rattle.std.specs.Prelude.{◌≡◌, ◌==◌, ℕ, Bool, true, false, ◌&&◌, List, [], ◌∷◌, ◌++◌, Option, Some, None, IsSome, IsSomeAnd, IsTrue, Contains}
 use Rattle.svnpath.specs.Paths.{PathValue, Component, same_path}
 use Rattle.repo_api.specs.declared.entry.Entry.{Entry}
 use Rattle.repo_api.specs.declared.entry.Mark.{Mark}
@@ -20,6 +20,9 @@ is_directory e = is_directory_content e.content
 
 abbrev pub HasDirectory : Tree → PathValue → Type 0
 HasDirectory t p = IsSomeAnd (t p) (λ e. IsTrue (is_directory e))
+
+abbrev pub HasFile : Tree → PathValue → Type 0
+HasFile t p = IsSomeAnd (t p) (λ e. is_directory e ≡ false)
 
 -- finitely many entries; the root is a directory, and each other path's parent is one
 pub record IsTree (t : Tree) : Type 0 where

@@ -1,11 +1,19 @@
 //! The edits of a transaction.
-use svnpath::Path;
+use svnpath::{Bytes, Path};
 
 /// One edit of a transaction's tree.
 #[derive(Debug, Drop)]
 pub enum EditOp {
     /// Adds an empty directory at the path.
     AddDirectory(Path),
+    /// Adds an empty file at the path.
+    AddFile(Path),
     /// Takes out what stands at the path and under it.
     Delete(Path),
+    /// Sets the property of this name at the path to the value.
+    SetProperty(Path, Bytes, Bytes),
+    /// Takes out the property of this name at the path.
+    RemoveProperty(Path, Bytes),
+    /// Makes this the text of the file at the path.
+    SetText(Path, Bytes),
 }

@@ -3,7 +3,7 @@ ghost use Rattle.std.specs.Prelude.{◌≡◌, ◌<◌, length, IfOk, OnOk, OnEr
 ghost use Rattle.repo_api.specs.States.{RepoState, TxnState, IsBeginning, IsBegun, IsEdited, youngest};
 ghost use Rattle.repo_api.specs.Commits.{commit_refusal, committed};
 ghost use Rattle.repo_api.specs.Accepted.{IfRefused, IsOfMemory};
-ghost use Rattle.repo_api.specs.Kinds.{kind_at, kind_in};
+ghost use Rattle.repo_api.specs.Kinds.{kind_at, kind_in, created_in, text_in};
 
 use crate::ask::CommitAsk;
 use crate::edit::EditOp;
@@ -11,7 +11,7 @@ use crate::entry::NodeKind;
 use crate::fault::ChangeFault;
 use crate::properties::Properties;
 use std::alloc::AllocError;
-use svnpath::Path;
+use svnpath::{Bytes, Path};
 
 /// A repository, by what it contains, however that is kept. A call that is refused, or that lacks
 /// memory, changes nothing.
@@ -53,6 +53,17 @@ pub trait Repository: Drop {
     fn kind_in(&self, txn: &Self::Txn, path: &Path) -> NodeKind
         requires { IsBeginning (txn_state txn.now).shown (content self.now).revisions }
         ensures { result ≡ kind_in (txn_state txn.now) path.now };
+
+    /// The revision that last changed what stands at a path of a transaction, at or under it: `None` where
+    /// nothing stands, and where the transaction itself has changed it.
+    fn created_in(&self, txn: &Self::Txn, path: &Path) -> Option<u64>
+        requires { IsBeginning (txn_state txn.now).shown (content self.now).revisions }
+        ensures { result ≡ created_in (txn_state txn.now) path.now };
+
+    /// The text of the file at a path of a transaction, `None` where no file stands.
+    fn text_in<'a>(&'a self, txn: &'a Self::Txn, path: &Path) -> Option<&'a Bytes>
+        requires { IsBeginning (txn_state txn.now).shown (content self.now).revisions }
+        ensures { option_copied result ≡ text_in (txn_state txn.now) path.now };
 
     /// Makes an edit in a transaction, which was last shown a repository whose revisions begin this one's.
     fn edit(&self, txn: &mut Self::Txn, op: &EditOp) -> Result<(), AllocError>

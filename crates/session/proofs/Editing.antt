@@ -1,34 +1,30 @@
 -- An item within an edit is served once its step is made.
-use Rattle.std.proofs.Common.{◌≡◌, ℕ, List, [], ◌∷◌, ◌++◌, Bool, Option, Some, None, refl, sym, ap, subst, ◌∙◌, ◌⊎◌, inl, inr}
-use Rattle.std.specs.Prelude.{Result, Ok, Err, IsTrue}
-use Rattle.dates.specs.Dates.{IsDateText}
+use Rattle.std.proofs.Common.{◌≡◌, ℕ, List, Bool, Option, Some, None, refl, sym, ap, ◌∙◌}
+use Rattle.std.specs.Prelude.{Result, Ok, Err}
 use Rattle.items.specs.Tree.{Tree}
 use Rattle.refusals.specs.declared.Refusal.{Refusal}
 use Rattle.repo_api.specs.States.{RepoState, TxnState}
 use Rattle.repo_api.specs.Commits.{commit_refusal}
 use Rattle.repo_api.specs.Accepted.{Accepted}
-use Rattle.repo_api.specs.Accepted.Accepted.{Commits}
-use Rattle.repo_api.specs.declared.ask.CommitAsk.{CommitAsk}
 use Rattle.edit_commands.specs.Editing.{editor_command}
 use Rattle.edit_commands.specs.declared.editing.EditorCommand.{EditorCommand}
-use Rattle.edit_commands.specs.declared.editing.EditorCommand.TheVariants.{OpenRoot, AddDirectory, OpenDirectory, CloseDirectory, CloseEdit, AbortEdit}
-use Rattle.edit_commands.specs.declared.editing.AddedEntry.{AddedEntry}
-use Rattle.edit_commands.specs.declared.editing.OpenedEntry.{OpenedEntry}
 use Rattle.forms.specs.declared.fault.CommandFault.{CommandFault}
 use Rattle.forms.specs.declared.fault.CommandFault.TheVariants.{UnknownName, BadParameters, NoMemory}
-use Rattle.replies.specs.declared.reply.Reply.{Reply}
-use Rattle.replies.specs.declared.reply.Reply.TheVariants as replies
-use Rattle.editor.specs.Editor.{EditState, edit_refusal, finished, Applies}
+use Rattle.editor.specs.Edits.{EditState}
+use Rattle.editor.specs.Refusing.{edit_refusal}
+use Rattle.editor.specs.Editor.{finished}
 use Rattle.machine.specs.Points.{Point, world}
 use Rattle.machine.specs.Settings.{Settings}
 use Rattle.machine.specs.Stages.{Stage}
 use Rattle.machine.specs.Hearing.Input.{Whole}
-use Rattle.machine.specs.Machine.{Verdict, Answer, Edits, EditStep, CommitStep, CloseStep, EditingStep, commit_answer, commit_ask, says, gives_up, print}
+use Rattle.machine.specs.Machine.{Verdict, Answer, Edits, CommitStep, CloseStep, CommandStep, EditingStep, ending_of, commit_answer}
 use Rattle.machine.specs.Machine.Verdict.{Went, Failed, Halts}
-use Rattle.machine.specs.Access.{Happens, Made, Misses, Served, Fails, IsHalt}
+use Rattle.machine.specs.Access.{Made, Misses, Served, Fails}
 use Rattle.machine.specs.declared.asked.Asked.{Asked}
 use Rattle.machine.specs.declared.env.Env.{Env}
-use Rattle.machine.specs.declared.phase.Phase.TheVariants.{Serving, Editing}
+use Rattle.machine.specs.declared.ending.Ending.{Ending}
+use Rattle.machine.specs.declared.ending.Ending.TheVariants.{Commits, GivesUp}
+use Rattle.machine.specs.declared.phase.Phase.TheVariants.{Editing}
 use Rattle.machine.specs.declared.phase.Client.{Client}
 
 -- ---- they use no word
@@ -53,14 +49,15 @@ closing_env : (may : Verdict → Bool) (env : Env) (c : RepoState) (client : Cli
 closing_env may env c client asked (Ok t) a step = committing_env may env c client asked t (commit_refusal c t) a step
 closing_env may env c client asked (Err r) a step = ap (λ (x : Answer). x.env) step
 
+command_env : (may : Verdict → Bool) (env : Env) (c : RepoState) (client : Client) (asked : Asked) (edit : EditState) (command : EditorCommand) (ending : Option Ending) (a : Answer)
+    → CommandStep may env c client asked edit command ending a → a.env ≡ env
+command_env may env c client asked edit command None a step = edits_env env c client asked edit command (edit_refusal c edit command) a step
+command_env may env c client asked edit command (Some Commits) a step = closing_env may env c client asked (finished edit) a step
+command_env may env c client asked edit command (Some GivesUp) a step = ap (λ (x : Answer). x.env) step
+
 editing_env : (may : Verdict → Bool) (env : Env) (c : RepoState) (client : Client) (asked : Asked) (edit : EditState) (r : Result EditorCommand CommandFault) (a : Answer)
     → EditingStep may env c client asked edit r a → a.env ≡ env
-editing_env may env c client asked edit (Ok (OpenRoot revision token)) a step = edits_env env c client asked edit (OpenRoot revision token) (edit_refusal c edit (OpenRoot revision token)) a step
-editing_env may env c client asked edit (Ok (AddDirectory entry)) a step = edits_env env c client asked edit (AddDirectory entry) (edit_refusal c edit (AddDirectory entry)) a step
-editing_env may env c client asked edit (Ok (OpenDirectory entry)) a step = edits_env env c client asked edit (OpenDirectory entry) (edit_refusal c edit (OpenDirectory entry)) a step
-editing_env may env c client asked edit (Ok (CloseDirectory token)) a step = edits_env env c client asked edit (CloseDirectory token) (edit_refusal c edit (CloseDirectory token)) a step
-editing_env may env c client asked edit (Ok CloseEdit) a step = closing_env may env c client asked (finished edit) a step
-editing_env may env c client asked edit (Ok AbortEdit) a step = ap (λ (x : Answer). x.env) step
+editing_env may env c client asked edit (Ok command) a step = command_env may env c client asked edit command (ending_of command) a step
 editing_env may env c client asked edit (Err UnknownName) a step = ap (λ (x : Answer). x.env) step
 editing_env may env c client asked edit (Err BadParameters) a step = ap (λ (x : Answer). x.env) step
 editing_env may env c client asked edit (Err NoMemory) a step = ap (λ (x : Answer). x.env) step

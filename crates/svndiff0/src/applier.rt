@@ -86,6 +86,21 @@ impl Applier {
         }
     }
 
+    /// The text of the document that was fed, where it ends here. More may be fed afterwards.
+    ///
+    /// # Errors
+    ///
+    /// The rule that the document breaks; `Truncated` where it ends within its header or a window.
+    pub fn text(&self) -> Result<&[u8], DiffFault>
+        ensures { MatchResult result (λ text. outcome self.now.reading ≡ Ok text.now) (λ f. outcome self.now.reading ≡ Err f) }
+    {
+        match self.stage {
+            Stage::Broken(fault) => Err(fault),
+            Stage::Windows if self.rest.is_empty() => Ok(self.text.as_slice()),
+            _ => Err(DiffFault::Truncated),
+        }
+    }
+
     /// The text of the document that was fed, which ends here.
     ///
     /// # Errors

@@ -1,27 +1,31 @@
-use Rattle.std.proofs.Common.{[], ◌∷◌, Ok, refl}
+use Rattle.std.proofs.Common.{[], ◌∷◌, ◌≡◌, Ok, Some, None, refl, sym, ap, ◌∙◌}
 use Rattle.std.proofs.lemmas.Result.{err_from_is_err_and}
 use Rattle.replies.specs.declared.reply.Reply.TheVariants as replies
-use Rattle.machine.specs.Machine.{EditStep, EditingStep}
+use Rattle.machine.specs.Machine.{EditingStep, ending_of}
+use Rattle.machine.specs.declared.ending.Ending.TheVariants.{Commits, GivesUp}
 use Rattle.machine.specs.declared.phase.Phase.TheVariants.{Serving}
-use Rattle.edit_commands.specs.declared.editing.EditorCommand.TheVariants.{AbortEdit}
-use Rattle.committing.proofs.Edits.{made, made_as, edits_step}
+use Rattle.committing.proofs.Edits.{made}
 use Rattle.committing.proofs.edit.obey.Goals as goal
 
-pub returns-in_ok-phase-in-CloseEdit-clause-ok : goal.returns-in_ok-phase-in-CloseEdit-clause-ok
-returns-in_ok-phase-in-CloseEdit-clause-ok g c = rw c.in-CloseEdit.is c.in_ok-phase-in-CloseEdit.ensures.ok
-
-pub returns-in_err-phase-in-CloseEdit-clause-err : goal.returns-in_err-phase-in-CloseEdit-clause-err
-returns-in_err-phase-in-CloseEdit-clause-err g c =
+pub returns-in_err-phase-in-Some-Commits-clause-err : goal.returns-in_err-phase-in-Some-Commits-clause-err
+returns-in_err-phase-in-Some-Commits-clause-err g c =
     let p = err_from_is_err_and c.from_residual.result c.from_residual.ensures.1 in
-    rw (p.1) (rw c.in-CloseEdit.is c.in_err-phase-in-CloseEdit.ensures.err)
+    let is : ending_of c.args.command.now ≡ Some Commits = sym c.ending_of.ensures ∙ c.in-Some-Commits.is ∙ ap Some c.in-Some-Commits.field-0-is in
+    rw (p.1) (rw is c.in_err-phase-in-Some-Commits.ensures.err)
 
-pub returns-in_ok-say-in-AbortEdit-clause-ok : goal.returns-in_ok-say-in-AbortEdit-clause-ok
-returns-in_ok-say-in-AbortEdit-clause-ok g c =
+pub returns-in_ok-phase-in-Some-Commits-clause-ok : goal.returns-in_ok-phase-in-Some-Commits-clause-ok
+returns-in_ok-phase-in-Some-Commits-clause-ok g c =
+    let is : ending_of c.args.command.now ≡ Some Commits = sym c.ending_of.ensures ∙ c.in-Some-Commits.is ∙ ap Some c.in-Some-Commits.field-0-is in
+    rw is c.in_ok-phase-in-Some-Commits.ensures.ok
+
+pub returns-in_ok-say-in-Some-GivesUp-clause-ok : goal.returns-in_ok-say-in-Some-GivesUp-clause-ok
+returns-in_ok-say-in-Some-GivesUp-clause-ok g c =
     let now = g.A.RepoAccess.point c.args.access.now in
-    rw c.in-AbortEdit.is (made g.A.RepoAccess.between g.A.RepoAccess.adds (λ w a. EditingStep g.A.RepoAccess.may c.args.env w c.args.client c.args.asked c.args.editor (Ok AbortEdit) a) now now c.args.env (Serving c.args.client) (replies.Success ∷ []) _ _
-    (g.met.A.RepoAccess.stays now) refl c.in_ok-say-in-AbortEdit.ensures)
+    let is : ending_of c.args.command.now ≡ Some GivesUp = sym c.ending_of.ensures ∙ c.in-Some-GivesUp.is ∙ ap Some c.in-Some-GivesUp.field-0-is in
+    made g.A.RepoAccess.between g.A.RepoAccess.adds (λ w a. EditingStep g.A.RepoAccess.may c.args.env w c.args.client c.args.asked c.args.editor (Ok c.args.command.now) a) now now c.args.env (Serving c.args.client) (replies.Success ∷ []) _ _
+    (g.met.A.RepoAccess.stays now) (rw is refl) c.in_ok-say-in-Some-GivesUp.ensures
 
-pub returns-in_ok-phase-in-OpenRoot-clause-ok : goal.returns-in_ok-phase-in-OpenRoot-clause-ok
-returns-in_ok-phase-in-OpenRoot-clause-ok g c =
-    made_as g.A.RepoAccess.between g.A.RepoAccess.adds (λ w a. EditStep c.args.env w c.args.client c.args.asked c.args.editor c.args.command.now a) (λ w a. EditingStep g.A.RepoAccess.may c.args.env w c.args.client c.args.asked c.args.editor (Ok c.args.command.now) a)
-    (λ w a. edits_step g.A.RepoAccess.may c.args.env w c.args.client c.args.asked c.args.editor c.args.command.now a c.in-OpenRoot.is) _ _ _ _ _ c.in_ok-phase-in-OpenRoot.ensures.ok
+pub returns-in_ok-phase-in-None-clause-ok : goal.returns-in_ok-phase-in-None-clause-ok
+returns-in_ok-phase-in-None-clause-ok g c =
+    let is : ending_of c.args.command.now ≡ None = sym c.ending_of.ensures ∙ c.in-None.is in
+    rw is c.in_ok-phase-in-None.ensures.ok

@@ -3,5 +3,5 @@ use Rattle.editor.proofs.editor.CommitEditor.open_root.Goals as goal
 
 pub returns-clause-ok : goal.returns-clause-ok
 returns-clause-ok g c =
-    opens (g.R.Repository.content c.args.repository.now) _ c.args.self.now c.args.token.now _ _ _ _ c.self.view_is
+    opens (g.R.Repository.content c.args.repository.now) _ c.args.self.now c.args.revision c.args.token.now _ _ _ _ c.self.view_is
     c.in_ok-token.ensures c.in_ok-path.ensures.cases c.in_ok-txn.ensures c.in_ok-insert.ensures.entries

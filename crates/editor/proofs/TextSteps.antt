@@ -1,0 +1,67 @@
+-- The steps of a text delta.
+use Rattle.std.proofs.Common.{◌≡◌, ℕ, List, [], Option, Some, None, Ok, sym, ap, subst, ◌∙◌}
+use Rattle.std.proofs.lemmas.Map.Steps.{set_value_same}
+use Rattle.std.specs.Prelude.{Bool, Result, Err, IfErr}
+use Rattle.std.specs.Map.{lookup, set_value}
+use Rattle.svnpath.specs.Paths.{PathValue}
+use Rattle.svndiff0.specs.Applying.{Applying}
+use Rattle.svndiff0.specs.Document.{read, outcome}
+use Rattle.repo_api.specs.States.{RepoState, TxnState}
+use Rattle.repo_api.specs.declared.edit.EditOp.{EditOp}
+use Rattle.repo_api.specs.declared.edit.EditOp.TheVariants as edits
+use Rattle.editor.specs.declared.opened.Opened.{Opened}
+use Rattle.editor.specs.declared.opened.Opened.TheVariants.{File}
+use Rattle.editor.specs.declared.opened.Delta.TheVariants.{Untouched, Reading, Made}
+use Rattle.editor.specs.Tokens.{Tokens, opened_under, with_change}
+use Rattle.editor.specs.Edits.{EditState, file_text, open_in}
+use Rattle.editor.specs.Refusing.{opened}
+use Rattle.editor.specs.Editor.{Edits, BeginsDelta, EndsDelta, unread}
+use Rattle.editor.specs.Judging.{IfNoMemory}
+use Rattle.editor.specs.declared.fault.EditFault.{EditFault}
+use Rattle.editor.specs.declared.fault.EditFault.TheVariants as faults
+use Rattle.editor.proofs.Steps.{reopened}
+
+-- what is open in a transaction is open
+pub under : (txn : Option TxnState) (tokens : Tokens) (token : List ℕ) (o : Opened) → open_in txn tokens token ≡ Some o → opened_under tokens token ≡ Some o
+under None tokens token o is = cc
+under (Some t) tokens token o is = is
+
+pub is_unread : (a : Applying) (text : List ℕ) → a.base ≡ text → a.reading ≡ read a.base [] → a ≡ unread text
+is_unread a text is_base is_read =
+    let is_reading : a.reading ≡ read text [] = is_read ∙ ap (λ (b : List ℕ). read b []) is_base in
+    λ i. record { base = is_base i; reading = is_reading i }
+
+pub begins : (now old : EditState) (token key : List ℕ) (p : PathValue) (a : Applying) (tokens : Tokens) → now ≡ old → key ≡ token → opened old key ≡ Some (File p Untouched)
+    → (opened_under now.tokens key ≡ Some (File p Untouched) → tokens ≡ with_change now.tokens key (File p (Reading a))) → a ≡ unread (file_text old p)
+    → BeginsDelta old token (record now { tokens = tokens })
+begins now old token key p a tokens same is_key is change is_new =
+    subst (λ (o : EditState). opened o key ≡ Some (File p Untouched) → a ≡ unread (file_text o p) → BeginsDelta o token (record now { tokens = tokens })) same here is is_new
+  where
+    here : opened now key ≡ Some (File p Untouched) → a ≡ unread (file_text now p) → BeginsDelta now token (record now { tokens = tokens })
+    here stands fresh =
+        let is_under = under now.txn now.tokens key (File p Untouched) stands in (
+          File p Untouched,
+          ap (λ (k : List ℕ). opened_under now.tokens k) (sym is_key) ∙ is_under,
+          ap (λ (ts : Tokens). record now { tokens = ts }) (change is_under ∙ (λ i. with_change now.tokens (is_key i) (File p (Reading (fresh i))))),
+        )
+
+pub ends : (c : RepoState) (old mid now : EditState) (op : EditOp) (token key : List ℕ) (p : PathValue) (a : Applying) (text : List ℕ) (tokens : Tokens) → key ≡ token → opened old key ≡ Some (File p (Reading a))
+    → outcome a.reading ≡ Ok text → op ≡ edits.SetText p text → Edits c old op old.tokens mid → now ≡ mid
+    → (opened_under now.tokens key ≡ Some (File p (Reading a)) → tokens ≡ with_change now.tokens key (File p Made))
+    → EndsDelta c old token (record now { tokens = tokens })
+ends c old mid now op token key p a text tokens is_key is has_text is_op h same change =
+    let is_under = under old.txn old.tokens key (File p (Reading a)) is in
+    let is_tokens : now.tokens ≡ old.tokens = ap (λ (e : EditState). e.tokens) (same ∙ h.is) in
+    let changed = change (ap (λ (ts : Tokens). opened_under ts key) is_tokens ∙ is_under) in (
+      p,
+      a,
+      ap (λ (k : List ℕ). opened_under old.tokens k) (sym is_key) ∙ is_under,
+      (text, has_text, reopened c old mid now op (edits.SetText p text) old.tokens tokens (with_change old.tokens token (File p Made)) h same is_op (changed ∙ (λ i. with_change (is_tokens i) (is_key i) (File p Made)))),
+    )
+
+-- where memory was refused, what is open is as it was
+pub stays : {T X : Type 0} (result : Result T EditFault) (test : List ℕ → Bool) (es fs : List (List ℕ × X)) (old new : X) → Some old ≡ lookup test es → fs ≡ set_value test es new
+    → IfErr result (λ fault. IfNoMemory fault (new ≡ old)) → IfErr result (λ fault. IfNoMemory fault (fs ≡ es))
+stays (Ok x) test es fs old new there written kept = tt
+stays (Err (faults.Refused r)) test es fs old new there written kept = tt
+stays (Err faults.NoMemory) test es fs old new there written kept = written ∙ ap (λ (x : _). set_value test es x) kept ∙ set_value_same test es old (sym there)

@@ -1,0 +1,49 @@
+-- An edit, and what stands in its transaction.
+use Rattle.std.specs.Prelude.{ℕ, Bool, false, List, [], Option, Some, None}
+use Rattle.svnpath.specs.Paths.{PathValue}
+use Rattle.repo_api.specs.States.{TxnState}
+use Rattle.repo_api.specs.Kinds.{kind_in, created_in, text_in}
+use Rattle.repo_api.specs.declared.entry.NodeKind.{NodeKind}
+use Rattle.repo_api.specs.declared.entry.NodeKind.TheVariants as kinds
+use Rattle.editor.specs.Tokens.{Tokens, opened_under}
+use Rattle.editor.specs.declared.opened.Opened.{Opened}
+
+-- an edit: the path of its root, the repository's name, its transaction once the root is open, what is open, and
+-- whether a command was refused
+pub record EditState : Type 0 where
+  pub path : PathValue
+  pub name : List ℕ
+  pub txn : Option TxnState
+  pub tokens : Tokens
+  pub refused : Bool
+
+-- an edit that has heard nothing
+abbrev pub new_edit : PathValue → List ℕ → EditState
+new_edit path name = record { path = path; name = name; txn = None; tokens = []; refused = false }
+
+-- what stands at a path of the transaction, nothing where there is none
+abbrev pub standing : Option TxnState → PathValue → NodeKind
+standing None p = kinds.Absent
+standing (Some t) p = kind_in t p
+
+-- the revision that last changed what stands at a path, at or under it, unless the transaction has
+abbrev pub created : Option TxnState → PathValue → Option ℕ
+created None p = None
+created (Some t) p = created_in t p
+
+abbrev pub or_nothing : Option (List ℕ) → List ℕ
+or_nothing None = []
+or_nothing (Some text) = text
+
+abbrev pub text_at : Option TxnState → PathValue → List ℕ
+text_at None p = []
+text_at (Some t) p = or_nothing (text_in t p)
+
+-- the text of the file at a path
+abbrev pub file_text : EditState → PathValue → List ℕ
+file_text e p = text_at e.txn p
+
+-- what is open under a token, nothing before the root is
+abbrev pub open_in : Option TxnState → Tokens → List ℕ → Option Opened
+open_in None tokens token = None
+open_in (Some t) tokens token = opened_under tokens token

@@ -1,0 +1,242 @@
+-- Which commands of an edit are refused.
+use Rattle.std.specs.Prelude.{ℕ, Bool, true, false, not, ◌&&◌, ◌||◌, ◌==◌, nat_lt, nat_le, is_some, List, length, Option, Some, None, Result, Ok, Err, if◌then◌else◌, codes}
+use Rattle.std.specs.List.{starts_with}
+use Rattle.md5.specs.Md5.{md5}
+use Rattle.hex.specs.Hex.{encode_lower}
+use Rattle.svnpath.specs.Paths.{PathValue}
+use Rattle.svnpath.specs.Texts.{parsed, joined, starts_with_slash}
+use Rattle.svnpath.specs.Urls.{path_of_text}
+use Rattle.svnpath.specs.declared.fault.PathFault.{PathFault}
+use Rattle.refusals.specs.Refusing.{path_refusal}
+use Rattle.refusals.specs.declared.Refusal.{Refusal}
+use Rattle.refusals.specs.declared.Refusal.TheVariants as refusals
+use Rattle.repo_api.specs.States.{RepoState, TxnState, youngest}
+use Rattle.repo_api.specs.Kinds.{kind_at}
+use Rattle.repo_api.specs.declared.entry.NodeKind.{NodeKind}
+use Rattle.repo_api.specs.declared.entry.NodeKind.TheVariants as kinds
+use Rattle.svndiff0.specs.Applying.{fed}
+use Rattle.svndiff0.specs.Document.{Reading, opening, going, broken, outcome}
+use Rattle.svndiff0.specs.declared.fault.DiffFault.{DiffFault}
+use Rattle.forms.specs.Forms.{is_name}
+use Rattle.edit_commands.specs.declared.editing.EditorCommand.{EditorCommand}
+use Rattle.edit_commands.specs.declared.editing.EditorCommand.TheVariants.{TargetRevision, OpenRoot, DeleteEntry, AddDirectory, AddFile, OpenDirectory, OpenFile, AbsentDirectory, AbsentFile, ChangeDirectoryProperty, ChangeFileProperty, ApplyTextDelta, TextDeltaChunk, TextDeltaEnd, CloseDirectory, CloseFile, CloseEdit, AbortEdit}
+use Rattle.edit_commands.specs.declared.editing.AddedEntry.{AddedEntry}
+use Rattle.edit_commands.specs.declared.editing.OpenedEntry.{OpenedEntry}
+use Rattle.edit_commands.specs.declared.editing.DeletedEntry.{DeletedEntry}
+use Rattle.edit_commands.specs.declared.editing.AbsentEntry.{AbsentEntry}
+use Rattle.editor.specs.Tokens.{directory_of, is_within, is_placed}
+use Rattle.editor.specs.Edits.{EditState, standing, created, file_text, open_in}
+use Rattle.editor.specs.declared.opened.Opened.{Opened}
+use Rattle.editor.specs.declared.opened.Opened.TheVariants.{Directory, File}
+use Rattle.editor.specs.declared.opened.Delta.{Delta}
+use Rattle.editor.specs.declared.opened.Delta.TheVariants as deltas
+
+-- the first refusal, if there is one
+abbrev pub first : Option Refusal → Option Refusal → Option Refusal
+first None later = later
+first (Some r) later = Some r
+
+-- what does not hold is refused so
+abbrev pub unless : Bool → Refusal → Option Refusal
+unless true r = None
+unless false r = Some r
+
+-- ---- by what stands there
+
+abbrev pub directory_refusal : NodeKind → Option Refusal
+directory_refusal kinds.Directory = None
+directory_refusal kinds.File = Some refusals.NotADirectory
+directory_refusal kinds.Absent = Some refusals.NotFound
+
+abbrev pub add_refusal : NodeKind → Option Refusal
+add_refusal kinds.Absent = None
+add_refusal kinds.File = Some refusals.AlreadyExists
+add_refusal kinds.Directory = Some refusals.AlreadyExists
+
+abbrev pub is_below : Option ℕ → Option ℕ → Bool
+is_below None made = false
+is_below (Some revision) None = false
+is_below (Some revision) (Some made) = nat_lt revision made
+
+-- the revision that the client has is below the one in which the entry was last changed
+abbrev pub age_refusal : Option ℕ → Option ℕ → Option Refusal
+age_refusal revision made = unless (not (is_below revision made)) refusals.OutOfDate
+
+abbrev pub file_refusal : NodeKind → Option Refusal → Option Refusal
+file_refusal kinds.Absent age = Some refusals.NotFound
+file_refusal kinds.File age = age
+file_refusal kinds.Directory age = first age (Some refusals.NotAFile)
+
+abbrev pub delete_refusal : NodeKind → Option Refusal → Option Refusal
+delete_refusal kinds.Absent age = Some refusals.OutOfDate
+delete_refusal kinds.File age = age
+delete_refusal kinds.Directory age = age
+
+-- ---- by the tokens
+
+-- the root is open, the token is new, and the path is one name beneath its parent's directory
+abbrev pub place_refusal : EditState → List ℕ → List ℕ → PathValue → Option Refusal
+place_refusal e parent token p = unless (is_some e.txn && is_placed e.tokens parent token p) refusals.MalformedData
+
+-- the root is open, and the path is one name beneath its parent's directory
+abbrev pub parent_refusal : EditState → List ℕ → PathValue → Option Refusal
+parent_refusal e parent p = unless (is_some e.txn && is_within (directory_of e.tokens parent) p) refusals.MalformedData
+
+abbrev pub opened : EditState → List ℕ → Option Opened
+opened e token = open_in e.txn e.tokens token
+
+-- ---- by paths
+
+-- the path of a copy's source: a URL, or a path with a slash in front
+abbrev pub source_path : List ℕ → List ℕ → Result PathValue PathFault
+source_path name text = if starts_with_slash text then parsed text else path_of_text text name
+
+abbrev pub path_fault : Result PathValue PathFault → Option Refusal
+path_fault (Ok p) = None
+path_fault (Err fault) = Some (path_refusal fault)
+
+abbrev pub source_fault : List ℕ → Option (List ℕ × ℕ) → Option Refusal
+source_fault name None = None
+source_fault name (Some source) = path_fault (source_path name source.0)
+
+-- copies are not made yet
+abbrev pub copy_refusal : Option (List ℕ × ℕ) → Option Refusal
+copy_refusal None = None
+copy_refusal (Some source) = Some refusals.NotSupported
+
+-- ---- by properties and texts
+
+-- the names that belong to clients and to this protocol
+abbrev pub is_reserved : List ℕ → Bool
+is_reserved name = starts_with ◌==◌ name (codes "svn:entry:") || starts_with ◌==◌ name (codes "svn:wc:")
+
+-- a property's name has 1 to 255 bytes
+abbrev pub is_property_name : List ℕ → Bool
+is_property_name name = nat_lt 0 (length name) && nat_le (length name) 255
+
+abbrev pub may_be_named : List ℕ → Bool
+may_be_named name = is_property_name name && not (is_reserved name)
+
+abbrev pub name_refusal : List ℕ → Option Refusal
+name_refusal name = unless (may_be_named name) refusals.NotSupported
+
+-- a checksum is the MD5 of a text, as hexadecimal digits
+abbrev pub checksum_refusal : Option (List ℕ) → List ℕ → Option Refusal
+checksum_refusal None text = None
+checksum_refusal (Some digits) text = unless (is_name digits (encode_lower (md5 text))) refusals.ChecksumMismatch
+
+-- the document breaks a rule, whatever comes
+abbrev pub reading_refusal : Reading → Option Refusal
+reading_refusal (opening bytes) = None
+reading_refusal (going text bytes) = None
+reading_refusal (broken fault) = Some refusals.BadSvndiff
+
+-- the document has no text
+abbrev pub outcome_refusal : Result (List ℕ) DiffFault → Option Refusal
+outcome_refusal (Ok text) = None
+outcome_refusal (Err fault) = Some refusals.BadSvndiff
+
+-- ---- each command
+
+abbrev pub before_root : EditState → Option Refusal
+before_root e = unless (not (is_some e.txn)) refusals.MalformedData
+
+abbrev pub open_root_refusal : RepoState → EditState → Option Refusal
+open_root_refusal c e = first (before_root e) (directory_refusal (kind_at c (youngest c) e.path))
+
+abbrev pub delete_entry_refusal : EditState → DeletedEntry → Result PathValue PathFault → Option Refusal
+delete_entry_refusal e entry (Err fault) = Some (path_refusal fault)
+delete_entry_refusal e entry (Ok p) = first (parent_refusal e entry.parent p) (delete_refusal (standing e.txn p) (age_refusal entry.revision (created e.txn p)))
+
+-- a directory or a file
+abbrev pub add_entry_refusal : EditState → AddedEntry → Result PathValue PathFault → Option Refusal
+add_entry_refusal e entry (Err fault) = Some (path_refusal fault)
+add_entry_refusal e entry (Ok p) =
+    first (source_fault e.name entry.source) (first (place_refusal e entry.parent entry.token p)
+    (first (copy_refusal entry.source) (add_refusal (standing e.txn p))))
+
+abbrev pub open_directory_refusal : EditState → OpenedEntry → Result PathValue PathFault → Option Refusal
+open_directory_refusal e entry (Err fault) = Some (path_refusal fault)
+open_directory_refusal e entry (Ok p) = first (place_refusal e entry.parent entry.token p) (directory_refusal (standing e.txn p))
+
+abbrev pub open_file_refusal : EditState → OpenedEntry → Result PathValue PathFault → Option Refusal
+open_file_refusal e entry (Err fault) = Some (path_refusal fault)
+open_file_refusal e entry (Ok p) =
+    first (place_refusal e entry.parent entry.token p) (file_refusal (standing e.txn p) (age_refusal entry.revision (created e.txn p)))
+
+abbrev pub absent_refusal : EditState → AbsentEntry → Result PathValue PathFault → Option Refusal
+absent_refusal e entry (Err fault) = Some (path_refusal fault)
+absent_refusal e entry (Ok p) = parent_refusal e entry.parent p
+
+abbrev pub directory_property_refusal : Option TxnState → List ℕ → Option Opened → Option Refusal
+directory_property_refusal txn name (Some (Directory p revision)) = first (name_refusal name) (age_refusal revision (created txn p))
+directory_property_refusal txn name (Some (File p delta)) = Some refusals.MalformedData
+directory_property_refusal txn name None = Some refusals.MalformedData
+
+abbrev pub file_property_refusal : List ℕ → Option Opened → Option Refusal
+file_property_refusal name (Some (File p delta)) = name_refusal name
+file_property_refusal name (Some (Directory p revision)) = Some refusals.MalformedData
+file_property_refusal name None = Some refusals.MalformedData
+
+-- a file has one text delta
+abbrev pub begin_delta_refusal : EditState → Option (List ℕ) → Option Opened → Option Refusal
+begin_delta_refusal e checksum (Some (File p deltas.Untouched)) = checksum_refusal checksum (file_text e p)
+begin_delta_refusal e checksum (Some (File p (deltas.Reading a))) = Some refusals.MalformedData
+begin_delta_refusal e checksum (Some (File p deltas.Made)) = Some refusals.MalformedData
+begin_delta_refusal e checksum (Some (Directory p revision)) = Some refusals.MalformedData
+begin_delta_refusal e checksum None = Some refusals.MalformedData
+
+abbrev pub chunk_refusal : List ℕ → Option Opened → Option Refusal
+chunk_refusal bytes (Some (File p (deltas.Reading a))) = reading_refusal (fed a bytes).reading
+chunk_refusal bytes (Some (File p deltas.Untouched)) = Some refusals.MalformedData
+chunk_refusal bytes (Some (File p deltas.Made)) = Some refusals.MalformedData
+chunk_refusal bytes (Some (Directory p revision)) = Some refusals.MalformedData
+chunk_refusal bytes None = Some refusals.MalformedData
+
+abbrev pub end_delta_refusal : Option Opened → Option Refusal
+end_delta_refusal (Some (File p (deltas.Reading a))) = outcome_refusal (outcome a.reading)
+end_delta_refusal (Some (File p deltas.Untouched)) = Some refusals.MalformedData
+end_delta_refusal (Some (File p deltas.Made)) = Some refusals.MalformedData
+end_delta_refusal (Some (Directory p revision)) = Some refusals.MalformedData
+end_delta_refusal None = Some refusals.MalformedData
+
+abbrev pub close_directory_refusal : Option Opened → Option Refusal
+close_directory_refusal (Some (Directory p revision)) = None
+close_directory_refusal (Some (File p delta)) = Some refusals.MalformedData
+close_directory_refusal None = Some refusals.MalformedData
+
+-- its text delta has ended, and its text has this checksum
+abbrev pub closed_text_refusal : EditState → Option (List ℕ) → PathValue → Delta → Option Refusal
+closed_text_refusal e checksum p (deltas.Reading a) = Some refusals.MalformedData
+closed_text_refusal e checksum p deltas.Untouched = checksum_refusal checksum (file_text e p)
+closed_text_refusal e checksum p deltas.Made = checksum_refusal checksum (file_text e p)
+
+abbrev pub close_file_refusal : EditState → Option (List ℕ) → Option Opened → Option Refusal
+close_file_refusal e checksum (Some (File p delta)) = closed_text_refusal e checksum p delta
+close_file_refusal e checksum (Some (Directory p revision)) = Some refusals.MalformedData
+close_file_refusal e checksum None = Some refusals.MalformedData
+
+abbrev pub command_refusal : RepoState → EditState → EditorCommand → Option Refusal
+command_refusal c e (TargetRevision revision) = before_root e
+command_refusal c e (OpenRoot revision token) = open_root_refusal c e
+command_refusal c e (DeleteEntry entry) = delete_entry_refusal e entry (joined e.path entry.path)
+command_refusal c e (AddDirectory entry) = add_entry_refusal e entry (joined e.path entry.path)
+command_refusal c e (AddFile entry) = add_entry_refusal e entry (joined e.path entry.path)
+command_refusal c e (OpenDirectory entry) = open_directory_refusal e entry (joined e.path entry.path)
+command_refusal c e (OpenFile entry) = open_file_refusal e entry (joined e.path entry.path)
+command_refusal c e (AbsentDirectory entry) = absent_refusal e entry (joined e.path entry.path)
+command_refusal c e (AbsentFile entry) = absent_refusal e entry (joined e.path entry.path)
+command_refusal c e (ChangeDirectoryProperty change) = directory_property_refusal e.txn change.name (opened e change.token)
+command_refusal c e (ChangeFileProperty change) = file_property_refusal change.name (opened e change.token)
+command_refusal c e (ApplyTextDelta token checksum) = begin_delta_refusal e checksum (opened e token)
+command_refusal c e (TextDeltaChunk token bytes) = chunk_refusal bytes (opened e token)
+command_refusal c e (TextDeltaEnd token) = end_delta_refusal (opened e token)
+command_refusal c e (CloseDirectory token) = close_directory_refusal (opened e token)
+command_refusal c e (CloseFile token checksum) = close_file_refusal e checksum (opened e token)
+-- these end an edit, and are not the editor's
+command_refusal c e CloseEdit = Some refusals.MalformedData
+command_refusal c e AbortEdit = Some refusals.MalformedData
+
+-- why a command is refused, if it is; after a refusal each is
+abbrev pub edit_refusal : RepoState → EditState → EditorCommand → Option Refusal
+edit_refusal c e command = if e.refused then Some refusals.EditAborted else command_refusal c e command

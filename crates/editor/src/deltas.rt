@@ -1,0 +1,208 @@
+//! Texts of files.
+ghost use Rattle.std.specs.Prelude.{◌≡◌, Some, OnOk, OnErr, IfOk, IfErr, List, ℕ, Ok, is_some, true};
+ghost use Rattle.svnpath.specs.Paths.{PathValue};
+ghost use Rattle.svndiff0.specs.Applying.{Applying};
+ghost use Rattle.svndiff0.specs.Document.{outcome};
+ghost use Rattle.repo_api.specs.declared.edit.EditOp.TheVariants as edits;
+ghost use Rattle.editor.specs.Edits.{file_text};
+ghost use Rattle.editor.specs.Refusing.{begin_delta_refusal, checksum_refusal, chunk_refusal, end_delta_refusal, outcome_refusal, close_file_refusal, closed_text_refusal, opened};
+ghost use Rattle.editor.specs.Tokens.{opened_under, with_change, path_of};
+ghost use Rattle.editor.specs.Editor.{BeginsDelta, FeedsDelta, EndsDelta, Closes, ReadsUnder, Under, unread, RestsOn};
+ghost use Rattle.editor.specs.Judging.{Judges, Leaves};
+ghost use Rattle.editor.specs.declared.opened.Opened.TheVariants.{File};
+ghost use Rattle.editor.specs.declared.opened.Delta.TheVariants as deltas;
+
+use crate::checksums::judge_checksum;
+use crate::editor::CommitEditor;
+use crate::fault::EditFault;
+use crate::opened::{Delta, Opened};
+use crate::tokens::{feed_under, set_delta};
+use items::Text;
+use refusals::Refusal;
+use repo_api::{EditOp, Repository};
+use std::alloc::AllocError;
+use svndiff0::Applier;
+use svnpath::{Bytes, Path};
+
+impl<R: Repository> CommitEditor<R> {
+    /// Begins a text delta over a file's text.
+    pub(crate) fn begin_delta(
+        &mut self,
+        token: &Text,
+        checksum: &Option<Text>,
+        repository: &R,
+    ) -> Result<(), EditFault>
+        requires { RestsOn self.old (R.content repository.now) }
+        ensures judged { Judges result (begin_delta_refusal self.old checksum.now (opened self.old token.now)) }
+        ensures ok { OnOk result (BeginsDelta self.old token.now self.new) }
+        ensures err { OnErr result (self.new ≡ self.old) }
+    {
+        let token = self.copied(token)?;
+        let base = self.base_under(&token, checksum, repository)?;
+        set_delta(
+            &mut self.tokens,
+            &token,
+            Delta::Reading(Applier::new(self.alloc, base)),
+        );
+        Ok(())
+    }
+
+    /// The text over which a delta may begin.
+    fn base_under(
+        &self,
+        token: &Bytes,
+        checksum: &Option<Text>,
+        repository: &R,
+    ) -> Result<Vec<u8>, EditFault>
+        requires { RestsOn self.now (R.content repository.now) }
+        ensures judged { Judges result (begin_delta_refusal self.now checksum.now (opened self.now token.now)) }
+        ensures base { IfOk result (λ base. (p : PathValue) × (opened self.now token.now ≡ Some (File p deltas.Untouched)) × (base.items ≡ file_text self.now p)) }
+    {
+        match self.open_under(token) {
+            Some(Opened::File(path, Delta::Untouched)) => {
+                let base = self.text_copy(path, repository)?;
+                judge_checksum(self.alloc, checksum, base.as_slice())?;
+                Ok(base)
+            }
+            Some(Opened::File(_, Delta::Reading(_))) => {
+                Err(EditFault::Refused(Refusal::MalformedData))
+            }
+            Some(Opened::File(_, Delta::Made)) => Err(EditFault::Refused(Refusal::MalformedData)),
+            Some(Opened::Directory(_, _)) => Err(EditFault::Refused(Refusal::MalformedData)),
+            None => Err(EditFault::Refused(Refusal::MalformedData)),
+        }
+    }
+
+    /// Reads the next bytes of a text delta.
+    pub(crate) fn feed_delta(&mut self, token: &Text, bytes: &Text) -> Result<(), EditFault>
+        ensures judged { Judges result (chunk_refusal bytes.now (opened self.old token.now)) }
+        ensures ok { OnOk result (FeedsDelta self.old token.now bytes.now self.new) }
+        ensures err { IfErr result (λ fault. Leaves self.old fault self.new) }
+    {
+        let token = self.copied(token)?;
+        if self.txn.is_none() {
+            return Err(EditFault::Refused(Refusal::MalformedData));
+        }
+        feed_under(&mut self.tokens, &token, bytes.as_bytes())
+    }
+
+    /// Ends a text delta: its text is the file's.
+    pub(crate) fn end_delta(&mut self, token: &Text, repository: &R) -> Result<(), EditFault>
+        requires { RestsOn self.old (R.content repository.now) }
+        ensures judged { Judges result (end_delta_refusal (opened self.old token.now)) }
+        ensures ok { OnOk result (EndsDelta (R.content repository.now) self.old token.now self.new) }
+        ensures err { OnErr result (self.new ≡ self.old) }
+    {
+        let token = self.copied(token)?;
+        let op = self.text_edit(&token)?;
+        self.edit(&op, repository)?;
+        set_delta(&mut self.tokens, &token, Delta::Made);
+        Ok(())
+    }
+
+    /// The edit of a text by the delta that is being read under the token.
+    fn text_edit(&self, token: &Bytes) -> Result<EditOp, EditFault>
+        ensures judged { Judges result (end_delta_refusal (opened self.now token.now)) }
+        ensures op { IfOk result (λ op. (p : PathValue) × (a : Applying) × (opened self.now token.now ≡ Some (File p (deltas.Reading a))) × ((text : List ℕ) × (outcome a.reading ≡ Ok text) × (op ≡ edits.SetText p text))) }
+    {
+        match self.open_under(token) {
+            Some(Opened::File(path, Delta::Reading(applier))) => {
+                let op = self.text_edit_of(path, applier)?;
+                Ok(op)
+            }
+            Some(Opened::File(_, Delta::Untouched)) => {
+                Err(EditFault::Refused(Refusal::MalformedData))
+            }
+            Some(Opened::File(_, Delta::Made)) => Err(EditFault::Refused(Refusal::MalformedData)),
+            Some(Opened::Directory(_, _)) => Err(EditFault::Refused(Refusal::MalformedData)),
+            None => Err(EditFault::Refused(Refusal::MalformedData)),
+        }
+    }
+
+    /// The edit of a text by a delta.
+    fn text_edit_of(&self, path: &Path, applier: &Applier) -> Result<EditOp, EditFault>
+        ensures judged { Judges result (outcome_refusal (outcome applier.now.reading)) }
+        ensures op { IfOk result (λ op. (text : List ℕ) × (outcome applier.now.reading ≡ Ok text) × (op ≡ edits.SetText path.now text)) }
+    {
+        match applier.text() {
+            Ok(text) => {
+                let text = Bytes::new(Vec::from_slice(self.alloc, text)?);
+                Ok(EditOp::SetText(path.clone()?, text))
+            }
+            Err(_) => Err(EditFault::Refused(Refusal::BadSvndiff)),
+        }
+    }
+
+    /// Closes a file.
+    pub(crate) fn close_file(
+        &mut self,
+        token: &Text,
+        checksum: &Option<Text>,
+        repository: &R,
+    ) -> Result<(), EditFault>
+        requires { RestsOn self.old (R.content repository.now) }
+        ensures judged { Judges result (close_file_refusal self.old checksum.now (opened self.old token.now)) }
+        ensures ok { OnOk result (Closes self.old token.now self.new) }
+        ensures err { OnErr result (self.new ≡ self.old) }
+    {
+        let token = self.copied(token)?;
+        self.judge_file_token(&token, checksum, repository)?;
+        self.tokens.remove(&token);
+        Ok(())
+    }
+
+    fn judge_file_token(
+        &self,
+        token: &Bytes,
+        checksum: &Option<Text>,
+        repository: &R,
+    ) -> Result<(), EditFault>
+        requires { RestsOn self.now (R.content repository.now) }
+        ensures { Judges result (close_file_refusal self.now checksum.now (opened self.now token.now)) }
+    {
+        match self.open_under(token) {
+            Some(Opened::File(path, delta)) => {
+                self.judge_text(path, delta, checksum, repository)?;
+                Ok(())
+            }
+            Some(Opened::Directory(_, _)) => Err(EditFault::Refused(Refusal::MalformedData)),
+            None => Err(EditFault::Refused(Refusal::MalformedData)),
+        }
+    }
+
+    fn judge_text(
+        &self,
+        path: &Path,
+        delta: &Delta,
+        checksum: &Option<Text>,
+        repository: &R,
+    ) -> Result<(), EditFault>
+        requires { RestsOn self.now (R.content repository.now) }
+        ensures { Judges result (closed_text_refusal self.now checksum.now path.now delta.now) }
+    {
+        if delta.is_reading() {
+            return Err(EditFault::Refused(Refusal::MalformedData));
+        }
+        self.judge_text_at(path, checksum, repository)?;
+        Ok(())
+    }
+
+    /// The text of the file at a path has to have this checksum, if one is named.
+    fn judge_text_at(
+        &self,
+        path: &Path,
+        checksum: &Option<Text>,
+        repository: &R,
+    ) -> Result<(), EditFault>
+        requires { RestsOn self.now (R.content repository.now) }
+        ensures { Judges result (checksum_refusal checksum.now (file_text self.now path.now)) }
+    {
+        match &self.txn {
+            None => judge_checksum(self.alloc, checksum, &[]),
+            Some(txn) => match repository.text_in(txn, path) {
+                None => judge_checksum(self.alloc, checksum, &[]),
+                Some(text) => judge_checksum(self.alloc, checksum, text.as_slice()),
+            },
+        }
+    }
+}

@@ -1,0 +1,67 @@
+//! What is open in an edit.
+ghost use Rattle.std.specs.Prelude.{◌≡◌, option_copied};
+ghost use Rattle.editor.specs.Tokens.{path_of, directory_path, is_reading_delta, is_unfinished};
+
+use svndiff0::Applier;
+use svnpath::Path;
+
+/// What has come of a file's text delta.
+#[derive(Drop)]
+pub enum Delta {
+    /// None has begun.
+    Untouched,
+    /// Its document is being read.
+    Reading(Applier),
+    /// It has ended.
+    Made,
+}
+
+/// What is open under a token.
+#[derive(Drop)]
+pub enum Opened {
+    /// A directory, with the revision that the client has of it.
+    Directory(Path, Option<u64>),
+    /// A file.
+    File(Path, Delta),
+}
+
+impl Delta {
+    /// Whether the document has not ended.
+    pub fn is_reading(&self) -> bool
+        ensures { result ≡ is_reading_delta self.now }
+    {
+        matches!(self, Delta::Reading(_))
+    }
+}
+
+impl Opened {
+    /// Where it is.
+    pub fn path(&self) -> &Path
+        ensures { result.now ≡ path_of self.now }
+    {
+        match self {
+            Opened::Directory(path, _) => path,
+            Opened::File(path, _) => path,
+        }
+    }
+
+    /// Where it is, if it is a directory.
+    pub fn directory(&self) -> Option<&Path>
+        ensures { option_copied result ≡ directory_path self.now }
+    {
+        match self {
+            Opened::Directory(path, _) => Some(path),
+            Opened::File(_, _) => None,
+        }
+    }
+
+    /// Whether it is a file whose text delta has not ended.
+    pub fn is_unfinished(&self) -> bool
+        ensures { result ≡ is_unfinished self.now }
+    {
+        match self {
+            Opened::Directory(_, _) => false,
+            Opened::File(_, delta) => delta.is_reading(),
+        }
+    }
+}

@@ -1,0 +1,103 @@
+//! Properties of entries.
+ghost use Rattle.std.specs.Prelude.{◌≡◌, Some, OnOk, OnErr, IfOk, option_copied};
+ghost use Rattle.editor.specs.Refusing.{directory_property_refusal, file_property_refusal, opened};
+ghost use Rattle.editor.specs.Tokens.{path_of};
+ghost use Rattle.editor.specs.Editor.{ChangesProperty, property_edit, RestsOn};
+ghost use Rattle.editor.specs.Judging.{Judges};
+
+use crate::editor::CommitEditor;
+use crate::fault::EditFault;
+use crate::judging::{judge_age, judge_name};
+use crate::opened::Opened;
+use edit_commands::PropertyChange;
+use refusals::Refusal;
+use repo_api::{EditOp, Repository};
+use std::alloc::AllocError;
+use svnpath::{Bytes, Path};
+
+impl<R: Repository> CommitEditor<R> {
+    /// Changes a property of a directory.
+    pub(crate) fn change_directory_property(
+        &mut self,
+        change: &PropertyChange,
+        repository: &R,
+    ) -> Result<(), EditFault>
+        requires { RestsOn self.old (R.content repository.now) }
+        ensures judged { Judges result (directory_property_refusal self.old.txn change.now.name (opened self.old change.now.token)) }
+        ensures ok { OnOk result (ChangesProperty (R.content repository.now) self.old change.now self.new) }
+        ensures err { OnErr result (self.new ≡ self.old) }
+    {
+        let token = self.copied(&change.token)?;
+        let op = self.directory_property(&token, change, repository)?;
+        self.edit(&op, repository)?;
+        Ok(())
+    }
+
+    /// The edit of a property of the directory that is open under the token.
+    fn directory_property(
+        &self,
+        token: &Bytes,
+        change: &PropertyChange,
+        repository: &R,
+    ) -> Result<EditOp, EditFault>
+        requires { RestsOn self.now (R.content repository.now) }
+        ensures judged { Judges result (directory_property_refusal self.now.txn change.now.name (opened self.now token.now)) }
+        ensures op { IfOk result (λ op. (o : Opened) × (opened self.now token.now ≡ Some o) × (op ≡ property_edit (path_of o) change.now.name change.now.value)) }
+    {
+        match self.open_under(token) {
+            Some(Opened::Directory(path, revision)) => {
+                judge_name(change.name.as_bytes())?;
+                judge_age(*revision, self.created(path, repository))?;
+                let op = self.property_edit(path, change)?;
+                Ok(op)
+            }
+            Some(Opened::File(_, _)) => Err(EditFault::Refused(Refusal::MalformedData)),
+            None => Err(EditFault::Refused(Refusal::MalformedData)),
+        }
+    }
+
+    /// Changes a property of a file.
+    pub(crate) fn change_file_property(
+        &mut self,
+        change: &PropertyChange,
+        repository: &R,
+    ) -> Result<(), EditFault>
+        requires { RestsOn self.old (R.content repository.now) }
+        ensures judged { Judges result (file_property_refusal change.now.name (opened self.old change.now.token)) }
+        ensures ok { OnOk result (ChangesProperty (R.content repository.now) self.old change.now self.new) }
+        ensures err { OnErr result (self.new ≡ self.old) }
+    {
+        let token = self.copied(&change.token)?;
+        let op = self.file_property(&token, change)?;
+        self.edit(&op, repository)?;
+        Ok(())
+    }
+
+    /// The edit of a property of the file that is open under the token.
+    fn file_property(&self, token: &Bytes, change: &PropertyChange) -> Result<EditOp, EditFault>
+        ensures judged { Judges result (file_property_refusal change.now.name (opened self.now token.now)) }
+        ensures op { IfOk result (λ op. (o : Opened) × (opened self.now token.now ≡ Some o) × (op ≡ property_edit (path_of o) change.now.name change.now.value)) }
+    {
+        match self.open_under(token) {
+            Some(Opened::File(path, _)) => {
+                judge_name(change.name.as_bytes())?;
+                let op = self.property_edit(path, change)?;
+                Ok(op)
+            }
+            Some(Opened::Directory(_, _)) => Err(EditFault::Refused(Refusal::MalformedData)),
+            None => Err(EditFault::Refused(Refusal::MalformedData)),
+        }
+    }
+
+    /// The edit of a property at a path.
+    fn property_edit(&self, path: &Path, change: &PropertyChange) -> Result<EditOp, AllocError>
+        ensures { IfOk result (λ op. op ≡ property_edit path.now change.now.name change.now.value) }
+    {
+        let path = path.clone()?;
+        let name = self.copied(&change.name)?;
+        match &change.value {
+            None => Ok(EditOp::RemoveProperty(path, name)),
+            Some(value) => Ok(EditOp::SetProperty(path, name, self.copied(value)?)),
+        }
+    }
+}

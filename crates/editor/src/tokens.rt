@@ -1,0 +1,104 @@
+//! What is open in an edit, by its tokens.
+ghost use Rattle.std.specs.Prelude.{◌≡◌, Some, OnOk, IfErr, option_copied};
+ghost use Rattle.svnpath.specs.Paths.{PathValue};
+ghost use Rattle.svndiff0.specs.Applying.{Applying, fed};
+ghost use Rattle.editor.specs.Tokens.{opened_under, directory_of, with_change, closed_beneath, has_unfinished};
+ghost use Rattle.editor.specs.Refusing.{chunk_refusal};
+ghost use Rattle.editor.specs.Judging.{Judges, IfNoMemory};
+ghost use Rattle.editor.specs.declared.opened.Opened.TheVariants.{File};
+ghost use Rattle.editor.specs.declared.opened.Delta.TheVariants.{Reading};
+
+use crate::fault::EditFault;
+use crate::opened::{Delta, Opened};
+use refusals::Refusal;
+use std::collections::BTreeMap;
+use svndiff0::DiffFault;
+use svnpath::{Bytes, Path};
+
+/// The directory that is open under the token.
+pub fn directory_under<'a>(tokens: &'a BTreeMap<Bytes, Opened>, token: &Bytes) -> Option<&'a Path>
+    ensures { option_copied result ≡ directory_of tokens.now.entries token.now }
+{
+    match tokens.get(token) {
+        None => None,
+        Some(opened) => opened.directory(),
+    }
+}
+
+/// Whether a text delta has not ended.
+pub fn has_unfinished(tokens: &BTreeMap<Bytes, Opened>) -> bool
+    ensures { result ≡ has_unfinished tokens.now.entries }
+{
+    tokens.values().any(|opened| opened.is_unfinished())
+}
+
+/// Closes what is open at or under the path.
+pub fn close_beneath(tokens: &mut BTreeMap<Bytes, Opened>, path: &Path)
+    ensures { tokens.new.entries ≡ closed_beneath tokens.old.entries path.now }
+{
+    tokens.retain(|_, opened| !opened.path().is_at_or_under(path));
+}
+
+/// Another delta of the file that is open under the token. It takes no memory.
+pub fn set_delta(tokens: &mut BTreeMap<Bytes, Opened>, token: &Bytes, delta: Delta)
+    ensures { (p : PathValue) (old : Delta) → opened_under tokens.old.entries token.now ≡ Some (File p old) → tokens.new.entries ≡ with_change tokens.old.entries token.now (File p delta) }
+{
+    if let Some(opened) = tokens.get_mut(token) {
+        replace_delta(opened, delta);
+    }
+}
+
+/// Another delta of a file.
+fn replace_delta(opened: &mut Opened, delta: Delta)
+    ensures { (p : PathValue) (old : Delta) → opened.old ≡ File p old → opened.new ≡ File p delta }
+{
+    if let Opened::File(_, slot) = opened {
+        *slot = delta;
+    }
+}
+
+/// Reads the next bytes of the text delta of the file that is open under the token.
+pub fn feed_under(
+    tokens: &mut BTreeMap<Bytes, Opened>,
+    token: &Bytes,
+    bytes: &[u8],
+) -> Result<(), EditFault>
+    ensures judged { Judges result (chunk_refusal bytes.now (opened_under tokens.old.entries token.now)) }
+    ensures ok { OnOk result ((p : PathValue) × (a : Applying) × (opened_under tokens.old.entries token.now ≡ Some (File p (Reading a))) × (tokens.new.entries ≡ with_change tokens.old.entries token.now (File p (Reading (fed a bytes.now))))) }
+    ensures err { IfErr result (λ fault. IfNoMemory fault (tokens.new.entries ≡ tokens.old.entries)) }
+{
+    let mut fed = Err(EditFault::Refused(Refusal::MalformedData));
+    if let Some(opened) = tokens.get_mut(token) {
+        fed = feed_opened(opened, bytes);
+    }
+    fed
+}
+
+/// Reads the next bytes of a file's text delta.
+fn feed_opened(opened: &mut Opened, bytes: &[u8]) -> Result<(), EditFault>
+    ensures judged { Judges result (chunk_refusal bytes.now (Some opened.old)) }
+    ensures ok { OnOk result ((p : PathValue) × (a : Applying) × (opened.old ≡ File p (Reading a)) × (opened.new ≡ File p (Reading (fed a bytes.now)))) }
+    ensures err { IfErr result (λ fault. IfNoMemory fault (opened.new ≡ opened.old)) }
+{
+    match opened {
+        Opened::File(_, delta) => feed(delta, bytes),
+        Opened::Directory(_, _) => Err(EditFault::Refused(Refusal::MalformedData)),
+    }
+}
+
+/// Reads the next bytes of a text delta.
+fn feed(delta: &mut Delta, bytes: &[u8]) -> Result<(), EditFault>
+    ensures judged { (p : PathValue) → Judges result (chunk_refusal bytes.now (Some (File p delta.old))) }
+    ensures ok { OnOk result ((a : Applying) × (delta.old ≡ Reading a) × (delta.new ≡ Reading (fed a bytes.now))) }
+    ensures err { IfErr result (λ fault. IfNoMemory fault (delta.new ≡ delta.old)) }
+{
+    match delta {
+        Delta::Reading(applier) => match applier.feed(bytes) {
+            Ok(()) => Ok(()),
+            Err(DiffFault::NoMemory) => Err(EditFault::NoMemory),
+            Err(_) => Err(EditFault::Refused(Refusal::BadSvndiff)),
+        },
+        Delta::Untouched => Err(EditFault::Refused(Refusal::MalformedData)),
+        Delta::Made => Err(EditFault::Refused(Refusal::MalformedData)),
+    }
+}
