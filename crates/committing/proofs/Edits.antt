@@ -11,9 +11,9 @@ use Rattle.repo_api.specs.declared.ask.CommitAsk.{CommitAsk}
 use Rattle.edit_commands.specs.declared.editing.EditorCommand.{EditorCommand}
 use Rattle.replies.specs.declared.reply.Reply.{Reply}
 use Rattle.replies.specs.declared.reply.Reply.TheVariants as replies
-use Rattle.editor.specs.Edits.{EditState}
-use Rattle.editor.specs.Refusing.{edit_refusal}
-use Rattle.editor.specs.Editor.{Applies}
+use Rattle.edit_rules.specs.Edits.{EditState}
+use Rattle.edit_rules.specs.Refusing.{edit_refusal}
+use Rattle.edit_rules.specs.Editor.{Applies}
 use Rattle.machine.specs.Points.{Point, world}
 use Rattle.machine.specs.Stages.{Stage}
 use Rattle.machine.specs.Machine.{Verdict, Answer, Edits, EditStep, CommitStep, CloseStep, commit_answer, commit_ask, says, gives_up, print}

@@ -13,12 +13,12 @@ use Rattle.repo_api.specs.declared.edit.EditOp.{EditOp}
 use Rattle.refusals.specs.declared.Refusal.{Refusal}
 use Rattle.refusals.specs.declared.Refusal.TheVariants as refusals
 use Rattle.edit_commands.specs.declared.editing.AddedEntry.{AddedEntry}
-use Rattle.editor.specs.declared.opened.Opened.{Opened}
-use Rattle.editor.specs.declared.opened.Opened.TheVariants.{Directory}
-use Rattle.editor.specs.Tokens.{Tokens, with_token, without_token, opened_under, directory_of, is_placed, is_within}
-use Rattle.editor.specs.Edits.{EditState, standing}
-use Rattle.editor.specs.Refusing.{first, unless, source_fault, place_refusal, parent_refusal, copy_refusal, add_refusal, add_entry_refusal}
-use Rattle.editor.specs.Editor.{OpensRoot, Edits}
+use Rattle.edit_rules.specs.declared.opened.Opened.{Opened}
+use Rattle.edit_rules.specs.declared.opened.Opened.TheVariants.{Directory}
+use Rattle.edit_rules.specs.Tokens.{Tokens, with_token, without_token, opened_under, directory_of, is_placed, is_within}
+use Rattle.edit_rules.specs.Edits.{EditState, standing}
+use Rattle.edit_rules.specs.Refusing.{first, unless, source_fault, place_refusal, parent_refusal, copy_refusal, add_refusal, add_entry_refusal}
+use Rattle.edit_rules.specs.Editor.{OpensRoot, Edits}
 
 pub on_ok : {T E : Type 0} {P Q : Type 0} (r : Result T E) → (P → Q) → OnOk r P → OnOk r Q
 on_ok (Ok x) f p = f p

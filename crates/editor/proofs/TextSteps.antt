@@ -1,24 +1,18 @@
 -- The steps of a text delta.
 use Rattle.std.proofs.Common.{◌≡◌, ℕ, List, [], Option, Some, None, Ok, sym, ap, subst, ◌∙◌}
-use Rattle.std.proofs.lemmas.Map.Steps.{set_value_same}
-use Rattle.std.specs.Prelude.{Bool, Result, Err, IfErr}
-use Rattle.std.specs.Map.{lookup, set_value}
 use Rattle.svnpath.specs.Paths.{PathValue}
 use Rattle.svndiff0.specs.Applying.{Applying}
 use Rattle.svndiff0.specs.Document.{read, outcome}
 use Rattle.repo_api.specs.States.{RepoState, TxnState}
 use Rattle.repo_api.specs.declared.edit.EditOp.{EditOp}
 use Rattle.repo_api.specs.declared.edit.EditOp.TheVariants as edits
-use Rattle.editor.specs.declared.opened.Opened.{Opened}
-use Rattle.editor.specs.declared.opened.Opened.TheVariants.{File}
-use Rattle.editor.specs.declared.opened.Delta.TheVariants.{Untouched, Reading, Made}
-use Rattle.editor.specs.Tokens.{Tokens, opened_under, with_change}
-use Rattle.editor.specs.Edits.{EditState, file_text, open_in}
-use Rattle.editor.specs.Refusing.{opened}
-use Rattle.editor.specs.Editor.{Edits, BeginsDelta, EndsDelta, unread}
-use Rattle.editor.specs.Judging.{IfNoMemory}
-use Rattle.editor.specs.declared.fault.EditFault.{EditFault}
-use Rattle.editor.specs.declared.fault.EditFault.TheVariants as faults
+use Rattle.edit_rules.specs.declared.opened.Opened.{Opened}
+use Rattle.edit_rules.specs.declared.opened.Opened.TheVariants.{File}
+use Rattle.edit_rules.specs.declared.opened.Delta.TheVariants.{Untouched, Reading, Made}
+use Rattle.edit_rules.specs.Tokens.{Tokens, opened_under, with_change}
+use Rattle.edit_rules.specs.Edits.{EditState, file_text, open_in}
+use Rattle.edit_rules.specs.Refusing.{opened}
+use Rattle.edit_rules.specs.Editor.{Edits, BeginsDelta, EndsDelta, unread}
 use Rattle.editor.proofs.Steps.{reopened}
 
 -- what is open in a transaction is open
@@ -58,10 +52,3 @@ ends c old mid now op token key p a text tokens is_key is has_text is_op h same 
       ap (λ (k : List ℕ). opened_under old.tokens k) (sym is_key) ∙ is_under,
       (text, has_text, reopened c old mid now op (edits.SetText p text) old.tokens tokens (with_change old.tokens token (File p Made)) h same is_op (changed ∙ (λ i. with_change (is_tokens i) (is_key i) (File p Made)))),
     )
-
--- where memory was refused, what is open is as it was
-pub stays : {T X : Type 0} (result : Result T EditFault) (test : List ℕ → Bool) (es fs : List (List ℕ × X)) (old new : X) → Some old ≡ lookup test es → fs ≡ set_value test es new
-    → IfErr result (λ fault. IfNoMemory fault (new ≡ old)) → IfErr result (λ fault. IfNoMemory fault (fs ≡ es))
-stays (Ok x) test es fs old new there written kept = tt
-stays (Err (faults.Refused r)) test es fs old new there written kept = tt
-stays (Err faults.NoMemory) test es fs old new there written kept = written ∙ ap (λ (x : _). set_value test es x) kept ∙ set_value_same test es old (sym there)

@@ -1,6 +1,0 @@
-pub mod Tokens
-pub mod Edits
-pub mod Refusing
-pub mod Editor
-pub mod Judging
-pub mod Soundness

@@ -1,16 +1,13 @@
 //! The editor of a commit.
 ghost use Rattle.std.specs.Prelude.{◌≡◌, Ok, Err, None, OnOk, IfOk, IfErr, MatchResult, string_bytes};
-ghost use Rattle.editor.specs.Edits.{new_edit, standing, created, file_text};
-ghost use Rattle.editor.specs.Refusing.{before_root, edit_refusal};
-ghost use Rattle.editor.specs.Editor.{given_up, Applies, NotApplied, finished, RestsOn};
-ghost use Rattle.editor.specs.Judging.{Judges, Leaves};
-ghost use Rattle.editor.specs.declared.fault.EditFault.TheVariants.{Refused};
+ghost use Rattle.edit_rules.specs.Edits.{new_edit, standing, created, file_text};
+ghost use Rattle.edit_rules.specs.Refusing.{before_root, edit_refusal};
+ghost use Rattle.edit_rules.specs.Editor.{given_up, Applies, NotApplied, finished, RestsOn};
+ghost use Rattle.edit_rules.specs.Judging.{Judges, Leaves};
+ghost use Rattle.edit_rules.specs.declared.fault.EditFault.TheVariants.{Refused};
 
-use crate::fault::EditFault;
-use crate::judging::judge;
-use crate::opened::Opened;
-use crate::tokens::has_unfinished;
 use edit_commands::EditorCommand;
+use edit_rules::{EditFault, Opened, has_unfinished, judge};
 use items::Text;
 use refusals::Refusal;
 use repo_api::{NodeKind, Repository};
@@ -34,7 +31,7 @@ impl<R: Repository> Model for CommitEditor<R> {
     ghost use Rattle.std.specs.Prelude.{option_map, string_bytes};
     ghost use Rattle.std.specs.Coded.{codes};
     ghost use Rattle.std.specs.FinMap.{code as map_code};
-    ghost use Rattle.editor.specs.Edits.{EditState};
+    ghost use Rattle.edit_rules.specs.Edits.{EditState};
 
     ghost Value = { EditState };
 

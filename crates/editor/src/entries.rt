@@ -2,22 +2,19 @@
 ghost use Rattle.std.specs.Prelude.{◌≡◌, Ok, None, Some, OnOk, OnErr, IfErr, is_some, true, option_copied};
 ghost use Rattle.svnpath.specs.Texts.{joined};
 ghost use Rattle.repo_api.specs.declared.edit.EditOp.TheVariants as edits;
-ghost use Rattle.editor.specs.Tokens.{opened_under, directory_of, with_token, closed_beneath, is_placed, is_within};
-ghost use Rattle.editor.specs.Refusing.{open_root_refusal, delete_entry_refusal, add_entry_refusal, open_directory_refusal, open_file_refusal, absent_refusal, place_refusal, parent_refusal, close_directory_refusal, opened};
-ghost use Rattle.editor.specs.Editor.{OpensRoot, Edits, Named, Opens, Closes, RestsOn};
-ghost use Rattle.editor.specs.Judging.{Judges, Leaves};
-ghost use Rattle.editor.specs.declared.opened.Opened.TheVariants.{Directory, File};
-ghost use Rattle.editor.specs.declared.opened.Delta.TheVariants.{Untouched};
+ghost use Rattle.edit_rules.specs.Tokens.{opened_under, directory_of, with_token, closed_beneath, is_placed, is_within};
+ghost use Rattle.edit_rules.specs.Refusing.{open_root_refusal, delete_entry_refusal, add_entry_refusal, open_directory_refusal, open_file_refusal, absent_refusal, place_refusal, parent_refusal, close_directory_refusal, opened};
+ghost use Rattle.edit_rules.specs.Editor.{OpensRoot, Edits, Named, Opens, Closes, RestsOn};
+ghost use Rattle.edit_rules.specs.Judging.{Judges, Leaves};
+ghost use Rattle.edit_rules.specs.declared.opened.Opened.TheVariants.{Directory, File};
+ghost use Rattle.edit_rules.specs.declared.opened.Delta.TheVariants.{Untouched};
 
 use crate::editor::CommitEditor;
-use crate::fault::EditFault;
-use crate::judging::{
-    is_within, judge, judge_absence, judge_copy, judge_directory, judge_file, judge_presence,
-    judge_source, path_named,
-};
-use crate::opened::{Delta, Opened};
-use crate::tokens::{close_beneath, directory_under};
 use edit_commands::{AbsentEntry, AddedEntry, DeletedEntry, OpenedEntry};
+use edit_rules::{
+    Delta, EditFault, Opened, close_beneath, directory_under, is_within, judge, judge_absence,
+    judge_copy, judge_directory, judge_file, judge_presence, judge_source, path_named,
+};
 use items::Text;
 use refusals::Refusal;
 use repo_api::{EditOp, Repository};

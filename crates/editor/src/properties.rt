@@ -1,15 +1,13 @@
 //! Properties of entries.
 ghost use Rattle.std.specs.Prelude.{◌≡◌, Some, OnOk, OnErr, IfOk, option_copied};
-ghost use Rattle.editor.specs.Refusing.{directory_property_refusal, file_property_refusal, opened};
-ghost use Rattle.editor.specs.Tokens.{path_of};
-ghost use Rattle.editor.specs.Editor.{ChangesProperty, property_edit, RestsOn};
-ghost use Rattle.editor.specs.Judging.{Judges};
+ghost use Rattle.edit_rules.specs.Refusing.{directory_property_refusal, file_property_refusal, opened};
+ghost use Rattle.edit_rules.specs.Tokens.{path_of};
+ghost use Rattle.edit_rules.specs.Editor.{ChangesProperty, property_edit, RestsOn};
+ghost use Rattle.edit_rules.specs.Judging.{Judges};
 
 use crate::editor::CommitEditor;
-use crate::fault::EditFault;
-use crate::judging::{judge_age, judge_name};
-use crate::opened::Opened;
 use edit_commands::PropertyChange;
+use edit_rules::{EditFault, Opened, judge_age, judge_name};
 use refusals::Refusal;
 use repo_api::{EditOp, Repository};
 use std::alloc::AllocError;

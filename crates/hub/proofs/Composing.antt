@@ -1,13 +1,12 @@
 -- A session's run is a run of the hub.
 use Rattle.std.specs.Prelude.{if◌then◌else◌}
 use Rattle.std.proofs.Common.{◌≡◌, ℕ, List, [], ◌∷◌, ◌++◌, map, Option, Some, None, Bool, true, false, refl, sym, ap, subst, ◌∙◌, append-nil, append_assoc}
-use Rattle.repo_api.specs.States.{RepoState, Fixed, IsBeginning}
+use Rattle.repo_api.specs.States.{RepoState}
 use Rattle.repo_api.specs.Accepted.{Accepted, changed}
 use Rattle.replies.specs.declared.reply.Reply.{Reply}
 use Rattle.machine.specs.Points.{Point, world}
 use Rattle.machine.specs.Settings.{Settings}
 use Rattle.machine.specs.Hearing.{Input}
-use Rattle.machine.specs.Hearing.Input.{Whole, Broken}
 use Rattle.machine.specs.Stages.{Stage, SessionState, is_open}
 use Rattle.machine.specs.Machine.{Verdict, Effect, Answer, InputStep, says, content_after, halted_after}
 use Rattle.machine.specs.Machine.Effect.{Nothing, Changes, HaltsChanges}

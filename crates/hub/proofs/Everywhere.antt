@@ -1,8 +1,8 @@
 -- What holds of each session.
-use Rattle.std.proofs.Common.{◌≡◌, ℕ, List, [], ◌∷◌, ◌++◌, Option, Some, None, Bool, true, false, refl, subst}
+use Rattle.std.proofs.Common.{◌≡◌, ℕ, List, [], ◌∷◌, ◌++◌, Option, Some, None, true, false, refl, subst}
 use Rattle.std.specs.Prelude.{if◌then◌else◌, ◌==◌, not}
-use Rattle.repo_api.specs.States.{RepoState, TxnState, Fixed, IsBeginning}
-use Rattle.editor.specs.Editor.{RestsIn}
+use Rattle.repo_api.specs.States.{RepoState, TxnState, IsBeginning}
+use Rattle.edit_rules.specs.Editor.{RestsIn}
 use Rattle.machine.specs.Stages.{Stage, SessionState, is_open, RestsOn}
 use Rattle.machine.specs.declared.phase.Phase.TheVariants.{Greeted, LoggingIn, Serving, Editing, Skipping, Ended}
 use Rattle.machine.specs.Soundness.{IsSound}

@@ -1,6 +1,6 @@
 -- What one piece does to the hub.
-use Rattle.std.proofs.Common.{◌≡◌, ℕ, List, [], ◌∷◌, ◌++◌, Option, Some, None, Bool, true, false, refl, sym, ap, subst, ◌∙◌, append-nil}
-use Rattle.std.specs.Prelude.{if◌then◌else◌, ◌==◌, not, filter}
+use Rattle.std.proofs.Common.{◌≡◌, ℕ, List, [], ◌++◌, Option, Some, Bool, true, false, refl, sym, ap, subst, ◌∙◌}
+use Rattle.std.specs.Prelude.{if◌then◌else◌}
 use Rattle.repo_api.specs.Accepted.{Accepted, changed}
 use Rattle.machine.specs.Points.{Point, world}
 use Rattle.machine.specs.Settings.{Settings}
@@ -9,8 +9,8 @@ use Rattle.machine.specs.Stages.{SessionState, is_open}
 use Rattle.machine.specs.Machine.{Verdict}
 use Rattle.machine.specs.Access.{Fed, Lost}
 use Rattle.machine.specs.declared.env.Env.{Env}
-use Rattle.hub.specs.State.{HubState, session_of, updated, without, kept}
-use Rattle.hub.specs.Runs.{Event, HubRun, IfOpen, heard, Feeds, Breaks, new_session}
+use Rattle.hub.specs.State.{session_of, updated, without, kept}
+use Rattle.hub.specs.Runs.{HubRun, IfOpen, heard, Feeds, Breaks}
 use Rattle.hub.specs.Runs.Event.{Drops}
 use Rattle.hub.specs.SessionLaws.{session_of-updated, session_of-without, kept-updated, without-updated}
 use Rattle.hub.proofs.Places.{without-kept}

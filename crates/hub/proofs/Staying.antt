@@ -4,17 +4,16 @@ use Rattle.repo_api.specs.States.{RepoState, Fixed, IsBeginning}
 use Rattle.repo_api.specs.Accepted.{Accepted, changed}
 use Rattle.repo_api.specs.Accepted.Accepted.{Commits}
 use Rattle.replies.specs.declared.reply.Reply.{Reply}
-use Rattle.machine.specs.Hearing.{Input, Brings, Comes}
-use Rattle.machine.specs.Hearing.Input.{Whole, Broken}
+use Rattle.machine.specs.Hearing.{Input}
 use Rattle.machine.specs.Stages.{SessionState}
-use Rattle.machine.specs.Machine.{Verdict, Effect, Answer, content_after}
+use Rattle.machine.specs.Machine.{Verdict, Effect, content_after}
 use Rattle.machine.specs.Machine.Effect.{Nothing, Changes, HaltsChanges}
 use Rattle.machine.specs.declared.env.Env.{Env}
 use Rattle.hub.specs.State.{HubState, session_of}
 use Rattle.hub.specs.Runs.{Event, InputHappens, HubStep, HubRun, heard, Feeds, Breaks}
 use Rattle.hub.specs.Runs.Event.{Connects, Gets, Drops}
 use Rattle.hub.specs.Calls.{CallStep, CallRun}
-use Rattle.hub.specs.Laws.{IsAccepted, IsUnbroken}
+use Rattle.hub.specs.Laws.{IsAccepted}
 use Rattle.hub.specs.declared.hub.HubFault.TheVariants.{NoSession, NoMemory, Halted, Full}
 use Rattle.hub.specs.declared.calls.Call.{Call}
 use Rattle.hub.specs.declared.calls.Call.TheVariants.{Connect, Feed, Disconnect}

@@ -1,10 +1,10 @@
 -- Trees stay trees.
-use Rattle.std.proofs.Common.{◌≡◌, ℕ, List, [], ◌∷◌, ◌++◌, Bool, false, Option, Some, None, refl, sym, subst}
+use Rattle.std.proofs.Common.{◌≡◌, ℕ, List, [], ◌∷◌, Bool, false, Option, Some, None, refl, sym, subst}
 use Rattle.repo_api.specs.Trees.{IsTree}
 use Rattle.repo_api.specs.States.{RepoState, tree_of}
 use Rattle.repo_api.specs.Opening.{opened, opening_tree}
 use Rattle.replies.specs.declared.reply.Reply.{Reply}
-use Rattle.editor.specs.Soundness.{AreTrees}
+use Rattle.edit_rules.specs.Soundness.{AreTrees}
 use Rattle.machine.specs.Settings.{Settings}
 use Rattle.machine.specs.Hearing.{Input}
 use Rattle.machine.specs.Stages.{Stage, SessionState}

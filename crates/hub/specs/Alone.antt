@@ -1,7 +1,7 @@
 -- A repository that nobody shares.
-use Rattle.std.specs.Prelude.{◌≡◌, Bool, true, false, List, [], refl}
+use Rattle.std.specs.Prelude.{◌≡◌, Bool, true, false, []}
 use Rattle.std.proofs.Common.{sym, ap, subst, append-nil}
-use Rattle.repo_api.specs.States.{RepoState, Fixed, IsBeginning}
+use Rattle.repo_api.specs.States.{IsBeginning}
 use Rattle.repo_api.specs.Accepted.{Accepted, changed}
 use Rattle.machine.specs.Points.{Point, world}
 use Rattle.machine.specs.Machine.{Verdict}

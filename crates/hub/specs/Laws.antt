@@ -2,7 +2,7 @@
 use Rattle.std.specs.Prelude.{◌≡◌, ℕ, List, [], ◌∷◌}
 use Rattle.repo_api.specs.States.{RepoState}
 use Rattle.repo_api.specs.Accepted.{Accepted, changed}
-use Rattle.editor.specs.Soundness.{AreTrees}
+use Rattle.edit_rules.specs.Soundness.{AreTrees}
 use Rattle.machine.specs.Stages.{SessionState}
 use Rattle.machine.specs.Soundness.{IsSound}
 use Rattle.hub.specs.State.{HubState}

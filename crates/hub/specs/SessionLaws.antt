@@ -1,7 +1,7 @@
 -- Laws of a hub's sessions and of their streams, for the crates above.
-use Rattle.std.proofs.Common.{◌≡◌, ℕ, List, [], ◌∷◌, ◌++◌, Option, Some, None, Bool, true, false, refl, sym, ap, subst, ◌∙◌, append_assoc}
+use Rattle.std.proofs.Common.{◌≡◌, ℕ, List, [], ◌∷◌, ◌++◌, Option, Some, None, Bool, true, false, refl, ap, subst, ◌∙◌, append_assoc}
 use Rattle.std.specs.Prelude.{if◌then◌else◌, ◌==◌, not}
-use Rattle.machine.specs.Hearing.{Input, Brings, Comes}
+use Rattle.machine.specs.Hearing.{Input, Comes}
 use Rattle.machine.specs.Hearing.Input.{Whole, Broken}
 use Rattle.machine.specs.Stages.{SessionState, is_open}
 use Rattle.hub.specs.State.{session_of, updated, without, kept}

@@ -1,5 +1,5 @@
 -- The state of a hub: what the repository contains, and its open sessions.
-use Rattle.std.specs.Prelude.{◌≡◌, ℕ, Bool, true, List, [], ◌∷◌, Option, Some, None, if◌then◌else◌, ◌==◌, ◌||◌, not, filter, ◌<◌, length, slice_get, slice_set}
+use Rattle.std.specs.Prelude.{◌≡◌, ℕ, Bool, true, List, [], ◌∷◌, Option, Some, None, if◌then◌else◌, ◌==◌, not, filter, ◌<◌, length, slice_get, slice_set}
 use Rattle.repo_api.specs.States.{RepoState}
 use Rattle.machine.specs.Settings.{Settings}
 use Rattle.machine.specs.Stages.{SessionState, is_open, RestsOn}

@@ -23,10 +23,10 @@ use Rattle.commands.specs.declared.login.ClientGreeting.{ClientGreeting}
 use Rattle.commands.specs.declared.login.AuthResponse.{AuthResponse}
 use Rattle.forms.specs.declared.fault.CommandFault.{CommandFault}
 use Rattle.forms.specs.declared.fault.CommandFault.TheVariants.{UnknownName, BadParameters, NoMemory}
-use Rattle.editor.specs.Tokens.{Tokens}
-use Rattle.editor.specs.Edits.{EditState}
-use Rattle.editor.specs.Refusing.{edit_refusal}
-use Rattle.editor.specs.Editor.{RestsIn, RestsOn as EditRestsOn, Edits as EditsTxn, Applies, finished}
+use Rattle.edit_rules.specs.Tokens.{Tokens}
+use Rattle.edit_rules.specs.Edits.{EditState}
+use Rattle.edit_rules.specs.Refusing.{edit_refusal}
+use Rattle.edit_rules.specs.Editor.{RestsIn, RestsOn as EditRestsOn, Edits as EditsTxn, Applies, finished}
 use Rattle.machine.specs.Points.{Point, world}
 use Rattle.machine.specs.Settings.{Settings}
 use Rattle.machine.specs.Stages.{Stage, RestsOn}

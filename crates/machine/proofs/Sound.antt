@@ -21,11 +21,11 @@ use Rattle.commands.specs.declared.login.ClientGreeting.{ClientGreeting}
 use Rattle.commands.specs.declared.login.AuthResponse.{AuthResponse}
 use Rattle.forms.specs.declared.fault.CommandFault.{CommandFault}
 use Rattle.forms.specs.declared.fault.CommandFault.TheVariants.{UnknownName, BadParameters, NoMemory}
-use Rattle.editor.specs.Tokens.{Tokens, has_unfinished}
-use Rattle.editor.specs.Edits.{EditState, new_edit}
-use Rattle.editor.specs.Refusing.{edit_refusal}
-use Rattle.editor.specs.Editor.{Applies, finished, finished_txn}
-use Rattle.editor.specs.Soundness.{AreTrees, IsSoundEdit, IsSoundIn}
+use Rattle.edit_rules.specs.Tokens.{Tokens, has_unfinished}
+use Rattle.edit_rules.specs.Edits.{EditState, new_edit}
+use Rattle.edit_rules.specs.Refusing.{edit_refusal}
+use Rattle.edit_rules.specs.Editor.{Applies, finished, finished_txn}
+use Rattle.edit_rules.specs.Soundness.{AreTrees, IsSoundEdit, IsSoundIn}
 use Rattle.machine.specs.Settings.{Settings}
 use Rattle.machine.specs.Stages.{Stage}
 use Rattle.machine.specs.Soundness.{IsSound}

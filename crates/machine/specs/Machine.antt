@@ -34,9 +34,9 @@ use Rattle.forms.specs.declared.fault.CommandFault.{CommandFault}
 use Rattle.forms.specs.declared.fault.CommandFault.TheVariants.{UnknownName, BadParameters, NoMemory}
 use Rattle.replies.specs.declared.reply.Reply.{Reply}
 use Rattle.replies.specs.declared.reply.Reply.TheVariants as replies
-use Rattle.editor.specs.Edits.{EditState, new_edit}
-use Rattle.editor.specs.Refusing.{is_property_name, edit_refusal}
-use Rattle.editor.specs.Editor.{Applies, finished}
+use Rattle.edit_rules.specs.Edits.{EditState, new_edit}
+use Rattle.edit_rules.specs.Refusing.{is_property_name, edit_refusal}
+use Rattle.edit_rules.specs.Editor.{Applies, finished}
 use Rattle.machine.specs.Settings.{Settings}
 use Rattle.machine.specs.Hearing.{Input}
 use Rattle.machine.specs.Hearing.Input.{Whole, Broken}

@@ -1,5 +1,5 @@
 -- A session whose edit is sound.
-use Rattle.editor.specs.Soundness.{IsSoundEdit}
+use Rattle.edit_rules.specs.Soundness.{IsSoundEdit}
 use Rattle.machine.specs.Stages.{Stage}
 use Rattle.machine.specs.declared.phase.Phase.TheVariants.{Greeted, LoggingIn, Serving, Editing, Skipping, Ended}
 

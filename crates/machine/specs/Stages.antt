@@ -1,8 +1,8 @@
 -- Where a session stands.
 use Rattle.std.specs.Prelude.{ℕ, Bool, true, false, List}
 use Rattle.repo_api.specs.States.{RepoState}
-use Rattle.editor.specs.Edits.{EditState}
-use Rattle.editor.specs.Editor.{RestsOn as EditRestsOn}
+use Rattle.edit_rules.specs.Edits.{EditState}
+use Rattle.edit_rules.specs.Editor.{RestsOn as EditRestsOn}
 use Rattle.machine.specs.declared.phase.Phase.{Phase}
 use Rattle.machine.specs.declared.phase.Phase.TheVariants.{Greeted, LoggingIn, Serving, Editing, Skipping, Ended}
 

@@ -1,7 +1,7 @@
 //! What holds of all that a stream brings. The functions do nothing: their contracts are the laws.
 ghost use Rattle.std.specs.Prelude.{◌≡◌, ℕ, List, Bool};
 ghost use Rattle.repo_api.specs.States.{RepoState};
-ghost use Rattle.editor.specs.Soundness.{AreTrees};
+ghost use Rattle.edit_rules.specs.Soundness.{AreTrees};
 ghost use Rattle.machine.specs.Settings.{Settings};
 ghost use Rattle.machine.specs.Stages.{Stage, RestsOn};
 ghost use Rattle.machine.specs.Soundness.{IsSound};
@@ -28,6 +28,6 @@ pub fn steps_rest()
 pub fn steps_keep_trees()
     ensures { (may : Verdict → Bool) (s : Settings) (env : Env) (c : RepoState) (phase : Stage) (input : Input) (a : Answer) → AreTrees c.revisions → IsSound phase → InputStep may s env c phase input a → AreTrees (content_after c a.effect).revisions × IsSound a.phase }
 {
-    editor::edits_keep_trees();
+    edit_rules::edits_keep_trees();
     repo_api::commits_keep_trees();
 }

@@ -10,9 +10,9 @@ use Rattle.edit_commands.specs.Editing.{editor_command}
 use Rattle.edit_commands.specs.declared.editing.EditorCommand.{EditorCommand}
 use Rattle.forms.specs.declared.fault.CommandFault.{CommandFault}
 use Rattle.forms.specs.declared.fault.CommandFault.TheVariants.{UnknownName, BadParameters, NoMemory}
-use Rattle.editor.specs.Edits.{EditState}
-use Rattle.editor.specs.Refusing.{edit_refusal}
-use Rattle.editor.specs.Editor.{finished}
+use Rattle.edit_rules.specs.Edits.{EditState}
+use Rattle.edit_rules.specs.Refusing.{edit_refusal}
+use Rattle.edit_rules.specs.Editor.{finished}
 use Rattle.machine.specs.Points.{Point, world}
 use Rattle.machine.specs.Settings.{Settings}
 use Rattle.machine.specs.Stages.{Stage}

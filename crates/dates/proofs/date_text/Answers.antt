@@ -1,8 +1,7 @@
-use Rattle.std.proofs.Common.{rules, ◌≡◌, ℕ, ◌*◌, List, [], ◌∷◌, ◌++◌, pos, sym, ap, ◌∙◌, refl, Some, Option, Bool, if◌then◌else◌, false, IfOk, string_bytes, ◌*ℤ◌, arith, w64}
+use Rattle.std.proofs.Common.{◌≡◌, ℕ, ◌*◌, [], ◌∷◌, ◌++◌, pos, ap, ◌∙◌, Some, Option, Bool, if◌then◌else◌, false, ◌*ℤ◌, arith, w64}
 use Rattle.std.proofs.lemmas.Result.{IfOk-weaker}
-use Rattle.std.proofs.lemmas.Int.{ints, to_z_pos}
+use Rattle.std.proofs.lemmas.Int.{to_z_pos}
 use Rattle.jiff.specs.Words.{civil_nanos, datetime_text}
-use Rattle.dates.specs.Dates.{IsDateText}
 use Rattle.dates.proofs.date_text.Goals as goal
 
 pub returns : goal.returns

@@ -1,7 +1,7 @@
 use Rattle.std.proofs.Common.{[], ◌∷◌}
 use Rattle.std.proofs.lemmas.Result.{err_from_is_err_and}
 use Rattle.replies.specs.declared.reply.Reply.TheVariants as replies
-use Rattle.editor.specs.Editor.{finished}
+use Rattle.edit_rules.specs.Editor.{finished}
 use Rattle.machine.specs.Points.{world}
 use Rattle.machine.specs.Machine.{CloseStep}
 use Rattle.machine.specs.declared.phase.Phase.TheVariants.{Serving}

@@ -1,4 +1,4 @@
-use Rattle.std.proofs.Common.{◌≡◌, List, [], ◌∷◌, ◌++◌, take, sym, ap, ◌∙◌, ◌+◌}
+use Rattle.std.proofs.Common.{◌≡◌, [], ◌∷◌, ◌++◌, take, sym, ap, ◌∙◌, ◌+◌}
 use Rattle.std.proofs.lemmas.List.{take_more}
 use Rattle.hub.specs.declared.calls.Call.{Call}
 use Rattle.hub.proofs.Staying.{calls_next}

@@ -1,5 +1,5 @@
 use Rattle.std.proofs.Common.{◌∙◌}
-use Rattle.editor.specs.declared.opened.Delta.TheVariants.{Untouched}
+use Rattle.edit_rules.specs.declared.opened.Delta.TheVariants.{Untouched}
 use Rattle.editor.proofs.TextSteps.{begins, is_unread}
 use Rattle.editor.proofs.editor.CommitEditor.begin_delta.Goals as goal
 

@@ -1,8 +1,8 @@
 use Rattle.std.proofs.Common.{sym, ap, ◌∙◌}
 use Rattle.svnpath.specs.Texts.{joined}
 use Rattle.repo_api.specs.declared.edit.EditOp.TheVariants as edits
-use Rattle.editor.specs.Edits.{EditState}
-use Rattle.editor.specs.Tokens.{closed_beneath}
+use Rattle.edit_rules.specs.Edits.{EditState}
+use Rattle.edit_rules.specs.Tokens.{closed_beneath}
 use Rattle.editor.proofs.Steps.{reopened}
 use Rattle.editor.proofs.editor.CommitEditor.delete_entry.Goals as goal
 

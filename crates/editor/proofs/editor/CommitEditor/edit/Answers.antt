@@ -1,6 +1,6 @@
 use Rattle.std.proofs.Common.{ap}
 use Rattle.std.specs.Prelude.{option_map}
-use Rattle.editor.specs.Edits.{EditState}
+use Rattle.edit_rules.specs.Edits.{EditState}
 use Rattle.editor.proofs.Steps.{on_ok, made}
 use Rattle.editor.proofs.editor.CommitEditor.edit.Goals as goal
 

@@ -1,6 +1,6 @@
 use Rattle.std.proofs.Common.{ap, ◌∙◌}
 use Rattle.std.specs.Prelude.{option_map}
-use Rattle.editor.specs.Tokens.{with_token}
+use Rattle.edit_rules.specs.Tokens.{with_token}
 use Rattle.editor.proofs.Steps.{made, restored}
 use Rattle.editor.proofs.editor.CommitEditor.put.Goals as goal
 

@@ -1,4 +1,4 @@
-use Rattle.std.proofs.Common.{◌≡◌, [], refl, ap, false}
+use Rattle.std.proofs.Common.{[], refl, ap, false}
 use Rattle.repo_api.specs.States.{RepoState}
 use Rattle.machine.specs.Points.{Point}
 use Rattle.hub.proofs.direct.DirectRepoAccess.commit.Goals as goal

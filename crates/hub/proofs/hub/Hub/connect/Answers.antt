@@ -1,4 +1,4 @@
-use Rattle.std.proofs.Common.{rules, ◌⊎◌, inl, inr, ◌≤◌, ◌^◌, length, false, ◌≡◌, [], ◌∷◌, ◌+◌, refl, sym, ap, subst, ◌∙◌}
+use Rattle.std.proofs.Common.{rules, ◌⊎◌, inl, inr, ◌≤◌, ◌^◌, length, false, ◌≡◌, [], ◌∷◌, ◌+◌, refl, sym, subst, ◌∙◌}
 use Rattle.machine.specs.Points.{world}
 use Rattle.replies.specs.declared.reply.Reply.TheVariants.{Greeting}
 use Rattle.hub.specs.State.{HubState}

@@ -1,4 +1,3 @@
-use Rattle.std.proofs.Common.{◌≡◌}
 use Rattle.machine.specs.Points.{world}
 use Rattle.hub.proofs.Everywhere.{AllOpen-without, AllRest-without}
 use Rattle.hub.proofs.hub.Hub.disconnect.Goals as goal

@@ -5,11 +5,11 @@ use Rattle.svnpath.specs.declared.fault.PathFault.{PathFault}
 use Rattle.svnpath.specs.declared.fault.PathFault.TheVariants as path_faults
 use Rattle.refusals.specs.declared.Refusal.{Refusal}
 use Rattle.refusals.specs.Refusing.{path_refusal}
-use Rattle.editor.specs.declared.fault.EditFault.{EditFault}
-use Rattle.editor.specs.declared.fault.EditFault.TheVariants as edit_faults
-use Rattle.editor.specs.Edits.{EditState}
-use Rattle.editor.specs.Refusing.{path_fault}
-use Rattle.editor.specs.Editor.{IfRefused, given_up}
+use Rattle.edit_rules.specs.declared.fault.EditFault.{EditFault}
+use Rattle.edit_rules.specs.declared.fault.EditFault.TheVariants as edit_faults
+use Rattle.edit_rules.specs.Edits.{EditState}
+use Rattle.edit_rules.specs.Refusing.{path_fault}
+use Rattle.edit_rules.specs.Editor.{IfRefused, given_up}
 
 -- it goes on where nothing is refused, and ends by what is
 abbrev pub Judges : {T : Type 0} → Result T EditFault → Option Refusal → Type 0

@@ -15,7 +15,7 @@ pub enum EditFault {
 
 impl From<AllocError> for EditFault {
     ghost use Rattle.std.specs.Prelude.{◌≡◌};
-    ghost use Rattle.editor.specs.declared.fault.EditFault.TheVariants.{NoMemory};
+    ghost use Rattle.edit_rules.specs.declared.fault.EditFault.TheVariants.{NoMemory};
 
     ghost from_gives = { λ _ fault. fault ≡ NoMemory };
 
@@ -26,7 +26,7 @@ impl From<AllocError> for EditFault {
 
 impl<T: Drop> From<AllocFailed<T>> for EditFault {
     ghost use Rattle.std.specs.Prelude.{◌≡◌};
-    ghost use Rattle.editor.specs.declared.fault.EditFault.TheVariants.{NoMemory};
+    ghost use Rattle.edit_rules.specs.declared.fault.EditFault.TheVariants.{NoMemory};
 
     ghost from_gives = { λ _ fault. fault ≡ NoMemory };
 
@@ -37,7 +37,7 @@ impl<T: Drop> From<AllocFailed<T>> for EditFault {
 
 impl From<PathFault> for EditFault {
     ghost use Rattle.std.specs.Prelude.{◌≡◌};
-    ghost use Rattle.editor.specs.Judging.{fault_of_path};
+    ghost use Rattle.edit_rules.specs.Judging.{fault_of_path};
 
     ghost from_gives = { λ path_fault fault. fault ≡ fault_of_path path_fault };
 

@@ -3,8 +3,8 @@ ghost use Rattle.std.specs.Prelude.{◌≡◌, IfOk};
 ghost use Rattle.md5.specs.Md5.{md5};
 ghost use Rattle.hex.specs.Hex.{encode_lower};
 ghost use Rattle.forms.specs.Forms.{is_name};
-ghost use Rattle.editor.specs.Refusing.{checksum_refusal};
-ghost use Rattle.editor.specs.Judging.{Judges};
+ghost use Rattle.edit_rules.specs.Refusing.{checksum_refusal};
+ghost use Rattle.edit_rules.specs.Judging.{Judges};
 
 use crate::fault::EditFault;
 use crate::judging::judge;

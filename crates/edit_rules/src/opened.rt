@@ -1,6 +1,6 @@
 //! What is open in an edit.
 ghost use Rattle.std.specs.Prelude.{◌≡◌, option_copied};
-ghost use Rattle.editor.specs.Tokens.{path_of, directory_path, is_reading_delta, is_unfinished};
+ghost use Rattle.edit_rules.specs.Tokens.{path_of, directory_path, is_reading_delta, is_unfinished};
 
 use svndiff0::Applier;
 use svnpath::Path;

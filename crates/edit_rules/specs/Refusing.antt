@@ -24,12 +24,12 @@ use Rattle.edit_commands.specs.declared.editing.AddedEntry.{AddedEntry}
 use Rattle.edit_commands.specs.declared.editing.OpenedEntry.{OpenedEntry}
 use Rattle.edit_commands.specs.declared.editing.DeletedEntry.{DeletedEntry}
 use Rattle.edit_commands.specs.declared.editing.AbsentEntry.{AbsentEntry}
-use Rattle.editor.specs.Tokens.{directory_of, is_within, is_placed}
-use Rattle.editor.specs.Edits.{EditState, standing, created, file_text, open_in}
-use Rattle.editor.specs.declared.opened.Opened.{Opened}
-use Rattle.editor.specs.declared.opened.Opened.TheVariants.{Directory, File}
-use Rattle.editor.specs.declared.opened.Delta.{Delta}
-use Rattle.editor.specs.declared.opened.Delta.TheVariants as deltas
+use Rattle.edit_rules.specs.Tokens.{directory_of, is_within, is_placed}
+use Rattle.edit_rules.specs.Edits.{EditState, standing, created, file_text, open_in}
+use Rattle.edit_rules.specs.declared.opened.Opened.{Opened}
+use Rattle.edit_rules.specs.declared.opened.Opened.TheVariants.{Directory, File}
+use Rattle.edit_rules.specs.declared.opened.Delta.{Delta}
+use Rattle.edit_rules.specs.declared.opened.Delta.TheVariants as deltas
 
 -- the first refusal, if there is one
 abbrev pub first : Option Refusal → Option Refusal → Option Refusal

@@ -6,10 +6,10 @@ use Rattle.std.specs.Map.{lookup, remove_entry, set_value, values_of}
 use Rattle.std.specs.Cmp.Lexicographic.{slice_cmp}
 use Rattle.std.specs.Ordering.{nat_cmp}
 use Rattle.svnpath.specs.Paths.{PathValue, is_at_or_under}
-use Rattle.editor.specs.declared.opened.Opened.{Opened}
-use Rattle.editor.specs.declared.opened.Opened.TheVariants.{Directory, File}
-use Rattle.editor.specs.declared.opened.Delta.{Delta}
-use Rattle.editor.specs.declared.opened.Delta.TheVariants.{Untouched, Reading, Made}
+use Rattle.edit_rules.specs.declared.opened.Opened.{Opened}
+use Rattle.edit_rules.specs.declared.opened.Opened.TheVariants.{Directory, File}
+use Rattle.edit_rules.specs.declared.opened.Delta.{Delta}
+use Rattle.edit_rules.specs.declared.opened.Delta.TheVariants.{Untouched, Reading, Made}
 
 -- a token with what is open under it, by the tokens' bytes
 abbrev pub Tokens : Type 0

@@ -12,14 +12,14 @@ use Rattle.svndiff0.specs.Document.{read, outcome}
 use Rattle.edit_commands.specs.declared.editing.EditorCommand.{EditorCommand}
 use Rattle.edit_commands.specs.declared.editing.EditorCommand.TheVariants.{TargetRevision, OpenRoot, DeleteEntry, AddDirectory, AddFile, OpenDirectory, OpenFile, AbsentDirectory, AbsentFile, ChangeDirectoryProperty, ChangeFileProperty, ApplyTextDelta, TextDeltaChunk, TextDeltaEnd, CloseDirectory, CloseFile, CloseEdit, AbortEdit}
 use Rattle.edit_commands.specs.declared.editing.PropertyChange.{PropertyChange}
-use Rattle.editor.specs.Tokens.{Tokens, with_token, without_token, with_change, opened_under, path_of, closed_beneath, has_unfinished}
-use Rattle.editor.specs.Edits.{EditState, file_text}
-use Rattle.editor.specs.Refusing.{edit_refusal}
-use Rattle.editor.specs.declared.fault.EditFault.{EditFault}
-use Rattle.editor.specs.declared.fault.EditFault.TheVariants as edit_faults
-use Rattle.editor.specs.declared.opened.Opened.{Opened}
-use Rattle.editor.specs.declared.opened.Opened.TheVariants.{Directory, File}
-use Rattle.editor.specs.declared.opened.Delta.TheVariants.{Untouched, Reading, Made}
+use Rattle.edit_rules.specs.Tokens.{Tokens, with_token, without_token, with_change, opened_under, path_of, closed_beneath, has_unfinished}
+use Rattle.edit_rules.specs.Edits.{EditState, file_text}
+use Rattle.edit_rules.specs.Refusing.{edit_refusal}
+use Rattle.edit_rules.specs.declared.fault.EditFault.{EditFault}
+use Rattle.edit_rules.specs.declared.fault.EditFault.TheVariants as edit_faults
+use Rattle.edit_rules.specs.declared.opened.Opened.{Opened}
+use Rattle.edit_rules.specs.declared.opened.Opened.TheVariants.{Directory, File}
+use Rattle.edit_rules.specs.declared.opened.Delta.TheVariants.{Untouched, Reading, Made}
 
 -- an edit that is refused: its transaction is dropped
 abbrev pub given_up : EditState → EditState

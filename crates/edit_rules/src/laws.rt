@@ -3,10 +3,10 @@ ghost use Rattle.std.specs.Prelude.{◌≡◌, ℕ, List, None};
 ghost use Rattle.svnpath.specs.Paths.{PathValue};
 ghost use Rattle.repo_api.specs.States.{RepoState};
 ghost use Rattle.edit_commands.specs.declared.editing.EditorCommand.{EditorCommand};
-ghost use Rattle.editor.specs.Edits.{EditState, new_edit};
-ghost use Rattle.editor.specs.Refusing.{edit_refusal};
-ghost use Rattle.editor.specs.Editor.{Applies};
-ghost use Rattle.editor.specs.Soundness.{AreTrees, IsSoundEdit};
+ghost use Rattle.edit_rules.specs.Edits.{EditState, new_edit};
+ghost use Rattle.edit_rules.specs.Refusing.{edit_refusal};
+ghost use Rattle.edit_rules.specs.Editor.{Applies};
+ghost use Rattle.edit_rules.specs.Soundness.{AreTrees, IsSoundEdit};
 
 /// An edit that has heard nothing is sound, and so is an edit after each command that is not refused, where
 /// every tree of the repository is a tree.

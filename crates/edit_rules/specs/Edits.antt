@@ -5,8 +5,8 @@ use Rattle.repo_api.specs.States.{TxnState}
 use Rattle.repo_api.specs.Kinds.{kind_in, created_in, text_in}
 use Rattle.repo_api.specs.declared.entry.NodeKind.{NodeKind}
 use Rattle.repo_api.specs.declared.entry.NodeKind.TheVariants as kinds
-use Rattle.editor.specs.Tokens.{Tokens, opened_under}
-use Rattle.editor.specs.declared.opened.Opened.{Opened}
+use Rattle.edit_rules.specs.Tokens.{Tokens, opened_under}
+use Rattle.edit_rules.specs.declared.opened.Opened.{Opened}
 
 -- an edit: the path of its root, the repository's name, its transaction once the root is open, what is open, and
 -- whether a command was refused

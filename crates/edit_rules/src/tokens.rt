@@ -2,11 +2,11 @@
 ghost use Rattle.std.specs.Prelude.{◌≡◌, Some, OnOk, IfErr, option_copied};
 ghost use Rattle.svnpath.specs.Paths.{PathValue};
 ghost use Rattle.svndiff0.specs.Applying.{Applying, fed};
-ghost use Rattle.editor.specs.Tokens.{opened_under, directory_of, with_change, closed_beneath, has_unfinished};
-ghost use Rattle.editor.specs.Refusing.{chunk_refusal};
-ghost use Rattle.editor.specs.Judging.{Judges, IfNoMemory};
-ghost use Rattle.editor.specs.declared.opened.Opened.TheVariants.{File};
-ghost use Rattle.editor.specs.declared.opened.Delta.TheVariants.{Reading};
+ghost use Rattle.edit_rules.specs.Tokens.{opened_under, directory_of, with_change, closed_beneath, has_unfinished};
+ghost use Rattle.edit_rules.specs.Refusing.{chunk_refusal};
+ghost use Rattle.edit_rules.specs.Judging.{Judges, IfNoMemory};
+ghost use Rattle.edit_rules.specs.declared.opened.Opened.TheVariants.{File};
+ghost use Rattle.edit_rules.specs.declared.opened.Delta.TheVariants.{Reading};
 
 use crate::fault::EditFault;
 use crate::opened::{Delta, Opened};

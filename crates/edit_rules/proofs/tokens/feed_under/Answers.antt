@@ -1,8 +1,8 @@
 use Rattle.std.specs.BTreeMap.{is_at}
 use Rattle.std.specs.Cmp.Lexicographic.{slice_cmp}
 use Rattle.std.specs.Ordering.{nat_cmp}
-use Rattle.editor.proofs.TextSteps.{stays}
-use Rattle.editor.proofs.tokens.feed_under.Goals as goal
+use Rattle.edit_rules.proofs.Kept.{stays}
+use Rattle.edit_rules.proofs.tokens.feed_under.Goals as goal
 
 pub returns-in-Some-clause-err : goal.returns-in-Some-clause-err
 returns-in-Some-clause-err c =

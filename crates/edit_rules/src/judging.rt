@@ -2,9 +2,9 @@
 ghost use Rattle.std.specs.Prelude.{◌≡◌, option_copied, string_bytes};
 ghost use Rattle.svnpath.specs.Components.{Answers};
 ghost use Rattle.svnpath.specs.Texts.{joined};
-ghost use Rattle.editor.specs.Tokens.{is_within};
-ghost use Rattle.editor.specs.Refusing.{add_refusal, age_refusal, copy_refusal, delete_refusal, directory_refusal, file_refusal, is_below, is_property_name, is_reserved, may_be_named, name_refusal, source_fault, source_path, unless};
-ghost use Rattle.editor.specs.Judging.{Judges, Names};
+ghost use Rattle.edit_rules.specs.Tokens.{is_within};
+ghost use Rattle.edit_rules.specs.Refusing.{add_refusal, age_refusal, copy_refusal, delete_refusal, directory_refusal, file_refusal, is_below, is_property_name, is_reserved, may_be_named, name_refusal, source_fault, source_path, unless};
+ghost use Rattle.edit_rules.specs.Judging.{Judges, Names};
 
 use crate::fault::EditFault;
 use items::Text;

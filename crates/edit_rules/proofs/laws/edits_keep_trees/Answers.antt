@@ -1,5 +1,5 @@
-use Rattle.editor.proofs.Sound.{goes_on}
-use Rattle.editor.proofs.laws.edits_keep_trees.Goals as goal
+use Rattle.edit_rules.proofs.Sound.{goes_on}
+use Rattle.edit_rules.proofs.laws.edits_keep_trees.Goals as goal
 
 pub returns-clause-goes_on : goal.returns-clause-goes_on
 returns-clause-goes_on c =

@@ -34,15 +34,15 @@ use Rattle.edit_commands.specs.declared.editing.AddedEntry.{AddedEntry}
 use Rattle.edit_commands.specs.declared.editing.OpenedEntry.{OpenedEntry}
 use Rattle.edit_commands.specs.declared.editing.DeletedEntry.{DeletedEntry}
 use Rattle.edit_commands.specs.declared.editing.PropertyChange.{PropertyChange}
-use Rattle.editor.specs.Tokens.{Tokens, with_token, without_token, with_change, opened_under, path_of, directory_path, directory_of, closed_beneath, is_within, is_placed}
-use Rattle.editor.specs.Edits.{EditState, standing, created, open_in, file_text}
-use Rattle.editor.specs.Refusing.{first, unless, directory_refusal, add_refusal, age_refusal, file_refusal, delete_refusal, place_refusal, parent_refusal, source_fault, copy_refusal, open_root_refusal, before_root, delete_entry_refusal, add_entry_refusal, open_directory_refusal, open_file_refusal, begin_delta_refusal, edit_refusal, command_refusal}
-use Rattle.editor.specs.Editor.{OpensRoot, Edits, Named, Opens, ChangesProperty, property_edit, unread, BeginsDelta, FeedsDelta, EndsDelta, Closes, Applies}
-use Rattle.editor.specs.Soundness.{AreTrees, StandsIn, IsSoundIn, IsSoundEdit}
-use Rattle.editor.specs.declared.opened.Opened.{Opened}
-use Rattle.editor.specs.declared.opened.Opened.TheVariants.{Directory, File}
-use Rattle.editor.specs.declared.opened.Delta.{Delta}
-use Rattle.editor.specs.declared.opened.Delta.TheVariants.{Untouched, Reading, Made}
+use Rattle.edit_rules.specs.Tokens.{Tokens, with_token, without_token, with_change, opened_under, path_of, directory_path, directory_of, closed_beneath, is_within, is_placed}
+use Rattle.edit_rules.specs.Edits.{EditState, standing, created, open_in, file_text}
+use Rattle.edit_rules.specs.Refusing.{first, unless, directory_refusal, add_refusal, age_refusal, file_refusal, delete_refusal, place_refusal, parent_refusal, source_fault, copy_refusal, open_root_refusal, before_root, delete_entry_refusal, add_entry_refusal, open_directory_refusal, open_file_refusal, begin_delta_refusal, edit_refusal, command_refusal}
+use Rattle.edit_rules.specs.Editor.{OpensRoot, Edits, Named, Opens, ChangesProperty, property_edit, unread, BeginsDelta, FeedsDelta, EndsDelta, Closes, Applies}
+use Rattle.edit_rules.specs.Soundness.{AreTrees, StandsIn, IsSoundIn, IsSoundEdit}
+use Rattle.edit_rules.specs.declared.opened.Opened.{Opened}
+use Rattle.edit_rules.specs.declared.opened.Opened.TheVariants.{Directory, File}
+use Rattle.edit_rules.specs.declared.opened.Delta.{Delta}
+use Rattle.edit_rules.specs.declared.opened.Delta.TheVariants.{Untouched, Reading, Made}
 
 -- ---- what is open
 

@@ -3,10 +3,10 @@ use Rattle.std.specs.Prelude.{◌≡◌, List, [], ◌∷◌, Option, Some, None
 use Rattle.std.specs.List.{All}
 use Rattle.repo_api.specs.Trees.{Tree, IsTree, HasDirectory, HasFile}
 use Rattle.repo_api.specs.States.{TxnState, Fixed, tree_of}
-use Rattle.editor.specs.Tokens.{Tokens}
-use Rattle.editor.specs.Edits.{EditState}
-use Rattle.editor.specs.declared.opened.Opened.{Opened}
-use Rattle.editor.specs.declared.opened.Opened.TheVariants.{Directory, File}
+use Rattle.edit_rules.specs.Tokens.{Tokens}
+use Rattle.edit_rules.specs.Edits.{EditState}
+use Rattle.edit_rules.specs.declared.opened.Opened.{Opened}
+use Rattle.edit_rules.specs.declared.opened.Opened.TheVariants.{Directory, File}
 
 -- each revision's tree is a tree
 abbrev pub AreTrees : List Fixed → Type 0

@@ -1,0 +1,6 @@
+pub mod Tokens
+pub mod Edits
+pub mod Refusing
+pub mod Editor
+pub mod Judging
+pub mod Soundness
