@@ -36,15 +36,28 @@ pub edit_ends : (env : Env) (c : RepoState) (client : Client) (asked : Asked) (e
 edit_ends env c client asked edit command r refused =
     subst (λ (o : Option Refusal). Edits env c client asked edit command o (gives_up env client r)) (sym refused) refl
 
-pub commit_accepted : (may : Verdict → Bool) (env : Env) (c : RepoState) (client : Client) (asked : Asked) (t : TxnState) (v : Verdict) (date : List ℕ)
-    → commit_refusal c t ≡ None → IsTrue (may v) → IsDateText env.moment date → CloseStep may env c client asked (Ok t) (commit_answer env c client asked t date v)
-commit_accepted may env c client asked t v date accepted allowed is_date =
-    subst (λ (o : Option Refusal). CommitStep may env c client asked t o (commit_answer env c client asked t date v)) (sym accepted) (v, allowed, date, is_date, refl)
+-- what is asked to be recorded is refused as what the session asks for
+same_refusal : (c : RepoState) (t : TxnState) (ask asks : CommitAsk) (r : Option Refusal)
+    → ask ≡ asks → commit_refusal c ask t ≡ r → commit_refusal c asks t ≡ r
+same_refusal c t ask asks r same is = subst (λ (x : CommitAsk). commit_refusal c x t ≡ r) same is
+
+pub commit_accepted : (may : Verdict → Bool) (env : Env) (c : RepoState) (client : Client) (asked : Asked) (t : TxnState) (v : Verdict)
+    (date : List ℕ) (ask : CommitAsk) → ask ≡ commit_ask client asked date → commit_refusal c ask t ≡ None → IsTrue (may v) → IsDateText env.moment date
+    → CloseStep may env c client asked (Ok t) (commit_answer env c client asked t date v)
+commit_accepted may env c client asked t v date ask same accepted allowed is_date =
+    let now = same_refusal c t ask (commit_ask client asked date) None same accepted in
+    let said = commit_answer env c client asked t date v in
+    let step = subst (λ (o : Option Refusal). CommitStep may env c client asked t date o said) (sym now) (v, allowed, refl) in
+    (date, is_date, step)
 
 pub commit_refused : (may : Verdict → Bool) (env : Env) (c : RepoState) (client : Client) (asked : Asked) (t : TxnState) (r : Refusal)
-    → commit_refusal c t ≡ Some r → CloseStep may env c client asked (Ok t) (says env (Serving client) (replies.Failure r ∷ []))
-commit_refused may env c client asked t r refused =
-    subst (λ (o : Option Refusal). CommitStep may env c client asked t o (says env (Serving client) (replies.Failure r ∷ []))) (sym refused) refl
+    (date : List ℕ) (ask : CommitAsk) → ask ≡ commit_ask client asked date → commit_refusal c ask t ≡ Some r → IsDateText env.moment date
+    → CloseStep may env c client asked (Ok t) (says env (Serving client) (replies.Failure r ∷ []))
+commit_refused may env c client asked t r date ask same refused is_date =
+    let now = same_refusal c t ask (commit_ask client asked date) (Some r) same refused in
+    let said = says env (Serving client) (replies.Failure r ∷ []) in
+    let step = subst (λ (o : Option Refusal). CommitStep may env c client asked t date o said) (sym now) refl in
+    (date, is_date, step)
 
 pub close_refused : (may : Verdict → Bool) (env : Env) (c : RepoState) (client : Client) (asked : Asked) (f : Result TxnState Refusal) (r : Refusal)
     → f ≡ Err r → CloseStep may env c client asked f (says env (Serving client) (replies.Failure r ∷ []))
@@ -64,22 +77,23 @@ module _ (between : Point → Point → Type 0) (adds : Point → Accepted → P
 
 module _ (between : Point → Point → Type 0) (adds : Point → Accepted → Point → Type 0) (may : Verdict → Bool) (env : Env) (client : Client) (asked : Asked) (t : TxnState) (date : List ℕ) (is_date : IsDateText env.moment date) where
   -- a commit that is written
-  pub committed : (p at q : Point) (ask : CommitAsk) → between p at → commit_refusal (world at) t ≡ None → IsTrue (may Went)
+  pub committed : (p at q : Point) (ask : CommitAsk) → between p at → commit_refusal (world at) ask t ≡ None → IsTrue (may Went)
       → ask ≡ commit_ask client asked date → adds at (Commits ask t) q
       → Happens between adds (λ c a. CloseStep may env c client asked (Ok t) a) p (commit_answer env (world at) client asked t date Went) q
-  committed p at q ask later accepted allowed asks added = record {
+  committed p at q ask later accepted allowed same added = record {
     at = at;
     later = later;
-    step_is = commit_accepted may env (world at) client asked t Went date accepted allowed is_date;
-    moves = subst (λ (x : CommitAsk). adds at (Commits x t) q) asks added;
+    step_is = commit_accepted may env (world at) client asked t Went date ask same accepted allowed is_date;
+    moves = subst (λ (x : CommitAsk). adds at (Commits x t) q) same added;
   }
 
   -- a commit of which nobody knows whether it is written
-  pub halted : (p at q : Point) → between p at → commit_refusal (world at) t ≡ None → IsTrue (may Halts) → IsHalt at q
+  pub halted : (p at q : Point) (ask : CommitAsk) → between p at → commit_refusal (world at) ask t ≡ None → IsTrue (may Halts)
+      → ask ≡ commit_ask client asked date → IsHalt at q
       → Happens between adds (λ c a. CloseStep may env c client asked (Ok t) a) p (commit_answer env (world at) client asked t date Halts) q
-  halted p at q later accepted allowed halts = record {
+  halted p at q ask later accepted allowed same halts = record {
     at = at;
     later = later;
-    step_is = commit_accepted may env (world at) client asked t Halts date accepted allowed is_date;
+    step_is = commit_accepted may env (world at) client asked t Halts date ask same accepted allowed is_date;
     moves = halts;
   }

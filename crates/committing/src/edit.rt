@@ -1,5 +1,5 @@
 //! A commit: its beginning, its commands and its end.
-ghost use Rattle.std.specs.Prelude.{◌≡◌, ◌++◌, ◌∷◌, ◌≤◌, [], ℕ, List, Ok, Err, Some, None, IfOk, OnOk, OnErr, MatchResult, option_map, Option, Bool};
+ghost use Rattle.std.specs.Prelude.{◌≡◌, ◌++◌, ◌∷◌, ◌≤◌, [], ℕ, List, Ok, Err, Some, None, IfOk, OnOk, OnErr, MatchResult, option_map, Option, Bool, IfErr};
 ghost use Rattle.std.specs.List.{list_all};
 ghost use Rattle.svnpath.specs.Paths.{PathValue};
 ghost use Rattle.svnpath.specs.Components.{Answers};
@@ -8,10 +8,11 @@ ghost use Rattle.dates.specs.Dates.{IsDateText};
 ghost use Rattle.repo_api.specs.States.{IsBeginning};
 ghost use Rattle.repo_api.specs.Properties.{PropertyList};
 ghost use Rattle.edit_commands.specs.Editing.{editor_command, ends_edit};
-ghost use Rattle.edit_rules.specs.Editor.{IfRefused, finished, RestsOn};
+ghost use Rattle.edit_rules.specs.Editor.{IfRefused, Applies, finished, RestsOn};
+ghost use Rattle.edit_rules.specs.Edits.{new_edit};
 ghost use Rattle.machine.specs.Points.{world};
-ghost use Rattle.edit_rules.specs.Refusing.{is_property_name};
-ghost use Rattle.machine.specs.Machine.{print, lock_tokens, are_named, set_all, asked_by, commit_begins, skipping_answer, CommitStep, CloseStep, EditStep, EditingStep};
+ghost use Rattle.edit_rules.specs.Refusing.{is_property_name, edit_refusal};
+ghost use Rattle.machine.specs.Machine.{print, lock_tokens, are_named, set_all, asked_by, commit_begins, skipping_answer, gives_up, CommitStep, CloseStep, EditStep, EditingStep};
 ghost use Rattle.machine.specs.Access.{Made, Misses};
 ghost use Rattle.machine.specs.Replying.{IsAnswered};
 ghost use Rattle.machine.specs.declared.env.Env.{Env};
@@ -24,13 +25,12 @@ use editor::CommitEditor;
 use forms::{CommandFault, Pairs};
 use items::{Item, Text};
 use machine::{
-    Asked, Client, Ending, Env, LockTokens, Options, Phase, RepoAccess, SessionPhase, bytes_of,
-    drop_asked, drop_edit, end_malformed, ending_of, forget, give_up, refuse, say, say_both,
-    text_of,
+    Asked, Client, Ending, Env, Options, Phase, RepoAccess, SessionPhase, bytes_of, drop_asked,
+    drop_edit, end_malformed, ending_of, forget, give_up, refuse, say, say_both, text_of,
 };
 use refusals::{Refusal, path_refusal};
 use replies::Reply;
-use repo_api::{ChangeFault, CommitAsk, Properties, Repository};
+use repo_api::{ChangeFault, CommitAsk, LockTokens, Properties, Repository};
 use std::alloc::{AllocError, Global};
 use svnpath::{Bytes, Path, PathFault};
 
@@ -41,7 +41,7 @@ fn lock_tokens(alloc: Global, base: &Path, pairs: &[(Text, Text)]) -> Result<Loc
     let mut tokens = LockTokens::new(alloc);
     for pair in pairs {
         let path = base.join(alloc, pair.0.as_bytes())?;
-        let token = text_of(alloc, pair.1.as_bytes())?;
+        let token = bytes_of(alloc, pair.1.as_bytes())?;
         tokens.push(path, token)?;
     }
     Ok(tokens)
@@ -133,6 +133,28 @@ fn asked_by(alloc: Global, base: &Path, command: &CommitCommand) -> Result<Asked
     }
 }
 
+/// An edit that nothing has been made of, once its client is told that it may begin.
+fn begin<R: Repository>(
+    alloc: Global,
+    options: &Options,
+    path: &Path,
+    out: &mut Vec<u8>,
+) -> Result<CommitEditor<R>, AllocError>
+    ensures edit { IfOk result (λ editor. editor ≡ new_edit path.now options.now.name) }
+    ensures told { OnOk result (out.new.items ≡ out.old.items ++ print (Reply.NoLogin ∷ Reply.Success ∷ [])) }
+{
+    say_both(alloc, &Reply::NoLogin, &Reply::Success, out)?;
+    let name = String::from_str(alloc, options.name())?;
+    Ok(CommitEditor::new(alloc, path.clone()?, name))
+}
+
+/// Tells why a commit does not begin.
+fn decline(alloc: Global, refusal: Refusal, out: &mut Vec<u8>) -> Result<(), AllocError>
+    ensures { OnOk result (out.new.items ≡ out.old.items ++ print (Reply.NoLogin ∷ Reply.Failure refusal ∷ [])) }
+{
+    say_both(alloc, &Reply::NoLogin, &Reply::Failure(refusal), out)
+}
+
 /// The beginning of an edit.
 pub fn begin_edit<R: Repository>(
     alloc: Global,
@@ -145,16 +167,69 @@ pub fn begin_edit<R: Repository>(
 {
     match asked_by(alloc, &client.path, command) {
         Ok(asked) => {
-            let name = String::from_str(alloc, options.name())?;
-            let editor = CommitEditor::new(alloc, client.path.clone()?, name);
-            say_both(alloc, &Reply::NoLogin, &Reply::Success, out)?;
-            Ok(Phase::Editing(client, asked, editor))
+            match begin(alloc, options, &client.path, out) {
+                Ok(editor) => Ok(Phase::Editing(client, asked, editor)),
+                Err(error) => {
+                    forget(client);
+                    drop_asked(asked);
+                    Err(error)
+                }
+            }
         }
-        Err(EditFault::Refused(refusal)) => {
-            say_both(alloc, &Reply::NoLogin, &Reply::Failure(refusal), out)?;
-            Ok(Phase::Serving(client))
+        Err(EditFault::Refused(refusal)) => match decline(alloc, refusal, out) {
+            Ok(()) => Ok(Phase::Serving(client)),
+            Err(error) => {
+                forget(client);
+                Err(error)
+            }
+        },
+        Err(EditFault::NoMemory) => {
+            forget(client);
+            Err(AllocError)
         }
-        Err(EditFault::NoMemory) => Err(AllocError),
+    }
+}
+
+/// Applies a command at the repository as it is now.
+fn apply_now<R: Repository, A: RepoAccess<View = R>>(
+    editor: &mut CommitEditor<R>,
+    command: &EditorCommand,
+    access: &mut A,
+) -> Result<(), EditFault>
+    requires { RestsOn editor.old (world (A.point access.old)) }
+    ensures ok { OnOk result ((edit_refusal (world (A.point access.new)) editor.old command.now ≡ None) × Applies (world (A.point access.new)) editor.old command.now editor.new) }
+    ensures err { IfErr result (λ fault. IfRefused fault (λ r. edit_refusal (world (A.point access.new)) editor.old command.now ≡ Some r)) }
+    ensures later { A.between (A.point access.old) (A.point access.new) }
+{
+    let view = access.look()?;
+    editor.apply(command, &view)
+}
+
+/// Tells why a command is refused.
+fn tell_refusal(alloc: Global, refusal: Refusal, out: &mut Vec<u8>) -> Result<(), AllocError>
+    ensures { OnOk result (out.new.items ≡ out.old.items ++ print (Reply.Failure refusal ∷ [])) }
+{
+    say(alloc, &Reply::Failure(refusal), out)
+}
+
+/// Gives an edit up, and tells why.
+fn give_up_over<R: Repository>(
+    alloc: Global,
+    client: Client,
+    asked: Asked,
+    editor: CommitEditor<R>,
+    refusal: Refusal,
+    out: &mut Vec<u8>,
+) -> Result<SessionPhase<R>, AllocError>
+    ensures { IfOk result (λ phase. (env : Env) → IsAnswered (gives_up env client refusal) phase out.old.items out.new.items) }
+{
+    match tell_refusal(alloc, refusal, out) {
+        Ok(()) => Ok(give_up(client, asked, editor)),
+        Err(error) => {
+            forget(client);
+            drop_edit(asked, editor);
+            Err(error)
+        }
     }
 }
 
@@ -174,14 +249,17 @@ fn edit<R: Repository, A: RepoAccess<View = R>>(
     ensures later { A.between (A.point access.old) (A.point access.new) }
 {
     let mut editor = editor;
-    let view = access.look()?;
-    match editor.apply(command, &view) {
+    match apply_now(&mut editor, command, access) {
         Ok(()) => Ok(Phase::Editing(client, asked, editor)),
         Err(EditFault::Refused(refusal)) => {
-            say(alloc, &Reply::Failure(refusal), out)?;
-            Ok(give_up(client, asked, editor))
+            let phase = give_up_over(alloc, client, asked, editor, refusal, out)?;
+            Ok(phase)
         }
-        Err(EditFault::NoMemory) => Err(AllocError),
+        Err(EditFault::NoMemory) => {
+            forget(client);
+            drop_edit(asked, editor);
+            Err(AllocError)
+        }
     }
 }
 
@@ -211,18 +289,28 @@ fn commit_ask(
     asked: Asked,
     date: &Text,
 ) -> Result<CommitAsk, AllocError>
-    ensures { IfOk result (λ ask. ask ≡ record { date = date.now; author = user.now; message = asked.message; properties = asked.properties }) }
+    ensures { IfOk result (λ ask. ask ≡ record {
+      date = date.now;
+      author = user.now;
+      message = asked.message;
+      properties = asked.properties;
+      tokens = asked.tokens;
+      keep_locks = asked.keep_locks;
+    }) }
 {
     let Asked {
         message,
         properties,
-        ..
+        tokens,
+        keep_locks,
     } = asked;
     Ok(CommitAsk {
         date: bytes_of(alloc, date.as_bytes())?,
         author: user_of(user)?,
         message,
         properties,
+        tokens,
+        keep_locks,
     })
 }
 
@@ -351,6 +439,25 @@ fn obey<R: Repository, A: RepoAccess<View = R>>(
     }
 }
 
+/// A command of an edit, which is dropped then.
+fn carry_out<R: Repository, A: RepoAccess<View = R>>(
+    alloc: Global,
+    client: Client,
+    asked: Asked,
+    editor: CommitEditor<R>,
+    command: EditorCommand,
+    access: &mut A,
+    env: Env,
+    out: &mut Vec<u8>,
+) -> Result<SessionPhase<R>, AllocError>
+    requires rests { RestsOn editor (world (A.point access.old)) }
+    requires moment { env.moment ≤ 200000000000000000 }
+    ensures ok { IfOk result (λ phase. Made A.between A.adds (λ c a. EditingStep A.may env c client asked editor (Ok command) a) (A.point access.old) out.old.items (A.point access.new) phase out.new.items) }
+    ensures err { OnErr result (Misses A.between A.adds (λ c a. EditingStep A.may env c client asked editor (Ok command) a) (A.point access.old) (A.point access.new)) }
+{
+    obey(alloc, client, asked, editor, &command, access, env, out)
+}
+
 /// An item within an edit.
 pub fn edit_item<R: Repository, A: RepoAccess<View = R>>(
     alloc: Global,
@@ -368,13 +475,10 @@ pub fn edit_item<R: Repository, A: RepoAccess<View = R>>(
     ensures err { OnErr result (Misses A.between A.adds (λ c a. EditingStep A.may env c client asked editor (editor_command (tree_of item.now)) a) (A.point access.old) (A.point access.new)) }
 {
     match EditorCommand::from_item(alloc, item) {
-        Ok(command) => {
-            let phase = obey(alloc, client, asked, editor, &command, access, env, out)?;
-            Ok(phase)
-        }
+        Ok(command) => carry_out(alloc, client, asked, editor, command, access, env, out),
         Err(CommandFault::UnknownName) => {
-            say(alloc, &Reply::Failure(Refusal::UnknownCommand), out)?;
-            Ok(give_up(client, asked, editor))
+            let phase = give_up_over(alloc, client, asked, editor, Refusal::UnknownCommand, out)?;
+            Ok(phase)
         }
         Err(CommandFault::BadParameters) => {
             forget(client);
@@ -382,7 +486,11 @@ pub fn edit_item<R: Repository, A: RepoAccess<View = R>>(
             let phase = end_malformed(alloc, out)?;
             Ok(phase)
         }
-        Err(CommandFault::NoMemory) => Err(AllocError),
+        Err(CommandFault::NoMemory) => {
+            forget(client);
+            drop_edit(asked, editor);
+            Err(AllocError)
+        }
     }
 }
 

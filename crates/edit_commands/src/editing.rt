@@ -1,9 +1,12 @@
 //! The commands of an edit.
-ghost use Rattle.std.specs.Prelude.{◌≡◌};
+ghost use Rattle.std.specs.Prelude.{◌≡◌, Err, MatchOption};
+ghost use Rattle.items.specs.Tree.{Trees};
+ghost use Rattle.forms.specs.declared.fault.CommandFault.TheVariants.{UnknownName};
 ghost use Rattle.items.specs.View.{tree_of, trees_of};
 ghost use Rattle.forms.specs.Answering.{Answers};
 ghost use Rattle.forms.specs.Forms.{optional_number};
 ghost use Rattle.edit_commands.specs.Editing.{editor_command, editing_named, file_named, target_revision, open_root, root_of, ends_edit, is_last};
+ghost use Rattle.edit_commands.specs.Names.{entry_command, file_command};
 ghost use Rattle.edit_commands.specs.Places.{token_first};
 
 use crate::places::{read_absent, read_added, read_deleted, read_opened, read_token};
@@ -111,31 +114,94 @@ impl EditorCommand {
     }
 }
 
+/// A name of a command that is of no file.
+#[derive(Clone, Copy)]
+enum EntryName {
+    TargetRevision,
+    OpenRoot,
+    Delete,
+    AddDirectory,
+    OpenDirectory,
+    ChangeProperty,
+    CloseDirectory,
+    AbsentDirectory,
+    CloseEdit,
+    AbortEdit,
+}
+
+/// A name of a command of a file.
+#[derive(Clone, Copy)]
+enum FileName {
+    Add,
+    Open,
+    ChangeProperty,
+    ApplyTextDelta,
+    TextDeltaChunk,
+    TextDeltaEnd,
+    Close,
+    Absent,
+}
+
+/// The name of a command that is of no file, if it is one.
+fn entry_name(name: &[u8]) -> Option<EntryName>
+    ensures { MatchOption result ((params : Trees) → editing_named name.now params ≡ file_named name.now params) (λ n. (params : Trees) → editing_named name.now params ≡ entry_command n params) }
+{
+    if name == b"target-rev".as_slice() {
+        Some(EntryName::TargetRevision)
+    } else if name == b"open-root".as_slice() {
+        Some(EntryName::OpenRoot)
+    } else if name == b"delete-entry".as_slice() {
+        Some(EntryName::Delete)
+    } else if name == b"add-dir".as_slice() {
+        Some(EntryName::AddDirectory)
+    } else if name == b"open-dir".as_slice() {
+        Some(EntryName::OpenDirectory)
+    } else if name == b"change-dir-prop".as_slice() {
+        Some(EntryName::ChangeProperty)
+    } else if name == b"close-dir".as_slice() {
+        Some(EntryName::CloseDirectory)
+    } else if name == b"absent-dir".as_slice() {
+        Some(EntryName::AbsentDirectory)
+    } else if name == b"close-edit".as_slice() {
+        Some(EntryName::CloseEdit)
+    } else if name == b"abort-edit".as_slice() {
+        Some(EntryName::AbortEdit)
+    } else {
+        None
+    }
+}
+
+/// The name of a command of a file, if it is one.
+fn file_name(name: &[u8]) -> Option<FileName>
+    ensures { MatchOption result ((params : Trees) → file_named name.now params ≡ Err UnknownName) (λ n. (params : Trees) → file_named name.now params ≡ file_command n params) }
+{
+    if name == b"add-file".as_slice() {
+        Some(FileName::Add)
+    } else if name == b"open-file".as_slice() {
+        Some(FileName::Open)
+    } else if name == b"change-file-prop".as_slice() {
+        Some(FileName::ChangeProperty)
+    } else if name == b"apply-textdelta".as_slice() {
+        Some(FileName::ApplyTextDelta)
+    } else if name == b"textdelta-chunk".as_slice() {
+        Some(FileName::TextDeltaChunk)
+    } else if name == b"textdelta-end".as_slice() {
+        Some(FileName::TextDeltaEnd)
+    } else if name == b"close-file".as_slice() {
+        Some(FileName::Close)
+    } else if name == b"absent-file".as_slice() {
+        Some(FileName::Absent)
+    } else {
+        None
+    }
+}
+
 fn read_named(alloc: Global, name: &[u8], params: &[Item]) -> Result<EditorCommand, CommandFault>
     ensures { Answers result (editing_named name.now (trees_of params.now)) }
 {
-    if name == b"target-rev".as_slice() {
-        read_target_revision(params)
-    } else if name == b"open-root".as_slice() {
-        read_open_root(alloc, params)
-    } else if name == b"delete-entry".as_slice() {
-        Ok(EditorCommand::DeleteEntry(read_deleted(alloc, params)?))
-    } else if name == b"add-dir".as_slice() {
-        Ok(EditorCommand::AddDirectory(read_added(alloc, params)?))
-    } else if name == b"open-dir".as_slice() {
-        Ok(EditorCommand::OpenDirectory(read_opened(alloc, params)?))
-    } else if name == b"change-dir-prop".as_slice() {
-        Ok(EditorCommand::ChangeDirectoryProperty(read_property(alloc, params)?))
-    } else if name == b"close-dir".as_slice() {
-        Ok(EditorCommand::CloseDirectory(read_token_alone(alloc, params)?))
-    } else if name == b"absent-dir".as_slice() {
-        Ok(EditorCommand::AbsentDirectory(read_absent(alloc, params)?))
-    } else if name == b"close-edit".as_slice() {
-        Ok(EditorCommand::CloseEdit)
-    } else if name == b"abort-edit".as_slice() {
-        Ok(EditorCommand::AbortEdit)
-    } else {
-        read_file_named(alloc, name, params)
+    match entry_name(name) {
+        Some(known) => read_entry(alloc, known, params),
+        None => read_file_named(alloc, name, params),
     }
 }
 
@@ -147,27 +213,67 @@ fn read_file_named(
 ) -> Result<EditorCommand, CommandFault>
     ensures { Answers result (file_named name.now (trees_of params.now)) }
 {
-    if name == b"add-file".as_slice() {
-        Ok(EditorCommand::AddFile(read_added(alloc, params)?))
-    } else if name == b"open-file".as_slice() {
-        Ok(EditorCommand::OpenFile(read_opened(alloc, params)?))
-    } else if name == b"change-file-prop".as_slice() {
-        Ok(EditorCommand::ChangeFileProperty(read_property(alloc, params)?))
-    } else if name == b"apply-textdelta".as_slice() {
-        let (token, checksum) = read_with_checksum(alloc, params)?;
-        Ok(EditorCommand::ApplyTextDelta(token, checksum))
-    } else if name == b"textdelta-chunk".as_slice() {
-        let (token, bytes) = read_chunk(alloc, params)?;
-        Ok(EditorCommand::TextDeltaChunk(token, bytes))
-    } else if name == b"textdelta-end".as_slice() {
-        Ok(EditorCommand::TextDeltaEnd(read_token_alone(alloc, params)?))
-    } else if name == b"close-file".as_slice() {
-        let (token, checksum) = read_with_checksum(alloc, params)?;
-        Ok(EditorCommand::CloseFile(token, checksum))
-    } else if name == b"absent-file".as_slice() {
-        Ok(EditorCommand::AbsentFile(read_absent(alloc, params)?))
-    } else {
-        Err(CommandFault::UnknownName)
+    match file_name(name) {
+        Some(known) => read_file(alloc, known, params),
+        None => Err(CommandFault::UnknownName),
+    }
+}
+
+/// A command that is of no file, of a name that is known.
+fn read_entry(
+    alloc: Global,
+    name: EntryName,
+    params: &[Item],
+) -> Result<EditorCommand, CommandFault>
+    ensures { Answers result (entry_command name (trees_of params.now)) }
+{
+    match name {
+        EntryName::TargetRevision => read_target_revision(params),
+        EntryName::OpenRoot => read_open_root(alloc, params),
+        EntryName::Delete => Ok(EditorCommand::DeleteEntry(read_deleted(alloc, params)?)),
+        EntryName::AddDirectory => Ok(EditorCommand::AddDirectory(read_added(alloc, params)?)),
+        EntryName::OpenDirectory => Ok(EditorCommand::OpenDirectory(read_opened(alloc, params)?)),
+        EntryName::ChangeProperty => {
+            let change = read_property(alloc, params)?;
+            Ok(EditorCommand::ChangeDirectoryProperty(change))
+        }
+        EntryName::CloseDirectory => {
+            let token = read_token_alone(alloc, params)?;
+            Ok(EditorCommand::CloseDirectory(token))
+        }
+        EntryName::AbsentDirectory => {
+            Ok(EditorCommand::AbsentDirectory(read_absent(alloc, params)?))
+        }
+        EntryName::CloseEdit => Ok(EditorCommand::CloseEdit),
+        EntryName::AbortEdit => Ok(EditorCommand::AbortEdit),
+    }
+}
+
+/// A command of a file, of a name that is known.
+fn read_file(alloc: Global, name: FileName, params: &[Item]) -> Result<EditorCommand, CommandFault>
+    ensures { Answers result (file_command name (trees_of params.now)) }
+{
+    match name {
+        FileName::Add => Ok(EditorCommand::AddFile(read_added(alloc, params)?)),
+        FileName::Open => Ok(EditorCommand::OpenFile(read_opened(alloc, params)?)),
+        FileName::ChangeProperty => {
+            let change = read_property(alloc, params)?;
+            Ok(EditorCommand::ChangeFileProperty(change))
+        }
+        FileName::ApplyTextDelta => {
+            let (token, checksum) = read_with_checksum(alloc, params)?;
+            Ok(EditorCommand::ApplyTextDelta(token, checksum))
+        }
+        FileName::TextDeltaChunk => {
+            let (token, bytes) = read_chunk(alloc, params)?;
+            Ok(EditorCommand::TextDeltaChunk(token, bytes))
+        }
+        FileName::TextDeltaEnd => Ok(EditorCommand::TextDeltaEnd(read_token_alone(alloc, params)?)),
+        FileName::Close => {
+            let (token, checksum) = read_with_checksum(alloc, params)?;
+            Ok(EditorCommand::CloseFile(token, checksum))
+        }
+        FileName::Absent => Ok(EditorCommand::AbsentFile(read_absent(alloc, params)?)),
     }
 }
 

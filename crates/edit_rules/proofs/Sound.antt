@@ -1,29 +1,35 @@
 -- What keeps an edit sound.
-use Rattle.std.proofs.Common.{◌≡◌, ℕ, zero, suc, ◌+◌, ◌==◌, Bool, true, false, cond, not, ◌&&◌, is_some, List, [], ◌∷◌, ◌++◌, drop, length, Option, Some, None, option_map, refl, sym, ap, subst, ◌∙◌, arith}
-use Rattle.std.proofs.lemmas.Bool.{eqb-true}
+use Rattle.std.proofs.Common.{◌≡◌, ◌⊎◌, inl, inr, append-nil, ◌||◌, ℕ, zero, suc, ◌+◌, ◌==◌, Bool, true, false, cond, not, ◌&&◌, is_some, List, [], ◌∷◌, ◌++◌, drop, length, Option, Some, None, option_map, refl, sym, ap, subst, ◌∙◌, arith}
+use Rattle.std.proofs.lemmas.Bool.{eqb-true, false≢true}
 use Rattle.std.proofs.lemmas.List.{length-drop}
 use Rattle.std.proofs.lemmas.List.Elements.{All-nil, All-cons, All-head, All-tail, All-weaker}
-use Rattle.std.specs.Prelude.{if◌then◌else◌, IsSomeAnd, Result, Ok, option_and_then, slice_get}
+use Rattle.std.specs.Prelude.{if◌then◌else◌, IsSome, IsSomeAnd, nat_le, Result, Ok, option_and_then, slice_get}
 use Rattle.std.specs.List.{All, filter}
 use Rattle.std.specs.BTreeMap.{insert_entry, is_at}
 use Rattle.std.specs.Map.{lookup, remove_entry, set_value}
 use Rattle.std.specs.FinMap.{get, get-empty}
-use Rattle.std.specs.Cmp.Lexicographic.{slice_cmp}
+use Rattle.std.specs.Cmp.Lexicographic.{slice_cmp, pointwise, texts_ties}
 use Rattle.std.specs.Ordering.{nat_cmp, match_ordering}
 use Rattle.std.specs.declared.cmp.Ordering.{Ordering}
 use Rattle.std.specs.declared.cmp.Ordering.TheVariants.{Less, Equal, Greater}
 use Rattle.svnpath.specs.Paths.{PathValue, Component, path_cmp, same_path, is_at_or_under}
-use Rattle.svnpath.specs.PathLaws.{under_is, same_path_is, same_path_refl}
+use Rattle.svnpath.specs.PathLaws.{under_is, under_itself, rest_append, same_path_is, same_path_refl}
 use Rattle.svnpath.specs.Texts.{joined}
 use Rattle.svnpath.specs.declared.fault.PathFault.{PathFault}
 use Rattle.svndiff0.specs.Applying.{fed}
 use Rattle.refusals.specs.declared.Refusal.{Refusal}
 use Rattle.refusals.specs.declared.Refusal.TheVariants as refusals
 use Rattle.repo_api.specs.Trees.{Tree, IsTree, HasDirectory, HasFile, is_directory, is_directory_content}
-use Rattle.repo_api.specs.Edits.{touched, opened, touched_above, new_entry, added, revised, with_text, with_value, without_value, deleted, edited, begun}
-use Rattle.repo_api.specs.States.{RepoState, TxnState, Fixed, tree_of, tree_in, tree_at, youngest}
+use Rattle.repo_api.specs.Edits.{touched, opened, touched_above, new_entry, added, revised, with_text, with_value, without_value, deleted, grafted, copy_of, copied, edited, begun}
+use Rattle.repo_api.specs.EditLaws.{grafted_over}
+use Rattle.repo_api.specs.Marks.{AreMarked, HasSource}
+use Rattle.repo_api.specs.Transactions.{IsMarkedTxn}
+use Rattle.repo_api.specs.States.{RepoState, TxnState, Fixed, IsBeginning, IsBegun, IsEdited, tree_of, tree_in, tree_at, trees_in, youngest}
 use Rattle.repo_api.specs.Kinds.{kind_of, kind_at, content_kind}
+use Rattle.repo_api.specs.declared.change.Source.{Source}
 use Rattle.repo_api.specs.declared.entry.Entry.{Entry}
+use Rattle.repo_api.specs.declared.entry.NodeKind.{NodeKind}
+use Rattle.repo_api.specs.declared.entry.NodeKind.TheVariants as kinds
 use Rattle.repo_api.specs.declared.entry.Content.{Content}
 use Rattle.repo_api.specs.declared.entry.Content.TheVariants as contents
 use Rattle.repo_api.specs.declared.edit.EditOp.{EditOp}
@@ -34,11 +40,12 @@ use Rattle.edit_commands.specs.declared.editing.AddedEntry.{AddedEntry}
 use Rattle.edit_commands.specs.declared.editing.OpenedEntry.{OpenedEntry}
 use Rattle.edit_commands.specs.declared.editing.DeletedEntry.{DeletedEntry}
 use Rattle.edit_commands.specs.declared.editing.PropertyChange.{PropertyChange}
-use Rattle.edit_rules.specs.Tokens.{Tokens, with_token, without_token, with_change, opened_under, path_of, directory_path, directory_of, closed_beneath, is_within, is_placed}
+use Rattle.edit_rules.specs.Tokens.{Tokens, with_token, without_token, with_change, opened_under, path_of, directory_path, directory_of, copies_under, closed_beneath, is_within, is_placed}
 use Rattle.edit_rules.specs.Edits.{EditState, standing, created, open_in, file_text}
-use Rattle.edit_rules.specs.Refusing.{first, unless, directory_refusal, add_refusal, age_refusal, file_refusal, delete_refusal, place_refusal, parent_refusal, source_fault, copy_refusal, open_root_refusal, before_root, delete_entry_refusal, add_entry_refusal, open_directory_refusal, open_file_refusal, begin_delta_refusal, edit_refusal, command_refusal}
-use Rattle.edit_rules.specs.Editor.{OpensRoot, Edits, Named, Opens, ChangesProperty, property_edit, unread, BeginsDelta, FeedsDelta, EndsDelta, Closes, Applies}
-use Rattle.edit_rules.specs.Soundness.{AreTrees, StandsIn, IsSoundIn, IsSoundEdit}
+use Rattle.edit_rules.specs.Refusing.{first, unless, directory_refusal, add_refusal, age_refusal, file_refusal, delete_refusal, place_refusal, parent_refusal, source_of, room_refusal, source_kind_refusal, depth_refusal, source_refusal, adding_refusal, open_root_refusal, before_root, delete_entry_refusal, add_entry_refusal, open_directory_refusal, open_file_refusal, begin_delta_refusal, edit_refusal, command_refusal}
+use Rattle.edit_rules.specs.Editor.{OpensRoot, Edits, Named, Opens, opened_directory, copy_edit, added_edit, added_opened, tokens_added, Adds, ChangesProperty, property_edit, unread, BeginsDelta, FeedsDelta, EndsDelta, Closes, Applies, RestsIn, RestsOn}
+use Rattle.edit_rules.specs.Soundness.{AreTrees, AreSound, StandsIn, IsSoundIn, IsSoundEdit}
+use Rattle.edit_rules.specs.declared.opened.OpenedDirectory.{OpenedDirectory}
 use Rattle.edit_rules.specs.declared.opened.Opened.{Opened}
 use Rattle.edit_rules.specs.declared.opened.Opened.TheVariants.{Directory, File}
 use Rattle.edit_rules.specs.declared.opened.Delta.{Delta}
@@ -76,13 +83,51 @@ all_changed P test (e ∷ es) o here all = by (test e.0) (all_changed P test es 
     by false later = All-cons (OfOpened P) e (set_value test es o) (All-head (OfOpened P) e es all) later
 
 -- what holds of those that are kept
-all_kept : (P Q : Opened → Type 0) (keep : List ℕ × Opened → Bool) → ((e : List ℕ × Opened) → keep e ≡ true → P e.1 → Q e.1) → (es : Tokens) → All (OfOpened P) es → All (OfOpened Q) (filter keep es)
-all_kept P Q keep holds [] all = All-nil (OfOpened Q)
-all_kept P Q keep holds (e ∷ es) all = by (keep e) refl (all_kept P Q keep holds es (All-tail (OfOpened P) e es all))
+all_kept : (P Q : List ℕ × Opened → Type 0) (keep : List ℕ × Opened → Bool) → ((e : List ℕ × Opened) → keep e ≡ true → P e → Q e) → (es : Tokens) → All P es → All Q (filter keep es)
+all_kept P Q keep holds [] all = All-nil Q
+all_kept P Q keep holds (e ∷ es) all = by (keep e) refl (all_kept P Q keep holds es (All-tail P e es all))
   where
-    by : (b : Bool) → keep e ≡ b → All (OfOpened Q) (filter keep es) → All (OfOpened Q) (cond b (e ∷ filter keep es) (filter keep es))
-    by true kept later = All-cons (OfOpened Q) e (filter keep es) (holds e kept (All-head (OfOpened P) e es all)) later
+    by : (b : Bool) → keep e ≡ b → All Q (filter keep es) → All Q (cond b (e ∷ filter keep es) (filter keep es))
+    by true kept later = All-cons Q e (filter keep es) (holds e kept (All-head P e es all)) later
     by false kept later = later
+
+-- one that is new, of which Q holds, or another one, of which P does
+abbrev IsNewOr : (Opened → Type 0) → (Opened → Type 0) → (List ℕ → Bool) → List ℕ × Opened → Type 0
+IsNewOr P Q test e = Q e.1 ⊎ ((test e.0 ≡ false) × P e.1)
+
+missing_first : (test : List ℕ → Bool) (e : List ℕ × Opened) (es : Tokens) → lookup test (e ∷ es) ≡ None → (test e.0 ≡ false) × (lookup test es ≡ None)
+missing_first test e es none = by (test e.0) refl none
+  where
+    by : (b : Bool) → test e.0 ≡ b → cond b (Some e.1) (lookup test es) ≡ None → (test e.0 ≡ false) × (lookup test es ≡ None)
+    by true t n = cc
+    by false t n = (t, n)
+
+all_other : (P Q : Opened → Type 0) (test : List ℕ → Bool) (es : Tokens) → lookup test es ≡ None → All (OfOpened P) es → All (IsNewOr P Q test) es
+all_other P Q test [] none all = All-nil (IsNewOr P Q test)
+all_other P Q test (e ∷ es) none all =
+    let m = missing_first test e es none in
+    All-cons (IsNewOr P Q test) e es (inr (m.0, All-head (OfOpened P) e es all)) (all_other P Q test es m.1 (All-tail (OfOpened P) e es all))
+
+all_with_new : (P Q : Opened → Type 0) (cmp : List ℕ → List ℕ → Ordering) (es : Tokens) (k : List ℕ) (o : Opened) → lookup (is_at (cmp k)) es ≡ None → Q o → All (OfOpened P) es → All (IsNewOr P Q (is_at (cmp k))) (insert_entry cmp es k o)
+all_with_new P Q cmp [] k o none here all = All-cons (IsNewOr P Q (is_at (cmp k))) (k, o) [] (inl here) (All-nil (IsNewOr P Q (is_at (cmp k))))
+all_with_new P Q cmp (e ∷ es) k o none here all = by (cmp k e.0) (all_with_new P Q cmp es k o m.1 here (All-tail (OfOpened P) e es all))
+  where
+    test : List ℕ → Bool
+    test = is_at (cmp k)
+
+    m : (is_at (cmp k) e.0 ≡ false) × (lookup (is_at (cmp k)) es ≡ None)
+    m = missing_first (is_at (cmp k)) e es none
+
+    rest : All (IsNewOr P Q (is_at (cmp k))) es
+    rest = all_other P Q (is_at (cmp k)) es m.1 (All-tail (OfOpened P) e es all)
+
+    old : IsNewOr P Q (is_at (cmp k)) e
+    old = inr (m.0, All-head (OfOpened P) e es all)
+
+    by : (r : Ordering) → All (IsNewOr P Q (is_at (cmp k))) (insert_entry cmp es k o) → All (IsNewOr P Q (is_at (cmp k))) (match_ordering r ((k, o) ∷ e ∷ es) ((e.0, o) ∷ es) (e ∷ insert_entry cmp es k o))
+    by Less later = All-cons (IsNewOr P Q (is_at (cmp k))) (k, o) (e ∷ es) (inl here) (All-cons (IsNewOr P Q (is_at (cmp k))) e es old rest)
+    by Equal later = All-cons (IsNewOr P Q (is_at (cmp k))) (e.0, o) es (inl here) rest
+    by Greater later = All-cons (IsNewOr P Q (is_at (cmp k))) e (insert_entry cmp es k o) old later
 
 abbrev IfFound : (Opened → Type 0) → Option Opened → Type 0
 IfFound P None = Unit {0}
@@ -127,7 +172,7 @@ HasParent t p = (d : PathValue) × (HasDirectory t d × IsBeneath d p)
 
 within_found : (t : Tree) (o : Option Opened) (p : PathValue) → IfFound (StandsIn t) o → is_within (option_and_then directory_path o) p ≡ true → HasParent t p
 within_found t None p found within = cc
-within_found t (Some (Directory d revision)) p found within = (d, (found, beneath d p within))
+within_found t (Some (Directory d)) p found within = (d.path, (found, beneath d.path p within))
 within_found t (Some (File d delta)) p found within = cc
 
 -- ---- what stands where
@@ -137,7 +182,7 @@ abbrev StandsAs : Bool → Option Entry → Type 0
 StandsAs kind o = IsSomeAnd o (λ e. is_directory e ≡ kind)
 
 opened_stands : (t u : Tree) (o : Opened) → ((kind : Bool) → StandsAs kind (t (path_of o)) → StandsAs kind (u (path_of o))) → StandsIn t o → StandsIn u o
-opened_stands t u (Directory p revision) keeps h = keeps true h
+opened_stands t u (Directory d) keeps h = keeps true h
 opened_stands t u (File p delta) keeps h = keeps false h
 
 stays_same : (t u : Tree) → ((p : PathValue) → t p ≡ u p) → (o : Opened) → StandsIn t o → StandsIn u o
@@ -186,13 +231,26 @@ stays_written : (text : List ℕ) (kind : Bool) (o : Option Entry) → StandsAs 
 stays_written text kind None file h = h
 stays_written text kind (Some e) file h = sym file ∙ h
 
--- what is neither at the path of a delete nor under it stays
-stays_outside : (t : Tree) (p : PathValue) (o : Opened) → not (is_at_or_under (path_of o) p) ≡ true → StandsIn t o → StandsIn (deleted t p) o
-stays_outside t p o kept h = opened_stands t (deleted t p) o (λ kind. by kind (path_of o) (is_at_or_under (path_of o) p) kept) h
+-- what is neither at the path of a graft nor under it stays
+stays_outside : (t part : Tree) (p : PathValue) (o : Opened) → not (is_at_or_under (path_of o) p) ≡ true → StandsIn t o → StandsIn (grafted t p part) o
+stays_outside t part p o kept h = opened_stands t (grafted t p part) o (λ kind. by kind (path_of o) (is_at_or_under (path_of o) p) kept) h
   where
-    by : (kind : Bool) (q : PathValue) (b : Bool) → not b ≡ true → StandsAs kind (t q) → StandsAs kind (if b then None else touched_above p t q)
+    by : (kind : Bool) (q : PathValue) (b : Bool) → not b ≡ true → StandsAs kind (t q) → StandsAs kind (if b then part (drop (length p) q) else touched_above p t q)
     by kind q true kept s = cc
     by kind q false kept s = stays_touched kind (is_at_or_under p q) (t q) s
+
+-- the top of what is copied is what its source is
+stays_opened : (kind : Bool) (o : Option Entry) → StandsAs kind o → StandsAs kind (option_map opened o)
+stays_opened kind None h = h
+stays_opened kind (Some e) h = h
+
+copy_stands : (source : Tree) (from : PathValue) (t : Tree) (p : PathValue) (kind : Bool) → StandsAs kind (source from) → StandsAs kind (copied source from t p p)
+copy_stands source from t p kind h =
+    subst (λ (b : Bool). StandsAs kind (if b then copy_of source from (drop (length p) p) else touched_above p t p)) (sym (under_itself p))
+    (subst (λ (r : PathValue). StandsAs kind (copy_of source from r)) (sym nothing_more) (stays_opened kind (source from) h))
+  where
+    nothing_more : drop (length p) p ≡ []
+    nothing_more = ap (drop (length p)) (sym (append-nil p)) ∙ rest_append p []
 
 -- ---- what the refusals say
 
@@ -235,6 +293,21 @@ tree_there [] n p trees e = cc (ap (λ (o : Option Entry). directory_refusal (ki
 tree_there (r ∷ rs) zero p trees e = trees.0
 tree_there (r ∷ rs) (suc n) p trees e = tree_there rs n p trees.1 e
 
+stands_some : (kind : Bool) (o : Option Entry) → StandsAs kind o → IsSome o
+stands_some kind None h = absurd h
+stands_some kind (Some e) h = refl
+
+-- and so where anything stands
+tree_with : (rs : List Fixed) (n : ℕ) (p : PathValue) → AreTrees rs → IsSome (get (tree_in (slice_get rs n)) p) → IsTree (tree_of (tree_in (slice_get rs n)))
+tree_with [] n p trees some = absurd (false≢true (sym (ap is_some (get-empty path_cmp p)) ∙ some))
+tree_with (r ∷ rs) zero p trees some = trees.0
+tree_with (r ∷ rs) (suc n) p trees some = tree_with rs n p trees.1 some
+
+-- what is copied stands there, and is of the kind that is added
+source_stands : (is_file : Bool) (o : Option Entry) → source_kind_refusal is_file (kind_of o) ≡ None → StandsAs (not is_file) o
+source_stands true o e = file_there o (age_refusal None None) e
+source_stands false o e = directory_there o e
+
 named_none : (judged : Result PathValue PathFault → Option Refusal) (path : Result PathValue PathFault) (p : PathValue) → path ≡ Ok p → judged path ≡ None → judged (Ok p) ≡ None
 named_none judged path p named none = subst (λ (r : Result PathValue PathFault). judged r ≡ None) named none
 
@@ -256,7 +329,7 @@ beneath_there t old parent p all none =
 
 -- what stands is a file, where a text delta may begin
 begins_at : (t : Tree) (e : EditState) (checksum : Option (List ℕ)) (o : Opened) → begin_delta_refusal e checksum (Some o) ≡ None → StandsIn t o → HasFile t (path_of o)
-begins_at t e checksum (Directory p revision) none h = cc
+begins_at t e checksum (Directory d) none h = cc
 begins_at t e checksum (File p delta) none h = h
 
 -- ---- what each command keeps, where the transaction stays as it is
@@ -265,26 +338,26 @@ no_tokens : (txn : Option TxnState) (tokens : Tokens) → IsSoundIn txn tokens �
 no_tokens None tokens sound e = sound
 no_tokens (Some t) tokens sound e = cc
 
-opened_directory_in : (txn : Option TxnState) (tokens : Tokens) (token : List ℕ) (p : PathValue) (revision : Option ℕ) → IsSoundIn txn tokens → directory_refusal (standing txn p) ≡ None → IsSoundIn txn (with_token tokens token (Directory p revision))
-opened_directory_in None tokens token p revision sound e = cc
-opened_directory_in (Some t) tokens token p revision sound e =
-    (sound.0, all_inserted (StandsIn (tree_of t.tree)) (slice_cmp nat_cmp) tokens token (Directory p revision) (directory_there (get t.tree p) e) sound.1)
+opened_directory_in : (txn : Option TxnState) (tokens : Tokens) (token : List ℕ) (d : OpenedDirectory) → IsSoundIn txn tokens → directory_refusal (standing txn d.path) ≡ None → IsSoundIn txn (with_token tokens token (Directory d))
+opened_directory_in None tokens token d sound e = cc
+opened_directory_in (Some t) tokens token d sound e =
+    (sound.0, all_inserted (StandsIn (tree_of t.tree)) (slice_cmp nat_cmp) tokens token (Directory d) (directory_there (get t.tree d.path) e) sound.1, sound.2)
 
 opened_file_in : (txn : Option TxnState) (tokens : Tokens) (token : List ℕ) (p : PathValue) (age : Option Refusal) → IsSoundIn txn tokens → file_refusal (standing txn p) age ≡ None → IsSoundIn txn (with_token tokens token (File p Untouched))
 opened_file_in None tokens token p age sound e = cc
 opened_file_in (Some t) tokens token p age sound e =
-    (sound.0, all_inserted (StandsIn (tree_of t.tree)) (slice_cmp nat_cmp) tokens token (File p Untouched) (file_there (get t.tree p) age e) sound.1)
+    (sound.0, all_inserted (StandsIn (tree_of t.tree)) (slice_cmp nat_cmp) tokens token (File p Untouched) (file_there (get t.tree p) age e) sound.1, sound.2)
 
 closed_in : (txn : Option TxnState) (tokens : Tokens) (token : List ℕ) → IsSoundIn txn tokens → IsSoundIn txn (without_token tokens token)
 closed_in None tokens token sound = ap (λ (ts : Tokens). without_token ts token) sound
-closed_in (Some t) tokens token sound = (sound.0, all_removed (StandsIn (tree_of t.tree)) (is_at (slice_cmp nat_cmp token)) tokens sound.1)
+closed_in (Some t) tokens token sound = (sound.0, all_removed (StandsIn (tree_of t.tree)) (is_at (slice_cmp nat_cmp token)) tokens sound.1, sound.2)
 
 -- something else is open under a token, and stands where what was open there did
 changed_in : (txn : Option TxnState) (tokens : Tokens) (token : List ℕ) (o o' : Opened) → opened_under tokens token ≡ Some o → ((t : Tree) → StandsIn t o → StandsIn t o') → IsSoundIn txn tokens → IsSoundIn txn (with_change tokens token o')
 changed_in None tokens token o o' at stands sound = ap (λ (ts : Tokens). with_change ts token o') sound
 changed_in (Some t) tokens token o o' at stands sound =
     let u : Tree = tree_of t.tree in
-    (sound.0, all_changed (StandsIn u) (is_at (slice_cmp nat_cmp token)) tokens o' (stands u (found_under (StandsIn u) tokens token o sound.1 at)) sound.1)
+    (sound.0, all_changed (StandsIn u) (is_at (slice_cmp nat_cmp token)) tokens o' (stands u (found_under (StandsIn u) tokens token o sound.1 at)) sound.1, sound.2)
 
 begun_delta_in : (txn : Option TxnState) (tokens : Tokens) (token : List ℕ) (e : EditState) (checksum : Option (List ℕ)) (o : Opened) (delta : Delta) → begin_delta_refusal e checksum (open_in txn tokens token) ≡ None → opened_under tokens token ≡ Some o → IsSoundIn txn tokens → IsSoundIn txn (with_change tokens token (File (path_of o) delta))
 begun_delta_in None tokens token e checksum o delta none at sound = cc
@@ -296,11 +369,11 @@ not_refused : (refused : Bool) (o : Option Refusal) → (if refused then Some re
 not_refused true o e = cc
 not_refused false o e = e
 
-opens_directory : (old new : EditState) (entry : OpenedEntry) → IsSoundEdit old → open_directory_refusal old entry (joined old.path entry.path) ≡ None → Named old entry.path (λ p. Opens old entry.token (Directory p entry.revision) new) → IsSoundEdit new
+opens_directory : (old new : EditState) (entry : OpenedEntry) → IsSoundEdit old → open_directory_refusal old entry (joined old.path entry.path) ≡ None → Named old entry.path (λ p. Opens old entry.token (Directory (opened_directory p entry.revision (copies_under old.tokens entry.parent))) new) → IsSoundEdit new
 opens_directory old new entry sound none (p, named, is) =
     let here : open_directory_refusal old entry (Ok p) ≡ None = named_none (open_directory_refusal old entry) (joined old.path entry.path) p named none in
     let kind = first_none (place_refusal old entry.parent entry.token p) (directory_refusal (standing old.txn p)) here in
-    subst IsSoundEdit (sym is) (opened_directory_in old.txn old.tokens entry.token p entry.revision sound kind.1)
+    subst IsSoundEdit (sym is) (opened_directory_in old.txn old.tokens entry.token (opened_directory p entry.revision (copies_under old.tokens entry.parent)) sound kind.1)
 
 opens_file : (old new : EditState) (entry : OpenedEntry) → IsSoundEdit old → open_file_refusal old entry (joined old.path entry.path) ≡ None → Named old entry.path (λ p. Opens old entry.token (File p Untouched) new) → IsSoundEdit new
 opens_file old new entry sound none (p, named, is) =
@@ -326,127 +399,234 @@ unchanged old new sound is = subst IsSoundEdit (sym is) sound
 -- ---- what each command keeps that edits the transaction
 
 module _ (begins : (t : Tree) → IsTree t → IsTree (begun t))
-    (adds : (t : Tree) (p : PathValue) (c : Component) → IsTree t → HasDirectory t p → IsTree (edited t (edits.AddDirectory (p ++ c ∷ []))))
-    (adds_files : (t : Tree) (p : PathValue) (c : Component) → IsTree t → HasDirectory t p → t (p ++ c ∷ []) ≡ None → IsTree (edited t (edits.AddFile (p ++ c ∷ []))))
-    (deletes : (t : Tree) (p : PathValue) (c : Component) → IsTree t → IsTree (edited t (edits.Delete (p ++ c ∷ []))))
-    (sets : (t : Tree) (p : PathValue) (name value : List ℕ) → IsTree t → IsTree (edited t (edits.SetProperty p name value)))
-    (removes : (t : Tree) (p : PathValue) (name : List ℕ) → IsTree t → IsTree (edited t (edits.RemoveProperty p name)))
-    (writes : (t : Tree) (p : PathValue) (text : List ℕ) → IsTree t → HasFile t p → IsTree (edited t (edits.SetText p text)))
-    (same : (t u : Tree) → ((p : PathValue) → t p ≡ u p) → IsTree t → IsTree u) where
-  opens_root : (c : RepoState) (old new : EditState) (revision : Option ℕ) (token : List ℕ) → AreTrees c.revisions → IsSoundEdit old → open_root_refusal c old ≡ None → OpensRoot c old revision token new → IsSoundEdit new
+    (adds : (trees : ℕ → Tree) (t : Tree) (p : PathValue) (c : Component) → IsTree t → HasDirectory t p → IsTree (edited trees t (edits.AddDirectory (p ++ c ∷ []))))
+    (adds_files : (trees : ℕ → Tree) (t : Tree) (p : PathValue) (c : Component) → IsTree t → HasDirectory t p → t (p ++ c ∷ []) ≡ None → IsTree (edited trees t (edits.AddFile (p ++ c ∷ []))))
+    (deletes : (trees : ℕ → Tree) (t : Tree) (p : PathValue) (c : Component) → IsTree t → IsTree (edited trees t (edits.Delete (p ++ c ∷ []))))
+    (sets : (trees : ℕ → Tree) (t : Tree) (p : PathValue) (name value : List ℕ) → IsTree t → IsTree (edited trees t (edits.SetProperty p name value)))
+    (removes : (trees : ℕ → Tree) (t : Tree) (p : PathValue) (name : List ℕ) → IsTree t → IsTree (edited trees t (edits.RemoveProperty p name)))
+    (copies : (trees : ℕ → Tree) (t : Tree) (source : Source) (p : PathValue) (c : Component) → IsTree (trees source.revision) → IsTree t → HasDirectory t p → IsTree (edited trees t (edits.Copy source (p ++ c ∷ []))))
+    (replaces : (trees : ℕ → Tree) (t : Tree) (source : Source) (p : PathValue) (c : Component) → IsTree (trees source.revision) → IsTree t → HasDirectory t p → IsTree (edited trees t (edits.Replace source (p ++ c ∷ []))))
+    (writes : (trees : ℕ → Tree) (t : Tree) (p : PathValue) (text : List ℕ) → IsTree t → HasFile t p → IsTree (edited trees t (edits.SetText p text)))
+    (same : (t u : Tree) → ((p : PathValue) → t p ≡ u p) → IsTree t → IsTree u)
+    (begins_marked : (c : RepoState) (t : TxnState) → AreMarked (trees_in c.revisions) → IsTree (trees_in c.revisions (youngest c)) → IsBegun c t → IsMarkedTxn t)
+    (stays_marked : (shown : List Fixed) (old : TxnState) (op : EditOp) (new : TxnState) → AreMarked (trees_in shown) → IsBeginning old.shown shown → HasSource (trees_in shown) op → IsMarkedTxn old → IsEdited shown old op new → IsMarkedTxn new) where
+  opens_root : (c : RepoState) (old new : EditState) (revision : Option ℕ) (token : List ℕ) → AreSound c.revisions → IsSoundEdit old → open_root_refusal c old ≡ None → OpensRoot c old revision token new → IsSoundEdit new
   opens_root c old new revision token trees sound none o =
       let f = first_none (before_root old) (directory_refusal (kind_at c (youngest c) old.path)) none in
       let t : Tree = tree_of (tree_at c (youngest c)) in
       let u : Tree = tree_of o.txn.tree in
       let alike : (p : PathValue) → begun t p ≡ u p = λ p. sym (o.begun.tree p) in
-      let is_tree : IsTree u = same (begun t) u alike (begins t (tree_there c.revisions (youngest c) old.path trees f.1)) in
+      let is_tree : IsTree u = same (begun t) u alike (begins t (tree_there c.revisions (youngest c) old.path trees.0 f.1)) in
       let here : HasDirectory u old.path = subst (StandsAs true) (alike old.path) (stays_begun t old.path (directory_there (t old.path) f.1)) in
       let none_open : All (OfOpened (StandsIn u)) old.tokens = subst (λ (ts : Tokens). All (OfOpened (StandsIn u)) ts) (sym (no_tokens old.txn old.tokens sound f.0)) (All-nil (OfOpened (StandsIn u))) in
-      subst IsSoundEdit (sym o.is) (is_tree, all_inserted (StandsIn u) (slice_cmp nat_cmp) old.tokens token (Directory old.path revision) here none_open)
+      subst IsSoundEdit (sym o.is) (is_tree, all_inserted (StandsIn u) (slice_cmp nat_cmp) old.tokens token (Directory (opened_directory old.path revision false)) here none_open, begins_marked c o.txn trees.1 (tree_there c.revisions (youngest c) old.path trees.0 f.1) o.begun)
 
   -- an edit is sound afterwards where the edited tree is a tree and what is open then stands in it
-  after : (c : RepoState) (old new : EditState) (op : EditOp) (tokens : Tokens) (a : Edits c old op tokens new) → IsTree (edited (tree_of a.before.tree) op) → All (OfOpened (StandsIn (edited (tree_of a.before.tree) op))) tokens → IsSoundEdit new
-  after c old new op tokens a is_tree all =
-      let t : Tree = edited (tree_of a.before.tree) op in
+  after : (c : RepoState) (old new : EditState) (op : EditOp) (tokens : Tokens) (a : Edits c old op tokens new) → AreMarked (trees_in c.revisions) → RestsOn old c → HasSource (trees_in c.revisions) op → IsMarkedTxn a.before → IsTree (edited (trees_in c.revisions) (tree_of a.before.tree) op) → All (OfOpened (StandsIn (edited (trees_in c.revisions) (tree_of a.before.tree) op))) tokens → IsSoundEdit new
+  after c old new op tokens a marked rests source m is_tree all =
+      let t : Tree = edited (trees_in c.revisions) (tree_of a.before.tree) op in
       let u : Tree = tree_of a.after.tree in
       let alike : (p : PathValue) → t p ≡ u p = λ p. sym (a.edited.tree p) in
-      subst IsSoundEdit (sym a.is) (same t u alike is_tree, All-weaker (OfOpened (StandsIn t)) (OfOpened (StandsIn u)) (λ e h. stays_same t u alike e.1 h) tokens all)
+      subst IsSoundEdit (sym a.is) (same t u alike is_tree, All-weaker (OfOpened (StandsIn t)) (OfOpened (StandsIn u)) (λ e h. stays_same t u alike e.1 h) tokens all, stays_marked c.revisions a.before op a.after marked (subst (λ (o : Option TxnState). RestsIn o c) a.had rests) source m a.edited)
 
   -- the transaction was sound before
   before : (c : RepoState) (old new : EditState) (op : EditOp) (tokens : Tokens) (a : Edits c old op tokens new) → IsSoundEdit old → IsSoundIn (Some a.before) old.tokens
   before c old new op tokens a sound = subst (λ (o : Option TxnState). IsSoundIn o old.tokens) a.had sound
 
-  deletes_entry : (c : RepoState) (old new : EditState) (entry : DeletedEntry) → IsSoundEdit old → delete_entry_refusal old entry (joined old.path entry.path) ≡ None → Named old entry.path (λ p. Edits c old (edits.Delete p) (closed_beneath old.tokens p) new) → IsSoundEdit new
-  deletes_entry c old new entry sound none (p, named, a) =
+  deletes_entry : (c : RepoState) (old new : EditState) (entry : DeletedEntry) → AreMarked (trees_in c.revisions) → RestsOn old c → IsSoundEdit old → delete_entry_refusal old entry (joined old.path entry.path) ≡ None → Named old entry.path (λ p. Edits c old (edits.Delete p) (closed_beneath old.tokens p) new) → IsSoundEdit new
+  deletes_entry c old new entry marked rests sound none (p, named, a) =
       let t : Tree = tree_of a.before.tree in
       let s = before c old new (edits.Delete p) (closed_beneath old.tokens p) a sound in
       let here : delete_entry_refusal old entry (Ok p) ≡ None = named_none (delete_entry_refusal old entry) (joined old.path entry.path) p named none in
       let place = first_none (parent_refusal old entry.parent p) (delete_refusal (standing old.txn p) (age_refusal entry.revision (created old.txn p))) here in
       let up : HasParent t p = beneath_there t old entry.parent p s.1 place.0 in
-      let is_tree : IsTree (edited t (edits.Delete p)) = subst (λ (q : PathValue). IsTree (edited t (edits.Delete q))) (sym up.1.1.1) (deletes t up.0 up.1.1.0 s.0) in
-      let all : All (OfOpened (StandsIn (edited t (edits.Delete p)))) (closed_beneath old.tokens p) =
-      all_kept (StandsIn t) (StandsIn (edited t (edits.Delete p))) (λ e. not (is_at_or_under (path_of e.1) p)) (λ e kept h. stays_outside t p e.1 kept h) old.tokens s.1 in
-      after c old new (edits.Delete p) (closed_beneath old.tokens p) a is_tree all
+      let is_tree : IsTree (edited (trees_in c.revisions) t (edits.Delete p)) = subst (λ (q : PathValue). IsTree (edited (trees_in c.revisions) t (edits.Delete q))) (sym up.1.1.1) (deletes (trees_in c.revisions) t up.0 up.1.1.0 s.0) in
+      let all : All (OfOpened (StandsIn (edited (trees_in c.revisions) t (edits.Delete p)))) (closed_beneath old.tokens p) =
+      all_kept (OfOpened (StandsIn t)) (OfOpened (StandsIn (edited (trees_in c.revisions) t (edits.Delete p)))) (λ e. not (is_at_or_under (path_of e.1) p)) (λ e kept h. stays_outside t (λ _. None) p e.1 kept h) old.tokens s.1 in
+      after c old new (edits.Delete p) (closed_beneath old.tokens p) a marked rests tt s.2 is_tree all
 
-  -- what the refusals say of what is added: its parent is a directory, and nothing stands there
-  room : (old : EditState) (entry : AddedEntry) (p : PathValue) (txn : TxnState) → old.txn ≡ Some txn → All (OfOpened (StandsIn (tree_of txn.tree))) old.tokens → add_entry_refusal old entry (joined old.path entry.path) ≡ None → joined old.path entry.path ≡ Ok p → HasParent (tree_of txn.tree) p × (tree_of txn.tree p ≡ None)
-  room old entry p txn had all none named =
-      let here : add_entry_refusal old entry (Ok p) ≡ None = named_none (add_entry_refusal old entry) (joined old.path entry.path) p named none in
-      let source = first_none (source_fault old.name entry.source) (first (place_refusal old entry.parent entry.token p) (first (copy_refusal entry.source) (add_refusal (standing old.txn p)))) here in
-      let place = first_none (place_refusal old entry.parent entry.token p) (first (copy_refusal entry.source) (add_refusal (standing old.txn p))) source.1 in
-      let copy = first_none (copy_refusal entry.source) (add_refusal (standing old.txn p)) place.1 in
-      (placed_there (tree_of txn.tree) old entry.parent entry.token p all place.0, nothing_there (get txn.tree p) (subst (λ (o : Option TxnState). add_refusal (standing o p) ≡ None) had copy.1))
-
-  adds_directory : (c : RepoState) (old new : EditState) (entry : AddedEntry) → IsSoundEdit old → add_entry_refusal old entry (joined old.path entry.path) ≡ None → Named old entry.path (λ p. Edits c old (edits.AddDirectory p) (with_token old.tokens entry.token (Directory p None)) new) → IsSoundEdit new
-  adds_directory c old new entry sound none (p, named, a) =
+  -- something new is added where nothing stands
+  adds_directory : (c : RepoState) (old new : EditState) (token : List ℕ) (p : PathValue) (a : Edits c old (edits.AddDirectory p) (with_token old.tokens token (Directory (opened_directory p None false))) new)
+      → AreMarked (trees_in c.revisions) → RestsOn old c → IsSoundEdit old → HasParent (tree_of a.before.tree) p → tree_of a.before.tree p ≡ None → IsSoundEdit new
+  adds_directory c old new token p a marked rests sound up free =
       let op : EditOp = edits.AddDirectory p in
-      let tokens : Tokens = with_token old.tokens entry.token (Directory p None) in
+      let opened : Opened = Directory (opened_directory p None false) in
+      let tokens : Tokens = with_token old.tokens token opened in
       let t : Tree = tree_of a.before.tree in
       let s = before c old new op tokens a sound in
-      let free = room old entry p a.before a.had s.1 none named in
-      let is_tree : IsTree (edited t op) = subst (λ (q : PathValue). IsTree (edited t (edits.AddDirectory q))) (sym free.0.1.1.1) (adds t free.0.0 free.0.1.1.0 s.0 free.0.1.0) in
-      let others : All (OfOpened (StandsIn (edited t op))) old.tokens = All-weaker (OfOpened (StandsIn t)) (OfOpened (StandsIn (edited t op))) (λ e h. stays_added t p contents.Directory free.1 e.1 h) old.tokens s.1 in
-      after c old new op tokens a is_tree (all_inserted (StandsIn (edited t op)) (slice_cmp nat_cmp) old.tokens entry.token (Directory p None) (new_stands t p contents.Directory) others)
+      let is_tree : IsTree (edited (trees_in c.revisions) t op) = subst (λ (q : PathValue). IsTree (edited (trees_in c.revisions) t (edits.AddDirectory q))) (sym up.1.1.1) (adds (trees_in c.revisions) t up.0 up.1.1.0 s.0 up.1.0) in
+      let others : All (OfOpened (StandsIn (edited (trees_in c.revisions) t op))) old.tokens = All-weaker (OfOpened (StandsIn t)) (OfOpened (StandsIn (edited (trees_in c.revisions) t op))) (λ e h. stays_added t p contents.Directory free e.1 h) old.tokens s.1 in
+      after c old new op tokens a marked rests tt s.2 is_tree (all_inserted (StandsIn (edited (trees_in c.revisions) t op)) (slice_cmp nat_cmp) old.tokens token opened (new_stands t p contents.Directory) others)
 
-  adds_file : (c : RepoState) (old new : EditState) (entry : AddedEntry) → IsSoundEdit old → add_entry_refusal old entry (joined old.path entry.path) ≡ None → Named old entry.path (λ p. Edits c old (edits.AddFile p) (with_token old.tokens entry.token (File p Untouched)) new) → IsSoundEdit new
-  adds_file c old new entry sound none (p, named, a) =
+  adds_file : (c : RepoState) (old new : EditState) (token : List ℕ) (p : PathValue) (a : Edits c old (edits.AddFile p) (with_token old.tokens token (File p Untouched)) new)
+      → AreMarked (trees_in c.revisions) → RestsOn old c → IsSoundEdit old → HasParent (tree_of a.before.tree) p → tree_of a.before.tree p ≡ None → IsSoundEdit new
+  adds_file c old new token p a marked rests sound up free =
       let op : EditOp = edits.AddFile p in
-      let tokens : Tokens = with_token old.tokens entry.token (File p Untouched) in
+      let tokens : Tokens = with_token old.tokens token (File p Untouched) in
       let t : Tree = tree_of a.before.tree in
       let s = before c old new op tokens a sound in
-      let free = room old entry p a.before a.had s.1 none named in
-      let beneath : p ≡ free.0.0 ++ free.0.1.1.0 ∷ [] = free.0.1.1.1 in
-      let is_tree : IsTree (edited t op) = subst (λ (q : PathValue). IsTree (edited t (edits.AddFile q))) (sym beneath) (adds_files t free.0.0 free.0.1.1.0 s.0 free.0.1.0 (ap t (sym beneath) ∙ free.1)) in
-      let others : All (OfOpened (StandsIn (edited t op))) old.tokens = All-weaker (OfOpened (StandsIn t)) (OfOpened (StandsIn (edited t op))) (λ e h. stays_added t p (contents.File []) free.1 e.1 h) old.tokens s.1 in
-      after c old new op tokens a is_tree (all_inserted (StandsIn (edited t op)) (slice_cmp nat_cmp) old.tokens entry.token (File p Untouched) (new_stands t p (contents.File [])) others)
+      let beneath : p ≡ up.0 ++ up.1.1.0 ∷ [] = up.1.1.1 in
+      let is_tree : IsTree (edited (trees_in c.revisions) t op) = subst (λ (q : PathValue). IsTree (edited (trees_in c.revisions) t (edits.AddFile q))) (sym beneath) (adds_files (trees_in c.revisions) t up.0 up.1.1.0 s.0 up.1.0 (ap t (sym beneath) ∙ free)) in
+      let others : All (OfOpened (StandsIn (edited (trees_in c.revisions) t op))) old.tokens = All-weaker (OfOpened (StandsIn t)) (OfOpened (StandsIn (edited (trees_in c.revisions) t op))) (λ e h. stays_added t p (contents.File []) free e.1 h) old.tokens s.1 in
+      after c old new op tokens a marked rests tt s.2 is_tree (all_inserted (StandsIn (edited (trees_in c.revisions) t op)) (slice_cmp nat_cmp) old.tokens token (File p Untouched) (new_stands t p (contents.File [])) others)
 
-  property_tree : (t : Tree) (p : PathValue) (name : List ℕ) (value : Option (List ℕ)) → IsTree t → IsTree (edited t (property_edit p name value))
-  property_tree t p name None is = removes t p name is
-  property_tree t p name (Some value) is = sets t p name value is
+  adds_new : (is_file : Bool) (kind : NodeKind) (c : RepoState) (old new : EditState) (token : List ℕ) (p : PathValue)
+      (a : Edits c old (added_edit is_file kind p None) (with_token old.tokens token (added_opened is_file p None)) new)
+      → AreMarked (trees_in c.revisions) → RestsOn old c → IsSoundEdit old → HasParent (tree_of a.before.tree) p → tree_of a.before.tree p ≡ None → IsSoundEdit new
+  adds_new true kind = adds_file
+  adds_new false kind = adds_directory
 
-  stays_with_property : (t : Tree) (p : PathValue) (name : List ℕ) (value : Option (List ℕ)) (o : Opened) → StandsIn t o → StandsIn (edited t (property_edit p name value)) o
-  stays_with_property t p name None o h = stays_revised t p (without_value name) (λ kind. stays_renewed (without_value name) (λ e. refl) kind (t p)) o h
-  stays_with_property t p name (Some value) o h = stays_revised t p (with_value name value) (λ kind. stays_renewed (with_value name value) (λ e. refl) kind (t p)) o h
+  -- a copy, and what was open beneath it is closed
+  copy_tree : (trees : ℕ → Tree) (t : Tree) (kind : NodeKind) (source : Source) (p : PathValue) → IsTree (trees source.revision) → IsTree t → HasParent t p → IsTree (edited trees t (copy_edit kind p source))
+  copy_tree trees t kind source p s is up = subst (λ (q : PathValue). IsTree (edited trees t (copy_edit kind q source))) (sym up.1.1.1) (by kind)
+    where
+      at : PathValue
+      at = up.0 ++ up.1.1.0 ∷ []
 
-  changes_property : (c : RepoState) (old new : EditState) (change : PropertyChange) → IsSoundEdit old → ChangesProperty c old change new → IsSoundEdit new
-  changes_property c old new change sound (o, at, a) =
+      by : (kind : NodeKind) → IsTree (edited trees t (copy_edit kind (up.0 ++ up.1.1.0 ∷ []) source))
+      by kinds.Absent = copies trees t source up.0 up.1.1.0 s is up.1.0
+      by kinds.File = replaces trees t source up.0 up.1.1.0 s is up.1.0
+      by kinds.Directory = replaces trees t source up.0 up.1.1.0 s is up.1.0
+
+  copy_source : (trees : ℕ → Tree) (kind : NodeKind) (p : PathValue) (source : Source) → IsSome (trees source.revision source.path) → HasSource trees (copy_edit kind p source)
+  copy_source trees kinds.Absent p source some = some
+  copy_source trees kinds.File p source some = some
+  copy_source trees kinds.Directory p source some = some
+
+  copy_is : (trees : ℕ → Tree) (t : Tree) (kind : NodeKind) (source : Source) (p q : PathValue) → copied (trees source.revision) source.path t p q ≡ edited trees t (copy_edit kind p source) q
+  copy_is trees t kinds.Absent source p q = refl
+  copy_is trees t kinds.File source p q = sym (grafted_over t (copy_of (trees source.revision) source.path) p q)
+  copy_is trees t kinds.Directory source p q = sym (grafted_over t (copy_of (trees source.revision) source.path) p q)
+
+  opened_copy : (t : Tree) (is_file : Bool) (p : PathValue) (source : Source) → StandsAs (not is_file) (t p) → StandsIn t (added_opened is_file p (Some source))
+  opened_copy t true p source h = h
+  opened_copy t false p source h = h
+
+  path_of_added : (is_file : Bool) (p : PathValue) (source : Option Source) → path_of (added_opened is_file p source) ≡ p
+  path_of_added true p source = refl
+  path_of_added false p source = refl
+
+  adds_copy : (is_file : Bool) (kind : NodeKind) (c : RepoState) (old new : EditState) (token : List ℕ) (p : PathValue) (source : Source)
+      (a : Edits c old (copy_edit kind p source) (tokens_added old.tokens token (added_opened is_file p (Some source)) (Some source)) new)
+      → AreSound c.revisions → RestsOn old c → IsSoundEdit old → HasParent (tree_of a.before.tree) p → opened_under old.tokens token ≡ None
+      → StandsAs (not is_file) (trees_in c.revisions source.revision source.path) → IsSoundEdit new
+  adds_copy is_file kind c old new token p source a sound_c rests sound up is_new stands =
+      let op : EditOp = copy_edit kind p source in
+      let opened : Opened = added_opened is_file p (Some source) in
+      let tokens : Tokens = tokens_added old.tokens token opened (Some source) in
+      let t : Tree = tree_of a.before.tree in
+      let part : Tree = copy_of (trees_in c.revisions source.revision) source.path in
+      let u : Tree = edited (trees_in c.revisions) t op in
+      let s = before c old new op tokens a sound in
+      let some : IsSome (trees_in c.revisions source.revision source.path) = stands_some (not is_file) (trees_in c.revisions source.revision source.path) stands in
+      let source_tree : IsTree (trees_in c.revisions source.revision) = tree_with c.revisions source.revision source.path sound_c.0 some in
+      let is : (q : PathValue) → copied (trees_in c.revisions source.revision) source.path t p q ≡ u q = copy_is (trees_in c.revisions) t kind source p in
+      let top : StandsAs (not is_file) (u p) = subst (StandsAs (not is_file)) (is p) (copy_stands (trees_in c.revisions source.revision) source.path t p (not is_file) stands) in
+      let here : StandsIn u opened = opened_copy u is_file p source top in
+      let each : All (IsNewOr (StandsIn t) (StandsIn u) (is_at (slice_cmp nat_cmp token))) (with_token old.tokens token opened) = all_with_new (StandsIn t) (StandsIn u) (slice_cmp nat_cmp) old.tokens token opened is_new here s.1 in
+      let all : All (OfOpened (StandsIn u)) tokens =
+      all_kept (IsNewOr (StandsIn t) (StandsIn u) (is_at (slice_cmp nat_cmp token))) (OfOpened (StandsIn u)) (λ e. pointwise ◌==◌ token e.0 || not (is_at_or_under (path_of e.1) (path_of opened)))
+      (λ e kept h. stays_beside t u part p token e (path_of opened) (path_of_added is_file p (Some source)) is kept h) (with_token old.tokens token opened) each in
+      after c old new op tokens a sound_c.1 rests (copy_source (trees_in c.revisions) kind p source some) s.2 (copy_tree (trees_in c.revisions) t kind source p source_tree s.0 up) all
+    where
+      stays_beside : (t u part : Tree) (p : PathValue) (token : List ℕ) (e : List ℕ × Opened) (at : PathValue) → at ≡ p → ((q : PathValue) → grafted t p part q ≡ u q)
+          → pointwise ◌==◌ token e.0 || not (is_at_or_under (path_of e.1) at) ≡ true
+          → IsNewOr (StandsIn t) (StandsIn u) (is_at (slice_cmp nat_cmp token)) e → StandsIn u e.1
+      stays_beside t u part p token e at is_at_p is kept (inl h) = h
+      stays_beside t u part p token e at is_at_p is kept (inr (other, h)) =
+          stays_same (grafted t p part) u is e.1 (stays_outside t part p e.1 outside h)
+        where
+          outside : not (is_at_or_under (path_of e.1) p) ≡ true
+          outside = ap (λ (r : PathValue). not (is_at_or_under (path_of e.1) r)) (sym is_at_p) ∙ ap (λ (b : Bool). b || not (is_at_or_under (path_of e.1) at)) (sym (texts_ties token e.0 ∙ other)) ∙ kept
+
+  -- what the refusals say of what is added: its token is new, and its parent is a directory
+  new_token : (old : EditState) (parent token : List ℕ) (p : PathValue) → place_refusal old parent token p ≡ None → opened_under old.tokens token ≡ None
+  new_token old parent token p none =
+      let has = both_true (is_some old.txn) (is_placed old.tokens parent token p) (holds (is_some old.txn && is_placed old.tokens parent token p) refusals.MalformedData none) in
+      missing (opened_under old.tokens token) (both_true (not (is_some (opened_under old.tokens token))) (is_within (directory_of old.tokens parent) p) has.1).0
+    where
+      missing : (o : Option Opened) → not (is_some o) ≡ true → o ≡ None
+      missing None e = refl
+      missing (Some o) e = cc
+
+  -- the kind of the source is not refused
+  right_source : (c : RepoState) (is_file : Bool) (p : PathValue) (source : Source) → source_refusal c is_file p source ≡ None → StandsAs (not is_file) (trees_in c.revisions source.revision source.path)
+  right_source c is_file p source none =
+      let later = first_none (unless (nat_le source.revision (youngest c)) refusals.NoSuchRevision) (first (source_kind_refusal is_file (kind_at c source.revision source.path)) (depth_refusal c source p)) none in
+      let kind = first_none (source_kind_refusal is_file (kind_at c source.revision source.path)) (depth_refusal c source p) later.1 in
+      source_stands is_file (get (tree_at c source.revision) source.path) kind.0
+
+  adds_by : (is_file : Bool) (c : RepoState) (old new : EditState) (entry : AddedEntry) (p : PathValue) (source : Option Source)
+      (a : Edits c old (added_edit is_file (standing old.txn p) p source) (tokens_added old.tokens entry.token (added_opened is_file p source) source) new)
+      → AreSound c.revisions → RestsOn old c → IsSoundEdit old → place_refusal old entry.parent entry.token p ≡ None → adding_refusal c old is_file entry p source ≡ None → IsSoundEdit new
+  adds_by is_file c old new entry p None a trees rests sound place none =
+      let s = before c old new (added_edit is_file (standing old.txn p) p None) (with_token old.tokens entry.token (added_opened is_file p None)) a sound in
+      adds_new is_file (standing old.txn p) c old new entry.token p a trees.1 rests sound (placed_there (tree_of a.before.tree) old entry.parent entry.token p s.1 place)
+      (nothing_there (get a.before.tree p) (subst (λ (o : Option TxnState). add_refusal (standing o p) ≡ None) a.had none))
+  adds_by is_file c old new entry p (Some source) a trees rests sound place none =
+      let s = before c old new (copy_edit (standing old.txn p) p source) (tokens_added old.tokens entry.token (added_opened is_file p (Some source)) (Some source)) a sound in
+      let source_none = first_none (room_refusal (copies_under old.tokens entry.parent) (standing old.txn p)) (source_refusal c is_file p source) none in
+      adds_copy is_file (standing old.txn p) c old new entry.token p source a trees rests sound (placed_there (tree_of a.before.tree) old entry.parent entry.token p s.1 place)
+      (new_token old entry.parent entry.token p place) (right_source c is_file p source source_none.1)
+
+  adds_entry : (is_file : Bool) (c : RepoState) (old new : EditState) (entry : AddedEntry) → AreSound c.revisions → RestsOn old c → IsSoundEdit old
+      → add_entry_refusal c old is_file entry (joined old.path entry.path) (source_of old.name entry.source) ≡ None → Adds c old is_file entry new → IsSoundEdit new
+  adds_entry is_file c old new entry trees rests sound none a =
+      let here : add_entry_refusal c old is_file entry (Ok a.path) (Ok a.source) ≡ None = sym (λ i. add_entry_refusal c old is_file entry (a.is_path i) (a.is_source i)) ∙ none in
+      let place = first_none (place_refusal old entry.parent entry.token a.path) (adding_refusal c old is_file entry a.path a.source) here in
+      adds_by is_file c old new entry a.path a.source a.edits trees rests sound place.0 place.1
+
+  property_tree : (trees : ℕ → Tree) (t : Tree) (p : PathValue) (name : List ℕ) (value : Option (List ℕ)) → IsTree t → IsTree (edited trees t (property_edit p name value))
+  property_tree trees t p name None is = removes trees t p name is
+  property_tree trees t p name (Some value) is = sets trees t p name value is
+
+  stays_with_property : (trees : ℕ → Tree) (t : Tree) (p : PathValue) (name : List ℕ) (value : Option (List ℕ)) (o : Opened) → StandsIn t o → StandsIn (edited trees t (property_edit p name value)) o
+  stays_with_property trees t p name None o h = stays_revised t p (without_value name) (λ kind. stays_renewed (without_value name) (λ e. refl) kind (t p)) o h
+  stays_with_property trees t p name (Some value) o h = stays_revised t p (with_value name value) (λ kind. stays_renewed (with_value name value) (λ e. refl) kind (t p)) o h
+
+  no_source : (c : RepoState) (p : PathValue) (name : List ℕ) (value : Option (List ℕ)) → HasSource (trees_in c.revisions) (property_edit p name value)
+  no_source c p name None = tt
+  no_source c p name (Some value) = tt
+
+  changes_property : (c : RepoState) (old new : EditState) (change : PropertyChange) → AreMarked (trees_in c.revisions) → RestsOn old c → IsSoundEdit old → ChangesProperty c old change new → IsSoundEdit new
+  changes_property c old new change marked rests sound (o, at, a) =
       let op : EditOp = property_edit (path_of o) change.name change.value in
       let t : Tree = tree_of a.before.tree in
       let s = before c old new op old.tokens a sound in
-      after c old new op old.tokens a (property_tree t (path_of o) change.name change.value s.0)
-      (All-weaker (OfOpened (StandsIn t)) (OfOpened (StandsIn (edited t op))) (λ e h. stays_with_property t (path_of o) change.name change.value e.1 h) old.tokens s.1)
+      after c old new op old.tokens a marked rests (no_source c (path_of o) change.name change.value) s.2 (property_tree (trees_in c.revisions) t (path_of o) change.name change.value s.0)
+      (All-weaker (OfOpened (StandsIn t)) (OfOpened (StandsIn (edited (trees_in c.revisions) t op))) (λ e h. stays_with_property (trees_in c.revisions) t (path_of o) change.name change.value e.1 h) old.tokens s.1)
 
   -- the text goes to a path where a file is open, and so stands
-  ends_delta : (c : RepoState) (old new : EditState) (token : List ℕ) → IsSoundEdit old → EndsDelta c old token new → IsSoundEdit new
-  ends_delta c old new token sound (p, r, at, (text, is_text, a)) =
+  ends_delta : (c : RepoState) (old new : EditState) (token : List ℕ) → AreMarked (trees_in c.revisions) → RestsOn old c → IsSoundEdit old → EndsDelta c old token new → IsSoundEdit new
+  ends_delta c old new token marked rests sound (p, r, at, (text, is_text, a)) =
       let op : EditOp = edits.SetText p text in
       let tokens : Tokens = with_change old.tokens token (File p Made) in
       let t : Tree = tree_of a.before.tree in
       let s = before c old new op tokens a sound in
       let file : HasFile t p = found_under (StandsIn t) old.tokens token (File p (Reading r)) s.1 at in
-      let stays : (o : Opened) → StandsIn t o → StandsIn (edited t op) o = stays_revised t p (with_text text) (λ kind. stays_written text kind (t p) file) in
-      let others : All (OfOpened (StandsIn (edited t op))) old.tokens = All-weaker (OfOpened (StandsIn t)) (OfOpened (StandsIn (edited t op))) (λ e h. stays e.1 h) old.tokens s.1 in
-      after c old new op tokens a (writes t p text s.0 file) (all_changed (StandsIn (edited t op)) (is_at (slice_cmp nat_cmp token)) old.tokens (File p Made) (stays (File p Made) file) others)
+      let stays : (o : Opened) → StandsIn t o → StandsIn (edited (trees_in c.revisions) t op) o = stays_revised t p (with_text text) (λ kind. stays_written text kind (t p) file) in
+      let others : All (OfOpened (StandsIn (edited (trees_in c.revisions) t op))) old.tokens = All-weaker (OfOpened (StandsIn t)) (OfOpened (StandsIn (edited (trees_in c.revisions) t op))) (λ e h. stays e.1 h) old.tokens s.1 in
+      after c old new op tokens a marked rests tt s.2 (writes (trees_in c.revisions) t p text s.0 file) (all_changed (StandsIn (edited (trees_in c.revisions) t op)) (is_at (slice_cmp nat_cmp token)) old.tokens (File p Made) (stays (File p Made) file) others)
 
-  by_command : (c : RepoState) (old new : EditState) (command : EditorCommand) → AreTrees c.revisions → IsSoundEdit old → command_refusal c old command ≡ None → Applies c old command new → IsSoundEdit new
-  by_command c old new (TargetRevision revision) trees sound none applies = unchanged old new sound applies
-  by_command c old new (OpenRoot revision token) trees sound none applies = opens_root c old new revision token trees sound none applies
-  by_command c old new (DeleteEntry entry) trees sound none applies = deletes_entry c old new entry sound none applies
-  by_command c old new (AddDirectory entry) trees sound none applies = adds_directory c old new entry sound none applies
-  by_command c old new (AddFile entry) trees sound none applies = adds_file c old new entry sound none applies
-  by_command c old new (OpenDirectory entry) trees sound none applies = opens_directory old new entry sound none applies
-  by_command c old new (OpenFile entry) trees sound none applies = opens_file old new entry sound none applies
-  by_command c old new (AbsentDirectory entry) trees sound none applies = unchanged old new sound applies
-  by_command c old new (AbsentFile entry) trees sound none applies = unchanged old new sound applies
-  by_command c old new (ChangeDirectoryProperty change) trees sound none applies = changes_property c old new change sound applies
-  by_command c old new (ChangeFileProperty change) trees sound none applies = changes_property c old new change sound applies
-  by_command c old new (ApplyTextDelta token checksum) trees sound none applies = begins_delta old new token checksum sound none applies
-  by_command c old new (TextDeltaChunk token bytes) trees sound none applies = feeds_delta old new token bytes sound applies
-  by_command c old new (TextDeltaEnd token) trees sound none applies = ends_delta c old new token sound applies
-  by_command c old new (CloseDirectory token) trees sound none applies = closes old new token sound applies
-  by_command c old new (CloseFile token checksum) trees sound none applies = closes old new token sound applies
-  by_command c old new CloseEdit trees sound none applies = absurd applies
-  by_command c old new AbortEdit trees sound none applies = absurd applies
+  by_command : (c : RepoState) (old new : EditState) (command : EditorCommand) → AreSound c.revisions → RestsOn old c → IsSoundEdit old → command_refusal c old command ≡ None → Applies c old command new → IsSoundEdit new
+  by_command c old new (TargetRevision revision) trees rests sound none applies = unchanged old new sound applies
+  by_command c old new (OpenRoot revision token) trees rests sound none applies = opens_root c old new revision token trees sound none applies
+  by_command c old new (DeleteEntry entry) trees rests sound none applies = deletes_entry c old new entry trees.1 rests sound none applies
+  by_command c old new (AddDirectory entry) trees rests sound none applies = adds_entry false c old new entry trees rests sound none applies
+  by_command c old new (AddFile entry) trees rests sound none applies = adds_entry true c old new entry trees rests sound none applies
+  by_command c old new (OpenDirectory entry) trees rests sound none applies = opens_directory old new entry sound none applies
+  by_command c old new (OpenFile entry) trees rests sound none applies = opens_file old new entry sound none applies
+  by_command c old new (AbsentDirectory entry) trees rests sound none applies = unchanged old new sound applies
+  by_command c old new (AbsentFile entry) trees rests sound none applies = unchanged old new sound applies
+  by_command c old new (ChangeDirectoryProperty change) trees rests sound none applies = changes_property c old new change trees.1 rests sound applies
+  by_command c old new (ChangeFileProperty change) trees rests sound none applies = changes_property c old new change trees.1 rests sound applies
+  by_command c old new (ApplyTextDelta token checksum) trees rests sound none applies = begins_delta old new token checksum sound none applies
+  by_command c old new (TextDeltaChunk token bytes) trees rests sound none applies = feeds_delta old new token bytes sound applies
+  by_command c old new (TextDeltaEnd token) trees rests sound none applies = ends_delta c old new token trees.1 rests sound applies
+  by_command c old new (CloseDirectory token) trees rests sound none applies = closes old new token sound applies
+  by_command c old new (CloseFile token checksum) trees rests sound none applies = closes old new token sound applies
+  by_command c old new CloseEdit trees rests sound none applies = absurd applies
+  by_command c old new AbortEdit trees rests sound none applies = absurd applies
 
-  pub goes_on : (c : RepoState) (old new : EditState) (command : EditorCommand) → AreTrees c.revisions → IsSoundEdit old → edit_refusal c old command ≡ None → Applies c old command new → IsSoundEdit new
-  goes_on c old new command trees sound none applies = by_command c old new command trees sound (not_refused old.refused (command_refusal c old command) none) applies
+  pub goes_on : (c : RepoState) (old new : EditState) (command : EditorCommand) → AreSound c.revisions → RestsOn old c → IsSoundEdit old → edit_refusal c old command ≡ None → Applies c old command new → IsSoundEdit new
+  goes_on c old new command trees rests sound none applies = by_command c old new command trees rests sound (not_refused old.refused (command_refusal c old command) none) applies

@@ -1,22 +1,27 @@
 -- The editor of a commit: an edit, and what each command makes of it.
-use Rattle.std.specs.Prelude.{◌≡◌, ℕ, true, List, [], Option, Some, None, Result, Ok, Err, if◌then◌else◌}
+use Rattle.std.specs.Prelude.{◌≡◌, ℕ, Bool, true, false, is_some, List, [], Option, Some, None, Result, Ok, Err, if◌then◌else◌}
 use Rattle.svnpath.specs.Paths.{PathValue}
 use Rattle.svnpath.specs.Texts.{joined}
 use Rattle.refusals.specs.declared.Refusal.{Refusal}
 use Rattle.refusals.specs.declared.Refusal.TheVariants as refusals
 use Rattle.repo_api.specs.States.{RepoState, TxnState, IsBegun, IsEdited, IsBeginning}
+use Rattle.repo_api.specs.declared.change.Source.{Source}
+use Rattle.repo_api.specs.declared.entry.NodeKind.{NodeKind}
+use Rattle.repo_api.specs.declared.entry.NodeKind.TheVariants as kinds
 use Rattle.repo_api.specs.declared.edit.EditOp.{EditOp}
 use Rattle.repo_api.specs.declared.edit.EditOp.TheVariants as edits
 use Rattle.svndiff0.specs.Applying.{Applying, fed}
 use Rattle.svndiff0.specs.Document.{read, outcome}
 use Rattle.edit_commands.specs.declared.editing.EditorCommand.{EditorCommand}
 use Rattle.edit_commands.specs.declared.editing.EditorCommand.TheVariants.{TargetRevision, OpenRoot, DeleteEntry, AddDirectory, AddFile, OpenDirectory, OpenFile, AbsentDirectory, AbsentFile, ChangeDirectoryProperty, ChangeFileProperty, ApplyTextDelta, TextDeltaChunk, TextDeltaEnd, CloseDirectory, CloseFile, CloseEdit, AbortEdit}
+use Rattle.edit_commands.specs.declared.editing.AddedEntry.{AddedEntry}
 use Rattle.edit_commands.specs.declared.editing.PropertyChange.{PropertyChange}
-use Rattle.edit_rules.specs.Tokens.{Tokens, with_token, without_token, with_change, opened_under, path_of, closed_beneath, has_unfinished}
-use Rattle.edit_rules.specs.Edits.{EditState, file_text}
-use Rattle.edit_rules.specs.Refusing.{edit_refusal}
+use Rattle.edit_rules.specs.Tokens.{Tokens, with_token, without_token, with_change, opened_under, path_of, copies_under, closed_beneath, others_closed_beneath, has_unfinished}
+use Rattle.edit_rules.specs.Edits.{EditState, standing, file_text}
+use Rattle.edit_rules.specs.Refusing.{source_of, edit_refusal}
 use Rattle.edit_rules.specs.declared.fault.EditFault.{EditFault}
 use Rattle.edit_rules.specs.declared.fault.EditFault.TheVariants as edit_faults
+use Rattle.edit_rules.specs.declared.opened.OpenedDirectory.{OpenedDirectory}
 use Rattle.edit_rules.specs.declared.opened.Opened.{Opened}
 use Rattle.edit_rules.specs.declared.opened.Opened.TheVariants.{Directory, File}
 use Rattle.edit_rules.specs.declared.opened.Delta.TheVariants.{Untouched, Reading, Made}
@@ -27,11 +32,14 @@ given_up e = record e { txn = None; tokens = []; refused = true }
 
 -- ---- what a command does that is not refused
 
+abbrev pub opened_directory : PathValue → Option ℕ → Bool → OpenedDirectory
+opened_directory p revision in_copy = record { path = p; revision = revision; in_copy = in_copy }
+
 -- a transaction begins at the youngest revision, whichever the client names
 pub record OpensRoot (c : RepoState) (old : EditState) (revision : Option ℕ) (token : List ℕ) (new : EditState) : Type 0 where
   pub txn : TxnState
   pub begun : IsBegun c txn
-  pub is : new ≡ record old { txn = Some txn; tokens = with_token old.tokens token (Directory old.path revision) }
+  pub is : new ≡ record old { txn = Some txn; tokens = with_token old.tokens token (Directory (opened_directory old.path revision false)) }
 
 -- the transaction is edited, and these are open then
 pub record Edits (c : RepoState) (old : EditState) (op : EditOp) (tokens : Tokens) (new : EditState) : Type 0 where
@@ -48,6 +56,35 @@ Named e text P = (p : PathValue) × (joined e.path text ≡ Ok p) × P p
 -- the entry is opened under its token
 abbrev pub Opens : EditState → List ℕ → Opened → EditState → Type 0
 Opens old token opened new = new ≡ record old { tokens = with_token old.tokens token opened }
+
+-- a copy, over what stands there if something does
+abbrev pub copy_edit : NodeKind → PathValue → Source → EditOp
+copy_edit kinds.Absent p source = edits.Copy source p
+copy_edit kinds.File p source = edits.Replace source p
+copy_edit kinds.Directory p source = edits.Replace source p
+
+-- a new directory or file, or a copy
+abbrev pub added_edit : Bool → NodeKind → PathValue → Option Source → EditOp
+added_edit is_file kind p None = if is_file then edits.AddFile p else edits.AddDirectory p
+added_edit is_file kind p (Some source) = copy_edit kind p source
+
+abbrev pub added_opened : Bool → PathValue → Option Source → Opened
+added_opened is_file p source = if is_file then File p Untouched else Directory (opened_directory p None (is_some source))
+
+-- what is open once this is: where a copy takes its place, what was open there is closed
+abbrev pub tokens_added : Tokens → List ℕ → Opened → Option Source → Tokens
+tokens_added tokens token opened None = with_token tokens token opened
+tokens_added tokens token opened (Some source) =
+    others_closed_beneath (with_token tokens token opened) (path_of opened) token
+
+-- the entry is added, and opened under its token
+pub record Adds (c : RepoState) (old : EditState) (is_file : Bool) (entry : AddedEntry) (new : EditState) : Type 0 where
+  pub path : PathValue
+  pub is_path : joined old.path entry.path ≡ Ok path
+  pub source : Option Source
+  pub is_source : source_of old.name entry.source ≡ Ok source
+  pub edits : Edits c old (added_edit is_file (standing old.txn path) path source)
+      (tokens_added old.tokens entry.token (added_opened is_file path source) source) new
 
 abbrev pub property_edit : PathValue → List ℕ → Option (List ℕ) → EditOp
 property_edit p name None = edits.RemoveProperty p name
@@ -87,9 +124,10 @@ abbrev pub Applies : RepoState → EditState → EditorCommand → EditState →
 Applies c old (TargetRevision revision) new = new ≡ old
 Applies c old (OpenRoot revision token) new = OpensRoot c old revision token new
 Applies c old (DeleteEntry entry) new = Named old entry.path (λ p. Edits c old (edits.Delete p) (closed_beneath old.tokens p) new)
-Applies c old (AddDirectory entry) new = Named old entry.path (λ p. Edits c old (edits.AddDirectory p) (with_token old.tokens entry.token (Directory p None)) new)
-Applies c old (AddFile entry) new = Named old entry.path (λ p. Edits c old (edits.AddFile p) (with_token old.tokens entry.token (File p Untouched)) new)
-Applies c old (OpenDirectory entry) new = Named old entry.path (λ p. Opens old entry.token (Directory p entry.revision) new)
+Applies c old (AddDirectory entry) new = Adds c old false entry new
+Applies c old (AddFile entry) new = Adds c old true entry new
+Applies c old (OpenDirectory entry) new =
+    Named old entry.path (λ p. Opens old entry.token (Directory (opened_directory p entry.revision (copies_under old.tokens entry.parent))) new)
 Applies c old (OpenFile entry) new = Named old entry.path (λ p. Opens old entry.token (File p Untouched) new)
 Applies c old (AbsentDirectory entry) new = new ≡ old
 Applies c old (AbsentFile entry) new = new ≡ old

@@ -16,9 +16,9 @@ abbrev pub Judges : {T : Type 0} → Result T EditFault → Option Refusal → T
 Judges (Ok _) refusal = refusal ≡ None
 Judges (Err fault) refusal = IfRefused fault (λ r. refusal ≡ Some r)
 
--- it is the path that is wanted, or ends by what refuses it
-abbrev pub Names : Result PathValue EditFault → Result PathValue PathFault → Type 0
-Names (Ok path) wanted = wanted ≡ Ok path
+-- it is what is wanted, or ends by what refuses it
+abbrev pub Names : {T : Type 0} → Result T EditFault → Result T PathFault → Type 0
+Names (Ok value) wanted = wanted ≡ Ok value
 Names (Err fault) wanted = IfRefused fault (λ r. path_fault wanted ≡ Some r)
 
 -- a fault of a path, as an edit's

@@ -1,5 +1,5 @@
 -- Which commands of an edit are refused.
-use Rattle.std.specs.Prelude.{ℕ, Bool, true, false, not, ◌&&◌, ◌||◌, ◌==◌, nat_lt, nat_le, is_some, List, length, Option, Some, None, Result, Ok, Err, if◌then◌else◌, codes}
+use Rattle.std.specs.Prelude.{ℕ, ◌-◌, Bool, true, false, not, ◌&&◌, ◌||◌, ◌==◌, nat_lt, nat_le, is_some, List, length, Option, Some, None, Result, Ok, Err, if◌then◌else◌, codes}
 use Rattle.std.specs.List.{starts_with}
 use Rattle.md5.specs.Md5.{md5}
 use Rattle.hex.specs.Hex.{encode_lower}
@@ -11,7 +11,8 @@ use Rattle.refusals.specs.Refusing.{path_refusal}
 use Rattle.refusals.specs.declared.Refusal.{Refusal}
 use Rattle.refusals.specs.declared.Refusal.TheVariants as refusals
 use Rattle.repo_api.specs.States.{RepoState, TxnState, youngest}
-use Rattle.repo_api.specs.Kinds.{kind_at}
+use Rattle.repo_api.specs.Kinds.{kind_at, has_deeper_at}
+use Rattle.repo_api.specs.declared.change.Source.{Source}
 use Rattle.repo_api.specs.declared.entry.NodeKind.{NodeKind}
 use Rattle.repo_api.specs.declared.entry.NodeKind.TheVariants as kinds
 use Rattle.svndiff0.specs.Applying.{fed}
@@ -24,7 +25,7 @@ use Rattle.edit_commands.specs.declared.editing.AddedEntry.{AddedEntry}
 use Rattle.edit_commands.specs.declared.editing.OpenedEntry.{OpenedEntry}
 use Rattle.edit_commands.specs.declared.editing.DeletedEntry.{DeletedEntry}
 use Rattle.edit_commands.specs.declared.editing.AbsentEntry.{AbsentEntry}
-use Rattle.edit_rules.specs.Tokens.{directory_of, is_within, is_placed}
+use Rattle.edit_rules.specs.Tokens.{directory_of, copies_under, is_within, is_placed}
 use Rattle.edit_rules.specs.Edits.{EditState, standing, created, file_text, open_in}
 use Rattle.edit_rules.specs.declared.opened.Opened.{Opened}
 use Rattle.edit_rules.specs.declared.opened.Opened.TheVariants.{Directory, File}
@@ -52,6 +53,12 @@ abbrev pub add_refusal : NodeKind → Option Refusal
 add_refusal kinds.Absent = None
 add_refusal kinds.File = Some refusals.AlreadyExists
 add_refusal kinds.Directory = Some refusals.AlreadyExists
+
+-- nothing stands there
+abbrev pub is_absent : NodeKind → Bool
+is_absent kinds.Absent = true
+is_absent kinds.File = false
+is_absent kinds.Directory = false
 
 abbrev pub is_below : Option ℕ → Option ℕ → Bool
 is_below None made = false
@@ -91,18 +98,42 @@ opened e token = open_in e.txn e.tokens token
 abbrev pub source_path : List ℕ → List ℕ → Result PathValue PathFault
 source_path name text = if starts_with_slash text then parsed text else path_of_text text name
 
-abbrev pub path_fault : Result PathValue PathFault → Option Refusal
-path_fault (Ok p) = None
+abbrev pub path_fault : {T : Type 0} → Result T PathFault → Option Refusal
+path_fault (Ok value) = None
 path_fault (Err fault) = Some (path_refusal fault)
 
-abbrev pub source_fault : List ℕ → Option (List ℕ × ℕ) → Option Refusal
-source_fault name None = None
-source_fault name (Some source) = path_fault (source_path name source.0)
+abbrev pub sourced : ℕ → Result PathValue PathFault → Result (Option Source) PathFault
+sourced revision (Ok p) = Ok (Some (record { revision = revision; path = p }))
+sourced revision (Err fault) = Err fault
 
--- copies are not made yet
-abbrev pub copy_refusal : Option (List ℕ × ℕ) → Option Refusal
-copy_refusal None = None
-copy_refusal (Some source) = Some refusals.NotSupported
+-- the source of a copy that a command names, if it names one
+abbrev pub source_of : List ℕ → Option (List ℕ × ℕ) → Result (Option Source) PathFault
+source_of name None = Ok None
+source_of name (Some source) = sourced source.1 (source_path name source.0)
+
+-- ---- by the source of a copy
+
+-- a copy goes where nothing stands, and within a copy over what stands there
+abbrev pub room_refusal : Bool → NodeKind → Option Refusal
+room_refusal in_copy kind = unless (in_copy || is_absent kind) refusals.OutOfDate
+
+-- what is copied is there, and of the kind that is added
+abbrev pub source_kind_refusal : Bool → NodeKind → Option Refusal
+source_kind_refusal is_file kind = if is_file then file_refusal kind (age_refusal None None) else directory_refusal kind
+
+-- a path has at most 64 components
+abbrev pub depth_limit : ℕ
+depth_limit = 64
+
+-- the copy makes no deeper path
+abbrev pub depth_refusal : RepoState → Source → PathValue → Option Refusal
+depth_refusal c source p =
+    unless (not (has_deeper_at c source.revision source.path (depth_limit - length p))) refusals.NotSupported
+
+abbrev pub source_refusal : RepoState → Bool → PathValue → Source → Option Refusal
+source_refusal c is_file p source =
+    first (unless (nat_le source.revision (youngest c)) refusals.NoSuchRevision)
+    (first (source_kind_refusal is_file (kind_at c source.revision source.path)) (depth_refusal c source p))
 
 -- ---- by properties and texts
 
@@ -148,12 +179,19 @@ abbrev pub delete_entry_refusal : EditState → DeletedEntry → Result PathValu
 delete_entry_refusal e entry (Err fault) = Some (path_refusal fault)
 delete_entry_refusal e entry (Ok p) = first (parent_refusal e entry.parent p) (delete_refusal (standing e.txn p) (age_refusal entry.revision (created e.txn p)))
 
--- a directory or a file
-abbrev pub add_entry_refusal : EditState → AddedEntry → Result PathValue PathFault → Option Refusal
-add_entry_refusal e entry (Err fault) = Some (path_refusal fault)
-add_entry_refusal e entry (Ok p) =
-    first (source_fault e.name entry.source) (first (place_refusal e entry.parent entry.token p)
-    (first (copy_refusal entry.source) (add_refusal (standing e.txn p))))
+-- a new entry goes where nothing stands
+abbrev pub adding_refusal : RepoState → EditState → Bool → AddedEntry → PathValue → Option Source → Option Refusal
+adding_refusal c e is_file entry p None = add_refusal (standing e.txn p)
+adding_refusal c e is_file entry p (Some source) =
+    first (room_refusal (copies_under e.tokens entry.parent) (standing e.txn p)) (source_refusal c is_file p source)
+
+-- a directory or a file, new or a copy
+abbrev pub add_entry_refusal : RepoState → EditState → Bool → AddedEntry → Result PathValue PathFault
+    → Result (Option Source) PathFault → Option Refusal
+add_entry_refusal c e is_file entry (Err fault) source = Some (path_refusal fault)
+add_entry_refusal c e is_file entry (Ok p) (Err fault) = Some (path_refusal fault)
+add_entry_refusal c e is_file entry (Ok p) (Ok source) =
+    first (place_refusal e entry.parent entry.token p) (adding_refusal c e is_file entry p source)
 
 abbrev pub open_directory_refusal : EditState → OpenedEntry → Result PathValue PathFault → Option Refusal
 open_directory_refusal e entry (Err fault) = Some (path_refusal fault)
@@ -169,13 +207,13 @@ absent_refusal e entry (Err fault) = Some (path_refusal fault)
 absent_refusal e entry (Ok p) = parent_refusal e entry.parent p
 
 abbrev pub directory_property_refusal : Option TxnState → List ℕ → Option Opened → Option Refusal
-directory_property_refusal txn name (Some (Directory p revision)) = first (name_refusal name) (age_refusal revision (created txn p))
+directory_property_refusal txn name (Some (Directory d)) = first (name_refusal name) (age_refusal d.revision (created txn d.path))
 directory_property_refusal txn name (Some (File p delta)) = Some refusals.MalformedData
 directory_property_refusal txn name None = Some refusals.MalformedData
 
 abbrev pub file_property_refusal : List ℕ → Option Opened → Option Refusal
 file_property_refusal name (Some (File p delta)) = name_refusal name
-file_property_refusal name (Some (Directory p revision)) = Some refusals.MalformedData
+file_property_refusal name (Some (Directory d)) = Some refusals.MalformedData
 file_property_refusal name None = Some refusals.MalformedData
 
 -- a file has one text delta
@@ -183,25 +221,25 @@ abbrev pub begin_delta_refusal : EditState → Option (List ℕ) → Option Open
 begin_delta_refusal e checksum (Some (File p deltas.Untouched)) = checksum_refusal checksum (file_text e p)
 begin_delta_refusal e checksum (Some (File p (deltas.Reading a))) = Some refusals.MalformedData
 begin_delta_refusal e checksum (Some (File p deltas.Made)) = Some refusals.MalformedData
-begin_delta_refusal e checksum (Some (Directory p revision)) = Some refusals.MalformedData
+begin_delta_refusal e checksum (Some (Directory d)) = Some refusals.MalformedData
 begin_delta_refusal e checksum None = Some refusals.MalformedData
 
 abbrev pub chunk_refusal : List ℕ → Option Opened → Option Refusal
 chunk_refusal bytes (Some (File p (deltas.Reading a))) = reading_refusal (fed a bytes).reading
 chunk_refusal bytes (Some (File p deltas.Untouched)) = Some refusals.MalformedData
 chunk_refusal bytes (Some (File p deltas.Made)) = Some refusals.MalformedData
-chunk_refusal bytes (Some (Directory p revision)) = Some refusals.MalformedData
+chunk_refusal bytes (Some (Directory d)) = Some refusals.MalformedData
 chunk_refusal bytes None = Some refusals.MalformedData
 
 abbrev pub end_delta_refusal : Option Opened → Option Refusal
 end_delta_refusal (Some (File p (deltas.Reading a))) = outcome_refusal (outcome a.reading)
 end_delta_refusal (Some (File p deltas.Untouched)) = Some refusals.MalformedData
 end_delta_refusal (Some (File p deltas.Made)) = Some refusals.MalformedData
-end_delta_refusal (Some (Directory p revision)) = Some refusals.MalformedData
+end_delta_refusal (Some (Directory d)) = Some refusals.MalformedData
 end_delta_refusal None = Some refusals.MalformedData
 
 abbrev pub close_directory_refusal : Option Opened → Option Refusal
-close_directory_refusal (Some (Directory p revision)) = None
+close_directory_refusal (Some (Directory d)) = None
 close_directory_refusal (Some (File p delta)) = Some refusals.MalformedData
 close_directory_refusal None = Some refusals.MalformedData
 
@@ -213,15 +251,17 @@ closed_text_refusal e checksum p deltas.Made = checksum_refusal checksum (file_t
 
 abbrev pub close_file_refusal : EditState → Option (List ℕ) → Option Opened → Option Refusal
 close_file_refusal e checksum (Some (File p delta)) = closed_text_refusal e checksum p delta
-close_file_refusal e checksum (Some (Directory p revision)) = Some refusals.MalformedData
+close_file_refusal e checksum (Some (Directory d)) = Some refusals.MalformedData
 close_file_refusal e checksum None = Some refusals.MalformedData
 
 abbrev pub command_refusal : RepoState → EditState → EditorCommand → Option Refusal
 command_refusal c e (TargetRevision revision) = before_root e
 command_refusal c e (OpenRoot revision token) = open_root_refusal c e
 command_refusal c e (DeleteEntry entry) = delete_entry_refusal e entry (joined e.path entry.path)
-command_refusal c e (AddDirectory entry) = add_entry_refusal e entry (joined e.path entry.path)
-command_refusal c e (AddFile entry) = add_entry_refusal e entry (joined e.path entry.path)
+command_refusal c e (AddDirectory entry) =
+    add_entry_refusal c e false entry (joined e.path entry.path) (source_of e.name entry.source)
+command_refusal c e (AddFile entry) =
+    add_entry_refusal c e true entry (joined e.path entry.path) (source_of e.name entry.source)
 command_refusal c e (OpenDirectory entry) = open_directory_refusal e entry (joined e.path entry.path)
 command_refusal c e (OpenFile entry) = open_file_refusal e entry (joined e.path entry.path)
 command_refusal c e (AbsentDirectory entry) = absent_refusal e entry (joined e.path entry.path)

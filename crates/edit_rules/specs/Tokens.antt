@@ -1,9 +1,9 @@
 -- What is open in an edit, by its tokens.
-use Rattle.std.specs.Prelude.{ℕ, Bool, true, false, ◌+◌, ◌==◌, ◌&&◌, not, is_some, List, length, Option, Some, None, option_and_then}
+use Rattle.std.specs.Prelude.{ℕ, Bool, true, false, ◌+◌, ◌==◌, ◌&&◌, ◌||◌, not, is_some, List, length, Option, Some, None, option_and_then}
 use Rattle.std.specs.List.{filter, list_any}
 use Rattle.std.specs.BTreeMap.{insert_entry, is_at}
 use Rattle.std.specs.Map.{lookup, remove_entry, set_value, values_of}
-use Rattle.std.specs.Cmp.Lexicographic.{slice_cmp}
+use Rattle.std.specs.Cmp.Lexicographic.{slice_cmp, pointwise}
 use Rattle.std.specs.Ordering.{nat_cmp}
 use Rattle.svnpath.specs.Paths.{PathValue, is_at_or_under}
 use Rattle.edit_rules.specs.declared.opened.Opened.{Opened}
@@ -30,20 +30,38 @@ abbrev pub opened_under : Tokens → List ℕ → Option Opened
 opened_under tokens token = lookup (is_at (slice_cmp nat_cmp token)) tokens
 
 abbrev pub path_of : Opened → PathValue
-path_of (Directory p revision) = p
+path_of (Directory d) = d.path
 path_of (File p delta) = p
 
 abbrev pub directory_path : Opened → Option PathValue
-directory_path (Directory p revision) = Some p
+directory_path (Directory d) = Some d.path
 directory_path (File p delta) = None
 
 -- the directory that is open under a token
 abbrev pub directory_of : Tokens → List ℕ → Option PathValue
 directory_of tokens token = option_and_then directory_path (opened_under tokens token)
 
+-- whether it is a directory that was added with a copy, or opened beneath such a one
+abbrev pub is_in_copy : Opened → Bool
+is_in_copy (Directory d) = d.in_copy
+is_in_copy (File p delta) = false
+
+abbrev pub copies_in : Option Opened → Bool
+copies_in None = false
+copies_in (Some opened) = is_in_copy opened
+
+-- whether such a directory is open under a token
+abbrev pub copies_under : Tokens → List ℕ → Bool
+copies_under tokens token = copies_in (opened_under tokens token)
+
 -- nothing at or under the path is open any more
 abbrev pub closed_beneath : Tokens → PathValue → Tokens
 closed_beneath tokens p = filter (λ e. not (is_at_or_under (path_of e.1) p)) tokens
+
+-- nothing at or under the path is open any more, but for what is open under the token
+abbrev pub others_closed_beneath : Tokens → PathValue → List ℕ → Tokens
+others_closed_beneath tokens p token =
+    filter (λ e. pointwise ◌==◌ token e.0 || not (is_at_or_under (path_of e.1) p)) tokens
 
 abbrev pub is_reading_delta : Delta → Bool
 is_reading_delta Untouched = false
@@ -52,7 +70,7 @@ is_reading_delta Made = false
 
 -- whether it is a file whose text delta has not ended
 abbrev pub is_unfinished : Opened → Bool
-is_unfinished (Directory p revision) = false
+is_unfinished (Directory d) = false
 is_unfinished (File p delta) = is_reading_delta delta
 
 abbrev pub has_unfinished : Tokens → Bool

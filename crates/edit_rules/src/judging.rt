@@ -3,13 +3,13 @@ ghost use Rattle.std.specs.Prelude.{◌≡◌, option_copied, string_bytes};
 ghost use Rattle.svnpath.specs.Components.{Answers};
 ghost use Rattle.svnpath.specs.Texts.{joined};
 ghost use Rattle.edit_rules.specs.Tokens.{is_within};
-ghost use Rattle.edit_rules.specs.Refusing.{add_refusal, age_refusal, copy_refusal, delete_refusal, directory_refusal, file_refusal, is_below, is_property_name, is_reserved, may_be_named, name_refusal, source_fault, source_path, unless};
+ghost use Rattle.edit_rules.specs.Refusing.{add_refusal, age_refusal, delete_refusal, directory_refusal, file_refusal, is_absent, is_below, is_property_name, is_reserved, may_be_named, name_refusal, room_refusal, source_kind_refusal, source_of, source_path, unless};
 ghost use Rattle.edit_rules.specs.Judging.{Judges, Names};
 
 use crate::fault::EditFault;
 use items::Text;
 use refusals::Refusal;
-use repo_api::NodeKind;
+use repo_api::{NodeKind, Source};
 use std::alloc::Global;
 use svnpath::{Path, PathFault};
 
@@ -123,29 +123,52 @@ fn is_reserved(name: &[u8]) -> bool
     name.starts_with(b"svn:entry:".as_slice()) || name.starts_with(b"svn:wc:".as_slice())
 }
 
-/// Copies are not made yet.
-pub fn judge_copy(source: &Option<(Text, u64)>) -> Result<(), EditFault>
-    ensures { Judges result (copy_refusal source.now) }
+/// A copy goes where nothing stands, and within a copy over what stands there.
+pub fn judge_room(in_copy: bool, kind: NodeKind) -> Result<(), EditFault>
+    ensures { Judges result (room_refusal in_copy kind) }
 {
-    match source {
-        None => Ok(()),
-        Some(_) => Err(EditFault::Refused(Refusal::NotSupported)),
+    judge(in_copy || is_absent(kind), Refusal::OutOfDate)
+}
+
+/// Whether nothing stands there.
+fn is_absent(kind: NodeKind) -> bool
+    ensures { result ≡ is_absent kind }
+{
+    match kind {
+        NodeKind::Absent => true,
+        NodeKind::File => false,
+        NodeKind::Directory => false,
     }
 }
 
-/// The source of a copy has to be a path, or a URL of the repository of this name.
-pub fn judge_source(
+/// What is copied has to be there, and of the kind that is added.
+pub fn judge_source_kind(is_file: bool, kind: NodeKind) -> Result<(), EditFault>
+    ensures { Judges result (source_kind_refusal is_file kind) }
+{
+    if is_file {
+        judge_file(kind, None, None)
+    } else {
+        judge_directory(kind)
+    }
+}
+
+/// The source of a copy that a command names, if it names one: by a path, or by a URL of the repository of this
+/// name.
+pub fn source_named(
     alloc: Global,
     name: &str,
     source: &Option<(Text, u64)>,
-) -> Result<(), EditFault>
-    ensures { Judges result (source_fault name.now source.now) }
+) -> Result<Option<Source>, EditFault>
+    ensures { Names result (source_of name.now source.now) }
 {
     match source {
-        None => Ok(()),
-        Some((text, _)) => {
-            source_path(alloc, name, text.as_bytes())?;
-            Ok(())
+        None => Ok(None),
+        Some((text, revision)) => {
+            let path = source_path(alloc, name, text.as_bytes())?;
+            Ok(Some(Source {
+                revision: *revision,
+                path,
+            }))
         }
     }
 }

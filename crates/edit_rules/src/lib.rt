@@ -12,9 +12,12 @@ mod tokens;
 pub use checksums::judge_checksum;
 pub use fault::EditFault;
 pub use judging::{
-    is_property_name, is_within, judge, judge_absence, judge_age, judge_copy, judge_directory,
-    judge_file, judge_name, judge_presence, judge_source, path_named,
+    is_property_name, is_within, judge, judge_absence, judge_age, judge_directory, judge_file,
+    judge_name, judge_presence, judge_room, judge_source_kind, path_named, source_named,
 };
 pub use laws::edits_keep_trees;
-pub use opened::{Delta, Opened};
-pub use tokens::{close_beneath, directory_under, feed_under, has_unfinished, set_delta};
+pub use opened::{Delta, Opened, OpenedDirectory};
+pub use tokens::{
+    close_beneath, close_others_beneath, copies_under, directory_under, feed_under, has_unfinished,
+    set_delta,
+};

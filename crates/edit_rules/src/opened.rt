@@ -1,6 +1,6 @@
 //! What is open in an edit.
 ghost use Rattle.std.specs.Prelude.{◌≡◌, option_copied};
-ghost use Rattle.edit_rules.specs.Tokens.{path_of, directory_path, is_reading_delta, is_unfinished};
+ghost use Rattle.edit_rules.specs.Tokens.{path_of, directory_path, is_in_copy, is_reading_delta, is_unfinished};
 
 use svndiff0::Applier;
 use svnpath::Path;
@@ -16,11 +16,20 @@ pub enum Delta {
     Made,
 }
 
+/// A directory that is open: where it is, the revision that the client has of it, and whether it was added with a
+/// copy, or opened beneath such a one.
+#[derive(Drop)]
+pub struct OpenedDirectory {
+    pub path: Path,
+    pub revision: Option<u64>,
+    pub in_copy: bool,
+}
+
 /// What is open under a token.
 #[derive(Drop)]
 pub enum Opened {
-    /// A directory, with the revision that the client has of it.
-    Directory(Path, Option<u64>),
+    /// A directory.
+    Directory(OpenedDirectory),
     /// A file.
     File(Path, Delta),
 }
@@ -40,7 +49,7 @@ impl Opened {
         ensures { result.now ≡ path_of self.now }
     {
         match self {
-            Opened::Directory(path, _) => path,
+            Opened::Directory(directory) => &directory.path,
             Opened::File(path, _) => path,
         }
     }
@@ -50,8 +59,18 @@ impl Opened {
         ensures { option_copied result ≡ directory_path self.now }
     {
         match self {
-            Opened::Directory(path, _) => Some(path),
+            Opened::Directory(directory) => Some(&directory.path),
             Opened::File(_, _) => None,
+        }
+    }
+
+    /// Whether it is a directory that was added with a copy, or opened beneath such a one.
+    pub fn is_in_copy(&self) -> bool
+        ensures { result ≡ is_in_copy self.now }
+    {
+        match self {
+            Opened::Directory(directory) => directory.in_copy,
+            Opened::File(_, _) => false,
         }
     }
 
@@ -60,7 +79,7 @@ impl Opened {
         ensures { result ≡ is_unfinished self.now }
     {
         match self {
-            Opened::Directory(_, _) => false,
+            Opened::Directory(_) => false,
             Opened::File(_, delta) => delta.is_reading(),
         }
     }

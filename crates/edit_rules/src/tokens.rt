@@ -2,7 +2,7 @@
 ghost use Rattle.std.specs.Prelude.{◌≡◌, Some, OnOk, IfErr, option_copied};
 ghost use Rattle.svnpath.specs.Paths.{PathValue};
 ghost use Rattle.svndiff0.specs.Applying.{Applying, fed};
-ghost use Rattle.edit_rules.specs.Tokens.{opened_under, directory_of, with_change, closed_beneath, has_unfinished};
+ghost use Rattle.edit_rules.specs.Tokens.{opened_under, directory_of, copies_under, with_change, closed_beneath, others_closed_beneath, has_unfinished};
 ghost use Rattle.edit_rules.specs.Refusing.{chunk_refusal};
 ghost use Rattle.edit_rules.specs.Judging.{Judges, IfNoMemory};
 ghost use Rattle.edit_rules.specs.declared.opened.Opened.TheVariants.{File};
@@ -25,6 +25,16 @@ pub fn directory_under<'a>(tokens: &'a BTreeMap<Bytes, Opened>, token: &Bytes) -
     }
 }
 
+/// Whether the directory that is open under the token was added with a copy, or opened beneath such a one.
+pub fn copies_under(tokens: &BTreeMap<Bytes, Opened>, token: &Bytes) -> bool
+    ensures { result ≡ copies_under tokens.now.entries token.now }
+{
+    match tokens.get(token) {
+        None => false,
+        Some(opened) => opened.is_in_copy(),
+    }
+}
+
 /// Whether a text delta has not ended.
 pub fn has_unfinished(tokens: &BTreeMap<Bytes, Opened>) -> bool
     ensures { result ≡ has_unfinished tokens.now.entries }
@@ -37,6 +47,13 @@ pub fn close_beneath(tokens: &mut BTreeMap<Bytes, Opened>, path: &Path)
     ensures { tokens.new.entries ≡ closed_beneath tokens.old.entries path.now }
 {
     tokens.retain(|_, opened| !opened.path().is_at_or_under(path));
+}
+
+/// Closes what is open at or under the path, but for what is open under the token.
+pub fn close_others_beneath(tokens: &mut BTreeMap<Bytes, Opened>, path: &Path, token: &Bytes)
+    ensures { tokens.new.entries ≡ others_closed_beneath tokens.old.entries path.now token.now }
+{
+    tokens.retain(|key, opened| token == key || !opened.path().is_at_or_under(path));
 }
 
 /// Another delta of the file that is open under the token. It takes no memory.
@@ -82,7 +99,7 @@ fn feed_opened(opened: &mut Opened, bytes: &[u8]) -> Result<(), EditFault>
 {
     match opened {
         Opened::File(_, delta) => feed(delta, bytes),
-        Opened::Directory(_, _) => Err(EditFault::Refused(Refusal::MalformedData)),
+        Opened::Directory(_) => Err(EditFault::Refused(Refusal::MalformedData)),
     }
 }
 

@@ -9,16 +9,16 @@ use Rattle.std.specs.declared.cmp.Ordering.{Ordering}
 use Rattle.std.specs.declared.cmp.Ordering.TheVariants.{Less, Equal, Greater}
 use Rattle.svnpath.specs.Paths.{PathValue}
 use Rattle.repo_api.specs.States.{RepoState, TxnState, IsBegun, IsEdited}
+use Rattle.repo_api.specs.declared.change.Source.{Source}
 use Rattle.repo_api.specs.declared.edit.EditOp.{EditOp}
 use Rattle.refusals.specs.declared.Refusal.{Refusal}
 use Rattle.refusals.specs.declared.Refusal.TheVariants as refusals
-use Rattle.edit_commands.specs.declared.editing.AddedEntry.{AddedEntry}
 use Rattle.edit_rules.specs.declared.opened.Opened.{Opened}
 use Rattle.edit_rules.specs.declared.opened.Opened.TheVariants.{Directory}
-use Rattle.edit_rules.specs.Tokens.{Tokens, with_token, without_token, opened_under, directory_of, is_placed, is_within}
+use Rattle.edit_rules.specs.Tokens.{Tokens, with_token, without_token, path_of, opened_under, directory_of, is_placed, is_within}
 use Rattle.edit_rules.specs.Edits.{EditState, standing}
-use Rattle.edit_rules.specs.Refusing.{first, unless, source_fault, place_refusal, parent_refusal, copy_refusal, add_refusal, add_entry_refusal}
-use Rattle.edit_rules.specs.Editor.{OpensRoot, Edits}
+use Rattle.edit_rules.specs.Refusing.{first, unless, place_refusal, parent_refusal}
+use Rattle.edit_rules.specs.Editor.{OpensRoot, Edits, opened_directory, added_opened}
 
 pub on_ok : {T E : Type 0} {P Q : Type 0} (r : Result T E) → (P → Q) → OnOk r P → OnOk r Q
 on_ok (Ok x) f p = f p
@@ -49,10 +49,10 @@ reopened c old mid now op op' ts tokens wanted h same is_op is =
     }
 
 pub opens : (c : RepoState) (now old : EditState) (revision : Option ℕ) (token key : List ℕ) (copy : PathValue) (txn : TxnState) (tokens : Tokens) → now ≡ old → key ≡ token → copy ≡ now.path → IsBegun c txn
-    → tokens ≡ with_token now.tokens key (Directory copy revision) → OpensRoot c old revision token (record now { txn = Some txn; tokens = tokens })
+    → tokens ≡ with_token now.tokens key (Directory (opened_directory copy revision false)) → OpensRoot c old revision token (record now { txn = Some txn; tokens = tokens })
 opens c now old revision token key copy txn tokens same is_key is_path begun put =
     subst (λ (o : EditState). OpensRoot c o revision token (record now { txn = Some txn; tokens = tokens })) same
-    (record { txn = txn; begun = begun; is = ap (λ (ts : Tokens). record now { txn = Some txn; tokens = ts }) (put ∙ (λ i. with_token now.tokens (is_key i) (Directory (is_path i) revision))) })
+    (record { txn = txn; begun = begun; is = ap (λ (ts : Tokens). record now { txn = Some txn; tokens = ts }) (put ∙ (λ i. with_token now.tokens (is_key i) (Directory (opened_directory (is_path i) revision false)))) })
 
 -- ---- what is taken out again
 
@@ -115,12 +115,14 @@ placed e parent token p none =
     let b = both (is_some e.txn) (is_placed e.tokens parent token p) none in
     record { has_txn = b.0; is_new = not_some (opened_under e.tokens token) (is_within (directory_of e.tokens parent) p) b.1; placed = b.1 }
 
-pub placed_to_add : (e : EditState) (entry : AddedEntry) (p : PathValue) → add_entry_refusal e entry (Ok p) ≡ None → IsPlaced e entry.parent entry.token p
-placed_to_add e entry p none =
-    let after = none_first (source_fault e.name entry.source) (first (place_refusal e entry.parent entry.token p) (first (copy_refusal entry.source) (add_refusal (standing e.txn p)))) none in
-    let place = none_first (place_refusal e entry.parent entry.token p) (first (copy_refusal entry.source) (add_refusal (standing e.txn p))) after.1 in
-    placed e entry.parent entry.token p place.0
+pub placed_first : (e : EditState) (parent token : List ℕ) (p : PathValue) (rest : Option Refusal) → first (place_refusal e parent token p) rest ≡ None → IsPlaced e parent token p
+placed_first e parent token p rest none = placed e parent token p (none_first (place_refusal e parent token p) rest none).0
 
 -- a parent that is not refused is open in a transaction
 pub has_txn : (e : EditState) (parent : List ℕ) (p : PathValue) → parent_refusal e parent p ≡ None → is_some e.txn ≡ true
 has_txn e parent p none = (both (is_some e.txn) (is_within (directory_of e.tokens parent) p) none).0
+
+-- what is added is open at its path
+pub path_of_added : (is_file : Bool) (p : PathValue) (source : Source) → path_of (added_opened is_file p (Some source)) ≡ p
+path_of_added true p source = refl
+path_of_added false p source = refl

@@ -65,7 +65,7 @@ impl<R: Repository> CommitEditor<R> {
                 Err(EditFault::Refused(Refusal::MalformedData))
             }
             Some(Opened::File(_, Delta::Made)) => Err(EditFault::Refused(Refusal::MalformedData)),
-            Some(Opened::Directory(_, _)) => Err(EditFault::Refused(Refusal::MalformedData)),
+            Some(Opened::Directory(_)) => Err(EditFault::Refused(Refusal::MalformedData)),
             None => Err(EditFault::Refused(Refusal::MalformedData)),
         }
     }
@@ -92,7 +92,7 @@ impl<R: Repository> CommitEditor<R> {
     {
         let token = self.copied(token)?;
         let op = self.text_edit(&token)?;
-        self.edit(&op, repository)?;
+        self.edit(op, repository)?;
         set_delta(&mut self.tokens, &token, Delta::Made);
         Ok(())
     }
@@ -111,7 +111,7 @@ impl<R: Repository> CommitEditor<R> {
                 Err(EditFault::Refused(Refusal::MalformedData))
             }
             Some(Opened::File(_, Delta::Made)) => Err(EditFault::Refused(Refusal::MalformedData)),
-            Some(Opened::Directory(_, _)) => Err(EditFault::Refused(Refusal::MalformedData)),
+            Some(Opened::Directory(_)) => Err(EditFault::Refused(Refusal::MalformedData)),
             None => Err(EditFault::Refused(Refusal::MalformedData)),
         }
     }
@@ -162,7 +162,7 @@ impl<R: Repository> CommitEditor<R> {
                 self.judge_text(path, delta, checksum, repository)?;
                 Ok(())
             }
-            Some(Opened::Directory(_, _)) => Err(EditFault::Refused(Refusal::MalformedData)),
+            Some(Opened::Directory(_)) => Err(EditFault::Refused(Refusal::MalformedData)),
             None => Err(EditFault::Refused(Refusal::MalformedData)),
         }
     }

@@ -1,10 +1,11 @@
 //! Entries of a commit: what is opened, added, deleted and closed.
-ghost use Rattle.std.specs.Prelude.{◌≡◌, Ok, None, Some, OnOk, OnErr, IfErr, is_some, true, option_copied};
+ghost use Rattle.std.specs.Prelude.{◌≡◌, Ok, None, Some, OnOk, OnErr, IfOk, IfErr, is_some, true, option_copied, if◌then◌else◌};
 ghost use Rattle.svnpath.specs.Texts.{joined};
 ghost use Rattle.repo_api.specs.declared.edit.EditOp.TheVariants as edits;
-ghost use Rattle.edit_rules.specs.Tokens.{opened_under, directory_of, with_token, closed_beneath, is_placed, is_within};
-ghost use Rattle.edit_rules.specs.Refusing.{open_root_refusal, delete_entry_refusal, add_entry_refusal, open_directory_refusal, open_file_refusal, absent_refusal, place_refusal, parent_refusal, close_directory_refusal, opened};
-ghost use Rattle.edit_rules.specs.Editor.{OpensRoot, Edits, Named, Opens, Closes, RestsOn};
+ghost use Rattle.edit_rules.specs.Tokens.{opened_under, directory_of, copies_under, with_token, closed_beneath, is_placed, is_within};
+ghost use Rattle.edit_rules.specs.Edits.{standing};
+ghost use Rattle.edit_rules.specs.Refusing.{first, source_of, source_refusal, add_refusal, open_root_refusal, delete_entry_refusal, add_entry_refusal, open_directory_refusal, open_file_refusal, absent_refusal, place_refusal, parent_refusal, close_directory_refusal, opened};
+ghost use Rattle.edit_rules.specs.Editor.{OpensRoot, Edits, Named, Opens, Adds, opened_directory, copy_edit, added_edit, added_opened, tokens_added, Closes, RestsOn};
 ghost use Rattle.edit_rules.specs.Judging.{Judges, Leaves};
 ghost use Rattle.edit_rules.specs.declared.opened.Opened.TheVariants.{Directory, File};
 ghost use Rattle.edit_rules.specs.declared.opened.Delta.TheVariants.{Untouched};
@@ -12,14 +13,92 @@ ghost use Rattle.edit_rules.specs.declared.opened.Delta.TheVariants.{Untouched};
 use crate::editor::CommitEditor;
 use edit_commands::{AbsentEntry, AddedEntry, DeletedEntry, OpenedEntry};
 use edit_rules::{
-    Delta, EditFault, Opened, close_beneath, directory_under, is_within, judge, judge_absence,
-    judge_copy, judge_directory, judge_file, judge_presence, judge_source, path_named,
+    Delta, EditFault, Opened, OpenedDirectory, close_beneath, close_others_beneath, copies_under,
+    directory_under, is_within, judge, judge_absence, judge_directory, judge_file, judge_presence,
+    judge_room, judge_source_kind, path_named, source_named,
 };
 use items::Text;
 use refusals::Refusal;
-use repo_api::{EditOp, Repository};
+use repo_api::{EditOp, NodeKind, Repository, Source};
 use std::alloc::AllocError;
-use svnpath::{Bytes, Path};
+use svnpath::{Bytes, DEPTH_LIMIT, Path};
+
+/// A directory that is open.
+fn opened_directory(path: Path, revision: Option<u64>, in_copy: bool) -> Opened
+    ensures { result ≡ Directory (opened_directory path revision in_copy) }
+{
+    Opened::Directory(OpenedDirectory {
+        path,
+        revision,
+        in_copy,
+    })
+}
+
+/// What is open once it is added, new or a copy.
+fn added_opened(is_file: bool, path: Path, in_copy: bool) -> Opened
+    ensures { result ≡ (if is_file then File path Untouched else Directory (opened_directory path None in_copy)) }
+{
+    if is_file {
+        Opened::File(path, Delta::Untouched)
+    } else {
+        opened_directory(path, None, in_copy)
+    }
+}
+
+/// The edit that adds something new.
+fn new_edit(is_file: bool, path: Path) -> EditOp
+    ensures { result ≡ (if is_file then edits.AddFile path else edits.AddDirectory path) }
+{
+    if is_file {
+        EditOp::AddFile(path)
+    } else {
+        EditOp::AddDirectory(path)
+    }
+}
+
+/// The edit that copies, over what stands there if something does.
+fn copy_edit(kind: NodeKind, path: &Path, source: &Source) -> Result<EditOp, AllocError>
+    ensures { IfOk result (λ op. op ≡ copy_edit kind path.now source.now) }
+{
+    let to = path.clone()?;
+    let from = source_of(source)?;
+    Ok(match kind {
+        NodeKind::Absent => EditOp::Copy(from, to),
+        NodeKind::File => EditOp::Replace(from, to),
+        NodeKind::Directory => EditOp::Replace(from, to),
+    })
+}
+
+/// A copy of where a copy comes from.
+fn source_of(source: &Source) -> Result<Source, AllocError>
+    ensures { IfOk result (λ copy. copy ≡ source.now) }
+{
+    Ok(Source {
+        revision: source.revision,
+        path: source.path.clone()?,
+    })
+}
+
+/// What is copied has to be there, of the kind that is added, and not too deep for its new path.
+fn judge_source<R: Repository>(
+    is_file: bool,
+    path: &Path,
+    source: &Source,
+    repository: &R,
+) -> Result<(), EditFault>
+    ensures { Judges result (source_refusal (R.content repository.now) is_file path.now source.now) }
+{
+    judge(
+        source.revision <= repository.youngest(),
+        Refusal::NoSuchRevision,
+    )?;
+    judge_source_kind(is_file, repository.kind(source.revision, &source.path))?;
+    let names = DEPTH_LIMIT.saturating_sub(path.len());
+    judge(
+        !repository.has_deeper(source.revision, &source.path, names),
+        Refusal::NotSupported,
+    )
+}
 
 impl<R: Repository> CommitEditor<R> {
     /// Begins a transaction, and opens its directory at the edit's path.
@@ -38,7 +117,7 @@ impl<R: Repository> CommitEditor<R> {
         let path = self.path.clone()?;
         let txn = repository.begin()?;
         self.tokens
-            .insert(token, Opened::Directory(path, revision))?;
+            .insert(token, opened_directory(path, revision, false))?;
         self.txn = Some(txn);
         Ok(())
     }
@@ -51,49 +130,140 @@ impl<R: Repository> CommitEditor<R> {
         Ok(())
     }
 
-    /// Adds a directory, and opens it.
-    pub(crate) fn add_directory(
+    /// Adds a directory or a file, new or a copy, and opens it.
+    pub(crate) fn add_entry(
         &mut self,
+        is_file: bool,
         entry: &AddedEntry,
         repository: &R,
     ) -> Result<(), EditFault>
         requires { RestsOn self.old (R.content repository.now) }
-        ensures judged { Judges result (add_entry_refusal self.old entry.now (joined self.old.path entry.now.path)) }
-        ensures ok { OnOk result (Named self.old entry.now.path (λ p. Edits (R.content repository.now) self.old (edits.AddDirectory p) (with_token self.old.tokens entry.now.token (Directory p None)) self.new)) }
+        ensures judged { Judges result (add_entry_refusal (R.content repository.now) self.old is_file entry.now (joined self.old.path entry.now.path) (source_of self.old.name entry.now.source)) }
+        ensures ok { OnOk result (Adds (R.content repository.now) self.old is_file entry.now self.new) }
         ensures err { OnErr result (self.new ≡ self.old) }
     {
         let path = path_named(self.alloc, &self.path, &entry.path)?;
-        self.judge_add(entry, &path, repository)?;
-        let op = EditOp::AddDirectory(path.clone()?);
-        let token = self.copied(&entry.token)?;
-        self.put(token, Opened::Directory(path, None), &op, repository)?;
+        let source = source_named(self.alloc, self.name.as_str(), &entry.source)?;
+        self.add_at(is_file, entry, &path, &source, repository)?;
         Ok(())
     }
 
-    /// Adds a file, and opens it.
-    pub(crate) fn add_file(&mut self, entry: &AddedEntry, repository: &R) -> Result<(), EditFault>
+    fn add_at(
+        &mut self,
+        is_file: bool,
+        entry: &AddedEntry,
+        path: &Path,
+        source: &Option<Source>,
+        repository: &R,
+    ) -> Result<(), EditFault>
         requires { RestsOn self.old (R.content repository.now) }
-        ensures judged { Judges result (add_entry_refusal self.old entry.now (joined self.old.path entry.now.path)) }
-        ensures ok { OnOk result (Named self.old entry.now.path (λ p. Edits (R.content repository.now) self.old (edits.AddFile p) (with_token self.old.tokens entry.now.token (File p Untouched)) self.new)) }
+        ensures judged { Judges result (add_entry_refusal (R.content repository.now) self.old is_file entry.now (Ok path.now) (Ok source.now)) }
+        ensures ok { OnOk result (Edits (R.content repository.now) self.old (added_edit is_file (standing self.old.txn path.now) path.now source.now) (tokens_added self.old.tokens entry.now.token (added_opened is_file path.now source.now) source.now) self.new) }
         ensures err { OnErr result (self.new ≡ self.old) }
     {
-        let path = path_named(self.alloc, &self.path, &entry.path)?;
-        self.judge_add(entry, &path, repository)?;
-        let op = EditOp::AddFile(path.clone()?);
+        match source {
+            None => self.add_new(is_file, entry, path, repository),
+            Some(source) => self.add_copy(is_file, entry, path, source, repository),
+        }
+    }
+
+    /// Adds something new.
+    fn add_new(
+        &mut self,
+        is_file: bool,
+        entry: &AddedEntry,
+        path: &Path,
+        repository: &R,
+    ) -> Result<(), EditFault>
+        requires { RestsOn self.old (R.content repository.now) }
+        ensures judged { Judges result (add_entry_refusal (R.content repository.now) self.old is_file entry.now (Ok path.now) (Ok None)) }
+        ensures ok { OnOk result (Edits (R.content repository.now) self.old (added_edit is_file (standing self.old.txn path.now) path.now None) (with_token self.old.tokens entry.now.token (added_opened is_file path.now None)) self.new) }
+        ensures err { OnErr result (self.new ≡ self.old) }
+    {
+        self.judge_new(entry, path, repository)?;
         let token = self.copied(&entry.token)?;
-        self.put(token, Opened::File(path, Delta::Untouched), &op, repository)?;
+        let opened = path.clone()?;
+        let added = path.clone()?;
+        self.put_new(
+            token,
+            added_opened(is_file, opened, false),
+            new_edit(is_file, added),
+            repository,
+        )?;
         Ok(())
     }
 
-    fn judge_add(&self, entry: &AddedEntry, path: &Path, repository: &R) -> Result<(), EditFault>
+    /// Nothing may stand where something new is added.
+    fn judge_new(&self, entry: &AddedEntry, path: &Path, repository: &R) -> Result<(), EditFault>
         requires { RestsOn self.now (R.content repository.now) }
-        ensures { Judges result (add_entry_refusal self.now entry.now (Ok path.now)) }
+        ensures { Judges result (first (place_refusal self.now entry.now.parent entry.now.token path.now) (add_refusal (standing self.now.txn path.now))) }
     {
-        judge_source(self.alloc, self.name.as_str(), &entry.source)?;
         self.judge_place(&entry.parent, &entry.token, path)?;
-        judge_copy(&entry.source)?;
         judge_absence(self.standing(path, repository))?;
         Ok(())
+    }
+
+    /// Adds a copy, and closes what was open where it is put.
+    fn add_copy(
+        &mut self,
+        is_file: bool,
+        entry: &AddedEntry,
+        path: &Path,
+        source: &Source,
+        repository: &R,
+    ) -> Result<(), EditFault>
+        requires { RestsOn self.old (R.content repository.now) }
+        ensures judged { Judges result (add_entry_refusal (R.content repository.now) self.old is_file entry.now (Ok path.now) (Ok (Some source.now))) }
+        ensures ok { OnOk result (Edits (R.content repository.now) self.old (copy_edit (standing self.old.txn path.now) path.now source.now) (tokens_added self.old.tokens entry.now.token (added_opened is_file path.now (Some source.now)) (Some source.now)) self.new) }
+        ensures err { OnErr result (self.new ≡ self.old) }
+    {
+        self.judge_copy(is_file, entry, path, source, repository)?;
+        let token = self.copied(&entry.token)?;
+        let key = self.copied(&entry.token)?;
+        let opened = path.clone()?;
+        let op = copy_edit(self.standing(path, repository), path, source)?;
+        self.put_new(key, added_opened(is_file, opened, true), op, repository)?;
+        close_others_beneath(&mut self.tokens, path, &token);
+        Ok(())
+    }
+
+    /// A copy goes where nothing stands, or over what stands in a copy, and is of something of its kind.
+    fn judge_copy(
+        &self,
+        is_file: bool,
+        entry: &AddedEntry,
+        path: &Path,
+        source: &Source,
+        repository: &R,
+    ) -> Result<(), EditFault>
+        requires { RestsOn self.now (R.content repository.now) }
+        ensures { Judges result (add_entry_refusal (R.content repository.now) self.now is_file entry.now (Ok path.now) (Ok (Some source.now))) }
+    {
+        self.judge_place(&entry.parent, &entry.token, path)?;
+        let parent = self.copied(&entry.parent)?;
+        judge_room(
+            copies_under(&self.tokens, &parent),
+            self.standing(path, repository),
+        )?;
+        judge_source(is_file, path, source, repository)?;
+        Ok(())
+    }
+
+    /// Makes an edit that adds an entry, and opens it under a new token. The edit is dropped then.
+    fn put_new(
+        &mut self,
+        token: Bytes,
+        opened: Opened,
+        op: EditOp,
+        repository: &R,
+    ) -> Result<(), AllocError>
+        requires rests { RestsOn self.old (R.content repository.now) }
+        requires is_new { opened_under self.old.tokens token ≡ None }
+        requires has_txn { is_some self.old.txn ≡ true }
+        ensures ok { OnOk result (Edits (R.content repository.now) self.old op (with_token self.old.tokens token opened) self.new) }
+        ensures err { OnErr result (self.new ≡ self.old) }
+    {
+        self.put(token, opened, &op, repository)
     }
 
     /// Makes an edit that adds an entry, and opens it under a new token.
@@ -124,16 +294,16 @@ impl<R: Repository> CommitEditor<R> {
     }
 
     /// Makes an edit.
-    pub(crate) fn edit(&mut self, op: &EditOp, repository: &R) -> Result<(), AllocError>
+    pub(crate) fn edit(&mut self, op: EditOp, repository: &R) -> Result<(), AllocError>
         requires rests { RestsOn self.old (R.content repository.now) }
         requires has_txn { is_some self.old.txn ≡ true }
-        ensures ok { OnOk result (Edits (R.content repository.now) self.old op.now self.old.tokens self.new) }
+        ensures ok { OnOk result (Edits (R.content repository.now) self.old op self.old.tokens self.new) }
         ensures err { OnErr result (self.new ≡ self.old) }
     {
         let Some(txn) = &mut self.txn else {
             unreachable!();
         };
-        repository.edit(txn, op)
+        repository.edit(txn, &op)
     }
 
     /// Deletes an entry, and closes what is open at or under it.
@@ -148,10 +318,25 @@ impl<R: Repository> CommitEditor<R> {
         ensures err { OnErr result (self.new ≡ self.old) }
     {
         let path = path_named(self.alloc, &self.path, &entry.path)?;
-        self.judge_delete(entry, &path, repository)?;
-        let op = EditOp::Delete(path.clone()?);
-        self.edit(&op, repository)?;
-        close_beneath(&mut self.tokens, &path);
+        self.delete_at(entry, &path, repository)?;
+        Ok(())
+    }
+
+    fn delete_at(
+        &mut self,
+        entry: &DeletedEntry,
+        path: &Path,
+        repository: &R,
+    ) -> Result<(), EditFault>
+        requires { RestsOn self.old (R.content repository.now) }
+        ensures judged { Judges result (delete_entry_refusal self.old entry.now (Ok path.now)) }
+        ensures ok { OnOk result (Edits (R.content repository.now) self.old (edits.Delete path.now) (closed_beneath self.old.tokens path.now) self.new) }
+        ensures err { OnErr result (self.new ≡ self.old) }
+    {
+        self.judge_delete(entry, path, repository)?;
+        let deleted = path.clone()?;
+        self.edit(EditOp::Delete(deleted), repository)?;
+        close_beneath(&mut self.tokens, path);
         Ok(())
     }
 
@@ -181,14 +366,16 @@ impl<R: Repository> CommitEditor<R> {
     ) -> Result<(), EditFault>
         requires { RestsOn self.old (R.content repository.now) }
         ensures judged { Judges result (open_directory_refusal self.old entry.now (joined self.old.path entry.now.path)) }
-        ensures ok { OnOk result (Named self.old entry.now.path (λ p. Opens self.old entry.now.token (Directory p entry.now.revision) self.new)) }
+        ensures ok { OnOk result (Named self.old entry.now.path (λ p. Opens self.old entry.now.token (Directory (opened_directory p entry.now.revision (copies_under self.old.tokens entry.now.parent))) self.new)) }
         ensures err { OnErr result (self.new ≡ self.old) }
     {
         let path = path_named(self.alloc, &self.path, &entry.path)?;
         self.judge_open_directory(entry, &path, repository)?;
+        let parent = self.copied(&entry.parent)?;
         let token = self.copied(&entry.token)?;
+        let in_copy = copies_under(&self.tokens, &parent);
         self.tokens
-            .insert(token, Opened::Directory(path, entry.revision))?;
+            .insert(token, opened_directory(path, entry.revision, in_copy))?;
         Ok(())
     }
 
@@ -264,7 +451,7 @@ impl<R: Repository> CommitEditor<R> {
         ensures { Judges result (close_directory_refusal (opened self.now token.now)) }
     {
         match self.open_under(token) {
-            Some(Opened::Directory(_, _)) => Ok(()),
+            Some(Opened::Directory(_)) => Ok(()),
             Some(Opened::File(_, _)) => Err(EditFault::Refused(Refusal::MalformedData)),
             None => Err(EditFault::Refused(Refusal::MalformedData)),
         }

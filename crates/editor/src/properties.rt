@@ -27,7 +27,7 @@ impl<R: Repository> CommitEditor<R> {
     {
         let token = self.copied(&change.token)?;
         let op = self.directory_property(&token, change, repository)?;
-        self.edit(&op, repository)?;
+        self.edit(op, repository)?;
         Ok(())
     }
 
@@ -43,10 +43,13 @@ impl<R: Repository> CommitEditor<R> {
         ensures op { IfOk result (λ op. (o : Opened) × (opened self.now token.now ≡ Some o) × (op ≡ property_edit (path_of o) change.now.name change.now.value)) }
     {
         match self.open_under(token) {
-            Some(Opened::Directory(path, revision)) => {
+            Some(Opened::Directory(directory)) => {
                 judge_name(change.name.as_bytes())?;
-                judge_age(*revision, self.created(path, repository))?;
-                let op = self.property_edit(path, change)?;
+                judge_age(
+                    directory.revision,
+                    self.created(&directory.path, repository),
+                )?;
+                let op = self.property_edit(&directory.path, change)?;
                 Ok(op)
             }
             Some(Opened::File(_, _)) => Err(EditFault::Refused(Refusal::MalformedData)),
@@ -67,7 +70,7 @@ impl<R: Repository> CommitEditor<R> {
     {
         let token = self.copied(&change.token)?;
         let op = self.file_property(&token, change)?;
-        self.edit(&op, repository)?;
+        self.edit(op, repository)?;
         Ok(())
     }
 
@@ -82,7 +85,7 @@ impl<R: Repository> CommitEditor<R> {
                 let op = self.property_edit(path, change)?;
                 Ok(op)
             }
-            Some(Opened::Directory(_, _)) => Err(EditFault::Refused(Refusal::MalformedData)),
+            Some(Opened::Directory(_)) => Err(EditFault::Refused(Refusal::MalformedData)),
             None => Err(EditFault::Refused(Refusal::MalformedData)),
         }
     }

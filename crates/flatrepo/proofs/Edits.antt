@@ -3,17 +3,18 @@ use Rattle.std.proofs.Common.{◌≡◌, true, false, List, Some, None, option_m
 use Rattle.std.specs.Prelude.{is_some, if◌then◌else◌}
 use Rattle.std.specs.FinMap.{get, from_entries}
 use Rattle.svnpath.specs.Paths.{PathValue, path_cmp, same_path, is_at_or_under}
-use Rattle.repo_api.specs.Changes.{plain_change, or_modified, after_delete, noted, noted_delete}
+use Rattle.repo_api.specs.Changes.{plain_change, or_modified, after_add, after_delete, noted, noted_copy, noted_delete}
 use Rattle.repo_api.specs.Edits.{new_entry, touched, touched_above, revised}
 use Rattle.repo_api.specs.States.{TreeMap, ChangeMap, tree_of, changes_of}
 use Rattle.repo_api.specs.declared.change.Action.TheVariants.{Delete as Gone}
 use Rattle.repo_api.specs.declared.change.Change.{Change}
+use Rattle.repo_api.specs.declared.change.Source.{Source}
 use Rattle.repo_api.specs.declared.entry.Entry.{Entry}
 use Rattle.repo_api.specs.declared.entry.Content.{Content}
 use Rattle.flatrepo.specs.Found.{found, with_room, is_added, kept_at, part_at}
 use Rattle.repo_api.specs.StateLaws.{get_path}
 use Rattle.flatrepo.proofs.Seen.{seen_at}
-use Rattle.flatrepo.proofs.Rules.{room_taken, room_made, delete_of_added, delete_of_other, flagged, part_touched}
+use Rattle.flatrepo.proofs.Rules.{replaced, room_taken, room_made, delete_of_added, delete_of_other, flagged, part_touched}
 
 pub touch_seen : (m : TreeMap) (old new : List (PathValue × Entry)) (p q : PathValue) → from_entries old ≡ m → found new q ≡ touched_above p (found old) q
     → get (from_entries {R = path_cmp} new) q ≡ touched_above p (tree_of m) q
@@ -67,3 +68,14 @@ part_seen m old mid new p q f is part touch =
     get_path new q ∙ touch ∙ ap (λ o. if is_at_or_under p q then option_map touched o else o) (part q)
     ∙ ap (λ o. if is_at_or_under p q then option_map touched (part_at p f q o) else part_at p f q o) (sym (seen_at old m q is))
     ∙ part_touched (tree_of m) p q f
+
+-- a copy that is put, and then what was changed beneath it taken out
+pub replace_seen : (m : ChangeMap) (old mid new : List (PathValue × Change)) (p q : PathValue) (source : Source) (change : Change) → from_entries old ≡ m
+    → change ≡ after_add (Some source) (after_delete (found old p)) → found mid q ≡ noted (found old) p change q
+    → found new q ≡ (if kept_at p true q then found mid q else None)
+    → get (from_entries {R = path_cmp} new) q ≡ noted_copy source (noted_delete (changes_of m) p) p q
+replace_seen m old mid new p q source change is made put pruned =
+    get_path new q ∙ pruned ∙ ap (λ o. if kept_at p true q then o else None) (put ∙ ap (λ c. noted (found old) p c q) made)
+    ∙ replaced (found old) p q source
+    ∙ ap (λ o. if same_path p q then Some (after_add (Some source) (noted_delete (found old) p p)) else (if same_path p q then after_delete o else (if is_at_or_under q p then None else o))) (sym (seen_at old m q is))
+    ∙ ap (λ o. if same_path p q then Some (after_add (Some source) (if same_path p p then after_delete o else (if is_at_or_under p p then None else o))) else noted_delete (changes_of m) p q) (sym (seen_at old m p is))

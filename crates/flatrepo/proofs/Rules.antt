@@ -5,13 +5,14 @@ use Rattle.std.specs.Prelude.{not, is_some, if◌then◌else◌}
 use Rattle.std.specs.Option.{option_or}
 use Rattle.std.specs.FinMap.{get, empty, get-empty}
 use Rattle.svnpath.specs.Paths.{PathValue, path_cmp, same_path, is_at_or_under}
-use Rattle.svnpath.specs.PathLaws.{same_path_is}
-use Rattle.repo_api.specs.Changes.{Changes, plain_change, or_modified, after_delete, noted, noted_delete}
+use Rattle.svnpath.specs.PathLaws.{same_path_is, same_path_refl}
+use Rattle.repo_api.specs.Changes.{Changes, plain_change, or_modified, after_add, after_delete, noted, noted_copy, noted_delete}
 use Rattle.repo_api.specs.Edits.{new_entry, touched, opened, touched_above, revised, begun}
 use Rattle.repo_api.specs.States.{TreeMap, Fixed, tree_of, tree_in}
 use Rattle.repo_api.specs.Trees.{Tree}
 use Rattle.repo_api.specs.declared.change.Action.TheVariants.{Add, Delete as Gone, Replace, Modify}
 use Rattle.repo_api.specs.declared.change.Change.{Change}
+use Rattle.repo_api.specs.declared.change.Source.{Source}
 use Rattle.repo_api.specs.declared.entry.Entry.{Entry}
 use Rattle.repo_api.specs.declared.entry.Content.{Content}
 use Rattle.flatrepo.specs.Found.{with_room, is_added, kept_at, part_at}
@@ -211,3 +212,17 @@ begun_empty q = get-empty path_cmp q ∙ by (is_at_or_under [] q)
 pub map_of_tree : (o : Option Fixed) → map_of (option_map (λ r. r.tree) o) ≡ tree_in o
 map_of_tree None = refl
 map_of_tree (Some r) = refl
+
+-- a copy over a delete takes out what was changed beneath it
+pub replaced : (cs : Changes) (p q : PathValue) (source : Source)
+    → (if kept_at p true q then noted cs p (after_add (Some source) (after_delete (cs p))) q else None) ≡ noted_copy source (noted_delete cs p) p q
+replaced cs p q source = by (same_path p q)
+  where
+    at : noted_delete cs p p ≡ after_delete (cs p)
+    at = ap (λ b. if b then after_delete (cs p) else (if is_at_or_under p p then None else cs p)) (same_path_refl p)
+
+    by : (b : Bool)
+        → (if (if b then true else not (is_at_or_under q p)) then (if b then Some (after_add (Some source) (after_delete (cs p))) else cs q) else None)
+        ≡ (if b then Some (after_add (Some source) (noted_delete cs p p)) else (if b then after_delete (cs q) else (if is_at_or_under q p then None else cs q)))
+    by true = ap (λ o. Some (after_add (Some source) o)) (sym at)
+    by false = outside (is_at_or_under q p) (cs q)

@@ -1,10 +1,10 @@
 -- Maps from paths as lists of entries, and the steps of an edit in one.
-use Rattle.std.specs.Prelude.{List, [], option_map, Option, Some, None, Bool, true, false, not, if◌then◌else◌}
+use Rattle.std.specs.Prelude.{List, [], length, drop, option_map, Option, Some, None, Bool, true, false, not, if◌then◌else◌}
 use Rattle.std.specs.BTreeMap.{is_at}
 use Rattle.std.specs.Map.{lookup}
 use Rattle.std.specs.Option.{option_or}
 use Rattle.svnpath.specs.Paths.{PathValue, path_cmp, same_path, is_at_or_under}
-use Rattle.repo_api.specs.Edits.{touched, opened, new_entry}
+use Rattle.repo_api.specs.Edits.{touched, opened, new_entry, copy_of}
 use Rattle.repo_api.specs.Properties.{PropertyList}
 use Rattle.repo_api.specs.Trees.{Tree}
 use Rattle.repo_api.specs.declared.entry.Entry.{Entry}
@@ -59,3 +59,12 @@ is_added (Some c) = is_add_action c.action
 -- whether the change at q is kept by a delete of p
 abbrev pub kept_at : PathValue → Bool → PathValue → Bool
 kept_at p kept q = if same_path p q then kept else not (is_at_or_under q p)
+
+-- an entry that is copied, as the top of what is copied or beneath it
+abbrev pub copied_entry : Bool → Entry → Entry
+copied_entry true e = opened e
+copied_entry false e = e
+
+-- what a copy from `from` of the source to `to` puts at q
+abbrev pub landed : Tree → PathValue → PathValue → Tree
+landed source from to q = if is_at_or_under q to then copy_of source from (drop (length to) q) else None

@@ -1,15 +1,21 @@
 //! A tree as one ordered map.
-ghost use Rattle.std.specs.Prelude.{◌≡◌, not, IfOk, OnOk, OnErr, is_some, option_map, option_copied, if◌then◌else◌, None};
-ghost use Rattle.std.specs.FinMap.{get, empty};
-ghost use Rattle.svnpath.specs.Paths.{PathValue, same_path};
-ghost use Rattle.repo_api.specs.Edits.{new_entry, touched_above, revised, with_text, deleted, begun};
-ghost use Rattle.repo_api.specs.Commits.{closed, sealed, sealed_tree};
+ghost use Rattle.std.specs.Prelude.{◌≡◌, ◌+◌, ◌&&◌, not, nat_lt, length, IfOk, OnOk, OnErr, is_some, option_map, option_copied, if◌then◌else◌, Some, None};
+ghost use Rattle.std.specs.FinMap.{get, empty, keys};
+ghost use Rattle.std.specs.List.{list_any};
+ghost use Rattle.std.specs.Option.{option_or};
+ghost use Rattle.svnpath.specs.Paths.{PathValue, same_path, is_at_or_under};
+ghost use Rattle.repo_api.specs.Edits.{new_entry, opened, touched_above, revised, with_text, deleted, copied, begun};
+ghost use Rattle.repo_api.specs.Kinds.{has_deeper};
+ghost use Rattle.repo_api.specs.MergedMaps.{has_conflict, merged_map};
 ghost use Rattle.repo_api.specs.Opening.{opening_root, opening_tree};
 ghost use Rattle.repo_api.specs.States.{tree_of};
 ghost use Rattle.repo_api.specs.Properties.{with_property, without_property};
-ghost use Rattle.flatrepo.specs.Found.{found, empty_content, with_room, opened_at, part_at, with_properties};
+ghost use Rattle.flatrepo.specs.Found.{found, empty_content, with_room, opened_at, part_at, with_properties, copied_entry, landed};
+ghost use Rattle.flatrepo.specs.Merging.{conflict_at, merged_at, put_over};
+ghost use Rattle.flatrepo.specs.Whole.{map_of};
 
-use crate::path_map::{put, take_out};
+use crate::merging::{is_in_conflict, merged_entry};
+use crate::path_map::{put, put_some, take_out};
 use repo_api::{Content, Entry, Mark, Properties};
 use std::alloc::{AllocError, Global};
 use std::collections::BTreeMap;
@@ -178,13 +184,222 @@ impl FlatTree {
         cut(&mut self.entries, path);
     }
 
-    /// The tree as that of the revision.
-    pub(crate) fn sealed(self, alloc: Global, revision: u32) -> Result<Self, AllocError>
-        ensures { IfOk result (λ t. t ≡ sealed_tree revision self) }
+    /// Whether something stands more than so many names beneath the path.
+    pub(crate) fn has_deeper(&self, path: &Path, names: usize) -> bool
+        ensures { result ≡ has_deeper self.now path.now names }
     {
-        let entries = sealed_entries(alloc, self.entries, revision)?;
+        self.entries.keys().any(|key| is_deeper(key, path, names))
+    }
+
+    /// This tree after a copy of what stands at `from` of the source, and under it, to `to`.
+    pub(crate) fn with_copy(
+        &self,
+        alloc: Global,
+        source: Option<&FlatTree>,
+        from: &Path,
+        to: &Path,
+    ) -> Result<FlatTree, AllocError>
+        ensures { IfOk result (λ t. (q : PathValue) → get t q ≡ copied (tree_of (map_of (option_copied source.entry))) from.now (tree_of self.now) to.now q) }
+    {
+        let mut entries = self.entries.clone()?;
+        cut(&mut entries, to);
+        graft(alloc, &mut entries, source, from, to)?;
         Ok(FlatTree { entries })
     }
+
+    /// Whether a path of the base or of this tree, the transaction's, is in conflict.
+    pub(crate) fn has_conflict(&self, base: Option<&FlatTree>, youngest: Option<&FlatTree>) -> bool
+        ensures { result ≡ has_conflict (map_of (option_copied base.entry)) self.now (map_of (option_copied youngest.entry)) }
+    {
+        self.conflicts_among(base, base, youngest)
+            || self.conflicts_among(Some(self), base, youngest)
+    }
+
+    /// Whether one of the paths is in conflict.
+    fn conflicts_among(
+        &self,
+        paths: Option<&FlatTree>,
+        base: Option<&FlatTree>,
+        youngest: Option<&FlatTree>,
+    ) -> bool
+        ensures { result ≡ list_any (conflict_at (map_of (option_copied base.entry)) self.now (map_of (option_copied youngest.entry))) (keys (map_of (option_copied paths.entry))) }
+    {
+        let Some(paths) = paths else {
+            return false;
+        };
+        paths
+            .entries
+            .keys()
+            .any(|path| self.conflicts_at(path, base, youngest))
+    }
+
+    /// Whether the path is in conflict.
+    fn conflicts_at(
+        &self,
+        path: &Path,
+        base: Option<&FlatTree>,
+        youngest: Option<&FlatTree>,
+    ) -> bool
+        ensures { result ≡ conflict_at (map_of (option_copied base.entry)) self.now (map_of (option_copied youngest.entry)) path.now }
+    {
+        is_in_conflict(
+            entry_at(base, path),
+            self.get(path),
+            entry_at(youngest, path),
+        )
+    }
+
+    /// The merge of this tree, the transaction's, with the others, as revision of that number.
+    pub(crate) fn merged(
+        &self,
+        alloc: Global,
+        revision: u32,
+        base: Option<&FlatTree>,
+        youngest: Option<&FlatTree>,
+    ) -> Result<FlatTree, AllocError>
+        ensures { IfOk result (λ t. t ≡ merged_map revision (map_of (option_copied base.entry)) self.now (map_of (option_copied youngest.entry))) }
+    {
+        let mut entries = BTreeMap::new(alloc);
+        self.put_merged(&mut entries, Some(self), revision, base, youngest)?;
+        self.put_merged(&mut entries, youngest, revision, base, youngest)?;
+        Ok(FlatTree { entries })
+    }
+
+    /// Puts what the merge has at each of the paths.
+    fn put_merged(
+        &self,
+        entries: &mut BTreeMap<Path, Entry>,
+        paths: Option<&FlatTree>,
+        revision: u32,
+        base: Option<&FlatTree>,
+        youngest: Option<&FlatTree>,
+    ) -> Result<(), AllocError>
+        ensures { OnOk result ((q : PathValue)
+            → found entries.new.entries q ≡ put_over (map_of (option_copied paths.entry))
+            (merged_at revision (map_of (option_copied base.entry)) self.now (map_of (option_copied youngest.entry))) (found entries.old.entries) q) }
+    {
+        let Some(paths) = paths else {
+            return Ok(());
+        };
+        for path in paths.entries.keys() {
+            let entry = self.merged_at(path, revision, base, youngest)?;
+            put_some(entries, path, entry)?;
+        }
+        Ok(())
+    }
+
+    /// What the merge has at the path.
+    fn merged_at(
+        &self,
+        path: &Path,
+        revision: u32,
+        base: Option<&FlatTree>,
+        youngest: Option<&FlatTree>,
+    ) -> Result<Option<Entry>, AllocError>
+        ensures { IfOk result (λ o. o ≡ merged_at revision (map_of (option_copied base.entry)) self.now (map_of (option_copied youngest.entry)) path.now) }
+    {
+        merged_entry(
+            revision,
+            path,
+            entry_at(base, path),
+            self.get(path),
+            entry_at(youngest, path),
+        )
+    }
+}
+
+/// What stands at the path of a tree that there may be none of.
+pub(crate) fn entry_at<'a>(tree: Option<&'a FlatTree>, path: &Path) -> Option<&'a Entry>
+    ensures { option_copied result ≡ get (map_of (option_copied tree.entry)) path.now }
+{
+    match tree {
+        Some(tree) => tree.get(path),
+        None => None,
+    }
+}
+
+/// Whether the key lies more than so many names beneath the path.
+fn is_deeper(key: &Path, path: &Path, names: usize) -> bool
+    ensures { result ≡ is_at_or_under key.now path.now && nat_lt (length path.now + names) (length key.now) }
+{
+    key.is_at_or_under(path) && key.len() - path.len() > names
+}
+
+/// Puts a copy of what stands at `from` of the source, and under it, at `to`.
+fn graft(
+    alloc: Global,
+    entries: &mut BTreeMap<Path, Entry>,
+    source: Option<&FlatTree>,
+    from: &Path,
+    to: &Path,
+) -> Result<(), AllocError>
+    ensures { OnOk result ((q : PathValue)
+        → found entries.new.entries q ≡ option_or (landed (tree_of (map_of (option_copied source.entry))) from.now to.now q)
+        (found entries.old.entries q)) }
+{
+    match source {
+        Some(source) => put_copies(alloc, entries, &source.entries, from, to),
+        None => Ok(()),
+    }
+}
+
+/// Puts copies of what stands at `from` and under it in the same places at `to` and under it.
+fn put_copies(
+    alloc: Global,
+    entries: &mut BTreeMap<Path, Entry>,
+    source: &BTreeMap<Path, Entry>,
+    from: &Path,
+    to: &Path,
+) -> Result<(), AllocError>
+    ensures { OnOk result ((q : PathValue)
+        → found entries.new.entries q ≡ option_or (landed (found source.now.entries) from.now to.now q) (found entries.old.entries q)) }
+{
+    for (path, entry) in source {
+        if !path.is_at_or_under(from) {
+            continue;
+        }
+        let target = path.rebased(alloc, from, to)?;
+        put_copy(entries, target, entry, path == from)?;
+    }
+    Ok(())
+}
+
+/// Puts a copy of the entry at the path.
+fn put_copy(
+    entries: &mut BTreeMap<Path, Entry>,
+    path: Path,
+    entry: &Entry,
+    is_top: bool,
+) -> Result<(), AllocError>
+    ensures { OnOk result ((q : PathValue)
+        → found entries.new.entries q ≡ (if same_path path q then Some (copied_entry is_top entry.now) else found entries.old.entries q)) }
+{
+    match copied_entry(entry, is_top) {
+        Ok(copy) => put(entries, path, copy),
+        Err(error) => Err(error),
+    }
+}
+
+/// A copy of the entry, opened if it is the top of what is copied.
+fn copied_entry(entry: &Entry, is_top: bool) -> Result<Entry, AllocError>
+    ensures { IfOk result (λ e. e ≡ copied_entry is_top entry.now) }
+{
+    if is_top {
+        return opened(entry);
+    }
+    entry.clone()
+}
+
+/// A copy of the entry with its marks open.
+fn opened(entry: &Entry) -> Result<Entry, AllocError>
+    ensures { IfOk result (λ e. e ≡ opened entry.now) }
+{
+    Ok(Entry {
+        content: entry.content.clone()?,
+        properties: entry.properties.clone()?,
+        own: Mark::Open,
+        last: Mark::Open,
+    })
 }
 
 fn opening_root(alloc: Global) -> Entry
@@ -278,47 +493,4 @@ fn cut(entries: &mut BTreeMap<Path, Entry>, path: &Path)
         }
         !key.is_at_or_under(path)
     });
-}
-
-/// The entries with their open marks made by the revision.
-fn sealed_entries(
-    alloc: Global,
-    mut entries: BTreeMap<Path, Entry>,
-    revision: u32,
-) -> Result<BTreeMap<Path, Entry>, AllocError>
-    ensures { IfOk result (λ m. (q : PathValue) → found m.entries q ≡ option_map (sealed revision q) (found entries.entries q)) }
-{
-    let mut out = BTreeMap::new(alloc);
-    while let Some((path, entry)) = entries.pop_last() {
-        let entry = sealed_entry(revision, &path, entry)?;
-        put(&mut out, path, entry)?;
-    }
-    Ok(out)
-}
-
-fn sealed_entry(revision: u32, path: &Path, entry: Entry) -> Result<Entry, AllocError>
-    ensures { IfOk result (λ e. e ≡ sealed revision path.now entry) }
-{
-    let Entry {
-        content,
-        properties,
-        own,
-        last,
-    } = entry;
-    Ok(Entry {
-        content,
-        properties,
-        own: closed(revision, path, own)?,
-        last: closed(revision, path, last)?,
-    })
-}
-
-/// The mark of the revision at the path in an open mark's place.
-fn closed(revision: u32, path: &Path, mark: Mark) -> Result<Mark, AllocError>
-    ensures { IfOk result (λ m. m ≡ closed revision path.now mark) }
-{
-    match mark {
-        Mark::Open => Ok(Mark::Made(revision, path.clone()?)),
-        made => Ok(made),
-    }
 }

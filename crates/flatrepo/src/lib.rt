@@ -4,6 +4,7 @@
 mod flat_changes;
 mod flat_tree;
 mod held;
+mod merging;
 mod path_map;
 mod repository;
 mod revision;

@@ -1,5 +1,6 @@
 //! Maps from paths.
 ghost use Rattle.std.specs.Prelude.{◌≡◌, OnOk, OnErr, Some, None, if◌then◌else◌};
+ghost use Rattle.std.specs.Option.{option_or};
 ghost use Rattle.svnpath.specs.Paths.{PathValue, same_path};
 ghost use Rattle.flatrepo.specs.Found.{found};
 
@@ -18,6 +19,21 @@ pub(crate) fn put<V: Drop>(
 {
     entries.insert(path, value)?;
     Ok(())
+}
+
+/// Puts the value, if there is one, at the path, over what stood there.
+pub(crate) fn put_some<V: Drop>(
+    entries: &mut BTreeMap<Path, V>,
+    path: &Path,
+    value: Option<V>,
+) -> Result<(), AllocError>
+    ensures { OnOk result ((q : PathValue)
+        → found entries.new.entries q ≡ (if same_path path.now q then option_or value (found entries.old.entries q) else found entries.old.entries q)) }
+{
+    match value {
+        Some(value) => put(entries, path.clone()?, value),
+        None => Ok(()),
+    }
 }
 
 /// Takes out what stands at the path.

@@ -3,24 +3,26 @@ ghost use Rattle.std.specs.Prelude.{◌≡◌, ◌≤◌, ◌<◌, List, ℕ, le
 ghost use Rattle.std.specs.FinMap.{get};
 ghost use Rattle.dates.specs.Dates.{IsDateText};
 ghost use Rattle.svnpath.specs.Paths.{PathValue};
-ghost use Rattle.repo_api.specs.Changes.{changes_after, after_add, after_property, noted};
+ghost use Rattle.repo_api.specs.Changes.{changes_after, after_add, after_property, noted, noted_copy, noted_delete};
 ghost use Rattle.repo_api.specs.Commits.{revision_limit, commit_refusal, committed};
 ghost use Rattle.repo_api.specs.Edits.{edited, added, revised, begun};
 ghost use Rattle.repo_api.specs.Opening.{opened};
 ghost use Rattle.repo_api.specs.declared.entry.Entry.{Entry};
 ghost use Rattle.flatrepo.specs.Found.{empty_content, with_properties};
-ghost use Rattle.repo_api.specs.Kinds.{kind_of, created_of, text_of};
-ghost use Rattle.repo_api.specs.States.{tree_of, changes_of};
+ghost use Rattle.repo_api.specs.Kinds.{kind_of, has_deeper, created_of, text_of};
+ghost use Rattle.repo_api.specs.MergedMaps.{has_conflict, merged_map};
+ghost use Rattle.repo_api.specs.declared.ask.CommitAsk.{CommitAsk};
+ghost use Rattle.repo_api.specs.States.{tree_of, tree_at, trees_in, changes_of, youngest};
 ghost use Rattle.flatrepo.specs.Whole.{content_of, repo_content, txn_state_of, revisions_of, map_of};
 
 use crate::flat_changes::FlatChanges;
-use crate::flat_tree::FlatTree;
+use crate::flat_tree::{FlatTree, entry_at};
 use crate::held::{Held, Kept};
 use crate::revision::revision_properties;
 use dates::date_text;
 use refusals::Refusal;
 use repo_api::{
-    ChangeFault, CommitAsk, Content, EditOp, Entry, Mark, NodeKind, Properties, Repository,
+    ChangeFault, CommitAsk, Content, EditOp, Entry, Mark, NodeKind, Properties, Repository, Source,
 };
 use std::alloc::{AllocError, Global};
 use std::sync::Arc;
@@ -90,6 +92,10 @@ impl Repository for FlatRepo {
         kind_at(self.held.tree(revision), path)
     }
 
+    fn has_deeper(&self, revision: u64, path: &Path, names: usize) -> bool {
+        has_deeper(self.held.tree(revision), path, names)
+    }
+
     fn revision_properties(&self, revision: u64) -> Option<&Properties> {
         self.held.properties(revision)
     }
@@ -118,7 +124,7 @@ impl Repository for FlatRepo {
 
     fn edit(&self, txn: &mut FlatTxn, op: &EditOp) -> Result<(), AllocError> {
         let shown = Arc::try_clone(&self.held)?;
-        edit_parts(self.alloc, &mut txn.tree, &mut txn.changes, op)?;
+        edit_parts(self.alloc, &self.held, &mut txn.tree, &mut txn.changes, op)?;
         txn.shown = shown;
         Ok(())
     }
@@ -145,12 +151,19 @@ fn date_of(alloc: Global, moment: u64) -> Result<Bytes, AllocError>
 fn kind_at(tree: Option<&FlatTree>, path: &Path) -> NodeKind
     ensures { result ≡ kind_of (get (map_of (option_copied tree.entry)) path.now) }
 {
-    let Some(tree) = tree else {
-        return NodeKind::Absent;
-    };
-    match tree.get(path) {
+    match entry_at(tree, path) {
         Some(entry) => entry.kind(),
         None => NodeKind::Absent,
+    }
+}
+
+/// Whether something stands more than so many names beneath the path of the tree.
+fn has_deeper(tree: Option<&FlatTree>, path: &Path, names: usize) -> bool
+    ensures { result ≡ has_deeper (map_of (option_copied tree.entry)) path.now names }
+{
+    match tree {
+        Some(tree) => tree.has_deeper(path, names),
+        None => false,
     }
 }
 
@@ -193,11 +206,12 @@ fn begun_tree(alloc: Global, tree: Option<&FlatTree>) -> Result<FlatTree, AllocE
 /// Makes the edit in the tree and the changes of a transaction.
 fn edit_parts(
     alloc: Global,
+    held: &Held,
     tree: &mut FlatTree,
     changes: &mut FlatChanges,
     op: &EditOp,
 ) -> Result<(), AllocError>
-    ensures tree { OnOk result ((q : PathValue) → get tree.new q ≡ edited (tree_of tree.old) op.now q) }
+    ensures tree { OnOk result ((q : PathValue) → get tree.new q ≡ edited (trees_in (revisions_of held.now)) (tree_of tree.old) op.now q) }
     ensures changes { OnOk result ((q : PathValue) → get changes.new q ≡ changes_after (changes_of changes.old) op.now q) }
     ensures tree_stays { OnErr result (tree.new ≡ tree.old) }
     ensures changes_stay { OnErr result (changes.new ≡ changes.old) }
@@ -205,6 +219,14 @@ fn edit_parts(
     match op {
         EditOp::AddDirectory(path) => add(alloc, tree, changes, path, false),
         EditOp::AddFile(path) => add(alloc, tree, changes, path, true),
+        EditOp::Copy(source, path) => {
+            let copied = tree.with_copy(alloc, held.tree(source.revision), &source.path, path)?;
+            take_copy(tree, changes, copied, path, source)
+        }
+        EditOp::Replace(source, path) => {
+            let copied = tree.with_copy(alloc, held.tree(source.revision), &source.path, path)?;
+            take_replacement(tree, changes, copied, path, source)
+        }
         EditOp::Delete(path) => {
             changes.note_delete(path)?;
             tree.delete(path);
@@ -225,6 +247,42 @@ fn edit_parts(
             Ok(())
         }
     }
+}
+
+/// Notes the copy, and then makes this the tree.
+fn take_copy(
+    tree: &mut FlatTree,
+    changes: &mut FlatChanges,
+    copied: FlatTree,
+    path: &Path,
+    source: &Source,
+) -> Result<(), AllocError>
+    ensures tree { OnOk result (tree.new ≡ copied) }
+    ensures changes { OnOk result ((q : PathValue) → get changes.new q ≡ noted_copy source.now (changes_of changes.old) path.now q) }
+    ensures tree_stays { OnErr result (tree.new ≡ tree.old) }
+    ensures changes_stay { OnErr result (changes.new ≡ changes.old) }
+{
+    changes.note_copy(path, source)?;
+    *tree = copied;
+    Ok(())
+}
+
+/// Notes the delete and the copy, and then makes this the tree.
+fn take_replacement(
+    tree: &mut FlatTree,
+    changes: &mut FlatChanges,
+    copied: FlatTree,
+    path: &Path,
+    source: &Source,
+) -> Result<(), AllocError>
+    ensures tree { OnOk result (tree.new ≡ copied) }
+    ensures changes { OnOk result ((q : PathValue) → get changes.new q ≡ noted_copy source.now (noted_delete (changes_of changes.old) path.now) path.now q) }
+    ensures tree_stays { OnErr result (tree.new ≡ tree.old) }
+    ensures changes_stay { OnErr result (changes.new ≡ changes.old) }
+{
+    changes.note_replace(path, source)?;
+    *tree = copied;
+    Ok(())
 }
 
 /// Gives the entry at the path these properties, if there is one. What takes memory comes first.
@@ -278,15 +336,32 @@ fn add(
 
 /// Why the commit is refused, if it is.
 fn refusal_of(held: &Held, txn: &FlatTxn) -> Option<Refusal>
-    ensures { result ≡ commit_refusal (content_of held.now) (txn_state_of txn.now) }
+    ensures { (ask : CommitAsk) → result ≡ commit_refusal (content_of held.now) ask (txn_state_of txn.now) }
 {
-    if txn.base < held.youngest() {
+    if has_conflict(held, txn.base, &txn.tree) {
         Some(Refusal::Conflict)
     } else if held.count() >= REVISION_LIMIT {
         Some(Refusal::NotSupported)
     } else {
         None
     }
+}
+
+/// Whether the tree of a transaction from this base is in conflict with the youngest revision's.
+fn has_conflict(held: &Held, base: u64, tree: &FlatTree) -> bool
+    ensures { result ≡ has_conflict (tree_at (content_of held.now) base) tree.now (tree_at (content_of held.now) (youngest (content_of held.now))) }
+{
+    tree.has_conflict(held.tree(base), held.tree(held.youngest()))
+}
+
+/// The tree of the revision that a commit of this tree, from this base, adds.
+fn next_tree(alloc: Global, held: &Held, base: u64, tree: &FlatTree) -> Result<FlatTree, AllocError>
+    requires { length (revisions_of held.now) < revision_limit }
+    ensures { IfOk result (λ t. t ≡ merged_map (length (revisions_of held.now))
+        (tree_at (content_of held.now) base) tree.now (tree_at (content_of held.now) (youngest (content_of held.now)))) }
+{
+    let revision = held.count() as u32;
+    tree.merged(alloc, revision, held.tree(base), held.tree(held.youngest()))
 }
 
 /// What is held after the commit.
@@ -301,14 +376,14 @@ fn with_commit(
 {
     let FlatTxn {
         shown,
-        base: _,
+        base,
         tree,
         changes,
     } = txn;
     drop(shown);
     let properties = revision_properties(alloc, ask)?;
     let kept = Kept {
-        tree: tree.sealed(alloc, held.count() as u32)?,
+        tree: next_tree(alloc, held, base, &tree)?,
         changes,
     };
     let held = held.with_revision(alloc, kept, properties)?;

@@ -25,6 +25,8 @@ pub(crate) fn revision_properties(alloc: Global, ask: CommitAsk) -> Result<Prope
         author,
         message,
         properties,
+        tokens: _,
+        keep_locks: _,
     } = ask;
     let mut list = asked_properties(alloc, properties, message)?;
     set(alloc, &mut list, b"svn:date", date)?;

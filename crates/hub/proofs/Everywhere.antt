@@ -72,6 +72,9 @@ AllRest-at c = every-at (Rests c) (AllRest c) tt (λ x xs p r. (p, r)) (λ x xs 
 pub AllRest-kept : (c : RepoState) (xs : List (ℕ × SessionState)) (n : ℕ) (s : SessionState) → AllRest c xs → RestsOn s.phase c → AllRest c (kept xs n s)
 AllRest-kept c xs n s r p = every-kept (Rests c) (AllRest c) tt (λ x xs p r. (p, r)) (λ x xs r. r) xs n s r (λ e. p)
 
+pub AllRest-updated : (c : RepoState) (xs : List (ℕ × SessionState)) (n : ℕ) (s : SessionState) → AllRest c xs → RestsOn s.phase c → AllRest c (updated xs n s)
+AllRest-updated c = every-updated (Rests c) (AllRest c) tt (λ x xs p r. (p, r)) (λ x xs r. r)
+
 pub AllRest-push : (c : RepoState) (xs : List (ℕ × SessionState)) (n : ℕ) (s : SessionState) → AllRest c xs → RestsOn s.phase c → AllRest c (xs ++ (n, s) ∷ [])
 AllRest-push c = every-push (Rests c) (AllRest c) tt (λ x xs p r. (p, r)) (λ x xs r. r)
 
@@ -105,6 +108,9 @@ AllSound-at = every-at Sound AllSound tt (λ x xs p r. (p, r)) (λ x xs r. r)
 
 pub AllSound-kept : (xs : List (ℕ × SessionState)) (n : ℕ) (s : SessionState) → AllSound xs → IsSound s.phase → AllSound (kept xs n s)
 AllSound-kept xs n s r p = every-kept Sound AllSound tt (λ x xs q t. (q, t)) (λ x xs t. t) xs n s r (λ e. p)
+
+pub AllSound-updated : (xs : List (ℕ × SessionState)) (n : ℕ) (s : SessionState) → AllSound xs → IsSound s.phase → AllSound (updated xs n s)
+AllSound-updated = every-updated Sound AllSound tt (λ x xs p r. (p, r)) (λ x xs r. r)
 
 pub AllSound-push : (xs : List (ℕ × SessionState)) (n : ℕ) (s : SessionState) → AllSound xs → IsSound s.phase → AllSound (xs ++ (n, s) ∷ [])
 AllSound-push = every-push Sound AllSound tt (λ x xs p r. (p, r)) (λ x xs r. r)

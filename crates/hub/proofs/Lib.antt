@@ -4,3 +4,4 @@ pub mod Feeding
 pub mod Staying
 pub mod Everywhere
 pub mod Trees
+pub mod Calling

@@ -30,7 +30,7 @@ joins a b c x y = record { more = x.more ++ y.more; is = y.is ∙ ap (λ (z : Li
 abbrev pub IsNext : RepoState → RepoState → Type 0
 IsNext old new = (new ≡ old) ⊎ IsAccepted old new
 
-after_effect : (c : RepoState) (e : Effect) → IsNext c (content_after c e)
+pub after_effect : (c : RepoState) (e : Effect) → IsNext c (content_after c e)
 after_effect c Nothing = inl refl
 after_effect c (Changes e) = inr (e, refl)
 after_effect c HaltsChanges = inl refl
@@ -51,7 +51,7 @@ change_keeps c (Commits ask t) = record { more = _; is = refl }
 change_counts : (c : RepoState) (e : Accepted) → length (changed c e).revisions ≤ length c.revisions + 1
 change_counts c (Commits ask t) = omega (arith, length-append {A = Fixed})
 
-next_keeps : (old new : RepoState) → IsNext old new → IsBeginning old.revisions new.revisions
+pub next_keeps : (old new : RepoState) → IsNext old new → IsBeginning old.revisions new.revisions
 next_keeps old new (inl e) = subst (λ (x : RepoState). IsBeginning old.revisions x.revisions) (sym e) (begins old.revisions)
 next_keeps old new (inr (e, is)) = subst (λ (x : RepoState). IsBeginning old.revisions x.revisions) (sym is) (change_keeps old e)
 

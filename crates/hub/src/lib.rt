@@ -10,7 +10,8 @@ pub use calls::{Call, Outcome, make_call, make_calls};
 pub use direct::Direct;
 pub use hub::{Hub, HubFault, SessionId};
 pub use laws::{
-    calls_keep_history, cut_anywhere, new_trees_are_trees, one_revision_an_event,
-    refused_changes_nothing, revisions_stay, trees_stay_trees,
+    calls_keep_history, commits_overwrite_nothing, cut_anywhere, marks_name_what_they_mark,
+    new_trees_are_trees, nothing_is_overwritten, one_revision_an_event, refused_changes_nothing,
+    revisions_are_trees, revisions_stay, trees_stay_trees,
 };
 pub use machine::{Env, Options, is_repository_name};

@@ -32,7 +32,7 @@ use Rattle.machine.specs.Settings.{Settings}
 use Rattle.machine.specs.Stages.{Stage, RestsOn}
 use Rattle.machine.specs.Hearing.{Input}
 use Rattle.machine.specs.Hearing.Input.{Whole, Broken}
-use Rattle.machine.specs.Machine.{Verdict, Effect, Answer, InputStep, Edits, CommitStep, CloseStep, CommandStep, EditingStep, ending_of, content_after, says, speaks, url_answer, greeting_answer, login_answer, command_answer, asked_by, lock_tokens, commit_begins, commit_answer, skipping_answer}
+use Rattle.machine.specs.Machine.{Verdict, Effect, Answer, InputStep, Edits, CommitStep, CloseStep, CommandStep, EditingStep, ending_of, content_after, says, speaks, url_answer, greeting_answer, login_answer, command_answer, asked_by, lock_tokens, commit_begins, commit_ask, commit_answer, skipping_answer}
 use Rattle.machine.specs.Machine.Effect.{Nothing, Changes, HaltsChanges}
 use Rattle.machine.specs.Machine.Verdict.{Went, Failed, Halts}
 use Rattle.machine.specs.Access.{Served, Moves}
@@ -135,8 +135,8 @@ rests_applied : (c : RepoState) (old new : EditState) (command : EditorCommand) 
 rests_applied c old new (TargetRevision revision) r is = rests_same c old new r is
 rests_applied c old new (OpenRoot revision token) r h = rests_at c new (Some h.txn) (ap (λ (e : EditState). e.txn) h.is) (rests_shown c h.txn h.begun.shown)
 rests_applied c old new (DeleteEntry entry) r (p, named, h) = rests_edited c old new _ _ h
-rests_applied c old new (AddDirectory entry) r (p, named, h) = rests_edited c old new _ _ h
-rests_applied c old new (AddFile entry) r (p, named, h) = rests_edited c old new _ _ h
+rests_applied c old new (AddDirectory entry) r h = rests_edited c old new _ _ h.edits
+rests_applied c old new (AddFile entry) r h = rests_edited c old new _ _ h.edits
 rests_applied c old new (OpenDirectory entry) r (p, named, is) = rests_opened c old new _ r is
 rests_applied c old new (OpenFile entry) r (p, named, is) = rests_opened c old new _ r is
 rests_applied c old new (AbsentDirectory entry) r is = rests_same c old new r is
@@ -161,14 +161,15 @@ rests_committed env c client asked t date Went = tt
 rests_committed env c client asked t date Failed = tt
 rests_committed env c client asked t date Halts = tt
 
-rests_commit : (may : Verdict → Bool) (env : Env) (c : RepoState) (client : Client) (asked : Asked) (t : TxnState) (r : Option Refusal) (a : Answer)
-    → CommitStep may env c client asked t r a → RestsOn a.phase c
-rests_commit may env c client asked t (Some r) a is = rests_is c a _ is tt
-rests_commit may env c client asked t None a (v, allowed, date, is_date, is) = rests_is c a _ is (rests_committed env c client asked t date v)
+rests_commit : (may : Verdict → Bool) (env : Env) (c : RepoState) (client : Client) (asked : Asked) (t : TxnState)
+    (date : List ℕ) (r : Option Refusal) (a : Answer) → CommitStep may env c client asked t date r a → RestsOn a.phase c
+rests_commit may env c client asked t date (Some r) a is = rests_is c a _ is tt
+rests_commit may env c client asked t date None a (v, allowed, is) = rests_is c a _ is (rests_committed env c client asked t date v)
 
 rests_close : (may : Verdict → Bool) (env : Env) (c : RepoState) (client : Client) (asked : Asked) (r : Result TxnState Refusal) (a : Answer)
     → CloseStep may env c client asked r a → RestsOn a.phase c
-rests_close may env c client asked (Ok t) a step = rests_commit may env c client asked t (commit_refusal c t) a step
+rests_close may env c client asked (Ok t) a (date, is_date, step) =
+    rests_commit may env c client asked t date (commit_refusal c (commit_ask client asked date) t) a step
 rests_close may env c client asked (Err r) a is = rests_is c a _ is tt
 
 rests_told : (may : Verdict → Bool) (env : Env) (c : RepoState) (client : Client) (asked : Asked) (edit : EditState) (command : EditorCommand) (ending : Option Ending) (a : Answer)

@@ -1,14 +1,19 @@
 -- A session's edit stays sound, and the repository's trees stay trees.
-use Rattle.std.proofs.Common.{◌≡◌, ℕ, List, [], ◌∷◌, ◌++◌, Bool, true, false, Option, Some, None, refl, sym, subst}
-use Rattle.std.specs.Prelude.{Result, Ok, Err, if◌then◌else◌, codes}
-use Rattle.svnpath.specs.Paths.{PathValue}
+use Rattle.std.proofs.Common.{◌≡◌, ◌<◌, ◌+◌, ℕ, zero, suc, List, [], ◌∷◌, ◌++◌, length, Bool, true, false, Option, Some, None, refl, sym, ap, subst, arith, length-append, ◌∙◌}
+use Rattle.std.specs.Prelude.{Result, Ok, Err, if◌then◌else◌, codes, IsSomeAnd, IsTrue}
+use Rattle.std.specs.FinMap.{get, get-empty}
+use Rattle.svnpath.specs.Paths.{PathValue, path_cmp}
 use Rattle.svnpath.specs.Urls.{path_of_text, root_of_text}
 use Rattle.svnpath.specs.declared.fault.PathFault.{PathFault}
 use Rattle.refusals.specs.declared.Refusal.{Refusal}
 use Rattle.refusals.specs.declared.Refusal.TheVariants as refusals
-use Rattle.repo_api.specs.Trees.{IsTree}
-use Rattle.repo_api.specs.States.{TreeMap, RepoState, TxnState, Fixed, tree_of}
-use Rattle.repo_api.specs.Commits.{commit_refusal, sealed_tree}
+use Rattle.repo_api.specs.Trees.{IsTree, is_directory}
+use Rattle.repo_api.specs.Marks.{AreMarked, MeetWell}
+use Rattle.repo_api.specs.Transactions.{IsMarkedTxn}
+use Rattle.repo_api.specs.declared.entry.Entry.{Entry}
+use Rattle.repo_api.specs.declared.ask.CommitAsk.{CommitAsk}
+use Rattle.repo_api.specs.States.{RepoState, TxnState, Fixed, IsBeginning, tree_of, tree_in, trees_in, youngest}
+use Rattle.repo_api.specs.Commits.{commit_refusal, next_tree, committed}
 use Rattle.forms.specs.Forms.{is_name}
 use Rattle.commands.specs.Commands.{main_command}
 use Rattle.commands.specs.Logins.{client_greeting, auth_response}
@@ -24,14 +29,14 @@ use Rattle.forms.specs.declared.fault.CommandFault.TheVariants.{UnknownName, Bad
 use Rattle.edit_rules.specs.Tokens.{Tokens, has_unfinished}
 use Rattle.edit_rules.specs.Edits.{EditState, new_edit}
 use Rattle.edit_rules.specs.Refusing.{edit_refusal}
-use Rattle.edit_rules.specs.Editor.{Applies, finished, finished_txn}
-use Rattle.edit_rules.specs.Soundness.{AreTrees, IsSoundEdit, IsSoundIn}
+use Rattle.edit_rules.specs.Editor.{Applies, finished, finished_txn, RestsIn, RestsOn}
+use Rattle.edit_rules.specs.Soundness.{AreTrees, AreSound, IsSoundEdit, IsSoundIn}
 use Rattle.machine.specs.Settings.{Settings}
-use Rattle.machine.specs.Stages.{Stage}
-use Rattle.machine.specs.Soundness.{IsSound}
+use Rattle.machine.specs.Stages.{Stage, RestsOn as StageRests}
+use Rattle.machine.specs.Soundness.{IsSound, MeetsBy}
 use Rattle.machine.specs.Hearing.{Input}
 use Rattle.machine.specs.Hearing.Input.{Whole, Broken}
-use Rattle.machine.specs.Machine.{Verdict, Answer, InputStep, Edits, CommitStep, CloseStep, CommandStep, EditingStep, ending_of, content_after, says, speaks, url_answer, greeting_answer, login_answer, command_answer, asked_by, lock_tokens, commit_begins, commit_answer, skipping_answer}
+use Rattle.machine.specs.Machine.{Verdict, Answer, InputStep, Edits, CommitStep, CloseStep, CommandStep, EditingStep, ending_of, content_after, says, speaks, url_answer, greeting_answer, login_answer, command_answer, asked_by, lock_tokens, commit_begins, commit_ask, commit_answer, skipping_answer}
 use Rattle.machine.specs.Machine.Verdict.{Went, Failed, Halts}
 use Rattle.machine.specs.declared.asked.Asked.{Asked}
 use Rattle.machine.specs.declared.env.Env.{Env}
@@ -49,16 +54,35 @@ finished_is_it : (unfinished : Bool) (u t : TxnState) → ◌≡◌ {A = Result 
 finished_is_it true u t is = cc
 finished_is_it false u t is = cc
 
--- the transaction of a sound edit is a tree
-finished_is_a_tree : (refused : Bool) (o : Option TxnState) (tokens : Tokens) (t : TxnState)
-    → IsSoundIn o tokens → ◌≡◌ {A = Result TxnState Refusal} (if refused then Err refusals.EditAborted else finished_txn tokens o) (Ok t) → IsTree (tree_of t.tree)
-finished_is_a_tree true o tokens t sound is = cc
-finished_is_a_tree false None tokens t sound is = cc
-finished_is_a_tree false (Some u) tokens t sound is = subst (λ (x : TxnState). IsTree (tree_of x.tree)) (finished_is_it (has_unfinished tokens) u t is) sound.0
+-- the transaction that is to be committed is the edit's
+finished_is : (refused : Bool) (o : Option TxnState) (tokens : Tokens) (t : TxnState) → ◌≡◌ {A = Result TxnState Refusal} (if refused then Err refusals.EditAborted else finished_txn tokens o) (Ok t) → o ≡ Some t
+finished_is true o tokens t is = cc
+finished_is false None tokens t is = cc
+finished_is false (Some u) tokens t is = ap (λ (x : TxnState). Some x) (finished_is_it (has_unfinished tokens) u t is)
+
+tree_within : (rs : List Fixed) (n : ℕ) → AreTrees rs → n < length rs → IsTree (trees_in rs n)
+tree_within [] n trees lt = absurd (omega (arith, lt))
+tree_within (r ∷ rs) zero trees lt = trees.0
+tree_within (r ∷ rs) (suc n) trees lt = tree_within rs n trees.1 (omega (arith, lt))
+
+no_directory : (o : Option Entry) → o ≡ None → IsSomeAnd o (λ e. IsTrue (is_directory e)) → ⊥
+no_directory o none dir = subst (λ (x : Option Entry). IsSomeAnd x (λ e. IsTrue (is_directory e))) none dir
+
+within_some : (rs : List Fixed) (n : ℕ) → IsTree (trees_in rs n) → n < length rs
+within_some [] n is = absurd (no_directory (get (tree_in None) []) (get-empty path_cmp []) is.root)
+within_some (r ∷ rs) zero is = omega arith
+within_some (r ∷ rs) (suc n) is = let lt : n < length rs = within_some rs n is in omega (arith, lt)
+
+-- the youngest revision's tree is a tree, where a transaction began at all
+youngest_tree : (c : RepoState) (t : TxnState) → AreTrees c.revisions → IsBeginning t.shown c.revisions → IsMarkedTxn t → IsTree (trees_in c.revisions (youngest c))
+youngest_tree c t trees b m =
+    let lt : t.base < length t.shown = within_some t.shown t.base m.base_tree in
+    let more : length c.revisions ≡ length t.shown + length b.more = ap length b.is ∙ length-append t.shown b.more in
+    tree_within c.revisions (youngest c) trees (omega (arith, lt, more))
 
 -- after an answer the repository's trees are trees, and the session's edit is sound
 abbrev pub LeavesTrees : RepoState → Answer → Type 0
-LeavesTrees c a = AreTrees (content_after c a.effect).revisions × IsSound a.phase
+LeavesTrees c a = AreSound (content_after c a.effect).revisions × IsSound a.phase × MeetsBy c a.effect
 
 leaves_is : (c : RepoState) (a b : Answer) → a ≡ b → LeavesTrees c b → LeavesTrees c a
 leaves_is c a b e r = subst (λ (x : Answer). LeavesTrees c x) (sym e) r
@@ -67,88 +91,101 @@ leaves_if : (c : RepoState) (b : Bool) (x y : Answer) → LeavesTrees c x → Le
 leaves_if c true x y p q = p
 leaves_if c false x y p q = q
 
-leaves_url : (c : RepoState) (s : Settings) (env : Env) (path : Result PathValue PathFault) (root : Result (List ℕ) PathFault) → AreTrees c.revisions → LeavesTrees c (url_answer s env path root)
-leaves_url c s env (Ok path) (Ok root) trees = (trees, tt)
-leaves_url c s env (Ok path) (Err fault) trees = (trees, tt)
-leaves_url c s env (Err fault) root trees = (trees, tt)
+leaves_url : (c : RepoState) (s : Settings) (env : Env) (path : Result PathValue PathFault) (root : Result (List ℕ) PathFault) → AreSound c.revisions → LeavesTrees c (url_answer s env path root)
+leaves_url c s env (Ok path) (Ok root) trees = (trees, tt, tt)
+leaves_url c s env (Ok path) (Err fault) trees = (trees, tt, tt)
+leaves_url c s env (Err fault) root trees = (trees, tt, tt)
 
-leaves_greeting : (c : RepoState) (s : Settings) (env : Env) (r : Result ClientGreeting CommandFault) → AreTrees c.revisions → LeavesTrees c (greeting_answer s env r)
+leaves_greeting : (c : RepoState) (s : Settings) (env : Env) (r : Result ClientGreeting CommandFault) → AreSound c.revisions → LeavesTrees c (greeting_answer s env r)
 leaves_greeting c s env (Ok g) trees =
     let path = path_of_text g.url s.name in
     let root = root_of_text g.url s.name in
-    leaves_if c (speaks g) (url_answer s env path root) (says env Ended []) (leaves_url c s env path root trees) (trees, tt)
-leaves_greeting c s env (Err fault) trees = (trees, tt)
+    leaves_if c (speaks g) (url_answer s env path root) (says env Ended []) (leaves_url c s env path root trees) (trees, tt, tt)
+leaves_greeting c s env (Err fault) trees = (trees, tt, tt)
 
-leaves_login : (c : RepoState) (env : Env) (client : Client) (r : Result AuthResponse CommandFault) → AreTrees c.revisions → LeavesTrees c (login_answer env c client r)
-leaves_login c env client (Ok r) trees = leaves_if c (is_name r.mechanism (codes "ANONYMOUS")) (says env (Serving client) _) (says env (LoggingIn client) _) (trees, tt) (trees, tt)
-leaves_login c env client (Err fault) trees = (trees, tt)
+leaves_login : (c : RepoState) (env : Env) (client : Client) (r : Result AuthResponse CommandFault) → AreSound c.revisions → LeavesTrees c (login_answer env c client r)
+leaves_login c env client (Ok r) trees = leaves_if c (is_name r.mechanism (codes "ANONYMOUS")) (says env (Serving client) _) (says env (LoggingIn client) _) (trees, tt, tt) (trees, tt, tt)
+leaves_login c env client (Err fault) trees = (trees, tt, tt)
 
-leaves_skipping : (c : RepoState) (env : Env) (client : Client) (ends : Option Bool) → AreTrees c.revisions → LeavesTrees c (skipping_answer env client ends)
-leaves_skipping c env client None trees = (trees, tt)
-leaves_skipping c env client (Some true) trees = (trees, tt)
-leaves_skipping c env client (Some false) trees = (trees, tt)
+leaves_skipping : (c : RepoState) (env : Env) (client : Client) (ends : Option Bool) → AreSound c.revisions → LeavesTrees c (skipping_answer env client ends)
+leaves_skipping c env client None trees = (trees, tt, tt)
+leaves_skipping c env client (Some true) trees = (trees, tt, tt)
+leaves_skipping c env client (Some false) trees = (trees, tt, tt)
 
 module _ (begins : (path : PathValue) (name : List ℕ) → IsSoundEdit (new_edit path name))
-    (goes_on : (c : RepoState) (old new : EditState) (command : EditorCommand) → AreTrees c.revisions → IsSoundEdit old → edit_refusal c old command ≡ None → Applies c old command new → IsSoundEdit new)
-    (seals : (n : ℕ) (m : TreeMap) → IsTree (tree_of m) → IsTree (tree_of (sealed_tree n m))) where
-  leaves_begins : (c : RepoState) (s : Settings) (env : Env) (client : Client) (r : Result Asked Refusal) → AreTrees c.revisions → LeavesTrees c (commit_begins s env client r)
-  leaves_begins c s env client (Ok asked) trees = (trees, begins client.path s.name)
-  leaves_begins c s env client (Err r) trees = (trees, tt)
+    (goes_on : (c : RepoState) (old new : EditState) (command : EditorCommand) → AreSound c.revisions → RestsOn old c → IsSoundEdit old → edit_refusal c old command ≡ None → Applies c old command new → IsSoundEdit new)
+    (meets : (c : RepoState) (ask : CommitAsk) (t : TxnState) → AreMarked (trees_in c.revisions) → IsTree (trees_in c.revisions (youngest c))
+    → IsBeginning t.shown c.revisions → IsMarkedTxn t → IsTree (tree_of t.tree)
+    → commit_refusal c ask t ≡ None → MeetWell (trees_in c.revisions) t.base (tree_of t.tree) (youngest c))
+    (makes_tree : (c : RepoState) (t : TxnState) → MeetWell (trees_in c.revisions) t.base (tree_of t.tree) (youngest c) → IsTree (tree_of (next_tree c t)))
+    (makes_marks : (c : RepoState) (ask : CommitAsk) (t : TxnState) → MeetWell (trees_in c.revisions) t.base (tree_of t.tree) (youngest c) → AreMarked (trees_in (committed c ask t).revisions)) where
+  leaves_begins : (c : RepoState) (s : Settings) (env : Env) (client : Client) (r : Result Asked Refusal) → AreSound c.revisions → LeavesTrees c (commit_begins s env client r)
+  leaves_begins c s env client (Ok asked) trees = (trees, begins client.path s.name, tt)
+  leaves_begins c s env client (Err r) trees = (trees, tt, tt)
 
-  leaves_command : (c : RepoState) (s : Settings) (env : Env) (client : Client) (r : Result MainCommand CommandFault) → AreTrees c.revisions → LeavesTrees c (command_answer s env c client r)
-  leaves_command c s env client (Ok GetLatestRev) trees = (trees, tt)
-  leaves_command c s env client (Ok (CheckPath path revision)) trees = (trees, tt)
-  leaves_command c s env client (Ok (RevProplist n)) trees = (trees, tt)
+  leaves_command : (c : RepoState) (s : Settings) (env : Env) (client : Client) (r : Result MainCommand CommandFault) → AreSound c.revisions → LeavesTrees c (command_answer s env c client r)
+  leaves_command c s env client (Ok GetLatestRev) trees = (trees, tt, tt)
+  leaves_command c s env client (Ok (CheckPath path revision)) trees = (trees, tt, tt)
+  leaves_command c s env client (Ok (RevProplist n)) trees = (trees, tt, tt)
   leaves_command c s env client (Ok (Commit command)) trees = leaves_begins c s env client (asked_by command (lock_tokens client.path command.tokens)) trees
-  leaves_command c s env client (Ok commands.AbortEdit) trees = (trees, tt)
-  leaves_command c s env client (Err UnknownName) trees = (trees, tt)
-  leaves_command c s env client (Err BadParameters) trees = (trees, tt)
-  leaves_command c s env client (Err NoMemory) trees = (trees, tt)
+  leaves_command c s env client (Ok commands.AbortEdit) trees = (trees, tt, tt)
+  leaves_command c s env client (Err UnknownName) trees = (trees, tt, tt)
+  leaves_command c s env client (Err BadParameters) trees = (trees, tt, tt)
+  leaves_command c s env client (Err NoMemory) trees = (trees, tt, tt)
 
   leaves_edits : (env : Env) (c : RepoState) (client : Client) (asked : Asked) (edit : EditState) (command : EditorCommand) (r : Option Refusal) (a : Answer)
-      → AreTrees c.revisions → IsSoundEdit edit → edit_refusal c edit command ≡ r → Edits env c client asked edit command r a → LeavesTrees c a
-  leaves_edits env c client asked edit command None a trees sound judged (after, applies, is) = leaves_is c a _ is (trees, goes_on c edit after command trees sound judged applies)
-  leaves_edits env c client asked edit command (Some r) a trees sound judged is = leaves_is c a _ is (trees, tt)
+      → AreSound c.revisions → RestsOn edit c → IsSoundEdit edit → edit_refusal c edit command ≡ r → Edits env c client asked edit command r a → LeavesTrees c a
+  leaves_edits env c client asked edit command None a trees rests sound judged (after, applies, is) = leaves_is c a _ is (trees, goes_on c edit after command trees rests sound judged applies, tt)
+  leaves_edits env c client asked edit command (Some r) a trees rests sound judged is = leaves_is c a _ is (trees, tt, tt)
 
   leaves_committed : (env : Env) (c : RepoState) (client : Client) (asked : Asked) (t : TxnState) (date : List ℕ) (v : Verdict)
-      → AreTrees c.revisions → IsTree (tree_of t.tree) → LeavesTrees c (commit_answer env c client asked t date v)
-  leaves_committed env c client asked t date Went trees tree = (trees_more c.revisions _ trees (seals _ t.tree tree), tt)
-  leaves_committed env c client asked t date Failed trees tree = (trees, tt)
-  leaves_committed env c client asked t date Halts trees tree = (trees, tt)
+      → AreSound c.revisions → MeetWell (trees_in c.revisions) t.base (tree_of t.tree) (youngest c) → LeavesTrees c (commit_answer env c client asked t date v)
+  leaves_committed env c client asked t date Went trees w = ((trees_more c.revisions _ trees.0 (makes_tree c t w), makes_marks c (commit_ask client asked date) t w), tt, w)
+  leaves_committed env c client asked t date Failed trees w = (trees, tt, tt)
+  leaves_committed env c client asked t date Halts trees w = (trees, tt, tt)
 
-  leaves_commit : (may : Verdict → Bool) (env : Env) (c : RepoState) (client : Client) (asked : Asked) (t : TxnState) (r : Option Refusal) (a : Answer)
-      → AreTrees c.revisions → IsTree (tree_of t.tree) → CommitStep may env c client asked t r a → LeavesTrees c a
-  leaves_commit may env c client asked t (Some r) a trees tree is = leaves_is c a _ is (trees, tt)
-  leaves_commit may env c client asked t None a trees tree (v, allowed, date, is_date, is) = leaves_is c a _ is (leaves_committed env c client asked t date v trees tree)
+  leaves_commit : (may : Verdict → Bool) (env : Env) (c : RepoState) (client : Client) (asked : Asked) (t : TxnState)
+      (date : List ℕ) (r : Option Refusal) (a : Answer)
+      → AreSound c.revisions → IsBeginning t.shown c.revisions → IsMarkedTxn t → IsTree (tree_of t.tree)
+      → commit_refusal c (commit_ask client asked date) t ≡ r
+      → CommitStep may env c client asked t date r a → LeavesTrees c a
+  leaves_commit may env c client asked t date (Some r) a trees b m tree judged is = leaves_is c a _ is (trees, tt, tt)
+  leaves_commit may env c client asked t date None a trees b m tree judged (v, allowed, is) =
+      let met = meets c (commit_ask client asked date) t trees.1 (youngest_tree c t trees.0 b m) b m tree judged in
+      leaves_is c a _ is (leaves_committed env c client asked t date v trees met)
 
   leaves_close : (may : Verdict → Bool) (env : Env) (c : RepoState) (client : Client) (asked : Asked) (edit : EditState) (r : Result TxnState Refusal) (a : Answer)
-      → AreTrees c.revisions → IsSoundEdit edit → finished edit ≡ r → CloseStep may env c client asked r a → LeavesTrees c a
-  leaves_close may env c client asked edit (Ok t) a trees sound is step = leaves_commit may env c client asked t (commit_refusal c t) a trees (finished_is_a_tree edit.refused edit.txn edit.tokens t sound is) step
-  leaves_close may env c client asked edit (Err r) a trees sound is step = leaves_is c a _ step (trees, tt)
+      → AreSound c.revisions → RestsOn edit c → IsSoundEdit edit → finished edit ≡ r → CloseStep may env c client asked r a → LeavesTrees c a
+  leaves_close may env c client asked edit (Ok t) a trees rests sound is (date, is_date, step) =
+      let here : edit.txn ≡ Some t = finished_is edit.refused edit.txn edit.tokens t is in
+      let s : IsSoundIn (Some t) edit.tokens = subst (λ (o : Option TxnState). IsSoundIn o edit.tokens) here sound in
+      let b : IsBeginning t.shown c.revisions = subst (λ (o : Option TxnState). RestsIn o c) here rests in
+      leaves_commit may env c client asked t date (commit_refusal c (commit_ask client asked date) t) a trees b s.2 s.0 refl step
+  leaves_close may env c client asked edit (Err r) a trees rests sound is step = leaves_is c a _ step (trees, tt, tt)
 
   leaves_told : (may : Verdict → Bool) (env : Env) (c : RepoState) (client : Client) (asked : Asked) (edit : EditState) (command : EditorCommand) (ending : Option Ending) (a : Answer)
-      → AreTrees c.revisions → IsSoundEdit edit → CommandStep may env c client asked edit command ending a → LeavesTrees c a
-  leaves_told may env c client asked edit command None a trees sound step = leaves_edits env c client asked edit command (edit_refusal c edit command) a trees sound refl step
-  leaves_told may env c client asked edit command (Some Commits) a trees sound step = leaves_close may env c client asked edit (finished edit) a trees sound refl step
-  leaves_told may env c client asked edit command (Some GivesUp) a trees sound is = leaves_is c a _ is (trees, tt)
+      → AreSound c.revisions → RestsOn edit c → IsSoundEdit edit → CommandStep may env c client asked edit command ending a → LeavesTrees c a
+  leaves_told may env c client asked edit command None a trees rests sound step = leaves_edits env c client asked edit command (edit_refusal c edit command) a trees rests sound refl step
+  leaves_told may env c client asked edit command (Some Commits) a trees rests sound step = leaves_close may env c client asked edit (finished edit) a trees rests sound refl step
+  leaves_told may env c client asked edit command (Some GivesUp) a trees rests sound is = leaves_is c a _ is (trees, tt, tt)
 
   leaves_editing : (may : Verdict → Bool) (env : Env) (c : RepoState) (client : Client) (asked : Asked) (edit : EditState) (r : Result EditorCommand CommandFault) (a : Answer)
-      → AreTrees c.revisions → IsSoundEdit edit → EditingStep may env c client asked edit r a → LeavesTrees c a
-  leaves_editing may env c client asked edit (Ok command) a trees sound step = leaves_told may env c client asked edit command (ending_of command) a trees sound step
-  leaves_editing may env c client asked edit (Err UnknownName) a trees sound is = leaves_is c a _ is (trees, tt)
-  leaves_editing may env c client asked edit (Err BadParameters) a trees sound is = leaves_is c a _ is (trees, tt)
-  leaves_editing may env c client asked edit (Err NoMemory) a trees sound is = leaves_is c a _ is (trees, tt)
+      → AreSound c.revisions → RestsOn edit c → IsSoundEdit edit → EditingStep may env c client asked edit r a → LeavesTrees c a
+  leaves_editing may env c client asked edit (Ok command) a trees rests sound step = leaves_told may env c client asked edit command (ending_of command) a trees rests sound step
+  leaves_editing may env c client asked edit (Err UnknownName) a trees rests sound is = leaves_is c a _ is (trees, tt, tt)
+  leaves_editing may env c client asked edit (Err BadParameters) a trees rests sound is = leaves_is c a _ is (trees, tt, tt)
+  leaves_editing may env c client asked edit (Err NoMemory) a trees rests sound is = leaves_is c a _ is (trees, tt, tt)
 
   pub leaves_trees : (may : Verdict → Bool) (s : Settings) (env : Env) (c : RepoState) (phase : Stage) (input : Input) (a : Answer)
-      → AreTrees c.revisions → IsSound phase → InputStep may s env c phase input a → LeavesTrees c a
-  leaves_trees may s env c Greeted (Whole t) a trees sound is = leaves_is c a _ is (leaves_greeting c s env (client_greeting t) trees)
-  leaves_trees may s env c (LoggingIn client) (Whole t) a trees sound is = leaves_is c a _ is (leaves_login c env client (auth_response t) trees)
-  leaves_trees may s env c (Serving client) (Whole t) a trees sound is = leaves_is c a _ is (leaves_command c s env client (main_command t) trees)
-  leaves_trees may s env c (Editing client asked edit) (Whole t) a trees sound step = leaves_editing may env c client asked edit (editor_command t) a trees sound step
-  leaves_trees may s env c (Skipping client) (Whole t) a trees sound is = leaves_is c a _ is (leaves_skipping c env client (ends_edit t) trees)
-  leaves_trees may s env c Greeted Broken a trees sound is = leaves_is c a _ is (trees, tt)
-  leaves_trees may s env c (LoggingIn client) Broken a trees sound is = leaves_is c a _ is (trees, tt)
-  leaves_trees may s env c (Serving client) Broken a trees sound is = leaves_is c a _ is (trees, tt)
-  leaves_trees may s env c (Editing client asked edit) Broken a trees sound is = leaves_is c a _ is (trees, tt)
-  leaves_trees may s env c (Skipping client) Broken a trees sound is = leaves_is c a _ is (trees, tt)
-  leaves_trees may s env c Ended input a trees sound is = leaves_is c a _ is (trees, tt)
+      → AreSound c.revisions → StageRests phase c → IsSound phase → InputStep may s env c phase input a → LeavesTrees c a
+  leaves_trees may s env c Greeted (Whole t) a trees rests sound is = leaves_is c a _ is (leaves_greeting c s env (client_greeting t) trees)
+  leaves_trees may s env c (LoggingIn client) (Whole t) a trees rests sound is = leaves_is c a _ is (leaves_login c env client (auth_response t) trees)
+  leaves_trees may s env c (Serving client) (Whole t) a trees rests sound is = leaves_is c a _ is (leaves_command c s env client (main_command t) trees)
+  leaves_trees may s env c (Editing client asked edit) (Whole t) a trees rests sound step = leaves_editing may env c client asked edit (editor_command t) a trees rests sound step
+  leaves_trees may s env c (Skipping client) (Whole t) a trees rests sound is = leaves_is c a _ is (leaves_skipping c env client (ends_edit t) trees)
+  leaves_trees may s env c Greeted Broken a trees rests sound is = leaves_is c a _ is (trees, tt, tt)
+  leaves_trees may s env c (LoggingIn client) Broken a trees rests sound is = leaves_is c a _ is (trees, tt, tt)
+  leaves_trees may s env c (Serving client) Broken a trees rests sound is = leaves_is c a _ is (trees, tt, tt)
+  leaves_trees may s env c (Editing client asked edit) Broken a trees rests sound is = leaves_is c a _ is (trees, tt, tt)
+  leaves_trees may s env c (Skipping client) Broken a trees rests sound is = leaves_is c a _ is (trees, tt, tt)
+  leaves_trees may s env c Ended input a trees rests sound is = leaves_is c a _ is (trees, tt, tt)

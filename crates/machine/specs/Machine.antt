@@ -203,7 +203,14 @@ EditStep env c client asked edit command a = Edits env c client asked edit comma
 -- ---- the end of an edit
 
 abbrev pub commit_ask : Client → Asked → List ℕ → CommitAsk
-commit_ask client asked date = record { date = date; author = client.user; message = asked.message; properties = asked.properties }
+commit_ask client asked date = record {
+  date = date;
+  author = client.user;
+  message = asked.message;
+  properties = asked.properties;
+  tokens = asked.tokens;
+  keep_locks = asked.keep_locks;
+}
 
 -- a commit that is accepted, by what the store says
 abbrev pub commit_answer : Env → RepoState → Client → Asked → TxnState → List ℕ → Verdict → Answer
@@ -216,15 +223,15 @@ commit_answer env c client asked t date Went = record {
 commit_answer env c client asked t date Failed = says env (Serving client) (replies.Failure refusals.StoreFailed ∷ [])
 commit_answer env c client asked t date Halts = record { replies = replies.Failure refusals.StoreFailed ∷ []; phase = Ended; env = env; effect = HaltsChanges }
 
--- a commit that was judged so: a refused one changes nothing, and another is dated by the moment
-abbrev pub CommitStep : (Verdict → Bool) → Env → RepoState → Client → Asked → TxnState → Option Refusal → Answer → Type 0
-CommitStep may env c client asked t (Some r) a = a ≡ says env (Serving client) (replies.Failure r ∷ [])
-CommitStep may env c client asked t None a =
-    (v : Verdict) × IsTrue (may v) × (date : List ℕ) × IsDateText env.moment date × (a ≡ commit_answer env c client asked t date v)
+-- a commit of this date that was judged so: a refused one changes nothing
+abbrev pub CommitStep : (Verdict → Bool) → Env → RepoState → Client → Asked → TxnState → List ℕ → Option Refusal → Answer → Type 0
+CommitStep may env c client asked t date (Some r) a = a ≡ says env (Serving client) (replies.Failure r ∷ [])
+CommitStep may env c client asked t date None a = (v : Verdict) × IsTrue (may v) × (a ≡ commit_answer env c client asked t date v)
 
--- the edit's transaction is committed, if it has one
+-- the edit's transaction is committed, if it has one: dated by the moment, and then judged
 abbrev pub CloseStep : (Verdict → Bool) → Env → RepoState → Client → Asked → Result TxnState Refusal → Answer → Type 0
-CloseStep may env c client asked (Ok t) a = CommitStep may env c client asked t (commit_refusal c t) a
+CloseStep may env c client asked (Ok t) a = (date : List ℕ) × IsDateText env.moment date
+    × CommitStep may env c client asked t date (commit_refusal c (commit_ask client asked date) t) a
 CloseStep may env c client asked (Err r) a = a ≡ says env (Serving client) (replies.Failure r ∷ [])
 
 -- ---- a command within an edit

@@ -47,12 +47,16 @@ pub trait RepoAccess {
     ) -> Result<u64, ChangeFault>
         requires { IsBeginning (Self.View.txn_state txn).shown (world (point self.old)).revisions }
         ensures ok { IfOk result (λ n. (at : Point) × between (point self.old) at
-            × (commit_refusal (world at) (Self.View.txn_state txn) ≡ None)
+            × (commit_refusal (world at) ask (Self.View.txn_state txn) ≡ None)
             × (n ≡ length (world at).revisions) × IsTrue (may Went)
             × adds at (Commits ask (Self.View.txn_state txn)) (point self.new)) }
-        ensures refused { IfRefused result (λ r. commit_refusal (world (point self.new)) (Self.View.txn_state txn) ≡ Some r) }
+        ensures refused { IfRefused result (λ r. commit_refusal (world (point self.new)) ask (Self.View.txn_state txn) ≡ Some r) }
         ensures not_made { IfNotMade result (between (point self.old) (point self.new)) }
-        ensures not_written { IfNotWritten result ((commit_refusal (world (point self.new)) (Self.View.txn_state txn) ≡ None) × IsTrue (may Failed)) ((at : Point) × between (point self.old) at × (commit_refusal (world at) (Self.View.txn_state txn) ≡ None) × IsTrue (may Halts) × IsHalt at (point self.new)) };
+        ensures not_written { IfNotWritten result
+            ((commit_refusal (world (point self.new)) ask (Self.View.txn_state txn) ≡ None) × IsTrue (may Failed))
+            ((at : Point) × between (point self.old) at
+            × (commit_refusal (world at) ask (Self.View.txn_state txn) ≡ None)
+            × IsTrue (may Halts) × IsHalt at (point self.new)) };
 
     ghost stays: { (p : Point) → between p p };
 

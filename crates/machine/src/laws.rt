@@ -1,10 +1,10 @@
 //! What holds of all that a stream brings. The functions do nothing: their contracts are the laws.
 ghost use Rattle.std.specs.Prelude.{◌≡◌, ℕ, List, Bool};
 ghost use Rattle.repo_api.specs.States.{RepoState};
-ghost use Rattle.edit_rules.specs.Soundness.{AreTrees};
+ghost use Rattle.edit_rules.specs.Soundness.{AreSound};
 ghost use Rattle.machine.specs.Settings.{Settings};
 ghost use Rattle.machine.specs.Stages.{Stage, RestsOn};
-ghost use Rattle.machine.specs.Soundness.{IsSound};
+ghost use Rattle.machine.specs.Soundness.{IsSound, MeetsBy};
 ghost use Rattle.machine.specs.Machine.{Verdict, Answer, InputStep, content_after};
 ghost use Rattle.machine.specs.declared.env.Env.{Env};
 ghost use Rattle.machine.specs.Hearing.{Input, Comes, IsSettled};
@@ -24,10 +24,12 @@ pub fn steps_rest()
     ensures { (may : Verdict → Bool) (s : Settings) (env : Env) (c : RepoState) (phase : Stage) (input : Input) (a : Answer) → RestsOn phase c → InputStep may s env c phase input a → RestsOn a.phase (content_after c a.effect) }
 {}
 
-/// Where every tree of the repository is a tree, and the session's edit has one, so it is after an input.
+/// Where every tree of the repository is a tree whose marks name what they mark, and so is the tree of the session's
+/// edit, so it is after an input, and a commit that is accepted meets the youngest revision well.
 pub fn steps_keep_trees()
-    ensures { (may : Verdict → Bool) (s : Settings) (env : Env) (c : RepoState) (phase : Stage) (input : Input) (a : Answer) → AreTrees c.revisions → IsSound phase → InputStep may s env c phase input a → AreTrees (content_after c a.effect).revisions × IsSound a.phase }
+    ensures { (may : Verdict → Bool) (s : Settings) (env : Env) (c : RepoState) (phase : Stage) (input : Input) (a : Answer) → AreSound c.revisions → RestsOn phase c → IsSound phase → InputStep may s env c phase input a → AreSound (content_after c a.effect).revisions × IsSound a.phase × MeetsBy c a.effect }
 {
     edit_rules::edits_keep_trees();
-    repo_api::commits_keep_trees();
+    repo_api::accepted_commits_meet_well();
+    repo_api::commits_keep_both_sides();
 }

@@ -14,7 +14,7 @@ mod phase;
 mod writing;
 
 pub use access::{RepoAccess, SoleAccess};
-pub use asked::{Asked, LockTokens};
+pub use asked::Asked;
 pub use copies::{bytes_of, text_of};
 pub use ending::{Ending, ending_of};
 pub use env::Env;

@@ -16,11 +16,10 @@ pub fn play_script(rt: &(impl Input + Print), alloc: Global) -> Result<(), Scrip
     {
         play_line(alloc, &mut player, i.saturating_add(1), &text?, &mut output)?;
     }
-    output.flush()?;
     Ok(())
 }
 
-/// Plays the line of this number, and writes what it is answered.
+/// Plays the line of this number, and writes what it is answered at once, so that who asks may wait for it.
 fn play_line<W: Write>(
     alloc: Global,
     player: &mut Player,
@@ -35,6 +34,7 @@ fn play_line<W: Write>(
     match played {
         Ok(Some(answer)) => {
             writeln!(output, "{answer}")?;
+            output.flush()?;
             Ok(())
         }
         Ok(None) => Ok(()),

@@ -13,15 +13,15 @@ use Rattle.repo_api.specs.declared.entry.Entry.{Entry}
 use Rattle.repo_api.specs.declared.entry.Content.{Content}
 use Rattle.repo_api.specs.declared.entry.Content.TheVariants.{Directory, File}
 
-abbrev IsDirectoryAt : Option Entry → Type 0
+abbrev pub IsDirectoryAt : Option Entry → Type 0
 IsDirectoryAt o = IsSomeAnd o (λ e. IsTrue (is_directory e))
 
 -- an entry that is renewed with its content stays what it was
-renewed_directory : (f : Entry → Entry) → ((e : Entry) → (f e).content ≡ e.content) → (o : Option Entry) → IsDirectoryAt o → IsDirectoryAt (option_map f o)
+pub renewed_directory : (f : Entry → Entry) → ((e : Entry) → (f e).content ≡ e.content) → (o : Option Entry) → IsDirectoryAt o → IsDirectoryAt (option_map f o)
 renewed_directory f same None h = h
 renewed_directory f same (Some e) h = ap is_directory_content (same e) ∙ h
 
-some_renewed : (f : Entry → Entry) (o : Option Entry) → IsSome (option_map f o) → IsSome o
+pub some_renewed : (f : Entry → Entry) (o : Option Entry) → IsSome (option_map f o) → IsSome o
 some_renewed f None h = h
 some_renewed f (Some e) h = refl
 
@@ -37,15 +37,15 @@ renewed_tree t f same is = record {
 pub tree_by_paths : (t u : Tree) → ((p : PathValue) → t p ≡ u p) → IsTree t → IsTree u
 tree_by_paths t u same is = subst IsTree (λ i p. same p i) is
 
-touched_directory : (above : Bool) (o : Option Entry) → IsDirectoryAt o → IsDirectoryAt (if above then option_map touched o else o)
+pub touched_directory : (above : Bool) (o : Option Entry) → IsDirectoryAt o → IsDirectoryAt (if above then option_map touched o else o)
 touched_directory true o h = renewed_directory touched (λ e. refl) o h
 touched_directory false o h = h
 
-some_touched : (above : Bool) (o : Option Entry) → IsSome (if above then option_map touched o else o) → IsSome o
+pub some_touched : (above : Bool) (o : Option Entry) → IsSome (if above then option_map touched o else o) → IsSome o
 some_touched true o h = some_renewed touched o h
 some_touched false o h = h
 
-same_parent : (p q : PathValue) (c d : Component) → p ++ c ∷ [] ≡ q ++ d ∷ [] → p ≡ q
+pub same_parent : (p q : PathValue) (c d : Component) → p ++ c ∷ [] ≡ q ++ d ∷ [] → p ≡ q
 same_parent p q c d same = some_is (sym (parent_child p c) ∙ ap parent same ∙ parent_child q d)
   where
     some_is : ◌≡◌ {A = Option PathValue} (Some p) (Some q) → p ≡ q
@@ -132,12 +132,12 @@ some_outside t p q = by (is_at_or_under q p) refl
     by true under some = absurd (false≢true some)
     by false outside some = (outside, some_touched (is_at_or_under p q) (t q) some)
 
-root_outside : (p : PathValue) (c : Component) → is_at_or_under [] (p ++ c ∷ []) ≡ false
+pub root_outside : (p : PathValue) (c : Component) → is_at_or_under [] (p ++ c ∷ []) ≡ false
 root_outside [] c = refl
 root_outside (d ∷ p) c = refl
 
 -- what is under a path has all that is under it there
-parent_outside : (p q : PathValue) (d : Component) → is_at_or_under (q ++ d ∷ []) p ≡ false → is_at_or_under q p ≡ false
+pub parent_outside : (p q : PathValue) (d : Component) → is_at_or_under (q ++ d ∷ []) p ≡ false → is_at_or_under q p ≡ false
 parent_outside p q d outside = by (is_at_or_under q p) refl
   where
     by : (b : Bool) → is_at_or_under q p ≡ b → b ≡ false

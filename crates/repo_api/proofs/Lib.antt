@@ -1,1 +1,10 @@
 pub mod Keeping
+pub mod Naming
+pub mod Merged
+pub mod MergeLaws
+pub mod Under
+pub mod Edited
+pub mod Marking
+pub mod Alone
+pub mod Revisions
+pub mod Copying

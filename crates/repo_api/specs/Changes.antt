@@ -6,7 +6,7 @@ use Rattle.repo_api.specs.declared.change.Action.TheVariants.{Add, Delete as Gon
 use Rattle.repo_api.specs.declared.change.Change.{Change}
 use Rattle.repo_api.specs.declared.change.Source.{Source}
 use Rattle.repo_api.specs.declared.edit.EditOp.{EditOp}
-use Rattle.repo_api.specs.declared.edit.EditOp.TheVariants.{AddDirectory, AddFile, Delete, SetProperty, RemoveProperty, SetText}
+use Rattle.repo_api.specs.declared.edit.EditOp.TheVariants.{AddDirectory, AddFile, Copy, Replace, Delete, SetProperty, RemoveProperty, SetText}
 
 abbrev pub Changes : Type 0
 Changes = PathValue → Option Change
@@ -50,10 +50,16 @@ abbrev pub noted_delete : Changes → PathValue → Changes
 noted_delete cs p q =
     if same_path p q then after_delete (cs q) else (if is_at_or_under q p then None else cs q)
 
+-- the changes after a copy to p
+abbrev pub noted_copy : Source → Changes → PathValue → Changes
+noted_copy source cs p = noted cs p (after_add (Some source) (cs p))
+
 -- the changes after one edit more
 abbrev pub changes_after : Changes → EditOp → Changes
 changes_after cs (AddDirectory p) = noted cs p (after_add None (cs p))
 changes_after cs (AddFile p) = noted cs p (after_add None (cs p))
+changes_after cs (Copy source p) = noted_copy source cs p
+changes_after cs (Replace source p) = noted_copy source (noted_delete cs p) p
 changes_after cs (Delete p) = noted_delete cs p
 changes_after cs (SetProperty p name value) = noted cs p (after_property (cs p))
 changes_after cs (RemoveProperty p name) = noted cs p (after_property (cs p))

@@ -1,37 +1,26 @@
 -- What a commit does: it is refused, or adds one revision.
-use Rattle.std.specs.Prelude.{ℕ, List, [], ◌∷◌, ◌++◌, length, map, Option, Some, None, nat_lt, nat_le, if◌then◌else◌, codes}
-use Rattle.std.specs.FinMap.{entries, from_entries}
-use Rattle.svnpath.specs.Paths.{PathValue}
+use Rattle.std.specs.Prelude.{ℕ, List, [], ◌∷◌, ◌++◌, length, Option, Some, None, nat_le, if◌then◌else◌, codes}
 use Rattle.refusals.specs.declared.Refusal.{Refusal}
 use Rattle.refusals.specs.declared.Refusal.TheVariants as refusals
 use Rattle.repo_api.specs.Properties.{PropertyList, with_property, without_property}
-use Rattle.repo_api.specs.States.{TreeMap, RepoState, TxnState, youngest}
-use Rattle.repo_api.specs.declared.entry.Entry.{Entry}
-use Rattle.repo_api.specs.declared.entry.Mark.{Mark}
-use Rattle.repo_api.specs.declared.entry.Mark.TheVariants.{Open, Made}
+use Rattle.repo_api.specs.States.{TreeMap, RepoState, TxnState, tree_at, youngest}
+use Rattle.repo_api.specs.MergedMaps.{has_conflict, merged_map}
 use Rattle.repo_api.specs.declared.ask.CommitAsk.{CommitAsk}
 
 -- a repository has revisions 0 to 262,143
 abbrev pub revision_limit : ℕ
 revision_limit = 262144
 
--- why a commit is refused, if it is: others have committed since it began, or there is no number left
-abbrev pub commit_refusal : RepoState → TxnState → Option Refusal
-commit_refusal c t =
-    if nat_lt t.base (youngest c) then Some refusals.Conflict
+-- why a commit that asks for this is refused, if it is: it conflicts with what others have changed since it began, or
+-- there is no number left
+abbrev pub commit_refusal : RepoState → CommitAsk → TxnState → Option Refusal
+commit_refusal c ask t =
+    if has_conflict (tree_at c t.base) t.tree (tree_at c (youngest c)) then Some refusals.Conflict
     else (if nat_le revision_limit (length c.revisions) then Some refusals.NotSupported else None)
 
--- the mark of revision n at p in an open mark's place
-abbrev pub closed : ℕ → PathValue → Mark → Mark
-closed n p Open = Made n p
-closed n p (Made r q) = Made r q
-
-abbrev pub sealed : ℕ → PathValue → Entry → Entry
-sealed n p e = record e { own = closed n p e.own; last = closed n p e.last }
-
--- the transaction's tree as that of revision n
-abbrev pub sealed_tree : ℕ → TreeMap → TreeMap
-sealed_tree n tree = from_entries (map (λ e. (e.0, sealed n e.0 e.1)) (entries tree))
+-- the tree of the revision that a commit adds
+abbrev pub next_tree : RepoState → TxnState → TreeMap
+next_tree c t = merged_map (length c.revisions) (tree_at c t.base) t.tree (tree_at c (youngest c))
 
 -- the list that was asked for, or the message alone
 abbrev pub asked_properties : Option PropertyList → List ℕ → PropertyList
@@ -51,7 +40,7 @@ revision_properties ask =
 abbrev pub committed : RepoState → CommitAsk → TxnState → RepoState
 committed c ask t = record {
   uuid = c.uuid;
-  revisions = c.revisions ++ record { tree = sealed_tree (length c.revisions) t.tree; changes = t.changes } ∷ [];
+  revisions = c.revisions ++ record { tree = next_tree c t; changes = t.changes } ∷ [];
   properties = c.properties ++ revision_properties ask ∷ [];
   locks = c.locks;
 }

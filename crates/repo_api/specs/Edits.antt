@@ -1,5 +1,5 @@
 -- The edits of a tree. Each opens `own` and `last` at its path, and `last` above it.
-use Rattle.std.specs.Prelude.{ℕ, List, [], Some, None, option_map, if◌then◌else◌, length, drop}
+use Rattle.std.specs.Prelude.{ℕ, List, [], ◌∷◌, ◌++◌, Some, None, option_map, if◌then◌else◌, length, drop}
 use Rattle.svnpath.specs.Paths.{PathValue, same_path, is_at_or_under}
 use Rattle.repo_api.specs.Properties.{with_property, without_property}
 use Rattle.repo_api.specs.Trees.{Tree}
@@ -8,7 +8,7 @@ use Rattle.repo_api.specs.declared.entry.Mark.TheVariants.{Open}
 use Rattle.repo_api.specs.declared.entry.Content.{Content}
 use Rattle.repo_api.specs.declared.entry.Content.TheVariants.{Directory, File}
 use Rattle.repo_api.specs.declared.edit.EditOp.{EditOp}
-use Rattle.repo_api.specs.declared.edit.EditOp.TheVariants.{AddDirectory, AddFile, Delete, SetProperty, RemoveProperty, SetText}
+use Rattle.repo_api.specs.declared.edit.EditOp.TheVariants.{AddDirectory, AddFile, Copy, Replace, Delete, SetProperty, RemoveProperty, SetText}
 
 -- the entry after a change beneath it, and after one of its own
 abbrev pub touched : Entry → Entry
@@ -49,14 +49,24 @@ grafted t p part q = if is_at_or_under q p then part (drop (length p) q) else to
 abbrev pub deleted : Tree → PathValue → Tree
 deleted t p = grafted t p (λ _. None)
 
--- the tree after an edit
-abbrev pub edited : Tree → EditOp → Tree
-edited t (AddDirectory p) = added t p Directory
-edited t (AddFile p) = added t p (File [])
-edited t (Delete p) = deleted t p
-edited t (SetProperty p name value) = revised t p (with_value name value)
-edited t (RemoveProperty p name) = revised t p (without_value name)
-edited t (SetText p text) = revised t p (with_text text)
+-- what stands at `from` and under it, its top opened by the copy and all else as it was
+abbrev pub copy_of : Tree → PathValue → Tree
+copy_of source from [] = option_map opened (source from)
+copy_of source from (c ∷ rest) = source (from ++ c ∷ rest)
+
+abbrev pub copied : Tree → PathValue → Tree → PathValue → Tree
+copied source from t p = grafted t p (copy_of source from)
+
+-- the tree after an edit, over the trees of the revisions
+abbrev pub edited : (ℕ → Tree) → Tree → EditOp → Tree
+edited trees t (AddDirectory p) = added t p Directory
+edited trees t (AddFile p) = added t p (File [])
+edited trees t (Copy source p) = copied (trees source.revision) source.path t p
+edited trees t (Replace source p) = copied (trees source.revision) source.path (deleted t p) p
+edited trees t (Delete p) = deleted t p
+edited trees t (SetProperty p name value) = revised t p (with_value name value)
+edited trees t (RemoveProperty p name) = revised t p (without_value name)
+edited trees t (SetText p text) = revised t p (with_text text)
 
 -- a new transaction: the youngest tree, the root's `last` open
 abbrev pub begun : Tree → Tree

@@ -1,9 +1,10 @@
 -- What stands at a path, seen from outside.
-use Rattle.std.specs.Prelude.{ℕ, List, [], Option, Some, None, slice_get}
-use Rattle.std.specs.FinMap.{get}
-use Rattle.svnpath.specs.Paths.{PathValue}
+use Rattle.std.specs.Prelude.{ℕ, Bool, ◌+◌, ◌&&◌, nat_lt, length, List, [], Option, Some, None, slice_get}
+use Rattle.std.specs.FinMap.{get, keys}
+use Rattle.std.specs.List.{list_any}
+use Rattle.svnpath.specs.Paths.{PathValue, is_at_or_under}
 use Rattle.repo_api.specs.Properties.{PropertyList}
-use Rattle.repo_api.specs.States.{RepoState, TxnState, tree_at}
+use Rattle.repo_api.specs.States.{TreeMap, RepoState, TxnState, tree_at}
 use Rattle.repo_api.specs.Trees.{revision_of}
 use Rattle.repo_api.specs.declared.entry.Content.{Content}
 use Rattle.repo_api.specs.declared.entry.Content.TheVariants.{Directory, File}
@@ -22,6 +23,13 @@ kind_of (Some e) = content_kind e.content
 -- what stands at a path of a revision
 abbrev pub kind_at : RepoState → ℕ → PathValue → NodeKind
 kind_at c n p = kind_of (get (tree_at c n) p)
+
+-- something stands more than so many names beneath the path
+abbrev pub has_deeper : TreeMap → PathValue → ℕ → Bool
+has_deeper m p names = list_any (λ q. is_at_or_under q p && nat_lt (length p + names) (length q)) (keys m)
+
+abbrev pub has_deeper_at : RepoState → ℕ → PathValue → ℕ → Bool
+has_deeper_at c n p names = has_deeper (tree_at c n) p names
 
 -- what stands at a path of a transaction
 abbrev pub kind_in : TxnState → PathValue → NodeKind

@@ -3,8 +3,14 @@ pub mod Trees
 pub mod Edits
 pub mod Changes
 pub mod States
+pub mod Merge
+pub mod MergedMaps
+pub mod MergeLaws
 pub mod Commits
+pub mod Marks
+pub mod Transactions
 pub mod Accepted
 pub mod Kinds
 pub mod Opening
 pub mod StateLaws
+pub mod EditLaws

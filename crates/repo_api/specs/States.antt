@@ -57,6 +57,10 @@ abbrev pub tree_in : Option Fixed → TreeMap
 tree_in None = empty
 tree_in (Some r) = r.tree
 
+-- the tree of each revision; a number that is none has no entries
+abbrev pub trees_in : List Fixed → ℕ → Tree
+trees_in revisions n = tree_of (tree_in (slice_get revisions n))
+
 -- the tree of a revision; a number that is none has no entries
 abbrev pub tree_at : RepoState → ℕ → TreeMap
 tree_at c n = tree_in (slice_get c.revisions n)
@@ -77,5 +81,5 @@ pub record IsBegun (c : RepoState) (t : TxnState) : Type 0 where
 pub record IsEdited (shown : List Fixed) (old : TxnState) (op : EditOp) (new : TxnState) : Type 0 where
   pub shown_now : new.shown ≡ shown
   pub base : new.base ≡ old.base
-  pub tree : (p : PathValue) → get new.tree p ≡ edited (tree_of old.tree) op p
+  pub tree : (p : PathValue) → get new.tree p ≡ edited (trees_in shown) (tree_of old.tree) op p
   pub changes : (p : PathValue) → get new.changes p ≡ changes_after (changes_of old.changes) op p

@@ -12,7 +12,7 @@ pub enum Action {
 /// Where a copy came from.
 #[derive(Debug, Drop)]
 pub struct Source {
-    pub revision: u32,
+    pub revision: u64,
     pub path: Path,
 }
 

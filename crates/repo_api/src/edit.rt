@@ -1,4 +1,5 @@
 //! The edits of a transaction.
+use crate::change::Source;
 use svnpath::{Bytes, Path};
 
 /// One edit of a transaction's tree.
@@ -8,6 +9,10 @@ pub enum EditOp {
     AddDirectory(Path),
     /// Adds an empty file at the path.
     AddFile(Path),
+    /// Puts what stands at the source, with all that is under it, at the path, where nothing stands.
+    Copy(Source, Path),
+    /// Takes out what stands at the path and under it, and puts a copy of the source there.
+    Replace(Source, Path),
     /// Takes out what stands at the path and under it.
     Delete(Path),
     /// Sets the property of this name at the path to the value.

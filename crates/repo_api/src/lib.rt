@@ -18,9 +18,12 @@ pub use edit::EditOp;
 pub use entry::{Content, Entry, Mark, NodeKind};
 pub use fault::ChangeFault;
 pub use laws::{
-    beginnings_are_trees, commits_keep_trees, edits_keep_trees, opening_is_a_tree,
-    same_entries_make_a_tree,
+    accepted_commits_meet_well, beginnings_are_marked, beginnings_are_trees,
+    commits_keep_both_sides, edits_keep_marks, edits_keep_trees, marks_name_one_thing,
+    merges_are_trees, merges_keep_both_sides, merges_keep_marks, merges_with_the_base,
+    new_revisions_keep_transactions, opening_is_a_tree, opening_is_marked,
+    same_entries_make_a_tree, transactions_begin_marked, transactions_stay_marked,
 };
-pub use lock::Lock;
+pub use lock::{Lock, LockTokens};
 pub use properties::Properties;
 pub use repository::Repository;

@@ -1,5 +1,9 @@
 //! Locks of paths.
-use svnpath::Bytes;
+ghost use Rattle.std.specs.Prelude.{◌≡◌, ◌++◌, ◌∷◌, [], OnOk, OnErr};
+
+use std::alloc::{AllocError, Global};
+use std::marker::Model;
+use svnpath::{Bytes, Path};
 
 /// A lock: its token, its owner, the owner's comment if any, and the date at which it was made.
 #[derive(Debug, Drop)]
@@ -8,4 +12,38 @@ pub struct Lock {
     pub owner: Bytes,
     pub comment: Option<Bytes>,
     pub created: Bytes,
+}
+
+/// Paths with the tokens of the locks that stand there, as a commit hands them in.
+#[derive(Debug, Drop)]
+pub struct LockTokens {
+    tokens: Vec<(Path, Bytes)>,
+}
+
+impl Model for LockTokens {
+    ghost use Rattle.std.specs.Prelude.{ℕ, List};
+    ghost use Rattle.svnpath.specs.Paths.{PathValue};
+
+    ghost Value = { List (PathValue × List ℕ) };
+
+    ghost view = { λ t. t.tokens.items };
+}
+
+impl LockTokens {
+    /// No tokens.
+    pub fn new(alloc: Global) -> Self
+        ensures { result ≡ [] }
+    {
+        LockTokens {
+            tokens: Vec::new(alloc),
+        }
+    }
+
+    /// Puts a token at the end.
+    pub fn push(&mut self, path: Path, token: Bytes) -> Result<(), AllocError>
+        ensures ok { OnOk result (self.new ≡ self.old ++ (path, token) ∷ []) }
+        ensures err { OnErr result (self.new ≡ self.old) }
+    {
+        self.tokens.push((path, token)).map_err(AllocError::from)
+    }
 }

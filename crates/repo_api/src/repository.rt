@@ -3,7 +3,7 @@ ghost use Rattle.std.specs.Prelude.{◌≡◌, ◌<◌, length, IfOk, OnOk, OnEr
 ghost use Rattle.repo_api.specs.States.{RepoState, TxnState, IsBeginning, IsBegun, IsEdited, youngest};
 ghost use Rattle.repo_api.specs.Commits.{commit_refusal, committed};
 ghost use Rattle.repo_api.specs.Accepted.{IfRefused, IsOfMemory};
-ghost use Rattle.repo_api.specs.Kinds.{kind_at, kind_in, created_in, text_in};
+ghost use Rattle.repo_api.specs.Kinds.{kind_at, has_deeper_at, kind_in, created_in, text_in};
 
 use crate::ask::CommitAsk;
 use crate::edit::EditOp;
@@ -41,6 +41,10 @@ pub trait Repository: Drop {
     fn kind(&self, revision: u64, path: &Path) -> NodeKind
         ensures { result ≡ kind_at (content self.now) revision path.now };
 
+    /// Whether something stands more than so many names beneath a path of a revision.
+    fn has_deeper(&self, revision: u64, path: &Path, names: usize) -> bool
+        ensures { result ≡ has_deeper_at (content self.now) revision path.now names };
+
     /// The properties of a revision, none for a number that is no revision.
     fn revision_properties(&self, revision: u64) -> Option<&Properties>
         ensures { option_copied result ≡ slice_get (content self.now).properties revision };
@@ -75,10 +79,10 @@ pub trait Repository: Drop {
     /// repository whose revisions begin this one's.
     fn commit(&mut self, ask: CommitAsk, txn: Self::Txn) -> Result<u64, ChangeFault>
         requires { IsBeginning (txn_state txn).shown (content self.old).revisions }
-        ensures accepted { OnOk result (commit_refusal (content self.old) (txn_state txn) ≡ None) }
+        ensures accepted { OnOk result (commit_refusal (content self.old) ask (txn_state txn) ≡ None) }
         ensures number { IfOk result (λ n. n ≡ length (content self.old).revisions) }
         ensures ok { OnOk result (content self.new ≡ committed (content self.old) ask (txn_state txn)) }
-        ensures refused { IfRefused result (λ r. commit_refusal (content self.old) (txn_state txn) ≡ Some r) }
+        ensures refused { IfRefused result (λ r. commit_refusal (content self.old) ask (txn_state txn) ≡ Some r) }
         ensures memory { IsOfMemory result }
         ensures err { OnErr result (content self.new ≡ content self.old) };
 }

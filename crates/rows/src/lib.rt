@@ -2,6 +2,4 @@
 #![tactic(auto)]
 
 #[cfg(test)]
-mod flat;
-#[cfg(test)]
 mod tests;

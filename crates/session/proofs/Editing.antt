@@ -17,7 +17,7 @@ use Rattle.machine.specs.Points.{Point, world}
 use Rattle.machine.specs.Settings.{Settings}
 use Rattle.machine.specs.Stages.{Stage}
 use Rattle.machine.specs.Hearing.Input.{Whole}
-use Rattle.machine.specs.Machine.{Verdict, Answer, Edits, CommitStep, CloseStep, CommandStep, EditingStep, ending_of, commit_answer}
+use Rattle.machine.specs.Machine.{Verdict, Answer, Edits, CommitStep, CloseStep, CommandStep, EditingStep, ending_of, commit_ask, commit_answer}
 use Rattle.machine.specs.Machine.Verdict.{Went, Failed, Halts}
 use Rattle.machine.specs.Access.{Made, Misses, Served, Fails}
 use Rattle.machine.specs.declared.asked.Asked.{Asked}
@@ -39,14 +39,15 @@ commit_env env c client asked t date Went = refl
 commit_env env c client asked t date Failed = refl
 commit_env env c client asked t date Halts = refl
 
-committing_env : (may : Verdict → Bool) (env : Env) (c : RepoState) (client : Client) (asked : Asked) (t : TxnState) (r : Option Refusal) (a : Answer)
-    → CommitStep may env c client asked t r a → a.env ≡ env
-committing_env may env c client asked t (Some r) a step = ap (λ (x : Answer). x.env) step
-committing_env may env c client asked t None a (v, allowed, date, is_date, is) = ap (λ (x : Answer). x.env) is ∙ commit_env env c client asked t date v
+committing_env : (may : Verdict → Bool) (env : Env) (c : RepoState) (client : Client) (asked : Asked) (t : TxnState)
+    (date : List ℕ) (r : Option Refusal) (a : Answer) → CommitStep may env c client asked t date r a → a.env ≡ env
+committing_env may env c client asked t date (Some r) a step = ap (λ (x : Answer). x.env) step
+committing_env may env c client asked t date None a (v, allowed, is) = ap (λ (x : Answer). x.env) is ∙ commit_env env c client asked t date v
 
 closing_env : (may : Verdict → Bool) (env : Env) (c : RepoState) (client : Client) (asked : Asked) (r : Result TxnState Refusal) (a : Answer)
     → CloseStep may env c client asked r a → a.env ≡ env
-closing_env may env c client asked (Ok t) a step = committing_env may env c client asked t (commit_refusal c t) a step
+closing_env may env c client asked (Ok t) a (date, is_date, step) =
+    committing_env may env c client asked t date (commit_refusal c (commit_ask client asked date) t) a step
 closing_env may env c client asked (Err r) a step = ap (λ (x : Answer). x.env) step
 
 command_env : (may : Verdict → Bool) (env : Env) (c : RepoState) (client : Client) (asked : Asked) (edit : EditState) (command : EditorCommand) (ending : Option Ending) (a : Answer)

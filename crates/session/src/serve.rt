@@ -10,7 +10,8 @@ ghost use Rattle.svnpath.specs.Texts.{joined};
 ghost use Rattle.machine.specs.Points.{world};
 ghost use Rattle.session.specs.Taking.{input_of};
 ghost use Rattle.machine.specs.Hearing.Input.{Whole, Broken};
-ghost use Rattle.machine.specs.Machine.{check_path_reply, rev_proplist_reply, at_revision, greeting_answer, login_answer, command_answer};
+ghost use Rattle.machine.specs.Machine.{check_path_reply, rev_proplist_reply, print, at_revision, served, greeting_answer, login_answer, command_answer};
+ghost use Rattle.repo_api.specs.States.{youngest};
 ghost use Rattle.machine.specs.Stages.{RestsOn};
 ghost use Rattle.machine.specs.Access.{Served, Fails};
 ghost use Rattle.machine.specs.Replying.{IsAnswered};
@@ -29,7 +30,7 @@ use refusals::{Refusal, path_refusal};
 use replies::Reply;
 use repo_api::{Properties, Repository};
 use std::alloc::{AllocError, Global};
-use svnpath::{Path, PathFault, RepositoryUrl};
+use svnpath::{Bytes, Path, PathFault, RepositoryUrl};
 
 /// The answer to the greeting.
 fn greet<R: Repository>(
@@ -136,18 +137,47 @@ fn admit<R: Repository, A: RepoAccess<View = R>>(
     ensures later { A.between (A.point access.old) (A.point access.new) }
 {
     if response.mechanism.as_bytes() != b"ANONYMOUS".as_slice() {
-        say(alloc, &Reply::MechanismNotOffered, out)?;
+        offer_again(alloc, out)?;
         return Ok(Phase::LoggingIn(client));
     }
-    let view = access.look()?;
-    let root = text_of(alloc, client.root.as_slice())?;
-    say_both(
-        alloc,
-        &Reply::Success,
-        &Reply::ReposInfo(view.uuid(), root),
-        out,
-    )?;
+    welcome(alloc, &client.root, access, out)?;
     Ok(Phase::Serving(client))
+}
+
+/// Tells that a mechanism is not offered.
+fn offer_again(alloc: Global, out: &mut Vec<u8>) -> Result<(), AllocError>
+    ensures { OnOk result (out.new.items ≡ out.old.items ++ print (Reply.MechanismNotOffered ∷ [])) }
+{
+    say(alloc, &Reply::MechanismNotOffered, out)
+}
+
+/// Tells a client that it has logged in, and of the repository.
+fn welcome<R: Repository, A: RepoAccess<View = R>>(
+    alloc: Global,
+    root: &Bytes,
+    access: &mut A,
+    out: &mut Vec<u8>,
+) -> Result<(), AllocError>
+    ensures ok { OnOk result (out.new.items ≡ out.old.items ++ print (Reply.Success ∷ Reply.ReposInfo (world (A.point access.new)).uuid root.now ∷ [])) }
+    ensures later { A.between (A.point access.old) (A.point access.new) }
+{
+    let info = repos_info(alloc, root, access)?;
+    say_both(alloc, &Reply::Success, &info, out)?;
+    Ok(())
+}
+
+/// What a client is told of the repository that it has logged in to.
+fn repos_info<R: Repository, A: RepoAccess<View = R>>(
+    alloc: Global,
+    root: &Bytes,
+    access: &mut A,
+) -> Result<Reply, AllocError>
+    ensures ok { IfOk result (λ reply. reply ≡ replies.ReposInfo (world (A.point access.new)).uuid root.now) }
+    ensures later { A.between (A.point access.old) (A.point access.new) }
+{
+    let root = text_of(alloc, root.as_slice())?;
+    let view = access.look()?;
+    Ok(Reply::ReposInfo(view.uuid(), root))
 }
 
 /// A command.
@@ -194,26 +224,19 @@ fn run<R: Repository, A: RepoAccess<View = R>>(
 {
     match command {
         MainCommand::GetLatestRev => {
-            let view = access.look()?;
-            say_both(
-                alloc,
-                &Reply::NoLogin,
-                &Reply::Revision(view.youngest()),
-                out,
-            )?;
-            Ok(Phase::Serving(client))
+            let reply = youngest_reply(access)?;
+            let phase = tell(alloc, client, reply, out)?;
+            Ok(phase)
         }
         MainCommand::CheckPath(path, revision) => {
-            let view = access.look()?;
-            let reply = check_path(alloc, &view, &client.path, path, *revision)?;
-            say_both(alloc, &Reply::NoLogin, &reply, out)?;
-            Ok(Phase::Serving(client))
+            let reply = kind_reply(alloc, &client.path, path, *revision, access)?;
+            let phase = tell(alloc, client, reply, out)?;
+            Ok(phase)
         }
         MainCommand::RevProplist(revision) => {
-            let view = access.look()?;
-            let reply = rev_proplist(alloc, &view, *revision)?;
-            say_both(alloc, &Reply::NoLogin, &reply, out)?;
-            Ok(Phase::Serving(client))
+            let reply = properties_reply(alloc, *revision, access)?;
+            let phase = tell(alloc, client, reply, out)?;
+            Ok(phase)
         }
         MainCommand::Commit(commit) => {
             let phase = begin_edit(alloc, options, client, commit, out)?;
@@ -221,6 +244,67 @@ fn run<R: Repository, A: RepoAccess<View = R>>(
         }
         MainCommand::AbortEdit => Ok(Phase::Serving(client)),
     }
+}
+
+/// Answers a command. The next one is awaited.
+fn tell<R: Repository>(
+    alloc: Global,
+    client: Client,
+    reply: Reply,
+    out: &mut Vec<u8>,
+) -> Result<SessionPhase<R>, AllocError>
+    ensures { IfOk result (λ phase. (env : Env) → IsAnswered (served env client reply) phase out.old.items out.new.items) }
+{
+    say_answer(alloc, reply, out)?;
+    Ok(Phase::Serving(client))
+}
+
+/// Writes the answer to a command.
+fn say_answer(alloc: Global, reply: Reply, out: &mut Vec<u8>) -> Result<(), AllocError>
+    ensures { OnOk result (out.new.items ≡ out.old.items ++ print (Reply.NoLogin ∷ reply ∷ [])) }
+{
+    say_both(alloc, &Reply::NoLogin, &reply, out)
+}
+
+/// The youngest revision of the repository as it is now.
+fn youngest_reply<R: Repository, A: RepoAccess<View = R>>(
+    access: &mut A,
+) -> Result<Reply, AllocError>
+    ensures ok { IfOk result (λ reply. reply ≡ replies.Revision (youngest (world (A.point access.new)))) }
+    ensures later { A.between (A.point access.old) (A.point access.new) }
+{
+    let view = access.look()?;
+    Ok(Reply::Revision(view.youngest()))
+}
+
+/// What stands at a path of the repository as it is now.
+fn kind_reply<R: Repository, A: RepoAccess<View = R>>(
+    alloc: Global,
+    base: &Path,
+    path: &Text,
+    revision: Option<u64>,
+    access: &mut A,
+) -> Result<Reply, AllocError>
+    ensures ok { IfOk result (λ reply. reply ≡ check_path_reply (world (A.point access.new)) revision (joined base.now path.now)) }
+    ensures later { A.between (A.point access.old) (A.point access.new) }
+{
+    let view = access.look()?;
+    let reply = check_path(alloc, &view, base, path, revision)?;
+    Ok(reply)
+}
+
+/// The properties of a revision of the repository as it is now.
+fn properties_reply<R: Repository, A: RepoAccess<View = R>>(
+    alloc: Global,
+    revision: u64,
+    access: &mut A,
+) -> Result<Reply, AllocError>
+    ensures ok { IfOk result (λ reply. reply ≡ rev_proplist_reply (world (A.point access.new)) revision) }
+    ensures later { A.between (A.point access.old) (A.point access.new) }
+{
+    let view = access.look()?;
+    let reply = rev_proplist(alloc, &view, revision)?;
+    Ok(reply)
 }
 
 /// The revision that is named, or the youngest; `None` above the youngest.

@@ -61,6 +61,9 @@ fn serve_all<R: Repository, A: RepoAccess<View = R>>(
     }
 }
 
+/// Where a session stood is not wanted any more.
+fn retire<R: Repository>(_phase: SessionPhase<R>) {}
+
 /// A session with one client.
 #[derive(Drop)]
 pub struct Session<R: Repository> {
@@ -122,11 +125,12 @@ impl<R: Repository> Session<R> {
         }
         let phase = mem::replace(&mut self.phase, Phase::Ended);
         if self.reader.feed(piece).is_err() {
+            retire(phase);
             return Err(SessionFault::NoMemory);
         }
         match serve_all(alloc, options, &mut self.reader, phase, access, env) {
             Ok((phase, out)) => {
-                self.phase = phase;
+                retire(mem::replace(&mut self.phase, phase));
                 Ok(out)
             }
             Err(_) => Err(SessionFault::NoMemory),

@@ -1,5 +1,4 @@
 use Rattle.std.proofs.Common.{[], ◌∷◌, Err, refl, inl}
-use Rattle.std.proofs.lemmas.Result.{err_from_is_err_and}
 use Rattle.items.specs.View.{tree_of}
 use Rattle.refusals.specs.declared.Refusal.TheVariants as refusals
 use Rattle.edit_commands.specs.Editing.{editor_command}
@@ -11,25 +10,19 @@ use Rattle.machine.proofs.Refusing.{bad, unknown}
 use Rattle.committing.proofs.Edits.{made}
 use Rattle.committing.proofs.edit.edit_item.Goals as goal
 
-pub returns-in_ok-phase-in-Ok-clause-ok : goal.returns-in_ok-phase-in-Ok-clause-ok
-returns-in_ok-phase-in-Ok-clause-ok g c = rw c.in-Ok.ensures c.in_ok-phase-in-Ok.ensures.ok
+pub returns-in-Ok-clause-ok : goal.returns-in-Ok-clause-ok
+returns-in-Ok-clause-ok g c = rw c.in-Ok.ensures c.carry_out.ensures.ok
 
-pub returns-in_err-phase-in-Ok-clause-err : goal.returns-in_err-phase-in-Ok-clause-err
-returns-in_err-phase-in-Ok-clause-err g c =
-    let p = err_from_is_err_and c.from_residual.result c.from_residual.ensures.1 in
-    rw (p.1) (rw c.in-Ok.ensures c.in_err-phase-in-Ok.ensures.err)
+pub returns-in-Ok-clause-err : goal.returns-in-Ok-clause-err
+returns-in-Ok-clause-err g c = rw c.in-Ok.ensures c.carry_out.ensures.err
 
-pub returns-in_err-say-in-Err-UnknownName-clause-err : goal.returns-in_err-say-in-Err-UnknownName-clause-err
-returns-in_err-say-in-Err-UnknownName-clause-err g c =
-    let p = err_from_is_err_and c.from_residual-in_err-say-in-Err-UnknownName.result c.from_residual-in_err-say-in-Err-UnknownName.ensures.1 in
-    rw (p.1) (inl (g.met.A.RepoAccess.stays (g.A.RepoAccess.point c.args.access.now)))
-
-pub returns-in_ok-say-in-Err-UnknownName-clause-ok : goal.returns-in_ok-say-in-Err-UnknownName-clause-ok
-returns-in_ok-say-in-Err-UnknownName-clause-ok g c =
+pub returns-in_ok-phase-in-Err-UnknownName-clause-ok : goal.returns-in_ok-phase-in-Err-UnknownName-clause-ok
+returns-in_ok-phase-in-Err-UnknownName-clause-ok g c =
     let now = g.A.RepoAccess.point c.args.access.now in
-    rw (unknown (editor_command (tree_of c.args.item.now)) (rw c.in-Err-UnknownName.field-0-is at c.in-Err-UnknownName.ensures))
-    (rw c.give_up.ensures (made g.A.RepoAccess.between g.A.RepoAccess.adds (λ w a. EditingStep g.A.RepoAccess.may c.args.env w c.args.client c.args.asked c.args.editor (Err UnknownName) a) now now c.args.env (Skipping c.args.client) (replies.Failure refusals.UnknownCommand ∷ []) _ _
-    (g.met.A.RepoAccess.stays now) refl c.in_ok-say-in-Err-UnknownName.ensures))
+    let answered = c.in_ok-phase-in-Err-UnknownName.ensures c.args.env in
+    rw (unknown (editor_command (tree_of c.args.item.now)) (rw c.in-Err-UnknownName.field-0-is at c.in-Err-UnknownName.ensures)) (rw answered.phase_is
+    (made g.A.RepoAccess.between g.A.RepoAccess.adds (λ w a. EditingStep g.A.RepoAccess.may c.args.env w c.args.client c.args.asked c.args.editor (Err UnknownName) a) now now c.args.env (Skipping c.args.client) (replies.Failure refusals.UnknownCommand ∷ []) _ _
+    (g.met.A.RepoAccess.stays now) refl answered.written))
 
 pub returns-in_ok-phase-in-Err-BadParameters-clause-ok : goal.returns-in_ok-phase-in-Err-BadParameters-clause-ok
 returns-in_ok-phase-in-Err-BadParameters-clause-ok g c =

@@ -1,18 +1,12 @@
 use Rattle.std.proofs.Common.{sym, ap, ◌∙◌}
 use Rattle.svnpath.specs.Texts.{joined}
-use Rattle.repo_api.specs.declared.edit.EditOp.TheVariants as edits
 use Rattle.edit_rules.specs.Edits.{EditState}
-use Rattle.edit_rules.specs.Tokens.{closed_beneath}
-use Rattle.editor.proofs.Steps.{reopened}
 use Rattle.editor.proofs.editor.CommitEditor.delete_entry.Goals as goal
 
 pub returns-clause-ok : goal.returns-clause-ok
 returns-clause-ok g c =
-    let p = c.in_ok-path.path in
-    let named = ap (λ (e : EditState). joined e.path c.args.entry.now.path) c.self.view_is in
-    let h = c.in_ok-edit.ensures.ok in (
-      p,
+    let named = ap (λ (e : EditState). joined e.path c.args.entry.now.path) c.self.view_is in (
+      c.in_ok-path.path,
       sym named ∙ c.in_ok-path.ensures,
-      reopened (g.R.Repository.content c.args.repository.now) c.args.self.now c.edit.new.self _ _ (edits.Delete p) c.args.self.now.tokens _ _ h c.self-2.view_is (ap edits.Delete c.in_ok-clone.ensures.cases)
-          (c.close_beneath.ensures ∙ ap (λ (e : EditState). closed_beneath e.tokens p) (c.self-2.view_is ∙ h.is)),
+      c.in_ok-delete_at.ensures.ok,
     )

@@ -1,0 +1,21 @@
+use Rattle.std.proofs.Common.{Some, ap, sym, ◌≡◌, ◌∙◌}
+use Rattle.svnpath.specs.Paths.{PathValue}
+use Rattle.repo_api.specs.declared.entry.NodeKind.{NodeKind}
+use Rattle.edit_rules.specs.Tokens.{Tokens, with_token, others_closed_beneath}
+use Rattle.edit_rules.specs.Edits.{EditState, standing}
+use Rattle.edit_rules.specs.Refusing.{room_refusal, source_refusal}
+use Rattle.edit_rules.specs.Editor.{copy_edit, added_opened}
+use Rattle.edit_rules.specs.declared.opened.Opened.{Opened}
+use Rattle.editor.proofs.Steps.{placed_first, reopened, path_of_added}
+use Rattle.editor.proofs.editor.CommitEditor.add_copy.Goals as goal
+
+pub returns-clause-ok : goal.returns-clause-ok
+returns-clause-ok g c =
+    let old : EditState = c.args.self.now in
+    let p : PathValue = c.args.path.now in
+    let h = c.in_ok-put_new.ensures.ok in
+    let opened : c.added_opened.result ≡ added_opened c.args.is_file p (Some c.args.source.now) = c.added_opened.ensures ∙ ap (λ (q : PathValue). added_opened c.args.is_file q (Some c.args.source.now)) c.in_ok-opened.ensures.cases in
+    reopened (g.R.Repository.content c.args.repository.now) old c.put_new.new.self _ _ (copy_edit (standing old.txn p) p c.args.source.now) _ _ _ h c.self.view_is
+    (c.in_ok-op.ensures ∙ ap (λ (kind : NodeKind). copy_edit kind p c.args.source.now) c.standing.ensures)
+    (c.close_others_beneath.ensures ∙ ap (λ (e : EditState). others_closed_beneath e.tokens p c.in_ok-token.token) (c.self.view_is ∙ h.is)
+    ∙ (λ i. others_closed_beneath (with_token old.tokens (c.in_ok-key.ensures i) (opened i)) (sym (path_of_added c.args.is_file p c.args.source.now) i) (c.in_ok-token.ensures i)))

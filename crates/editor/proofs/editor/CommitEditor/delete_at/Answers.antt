@@ -1,0 +1,13 @@
+use Rattle.std.proofs.Common.{ap, ◌∙◌}
+use Rattle.repo_api.specs.declared.edit.EditOp.TheVariants as edits
+use Rattle.edit_rules.specs.Edits.{EditState}
+use Rattle.edit_rules.specs.Tokens.{closed_beneath}
+use Rattle.editor.proofs.Steps.{reopened}
+use Rattle.editor.proofs.editor.CommitEditor.delete_at.Goals as goal
+
+pub returns-clause-ok : goal.returns-clause-ok
+returns-clause-ok g c =
+    let p = c.args.path.now in
+    let h = c.in_ok-edit.ensures.ok in
+    reopened (g.R.Repository.content c.args.repository.now) c.args.self.now c.edit.new.self _ _ (edits.Delete p) c.args.self.now.tokens _ _ h c.self.view_is (ap edits.Delete c.in_ok-deleted.ensures.cases)
+    (c.close_beneath.ensures ∙ ap (λ (e : EditState). closed_beneath e.tokens p) (c.self.view_is ∙ h.is))

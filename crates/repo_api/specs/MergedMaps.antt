@@ -1,0 +1,26 @@
+-- A merge of the maps in states.
+use Rattle.std.specs.Prelude.{ℕ, Bool, List, [], ◌∷◌, ◌++◌, Option, Some, None}
+use Rattle.std.specs.List.{list_any}
+use Rattle.std.specs.FinMap.{get, insert, empty, keys}
+use Rattle.svnpath.specs.Paths.{PathValue}
+use Rattle.repo_api.specs.Trees.{Tree}
+use Rattle.repo_api.specs.Merge.{is_in_conflict, merged}
+use Rattle.repo_api.specs.States.{TreeMap, tree_of}
+use Rattle.repo_api.specs.declared.entry.Entry.{Entry}
+
+-- some path is in conflict: one of the base or of the transaction
+abbrev pub has_conflict : TreeMap → TreeMap → TreeMap → Bool
+has_conflict base txn youngest = list_any (λ p. is_in_conflict (get base p) (get txn p) (get youngest p)) (keys base ++ keys txn)
+
+abbrev pub with_entry : TreeMap → PathValue → Option Entry → TreeMap
+with_entry m p None = m
+with_entry m p (Some e) = insert m p e
+
+-- what a tree has at these paths
+abbrev pub map_of : List PathValue → Tree → TreeMap
+map_of [] t = empty
+map_of (p ∷ ps) t = with_entry (map_of ps t) p (t p)
+
+-- the tree of revision n: what stands in it stood in the transaction or in the youngest revision
+abbrev pub merged_map : ℕ → TreeMap → TreeMap → TreeMap → TreeMap
+merged_map n base txn youngest = map_of (keys txn ++ keys youngest) (merged n (tree_of base) (tree_of txn) (tree_of youngest))

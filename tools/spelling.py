@@ -1,0 +1,254 @@
+"""How the items of the protocol are spelled: what a client sends, and what it is told.
+
+The other programs of this folder are written in these words.
+"""
+
+from datetime import datetime, timedelta
+from hashlib import md5
+
+UUID = "00000000-0000-4000-8000-000000000000"
+MOMENT = 1_000_000
+
+TEXTS = {
+    160005: "bad path",
+    160006: "no such revision",
+    160013: "not found",
+    160016: "not a directory",
+    160017: "not a file",
+    160020: "already exists",
+    160024: "conflict",
+    160028: "out of date",
+    185001: "bad svndiff",
+    200007: "not supported",
+    200014: "checksum mismatch",
+    210001: "unknown command",
+    210004: "malformed data",
+    210005: "no such repository",
+}
+
+GREETING = b"( success ( 2 2 ( ) ( edit-pipeline absent-entries commit-revprops ) ) ) "
+NO_LOGIN = b"( success ( ( ) 0: ) ) "
+EMPTY = b"( success ( ) ) "
+
+
+def string(content):
+    """A string item."""
+    if isinstance(content, str):
+        content = content.encode()
+    return b"%d:%s " % (len(content), content)
+
+
+def refusal(number):
+    """A failure of one number."""
+    return b"( failure ( ( %d %s0: 0 ) ) ) " % (number, string(TEXTS[number]))
+
+
+def date(moment):
+    """The date of a moment in microseconds."""
+    return (datetime(1970, 1, 1) + timedelta(microseconds=moment)).strftime("%Y-%m-%dT%H:%M:%S.%fZ")
+
+
+def login_wanted(name):
+    """What a client of a repository of this name is told once its answer to the greeting is accepted."""
+    return b"( success ( ( ANONYMOUS ) " + string(name) + b") ) "
+
+
+def repository_told(root, uuid=UUID):
+    """What a client is told once it is admitted."""
+    return EMPTY + b"( success ( " + string(uuid) + string(root) + b"( ) ) ) "
+
+
+def answered(content):
+    """What a command is told that is served."""
+    return NO_LOGIN + b"( success ( " + content + b") ) "
+
+
+def refused(number):
+    """What a command is told that is known and refused."""
+    return NO_LOGIN + refusal(number)
+
+
+def dated(moment):
+    """What the properties of revision 0 are."""
+    return answered(b"( ( " + string("svn:date") + string(date(moment)) + b") ) ")
+
+
+def revision_properties(properties):
+    """What the properties of a revision are, by their names' bytes."""
+    pairs = b"".join(b"( " + string(name) + string(value) + b") " for name, value in sorted(properties.items()))
+    return answered(b"( " + pairs + b") ")
+
+
+def committed(revision, moment=MOMENT):
+    """What a client without a name is told of a commit that is accepted."""
+    return EMPTY + NO_LOGIN + b"( %d ( %s) ( ) ( ) ) " % (revision, string(date(moment)))
+
+
+def greeting_answer(url, version=2, capabilities=b"edit-pipeline ", rest=b""):
+    """A client's answer to the greeting."""
+    return b"( %d ( %s) %s%s) " % (version, capabilities, string(url), rest)
+
+
+def check_path(path, revision=b""):
+    """What stands at a path."""
+    return b"( check-path ( " + string(path) + b"( " + revision + b") ) ) "
+
+
+def youngest(revision):
+    """The answer to get-latest-rev."""
+    return answered(b"%d " % revision)
+
+
+def rev_proplist(revision):
+    """The properties of a revision."""
+    return b"( rev-proplist ( %d ) ) " % revision
+
+
+def pairs(properties):
+    """Pairs of strings."""
+    return b"".join(b"( " + string(first) + string(second) + b") " for first, second in properties)
+
+
+def commit(message="first", tokens=(), keep_locks=b"false ", properties=None):
+    """The beginning of an edit."""
+    rest = b"" if properties is None else b"( " + pairs(properties) + b") "
+    return b"( commit ( " + string(message) + b"( " + pairs(tokens) + b") " + keep_locks + rest + b") ) "
+
+
+def open_root(token="d0", revision=b""):
+    """The directory at the session's URL is opened."""
+    return b"( open-root ( ( " + revision + b") " + string(token) + b") ) "
+
+
+def add_directory(path, parent, token, source=b""):
+    """A directory is added."""
+    return b"( add-dir ( " + string(path) + string(parent) + string(token) + b"( " + source + b") ) ) "
+
+
+def open_directory(path, parent, token, revision=b"( ) "):
+    """A directory is opened."""
+    return b"( open-dir ( " + string(path) + string(parent) + string(token) + revision + b") ) "
+
+
+def close_directory(token):
+    """A directory is closed."""
+    return b"( close-dir ( " + string(token) + b") ) "
+
+
+def target_revision(revision):
+    """The revision that an edit leads to."""
+    return b"( target-rev ( %d ) ) " % revision
+
+
+def delete_entry(path, parent, revision=b""):
+    """An entry is deleted."""
+    return b"( delete-entry ( " + string(path) + b"( " + revision + b") " + string(parent) + b") ) "
+
+
+def add_file(path, parent, token, source=b""):
+    """A file is added."""
+    return b"( add-file ( " + string(path) + string(parent) + string(token) + b"( " + source + b") ) ) "
+
+
+def open_file(path, parent, token, revision=b"( ) "):
+    """A file is opened."""
+    return b"( open-file ( " + string(path) + string(parent) + string(token) + revision + b") ) "
+
+
+def optional(content):
+    """A list of one string, or of none."""
+    return b"( ) " if content is None else b"( " + string(content) + b") "
+
+
+def directory_property(token, name, value=None):
+    """A property of a directory is set, or removed."""
+    return b"( change-dir-prop ( " + string(token) + string(name) + optional(value) + b") ) "
+
+
+def file_property(token, name, value=None):
+    """A property of a file is set, or removed."""
+    return b"( change-file-prop ( " + string(token) + string(name) + optional(value) + b") ) "
+
+
+def apply_delta(token, base=None):
+    """A text delta is begun, over a text of this digest."""
+    return b"( apply-textdelta ( " + string(token) + optional(base) + b") ) "
+
+
+def chunk(token, content):
+    """A piece of a text delta's document."""
+    return b"( textdelta-chunk ( " + string(token) + string(content) + b") ) "
+
+
+def end_delta(token):
+    """A text delta is ended."""
+    return b"( textdelta-end ( " + string(token) + b") ) "
+
+
+def delta(token, *chunks, base=None):
+    """The commands of a whole text delta, by the chunks of its document."""
+    return [apply_delta(token, base), *(chunk(token, content) for content in chunks), end_delta(token)]
+
+
+def close_file(token, checksum=None):
+    """A file is closed, whose text has this digest."""
+    return b"( close-file ( " + string(token) + optional(checksum) + b") ) "
+
+
+def absent_directory(path, parent):
+    """A directory that is not shown."""
+    return b"( absent-dir ( " + string(path) + string(parent) + b") ) "
+
+
+def absent_file(path, parent):
+    """A file that is not shown."""
+    return b"( absent-file ( " + string(path) + string(parent) + b") ) "
+
+
+def digest(text):
+    """The MD5 of a text, in hexadecimal digits."""
+    return md5(text).hexdigest()
+
+
+def integer(number):
+    """An integer of an svndiff document: groups of seven bits, of which all but the last have the high bit."""
+    groups = [number % 128]
+    while number := number // 128:
+        groups.insert(0, 128 + number % 128)
+    return bytes(groups)
+
+
+def window(offset, view, target, instructions, data):
+    """A window of an svndiff document."""
+    head = b"".join(map(integer, [offset, view, target, len(instructions), len(data)]))
+    return head + instructions + data
+
+
+def document(text):
+    """An svndiff document of a new text: one window of new data alone, or none."""
+    if not text:
+        return NO_TEXT
+    length = b"\x80" + integer(len(text)) if len(text) > 63 else bytes([0x80 + len(text)])
+    return NO_TEXT + window(0, 0, len(text), length, text)
+
+
+CLOSE_EDIT = b"( close-edit ( ) ) "
+ABORT_EDIT = b"( abort-edit ( ) ) "
+ANONYMOUS = b"( ANONYMOUS ( 0: ) ) "
+LATEST = b"( get-latest-rev ( ) ) "
+
+EDITING = NO_LOGIN + EMPTY
+NONE = answered(b"none ")
+DIRECTORY = answered(b"dir ")
+FILE = answered(b"file ")
+
+# the svndiff document of the empty text
+NO_TEXT = bytes.fromhex("53564E00")
+
+
+def login(url="svn://h/r", root="svn://h/r", name="r", uuid=UUID):
+    """The exchanges up to the first command."""
+    return [
+        (greeting_answer(url), login_wanted(name)),
+        (ANONYMOUS, repository_told(root, uuid)),
+    ]
