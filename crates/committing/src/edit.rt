@@ -12,7 +12,7 @@ ghost use Rattle.edit_rules.specs.Editor.{IfRefused, Applies, finished, RestsOn}
 ghost use Rattle.edit_rules.specs.Edits.{new_edit};
 ghost use Rattle.machine.specs.Points.{world};
 ghost use Rattle.edit_rules.specs.Refusing.{is_property_name, edit_refusal};
-ghost use Rattle.machine.specs.Machine.{print, lock_tokens, are_named, set_all, asked_by, commit_begins, skipping_answer, gives_up, CommitStep, CloseStep, EditStep, EditingStep};
+ghost use Rattle.machine.specs.Machine.{print, lock_tokens, are_named, set_all, asked_by, commit_begins, skipping_answer, gives_up, says, CommitStep, CloseStep, EditStep, EditingStep};
 ghost use Rattle.machine.specs.Access.{Made, Misses};
 ghost use Rattle.machine.specs.Replying.{IsAnswered};
 ghost use Rattle.machine.specs.declared.env.Env.{Env};
@@ -133,6 +133,13 @@ fn asked_by(alloc: Global, base: &Path, command: &CommitCommand) -> Result<Asked
     }
 }
 
+/// Tells a client that its edit may begin.
+fn tell_begun(alloc: Global, out: &mut Vec<u8>) -> Result<(), AllocError>
+    ensures { OnOk result (out.new.items ≡ out.old.items ++ print (Reply.Success ∷ [])) }
+{
+    say(alloc, &Reply::Success, out)
+}
+
 /// An edit that nothing has been made of, once its client is told that it may begin.
 fn begin<R: Repository>(
     alloc: Global,
@@ -141,18 +148,18 @@ fn begin<R: Repository>(
     out: &mut Vec<u8>,
 ) -> Result<CommitEditor<R>, AllocError>
     ensures edit { IfOk result (λ editor. editor ≡ new_edit path.now options.now.name) }
-    ensures told { OnOk result (out.new.items ≡ out.old.items ++ print (Reply.NoLogin ∷ Reply.Success ∷ [])) }
+    ensures told { OnOk result (out.new.items ≡ out.old.items ++ print (Reply.Success ∷ [])) }
 {
-    say_both(alloc, &Reply::NoLogin, &Reply::Success, out)?;
+    tell_begun(alloc, out)?;
     let name = String::from_str(alloc, options.name())?;
     Ok(CommitEditor::new(alloc, path.clone()?, name))
 }
 
-/// Tells why a commit does not begin.
-fn decline(alloc: Global, refusal: Refusal, out: &mut Vec<u8>) -> Result<(), AllocError>
-    ensures { OnOk result (out.new.items ≡ out.old.items ++ print (Reply.NoLogin ∷ Reply.Failure refusal ∷ [])) }
+/// Tells why a command is refused.
+fn tell_refusal(alloc: Global, refusal: Refusal, out: &mut Vec<u8>) -> Result<(), AllocError>
+    ensures { OnOk result (out.new.items ≡ out.old.items ++ print (Reply.Failure refusal ∷ [])) }
 {
-    say_both(alloc, &Reply::NoLogin, &Reply::Failure(refusal), out)
+    say(alloc, &Reply::Failure(refusal), out)
 }
 
 /// The beginning of an edit.
@@ -176,7 +183,7 @@ pub fn begin_edit<R: Repository>(
                 }
             }
         }
-        Err(EditFault::Refused(refusal)) => match decline(alloc, refusal, out) {
+        Err(EditFault::Refused(refusal)) => match tell_refusal(alloc, refusal, out) {
             Ok(()) => Ok(Phase::Serving(client)),
             Err(error) => {
                 forget(client);
@@ -203,13 +210,6 @@ fn apply_now<R: Repository, A: RepoAccess<View = R>>(
 {
     let view = access.look()?;
     editor.apply(command, &view)
-}
-
-/// Tells why a command is refused.
-fn tell_refusal(alloc: Global, refusal: Refusal, out: &mut Vec<u8>) -> Result<(), AllocError>
-    ensures { OnOk result (out.new.items ≡ out.old.items ++ print (Reply.Failure refusal ∷ [])) }
-{
-    say(alloc, &Reply::Failure(refusal), out)
 }
 
 /// Gives an edit up, and tells why.
@@ -245,7 +245,7 @@ fn edit<R: Repository, A: RepoAccess<View = R>>(
     out: &mut Vec<u8>,
 ) -> Result<SessionPhase<R>, AllocError>
     requires rests { RestsOn editor (world (A.point access.old)) }
-    ensures ok { IfOk result (λ phase. Made A.between A.adds (λ c a. EditStep env c client asked editor command.now a) (A.point access.old) out.old.items (A.point access.new) phase out.new.items) }
+    ensures ok { IfOk result (λ phase. Made A.between A.adds (λ at a. EditStep env (world at) client asked editor command.now a) (A.point access.old) out.old.items (A.point access.new) phase out.new.items) }
     ensures later { A.between (A.point access.old) (A.point access.new) }
 {
     let mut editor = editor;
@@ -338,6 +338,19 @@ fn report(
     say(alloc, &Reply::CommitInfo(revision, date, author), out)
 }
 
+/// Ends the session, since no change is made any more.
+fn end_halted<R: Repository>(
+    alloc: Global,
+    client: Client,
+    out: &mut Vec<u8>,
+) -> Result<SessionPhase<R>, AllocError>
+    ensures { IfOk result (λ phase. (env : Env) → IsAnswered (says env Phase.Ended (Reply.Failure Refusal.StoreFailed ∷ [])) phase out.old.items out.new.items) }
+{
+    forget(client);
+    tell_refusal(alloc, Refusal::StoreFailed, out)?;
+    Ok(Phase::Ended)
+}
+
 /// Commits a transaction.
 fn commit<R: Repository, A: RepoAccess<View = R>>(
     alloc: Global,
@@ -350,8 +363,8 @@ fn commit<R: Repository, A: RepoAccess<View = R>>(
 ) -> Result<SessionPhase<R>, AllocError>
     requires rests { IsBeginning (R.txn_state txn).shown (world (A.point access.old)).revisions }
     requires moment { env.moment ≤ 200000000000000000 }
-    ensures ok { IfOk result (λ phase. Made A.between A.adds (λ c a. CloseStep A.may env c client asked (Ok (R.txn_state txn)) a) (A.point access.old) out.old.items (A.point access.new) phase out.new.items) }
-    ensures err { OnErr result (Misses A.between A.adds (λ c a. CloseStep A.may env c client asked (Ok (R.txn_state txn)) a) (A.point access.old) (A.point access.new)) }
+    ensures ok { IfOk result (λ phase. Made A.between A.adds (λ at a. CloseStep at.halted env (world at) client asked (Ok (R.txn_state txn)) a) (A.point access.old) out.old.items (A.point access.new) phase out.new.items) }
+    ensures err { OnErr result (Misses A.between A.adds (λ at a. CloseStep at.halted env (world at) client asked (Ok (R.txn_state txn)) a) (A.point access.old) (A.point access.new)) }
 {
     let date = date_of(alloc, env.moment)?;
     let author = author_of(alloc, &client.user)?;
@@ -370,9 +383,8 @@ fn commit<R: Repository, A: RepoAccess<View = R>>(
             Ok(phase)
         }
         Err(ChangeFault::Halted) => {
-            forget(client);
-            say(alloc, &Reply::Failure(Refusal::StoreFailed), out)?;
-            Ok(Phase::Ended)
+            let phase = end_halted(alloc, client, out)?;
+            Ok(phase)
         }
         Err(ChangeFault::NoMemory) => Err(AllocError),
     }
@@ -390,8 +402,8 @@ fn close<R: Repository, A: RepoAccess<View = R>>(
 ) -> Result<SessionPhase<R>, AllocError>
     requires rests { RestsOn editor (world (A.point access.old)) }
     requires moment { env.moment ≤ 200000000000000000 }
-    ensures ok { IfOk result (λ phase. Made A.between A.adds (λ c a. CloseStep A.may env c client asked (finished editor) a) (A.point access.old) out.old.items (A.point access.new) phase out.new.items) }
-    ensures err { OnErr result (Misses A.between A.adds (λ c a. CloseStep A.may env c client asked (finished editor) a) (A.point access.old) (A.point access.new)) }
+    ensures ok { IfOk result (λ phase. Made A.between A.adds (λ at a. CloseStep at.halted env (world at) client asked (finished editor) a) (A.point access.old) out.old.items (A.point access.new) phase out.new.items) }
+    ensures err { OnErr result (Misses A.between A.adds (λ at a. CloseStep at.halted env (world at) client asked (finished editor) a) (A.point access.old) (A.point access.new)) }
 {
     match editor.finish() {
         Ok(txn) => {
@@ -419,8 +431,8 @@ fn obey<R: Repository, A: RepoAccess<View = R>>(
 ) -> Result<SessionPhase<R>, AllocError>
     requires rests { RestsOn editor (world (A.point access.old)) }
     requires moment { env.moment ≤ 200000000000000000 }
-    ensures ok { IfOk result (λ phase. Made A.between A.adds (λ c a. EditingStep A.may env c client asked editor (Ok command.now) a) (A.point access.old) out.old.items (A.point access.new) phase out.new.items) }
-    ensures err { OnErr result (Misses A.between A.adds (λ c a. EditingStep A.may env c client asked editor (Ok command.now) a) (A.point access.old) (A.point access.new)) }
+    ensures ok { IfOk result (λ phase. Made A.between A.adds (λ at a. EditingStep at.halted env (world at) client asked editor (Ok command.now) a) (A.point access.old) out.old.items (A.point access.new) phase out.new.items) }
+    ensures err { OnErr result (Misses A.between A.adds (λ at a. EditingStep at.halted env (world at) client asked editor (Ok command.now) a) (A.point access.old) (A.point access.new)) }
 {
     match ending_of(command) {
         Some(Ending::Commits) => {
@@ -452,8 +464,8 @@ fn carry_out<R: Repository, A: RepoAccess<View = R>>(
 ) -> Result<SessionPhase<R>, AllocError>
     requires rests { RestsOn editor (world (A.point access.old)) }
     requires moment { env.moment ≤ 200000000000000000 }
-    ensures ok { IfOk result (λ phase. Made A.between A.adds (λ c a. EditingStep A.may env c client asked editor (Ok command) a) (A.point access.old) out.old.items (A.point access.new) phase out.new.items) }
-    ensures err { OnErr result (Misses A.between A.adds (λ c a. EditingStep A.may env c client asked editor (Ok command) a) (A.point access.old) (A.point access.new)) }
+    ensures ok { IfOk result (λ phase. Made A.between A.adds (λ at a. EditingStep at.halted env (world at) client asked editor (Ok command) a) (A.point access.old) out.old.items (A.point access.new) phase out.new.items) }
+    ensures err { OnErr result (Misses A.between A.adds (λ at a. EditingStep at.halted env (world at) client asked editor (Ok command) a) (A.point access.old) (A.point access.new)) }
 {
     obey(alloc, client, asked, editor, &command, access, env, out)
 }
@@ -471,8 +483,8 @@ pub fn edit_item<R: Repository, A: RepoAccess<View = R>>(
 ) -> Result<SessionPhase<R>, AllocError>
     requires rests { RestsOn editor (world (A.point access.old)) }
     requires moment { env.moment ≤ 200000000000000000 }
-    ensures ok { IfOk result (λ phase. Made A.between A.adds (λ c a. EditingStep A.may env c client asked editor (editor_command (tree_of item.now)) a) (A.point access.old) out.old.items (A.point access.new) phase out.new.items) }
-    ensures err { OnErr result (Misses A.between A.adds (λ c a. EditingStep A.may env c client asked editor (editor_command (tree_of item.now)) a) (A.point access.old) (A.point access.new)) }
+    ensures ok { IfOk result (λ phase. Made A.between A.adds (λ at a. EditingStep at.halted env (world at) client asked editor (editor_command (tree_of item.now)) a) (A.point access.old) out.old.items (A.point access.new) phase out.new.items) }
+    ensures err { OnErr result (Misses A.between A.adds (λ at a. EditingStep at.halted env (world at) client asked editor (editor_command (tree_of item.now)) a) (A.point access.old) (A.point access.new)) }
 {
     match EditorCommand::from_item(alloc, item) {
         Ok(command) => carry_out(alloc, client, asked, editor, command, access, env, out),

@@ -16,7 +16,7 @@ use crate::editor::CommitEditor;
 use edit_rules::{Delta, EditFault, Opened, feed_under, judge_checksum, set_delta};
 use items::Text;
 use refusals::Refusal;
-use repo_api::{EditOp, Repository};
+use repo_api::{EditOp, FileText, Repository};
 use std::alloc::AllocError;
 use svndiff0::Applier;
 use svnpath::{Bytes, Path};
@@ -123,7 +123,8 @@ impl<R: Repository> CommitEditor<R> {
     {
         match applier.text() {
             Ok(text) => {
-                let text = Bytes::new(Vec::from_slice(self.alloc, text)?);
+                let bytes = Bytes::new(Vec::from_slice(self.alloc, text)?);
+                let text = FileText::new(self.alloc, bytes)?;
                 Ok(EditOp::SetText(path.clone()?, text))
             }
             Err(_) => Err(EditFault::Refused(Refusal::BadSvndiff)),

@@ -16,7 +16,7 @@ ghost use Rattle.flatrepo.specs.Whole.{map_of};
 
 use crate::merging::{is_in_conflict, merged_entry};
 use crate::path_map::{put, put_some, take_out};
-use repo_api::{Content, Entry, Mark, Properties};
+use repo_api::{Content, Entry, FileText, Mark, Properties};
 use std::alloc::{AllocError, Global};
 use std::collections::BTreeMap;
 use std::marker::Model;
@@ -161,7 +161,7 @@ impl FlatTree {
 
     /// Gives the entry at the path this text, where there is one. It takes no memory.
     #[tactic(auto, using(repo_api::specs::StateLaws::get_path))]
-    pub(crate) fn set_text(&mut self, path: &Path, text: Bytes)
+    pub(crate) fn set_text(&mut self, path: &Path, text: FileText)
         ensures { (q : PathValue) → get self.new q ≡ revised (tree_of self.old) path.now (with_text text) q }
     {
         put_text(&mut self.entries, path, text);
@@ -417,7 +417,7 @@ fn new_entry(alloc: Global, is_file: bool) -> Entry
     ensures { result ≡ new_entry (empty_content is_file) }
 {
     Entry {
-        content: empty_content(alloc, is_file),
+        content: empty_content(is_file),
         properties: Properties::new(alloc),
         own: Mark::Open,
         last: Mark::Open,
@@ -425,11 +425,11 @@ fn new_entry(alloc: Global, is_file: bool) -> Entry
 }
 
 /// What an entry that is added has: a file no text yet.
-fn empty_content(alloc: Global, is_file: bool) -> Content
+fn empty_content(is_file: bool) -> Content
     ensures { result ≡ empty_content is_file }
 {
     if is_file {
-        Content::File(Bytes::new(Vec::new(alloc)))
+        Content::File(FileText::empty())
     } else {
         Content::Directory
     }
@@ -473,7 +473,7 @@ fn put_properties(entries: &mut BTreeMap<Path, Entry>, path: &Path, properties: 
 }
 
 /// Gives the entry at the path this text, and opens its marks.
-fn put_text(entries: &mut BTreeMap<Path, Entry>, path: &Path, text: Bytes)
+fn put_text(entries: &mut BTreeMap<Path, Entry>, path: &Path, text: FileText)
     ensures { (q : PathValue) → found entries.new.entries q ≡ part_at path.now (with_text text) q (found entries.old.entries q) }
 {
     if let Some(entry) = entries.get_mut(path) {

@@ -22,7 +22,8 @@ use crate::revision::revision_properties;
 use dates::date_text;
 use refusals::Refusal;
 use repo_api::{
-    ChangeFault, CommitAsk, Content, EditOp, Entry, Mark, NodeKind, Properties, Repository, Source,
+    ChangeFault, CommitAsk, Content, EditOp, Entry, FileText, Mark, NodeKind, Properties,
+    Repository, Source,
 };
 use std::alloc::{AllocError, Global};
 use std::sync::Arc;
@@ -108,7 +109,7 @@ impl Repository for FlatRepo {
         created(txn.tree.get(path))
     }
 
-    fn text_in<'a>(&'a self, txn: &'a FlatTxn, path: &Path) -> Option<&'a Bytes> {
+    fn text_in<'a>(&'a self, txn: &'a FlatTxn, path: &Path) -> Option<&'a FileText> {
         text(txn.tree.get(path))
     }
 
@@ -181,7 +182,7 @@ fn created(entry: Option<&Entry>) -> Option<u64>
 }
 
 /// The text of the entry, if it is a file.
-fn text(entry: Option<&Entry>) -> Option<&Bytes>
+fn text(entry: Option<&Entry>) -> Option<&FileText>
     ensures { option_copied result ≡ text_of (option_copied entry.entry) }
 {
     match entry {

@@ -1,40 +1,42 @@
 -- What calls keep.
-use Rattle.std.proofs.Common.{◌≡◌, ℕ, List, [], ◌∷◌, ◌++◌, Bool, Some, refl, sym, ap, subst}
-use Rattle.repo_api.specs.States.{RepoState}
+use Rattle.std.proofs.Common.{◌≡◌, ℕ, ◌+◌, List, [], ◌∷◌, ◌++◌, take, drop, take-append-drop, Some, refl, sym, ap, subst}
+use Rattle.repo_api.specs.States.{RepoState, IsBeginning}
 use Rattle.replies.specs.declared.reply.Reply.{Reply}
 use Rattle.machine.specs.Stages.{SessionState}
-use Rattle.machine.specs.Machine.{Verdict}
 use Rattle.machine.specs.declared.env.Env.{Env}
-use Rattle.hub.specs.State.{HubState, session_of}
+use Rattle.hub.specs.State.{HubState, session_of, updated}
 use Rattle.hub.specs.Runs.{Event, HubStep, HubRun, heard}
 use Rattle.hub.specs.Runs.Event.{Connects, Drops}
-use Rattle.hub.specs.Calls.{CallStep, CallRun}
-use Rattle.hub.specs.Laws.{HasTrees, OverwritesNothing, KeepsAll}
+use Rattle.hub.specs.Calls.{CallStep, CallRun, BeginsCalls}
+use Rattle.hub.specs.Laws.{KeepsConstants, KeepsProperties, HasTrees, OverwritesNothing, KeepsAll}
 use Rattle.hub.specs.declared.hub.HubFault.TheVariants.{NoSession, NoMemory, Halted, Full}
 use Rattle.hub.specs.declared.calls.Call.{Call}
 use Rattle.hub.specs.declared.calls.Call.TheVariants.{Connect, Feed, Disconnect}
 use Rattle.hub.specs.declared.calls.Outcome.{Outcome}
 use Rattle.hub.specs.declared.calls.Outcome.TheVariants.{Connected, Wrote, Dropped, Failed}
 use Rattle.hub.proofs.Everywhere.{AllSound-at, AllSound-updated, AllRest-at, AllRest-updated}
+use Rattle.hub.proofs.Staying.{KeepsRevisions, same_revisions, keeps_on, run_keeps, same_properties, properties_on, run_keeps_properties, OnlyCommits, no_commits, commits_on, run_commits, same_constants, constants_on, run_constants}
+use Rattle.hub.proofs.Failing.{AreCounted, none_counted, counted_on, run_counted, StaysHalted, none_halted, halted_on, run_halted}
+
+abbrev with_sessions : HubState → List (ℕ × SessionState) → HubState
+with_sessions h sessions = record h { sessions = sessions }
 
 -- what a call does: some events, before which no more has come than a part of a session's stream
-record Makes (may : Verdict → Bool) (old new : HubState) : Type 0 where
-  start : HubState
-  content : start.content ≡ old.content
-  trees : HasTrees old → HasTrees start
+record Makes (old new : HubState) : Type 0 where
+  sessions : List (ℕ × SessionState)
+  trees : HasTrees old → HasTrees (with_sessions old sessions)
   env : Env
   after : Env
   events : List Event
   told : List Reply
-  run : HubRun may start env events told new after
+  run : HubRun (with_sessions old sessions) env events told new after
 
 some_words : Env
 some_words = record { moment = 0; token = 0; nonce = 0 }
 
-makes_nothing : (may : Verdict → Bool) (old new : HubState) → new ≡ old → Makes may old new
-makes_nothing may old new is = record {
-  start = old;
-  content = refl;
+makes_nothing : (old new : HubState) → new ≡ old → Makes old new
+makes_nothing old new is = record {
+  sessions = old.sessions;
   trees = λ trees. trees;
   env = some_words;
   after = some_words;
@@ -43,11 +45,10 @@ makes_nothing may old new is = record {
   run = (refl, is, refl);
 }
 
-makes_one : (may : Verdict → Bool) (old new : HubState) (e : Event) (told : List Reply)
-    → HubStep may old some_words e told new some_words → Makes may old new
-makes_one may old new e told step = record {
-  start = old;
-  content = refl;
+makes_one : (old new : HubState) (e : Event) (told : List Reply)
+    → HubStep old some_words e told new some_words → Makes old new
+makes_one old new e told step = record {
+  sessions = old.sessions;
   trees = λ trees. trees;
   env = some_words;
   after = some_words;
@@ -67,12 +68,11 @@ heard_trees old n s rest found trees =
       rests = AllRest-updated old.content old.sessions n s' trees.rests (AllRest-at old.content old.sessions n s trees.rests found);
     }
 
-makes_heard : (may : Verdict → Bool) (old : HubState) (n : ℕ) (s : SessionState) (rest : List ℕ)
+makes_heard : (old : HubState) (n : ℕ) (s : SessionState) (rest : List ℕ)
     (env after : Env) (events : List Event) (told : List Reply) (new : HubState)
-    → session_of old.sessions n ≡ Some s → HubRun may (heard old n s rest) env events told new after → Makes may old new
-makes_heard may old n s rest env after events told new found run = record {
-  start = heard old n s rest;
-  content = refl;
+    → session_of old.sessions n ≡ Some s → HubRun (heard old n s rest) env events told new after → Makes old new
+makes_heard old n s rest env after events told new found run = record {
+  sessions = updated old.sessions n (record { rest = rest; phase = s.phase });
   trees = heard_trees old n s rest found;
   env = env;
   after = after;
@@ -81,53 +81,122 @@ makes_heard may old n s rest env after events told new found run = record {
   run = run;
 }
 
-makes : (may : Verdict → Bool) (old : HubState) (call : Call) (outcome : Outcome) (new : HubState) → CallStep may old call outcome new → Makes may old new
-makes may old Connect (Connected n out) new h = makes_one may old new (Connects n) h.told (h.step some_words)
-makes may old Connect (Failed NoSession) new h = absurd h
-makes may old Connect (Failed NoMemory) new h = makes_nothing may old new h.1
-makes may old Connect (Failed Halted) new h = makes_nothing may old new h.1
-makes may old Connect (Failed Full) new h = makes_nothing may old new h.2
-makes may old Connect (Wrote out) new h = absurd h
-makes may old Connect Dropped new h = absurd h
-makes may old (Feed n piece env) (Wrote out) new h =
-    let f = h.feeds in makes_heard may old n f.session f.rest env f.env_after f.events f.told new f.is_session f.run
-makes may old (Feed n piece env) (Failed NoSession) new h = makes_nothing may old new h.2
-makes may old (Feed n piece env) (Failed NoMemory) new h =
-    let b = h.1 in makes_heard may old n b.session b.rest env b.env_after (b.events ++ Drops n ∷ []) b.told new b.is_session b.run
-makes may old (Feed n piece env) (Failed Halted) new h = makes_nothing may old new h.1
-makes may old (Feed n piece env) (Failed Full) new h = absurd h
-makes may old (Feed n piece env) (Connected m out) new h = absurd h
-makes may old (Feed n piece env) Dropped new h = absurd h
-makes may old (Disconnect n) Dropped new h = makes_one may old new (Drops n) [] (h some_words)
-makes may old (Disconnect n) (Failed e) new h = absurd h
-makes may old (Disconnect n) (Connected m out) new h = absurd h
-makes may old (Disconnect n) (Wrote out) new h = absurd h
+makes : (old : HubState) (call : Call) (outcome : Outcome) (new : HubState) → CallStep old call outcome new → Makes old new
+makes old Connect (Connected n out) new h = makes_one old new (Connects n) h.told (h.step some_words)
+makes old Connect (Failed NoSession) new h = absurd h
+makes old Connect (Failed NoMemory) new h = makes_nothing old new h.1
+makes old Connect (Failed Halted) new h = makes_nothing old new h.1
+makes old Connect (Failed Full) new h = makes_nothing old new h.2
+makes old Connect (Wrote out) new h = absurd h
+makes old Connect Dropped new h = absurd h
+makes old (Feed n piece env) (Wrote out) new h =
+    let f = h.feeds in makes_heard old n f.session f.rest env f.env_after f.events f.told new f.is_session f.run
+makes old (Feed n piece env) (Failed NoSession) new h = makes_nothing old new h.2
+makes old (Feed n piece env) (Failed NoMemory) new h =
+    let b = h.1 in makes_heard old n b.session b.rest env b.env_after (b.events ++ Drops n ∷ []) b.told new b.is_session b.run
+makes old (Feed n piece env) (Failed Halted) new h = makes_nothing old new h.1
+makes old (Feed n piece env) (Failed Full) new h = absurd h
+makes old (Feed n piece env) (Connected m out) new h = absurd h
+makes old (Feed n piece env) Dropped new h = absurd h
+makes old (Disconnect n) Dropped new h = makes_one old new (Drops n) [] (h some_words)
+makes old (Disconnect n) (Failed e) new h = absurd h
+makes old (Disconnect n) (Connected m out) new h = absurd h
+makes old (Disconnect n) (Wrote out) new h = absurd h
 
-module _ (stay : (may : Verdict → Bool) (old new : HubState) (env after : Env) (events : List Event) (told : List Reply)
-    → HasTrees old → HubRun may old env events told new after → HasTrees new) where
-  pub calls_keep_trees : (may : Verdict → Bool) (old : HubState) (calls : List Call) (outcomes : List Outcome) (new : HubState)
-      → HasTrees old → CallRun may old calls outcomes new → HasTrees new
-  calls_keep_trees may old [] [] new trees is = subst HasTrees (sym is) trees
-  calls_keep_trees may old (call ∷ calls) (outcome ∷ outcomes) new trees (mid, step, run) =
-      let m = makes may old call outcome mid step in
-      calls_keep_trees may mid calls outcomes new (stay may m.start mid m.env m.after m.events m.told (m.trees trees) m.run) run
-  calls_keep_trees may old [] (outcome ∷ outcomes) new trees run = absurd run
-  calls_keep_trees may old (call ∷ calls) [] new trees run = absurd run
+-- ---- a call more
 
-  module _ (keeps : (may : Verdict → Bool) (old new : HubState) (env after : Env) (e : Event) (told : List Reply)
-      → HasTrees old → HubStep may old env e told new after → OverwritesNothing old.content new.content) where
-    events_keep_all : (may : Verdict → Bool) (old new : HubState) (env after : Env) (events : List Event) (told : List Reply)
-        → HasTrees old → HubRun may old env events told new after → (states : List RepoState) × KeepsAll old.content states new.content
-    events_keep_all may old new env after [] told trees h = ([], ap (λ (x : HubState). x.content) h.1)
-    events_keep_all may old new env after (e ∷ es) told trees (first, mid, words, more, step, run, is_told) =
-        let one : HubRun may old env (e ∷ []) (first ++ []) mid words = (first, mid, words, [], step, (refl, refl, refl), refl) in
-        let here = stay may old mid env words (e ∷ []) (first ++ []) trees one in
-        let rest = events_keep_all may mid new words after es more here run in
-        (mid.content ∷ rest.0, (keeps may old mid env words e first trees step, rest.1))
+calls_more : (old : HubState) (calls : List Call) (outcomes : List Outcome) (mid : HubState) (call : Call) (outcome : Outcome) (new : HubState)
+    → CallRun old calls outcomes mid → CallStep mid call outcome new → CallRun old (calls ++ call ∷ []) (outcomes ++ outcome ∷ []) new
+calls_more old [] [] mid call outcome new run step = (new, subst (λ (x : HubState). CallStep x call outcome new) run step, refl)
+calls_more old (k ∷ calls) (o ∷ outcomes) mid call outcome new (next, first, run) step = (next, first, calls_more next calls outcomes mid call outcome new run step)
+calls_more old [] (o ∷ outcomes) mid call outcome new run step = absurd run
+calls_more old (k ∷ calls) [] mid call outcome new run step = absurd run
 
-    pub call_keeps_all : (may : Verdict → Bool) (old : HubState) (call : Call) (outcome : Outcome) (new : HubState)
-        → HasTrees old → CallStep may old call outcome new → (states : List RepoState) × KeepsAll old.content states new.content
-    call_keeps_all may old call outcome new trees step =
-        let m = makes may old call outcome new step in
-        let all = events_keep_all may m.start new m.env m.after m.events m.told (m.trees trees) m.run in
-        subst (λ (c : RepoState). (states : List RepoState) × KeepsAll c states new.content) m.content all
+-- a call more, at the end
+pub calls_next : (old : HubState) (calls front : List Call) (outcomes all : List Outcome) (mid : HubState) (call : Call) (outcome : Outcome) (new : HubState)
+    → front ≡ calls ++ call ∷ [] → all ≡ outcomes ++ outcome ∷ [] → CallRun old calls outcomes mid → CallStep mid call outcome new → CallRun old front all new
+calls_next old calls front outcomes all mid call outcome new is are run step =
+    subst (λ (xs : List Call). CallRun old xs all new) (sym is)
+    (subst (λ (os : List Outcome). CallRun old (calls ++ call ∷ []) os new) (sym are) (calls_more old calls outcomes mid call outcome new run step))
+
+-- the last call whose outcome there was room for is not the last that was made
+pub calls_stop : (old : HubState) (calls : List Call) (i : ℕ) (outcomes : List Outcome) (mid : HubState) (call : Call) (outcome : Outcome) (new : HubState)
+    → take (i + 1) calls ≡ take i calls ++ call ∷ [] → CallRun old (take i calls) outcomes mid → CallStep mid call outcome new → BeginsCalls old calls new
+calls_stop old calls i outcomes mid call outcome new front run step = record {
+  made = take (i + 1) calls;
+  others = drop (i + 1) calls;
+  are_all = sym (take-append-drop (i + 1) calls);
+  outcomes = outcomes ++ outcome ∷ [];
+  run = calls_next old (take i calls) (take (i + 1) calls) outcomes (outcomes ++ outcome ∷ []) mid call outcome new front refl run step;
+}
+
+-- ---- what runs keep, calls keep
+
+module _ (K : HubState → HubState → Type 0) (none : (h : HubState) → K h h) (both : (a b c : HubState) → K a b → K b c → K a c)
+    (apart : (old new : HubState) (sessions : List (ℕ × SessionState)) → K (with_sessions old sessions) new → K old new)
+    (runs : (old new : HubState) (env after : Env) (events : List Event) (told : List Reply) → HubRun old env events told new after → K old new) where
+  call_keeps : (old : HubState) (call : Call) (outcome : Outcome) (new : HubState) → CallStep old call outcome new → K old new
+  call_keeps old call outcome new step =
+      let m = makes old call outcome new step in
+      apart old new m.sessions (runs (with_sessions old m.sessions) new m.env m.after m.events m.told m.run)
+
+  pub through_calls : (old new : HubState) (calls : List Call) (outcomes : List Outcome) → CallRun old calls outcomes new → K old new
+  through_calls old new [] [] is = subst (λ (x : HubState). K old x) (sym is) (none old)
+  through_calls old new (call ∷ calls) (outcome ∷ outcomes) (mid, step, run) =
+      both old mid new (call_keeps old call outcome mid step) (through_calls mid new calls outcomes run)
+  through_calls old new [] (outcome ∷ outcomes) run = absurd run
+  through_calls old new (call ∷ calls) [] run = absurd run
+
+module _ (K : RepoState → RepoState → Type 0) (none : (c : RepoState) → K c c) (both : (a b c : RepoState) → K a b → K b c → K a c)
+    (runs : (old new : HubState) (env after : Env) (events : List Event) (told : List Reply) → HubRun old env events told new after → K old.content new.content) where
+  contents_through : (old new : HubState) (calls : List Call) (outcomes : List Outcome) → CallRun old calls outcomes new → K old.content new.content
+  contents_through =
+      through_calls (λ old new. K old.content new.content) (λ h. none h.content) (λ a b c x y. both a.content b.content c.content x y) (λ old new sessions k. k) runs
+
+pub calls_keep_revisions : (old new : HubState) (calls : List Call) (outcomes : List Outcome) → CallRun old calls outcomes new → IsBeginning old.content.revisions new.content.revisions
+calls_keep_revisions = contents_through KeepsRevisions same_revisions keeps_on run_keeps
+
+pub calls_keep_properties : (old new : HubState) (calls : List Call) (outcomes : List Outcome) → CallRun old calls outcomes new → KeepsProperties old.content new.content
+calls_keep_properties = contents_through KeepsProperties same_properties properties_on run_keeps_properties
+
+pub calls_commit : (old new : HubState) (calls : List Call) (outcomes : List Outcome) → CallRun old calls outcomes new → OnlyCommits old.content new.content
+calls_commit = contents_through OnlyCommits no_commits commits_on run_commits
+
+pub calls_constants : (old new : HubState) (calls : List Call) (outcomes : List Outcome) → CallRun old calls outcomes new → KeepsConstants old new
+calls_constants = through_calls KeepsConstants same_constants constants_on (λ old new sessions k. record { settings = k.settings; uuid = k.uuid; locks = k.locks }) run_constants
+
+pub calls_counted : (old new : HubState) (calls : List Call) (outcomes : List Outcome) → CallRun old calls outcomes new → AreCounted old new
+calls_counted = through_calls AreCounted none_counted counted_on (λ old new sessions k. k) run_counted
+
+pub calls_halted : (old new : HubState) (calls : List Call) (outcomes : List Outcome) → CallRun old calls outcomes new → StaysHalted old new
+calls_halted = through_calls StaysHalted none_halted halted_on (λ old new sessions k. k) run_halted
+
+-- ---- trees
+
+module _ (stay : (old new : HubState) (env after : Env) (events : List Event) (told : List Reply)
+    → HasTrees old → HubRun old env events told new after → HasTrees new) where
+  pub calls_keep_trees : (old : HubState) (calls : List Call) (outcomes : List Outcome) (new : HubState)
+      → HasTrees old → CallRun old calls outcomes new → HasTrees new
+  calls_keep_trees old [] [] new trees is = subst HasTrees (sym is) trees
+  calls_keep_trees old (call ∷ calls) (outcome ∷ outcomes) new trees (mid, step, run) =
+      let m = makes old call outcome mid step in
+      calls_keep_trees mid calls outcomes new (stay (with_sessions old m.sessions) mid m.env m.after m.events m.told (m.trees trees) m.run) run
+  calls_keep_trees old [] (outcome ∷ outcomes) new trees run = absurd run
+  calls_keep_trees old (call ∷ calls) [] new trees run = absurd run
+
+  module _ (keeps : (old new : HubState) (env after : Env) (e : Event) (told : List Reply)
+      → HasTrees old → HubStep old env e told new after → OverwritesNothing old.content new.content) where
+    events_keep_all : (old new : HubState) (env after : Env) (events : List Event) (told : List Reply)
+        → HasTrees old → HubRun old env events told new after → (states : List RepoState) × KeepsAll old.content states new.content
+    events_keep_all old new env after [] told trees h = ([], ap (λ (x : HubState). x.content) h.1)
+    events_keep_all old new env after (e ∷ es) told trees (first, mid, words, more, step, run, is_told) =
+        let one : HubRun old env (e ∷ []) (first ++ []) mid words = (first, mid, words, [], step, (refl, refl, refl), refl) in
+        let here = stay old mid env words (e ∷ []) (first ++ []) trees one in
+        let rest = events_keep_all mid new words after es more here run in
+        (mid.content ∷ rest.0, (keeps old mid env words e first trees step, rest.1))
+
+    pub call_keeps_all : (old : HubState) (call : Call) (outcome : Outcome) (new : HubState)
+        → HasTrees old → CallStep old call outcome new → (states : List RepoState) × KeepsAll old.content states new.content
+    call_keeps_all old call outcome new trees step =
+        let m = makes old call outcome new step in
+        events_keep_all (with_sessions old m.sessions) new m.env m.after m.events m.told (m.trees trees) m.run

@@ -1,7 +1,11 @@
 pub mod Places
+pub mod Running
+pub mod Effects
+pub mod Staying
+pub mod Failing
 pub mod Composing
 pub mod Feeding
-pub mod Staying
 pub mod Everywhere
 pub mod Trees
 pub mod Calling
+pub mod InMemory

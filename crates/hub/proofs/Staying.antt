@@ -1,24 +1,24 @@
--- What each event keeps.
-use Rattle.std.proofs.Common.{◌≡◌, Bool, ◌⊎◌, inl, inr, ℕ, ◌+◌, ◌≤◌, List, [], ◌∷◌, ◌++◌, length, Option, Some, None, refl, sym, ap, subst, ◌∙◌, append-nil, append_assoc, arith, length-append}
-use Rattle.repo_api.specs.States.{RepoState, Fixed, IsBeginning}
-use Rattle.repo_api.specs.Accepted.{Accepted, changed}
+-- What each event does to the repository, and what it keeps.
+use Rattle.std.proofs.Common.{◌≡◌, ◌⊎◌, inl, inr, ℕ, zero, suc, ◌+◌, ◌≤◌, List, [], ◌∷◌, ◌++◌, length, Contains, Option, Some, None, false, refl, sym, ap, subst, ◌∙◌, append-nil, append_assoc, arith, length-append}
+use Rattle.refusals.specs.declared.Refusal.{Refusal}
+use Rattle.repo_api.specs.Properties.{PropertyList}
+use Rattle.repo_api.specs.States.{RepoState, TxnState, Fixed, IsBeginning}
+use Rattle.repo_api.specs.Commits.{committed, revision_properties}
+use Rattle.repo_api.specs.Accepted.{Accepted, changed, changed_all}
 use Rattle.repo_api.specs.Accepted.Accepted.{Commits}
+use Rattle.repo_api.specs.declared.ask.CommitAsk.{CommitAsk}
 use Rattle.replies.specs.declared.reply.Reply.{Reply}
+use Rattle.replies.specs.declared.reply.Reply.TheVariants.{Success, NoLogin, CommitInfo, Failure}
 use Rattle.machine.specs.Hearing.{Input}
 use Rattle.machine.specs.Stages.{SessionState}
-use Rattle.machine.specs.Machine.{Verdict, Effect, content_after}
-use Rattle.machine.specs.Machine.Effect.{Nothing, Changes, HaltsChanges}
+use Rattle.machine.specs.Machine.{Answer, content_after}
 use Rattle.machine.specs.declared.env.Env.{Env}
 use Rattle.hub.specs.State.{HubState, session_of}
 use Rattle.hub.specs.Runs.{Event, InputHappens, HubStep, HubRun, heard, Feeds, Breaks}
 use Rattle.hub.specs.Runs.Event.{Connects, Gets, Drops}
-use Rattle.hub.specs.Calls.{CallStep, CallRun}
-use Rattle.hub.specs.Laws.{IsAccepted}
-use Rattle.hub.specs.declared.hub.HubFault.TheVariants.{NoSession, NoMemory, Halted, Full}
-use Rattle.hub.specs.declared.calls.Call.{Call}
-use Rattle.hub.specs.declared.calls.Call.TheVariants.{Connect, Feed, Disconnect}
-use Rattle.hub.specs.declared.calls.Outcome.{Outcome}
-use Rattle.hub.specs.declared.calls.Outcome.TheVariants.{Connected, Wrote, Dropped, Failed}
+use Rattle.hub.specs.Laws.{TellsFailure, IsCommit, IsToldCommit, MakesCommits, KeepsConstants, KeepsProperties}
+use Rattle.hub.proofs.Effects.{Does, does}
+use Rattle.hub.proofs.Running.{through_run}
 
 pub begins : (c : List Fixed) → IsBeginning c c
 begins c = record { more = []; is = sym (append-nil c) }
@@ -26,98 +26,182 @@ begins c = record { more = []; is = sym (append-nil c) }
 pub joins : (a b c : List Fixed) → IsBeginning a b → IsBeginning b c → IsBeginning a c
 joins a b c x y = record { more = x.more ++ y.more; is = y.is ∙ ap (λ (z : List Fixed). z ++ y.more) x.is ∙ append_assoc a x.more y.more }
 
--- the repository is as it was, or has accepted a change
-abbrev pub IsNext : RepoState → RepoState → Type 0
-IsNext old new = (new ≡ old) ⊎ IsAccepted old new
+-- ---- what an event does to the repository
 
-pub after_effect : (c : RepoState) (e : Effect) → IsNext c (content_after c e)
-after_effect c Nothing = inl refl
-after_effect c (Changes e) = inr (e, refl)
-after_effect c HaltsChanges = inl refl
+-- a commit that the rules accept, and that is told
+pub record Committing (old : HubState) (told : List Reply) (new : HubState) : Type 0 where
+  pub running : old.halted ≡ false
+  pub commit : IsCommit old.content new.content
+  pub replies : told ≡ Success ∷ NoLogin ∷ CommitInfo (length old.content.revisions) commit.ask.date commit.ask.author ∷ []
 
-after_input : (may : Verdict → Bool) (old : HubState) (env : Env) (n : ℕ) (o : Option SessionState) (input : Input) (told : List Reply) (new : HubState) (after : Env)
-    → InputHappens may old env n o input told new after → IsNext old.content new.content
-after_input may old env n None input told new after h = inl (ap (λ (x : HubState). x.content) h.1)
-after_input may old env n (Some s) input told new after (a, step, is_told, left, is) = subst (λ (x : HubState). IsNext old.content x.content) (sym is) (after_effect old.content a.effect)
+-- the repository is as it was, or has gone on by a commit
+abbrev pub Next : HubState → List Reply → HubState → Type 0
+Next old told new = (new.content ≡ old.content) ⊎ Committing old told new
 
-pub after_event : (may : Verdict → Bool) (old new : HubState) (env after : Env) (e : Event) (told : List Reply) → HubStep may old env e told new after → IsNext old.content new.content
-after_event may old new env after (Connects n) told h = inl (ap (λ (x : HubState). x.content) h.3)
-after_event may old new env after (Gets n input) told h = after_input may old env n (session_of old.sessions n) input told new after h
-after_event may old new env after (Drops n) told h = inl (ap (λ (x : HubState). x.content) h.2)
+after_answer : (old : HubState) (a : Answer) (told : List Reply) (new : HubState)
+    → told ≡ a.replies → new.content ≡ content_after old.content a.effect → Does old.halted old.content a → Next old told new
+after_answer old a told new is_told is (inl quiet) = inl (is ∙ ap (λ (es : List Accepted). changed_all old.content es) quiet)
+after_answer old a told new is_told is (inr d) =
+    inr (record {
+      running = d.running;
+      commit = record { ask = d.ask; txn = d.txn; accepted = d.accepted; is = is ∙ ap (λ (es : List Accepted). changed_all old.content es) d.changes };
+      replies = is_told ∙ d.replies;
+    })
+
+after_input : (old : HubState) (env : Env) (n : ℕ) (o : Option SessionState) (input : Input) (told : List Reply) (new : HubState) (after : Env)
+    → InputHappens old env n o input told new after → Next old told new
+after_input old env n None input told new after h = inl (ap (λ (x : HubState). x.content) h.1)
+after_input old env n (Some s) input told new after (a, step, is_told, left, failures, counts, is) =
+    after_answer old a told new is_told (ap (λ (x : HubState). x.content) is) (does old.halted old.settings env old.content s.phase input a step)
+
+pub after_event : (old new : HubState) (env after : Env) (e : Event) (told : List Reply) → HubStep old env e told new after → Next old told new
+after_event old new env after (Connects n) told h = inl (ap (λ (x : HubState). x.content) h.3)
+after_event old new env after (Gets n input) told h = after_input old env n (session_of old.sessions n) input told new after h
+after_event old new env after (Drops n) told h = inl (ap (λ (x : HubState). x.content) h.2)
+
+-- ---- what is told
+
+no_failure : (r : Refusal) (n : ℕ) (date : List ℕ) (author : Option (List ℕ)) → Contains (Success ∷ NoLogin ∷ CommitInfo n date author ∷ []) (Failure r) → ⊥
+no_failure r n date author (zero, lt, e) = cc
+no_failure r n date author (suc zero, lt, e) = cc
+no_failure r n date author (suc (suc zero), lt, e) = cc
+no_failure r n date author (suc (suc (suc k)), lt, e) = absurd (omega (arith, lt))
+
+pub event_refused : (old new : HubState) (env after : Env) (e : Event) (told : List Reply) → HubStep old env e told new after → TellsFailure told → new.content ≡ old.content
+event_refused old new env after e told h (r, has) = by (after_event old new env after e told h)
+  where
+    by : Next old told new → new.content ≡ old.content
+    by (inl same) = same
+    by (inr c) =
+        absurd (no_failure r (length old.content.revisions) c.commit.ask.date c.commit.ask.author (subst (λ (xs : List Reply). Contains xs (Failure r)) c.replies has))
+
+pub event_commits : (old new : HubState) (env after : Env) (e : Event) (told : List Reply) → HubStep old env e told new after
+    → (new.content ≡ old.content) ⊎ IsToldCommit old.content told new.content
+event_commits old new env after e told h = by (after_event old new env after e told h)
+  where
+    by : Next old told new → (new.content ≡ old.content) ⊎ IsToldCommit old.content told new.content
+    by (inl same) = inl same
+    by (inr c) =
+        let info = CommitInfo (length old.content.revisions) c.commit.ask.date c.commit.ask.author in
+        inr (record { commit = c.commit; info = subst (λ (xs : List Reply). Contains xs info) (sym c.replies) (2, omega arith, refl) })
+
+-- ---- what holds of each commit, and where there is none, holds of each event
+
+module _ (K : RepoState → RepoState → Type 0) (none : (c : RepoState) → K c c) (commits : (old new : RepoState) → IsCommit old new → K old new) where
+  by_commits : (old : HubState) (told : List Reply) (new : HubState) → Next old told new → K old.content new.content
+  by_commits old told new (inl e) = subst (λ (x : RepoState). K old.content x) (sym e) (none old.content)
+  by_commits old told new (inr c) = commits old.content new.content c.commit
+
+  pub event_by_commits : (old new : HubState) (env after : Env) (e : Event) (told : List Reply) → HubStep old env e told new after → K old.content new.content
+  event_by_commits old new env after e told h = by_commits old told new (after_event old new env after e told h)
+
+  module _ (both : (a b c : RepoState) → K a b → K b c → K a c) where
+    pub run_by_commits : (old new : HubState) (env after : Env) (events : List Event) (told : List Reply) → HubRun old env events told new after → K old.content new.content
+    run_by_commits =
+        through_run (λ old new. K old.content new.content) (λ h. none h.content) (λ a b c x y. both a.content b.content c.content x y) event_by_commits
+
+-- ---- revisions
+
+abbrev pub KeepsRevisions : RepoState → RepoState → Type 0
+KeepsRevisions old new = IsBeginning old.revisions new.revisions
+
+pub same_revisions : (c : RepoState) → KeepsRevisions c c
+same_revisions c = begins c.revisions
+
+pub commit_keeps : (old new : RepoState) → IsCommit old new → KeepsRevisions old new
+commit_keeps old new c = record { more = _; is = ap (λ (x : RepoState). x.revisions) c.is }
+
+pub keeps_on : (a b c : RepoState) → KeepsRevisions a b → KeepsRevisions b c → KeepsRevisions a c
+keeps_on a b c x y = joins a.revisions b.revisions c.revisions x y
+
+pub run_keeps : (old new : HubState) (env after : Env) (events : List Event) (told : List Reply) → HubRun old env events told new after → IsBeginning old.content.revisions new.content.revisions
+run_keeps = run_by_commits KeepsRevisions same_revisions commit_keeps keeps_on
+
+pub feeds_keep : (old : HubState) (env : Env) (n : ℕ) (piece out : List ℕ) (new : HubState) → Feeds old env n piece out new → IsBeginning old.content.revisions new.content.revisions
+feeds_keep old env n piece out new f = run_keeps (heard old n f.session f.rest) new env f.env_after f.events f.told f.run
+
+pub breaks_keep : (old : HubState) (env : Env) (n : ℕ) (piece : List ℕ) (new : HubState) → Breaks old env n piece new → IsBeginning old.content.revisions new.content.revisions
+breaks_keep old env n piece new f = run_keeps (heard old n f.session f.rest) new env f.env_after (f.events ++ Drops n ∷ []) f.told f.run
 
 change_keeps : (c : RepoState) (e : Accepted) → IsBeginning c.revisions (changed c e).revisions
 change_keeps c (Commits ask t) = record { more = _; is = refl }
 
-change_counts : (c : RepoState) (e : Accepted) → length (changed c e).revisions ≤ length c.revisions + 1
-change_counts c (Commits ask t) = omega (arith, length-append {A = Fixed})
+pub changes_keep : (c : RepoState) (es : List Accepted) → IsBeginning c.revisions (changed_all c es).revisions
+changes_keep c [] = begins c.revisions
+changes_keep c (e ∷ es) = joins c.revisions (changed c e).revisions (changed_all (changed c e) es).revisions (change_keeps c e) (changes_keep (changed c e) es)
 
-pub next_keeps : (old new : RepoState) → IsNext old new → IsBeginning old.revisions new.revisions
-next_keeps old new (inl e) = subst (λ (x : RepoState). IsBeginning old.revisions x.revisions) (sym e) (begins old.revisions)
-next_keeps old new (inr (e, is)) = subst (λ (x : RepoState). IsBeginning old.revisions x.revisions) (sym is) (change_keeps old e)
+one_more : (c : RepoState) (ask : CommitAsk) (t : TxnState) → length (committed c ask t).revisions ≤ length c.revisions + 1
+one_more c ask t = omega (arith, length-append {A = Fixed})
 
-next_counts : (old new : RepoState) → IsNext old new → length new.revisions ≤ length old.revisions + 1
-next_counts old new (inl e) = subst (λ (x : RepoState). length x.revisions ≤ length old.revisions + 1) (sym e) (omega arith)
-next_counts old new (inr (e, is)) = subst (λ (x : RepoState). length x.revisions ≤ length old.revisions + 1) (sym is) (change_counts old e)
+pub event_counts : (old new : HubState) (env after : Env) (e : Event) (told : List Reply) → HubStep old env e told new after → length new.content.revisions ≤ length old.content.revisions + 1
+event_counts =
+    event_by_commits (λ old new. length new.revisions ≤ length old.revisions + 1) (λ c. omega arith)
+    (λ old new c. subst (λ (x : RepoState). length x.revisions ≤ length old.revisions + 1) (sym c.is) (one_more old c.ask c.txn))
 
-pub event_counts : (may : Verdict → Bool) (old new : HubState) (env after : Env) (e : Event) (told : List Reply) → HubStep may old env e told new after → length new.content.revisions ≤ length old.content.revisions + 1
-event_counts may old new env after e told h = next_counts old.content new.content (after_event may old new env after e told h)
+-- ---- revision properties
 
-pub event_keeps : (may : Verdict → Bool) (old new : HubState) (env after : Env) (e : Event) (told : List Reply) → HubStep may old env e told new after → IsBeginning old.content.revisions new.content.revisions
-event_keeps may old new env after e told h = next_keeps old.content new.content (after_event may old new env after e told h)
+pub same_properties : (c : RepoState) → KeepsProperties c c
+same_properties c = ([], sym (append-nil c.properties))
 
-pub run_keeps : (may : Verdict → Bool) (old new : HubState) (env after : Env) (es : List Event) (told : List Reply) → HubRun may old env es told new after → IsBeginning old.content.revisions new.content.revisions
-run_keeps may old new env after [] told h = subst (λ (x : HubState). IsBeginning old.content.revisions x.content.revisions) (sym h.1) (begins old.content.revisions)
-run_keeps may old new env after (e ∷ es) told (first, mid, between, more, step, run, eq) =
-    joins old.content.revisions mid.content.revisions new.content.revisions (event_keeps may old mid env between e first step) (run_keeps may mid new between after es more run)
+pub commit_adds : (old new : RepoState) → IsCommit old new → KeepsProperties old new
+commit_adds old new c = (revision_properties c.ask ∷ [], ap (λ (x : RepoState). x.properties) c.is)
 
-pub feeds_keep : (may : Verdict → Bool) (old : HubState) (env : Env) (n : ℕ) (piece out : List ℕ) (new : HubState) → Feeds may old env n piece out new → IsBeginning old.content.revisions new.content.revisions
-feeds_keep may old env n piece out new f = run_keeps may (heard old n f.session f.rest) new env f.env_after f.events f.told f.run
+pub properties_on : (a b c : RepoState) → KeepsProperties a b → KeepsProperties b c → KeepsProperties a c
+properties_on a b c x y =
+    (x.0 ++ y.0, y.1 ∙ ap (λ (z : List PropertyList). z ++ y.0) x.1 ∙ append_assoc a.properties x.0 y.0)
 
-pub breaks_keep : (may : Verdict → Bool) (old : HubState) (env : Env) (n : ℕ) (piece : List ℕ) (new : HubState) → Breaks may old env n piece new → IsBeginning old.content.revisions new.content.revisions
-breaks_keep may old env n piece new f = run_keeps may (heard old n f.session f.rest) new env f.env_after (f.events ++ Drops n ∷ []) f.told f.run
+pub run_keeps_properties : (old new : HubState) (env after : Env) (events : List Event) (told : List Reply) → HubRun old env events told new after → KeepsProperties old.content new.content
+run_keeps_properties = run_by_commits KeepsProperties same_properties commit_adds properties_on
 
-calls_more : (may : Verdict → Bool) (old : HubState) (calls : List Call) (outcomes : List Outcome) (mid : HubState) (call : Call) (outcome : Outcome) (new : HubState)
-    → CallRun may old calls outcomes mid → CallStep may mid call outcome new → CallRun may old (calls ++ call ∷ []) (outcomes ++ outcome ∷ []) new
-calls_more may old [] [] mid call outcome new run step = (new, subst (λ (x : HubState). CallStep may x call outcome new) run step, refl)
-calls_more may old (k ∷ calls) (o ∷ outcomes) mid call outcome new (next, first, run) step = (next, first, calls_more may next calls outcomes mid call outcome new run step)
-calls_more may old [] (o ∷ outcomes) mid call outcome new run step = absurd run
-calls_more may old (k ∷ calls) [] mid call outcome new run step = absurd run
+-- ---- commits, one after another
 
--- a call more, at the end
-pub calls_next : (may : Verdict → Bool) (old : HubState) (calls front : List Call) (outcomes all : List Outcome) (mid : HubState) (call : Call) (outcome : Outcome) (new : HubState)
-    → front ≡ calls ++ call ∷ [] → all ≡ outcomes ++ outcome ∷ [] → CallRun may old calls outcomes mid → CallStep may mid call outcome new → CallRun may old front all new
-calls_next may old calls front outcomes all mid call outcome new is are run step =
-    subst (λ (xs : List Call). CallRun may old xs all new) (sym is)
-    (subst (λ (os : List Outcome). CallRun may old (calls ++ call ∷ []) os new) (sym are) (calls_more may old calls outcomes mid call outcome new run step))
+abbrev pub OnlyCommits : RepoState → RepoState → Type 0
+OnlyCommits old new = (states : List RepoState) × MakesCommits old states new
 
-some_words : Env
-some_words = record { moment = 0; token = 0; nonce = 0 }
+pub no_commits : (c : RepoState) → OnlyCommits c c
+no_commits c = ([], refl)
 
-same_keeps : (old new : HubState) → new ≡ old → IsBeginning old.content.revisions new.content.revisions
-same_keeps old new e = subst (λ (x : HubState). IsBeginning old.content.revisions x.content.revisions) (sym e) (begins old.content.revisions)
+pub one_commit : (old new : RepoState) → IsCommit old new → OnlyCommits old new
+one_commit old new c = (new ∷ [], (c, refl))
 
-call_keeps : (may : Verdict → Bool) (old : HubState) (call : Call) (outcome : Outcome) (new : HubState) → CallStep may old call outcome new → IsBeginning old.content.revisions new.content.revisions
-call_keeps may old Connect (Connected n out) new h = event_keeps may old new some_words some_words (Connects n) h.told (h.step some_words)
-call_keeps may old Connect (Failed NoSession) new h = absurd h
-call_keeps may old Connect (Failed NoMemory) new h = same_keeps old new h.1
-call_keeps may old Connect (Failed Halted) new h = same_keeps old new h.1
-call_keeps may old Connect (Failed Full) new h = same_keeps old new h.2
-call_keeps may old Connect (Wrote out) new h = absurd h
-call_keeps may old Connect Dropped new h = absurd h
-call_keeps may old (Feed n piece env) (Wrote out) new h = feeds_keep may old env n piece.items out.items new h.feeds
-call_keeps may old (Feed n piece env) (Failed NoSession) new h = same_keeps old new h.2
-call_keeps may old (Feed n piece env) (Failed NoMemory) new h = breaks_keep may old env n piece.items new h.1
-call_keeps may old (Feed n piece env) (Failed Halted) new h = same_keeps old new h.1
-call_keeps may old (Feed n piece env) (Failed Full) new h = absurd h
-call_keeps may old (Feed n piece env) (Connected m out) new h = absurd h
-call_keeps may old (Feed n piece env) Dropped new h = absurd h
-call_keeps may old (Disconnect n) Dropped new h = event_keeps may old new some_words some_words (Drops n) [] (h some_words)
-call_keeps may old (Disconnect n) (Failed e) new h = absurd h
-call_keeps may old (Disconnect n) (Connected m out) new h = absurd h
-call_keeps may old (Disconnect n) (Wrote out) new h = absurd h
+more_commits : (a b c : RepoState) (xs ys : List RepoState) → MakesCommits a xs b → MakesCommits b ys c → MakesCommits a (xs ++ ys) c
+more_commits a b c [] ys e run = subst (λ (x : RepoState). MakesCommits x ys c) e run
+more_commits a b c (x ∷ xs) ys (commit, more) run = (commit, more_commits x b c xs ys more run)
 
-pub calls_keep : (may : Verdict → Bool) (old new : HubState) (calls : List Call) (outcomes : List Outcome) → CallRun may old calls outcomes new → IsBeginning old.content.revisions new.content.revisions
-calls_keep may old new [] [] run = same_keeps old new run
-calls_keep may old new (call ∷ calls) (outcome ∷ outcomes) (mid, step, run) = joins old.content.revisions mid.content.revisions new.content.revisions (call_keeps may old call outcome mid step) (calls_keep may mid new calls outcomes run)
-calls_keep may old new [] (o ∷ outcomes) run = absurd run
-calls_keep may old new (call ∷ calls) [] run = absurd run
+pub commits_on : (a b c : RepoState) → OnlyCommits a b → OnlyCommits b c → OnlyCommits a c
+commits_on a b c x y = (x.0 ++ y.0, more_commits a b c x.0 y.0 x.1 y.1)
+
+pub run_commits : (old new : HubState) (env after : Env) (events : List Event) (told : List Reply) → HubRun old env events told new after → OnlyCommits old.content new.content
+run_commits = run_by_commits OnlyCommits no_commits one_commit commits_on
+
+-- ---- what nothing changes
+
+abbrev SameNames : RepoState → RepoState → Type 0
+SameNames old new = (new.uuid ≡ old.uuid) × (new.locks ≡ old.locks)
+
+commit_names : (old new : RepoState) → IsCommit old new → SameNames old new
+commit_names old new c = (ap (λ (x : RepoState). x.uuid) c.is, ap (λ (x : RepoState). x.locks) c.is)
+
+input_settings : (old : HubState) (env : Env) (n : ℕ) (o : Option SessionState) (input : Input) (told : List Reply) (new : HubState) (after : Env)
+    → InputHappens old env n o input told new after → new.settings ≡ old.settings
+input_settings old env n None input told new after h = ap (λ (x : HubState). x.settings) h.1
+input_settings old env n (Some s) input told new after (a, step, is_told, left, failures, counts, is) = ap (λ (x : HubState). x.settings) is
+
+event_settings : (old new : HubState) (env after : Env) (e : Event) (told : List Reply) → HubStep old env e told new after → new.settings ≡ old.settings
+event_settings old new env after (Connects n) told h = ap (λ (x : HubState). x.settings) h.3
+event_settings old new env after (Gets n input) told h = input_settings old env n (session_of old.sessions n) input told new after h
+event_settings old new env after (Drops n) told h = ap (λ (x : HubState). x.settings) h.2
+
+pub event_constants : (old new : HubState) (env after : Env) (e : Event) (told : List Reply) → HubStep old env e told new after → KeepsConstants old new
+event_constants old new env after e told h =
+    let names = event_by_commits SameNames (λ c. (refl, refl)) commit_names old new env after e told h in
+    record { settings = event_settings old new env after e told h; uuid = names.0; locks = names.1 }
+
+pub same_constants : (h : HubState) → KeepsConstants h h
+same_constants h = record { settings = refl; uuid = refl; locks = refl }
+
+pub constants_on : (a b c : HubState) → KeepsConstants a b → KeepsConstants b c → KeepsConstants a c
+constants_on a b c x y = record { settings = y.settings ∙ x.settings; uuid = y.uuid ∙ x.uuid; locks = y.locks ∙ x.locks }
+
+pub run_constants : (old new : HubState) (env after : Env) (events : List Event) (told : List Reply) → HubRun old env events told new after → KeepsConstants old new
+run_constants = through_run KeepsConstants same_constants constants_on event_constants

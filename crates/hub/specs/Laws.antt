@@ -1,14 +1,17 @@
 -- Words of the laws of a hub.
-use Rattle.std.specs.Prelude.{◌≡◌, ◌⊎◌, true, false, ℕ, List, [], ◌∷◌}
+use Rattle.std.specs.Prelude.{◌≡◌, ◌⊎◌, true, false, ℕ, List, [], ◌∷◌, ◌++◌, None, Contains, length}
 use Rattle.std.specs.FinMap.{get}
 use Rattle.svnpath.specs.Paths.{PathValue}
 use Rattle.repo_api.specs.Merge.{is_changed}
 use Rattle.repo_api.specs.Marks.{shown, own_of}
-use Rattle.repo_api.specs.Commits.{next_tree, committed}
+use Rattle.repo_api.specs.Commits.{commit_refusal, next_tree, committed}
+use Rattle.repo_api.specs.Properties.{PropertyList}
 use Rattle.repo_api.specs.declared.ask.CommitAsk.{CommitAsk}
 use Rattle.repo_api.specs.States.{RepoState, TxnState, tree_at, youngest}
-use Rattle.repo_api.specs.Accepted.{Accepted, changed}
 use Rattle.repo_api.specs.Opening.{opened}
+use Rattle.refusals.specs.declared.Refusal.{Refusal}
+use Rattle.replies.specs.declared.reply.Reply.{Reply}
+use Rattle.replies.specs.declared.reply.Reply.TheVariants.{CommitInfo, Failure}
 use Rattle.edit_rules.specs.Soundness.{AreSound}
 use Rattle.machine.specs.Settings.{Settings}
 use Rattle.machine.specs.Stages.{SessionState}
@@ -23,13 +26,41 @@ new_hub settings uuid date = record {
   settings = settings;
   content = opened uuid date;
   halted = false;
+  failures = 0;
   sessions = [];
   used = 0;
 }
 
--- a change was accepted, and this is what it made of the repository
-abbrev pub IsAccepted : RepoState → RepoState → Type 0
-IsAccepted old new = (e : Accepted) × (new ≡ changed old e)
+-- one of these replies is a failure
+abbrev pub TellsFailure : List Reply → Type 0
+TellsFailure told = (r : Refusal) × Contains told (Failure r)
+
+-- a commit that the rules accept
+pub record IsCommit (old new : RepoState) : Type 0 where
+  pub ask : CommitAsk
+  pub txn : TxnState
+  pub accepted : commit_refusal old ask txn ≡ None
+  pub is : new ≡ committed old ask txn
+
+-- a commit that the rules accept, and whose number, date and author are told
+pub record IsToldCommit (old : RepoState) (told : List Reply) (new : RepoState) : Type 0 where
+  pub commit : IsCommit old new
+  pub info : Contains told (CommitInfo (length old.revisions) commit.ask.date commit.ask.author)
+
+-- one repository after another, each made of the one before it by a commit that the rules accept
+abbrev pub MakesCommits : RepoState → List RepoState → RepoState → Type 0
+MakesCommits old [] new = new ≡ old
+MakesCommits old (next ∷ more) new = IsCommit old next × MakesCommits next more new
+
+-- what nothing changes: the settings, the repository's name among all repositories, and its locks
+pub record KeepsConstants (old new : HubState) : Type 0 where
+  pub settings : new.settings ≡ old.settings
+  pub uuid : new.content.uuid ≡ old.content.uuid
+  pub locks : new.content.locks ≡ old.content.locks
+
+-- each revision that is there keeps its properties
+abbrev pub KeepsProperties : RepoState → RepoState → Type 0
+KeepsProperties old new = (more : List PropertyList) × (new.properties ≡ old.properties ++ more)
 
 -- the edit of each session, if it has one, has a tree
 abbrev pub AllSound : List (ℕ × SessionState) → Type 0

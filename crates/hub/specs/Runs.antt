@@ -1,10 +1,10 @@
 -- What happens to a hub, one event after another.
-use Rattle.std.specs.Prelude.{◌≡◌, ℕ, ◌+◌, Bool, List, [], ◌∷◌, ◌++◌, Option, Some, None}
+use Rattle.std.specs.Prelude.{◌≡◌, ℕ, ◌+◌, List, [], ◌∷◌, ◌++◌, Option, Some, None}
 use Rattle.replies.specs.declared.reply.Reply.{Reply}
 use Rattle.replies.specs.declared.reply.Reply.TheVariants.{Greeting}
 use Rattle.machine.specs.Hearing.{Input, Comes, IsSettled}
 use Rattle.machine.specs.Stages.{SessionState}
-use Rattle.machine.specs.Machine.{Verdict, Answer, InputStep, print, content_after, halted_after}
+use Rattle.machine.specs.Machine.{Answer, InputStep, Counts, print, content_after, halted_after}
 use Rattle.machine.specs.declared.env.Env.{Env}
 use Rattle.machine.specs.declared.phase.Phase.TheVariants.{Greeted}
 use Rattle.hub.specs.State.{HubState, session_of, updated, without, kept}
@@ -15,39 +15,40 @@ pub data Event : Type 0 where
   Gets : ℕ → Input → Event
   Drops : ℕ → Event
 
--- the hub after an answer to a session
-abbrev pub answered : HubState → ℕ → SessionState → Answer → HubState
-answered h n s a = record h {
+-- the hub after an answer to a session, when the store has failed so often
+abbrev pub answered : HubState → ℕ → SessionState → Answer → ℕ → HubState
+answered h n s a failures = record h {
   content = content_after h.content a.effect;
   halted = halted_after h.halted a.effect;
+  failures = failures;
   sessions = kept h.sessions n (record { rest = s.rest; phase = a.phase });
 }
 
 -- an input of an open session, or of one that has ended, which is dropped
-abbrev pub InputHappens : (Verdict → Bool) → HubState → Env → ℕ → Option SessionState → Input → List Reply → HubState → Env → Type 0
-InputHappens may old env n None input told new env' = (told ≡ []) × (new ≡ old) × (env' ≡ env)
-InputHappens may old env n (Some s) input told new env' =
-    (a : Answer) × InputStep may old.settings env old.content s.phase input a × (told ≡ a.replies) × (env' ≡ a.env) × (new ≡ answered old n s a)
+abbrev pub InputHappens : HubState → Env → ℕ → Option SessionState → Input → List Reply → HubState → Env → Type 0
+InputHappens old env n None input told new env' = (told ≡ []) × (new ≡ old) × (env' ≡ env)
+InputHappens old env n (Some s) input told new env' =
+    (a : Answer) × InputStep old.halted old.settings env old.content s.phase input a × (told ≡ a.replies) × (env' ≡ a.env)
+    × (failures : ℕ) × Counts a.effect.store old.failures failures × (new ≡ answered old n s a failures)
 
 -- a session that has heard nothing
 abbrev pub new_session : SessionState
 new_session = record { rest = []; phase = Greeted }
 
--- From old, with these words left, the event may draw these replies and lead to new, where the store may say
--- so of a change.
-abbrev pub HubStep : (Verdict → Bool) → HubState → Env → Event → List Reply → HubState → Env → Type 0
-HubStep may old env (Connects n) told new env' =
+-- From old, with these words left, the event may draw these replies and lead to new.
+abbrev pub HubStep : HubState → Env → Event → List Reply → HubState → Env → Type 0
+HubStep old env (Connects n) told new env' =
     (n ≡ old.used + 1) × (told ≡ Greeting ∷ []) × (env' ≡ env)
     × (new ≡ record old { sessions = old.sessions ++ (n, new_session) ∷ []; used = n })
-HubStep may old env (Gets n input) told new env' = InputHappens may old env n (session_of old.sessions n) input told new env'
-HubStep may old env (Drops n) told new env' = (told ≡ []) × (env' ≡ env) × (new ≡ record old { sessions = without old.sessions n })
+HubStep old env (Gets n input) told new env' = InputHappens old env n (session_of old.sessions n) input told new env'
+HubStep old env (Drops n) told new env' = (told ≡ []) × (env' ≡ env) × (new ≡ record old { sessions = without old.sessions n })
 
 -- one event after another
-abbrev pub HubRun : (Verdict → Bool) → HubState → Env → List Event → List Reply → HubState → Env → Type 0
-HubRun may old env [] told new env' = (told ≡ []) × (new ≡ old) × (env' ≡ env)
-HubRun may old env (e ∷ es) told new env' =
-    (first : List Reply) × (mid : HubState) × (env'' : Env) × (more : List Reply) × HubStep may old env e first mid env''
-    × HubRun may mid env'' es more new env' × (told ≡ first ++ more)
+abbrev pub HubRun : HubState → Env → List Event → List Reply → HubState → Env → Type 0
+HubRun old env [] told new env' = (told ≡ []) × (new ≡ old) × (env' ≡ env)
+HubRun old env (e ∷ es) told new env' =
+    (first : List Reply) × (mid : HubState) × (env'' : Env) × (more : List Reply) × HubStep old env e first mid env''
+    × HubRun mid env'' es more new env' × (told ≡ first ++ more)
 
 -- these are the events of a session's inputs, in their order
 abbrev pub InputsAre : ℕ → List Input → List Event → Type 0
@@ -68,7 +69,7 @@ IfOpen None rest = Unit {0}
 IfOpen (Some s) rest = IsSettled rest
 
 -- a piece of a session's stream, whose inputs draw this output
-pub record Feeds (may : Verdict → Bool) (old : HubState) (env : Env) (n : ℕ) (piece out : List ℕ) (new : HubState) : Type 0 where
+pub record Feeds (old : HubState) (env : Env) (n : ℕ) (piece out : List ℕ) (new : HubState) : Type 0 where
   pub session : SessionState
   pub is_session : session_of old.sessions n ≡ Some session
   pub inputs : List Input
@@ -79,11 +80,11 @@ pub record Feeds (may : Verdict → Bool) (old : HubState) (env : Env) (n : ℕ)
   pub events_are : InputsAre n inputs events
   pub told : List Reply
   pub env_after : Env
-  pub run : HubRun may (heard old n session rest) env events told new env_after
+  pub run : HubRun (heard old n session rest) env events told new env_after
   pub written : out ≡ print told
 
 -- for want of memory some of the piece's inputs happened in order, and then the session was dropped
-pub record Breaks (may : Verdict → Bool) (old : HubState) (env : Env) (n : ℕ) (piece : List ℕ) (new : HubState) : Type 0 where
+pub record Breaks (old : HubState) (env : Env) (n : ℕ) (piece : List ℕ) (new : HubState) : Type 0 where
   pub session : SessionState
   pub is_session : session_of old.sessions n ≡ Some session
   pub inputs : List Input
@@ -93,4 +94,4 @@ pub record Breaks (may : Verdict → Bool) (old : HubState) (env : Env) (n : ℕ
   pub events_are : InputsAre n inputs events
   pub told : List Reply
   pub env_after : Env
-  pub run : HubRun may (heard old n session rest) env (events ++ Drops n ∷ []) told new env_after
+  pub run : HubRun (heard old n session rest) env (events ++ Drops n ∷ []) told new env_after

@@ -1,6 +1,7 @@
 -- The state of a hub: what the repository contains, and its open sessions.
 use Rattle.std.specs.Prelude.{◌≡◌, ℕ, Bool, true, List, [], ◌∷◌, Option, Some, None, if◌then◌else◌, ◌==◌, not, filter, ◌<◌, length, slice_get, slice_set}
 use Rattle.repo_api.specs.States.{RepoState}
+use Rattle.machine.specs.Points.{Point, world}
 use Rattle.machine.specs.Settings.{Settings}
 use Rattle.machine.specs.Stages.{SessionState, is_open, RestsOn}
 
@@ -9,10 +10,23 @@ pub record HubState : Type 0 where
   pub content : RepoState
   -- no change is made any more
   pub halted : Bool
+  -- how often the store has failed
+  pub failures : ℕ
   -- the open sessions by their numbers
   pub sessions : List (ℕ × SessionState)
   -- how many numbers were used
   pub used : ℕ
+
+-- the hub at a point of its repository
+abbrev pub hub_at : Settings → Point → List (ℕ × SessionState) → ℕ → HubState
+hub_at settings point sessions used = record {
+  settings = settings;
+  content = world point;
+  halted = point.halted;
+  failures = point.failures;
+  sessions = sessions;
+  used = used;
+}
 
 -- the session of a number, if it is open
 abbrev pub session_of : List (ℕ × SessionState) → ℕ → Option SessionState

@@ -1,7 +1,7 @@
 //! Any calls of any sessions.
-ghost use Rattle.std.specs.Prelude.{IfOk};
+ghost use Rattle.std.specs.Prelude.{IfOk, OnErr};
 ghost use Rattle.std.specs.List.{All};
-ghost use Rattle.hub.specs.Calls.{CallStep, CallRun, IsTimely};
+ghost use Rattle.hub.specs.Calls.{CallStep, CallRun, BeginsCalls, IsTimely};
 
 use crate::hub::{Hub, HubFault, SessionId};
 use machine::{Env, SoleAccess};
@@ -27,7 +27,7 @@ pub enum Outcome {
 /// Makes one call.
 pub fn make_call<A: SoleAccess>(hub: &mut Hub<A>, call: &Call) -> Outcome
     requires { IsTimely call.now }
-    ensures { CallStep A.may hub.old call.now result hub.new }
+    ensures { CallStep hub.old call.now result hub.new }
 {
     match call {
         Call::Connect => match hub.connect() {
@@ -46,14 +46,16 @@ pub fn make_call<A: SoleAccess>(hub: &mut Hub<A>, call: &Call) -> Outcome
 }
 
 /// Makes calls in order. Whatever bytes the sessions send, cut and interleaved however, what is written and
-/// what is left are those of one run of the machine.
+/// what is left are those of one run of the machine. Where memory is refused, some of the calls were made, from the
+/// first on.
 pub fn make_calls<A: SoleAccess>(
     alloc: Global,
     hub: &mut Hub<A>,
     calls: &[Call],
 ) -> Result<Vec<Outcome>, AllocError>
     requires { All IsTimely calls.now }
-    ensures { IfOk result (λ outcomes. CallRun A.may hub.old calls.now outcomes.items hub.new) }
+    ensures ok { IfOk result (λ outcomes. CallRun hub.old calls.now outcomes.items hub.new) }
+    ensures err { OnErr result (BeginsCalls hub.old calls.now hub.new) }
 {
     let mut outcomes = Vec::new(alloc);
     for call in calls {

@@ -21,27 +21,25 @@ impl<R: Repository> Direct<R> {
 }
 
 impl<R: Repository> RepoAccess for Direct<R> {
-    ghost use Rattle.std.specs.Prelude.{◌≡◌, [], refl, false};
-    ghost use Rattle.repo_api.specs.Accepted.{changed};
-    ghost use Rattle.machine.specs.Points.{world};
-    ghost use Rattle.hub.specs.Alone.{same_keeps, adds_counts, always_goes};
+    ghost use Rattle.std.specs.Prelude.{◌≡◌, refl};
     ghost use Rattle.std.proofs.Common.{◌∙◌};
+    ghost use Rattle.hub.specs.Alone.{point_at, point_after, same_keeps, same_lasts, adds_counts};
 
     type View = R;
 
-    ghost point = { λ d. record { first = R.content d.repository; changes = []; halted = false } };
+    ghost point = { λ d. point_at (R.content d.repository) };
 
     ghost between = { λ p q. q ≡ p };
 
-    ghost adds = { λ p e q. q ≡ record { first = changed (world p) e; changes = []; halted = p.halted } };
-
-    ghost may = { always_goes };
+    ghost adds = { λ p e q. q ≡ point_after p e };
 
     ghost stays = { λ p. refl };
 
     ghost goes_on = { λ p q r a b. b ∙ a };
 
     ghost keeps = { same_keeps };
+
+    ghost lasts = { same_lasts };
 
     ghost counts = { adds_counts };
 

@@ -1,11 +1,11 @@
 //! Many sessions over one repository.
 ghost use Rattle.std.specs.Prelude.{◌≡◌, if◌then◌else◌, ◌+◌, ◌<◌, ◌≤◌, ◌++◌, [], ◌∷◌, ℕ, Bool, true, false, not, ◌&&◌, length, MatchOption, IfOk, IfErr, OnOk, OnErr, None, is_some};
 ghost use Rattle.machine.specs.Points.{world};
-ghost use Rattle.machine.specs.Settings.{Settings};
 ghost use Rattle.machine.specs.Machine.{print};
 ghost use Rattle.machine.specs.declared.env.Env.{Env};
 ghost use Rattle.replies.specs.declared.reply.Reply.TheVariants.{Greeting};
-ghost use Rattle.hub.specs.State.{session_of, without, Finds, AllOpen, AllRest};
+ghost use Rattle.hub.specs.State.{hub_at, session_of, without, Finds, AllOpen, AllRest};
+ghost use Rattle.hub.specs.Alone.{point_at};
 ghost use Rattle.hub.specs.Runs.{HubStep, Feeds, Breaks, new_session};
 ghost use Rattle.hub.specs.Runs.Event.{Drops};
 ghost use Rattle.hub.specs.Calls.{ConnectsAs, ConnectFails, FeedsAs, FeedFails};
@@ -93,36 +93,6 @@ fn greeting(alloc: Global) -> Result<Vec<u8>, AllocError>
     Ok(out)
 }
 
-/// Feeds an open session; one that has ended then is dropped.
-fn feed_open<A: SoleAccess>(
-    alloc: Global,
-    options: &Options,
-    sessions: &mut Vec<(SessionId, Session<A::View>)>,
-    number: SessionId,
-    i: usize,
-    access: &mut A,
-    piece: &[u8],
-    env: Env,
-) -> Result<Vec<u8>, AllocError>
-    requires found { Finds sessions.old.items number i }
-    requires open { AllOpen sessions.old.items }
-    requires rests { AllRest (world (A.point access.old)) sessions.old.items }
-    requires moment { env.moment ≤ 200000000000000000 }
-    ensures ok { IfOk result (λ out. (used : ℕ) → Feeds A.may (record { settings = options.now; content = world (A.point access.old); halted = (A.point access.old).halted; sessions = sessions.old.items; used = used }) env number piece.now out.items (record { settings = options.now; content = world (A.point access.new); halted = (A.point access.new).halted; sessions = sessions.new.items; used = used })) }
-    ensures err { OnErr result ((used : ℕ) → Breaks A.may (record { settings = options.now; content = world (A.point access.old); halted = (A.point access.old).halted; sessions = sessions.old.items; used = used }) env number piece.now (record { settings = options.now; content = world (A.point access.new); halted = (A.point access.new).halted; sessions = sessions.new.items; used = used })) }
-    ensures open { AllOpen sessions.new.items }
-    ensures rests { AllRest (world (A.point access.new)) sessions.new.items }
-{
-    let entry = &mut sessions[i];
-    let fed = entry.1.feed(alloc, options, piece, access, env);
-    let is_open = entry.1.is_open();
-    drop_unless(is_open, sessions, number);
-    match fed {
-        Ok(out) => Ok(out),
-        Err(_) => Err(AllocError),
-    }
-}
-
 /// One repository and its open sessions. `A` is how the repository is reached.
 #[derive(Drop)]
 pub struct Hub<A: SoleAccess> {
@@ -137,13 +107,13 @@ impl<A: SoleAccess> Model for Hub<A> {
     ghost use Rattle.std.specs.Coded.{codes};
     ghost use Rattle.std.specs.FinMap.{code as map_code};
     ghost use Rattle.machine.specs.Points.{world};
-    ghost use Rattle.hub.specs.State.{HubState, AllOpen, AllRest};
+    ghost use Rattle.hub.specs.State.{HubState, hub_at, AllOpen, AllRest};
 
     ghost Value = { HubState };
 
     ghost coded = { Prim.hlevel (map_code, codes) };
 
-    ghost view = { λ h. record { settings = h.options; content = world (A.point h.access); halted = (A.point h.access).halted; sessions = h.sessions.items; used = h.used } };
+    ghost view = { λ h. hub_at h.options (A.point h.access) h.sessions.items h.used };
 
     ghost invariant = { λ h. AllOpen h.sessions.items × AllRest (world (A.point h.access)) h.sessions.items };
 }
@@ -151,7 +121,8 @@ impl<A: SoleAccess> Model for Hub<A> {
 impl<R: Repository> Hub<Direct<R>> {
     /// A hub without sessions over a repository in memory that nobody else has.
     pub fn over(alloc: Global, repository: R, options: Options) -> Result<Self, HubFault>
-        ensures { IfOk result (λ hub. hub ≡ record { settings = options; content = R.content repository; halted = false; sessions = []; used = 0 }) }
+        ensures ok { IfOk result (λ hub. hub ≡ hub_at options (point_at (R.content repository)) [] 0) }
+        ensures err { IfErr result (λ fault. fault ≡ HubFault.NoMemory) }
     {
         Ok(Hub::with_access(alloc, Direct::new(repository), options))
     }
@@ -160,7 +131,7 @@ impl<R: Repository> Hub<Direct<R>> {
 impl<A: SoleAccess> Hub<A> {
     /// A hub without sessions over what an access reaches.
     pub fn with_access(alloc: Global, access: A, options: Options) -> Self
-        ensures { result ≡ record { settings = options; content = world (A.point access); halted = (A.point access).halted; sessions = []; used = 0 } }
+        ensures { result ≡ hub_at options (A.point access) [] 0 }
     {
         Hub {
             alloc,
@@ -171,9 +142,18 @@ impl<A: SoleAccess> Hub<A> {
         }
     }
 
+    /// How the repository is reached.
+    pub fn access(&self) -> &A
+        ensures content { world (A.point result.now) ≡ self.now.content }
+        ensures halted { (A.point result.now).halted ≡ self.now.halted }
+        ensures failures { (A.point result.now).failures ≡ self.now.failures }
+    {
+        &self.access
+    }
+
     /// A new session: its number and the greeting that is written to its client.
     pub fn connect(&mut self) -> Result<(SessionId, Vec<u8>), HubFault>
-        ensures ok { IfOk result (λ r. ConnectsAs A.may self.old r.0 r.1.items self.new) }
+        ensures ok { IfOk result (λ r. ConnectsAs self.old r.0 r.1.items self.new) }
         ensures err { IfErr result (λ e. ConnectFails self.old e self.new) }
     {
         if self.access.is_halted() {
@@ -195,11 +175,36 @@ impl<A: SoleAccess> Hub<A> {
         }
     }
 
+    /// Feeds the open session at this place; one that has ended then is dropped.
+    fn feed_open(
+        &mut self,
+        number: SessionId,
+        i: usize,
+        piece: &[u8],
+        env: Env,
+    ) -> Result<Vec<u8>, AllocError>
+        requires found { Finds self.old.sessions number i }
+        requires moment { env.moment ≤ 200000000000000000 }
+        ensures ok { IfOk result (λ out. Feeds self.old env number piece.now out.items self.new) }
+        ensures err { OnErr result (Breaks self.old env number piece.now self.new) }
+    {
+        let entry = &mut self.sessions[i];
+        let fed = entry
+            .1
+            .feed(self.alloc, &self.options, piece, &mut self.access, env);
+        let is_open = entry.1.is_open();
+        drop_unless(is_open, &mut self.sessions, number);
+        match fed {
+            Ok(out) => Ok(out),
+            Err(_) => Err(AllocError),
+        }
+    }
+
     /// Feeds a piece of what a client sends to its session, and answers what is written to it.
     pub fn feed(&mut self, number: SessionId, piece: &[u8], env: Env) -> Result<Vec<u8>, HubFault>
         requires { env.moment ≤ 200000000000000000 }
-        ensures ok { IfOk result (λ out. FeedsAs A.may self.old env number piece.now out.items self.new) }
-        ensures err { IfErr result (λ e. FeedFails A.may self.old env number piece.now e self.new) }
+        ensures ok { IfOk result (λ out. FeedsAs self.old env number piece.now out.items self.new) }
+        ensures err { IfErr result (λ e. FeedFails self.old env number piece.now e self.new) }
     {
         if self.access.is_halted() {
             return Err(HubFault::Halted);
@@ -207,16 +212,7 @@ impl<A: SoleAccess> Hub<A> {
         let Some(i) = place(&self.sessions, number) else {
             return Err(HubFault::NoSession);
         };
-        match feed_open(
-            self.alloc,
-            &self.options,
-            &mut self.sessions,
-            number,
-            i,
-            &mut self.access,
-            piece,
-            env,
-        ) {
+        match self.feed_open(number, i, piece, env) {
             Ok(out) => Ok(out),
             Err(_) => Err(HubFault::NoMemory),
         }
@@ -231,7 +227,7 @@ impl<A: SoleAccess> Hub<A> {
 
     /// Drops a session; a number that isn't open changes nothing.
     pub fn disconnect(&mut self, number: SessionId)
-        ensures { (env : Env) → HubStep A.may self.old env (Drops number) [] self.new env }
+        ensures { (env : Env) → HubStep self.old env (Drops number) [] self.new env }
     {
         drop_session(&mut self.sessions, number);
     }

@@ -8,7 +8,7 @@ use Rattle.items.specs.declared.scan.Defect.{Defect}
 use Rattle.items.specs.declared.scan.Defect.TheVariants as defects
 use Rattle.items.specs.declared.reader.ItemFault.{ItemFault}
 use Rattle.items.specs.declared.reader.ItemFault.TheVariants as faults
-use Rattle.machine.specs.Hearing.{Input, IsBroken, Comes, IsSettled}
+use Rattle.machine.specs.Hearing.{Input, IsBroken, Comes, IsSettled, EndsBroken}
 use Rattle.machine.specs.Hearing.Input.{Whole, Broken}
 
 abbrev pub unread : List ℕ → Unread
@@ -54,3 +54,28 @@ module _ (one : (t u : Tree) (a b x y : List ℕ) → IsItem limits t a → IsIt
       (λ i. Whole (o.0 i) ∷ more.0 i, more.1)
   once stream (Whole t ∷ xs) (Broken ∷ ys) rest end (a, (front, item, whole), come) (b, (broken, same), come') p q = absurd (broken.no_item t front a item whole)
   once stream (Broken ∷ xs) ys rest end (a, (broken, same), come) come' p q = absurd (never stream (Broken ∷ xs) rest broken (a, (broken, same), come) p)
+
+  -- up to the byte that goes on to no item a stream brings its inputs in one way too
+  pub once_broken : (stream : List ℕ) (xs ys : List Input) (rest end : List ℕ) → Comes stream xs rest → Comes stream ys end → EndsBroken xs → EndsBroken ys → (xs ≡ ys) × (rest ≡ end)
+  once_broken stream [] ys rest end e f p q = absurd p
+  once_broken stream (Whole t ∷ xs) [] rest end e f p q = absurd q
+  once_broken stream (Broken ∷ xs) [] rest end e f p q = absurd q
+  once_broken stream (Whole t ∷ xs) (Whole u ∷ ys) rest end (a, (front, item, whole), come) (b, (front', item', whole'), come') p q =
+      let o = one t u front front' a b item item' (sym whole ∙ whole') in
+      let more = once_broken a xs ys rest end come (subst (λ (x : List ℕ). Comes x ys end) (sym o.1) come') p q in
+      (λ i. Whole (o.0 i) ∷ more.0 i, more.1)
+  once_broken stream (Whole t ∷ xs) (Broken ∷ ys) rest end (a, (front, item, whole), come) (b, (broken, same), come') p q = absurd (broken.no_item t front a item whole)
+  once_broken stream (Broken ∷ xs) (Whole u ∷ ys) rest end (a, (broken, same), come) (b, (front, item, whole), come') p q = absurd (broken.no_item u front b item whole)
+  once_broken stream (Broken ∷ []) (Broken ∷ []) rest end (a, (broken, same), come) (b, (broken', same'), come') p q = (refl, come ∙ same ∙ sym same' ∙ sym come')
+  once_broken stream (Broken ∷ []) (Broken ∷ y ∷ ys) rest end e f p q = absurd q
+  once_broken stream (Broken ∷ x ∷ xs) (Broken ∷ ys) rest end e f p q = absurd p
+
+  -- and it never comes to rest
+  pub no_rest : (stream : List ℕ) (xs ys : List Input) (rest end : List ℕ) → Comes stream xs rest → EndsBroken xs → Comes stream ys end → IsSettled end → ⊥
+  no_rest stream [] ys rest end e p f q = p
+  no_rest stream (Whole t ∷ xs) [] rest end (a, (front, item, whole), come) p f q = (subst (λ (x : List ℕ). IsSettled x) f q).no_item t front a item whole
+  no_rest stream (Whole t ∷ xs) (Whole u ∷ ys) rest end (a, (front, item, whole), come) p (b, (front', item', whole'), come') q =
+      let o = one t u front front' a b item item' (sym whole ∙ whole') in
+      no_rest a xs ys rest end come p (subst (λ (x : List ℕ). Comes x ys end) (sym o.1) come') q
+  no_rest stream (Whole t ∷ xs) (Broken ∷ ys) rest end (a, (front, item, whole), come) p (b, (broken, same), come') q = broken.no_item t front a item whole
+  no_rest stream (Broken ∷ xs) ys rest end (a, (broken, same), come) p f q = never stream ys end broken f q

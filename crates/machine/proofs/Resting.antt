@@ -1,5 +1,5 @@
 -- An edit rests on revisions that stay.
-use Rattle.std.proofs.Common.{◌≡◌, ℕ, List, [], ◌++◌, Bool, true, false, Option, Some, None, refl, sym, ap, subst, ◌∙◌, append-nil, append_assoc}
+use Rattle.std.proofs.Common.{◌≡◌, ℕ, List, [], ◌∷◌, ◌++◌, Bool, true, false, Option, Some, None, refl, sym, ap, subst, ◌∙◌, append-nil, append_assoc}
 use Rattle.std.specs.Prelude.{Result, Ok, Err, if◌then◌else◌, codes}
 use Rattle.svnpath.specs.Paths.{PathValue}
 use Rattle.svnpath.specs.Urls.{path_of_text, root_of_text}
@@ -7,7 +7,7 @@ use Rattle.svnpath.specs.declared.fault.PathFault.{PathFault}
 use Rattle.refusals.specs.declared.Refusal.{Refusal}
 use Rattle.repo_api.specs.States.{RepoState, TxnState, Fixed, IsBeginning}
 use Rattle.repo_api.specs.Commits.{commit_refusal}
-use Rattle.repo_api.specs.Accepted.{Accepted, changed}
+use Rattle.repo_api.specs.Accepted.{Accepted, changed, changed_all}
 use Rattle.repo_api.specs.Accepted.Accepted.{Commits}
 use Rattle.repo_api.specs.declared.edit.EditOp.{EditOp}
 use Rattle.forms.specs.Forms.{is_name}
@@ -33,9 +33,8 @@ use Rattle.machine.specs.Stages.{Stage, RestsOn}
 use Rattle.machine.specs.Hearing.{Input}
 use Rattle.machine.specs.Hearing.Input.{Whole, Broken}
 use Rattle.machine.specs.Machine.{Verdict, Effect, Answer, InputStep, Edits, CommitStep, CloseStep, CommandStep, EditingStep, ending_of, content_after, says, speaks, url_answer, greeting_answer, login_answer, command_answer, asked_by, lock_tokens, commit_begins, commit_ask, commit_answer, skipping_answer}
-use Rattle.machine.specs.Machine.Effect.{Nothing, Changes, HaltsChanges}
 use Rattle.machine.specs.Machine.Verdict.{Went, Failed, Halts}
-use Rattle.machine.specs.Access.{Served, Moves}
+use Rattle.machine.specs.Access.{Served, AddsAll, Stores, Moves}
 use Rattle.machine.specs.declared.asked.Asked.{Asked}
 use Rattle.machine.specs.declared.env.Env.{Env}
 use Rattle.machine.specs.declared.ending.Ending.{Ending}
@@ -161,71 +160,78 @@ rests_committed env c client asked t date Went = tt
 rests_committed env c client asked t date Failed = tt
 rests_committed env c client asked t date Halts = tt
 
-rests_commit : (may : Verdict → Bool) (env : Env) (c : RepoState) (client : Client) (asked : Asked) (t : TxnState)
-    (date : List ℕ) (r : Option Refusal) (a : Answer) → CommitStep may env c client asked t date r a → RestsOn a.phase c
-rests_commit may env c client asked t date (Some r) a is = rests_is c a _ is tt
-rests_commit may env c client asked t date None a (v, allowed, is) = rests_is c a _ is (rests_committed env c client asked t date v)
+rests_commit : (halted : Bool) (env : Env) (c : RepoState) (client : Client) (asked : Asked) (t : TxnState)
+    (date : List ℕ) (r : Option Refusal) (a : Answer) → CommitStep halted env c client asked t date r a → RestsOn a.phase c
+rests_commit true env c client asked t date r a is = rests_is c a _ is tt
+rests_commit false env c client asked t date (Some r) a is = rests_is c a _ is tt
+rests_commit false env c client asked t date None a (v, is) = rests_is c a _ is (rests_committed env c client asked t date v)
 
-rests_close : (may : Verdict → Bool) (env : Env) (c : RepoState) (client : Client) (asked : Asked) (r : Result TxnState Refusal) (a : Answer)
-    → CloseStep may env c client asked r a → RestsOn a.phase c
-rests_close may env c client asked (Ok t) a (date, is_date, step) =
-    rests_commit may env c client asked t date (commit_refusal c (commit_ask client asked date) t) a step
-rests_close may env c client asked (Err r) a is = rests_is c a _ is tt
+rests_close : (halted : Bool) (env : Env) (c : RepoState) (client : Client) (asked : Asked) (r : Result TxnState Refusal) (a : Answer)
+    → CloseStep halted env c client asked r a → RestsOn a.phase c
+rests_close halted env c client asked (Ok t) a (date, is_date, step) =
+    rests_commit halted env c client asked t date (commit_refusal c (commit_ask client asked date) t) a step
+rests_close halted env c client asked (Err r) a is = rests_is c a _ is tt
 
-rests_told : (may : Verdict → Bool) (env : Env) (c : RepoState) (client : Client) (asked : Asked) (edit : EditState) (command : EditorCommand) (ending : Option Ending) (a : Answer)
-    → EditRestsOn edit c → CommandStep may env c client asked edit command ending a → RestsOn a.phase c
-rests_told may env c client asked edit command None a rests step = rests_edits env c client asked edit command (edit_refusal c edit command) a rests step
-rests_told may env c client asked edit command (Some ToCommit) a rests step = rests_close may env c client asked (finished edit) a step
-rests_told may env c client asked edit command (Some GivesUp) a rests is = rests_is c a _ is tt
+rests_told : (halted : Bool) (env : Env) (c : RepoState) (client : Client) (asked : Asked) (edit : EditState) (command : EditorCommand) (ending : Option Ending) (a : Answer)
+    → EditRestsOn edit c → CommandStep halted env c client asked edit command ending a → RestsOn a.phase c
+rests_told halted env c client asked edit command None a rests step = rests_edits env c client asked edit command (edit_refusal c edit command) a rests step
+rests_told halted env c client asked edit command (Some ToCommit) a rests step = rests_close halted env c client asked (finished edit) a step
+rests_told halted env c client asked edit command (Some GivesUp) a rests is = rests_is c a _ is tt
 
-rests_editing : (may : Verdict → Bool) (env : Env) (c : RepoState) (client : Client) (asked : Asked) (edit : EditState) (r : Result EditorCommand CommandFault) (a : Answer)
-    → EditRestsOn edit c → EditingStep may env c client asked edit r a → RestsOn a.phase c
-rests_editing may env c client asked edit (Ok command) a rests step = rests_told may env c client asked edit command (ending_of command) a rests step
-rests_editing may env c client asked edit (Err UnknownName) a rests is = rests_is c a _ is tt
-rests_editing may env c client asked edit (Err BadParameters) a rests is = rests_is c a _ is tt
-rests_editing may env c client asked edit (Err NoMemory) a rests is = rests_is c a _ is tt
+rests_editing : (halted : Bool) (env : Env) (c : RepoState) (client : Client) (asked : Asked) (edit : EditState) (r : Result EditorCommand CommandFault) (a : Answer)
+    → EditRestsOn edit c → EditingStep halted env c client asked edit r a → RestsOn a.phase c
+rests_editing halted env c client asked edit (Ok command) a rests step = rests_told halted env c client asked edit command (ending_of command) a rests step
+rests_editing halted env c client asked edit (Err UnknownName) a rests is = rests_is c a _ is tt
+rests_editing halted env c client asked edit (Err BadParameters) a rests is = rests_is c a _ is tt
+rests_editing halted env c client asked edit (Err NoMemory) a rests is = rests_is c a _ is tt
 
 -- ---- an input
 
-rests_step : (may : Verdict → Bool) (s : Settings) (env : Env) (c : RepoState) (phase : Stage) (input : Input) (a : Answer) → RestsOn phase c → InputStep may s env c phase input a → RestsOn a.phase c
-rests_step may s env c Greeted (Whole t) a rests is = rests_is c a _ is (rests_greeting c s env (client_greeting t))
-rests_step may s env c (LoggingIn client) (Whole t) a rests is = rests_is c a _ is (rests_login c env client (auth_response t))
-rests_step may s env c (Serving client) (Whole t) a rests is = rests_is c a _ is (rests_command c s env client (main_command t))
-rests_step may s env c (Editing client asked edit) (Whole t) a rests step = rests_editing may env c client asked edit (editor_command t) a rests step
-rests_step may s env c (Skipping client) (Whole t) a rests is = rests_is c a _ is (rests_skipping c env client (ends_edit t))
-rests_step may s env c Greeted Broken a rests is = rests_is c a _ is tt
-rests_step may s env c (LoggingIn client) Broken a rests is = rests_is c a _ is tt
-rests_step may s env c (Serving client) Broken a rests is = rests_is c a _ is tt
-rests_step may s env c (Editing client asked edit) Broken a rests is = rests_is c a _ is tt
-rests_step may s env c (Skipping client) Broken a rests is = rests_is c a _ is tt
-rests_step may s env c Ended input a rests is = rests_is c a _ is tt
+rests_step : (halted : Bool) (s : Settings) (env : Env) (c : RepoState) (phase : Stage) (input : Input) (a : Answer) → RestsOn phase c → InputStep halted s env c phase input a → RestsOn a.phase c
+rests_step halted s env c Greeted (Whole t) a rests is = rests_is c a _ is (rests_greeting c s env (client_greeting t))
+rests_step halted s env c (LoggingIn client) (Whole t) a rests is = rests_is c a _ is (rests_login c env client (auth_response t))
+rests_step halted s env c (Serving client) (Whole t) a rests is = rests_is c a _ is (rests_command c s env client (main_command t))
+rests_step halted s env c (Editing client asked edit) (Whole t) a rests step = rests_editing halted env c client asked edit (editor_command t) a rests step
+rests_step halted s env c (Skipping client) (Whole t) a rests is = rests_is c a _ is (rests_skipping c env client (ends_edit t))
+rests_step halted s env c Greeted Broken a rests is = rests_is c a _ is tt
+rests_step halted s env c (LoggingIn client) Broken a rests is = rests_is c a _ is tt
+rests_step halted s env c (Serving client) Broken a rests is = rests_is c a _ is tt
+rests_step halted s env c (Editing client asked edit) Broken a rests is = rests_is c a _ is tt
+rests_step halted s env c (Skipping client) Broken a rests is = rests_is c a _ is tt
+rests_step halted s env c Ended input a rests is = rests_is c a _ is tt
 
 change_keeps : (c : RepoState) (e : Accepted) → IsBeginning c.revisions (changed c e).revisions
 change_keeps c (Commits ask t) = record { more = _; is = refl }
 
-effect_keeps : (c : RepoState) (e : Effect) → IsBeginning c.revisions (content_after c e).revisions
-effect_keeps c Nothing = begins c.revisions
-effect_keeps c (Changes e) = change_keeps c e
-effect_keeps c HaltsChanges = begins c.revisions
+changes_keep : (c : RepoState) (es : List Accepted) → IsBeginning c.revisions (changed_all c es).revisions
+changes_keep c [] = begins c.revisions
+changes_keep c (e ∷ es) = beginning_trans c.revisions (changed c e).revisions (changed_all (changed c e) es).revisions (change_keeps c e) (changes_keep (changed c e) es)
 
-pub rests_on : (may : Verdict → Bool) (s : Settings) (env : Env) (c : RepoState) (phase : Stage) (input : Input) (a : Answer) → RestsOn phase c → InputStep may s env c phase input a → RestsOn a.phase (content_after c a.effect)
-rests_on may s env c phase input a rests step = rests_trans a.phase c (content_after c a.effect) (rests_step may s env c phase input a rests step) (effect_keeps c a.effect)
+pub rests_on : (halted : Bool) (s : Settings) (env : Env) (c : RepoState) (phase : Stage) (input : Input) (a : Answer) → RestsOn phase c → InputStep halted s env c phase input a → RestsOn a.phase (content_after c a.effect)
+rests_on halted s env c phase input a rests step = rests_trans a.phase c (content_after c a.effect) (rests_step halted s env c phase input a rests step) (changes_keep c a.effect.changes)
 
 module _ (between : Point → Point → Type 0) (adds : Point → Accepted → Point → Type 0)
     (keeps : (p q : Point) → between p q → IsBeginning (world p).revisions (world q).revisions)
-    (counts : (p : Point) (e : Accepted) (q : Point) → adds p e q → (world q ≡ changed (world p) e) × (q.halted ≡ p.halted)) where
-  pub moved : (p : Point) (e : Effect) (q : Point) → Moves adds p e q → world q ≡ content_after (world p) e
-  moved p Nothing q m = ap world m
-  moved p (Changes e) q m = (counts p e q m).0
-  moved p HaltsChanges q m = m.0
+    (counts : (p : Point) (e : Accepted) (q : Point) → adds p e q → (world q ≡ changed (world p) e) × (q.halted ≡ p.halted) × (q.failures ≡ p.failures)) where
+  added : (p : Point) (es : List Accepted) (q : Point) → AddsAll adds p es q → world q ≡ changed_all (world p) es
+  added p [] q is = ap world is
+  added p (e ∷ es) q (mid, first, rest) = added mid es q rest ∙ ap (λ (c : RepoState). changed_all c es) (counts p e mid first).0
 
-  pub rests_served : (may : Verdict → Bool) (s : Settings) (env env' : Env) (p q : Point) (phase after : Stage) (input : Input) (out out' : List ℕ)
-      → Served between adds may s env p phase input out env' q after out' → RestsOn phase (world p) → RestsOn after (world q)
-  rests_served may s env env' p q phase after input out out' h rests =
+  stored : (v : Verdict) (p q : Point) → Stores v p q → world q ≡ world p
+  stored Went p q is = ap world is
+  stored Failed p q failed = failed.same
+  stored Halts p q halt = halt.same
+
+  pub moved : (p : Point) (e : Effect) (q : Point) → Moves adds p e q → world q ≡ content_after (world p) e
+  moved p e q (mid, adds, stores) = stored e.store mid q stores ∙ added p e.changes mid adds
+
+  pub rests_served : (s : Settings) (env env' : Env) (p q : Point) (phase after : Stage) (input : Input) (out out' : List ℕ)
+      → Served between adds s env p phase input out env' q after out' → RestsOn phase (world p) → RestsOn after (world q)
+  rests_served s env env' p q phase after input out out' h rests =
       let a = h.answer in
       let at = h.serves.at in
       let before = rests_trans phase (world p) (world at) rests (keeps p at h.serves.later) in
-      let here = rests_on may s env (world at) phase input a before h.serves.step_is in
+      let here = rests_on at.halted s env (world at) phase input a before h.serves.step_is in
       subst (λ (x : Stage). RestsOn x (world q)) (sym h.phase_after)
       (subst (λ (c : RepoState). RestsOn a.phase c) (sym (moved at a.effect q h.serves.moves)) here)
 

@@ -33,7 +33,7 @@ use Rattle.edit_rules.specs.Editor.{Applies, finished, finished_txn, RestsIn, Re
 use Rattle.edit_rules.specs.Soundness.{AreTrees, AreSound, IsSoundEdit, IsSoundIn}
 use Rattle.machine.specs.Settings.{Settings}
 use Rattle.machine.specs.Stages.{Stage, RestsOn as StageRests}
-use Rattle.machine.specs.Soundness.{IsSound, MeetsBy}
+use Rattle.machine.specs.Soundness.{IsSound, MeetBy}
 use Rattle.machine.specs.Hearing.{Input}
 use Rattle.machine.specs.Hearing.Input.{Whole, Broken}
 use Rattle.machine.specs.Machine.{Verdict, Answer, InputStep, Edits, CommitStep, CloseStep, CommandStep, EditingStep, ending_of, content_after, says, speaks, url_answer, greeting_answer, login_answer, command_answer, asked_by, lock_tokens, commit_begins, commit_ask, commit_answer, skipping_answer}
@@ -49,7 +49,7 @@ trees_more : (rs : List Fixed) (r : Fixed) → AreTrees rs → IsTree (tree_of r
 trees_more [] r trees one = (one, tt)
 trees_more (x ∷ rs) r trees one = (trees.0, trees_more rs r trees.1 one)
 
--- the transaction that is answered where a text delta may not have ended
+-- the transaction that is answered where a text delta halted not have ended
 finished_is_it : (unfinished : Bool) (u t : TxnState) → ◌≡◌ {A = Result TxnState Refusal} (if unfinished then Err refusals.MalformedData else Ok u) (Ok t) → u ≡ t
 finished_is_it true u t is = cc
 finished_is_it false u t is = cc
@@ -82,7 +82,7 @@ youngest_tree c t trees b m =
 
 -- after an answer the repository's trees are trees, and the session's edit is sound
 abbrev pub LeavesTrees : RepoState → Answer → Type 0
-LeavesTrees c a = AreSound (content_after c a.effect).revisions × IsSound a.phase × MeetsBy c a.effect
+LeavesTrees c a = AreSound (content_after c a.effect).revisions × IsSound a.phase × MeetBy c a.effect.changes
 
 leaves_is : (c : RepoState) (a b : Answer) → a ≡ b → LeavesTrees c b → LeavesTrees c a
 leaves_is c a b e r = subst (λ (x : Answer). LeavesTrees c x) (sym e) r
@@ -140,52 +140,53 @@ module _ (begins : (path : PathValue) (name : List ℕ) → IsSoundEdit (new_edi
 
   leaves_committed : (env : Env) (c : RepoState) (client : Client) (asked : Asked) (t : TxnState) (date : List ℕ) (v : Verdict)
       → AreSound c.revisions → MeetWell (trees_in c.revisions) t.base (tree_of t.tree) (youngest c) → LeavesTrees c (commit_answer env c client asked t date v)
-  leaves_committed env c client asked t date Went trees w = ((trees_more c.revisions _ trees.0 (makes_tree c t w), makes_marks c (commit_ask client asked date) t w), tt, w)
+  leaves_committed env c client asked t date Went trees w = ((trees_more c.revisions _ trees.0 (makes_tree c t w), makes_marks c (commit_ask client asked date) t w), tt, (w, tt))
   leaves_committed env c client asked t date Failed trees w = (trees, tt, tt)
   leaves_committed env c client asked t date Halts trees w = (trees, tt, tt)
 
-  leaves_commit : (may : Verdict → Bool) (env : Env) (c : RepoState) (client : Client) (asked : Asked) (t : TxnState)
+  leaves_commit : (halted : Bool) (env : Env) (c : RepoState) (client : Client) (asked : Asked) (t : TxnState)
       (date : List ℕ) (r : Option Refusal) (a : Answer)
       → AreSound c.revisions → IsBeginning t.shown c.revisions → IsMarkedTxn t → IsTree (tree_of t.tree)
       → commit_refusal c (commit_ask client asked date) t ≡ r
-      → CommitStep may env c client asked t date r a → LeavesTrees c a
-  leaves_commit may env c client asked t date (Some r) a trees b m tree judged is = leaves_is c a _ is (trees, tt, tt)
-  leaves_commit may env c client asked t date None a trees b m tree judged (v, allowed, is) =
+      → CommitStep halted env c client asked t date r a → LeavesTrees c a
+  leaves_commit true env c client asked t date r a trees b m tree judged is = leaves_is c a _ is (trees, tt, tt)
+  leaves_commit false env c client asked t date (Some r) a trees b m tree judged is = leaves_is c a _ is (trees, tt, tt)
+  leaves_commit false env c client asked t date None a trees b m tree judged (v, is) =
       let met = meets c (commit_ask client asked date) t trees.1 (youngest_tree c t trees.0 b m) b m tree judged in
       leaves_is c a _ is (leaves_committed env c client asked t date v trees met)
 
-  leaves_close : (may : Verdict → Bool) (env : Env) (c : RepoState) (client : Client) (asked : Asked) (edit : EditState) (r : Result TxnState Refusal) (a : Answer)
-      → AreSound c.revisions → RestsOn edit c → IsSoundEdit edit → finished edit ≡ r → CloseStep may env c client asked r a → LeavesTrees c a
-  leaves_close may env c client asked edit (Ok t) a trees rests sound is (date, is_date, step) =
+  leaves_close : (halted : Bool) (env : Env) (c : RepoState) (client : Client) (asked : Asked) (edit : EditState) (r : Result TxnState Refusal) (a : Answer)
+      → AreSound c.revisions → RestsOn edit c → IsSoundEdit edit → finished edit ≡ r → CloseStep halted env c client asked r a → LeavesTrees c a
+  leaves_close halted env c client asked edit (Ok t) a trees rests sound is (date, is_date, step) =
       let here : edit.txn ≡ Some t = finished_is edit.refused edit.txn edit.tokens t is in
       let s : IsSoundIn (Some t) edit.tokens = subst (λ (o : Option TxnState). IsSoundIn o edit.tokens) here sound in
       let b : IsBeginning t.shown c.revisions = subst (λ (o : Option TxnState). RestsIn o c) here rests in
-      leaves_commit may env c client asked t date (commit_refusal c (commit_ask client asked date) t) a trees b s.2 s.0 refl step
-  leaves_close may env c client asked edit (Err r) a trees rests sound is step = leaves_is c a _ step (trees, tt, tt)
+      leaves_commit halted env c client asked t date (commit_refusal c (commit_ask client asked date) t) a trees b s.2 s.0 refl step
+  leaves_close halted env c client asked edit (Err r) a trees rests sound is step = leaves_is c a _ step (trees, tt, tt)
 
-  leaves_told : (may : Verdict → Bool) (env : Env) (c : RepoState) (client : Client) (asked : Asked) (edit : EditState) (command : EditorCommand) (ending : Option Ending) (a : Answer)
-      → AreSound c.revisions → RestsOn edit c → IsSoundEdit edit → CommandStep may env c client asked edit command ending a → LeavesTrees c a
-  leaves_told may env c client asked edit command None a trees rests sound step = leaves_edits env c client asked edit command (edit_refusal c edit command) a trees rests sound refl step
-  leaves_told may env c client asked edit command (Some Commits) a trees rests sound step = leaves_close may env c client asked edit (finished edit) a trees rests sound refl step
-  leaves_told may env c client asked edit command (Some GivesUp) a trees rests sound is = leaves_is c a _ is (trees, tt, tt)
+  leaves_told : (halted : Bool) (env : Env) (c : RepoState) (client : Client) (asked : Asked) (edit : EditState) (command : EditorCommand) (ending : Option Ending) (a : Answer)
+      → AreSound c.revisions → RestsOn edit c → IsSoundEdit edit → CommandStep halted env c client asked edit command ending a → LeavesTrees c a
+  leaves_told halted env c client asked edit command None a trees rests sound step = leaves_edits env c client asked edit command (edit_refusal c edit command) a trees rests sound refl step
+  leaves_told halted env c client asked edit command (Some Commits) a trees rests sound step = leaves_close halted env c client asked edit (finished edit) a trees rests sound refl step
+  leaves_told halted env c client asked edit command (Some GivesUp) a trees rests sound is = leaves_is c a _ is (trees, tt, tt)
 
-  leaves_editing : (may : Verdict → Bool) (env : Env) (c : RepoState) (client : Client) (asked : Asked) (edit : EditState) (r : Result EditorCommand CommandFault) (a : Answer)
-      → AreSound c.revisions → RestsOn edit c → IsSoundEdit edit → EditingStep may env c client asked edit r a → LeavesTrees c a
-  leaves_editing may env c client asked edit (Ok command) a trees rests sound step = leaves_told may env c client asked edit command (ending_of command) a trees rests sound step
-  leaves_editing may env c client asked edit (Err UnknownName) a trees rests sound is = leaves_is c a _ is (trees, tt, tt)
-  leaves_editing may env c client asked edit (Err BadParameters) a trees rests sound is = leaves_is c a _ is (trees, tt, tt)
-  leaves_editing may env c client asked edit (Err NoMemory) a trees rests sound is = leaves_is c a _ is (trees, tt, tt)
+  leaves_editing : (halted : Bool) (env : Env) (c : RepoState) (client : Client) (asked : Asked) (edit : EditState) (r : Result EditorCommand CommandFault) (a : Answer)
+      → AreSound c.revisions → RestsOn edit c → IsSoundEdit edit → EditingStep halted env c client asked edit r a → LeavesTrees c a
+  leaves_editing halted env c client asked edit (Ok command) a trees rests sound step = leaves_told halted env c client asked edit command (ending_of command) a trees rests sound step
+  leaves_editing halted env c client asked edit (Err UnknownName) a trees rests sound is = leaves_is c a _ is (trees, tt, tt)
+  leaves_editing halted env c client asked edit (Err BadParameters) a trees rests sound is = leaves_is c a _ is (trees, tt, tt)
+  leaves_editing halted env c client asked edit (Err NoMemory) a trees rests sound is = leaves_is c a _ is (trees, tt, tt)
 
-  pub leaves_trees : (may : Verdict → Bool) (s : Settings) (env : Env) (c : RepoState) (phase : Stage) (input : Input) (a : Answer)
-      → AreSound c.revisions → StageRests phase c → IsSound phase → InputStep may s env c phase input a → LeavesTrees c a
-  leaves_trees may s env c Greeted (Whole t) a trees rests sound is = leaves_is c a _ is (leaves_greeting c s env (client_greeting t) trees)
-  leaves_trees may s env c (LoggingIn client) (Whole t) a trees rests sound is = leaves_is c a _ is (leaves_login c env client (auth_response t) trees)
-  leaves_trees may s env c (Serving client) (Whole t) a trees rests sound is = leaves_is c a _ is (leaves_command c s env client (main_command t) trees)
-  leaves_trees may s env c (Editing client asked edit) (Whole t) a trees rests sound step = leaves_editing may env c client asked edit (editor_command t) a trees rests sound step
-  leaves_trees may s env c (Skipping client) (Whole t) a trees rests sound is = leaves_is c a _ is (leaves_skipping c env client (ends_edit t) trees)
-  leaves_trees may s env c Greeted Broken a trees rests sound is = leaves_is c a _ is (trees, tt, tt)
-  leaves_trees may s env c (LoggingIn client) Broken a trees rests sound is = leaves_is c a _ is (trees, tt, tt)
-  leaves_trees may s env c (Serving client) Broken a trees rests sound is = leaves_is c a _ is (trees, tt, tt)
-  leaves_trees may s env c (Editing client asked edit) Broken a trees rests sound is = leaves_is c a _ is (trees, tt, tt)
-  leaves_trees may s env c (Skipping client) Broken a trees rests sound is = leaves_is c a _ is (trees, tt, tt)
-  leaves_trees may s env c Ended input a trees rests sound is = leaves_is c a _ is (trees, tt, tt)
+  pub leaves_trees : (halted : Bool) (s : Settings) (env : Env) (c : RepoState) (phase : Stage) (input : Input) (a : Answer)
+      → AreSound c.revisions → StageRests phase c → IsSound phase → InputStep halted s env c phase input a → LeavesTrees c a
+  leaves_trees halted s env c Greeted (Whole t) a trees rests sound is = leaves_is c a _ is (leaves_greeting c s env (client_greeting t) trees)
+  leaves_trees halted s env c (LoggingIn client) (Whole t) a trees rests sound is = leaves_is c a _ is (leaves_login c env client (auth_response t) trees)
+  leaves_trees halted s env c (Serving client) (Whole t) a trees rests sound is = leaves_is c a _ is (leaves_command c s env client (main_command t) trees)
+  leaves_trees halted s env c (Editing client asked edit) (Whole t) a trees rests sound step = leaves_editing halted env c client asked edit (editor_command t) a trees rests sound step
+  leaves_trees halted s env c (Skipping client) (Whole t) a trees rests sound is = leaves_is c a _ is (leaves_skipping c env client (ends_edit t) trees)
+  leaves_trees halted s env c Greeted Broken a trees rests sound is = leaves_is c a _ is (trees, tt, tt)
+  leaves_trees halted s env c (LoggingIn client) Broken a trees rests sound is = leaves_is c a _ is (trees, tt, tt)
+  leaves_trees halted s env c (Serving client) Broken a trees rests sound is = leaves_is c a _ is (trees, tt, tt)
+  leaves_trees halted s env c (Editing client asked edit) Broken a trees rests sound is = leaves_is c a _ is (trees, tt, tt)
+  leaves_trees halted s env c (Skipping client) Broken a trees rests sound is = leaves_is c a _ is (trees, tt, tt)
+  leaves_trees halted s env c Ended input a trees rests sound is = leaves_is c a _ is (trees, tt, tt)

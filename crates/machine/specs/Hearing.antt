@@ -28,3 +28,10 @@ Comes stream (input ∷ inputs) rest = (after : List ℕ) × Brings stream input
 pub record IsSettled (stream : List ℕ) : Type 0 where
   pub no_item : HasNoItem stream
   pub begins : Begins limits stream
+
+-- items, and then the byte that goes on to none
+abbrev pub EndsBroken : List Input → Type 0
+EndsBroken [] = ⊥
+EndsBroken (Whole t ∷ inputs) = EndsBroken inputs
+EndsBroken (Broken ∷ []) = Unit {0}
+EndsBroken (Broken ∷ input ∷ inputs) = ⊥

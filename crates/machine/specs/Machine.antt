@@ -1,5 +1,5 @@
 -- One session of the machine: where it stands, and what each input does.
-use Rattle.std.specs.Prelude.{◌≡◌, ℕ, Bool, true, false, ◌&&◌, ◌==◌, nat_lt, List, [], ◌∷◌, length, Option, Some, None, option_map, Result, Ok, Err, IsTrue, if◌then◌else◌, codes}
+use Rattle.std.specs.Prelude.{◌≡◌, ℕ, Bool, true, false, ◌&&◌, ◌||◌, ◌==◌, nat_lt, List, [], ◌∷◌, ◌++◌, length, Option, Some, None, option_map, Result, Ok, Err, if◌then◌else◌, codes}
 use Rattle.std.specs.List.{flat_map, list_all}
 use Rattle.svnpath.specs.Paths.{PathValue}
 use Rattle.svnpath.specs.Texts.{joined}
@@ -12,7 +12,7 @@ use Rattle.dates.specs.Dates.{IsDateText}
 use Rattle.repo_api.specs.Properties.{PropertyList, with_property}
 use Rattle.repo_api.specs.States.{RepoState, TxnState, youngest}
 use Rattle.repo_api.specs.Commits.{commit_refusal}
-use Rattle.repo_api.specs.Accepted.{Accepted, changed}
+use Rattle.repo_api.specs.Accepted.{Accepted, changed_all}
 use Rattle.repo_api.specs.Accepted.Accepted.{Commits}
 use Rattle.repo_api.specs.Kinds.{kind_at, properties_at}
 use Rattle.repo_api.specs.declared.ask.CommitAsk.{CommitAsk}
@@ -37,6 +37,7 @@ use Rattle.replies.specs.declared.reply.Reply.TheVariants as replies
 use Rattle.edit_rules.specs.Edits.{EditState, new_edit}
 use Rattle.edit_rules.specs.Refusing.{is_property_name, edit_refusal}
 use Rattle.edit_rules.specs.Editor.{Applies, finished}
+use Rattle.machine.specs.Points.{HasRisen}
 use Rattle.machine.specs.Settings.{Settings}
 use Rattle.machine.specs.Hearing.{Input}
 use Rattle.machine.specs.Hearing.Input.{Whole, Broken}
@@ -52,29 +53,39 @@ use Rattle.machine.specs.declared.phase.Client.{Client}
 abbrev pub LockTokens : Type 0
 LockTokens = List (PathValue × List ℕ)
 
--- what the store says of a change: it is written, it is not, or nobody knows and no change is made any more
+-- what the store did with a change: it wrote it, it failed and nothing is written, or it failed so that nobody knows,
+-- and no change is made any more
 pub data Verdict : Type 0 where
   Went : Verdict
   Failed : Verdict
   Halts : Verdict
 
--- what an input does to the repository
-pub data Effect : Type 0 where
-  Nothing : Effect
-  Changes : Accepted → Effect
-  HaltsChanges : Effect
+-- what an input does to the repository: the changes that are accepted, one after another, and what the store did
+pub record Effect : Type 0 where
+  pub changes : List Accepted
+  pub store : Verdict
+
+abbrev pub no_effect : Effect
+no_effect = record { changes = []; store = Went }
 
 -- the repository after an effect
 abbrev pub content_after : RepoState → Effect → RepoState
-content_after c Nothing = c
-content_after c (Changes e) = changed c e
-content_after c HaltsChanges = c
+content_after c effect = changed_all c effect.changes
+
+abbrev pub is_halt : Verdict → Bool
+is_halt Went = false
+is_halt Failed = false
+is_halt Halts = true
 
 -- whether changes have come to a halt, after an effect
 abbrev pub halted_after : Bool → Effect → Bool
-halted_after halted Nothing = halted
-halted_after halted (Changes e) = halted
-halted_after halted HaltsChanges = true
+halted_after halted effect = halted || is_halt effect.store
+
+-- the store's count of failures before and after: it rises where the store fails
+abbrev pub Counts : Verdict → ℕ → ℕ → Type 0
+Counts Went before after = after ≡ before
+Counts Failed before after = HasRisen before after
+Counts Halts before after = HasRisen before after
 
 -- what an input does: the replies, where the session stands then, the words that are left, and the effect
 pub record Answer : Type 0 where
@@ -89,7 +100,7 @@ print rs = flat_map (λ r. printed (reply_tree r)) rs
 
 -- replies that change nothing
 abbrev pub says : Env → Stage → List Reply → Answer
-says env phase told = record { replies = told; phase = phase; env = env; effect = Nothing }
+says env phase told = record { replies = told; phase = phase; env = env; effect = no_effect }
 
 -- what is no command ends the session
 abbrev pub malformed : Env → Answer
@@ -135,9 +146,9 @@ check_path_reply c revision (Err fault) = replies.Failure (path_refusal fault)
 abbrev pub rev_proplist_reply : RepoState → ℕ → Reply
 rev_proplist_reply c n = at_revision c (Some n) (λ m. replies.Properties (properties_at c m))
 
--- a command that is known is answered by a login request first, which asks for nothing
-abbrev pub served : Env → Client → Reply → Answer
-served env client reply = says env (Serving client) (replies.NoLogin ∷ reply ∷ [])
+-- a reply, after which commands are awaited
+abbrev pub serves : Env → Client → Reply → Answer
+serves env client reply = says env (Serving client) (reply ∷ [])
 
 -- ---- the beginning of a commit
 
@@ -171,17 +182,33 @@ asked_by command (Ok tokens) =
 
 -- an edit begins, or is refused in its place
 abbrev pub commit_begins : Settings → Env → Client → Result Asked Refusal → Answer
-commit_begins s env client (Ok asked) = says env (Editing client asked (new_edit client.path s.name)) (replies.NoLogin ∷ replies.Success ∷ [])
-commit_begins s env client (Err r) = served env client (replies.Failure r)
+commit_begins s env client (Ok asked) = says env (Editing client asked (new_edit client.path s.name)) (replies.Success ∷ [])
+commit_begins s env client (Err r) = serves env client (replies.Failure r)
 
 -- ---- a command
 
+-- a command's own answer
+abbrev pub own_answer : Settings → Env → RepoState → Client → MainCommand → Answer
+own_answer s env c client GetLatestRev = serves env client (replies.Revision (youngest c))
+own_answer s env c client (CheckPath path revision) = serves env client (check_path_reply c revision (joined client.path path))
+own_answer s env c client (RevProplist n) = serves env client (rev_proplist_reply c n)
+own_answer s env c client (Commit command) = commit_begins s env client (asked_by command (lock_tokens client.path command.tokens))
+own_answer s env c client AbortEdit = says env (Serving client) []
+
+-- what is told before it: a login request, which asks for nothing; an edit that is given up outside one draws no reply
+abbrev pub login_request : MainCommand → List Reply
+login_request GetLatestRev = replies.NoLogin ∷ []
+login_request (CheckPath path revision) = replies.NoLogin ∷ []
+login_request (RevProplist n) = replies.NoLogin ∷ []
+login_request (Commit command) = replies.NoLogin ∷ []
+login_request AbortEdit = []
+
+-- an answer behind other replies
+abbrev pub behind : List Reply → Answer → Answer
+behind told a = record a { replies = told ++ a.replies }
+
 abbrev pub command_answer : Settings → Env → RepoState → Client → Result MainCommand CommandFault → Answer
-command_answer s env c client (Ok GetLatestRev) = served env client (replies.Revision (youngest c))
-command_answer s env c client (Ok (CheckPath path revision)) = served env client (check_path_reply c revision (joined client.path path))
-command_answer s env c client (Ok (RevProplist n)) = served env client (rev_proplist_reply c n)
-command_answer s env c client (Ok (Commit command)) = commit_begins s env client (asked_by command (lock_tokens client.path command.tokens))
-command_answer s env c client (Ok AbortEdit) = says env (Serving client) []
+command_answer s env c client (Ok command) = behind (login_request command) (own_answer s env c client command)
 command_answer s env c client (Err UnknownName) = says env (Serving client) (replies.Failure refusals.UnknownCommand ∷ [])
 command_answer s env c client (Err BadParameters) = malformed env
 command_answer s env c client (Err NoMemory) = malformed env
@@ -218,21 +245,33 @@ commit_answer env c client asked t date Went = record {
   replies = replies.Success ∷ replies.NoLogin ∷ replies.CommitInfo (length c.revisions) date client.user ∷ [];
   phase = Serving client;
   env = env;
-  effect = Changes (Commits (commit_ask client asked date) t);
+  effect = record { changes = Commits (commit_ask client asked date) t ∷ []; store = Went };
 }
-commit_answer env c client asked t date Failed = says env (Serving client) (replies.Failure refusals.StoreFailed ∷ [])
-commit_answer env c client asked t date Halts = record { replies = replies.Failure refusals.StoreFailed ∷ []; phase = Ended; env = env; effect = HaltsChanges }
+commit_answer env c client asked t date Failed = record {
+  replies = replies.Failure refusals.StoreFailed ∷ [];
+  phase = Serving client;
+  env = env;
+  effect = record { changes = []; store = Failed };
+}
+commit_answer env c client asked t date Halts = record {
+  replies = replies.Failure refusals.StoreFailed ∷ [];
+  phase = Ended;
+  env = env;
+  effect = record { changes = []; store = Halts };
+}
 
--- a commit of this date that was judged so: a refused one changes nothing
-abbrev pub CommitStep : (Verdict → Bool) → Env → RepoState → Client → Asked → TxnState → List ℕ → Option Refusal → Answer → Type 0
-CommitStep may env c client asked t date (Some r) a = a ≡ says env (Serving client) (replies.Failure r ∷ [])
-CommitStep may env c client asked t date None a = (v : Verdict) × IsTrue (may v) × (a ≡ commit_answer env c client asked t date v)
+-- a commit of this date that was judged so: a refused one changes nothing, and once changes have come to a halt none
+-- is made, whatever the rules say of it
+abbrev pub CommitStep : Bool → Env → RepoState → Client → Asked → TxnState → List ℕ → Option Refusal → Answer → Type 0
+CommitStep true env c client asked t date r a = a ≡ says env Ended (replies.Failure refusals.StoreFailed ∷ [])
+CommitStep false env c client asked t date (Some r) a = a ≡ says env (Serving client) (replies.Failure r ∷ [])
+CommitStep false env c client asked t date None a = (v : Verdict) × (a ≡ commit_answer env c client asked t date v)
 
 -- the edit's transaction is committed, if it has one: dated by the moment, and then judged
-abbrev pub CloseStep : (Verdict → Bool) → Env → RepoState → Client → Asked → Result TxnState Refusal → Answer → Type 0
-CloseStep may env c client asked (Ok t) a = (date : List ℕ) × IsDateText env.moment date
-    × CommitStep may env c client asked t date (commit_refusal c (commit_ask client asked date) t) a
-CloseStep may env c client asked (Err r) a = a ≡ says env (Serving client) (replies.Failure r ∷ [])
+abbrev pub CloseStep : Bool → Env → RepoState → Client → Asked → Result TxnState Refusal → Answer → Type 0
+CloseStep halted env c client asked (Ok t) a = (date : List ℕ) × IsDateText env.moment date
+    × CommitStep halted env c client asked t date (commit_refusal c (commit_ask client asked date) t) a
+CloseStep halted env c client asked (Err r) a = a ≡ says env (Serving client) (replies.Failure r ∷ [])
 
 -- ---- a command within an edit
 
@@ -257,16 +296,16 @@ ending_of (CloseFile token checksum) = None
 ending_of CloseEdit = Some Commits
 ending_of edits.AbortEdit = Some GivesUp
 
-abbrev pub CommandStep : (Verdict → Bool) → Env → RepoState → Client → Asked → EditState → EditorCommand → Option Ending → Answer → Type 0
-CommandStep may env c client asked edit command None a = EditStep env c client asked edit command a
-CommandStep may env c client asked edit command (Some Commits) a = CloseStep may env c client asked (finished edit) a
-CommandStep may env c client asked edit command (Some GivesUp) a = a ≡ says env (Serving client) (replies.Success ∷ [])
+abbrev pub CommandStep : Bool → Env → RepoState → Client → Asked → EditState → EditorCommand → Option Ending → Answer → Type 0
+CommandStep halted env c client asked edit command None a = EditStep env c client asked edit command a
+CommandStep halted env c client asked edit command (Some Commits) a = CloseStep halted env c client asked (finished edit) a
+CommandStep halted env c client asked edit command (Some GivesUp) a = a ≡ says env (Serving client) (replies.Success ∷ [])
 
-abbrev pub EditingStep : (Verdict → Bool) → Env → RepoState → Client → Asked → EditState → Result EditorCommand CommandFault → Answer → Type 0
-EditingStep may env c client asked edit (Ok command) a = CommandStep may env c client asked edit command (ending_of command) a
-EditingStep may env c client asked edit (Err UnknownName) a = a ≡ gives_up env client refusals.UnknownCommand
-EditingStep may env c client asked edit (Err BadParameters) a = a ≡ malformed env
-EditingStep may env c client asked edit (Err NoMemory) a = a ≡ malformed env
+abbrev pub EditingStep : Bool → Env → RepoState → Client → Asked → EditState → Result EditorCommand CommandFault → Answer → Type 0
+EditingStep halted env c client asked edit (Ok command) a = CommandStep halted env c client asked edit command (ending_of command) a
+EditingStep halted env c client asked edit (Err UnknownName) a = a ≡ gives_up env client refusals.UnknownCommand
+EditingStep halted env c client asked edit (Err BadParameters) a = a ≡ malformed env
+EditingStep halted env c client asked edit (Err NoMemory) a = a ≡ malformed env
 
 -- a command of an edit that was given up is read by its name alone, and draws no reply
 abbrev pub skipping_answer : Env → Client → Option Bool → Answer
@@ -276,18 +315,18 @@ skipping_answer env client (Some false) = says env (Skipping client) []
 
 -- ---- an input
 
--- What an input does in a state of the repository, where the store may say so of a change. (A relation where
--- the program or the store may choose.)
-abbrev pub InputStep : (Verdict → Bool) → Settings → Env → RepoState → Stage → Input → Answer → Type 0
-InputStep may s env c Greeted (Whole t) a = a ≡ greeting_answer s env (client_greeting t)
-InputStep may s env c (LoggingIn client) (Whole t) a = a ≡ login_answer env c client (auth_response t)
-InputStep may s env c (Serving client) (Whole t) a = a ≡ command_answer s env c client (main_command t)
-InputStep may s env c (Editing client asked edit) (Whole t) a = EditingStep may env c client asked edit (editor_command t) a
-InputStep may s env c (Skipping client) (Whole t) a = a ≡ skipping_answer env client (ends_edit t)
-InputStep may s env c Greeted Broken a = a ≡ malformed env
-InputStep may s env c (LoggingIn client) Broken a = a ≡ malformed env
-InputStep may s env c (Serving client) Broken a = a ≡ malformed env
-InputStep may s env c (Editing client asked edit) Broken a = a ≡ malformed env
-InputStep may s env c (Skipping client) Broken a = a ≡ malformed env
+-- What an input does in a state of the repository, where changes have come to a halt or not. (A relation where the
+-- program or the store may choose.)
+abbrev pub InputStep : Bool → Settings → Env → RepoState → Stage → Input → Answer → Type 0
+InputStep halted s env c Greeted (Whole t) a = a ≡ greeting_answer s env (client_greeting t)
+InputStep halted s env c (LoggingIn client) (Whole t) a = a ≡ login_answer env c client (auth_response t)
+InputStep halted s env c (Serving client) (Whole t) a = a ≡ command_answer s env c client (main_command t)
+InputStep halted s env c (Editing client asked edit) (Whole t) a = EditingStep halted env c client asked edit (editor_command t) a
+InputStep halted s env c (Skipping client) (Whole t) a = a ≡ skipping_answer env client (ends_edit t)
+InputStep halted s env c Greeted Broken a = a ≡ malformed env
+InputStep halted s env c (LoggingIn client) Broken a = a ≡ malformed env
+InputStep halted s env c (Serving client) Broken a = a ≡ malformed env
+InputStep halted s env c (Editing client asked edit) Broken a = a ≡ malformed env
+InputStep halted s env c (Skipping client) Broken a = a ≡ malformed env
 -- what comes after the end is dropped
-InputStep may s env c Ended input a = a ≡ says env Ended []
+InputStep halted s env c Ended input a = a ≡ says env Ended []

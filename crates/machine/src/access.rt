@@ -1,13 +1,9 @@
 //! A repository as a session reaches it.
-ghost use Rattle.std.specs.Prelude.{◌≡◌, ℕ, Bool, IsTrue, length, Some, None, IfOk, true};
-ghost use Rattle.repo_api.specs.States.{RepoState, IsBeginning};
-ghost use Rattle.repo_api.specs.Commits.{commit_refusal};
-ghost use Rattle.repo_api.specs.Accepted.{Accepted, changed, IfRefused};
-ghost use Rattle.repo_api.specs.Accepted.Accepted.{Commits};
+ghost use Rattle.std.specs.Prelude.{◌≡◌, ◌≤◌, true, IfOk};
+ghost use Rattle.repo_api.specs.States.{IsBeginning};
+ghost use Rattle.repo_api.specs.Accepted.{Accepted, changed};
 ghost use Rattle.machine.specs.Points.{Point, world};
-ghost use Rattle.machine.specs.Machine.{Verdict};
-ghost use Rattle.machine.specs.Machine.Verdict.{Went, Failed, Halts};
-ghost use Rattle.machine.specs.Access.{IsHalt, IfNotMade, IfNotWritten};
+ghost use Rattle.machine.specs.Access.{CommitsAt};
 
 use repo_api::{ChangeFault, CommitAsk, Repository};
 use std::alloc::AllocError;
@@ -26,9 +22,6 @@ pub trait RepoAccess {
     /// One change, the session's own.
     ghost adds: { Point → Accepted → Point → Type 0 };
 
-    /// What the store may say of a change.
-    ghost may: { Verdict → Bool };
-
     /// The repository as it is now.
     fn look(&mut self) -> Result<Self::View, AllocError>
         ensures view { IfOk result (λ view. Self.View.content view ≡ world (point self.new)) }
@@ -46,17 +39,7 @@ pub trait RepoAccess {
         txn: <Self::View as Repository>::Txn,
     ) -> Result<u64, ChangeFault>
         requires { IsBeginning (Self.View.txn_state txn).shown (world (point self.old)).revisions }
-        ensures ok { IfOk result (λ n. (at : Point) × between (point self.old) at
-            × (commit_refusal (world at) ask (Self.View.txn_state txn) ≡ None)
-            × (n ≡ length (world at).revisions) × IsTrue (may Went)
-            × adds at (Commits ask (Self.View.txn_state txn)) (point self.new)) }
-        ensures refused { IfRefused result (λ r. commit_refusal (world (point self.new)) ask (Self.View.txn_state txn) ≡ Some r) }
-        ensures not_made { IfNotMade result (between (point self.old) (point self.new)) }
-        ensures not_written { IfNotWritten result
-            ((commit_refusal (world (point self.new)) ask (Self.View.txn_state txn) ≡ None) × IsTrue (may Failed))
-            ((at : Point) × between (point self.old) at
-            × (commit_refusal (world at) ask (Self.View.txn_state txn) ≡ None)
-            × IsTrue (may Halts) × IsHalt at (point self.new)) };
+        ensures { (at : Point) × between (point self.old) at × CommitsAt adds ask (Self.View.txn_state txn) at result (point self.new) };
 
     ghost stays: { (p : Point) → between p p };
 
@@ -65,11 +48,14 @@ pub trait RepoAccess {
     /// What is shown never goes back.
     ghost keeps: { (p q : Point) → between p q → IsBeginning (world p).revisions (world q).revisions };
 
+    /// Changes that have come to a halt are not made again, and the count of failures never falls.
+    ghost lasts: { (p q : Point) → between p q → (p.halted ≡ true → q.halted ≡ true) × (p.failures ≤ q.failures) };
+
     /// An own change is the one that was asked for.
-    ghost counts: { (p : Point) (e : Accepted) (q : Point) → adds p e q → (world q ≡ changed (world p) e) × (q.halted ≡ p.halted) };
+    ghost counts: { (p : Point) (e : Accepted) (q : Point) → adds p e q → (world q ≡ changed (world p) e) × (q.halted ≡ p.halted) × (q.failures ≡ p.failures) };
 }
 
 /// An access that nobody shares: nothing changes between two calls.
 pub trait SoleAccess: RepoAccess {
-    ghost alone: { (p q : Point) → Self.between p q → (world p ≡ world q) × (p.halted ≡ q.halted) };
+    ghost alone: { (p q : Point) → Self.between p q → (world p ≡ world q) × (p.halted ≡ q.halted) × (p.failures ≡ q.failures) };
 }

@@ -4,15 +4,20 @@ ghost use Rattle.repo_api.specs.States.{RepoState};
 ghost use Rattle.edit_rules.specs.Soundness.{AreSound};
 ghost use Rattle.machine.specs.Settings.{Settings};
 ghost use Rattle.machine.specs.Stages.{Stage, RestsOn};
-ghost use Rattle.machine.specs.Soundness.{IsSound, MeetsBy};
-ghost use Rattle.machine.specs.Machine.{Verdict, Answer, InputStep, content_after};
+ghost use Rattle.machine.specs.Soundness.{IsSound, MeetBy};
+ghost use Rattle.machine.specs.Machine.{Answer, InputStep, content_after};
 ghost use Rattle.machine.specs.declared.env.Env.{Env};
-ghost use Rattle.machine.specs.Hearing.{Input, Comes, IsSettled};
+ghost use Rattle.machine.specs.Hearing.{Input, Comes, IsSettled, EndsBroken};
 
 /// A stream that has brought all that it does so far has brought these inputs and no others, and this is left
-/// of it.
+/// of it; and so up to the byte that goes on to no item, where it has one. A stream that has one never comes to rest.
 pub fn one_hearing()
-    ensures { (stream : List ℕ) (xs ys : List Input) (rest end : List ℕ) → Comes stream xs rest → Comes stream ys end → IsSettled rest → IsSettled end → (xs ≡ ys) × (rest ≡ end) }
+    ensures settled { (stream : List ℕ) (xs ys : List Input) (rest end : List ℕ) → Comes stream xs rest
+        → Comes stream ys end → IsSettled rest → IsSettled end → (xs ≡ ys) × (rest ≡ end) }
+    ensures broken { (stream : List ℕ) (xs ys : List Input) (rest end : List ℕ) → Comes stream xs rest
+        → Comes stream ys end → EndsBroken xs → EndsBroken ys → (xs ≡ ys) × (rest ≡ end) }
+    ensures never_both { (stream : List ℕ) (xs ys : List Input) (rest end : List ℕ) → Comes stream xs rest
+        → EndsBroken xs → Comes stream ys end → IsSettled end → ⊥ }
 {
     items::one_reading();
     items::one_fault();
@@ -21,13 +26,13 @@ pub fn one_hearing()
 
 /// A session's edit goes on to rest on what the repository contains.
 pub fn steps_rest()
-    ensures { (may : Verdict → Bool) (s : Settings) (env : Env) (c : RepoState) (phase : Stage) (input : Input) (a : Answer) → RestsOn phase c → InputStep may s env c phase input a → RestsOn a.phase (content_after c a.effect) }
+    ensures { (halted : Bool) (s : Settings) (env : Env) (c : RepoState) (phase : Stage) (input : Input) (a : Answer) → RestsOn phase c → InputStep halted s env c phase input a → RestsOn a.phase (content_after c a.effect) }
 {}
 
 /// Where every tree of the repository is a tree whose marks name what they mark, and so is the tree of the session's
 /// edit, so it is after an input, and a commit that is accepted meets the youngest revision well.
 pub fn steps_keep_trees()
-    ensures { (may : Verdict → Bool) (s : Settings) (env : Env) (c : RepoState) (phase : Stage) (input : Input) (a : Answer) → AreSound c.revisions → RestsOn phase c → IsSound phase → InputStep may s env c phase input a → AreSound (content_after c a.effect).revisions × IsSound a.phase × MeetsBy c a.effect }
+    ensures { (halted : Bool) (s : Settings) (env : Env) (c : RepoState) (phase : Stage) (input : Input) (a : Answer) → AreSound c.revisions → RestsOn phase c → IsSound phase → InputStep halted s env c phase input a → AreSound (content_after c a.effect).revisions × IsSound a.phase × MeetBy c a.effect.changes }
 {
     edit_rules::edits_keep_trees();
     repo_api::accepted_commits_meet_well();

@@ -1,7 +1,7 @@
 //! What plays the lines.
-ghost use Rattle.std.specs.Prelude.{◌≡◌, [], ℕ, List, false, IfOk};
+ghost use Rattle.std.specs.Prelude.{◌≡◌, ℕ, List, IfOk};
 ghost use Rattle.dates.specs.Dates.{IsDateText};
-ghost use Rattle.repo_api.specs.Opening.{opened};
+ghost use Rattle.hub.specs.Laws.{new_hub};
 ghost use Rattle.hub.specs.Calls.{CallStep, IsTimely};
 ghost use Rattle.hub.specs.declared.calls.Outcome.{Outcome};
 
@@ -18,7 +18,7 @@ type MemoryHub = Hub<Direct<FlatRepo>>;
 
 /// A hub without sessions over an empty repository.
 fn make_hub(alloc: Global, asked: NewHub) -> Result<MemoryHub, LineFault>
-    ensures { IfOk result (λ hub. (date : List ℕ) × IsDateText asked.moment date × (hub ≡ record { settings = asked.options; content = opened asked.uuid date; halted = false; sessions = []; used = 0 })) }
+    ensures { IfOk result (λ hub. (date : List ℕ) × IsDateText asked.moment date × (hub ≡ new_hub asked.options asked.uuid date)) }
 {
     let repository = FlatRepo::new(alloc, asked.uuid, asked.moment)?;
     match Hub::over(alloc, repository, asked.options) {
@@ -34,7 +34,7 @@ fn answer_call<A: SoleAccess>(
     call: &Call,
 ) -> Result<String, AllocError>
     requires { IsTimely call.now }
-    ensures { (outcome : Outcome) × CallStep A.may hub.old call.now outcome hub.new }
+    ensures { (outcome : Outcome) × CallStep hub.old call.now outcome hub.new }
 {
     let outcome = make_call(hub, call);
     answer_line(alloc, call, &outcome)

@@ -1,3 +1,4 @@
+pub mod Texts
 pub mod Properties
 pub mod Trees
 pub mod Edits

@@ -1,5 +1,6 @@
 //! The edits of a transaction.
 use crate::change::Source;
+use crate::file_text::FileText;
 use svnpath::{Bytes, Path};
 
 /// One edit of a transaction's tree.
@@ -20,5 +21,5 @@ pub enum EditOp {
     /// Takes out the property of this name at the path.
     RemoveProperty(Path, Bytes),
     /// Makes this the text of the file at the path.
-    SetText(Path, Bytes),
+    SetText(Path, FileText),
 }

@@ -3,9 +3,10 @@ ghost use Rattle.std.specs.Prelude.{◌≡◌};
 ghost use Rattle.repo_api.specs.Kinds.{content_kind};
 ghost use Rattle.repo_api.specs.Trees.{same_mark, is_open, is_directory};
 
+use crate::file_text::FileText;
 use crate::properties::Properties;
 use std::alloc::AllocError;
-use svnpath::{Bytes, Path};
+use svnpath::Path;
 
 /// The revision and the path at which a change was made, or open in a transaction.
 #[derive(Debug, Drop)]
@@ -26,7 +27,7 @@ pub enum NodeKind {
 #[derive(Debug, Drop)]
 pub enum Content {
     Directory,
-    File(Bytes),
+    File(FileText),
 }
 
 /// A path's entry: `own` is the last change of the entry itself, `last` the last at or under it.

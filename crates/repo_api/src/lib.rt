@@ -7,6 +7,7 @@ mod change;
 mod edit;
 mod entry;
 mod fault;
+mod file_text;
 mod laws;
 mod lock;
 mod properties;
@@ -17,6 +18,7 @@ pub use change::{Action, Change, Source};
 pub use edit::EditOp;
 pub use entry::{Content, Entry, Mark, NodeKind};
 pub use fault::ChangeFault;
+pub use file_text::FileText;
 pub use laws::{
     accepted_commits_meet_well, beginnings_are_marked, beginnings_are_trees,
     commits_keep_both_sides, edits_keep_marks, edits_keep_trees, marks_name_one_thing,

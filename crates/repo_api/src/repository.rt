@@ -9,9 +9,10 @@ use crate::ask::CommitAsk;
 use crate::edit::EditOp;
 use crate::entry::NodeKind;
 use crate::fault::ChangeFault;
+use crate::file_text::FileText;
 use crate::properties::Properties;
 use std::alloc::AllocError;
-use svnpath::{Bytes, Path};
+use svnpath::Path;
 
 /// A repository, by what it contains, however that is kept. A call that is refused, or that lacks
 /// memory, changes nothing.
@@ -65,7 +66,7 @@ pub trait Repository: Drop {
         ensures { result ≡ created_in (txn_state txn.now) path.now };
 
     /// The text of the file at a path of a transaction, `None` where no file stands.
-    fn text_in<'a>(&'a self, txn: &'a Self::Txn, path: &Path) -> Option<&'a Bytes>
+    fn text_in<'a>(&'a self, txn: &'a Self::Txn, path: &Path) -> Option<&'a FileText>
         requires { IsBeginning (txn_state txn.now).shown (content self.now).revisions }
         ensures { option_copied result ≡ text_in (txn_state txn.now) path.now };
 

@@ -1,44 +1,129 @@
 -- What is heard grows by a piece.
-use Rattle.std.proofs.Common.{ℕ, ◌<◌, List, ◌++◌, length, Bool}
-use Rattle.std.specs.Prelude.{Option, Result, Ok, Err, OnOk}
-use Rattle.std.proofs.KnownBytes.{Consumes-trans, Appends-trans}
-use Rattle.std.specs.Io.KnownBytes.{Consumes, Appends}
-use Rattle.machine.specs.Machine.{Verdict}
+use Rattle.std.proofs.Common.{◌≡◌, ℕ, ◌<◌, ◌≤◌, true, List, [], ◌∷◌, ◌++◌, length, refl, sym, ap, subst, ◌∙◌, append-nil, inr}
+use Rattle.std.specs.Prelude.{Option, Result, Ok, Err, OnOk, IfErr, IsErrAnd, MatchResult}
+use Rattle.std.proofs.lemmas.Grind.{flat_map-append}
+use Rattle.std.proofs.KnownBytes.{Consumes-nil, Appends-nil, Consumes-trans, Appends-trans, Consumes-kept}
+use Rattle.std.specs.Io.KnownBytes.{Consumes, Appends, Keeps}
 use Rattle.machine.specs.declared.env.Env.{Env}
-use Rattle.hub.specs.State.{HubState}
-use Rattle.hub.specs.Calls.{ConnectsAs, FeedsAs}
-use Rattle.serving.specs.Stream.{Hears, IsServed, Serves}
-use Rattle.serving.proofs.Joining.{draws_more}
+use Rattle.hub.specs.declared.hub.HubFault.{HubFault}
+use Rattle.hub.specs.Calls.{ConnectsAs, FeedsAs, FeedFails}
+use Rattle.serving.specs.declared.fault.ServeFault.{ServeFault}
+use Rattle.serving.specs.declared.fault.ServeFault.TheVariants.{Read, Write, Hub}
+use Rattle.serving.specs.Stream.{Piece, bytes_of, GivesAll, Scene, scene, Hears, is_hearing, IsServed, HearsUntil, Answered, Answers, Serves, HubFails, IfRead, IfHub}
+use Rattle.serving.proofs.Joining.{fed_piece, draws_more}
+
+-- a piece more was handed in
+gives_more : {E : Type 0} (gives : E → Env → E → Type 0) (pieces : List Piece) (piece : Piece) (a b c : E)
+    → GivesAll gives a pieces b → gives b piece.env c → GivesAll gives a (pieces ++ piece ∷ []) c
+gives_more {E} gives [] piece a b c same next = (c, subst (λ (x : E). gives x piece.env c) same next, refl)
+gives_more gives (first ∷ pieces) piece a b c (between, given, rest) next = (between, given, gives_more gives pieces piece between b c rest next)
+
+bytes_of-more : (pieces : List Piece) (piece : Piece) → bytes_of pieces ++ piece.bytes ≡ bytes_of (pieces ++ piece ∷ [])
+bytes_of-more pieces piece = ap (λ (bs : List ℕ). bytes_of pieces ++ bs) (sym (append-nil piece.bytes)) ∙ sym (flat_map-append _ pieces (piece ∷ []))
+
+-- nothing was heard yet
+pub hears_nothing : {E : Type 0} (gives : E → Env → E → Type 0) (n : ℕ) (old : Scene E) → Hears gives n old old
+hears_nothing gives n old = record {
+  pieces = [];
+  answers = [];
+  given = refl;
+  run = (refl, refl);
+  read = Consumes-nil old.input;
+  written = Appends-nil old.output;
+}
 
 -- a piece more is read, fed and answered
-pub hears_more : (may : Verdict → Bool) (n : ℕ) (old mid new : HubState) (input input' input'' output output' output'' : Option (List ℕ)) (env : Env) (piece more : List ℕ)
-    → 0 < length piece → Hears may n old input output mid input' output' → Consumes input' input'' piece → FeedsAs may mid env n piece more new → Appends output' output'' more
-    → Hears may n old input output new input'' output''
-hears_more may n old mid new input input' input'' output output' output'' env piece more some h read feeds written = record {
-  bytes = h.bytes ++ piece;
-  answers = h.answers ++ more;
-  run = draws_more may n old mid new env h.bytes h.answers piece more some h.run feeds.feeds;
-  read = Consumes-trans input input' input'' h.bytes piece h.read read;
-  written = Appends-trans output output' output'' h.answers more h.written written;
+pub hears_more : {E : Type 0} (gives : E → Env → E → Type 0) (n : ℕ) (old mid new : Scene E) (env : Env) (bytes more : List ℕ)
+    → 0 < length bytes → length bytes ≤ 65536 → Hears gives n old mid → Consumes mid.input new.input bytes → gives mid.envs env new.envs
+    → FeedsAs mid.hub env n bytes more new.hub → Appends mid.output new.output more → Hears gives n old new
+hears_more gives n old mid new env bytes more some bound h read next feeds written =
+    let piece : Piece = fed_piece env bytes feeds.feeds.inputs in
+    record {
+      pieces = h.pieces ++ piece ∷ [];
+      answers = h.answers ++ more;
+      given = gives_more gives h.pieces piece old.envs mid.envs new.envs h.given next;
+      run = draws_more n old.hub mid.hub new.hub env h.pieces h.answers bytes more some bound h.run feeds.feeds;
+      read = subst (λ (bs : List ℕ). Consumes old.input new.input bs) (bytes_of-more h.pieces piece) (Consumes-trans old.input mid.input new.input (bytes_of h.pieces) bytes h.read read);
+      written = Appends-trans old.output mid.output new.output h.answers more h.written written;
+    }
+
+-- a read that gave nothing
+pub hears_kept : {E : Type 0} (gives : E → Env → E → Type 0) (n : ℕ) (old mid : Scene E) (input : Option (List ℕ))
+    → Hears gives n old mid → Keeps mid.input input → Hears gives n old (scene mid.hub input mid.output mid.envs)
+hears_kept gives n old mid input h kept = record {
+  pieces = h.pieces;
+  answers = h.answers;
+  given = h.given;
+  run = h.run;
+  read = Consumes-kept old.input mid.input input (bytes_of h.pieces) h.read kept;
+  written = h.written;
 }
 
 -- a session that was greeted, and then heard what was read
-pub serves : (may : Verdict → Bool) (n : ℕ) (old mid new : HubState) (input input' output output' output'' : Option (List ℕ)) (greeting : List ℕ)
-    → ConnectsAs may old n greeting mid → Appends output output' greeting → Hears may n mid input output' new input' output'' → IsServed n new input'
-    → Serves may old input output new input' output''
-serves may n old mid new input input' output output' output'' greeting connects greeted h served = record {
-  n = n;
+pub answered : {E : Type 0} (gives : E → Env → E → Type 0) (n : ℕ) (old greeted : Scene E) (greeting : List ℕ)
+    → ConnectsAs old.hub n greeting greeted.hub → greeted.input ≡ old.input → Appends old.output greeted.output greeting → greeted.envs ≡ old.envs
+    → (new : Scene E) → Hears gives n greeted new → Answered gives n old new
+answered {E} gives n old greeted greeting connects unread written unasked new h = record {
   greeting = greeting;
-  connected = mid;
+  connected = greeted.hub;
   connects = connects;
-  bytes = h.bytes;
+  pieces = h.pieces;
   answers = h.answers;
+  given = subst (λ (x : E). GivesAll gives x h.pieces new.envs) unasked h.given;
   run = h.run;
-  read = h.read;
-  written = Appends-trans output output' output'' greeting h.answers greeted h.written;
-  served = served;
+  read = subst (λ (x : Option (List ℕ)). Consumes x new.input (bytes_of h.pieces)) unread h.read;
+  written = Appends-trans old.output greeted.output new.output greeting h.answers written h.written;
 }
 
-pub on_ok_both : {T E : Type 0} (r : Result T E) (P Q R : Type 0) → (P → Q → R) → OnOk r P → OnOk r Q → OnOk r R
-on_ok_both (Ok x) P Q R f p q = f p q
-on_ok_both (Err e) P Q R f p q = tt
+-- ---- what is known of a result
+
+ok_same : {T E : Type 0} (x y : T) → ◌≡◌ {A = Result T E} (Ok x) (Ok y) → x ≡ y
+ok_same x y e = cc
+
+err_not_ok : {T E : Type 0} (e : E) (x : T) → ◌≡◌ {A = Result T E} (Err e) (Ok x) → ⊥
+err_not_ok e x same = cc
+
+-- what `map_err` left an `Ok` was one
+pub was_ok : {T E : Type 0} (r : Result T E) (x : T) → MatchResult r (λ (y : T). ◌≡◌ {A = Result T ServeFault} (Ok x) (Ok y)) (λ e. ⊥) → r ≡ Ok x
+was_ok (Ok y) x same = let is = ok_same x y same in cc
+was_ok (Err e) x bad = absurd bad
+
+abbrev as_err : (T : Type 0) → ServeFault → Result T ServeFault
+as_err T e = Err e
+
+-- a hub's fault is handed out as it is
+of_hub : {T U : Type 0} (r : Result T ServeFault) (e : ServeFault) (fed : Result U HubFault) (P Q : HubFault → Type 0)
+    → ((fault : HubFault) → P fault → Q fault) → IsErrAnd r (λ x. x ≡ e)
+    → MatchResult fed (λ (x : U). ◌≡◌ {A = Result U ServeFault} (Err e) (Ok x)) (λ fault. e ≡ Hub fault) → IfErr fed P → IfHub r Q
+of_hub (Ok x) e fed P Q f same from known = tt
+of_hub {T} (Err x) e (Err fault) P Q f same from known =
+    subst (λ (y : ServeFault). IfHub (as_err T y) Q) (sym (same ∙ from)) (f fault known)
+of_hub (Err x) e (Ok y) P Q f same from known = absurd (err_not_ok e y from)
+
+-- serving ends by the fault of a feed
+pub hears_until : {E T U : Type 0} (gives : E → Env → E → Type 0) (n : ℕ) (old mid new : Scene E) (env : Env) (bytes : List ℕ) (fed : Result U HubFault) (r : Result T ServeFault) (e : ServeFault)
+    → Hears gives n old mid → is_hearing mid.hub n ≡ true → gives mid.envs env new.envs → Consumes mid.input new.input bytes → new.output ≡ mid.output
+    → IfErr fed (λ fault. FeedFails mid.hub env n bytes fault new.hub)
+    → IsErrAnd r (λ x. x ≡ e) → MatchResult fed (λ (x : U). ◌≡◌ {A = Result U ServeFault} (Err e) (Ok x)) (λ fault. e ≡ Hub fault)
+    → IfHub r (λ fault. HearsUntil gives n fault old new)
+hears_until gives n old mid new env bytes fed r e h hearing given read unwritten fails same from =
+    of_hub r e fed (λ fault. FeedFails mid.hub env n bytes fault new.hub) (λ fault. HearsUntil gives n fault old new)
+    (λ fault failed. (mid, h, record { hearing = hearing; env = env; given = given; bytes = bytes; read = read; fails = failed; unwritten = unwritten })) same from fails
+
+-- what happened to a greeted session happened to one that was connected
+module _ {E T : Type 0} (gives : E → Env → E → Type 0) (n : ℕ) (old greeted new : Scene E) (all : (s : Scene E) → Hears gives n greeted s → Answered gives n old s) where
+  pub then_serves : (r : Result T ServeFault) → OnOk r (Hears gives n greeted new) → OnOk r (IsServed n new) → OnOk r (Serves gives old new)
+  then_serves (Ok x) h served = (n, all new h, served)
+  then_serves (Err e) h served = tt
+
+  pub then_answers : (r : Result T ServeFault) → IfRead r (Hears gives n greeted new) → IfRead r (Answers gives old new)
+  then_answers (Ok x) h = tt
+  then_answers (Err (Read error)) h = (n, all new h)
+  then_answers (Err (Write error)) h = tt
+  then_answers (Err (Hub fault)) h = tt
+
+  pub then_fails : (r : Result T ServeFault) → IfHub r (λ fault. HearsUntil gives n fault greeted new) → IfHub r (λ fault. HubFails gives fault old new)
+  then_fails (Ok x) h = tt
+  then_fails (Err (Read error)) h = tt
+  then_fails (Err (Write error)) h = tt
+  then_fails (Err (Hub fault)) (before, h, stops) = inr (n, before, all before h, stops)

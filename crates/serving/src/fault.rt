@@ -7,10 +7,13 @@ use thiserror::Error;
 /// Why serving ends before its time.
 #[derive(Debug, Drop, Error)]
 pub enum ServeFault {
-    /// The reader or the writer failed.
-    #[error("io: {0}")]
-    Io(#[from] io::Error),
-    /// The hub failed, or memory was refused.
+    /// The reader failed.
+    #[error("read: {0}")]
+    Read(io::Error),
+    /// The writer failed.
+    #[error("write: {0}")]
+    Write(io::Error),
+    /// The hub failed.
     #[error("{0}")]
-    Hub(#[from] HubFault),
+    Hub(HubFault),
 }

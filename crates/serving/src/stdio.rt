@@ -1,14 +1,13 @@
 //! One session over a reader and a writer.
-ghost use Rattle.std.specs.Prelude.{◌<◌, length, OnOk};
+ghost use Rattle.std.specs.Prelude.{OnOk};
 ghost use Rattle.std.specs.Io.{ReadsAtMost};
 ghost use Rattle.std.specs.Io.KnownBytes.{Appends, ReadConsumes};
-ghost use Rattle.serving.specs.Stream.{Hears, IsServed, Serves};
+ghost use Rattle.serving.specs.Stream.{scene, Answers, Hears, HearsUntil, HubFails, IfHub, IfRead, IsServed, Serves};
 
 use crate::envs::EnvSource;
 use crate::fault::ServeFault;
-use hub::{Hub, HubFault, SessionId};
+use hub::{Hub, SessionId};
 use machine::SoleAccess;
-use std::alloc::Global;
 use std::io;
 use std::io::{ErrorKind, Read, Write};
 
@@ -38,48 +37,62 @@ fn write_now<W: Write>(output: &mut W, answer: &[u8]) -> io::Result<()>
     output.flush()
 }
 
-/// Answers pieces of the input, until it ends or the session isn't open any more.
+/// Answers pieces of the input, each before the next is read, until it ends or the session isn't open any more.
 fn serve_pieces<A: SoleAccess, R: Read, W: Write, E: EnvSource>(
     hub: &mut Hub<A>,
     number: SessionId,
     input: &mut R,
     output: &mut W,
     envs: &mut E,
-    buffer: &mut [u8],
 ) -> Result<(), ServeFault>
-    requires { 0 < length buffer.old }
-    ensures heard { OnOk result (Hears A.may number hub.old (R.remaining input.old) (W.contents output.old) hub.new (R.remaining input.new) (W.contents output.new)) }
-    ensures served { OnOk result (IsServed number hub.new (R.remaining input.new)) }
+    ensures heard { OnOk result (Hears E.gives number
+        (scene hub.old (R.remaining input.old) (W.contents output.old) envs.old)
+        (scene hub.new (R.remaining input.new) (W.contents output.new) envs.new)) }
+    ensures served { OnOk result (IsServed number
+        (scene hub.new (R.remaining input.new) (W.contents output.new) envs.new)) }
+    ensures read { IfRead result (Hears E.gives number
+        (scene hub.old (R.remaining input.old) (W.contents output.old) envs.old)
+        (scene hub.new (R.remaining input.new) (W.contents output.new) envs.new)) }
+    ensures stopped { IfHub result (λ fault. HearsUntil E.gives number fault
+        (scene hub.old (R.remaining input.old) (W.contents output.old) envs.old)
+        (scene hub.new (R.remaining input.new) (W.contents output.new) envs.new)) }
 {
+    let mut buffer = [0; PIECE];
     for _ in 0..u64::MAX {
         if !hub.is_open(number) {
             return Ok(());
         }
-        let count = read_piece(input, buffer)?;
+        let count = read_piece(input, &mut buffer).map_err(ServeFault::Read)?;
         if count == 0 {
             return Ok(());
         }
-        let answer = hub.feed(number, &buffer[..count], envs.next_env())?;
-        write_now(output, answer.as_slice())?;
+        let env = envs.next_env();
+        let fed = hub.feed(number, &buffer[..count], env);
+        let answer = fed.map_err(ServeFault::Hub)?;
+        write_now(output, answer.as_slice()).map_err(ServeFault::Write)?;
     }
-    Err(ServeFault::Io(io::Error::from(ErrorKind::Other)))
+    Err(ServeFault::Read(io::Error::from(ErrorKind::Other)))
 }
 
-/// Serves one session: greets it, and answers each piece of the input at once, until the input ends or the
-/// session isn't open any more.
+/// Serves one session: greets it, and answers each piece of the input before the next is read, until the input ends or
+/// the session isn't open any more. Where a read fails, all that was read before is answered.
 pub fn run_stdio<A: SoleAccess, R: Read, W: Write, E: EnvSource>(
-    alloc: Global,
     hub: &mut Hub<A>,
     input: &mut R,
     output: &mut W,
     envs: &mut E,
 ) -> Result<(), ServeFault>
-    ensures { OnOk result (Serves A.may hub.old (R.remaining input.old) (W.contents output.old) hub.new (R.remaining input.new) (W.contents output.new)) }
+    ensures served { OnOk result (Serves E.gives
+        (scene hub.old (R.remaining input.old) (W.contents output.old) envs.old)
+        (scene hub.new (R.remaining input.new) (W.contents output.new) envs.new)) }
+    ensures answered { IfRead result (Answers E.gives
+        (scene hub.old (R.remaining input.old) (W.contents output.old) envs.old)
+        (scene hub.new (R.remaining input.new) (W.contents output.new) envs.new)) }
+    ensures stopped { IfHub result (λ fault. HubFails E.gives fault
+        (scene hub.old (R.remaining input.old) (W.contents output.old) envs.old)
+        (scene hub.new (R.remaining input.new) (W.contents output.new) envs.new)) }
 {
-    let Ok(mut buffer) = vec![in alloc; 0; PIECE] else {
-        return Err(ServeFault::Hub(HubFault::NoMemory));
-    };
-    let (number, greeting) = hub.connect()?;
-    write_now(output, greeting.as_slice())?;
-    serve_pieces(hub, number, input, output, envs, buffer.as_mut_slice())
+    let (number, greeting) = hub.connect().map_err(ServeFault::Hub)?;
+    write_now(output, greeting.as_slice()).map_err(ServeFault::Write)?;
+    serve_pieces(hub, number, input, output, envs)
 }

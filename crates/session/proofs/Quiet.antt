@@ -1,5 +1,5 @@
 -- Answers that change nothing, and inputs that are answered so.
-use Rattle.std.proofs.Common.{◌≡◌, ℕ, List, [], ◌∷◌, Bool, true, false, Option, Some, None, refl, sym, ap, subst}
+use Rattle.std.proofs.Common.{◌≡◌, ℕ, List, [], ◌∷◌, ◌++◌, Bool, true, false, Option, Some, None, refl, sym, ap, subst, ◌∙◌, append_assoc}
 use Rattle.std.specs.Prelude.{Result, Ok, Err, if◌then◌else◌, codes}
 use Rattle.svnpath.specs.Urls.{path_of_text, root_of_text}
 use Rattle.forms.specs.Forms.{is_name}
@@ -20,19 +20,18 @@ use Rattle.machine.specs.declared.asked.Asked.{Asked}
 use Rattle.machine.specs.Points.{Point, world}
 use Rattle.machine.specs.Settings.{Settings}
 use Rattle.machine.specs.Hearing.{Input}
-use Rattle.machine.specs.Hearing.Input.{Broken}
-use Rattle.machine.specs.Machine.{Verdict, Effect, Answer, InputStep, says, speaks, malformed, url_answer, greeting_answer, login_answer, command_answer, asked_by, lock_tokens, commit_begins, skipping_answer}
-use Rattle.machine.specs.Machine.Effect.{Nothing}
+use Rattle.machine.specs.Machine.{Effect, no_effect, Answer, InputStep, print, says, speaks, malformed, url_answer, greeting_answer, login_answer, own_answer, login_request, behind, command_answer, asked_by, lock_tokens, commit_begins, skipping_answer}
 use Rattle.machine.specs.Access.{Served, Moves}
 use Rattle.machine.specs.Replying.{IsAnswered}
 use Rattle.machine.specs.declared.env.Env.{Env}
 use Rattle.machine.specs.Stages.{Stage}
-use Rattle.machine.specs.declared.phase.Phase.TheVariants.{Greeted, LoggingIn, Serving, Editing, Skipping, Ended}
+use Rattle.session.proofs.Runs.{print-append}
+use Rattle.machine.specs.declared.phase.Phase.TheVariants.{LoggingIn, Serving, Ended}
 use Rattle.machine.specs.declared.phase.Client.{Client}
 
 -- an answer that uses no word and changes nothing
 pub record IsQuiet (env : Env) (a : Answer) : Type 0 where
-  pub effect : a.effect ≡ Nothing
+  pub effect : a.effect ≡ no_effect
   pub env_is : a.env ≡ env
 
 quiet_says : (env : Env) (phase : Stage) (told : List Reply) → IsQuiet env (says env phase told)
@@ -65,12 +64,18 @@ quiet_begins : (s : Settings) (env : Env) (client : Client) (r : Result Asked Re
 quiet_begins s env client (Ok asked) = quiet_says env _ _
 quiet_begins s env client (Err r) = quiet_says env _ _
 
+quiet_own : (s : Settings) (env : Env) (c : RepoState) (client : Client) (command : MainCommand) → IsQuiet env (own_answer s env c client command)
+quiet_own s env c client GetLatestRev = quiet_says env _ _
+quiet_own s env c client (CheckPath path revision) = quiet_says env _ _
+quiet_own s env c client (RevProplist n) = quiet_says env _ _
+quiet_own s env c client (Commit command) = quiet_begins s env client (asked_by command (lock_tokens client.path command.tokens))
+quiet_own s env c client AbortEdit = quiet_says env _ _
+
+quiet_behind : (env : Env) (told : List Reply) (a : Answer) → IsQuiet env a → IsQuiet env (behind told a)
+quiet_behind env told a quiet = record { effect = quiet.effect; env_is = quiet.env_is }
+
 pub quiet_command : (s : Settings) (env : Env) (c : RepoState) (client : Client) (r : Result MainCommand CommandFault) → IsQuiet env (command_answer s env c client r)
-quiet_command s env c client (Ok GetLatestRev) = quiet_says env _ _
-quiet_command s env c client (Ok (CheckPath path revision)) = quiet_says env _ _
-quiet_command s env c client (Ok (RevProplist n)) = quiet_says env _ _
-quiet_command s env c client (Ok (Commit command)) = quiet_begins s env client (asked_by command (lock_tokens client.path command.tokens))
-quiet_command s env c client (Ok AbortEdit) = quiet_says env _ _
+quiet_command s env c client (Ok command) = quiet_behind env (login_request command) (own_answer s env c client command) (quiet_own s env c client command)
 quiet_command s env c client (Err UnknownName) = quiet_says env _ _
 quiet_command s env c client (Err BadParameters) = quiet_says env _ _
 quiet_command s env c client (Err NoMemory) = quiet_says env _ _
@@ -86,24 +91,24 @@ quiet_malformed env = quiet_says env _ _
 pub quiet_end : (env : Env) → IsQuiet env (says env Ended [])
 quiet_end env = quiet_says env _ _
 
-module _ (between : Point → Point → Type 0) (adds : Point → Accepted → Point → Type 0) (may : Verdict → Bool) (s : Settings) where
+-- what is told before an answer, and then the answer
+pub behind_answered : (told : List Reply) (a : Answer) (phase : Stage) (out mid out' : List ℕ)
+    → mid ≡ out ++ print told → IsAnswered a phase mid out' → IsAnswered (behind told a) phase out out'
+behind_answered told a phase out mid out' before answered = record {
+  phase_is = answered.phase_is;
+  written = answered.written ∙ ap (λ (x : List ℕ). x ++ print a.replies) before ∙ append_assoc out (print told) (print a.replies)
+      ∙ ap (λ (x : List ℕ). out ++ x) (sym (print-append told a.replies));
+}
+
+module _ (between : Point → Point → Type 0) (adds : Point → Accepted → Point → Type 0) (s : Settings) where
   -- an input that is answered so, at the point that was looked at
   pub said : (env : Env) (p q : Point) (phase after : Stage) (input : Input) (a : Answer) (out out' : List ℕ)
-      → between p q → InputStep may s env (world q) phase input a → IsQuiet env a → IsAnswered a after out out'
-      → Served between adds may s env p phase input out env q after out'
+      → between p q → InputStep q.halted s env (world q) phase input a → IsQuiet env a → IsAnswered a after out out'
+      → Served between adds s env p phase input out env q after out'
   said env p q phase after input a out out' later step quiet answered = record {
     answer = a;
-    serves = record { at = q; later = later; step_is = step; moves = subst (λ (e : Effect). Moves adds q e q) (sym quiet.effect) refl };
+    serves = record { at = q; later = later; step_is = step; moves = subst (λ (e : Effect). Moves adds q e q) (sym quiet.effect) (q, refl, refl) };
     env_after = sym quiet.env_is;
     phase_after = answered.phase_is;
     written = answered.written;
   }
-
--- after a byte that goes on to no item, and after the end, the session has ended
-pub broken_ends : (may : Verdict → Bool) (s : Settings) (env : Env) (c : RepoState) (phase : Stage) (a : Answer) → InputStep may s env c phase Broken a → a.phase ≡ Ended
-broken_ends may s env c Greeted a step = ap (λ (x : Answer). x.phase) step
-broken_ends may s env c (LoggingIn client) a step = ap (λ (x : Answer). x.phase) step
-broken_ends may s env c (Serving client) a step = ap (λ (x : Answer). x.phase) step
-broken_ends may s env c (Editing client asked edit) a step = ap (λ (x : Answer). x.phase) step
-broken_ends may s env c (Skipping client) a step = ap (λ (x : Answer). x.phase) step
-broken_ends may s env c Ended a step = ap (λ (x : Answer). x.phase) step

@@ -10,7 +10,7 @@ ghost use Rattle.svnpath.specs.Texts.{joined};
 ghost use Rattle.machine.specs.Points.{world};
 ghost use Rattle.session.specs.Taking.{input_of};
 ghost use Rattle.machine.specs.Hearing.Input.{Whole, Broken};
-ghost use Rattle.machine.specs.Machine.{check_path_reply, rev_proplist_reply, print, at_revision, served, greeting_answer, login_answer, command_answer};
+ghost use Rattle.machine.specs.Machine.{check_path_reply, rev_proplist_reply, print, at_revision, serves, greeting_answer, login_answer, own_answer, login_request, command_answer};
 ghost use Rattle.repo_api.specs.States.{youngest};
 ghost use Rattle.machine.specs.Stages.{RestsOn};
 ghost use Rattle.machine.specs.Access.{Served, Fails};
@@ -210,7 +210,7 @@ fn obey<R: Repository, A: RepoAccess<View = R>>(
     }
 }
 
-/// A command that is known.
+/// A command that is known: the login request, and then its own answer.
 fn run<R: Repository, A: RepoAccess<View = R>>(
     alloc: Global,
     options: &Options,
@@ -220,6 +220,50 @@ fn run<R: Repository, A: RepoAccess<View = R>>(
     out: &mut Vec<u8>,
 ) -> Result<SessionPhase<R>, AllocError>
     ensures ok { IfOk result (λ phase. (env : Env) → IsAnswered (command_answer options.now env (world (A.point access.new)) client (Ok command.now)) phase out.old.items out.new.items) }
+    ensures later { A.between (A.point access.old) (A.point access.new) }
+{
+    match request_login(alloc, command, out) {
+        Ok(()) => {
+            let phase = answer(alloc, options, client, command, access, out)?;
+            Ok(phase)
+        }
+        Err(error) => {
+            forget(client);
+            Err(error)
+        }
+    }
+}
+
+/// Tells the login request that comes before a command's own answer, if there is one.
+fn request_login(alloc: Global, command: &MainCommand, out: &mut Vec<u8>) -> Result<(), AllocError>
+    ensures { OnOk result (out.new.items ≡ out.old.items ++ print (login_request command.now)) }
+{
+    match command {
+        MainCommand::GetLatestRev => want_no_login(alloc, out),
+        MainCommand::CheckPath(_, _) => want_no_login(alloc, out),
+        MainCommand::RevProplist(_) => want_no_login(alloc, out),
+        MainCommand::Commit(_) => want_no_login(alloc, out),
+        MainCommand::AbortEdit => Ok(()),
+    }
+}
+
+/// Tells a client that no login is wanted.
+fn want_no_login(alloc: Global, out: &mut Vec<u8>) -> Result<(), AllocError>
+    ensures { OnOk result (out.new.items ≡ out.old.items ++ print (Reply.NoLogin ∷ [])) }
+{
+    say(alloc, &Reply::NoLogin, out)
+}
+
+/// A command's own answer.
+fn answer<R: Repository, A: RepoAccess<View = R>>(
+    alloc: Global,
+    options: &Options,
+    client: Client,
+    command: &MainCommand,
+    access: &mut A,
+    out: &mut Vec<u8>,
+) -> Result<SessionPhase<R>, AllocError>
+    ensures ok { IfOk result (λ phase. (env : Env) → IsAnswered (own_answer options.now env (world (A.point access.new)) client command.now) phase out.old.items out.new.items) }
     ensures later { A.between (A.point access.old) (A.point access.new) }
 {
     match command {
@@ -253,7 +297,7 @@ fn tell<R: Repository>(
     reply: Reply,
     out: &mut Vec<u8>,
 ) -> Result<SessionPhase<R>, AllocError>
-    ensures { IfOk result (λ phase. (env : Env) → IsAnswered (served env client reply) phase out.old.items out.new.items) }
+    ensures { IfOk result (λ phase. (env : Env) → IsAnswered (serves env client reply) phase out.old.items out.new.items) }
 {
     say_answer(alloc, reply, out)?;
     Ok(Phase::Serving(client))
@@ -261,9 +305,9 @@ fn tell<R: Repository>(
 
 /// Writes the answer to a command.
 fn say_answer(alloc: Global, reply: Reply, out: &mut Vec<u8>) -> Result<(), AllocError>
-    ensures { OnOk result (out.new.items ≡ out.old.items ++ print (Reply.NoLogin ∷ reply ∷ [])) }
+    ensures { OnOk result (out.new.items ≡ out.old.items ++ print (reply ∷ [])) }
 {
-    say_both(alloc, &Reply::NoLogin, &reply, out)
+    say(alloc, &reply, out)
 }
 
 /// The youngest revision of the repository as it is now.
@@ -358,13 +402,14 @@ fn serve_item<R: Repository, A: RepoAccess<View = R>>(
     phase: SessionPhase<R>,
     item: &Item,
     access: &mut A,
-    env: Env,
+    env: &mut Env,
     out: &mut Vec<u8>,
 ) -> Result<SessionPhase<R>, AllocError>
     requires rests { RestsOn phase (world (A.point access.old)) }
-    requires moment { env.moment ≤ 200000000000000000 }
-    ensures ok { IfOk result (λ after. Served A.between A.adds A.may options.now env (A.point access.old) phase (Whole (tree_of item.now)) out.old.items env (A.point access.new) after out.new.items) }
-    ensures err { OnErr result (Fails A.between A.adds A.may options.now env (A.point access.old) phase (Whole (tree_of item.now)) (A.point access.new)) }
+    requires moment { env.old.moment ≤ 200000000000000000 }
+    ensures ok { IfOk result (λ after. Served A.between A.adds options.now env.old (A.point access.old) phase (Whole (tree_of item.now)) out.old.items env.new (A.point access.new) after out.new.items) }
+    ensures err { OnErr result (Fails A.between A.adds options.now env.old (A.point access.old) phase (Whole (tree_of item.now)) (A.point access.new)) }
+    ensures moment { env.new.moment ≡ env.old.moment }
 {
     match phase {
         Phase::Greeted => {
@@ -380,7 +425,7 @@ fn serve_item<R: Repository, A: RepoAccess<View = R>>(
             Ok(after)
         }
         Phase::Editing(client, asked, editor) => {
-            let after = edit_item(alloc, client, asked, editor, item, access, env, out)?;
+            let after = edit_item(alloc, client, asked, editor, item, access, *env, out)?;
             Ok(after)
         }
         Phase::Skipping(client) => {
@@ -397,10 +442,11 @@ fn serve_broken<R: Repository, A: RepoAccess<View = R>>(
     options: &Options,
     phase: SessionPhase<R>,
     access: &A,
-    env: Env,
+    env: &mut Env,
     out: &mut Vec<u8>,
 ) -> Result<SessionPhase<R>, AllocError>
-    ensures { IfOk result (λ after. Served A.between A.adds A.may options.now env (A.point access.now) phase Broken out.old.items env (A.point access.now) after out.new.items) }
+    ensures ok { IfOk result (λ after. Served A.between A.adds options.now env.old (A.point access.now) phase Broken out.old.items env.new (A.point access.now) after out.new.items) }
+    ensures moment { env.new.moment ≡ env.old.moment }
 {
     match phase {
         Phase::Greeted => {
@@ -439,13 +485,14 @@ pub fn serve<R: Repository, A: RepoAccess<View = R>>(
     phase: SessionPhase<R>,
     incoming: &Incoming,
     access: &mut A,
-    env: Env,
+    env: &mut Env,
     out: &mut Vec<u8>,
 ) -> Result<SessionPhase<R>, AllocError>
     requires rests { RestsOn phase (world (A.point access.old)) }
-    requires moment { env.moment ≤ 200000000000000000 }
-    ensures ok { IfOk result (λ after. Served A.between A.adds A.may options.now env (A.point access.old) phase (input_of incoming.now) out.old.items env (A.point access.new) after out.new.items) }
-    ensures err { OnErr result (Fails A.between A.adds A.may options.now env (A.point access.old) phase (input_of incoming.now) (A.point access.new)) }
+    requires moment { env.old.moment ≤ 200000000000000000 }
+    ensures ok { IfOk result (λ after. Served A.between A.adds options.now env.old (A.point access.old) phase (input_of incoming.now) out.old.items env.new (A.point access.new) after out.new.items) }
+    ensures err { OnErr result (Fails A.between A.adds options.now env.old (A.point access.old) phase (input_of incoming.now) (A.point access.new)) }
+    ensures moment { env.new.moment ≡ env.old.moment }
 {
     match incoming {
         Incoming::Whole(item) => {

@@ -40,17 +40,18 @@ fn serve_all<R: Repository, A: RepoAccess<View = R>>(
 ) -> Result<(SessionPhase<R>, Vec<u8>), AllocError>
     requires rests { RestsOn phase (world (A.point access.old)) }
     requires moment { env.moment ≤ 200000000000000000 }
-    ensures ok { IfOk result (λ r. Fed A.between A.adds A.may options.now env (A.point access.old) phase reader.old.rest reader.new.rest (A.point access.new) r.0 r.1.items) }
-    ensures err { OnErr result (Lost A.between A.adds A.may options.now env (A.point access.old) phase reader.old.rest (A.point access.new)) }
+    ensures ok { IfOk result (λ r. Fed A.between A.adds options.now env (A.point access.old) phase reader.old.rest reader.new.rest (A.point access.new) r.0 r.1.items) }
+    ensures err { OnErr result (Lost A.between A.adds options.now env (A.point access.old) phase reader.old.rest (A.point access.new)) }
     ensures rests { IfOk result (λ r. RestsOn r.0 (world (A.point access.new))) }
 {
     let mut phase = phase;
+    let mut env = env;
     let mut out = Vec::new(alloc);
     'inputs: loop {
         match take_incoming(reader)? {
             None => return Ok((phase, out)),
             Some(incoming) => {
-                let served = serve(alloc, options, phase, &incoming, access, env, &mut out);
+                let served = serve(alloc, options, phase, &incoming, access, &mut env, &mut out);
                 discard(incoming);
                 phase = served?;
                 if !is_open(&phase) {
@@ -113,10 +114,10 @@ impl<R: Repository> Session<R> {
     ) -> Result<Vec<u8>, SessionFault>
         requires rests { RestsOn self.old.phase (world (A.point access.old)) }
         requires moment { env.moment ≤ 200000000000000000 }
-        ensures ok { IfOk result (λ out. Fed A.between A.adds A.may options.now env (A.point access.old) self.old.phase (self.old.rest ++ piece.now) self.new.rest (A.point access.new) self.new.phase out.items) }
+        ensures ok { IfOk result (λ out. Fed A.between A.adds options.now env (A.point access.old) self.old.phase (self.old.rest ++ piece.now) self.new.rest (A.point access.new) self.new.phase out.items) }
         ensures was_open { OnOk result (is_open self.old.phase ≡ true) }
         ensures ended { IsErrOf result SessionFault.Ended → is_open self.old.phase ≡ false }
-        ensures lost { OnErr result (is_open self.old.phase ≡ true → Lost A.between A.adds A.may options.now env (A.point access.old) self.old.phase (self.old.rest ++ piece.now) (A.point access.new)) }
+        ensures lost { OnErr result (is_open self.old.phase ≡ true → Lost A.between A.adds options.now env (A.point access.old) self.old.phase (self.old.rest ++ piece.now) (A.point access.new)) }
         ensures err { OnErr result (is_open self.new.phase ≡ false) }
         ensures rests { RestsOn self.new.phase (world (A.point access.new)) }
     {

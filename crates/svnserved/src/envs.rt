@@ -45,6 +45,11 @@ impl<'a, C: Clock + RandomSource> SystemEnvs<'a, C> {
 }
 
 impl<'a, C: Clock> EnvSource for SystemEnvs<'a, C> {
+    ghost use Rattle.std.specs.Prelude.{⊤};
+
+    // nothing is known of what a clock shows, nor of what random words come
+    ghost gives = { λ _ _ _. ⊤ };
+
     fn next_env(&mut self) -> Env {
         let mut token = [0; 16];
         self.words.fill_bytes(&mut token);

@@ -67,7 +67,7 @@ impl From<HubFault> for ProgramFault {
 impl From<ServeFault> for ProgramFault {
     fn from(fault: ServeFault) -> Self {
         match fault {
-            ServeFault::Io(_) => ProgramFault::Io,
+            ServeFault::Read(_) | ServeFault::Write(_) => ProgramFault::Io,
             ServeFault::Hub(fault) => ProgramFault::Hub(fault),
         }
     }

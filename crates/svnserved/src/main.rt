@@ -59,16 +59,9 @@ fn empty_hub(alloc: Global, name: &str) -> Result<Hub<Direct<FlatRepo>>, Program
 
 /// Serves one session over the standard streams, on an empty repository in memory.
 fn serve_stdio(rt: &HostRuntime, name: &str) -> Result<(), ProgramFault> {
-    let alloc = rt.alloc();
-    let mut hub = empty_hub(alloc, name)?;
+    let mut hub = empty_hub(rt.alloc(), name)?;
     let mut envs = SystemEnvs::new(rt)?;
-    run_stdio(
-        alloc,
-        &mut hub,
-        &mut rt.stdin(),
-        &mut rt.stdout(),
-        &mut envs,
-    )?;
+    run_stdio(&mut hub, &mut rt.stdin(), &mut rt.stdout(), &mut envs)?;
     Ok(())
 }
 

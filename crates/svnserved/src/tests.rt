@@ -1,4 +1,6 @@
 //! The loop over a reader and a writer, byte by byte and where a stream fails.
+ghost use Rattle.std.specs.Prelude.{◌≡◌};
+
 use super::*;
 use serving::{Env, EnvSource, ServeFault};
 use std::io;
@@ -11,11 +13,24 @@ const INPUT: &[u8] =
 const OUTPUT: &[u8] =
     b"( success ( 2 2 ( ) ( edit-pipeline absent-entries commit-revprops ) ) ) ( success ( ( ANONYMOUS ) 1:r ) ) ( success ( ) ) ( success ( 36:00000000-0000-4000-8000-000000000000 9:svn://h/r ( ) ) ) ( success ( ( ) 0: ) ) ( success ( 0 ) ) ( success ( ( ) 0: ) ) ( success ( none ) ) ( success ( ( ) 0: ) ) ( success ( ( ( 8:svn:date 27:1970-01-01T00:00:00.000000Z ) ) ) ) ";
 
+/// A client's beginning, up to the first byte of a command.
+const BEGINNING: &[u8] = b"( 2 ( edit-pipeline ) 15:svn://h/r/trunk ) ( ANONYMOUS ( 0: ) ) (";
+
+/// What it draws.
+const ANSWERS: &[u8] =
+    b"( success ( 2 2 ( ) ( edit-pipeline absent-entries commit-revprops ) ) ) ( success ( ( ANONYMOUS ) 1:r ) ) ( success ( ) ) ( success ( 36:00000000-0000-4000-8000-000000000000 9:svn://h/r ( ) ) ) ";
+
+/// What a client is greeted with.
+const GREETING: &[u8] =
+    b"( success ( 2 2 ( ) ( edit-pipeline absent-entries commit-revprops ) ) ) ";
+
 /// A clock that stands still.
 #[derive(Drop)]
 struct Still;
 
 impl EnvSource for Still {
+    ghost gives = { λ _ env _. env ≡ record { moment = 0; token = 0; nonce = 0 } };
+
     fn next_env(&mut self) -> Env {
         Env {
             moment: 0,
@@ -85,49 +100,47 @@ fn drip(bytes: &'static [u8], fails: bool) -> Dripping {
 
 #[test]
 fn answers_byte_by_byte(rt: HostRuntime) -> Result<(), Fail> {
-    let alloc = rt.alloc();
-    let mut hub = empty_hub(alloc, "r")?;
-    let mut output = Vec::new(alloc);
-    run_stdio(
-        alloc,
-        &mut hub,
-        &mut drip(INPUT, false),
-        &mut output,
-        &mut Still,
-    )?;
+    let mut hub = empty_hub(rt.alloc(), "r")?;
+    let mut output = Vec::new(rt.alloc());
+    run_stdio(&mut hub, &mut drip(INPUT, false), &mut output, &mut Still)?;
     assert_eq!(rt; output.as_slice(), OUTPUT);
     Ok(())
 }
 
-#[test]
-fn stops_where_the_reader_fails(rt: HostRuntime) -> Result<(), Fail> {
-    let alloc = rt.alloc();
+/// What is written where the reader fails behind these bytes, if it is told so.
+fn written_before(alloc: Global, bytes: &'static [u8]) -> Result<Option<Vec<u8>>, Fail> {
     let mut hub = empty_hub(alloc, "r")?;
     let mut output = Vec::new(alloc);
-    let ended = run_stdio(
-        alloc,
-        &mut hub,
-        &mut drip(&INPUT[..65], true),
-        &mut output,
-        &mut Still,
+    match run_stdio(&mut hub, &mut drip(bytes, true), &mut output, &mut Still) {
+        Err(ServeFault::Read(_)) => Ok(Some(output)),
+        _ => Ok(None),
+    }
+}
+
+#[test]
+fn greets_before_the_first_read(rt: HostRuntime) -> Result<(), Fail> {
+    let written = written_before(rt.alloc(), b"")?;
+    assert!(rt; written.is_some());
+    assert_eq!(rt;
+        written.unwrap_or(Vec::new(rt.alloc())).as_slice(),
+        GREETING
     );
-    assert!(rt; matches!(ended, Err(ServeFault::Io(_))));
-    assert!(rt; OUTPUT.starts_with(output.as_slice()));
+    Ok(())
+}
+
+#[test]
+fn answers_what_was_read_before_the_reader_fails(rt: HostRuntime) -> Result<(), Fail> {
+    let written = written_before(rt.alloc(), BEGINNING)?;
+    assert!(rt; written.is_some());
+    assert_eq!(rt; written.unwrap_or(Vec::new(rt.alloc())).as_slice(), ANSWERS);
     Ok(())
 }
 
 #[test]
 fn stops_where_the_writer_fails(rt: HostRuntime) -> Result<(), Fail> {
-    let alloc = rt.alloc();
-    let mut hub = empty_hub(alloc, "r")?;
+    let mut hub = empty_hub(rt.alloc(), "r")?;
     let mut output = Closing { is_greeted: false };
-    let ended = run_stdio(
-        alloc,
-        &mut hub,
-        &mut drip(INPUT, false),
-        &mut output,
-        &mut Still,
-    );
-    assert!(rt; matches!(ended, Err(ServeFault::Io(_))));
+    let ended = run_stdio(&mut hub, &mut drip(INPUT, false), &mut output, &mut Still);
+    assert!(rt; matches!(ended, Err(ServeFault::Write(_))));
     Ok(())
 }

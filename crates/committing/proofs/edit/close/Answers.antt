@@ -20,5 +20,5 @@ pub returns-in_ok-phase-in-Err-clause-ok : goal.returns-in_ok-phase-in-Err-claus
 returns-in_ok-phase-in-Err-clause-ok g c =
     let now = g.A.RepoAccess.point c.args.access.now in
     let answered = c.in_ok-phase-in-Err.ensures c.args.env in
-    rw answered.phase_is (made g.A.RepoAccess.between g.A.RepoAccess.adds (λ w a. CloseStep g.A.RepoAccess.may c.args.env w c.args.client c.args.asked (finished c.args.editor) a) now now c.args.env (Serving c.args.client) (replies.Failure c.in-Err.refusal ∷ []) _ _
-    (g.met.A.RepoAccess.stays now) (close_refused g.A.RepoAccess.may c.args.env (world now) c.args.client c.args.asked (finished c.args.editor) c.in-Err.refusal c.in-Err.ensures) answered.written)
+    rw answered.phase_is (made g.A.RepoAccess.between g.A.RepoAccess.adds (λ at a. CloseStep at.halted c.args.env (world at) c.args.client c.args.asked (finished c.args.editor) a) now now c.args.env (Serving c.args.client) (replies.Failure c.in-Err.refusal ∷ []) _ _
+    (g.met.A.RepoAccess.stays now) (close_refused now.halted c.args.env (world now) c.args.client c.args.asked (finished c.args.editor) c.in-Err.refusal c.in-Err.ensures) answered.written)

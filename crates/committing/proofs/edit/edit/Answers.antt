@@ -10,7 +10,7 @@ pub returns-in-Ok-clause-ok : goal.returns-in-Ok-clause-ok
 returns-in-Ok-clause-ok g c =
     let now = world (g.A.RepoAccess.point c.apply_now.new.access) in
     let applied = c.in-Ok.ensures.ok in
-    made g.A.RepoAccess.between g.A.RepoAccess.adds (λ w a. EditStep c.args.env w c.args.client c.args.asked c.args.editor c.args.command.now a) _ _ c.args.env (Editing c.args.client c.args.asked c.apply_now.new.editor) [] _ _
+    made g.A.RepoAccess.between g.A.RepoAccess.adds (λ at a. EditStep c.args.env (world at) c.args.client c.args.asked c.args.editor c.args.command.now a) _ _ c.args.env (Editing c.args.client c.args.asked c.apply_now.new.editor) [] _ _
     c.apply_now.ensures.later (edit_goes_on c.args.env now c.args.client c.args.asked c.args.editor c.apply_now.new.editor c.args.command.now applied.0 applied.1) (sym (append-nil c.args.out.now.items))
 
 pub returns-in_ok-phase-in-Err-Refused-clause-ok : goal.returns-in_ok-phase-in-Err-Refused-clause-ok
@@ -18,5 +18,5 @@ returns-in_ok-phase-in-Err-Refused-clause-ok g c =
     let now = world (g.A.RepoAccess.point c.apply_now.new.access) in
     let refused = rw c.in-Err-Refused.field-0-is at c.in-Err-Refused.ensures.err in
     let answered = c.in_ok-phase-in-Err-Refused.ensures c.args.env in
-    rw answered.phase_is (made g.A.RepoAccess.between g.A.RepoAccess.adds (λ w a. EditStep c.args.env w c.args.client c.args.asked c.args.editor c.args.command.now a) _ _ c.args.env (Skipping c.args.client) (replies.Failure c.in-Err-Refused.refusal ∷ []) _ _
+    rw answered.phase_is (made g.A.RepoAccess.between g.A.RepoAccess.adds (λ at a. EditStep c.args.env (world at) c.args.client c.args.asked c.args.editor c.args.command.now a) _ _ c.args.env (Skipping c.args.client) (replies.Failure c.in-Err-Refused.refusal ∷ []) _ _
     c.apply_now.ensures.later (edit_ends c.args.env now c.args.client c.args.asked c.args.editor c.args.command.now c.in-Err-Refused.refusal refused) answered.written)

@@ -1,6 +1,7 @@
 use Rattle.std.proofs.Common.{[], ◌∷◌, ◌≡◌, Ok, Some, None, refl, sym, ap, ◌∙◌}
 use Rattle.std.proofs.lemmas.Result.{err_from_is_err_and}
 use Rattle.replies.specs.declared.reply.Reply.TheVariants as replies
+use Rattle.machine.specs.Points.{world}
 use Rattle.machine.specs.Machine.{EditingStep, ending_of}
 use Rattle.machine.specs.declared.ending.Ending.TheVariants.{Commits, GivesUp}
 use Rattle.machine.specs.declared.phase.Phase.TheVariants.{Serving}
@@ -22,7 +23,7 @@ pub returns-in_ok-say-in-Some-GivesUp-clause-ok : goal.returns-in_ok-say-in-Some
 returns-in_ok-say-in-Some-GivesUp-clause-ok g c =
     let now = g.A.RepoAccess.point c.args.access.now in
     let is : ending_of c.args.command.now ≡ Some GivesUp = sym c.ending_of.ensures ∙ c.in-Some-GivesUp.is ∙ ap Some c.in-Some-GivesUp.field-0-is in
-    made g.A.RepoAccess.between g.A.RepoAccess.adds (λ w a. EditingStep g.A.RepoAccess.may c.args.env w c.args.client c.args.asked c.args.editor (Ok c.args.command.now) a) now now c.args.env (Serving c.args.client) (replies.Success ∷ []) _ _
+    made g.A.RepoAccess.between g.A.RepoAccess.adds (λ at a. EditingStep at.halted c.args.env (world at) c.args.client c.args.asked c.args.editor (Ok c.args.command.now) a) now now c.args.env (Serving c.args.client) (replies.Success ∷ []) _ _
     (g.met.A.RepoAccess.stays now) (rw is refl) c.in_ok-say-in-Some-GivesUp.ensures
 
 pub returns-in_ok-phase-in-None-clause-ok : goal.returns-in_ok-phase-in-None-clause-ok

@@ -1,5 +1,8 @@
-use Rattle.hub.proofs.Staying.{after_event}
+use Rattle.hub.proofs.Staying.{event_refused, event_commits}
 use Rattle.hub.proofs.laws.refused_changes_nothing.Goals as goal
 
-pub returns : goal.returns
-returns c = after_event
+pub returns-clause-refused : goal.returns-clause-refused
+returns-clause-refused c = event_refused
+
+pub returns-clause-changed : goal.returns-clause-changed
+returns-clause-changed c = event_commits

@@ -1,9 +1,13 @@
-use Rattle.std.proofs.Common.{[], refl, ap, false}
-use Rattle.repo_api.specs.States.{RepoState}
-use Rattle.machine.specs.Points.{Point}
+use Rattle.std.proofs.Common.{◌≡◌, refl, ap}
+use Rattle.hub.specs.Alone.{point_at, point_after}
+use Rattle.hub.proofs.InMemory.{commit_fails}
 use Rattle.hub.proofs.direct.DirectRepoAccess.commit.Goals as goal
 
-pub returns-in-Ok-clause-ok : goal.returns-in-Ok-clause-ok
-returns-in-Ok-clause-ok g c =
-    let now : RepoState → Point = λ w. record { first = w; changes = []; halted = false } in
-    (now (g.R.Repository.content c.args.self.now.repository), refl, c.in-Ok.ensures.accepted, c.in-Ok.ensures.number, refl, ap now c.in-Ok.ensures.ok)
+pub returns-in-Ok : goal.returns-in-Ok
+returns-in-Ok g c =
+    (point_at (g.R.Repository.content c.args.self.now.repository), refl, (refl, c.in-Ok.ensures.accepted, c.in-Ok.ensures.number, ap point_at c.in-Ok.ensures.ok))
+
+pub returns-in-Err : goal.returns-in-Err
+returns-in-Err g c =
+    let old = g.R.Repository.content c.args.self.now.repository in
+    (point_at old, refl, commit_fails (λ p e q. q ≡ point_after p e) old (g.R.Repository.content c.commit.new.self) c.args.ask (g.R.Repository.txn_state c.args.txn) c.in-Err.fault c.in-Err.ensures.refused c.in-Err.ensures.memory c.in-Err.ensures.err)

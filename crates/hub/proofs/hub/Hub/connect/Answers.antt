@@ -1,7 +1,7 @@
 use Rattle.std.proofs.Common.{rules, ◌⊎◌, inl, inr, ◌≤◌, ◌^◌, length, false, ◌≡◌, [], ◌∷◌, ◌+◌, refl, sym, subst, ◌∙◌}
 use Rattle.machine.specs.Points.{world}
 use Rattle.replies.specs.declared.reply.Reply.TheVariants.{Greeting}
-use Rattle.hub.specs.State.{HubState}
+use Rattle.hub.specs.State.{HubState, hub_at}
 use Rattle.hub.specs.Calls.{ConnectsAs}
 use Rattle.hub.specs.Runs.{new_session}
 use Rattle.hub.proofs.Everywhere.{AllOpen-push, AllRest-push}
@@ -19,14 +19,14 @@ returns-in-Ok-add_session-clause-ok g c =
     let p = g.A.RepoAccess.point c.self.inside.access in
     let sessions = c.in-Ok-add_session.ensures.ok in
     let number = c.self.inside.used + 1 in
-    subst (λ (h : HubState). ConnectsAs g.A.RepoAccess.may h number c.in-Ok.out.items
-    (record { settings = c.self.inside.options; content = world p; halted = p.halted; sessions = c.add_session.new.sessions.items; used = number }))
+    subst (λ (h : HubState). ConnectsAs h number c.in-Ok.out.items
+    (hub_at c.self.inside.options p c.add_session.new.sessions.items number))
     c.self.view_is
     (record {
       running = sym c.is_halted.ensures ∙ c.if-is_halted.false;
       room = search rules;
       told = Greeting ∷ [];
-      step = λ env. (refl, refl, refl, λ i. record { settings = c.self.inside.options; content = world p; halted = p.halted; sessions = sessions i; used = number });
+      step = λ env. (refl, refl, refl, λ i. hub_at c.self.inside.options p (sessions i) number);
       written = c.in-Ok.ensures;
     })
 
