@@ -5,6 +5,7 @@
 use anyhow::Result;
 use std::alloc::{AllocError, Global};
 use std::env;
+use std::sync::Arc;
 use std::time::Instant;
 use svndiff0::{Applier, encode_full};
 
@@ -37,7 +38,7 @@ fn copies(alloc: Global) -> Result<Vec<u8>, AllocError> {
     Ok(document)
 }
 
-fn apply(alloc: Global, base: Vec<u8>, document: &[u8], size: usize) -> Result<Vec<u8>> {
+fn apply(alloc: Global, base: Arc<Vec<u8>>, document: &[u8], size: usize) -> Result<Arc<Vec<u8>>> {
     let mut applier = Applier::new(alloc, base);
     let mut rest = document;
     for _ in 0..document.len() {
@@ -48,19 +49,20 @@ fn apply(alloc: Global, base: Vec<u8>, document: &[u8], size: usize) -> Result<V
         applier.feed(piece)?;
         rest = behind;
     }
-    Ok(applier.finish()?)
+    Ok(applier.share_text()?)
 }
 
 /// Applies a document in pieces of 64 KiB and of one byte, and says what came out.
-fn measure(rt: &HostRuntime, what: &str, base: &[u8], document: &[u8], timed: bool) -> Result<()> {
+fn measure(
+    rt: &HostRuntime,
+    what: &str,
+    base: &Arc<Vec<u8>>,
+    document: &[u8],
+    timed: bool,
+) -> Result<()> {
     for size in [65_536usize, 1] {
         let start = Instant::now(rt)?;
-        let text = apply(
-            rt.alloc(),
-            Vec::from_slice(rt.alloc(), base)?,
-            document,
-            size,
-        )?;
+        let text = apply(rt.alloc(), Arc::try_clone(base)?, document, size)?;
         let taken = start.elapsed(rt)?.as_micros();
         if timed {
             println!(rt;
@@ -78,8 +80,10 @@ fn main(rt: HostRuntime) -> Result<()> {
     let timed = env::args(&rt)?.any(|word| word.as_str() == "time");
     let text = vec![in rt.alloc(); 7u8; SIZE]?;
     let document = encode_full(rt.alloc(), text.as_slice())?;
-    measure(&rt, "new data", &[], document.as_slice(), timed)?;
+    let nothing = Arc::new(rt.alloc(), Vec::new(rt.alloc()))?;
+    measure(&rt, "new data", &nothing, document.as_slice(), timed)?;
     let copied = copies(rt.alloc())?;
-    measure(&rt, "copies", text.as_slice(), copied.as_slice(), timed)?;
+    let text = Arc::new(rt.alloc(), text)?;
+    measure(&rt, "copies", &text, copied.as_slice(), timed)?;
     Ok(())
 }

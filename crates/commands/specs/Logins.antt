@@ -51,7 +51,9 @@ are_clients (more (list ts) rest) = false
 abbrev pub greeting : ℕ → Trees → List ℕ → Trees → Result ClientGreeting CommandFault
 greeting version capabilities url rest =
     if are_words capabilities
-    then (if are_clients rest then Ok (record { version = version; edit_pipeline = has_word (codes "edit-pipeline") capabilities; url = url }) else Err BadParameters)
+    then (if are_clients rest
+    then Ok (record { version = version; edit_pipeline = has_word (codes "edit-pipeline") capabilities; url = url })
+    else Err BadParameters)
     else Err BadParameters
 
 -- `url ? ra-client ( ? client )`

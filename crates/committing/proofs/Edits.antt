@@ -18,7 +18,9 @@ use Rattle.edit_rules.specs.Refusing.{edit_refusal}
 use Rattle.edit_rules.specs.Editor.{Applies}
 use Rattle.machine.specs.Points.{Point, world}
 use Rattle.machine.specs.Stages.{Stage}
-use Rattle.machine.specs.Machine.{Verdict, Answer, Edits, EditStep, CommitStep, CloseStep, commit_answer, commit_ask, says, gives_up, print}
+use Rattle.replies.specs.Replies.{print}
+use Rattle.replies.specs.Sinks.{WritesPart}
+use Rattle.machine.specs.Machine.{Verdict, Answer, Edits, EditStep, CommitStep, CloseStep, commit_answer, commit_ask, says, gives_up}
 use Rattle.machine.specs.Machine.Verdict.{Went, Failed, Halts}
 use Rattle.machine.specs.Access.{CommitsAt, Happens, Made, Misses}
 use Rattle.machine.specs.declared.asked.Asked.{Asked}
@@ -81,30 +83,36 @@ pub record Leads (between : Point → Point → Type 0) (adds : Point → Accept
   pub phase_is : phase ≡ answer.phase
   pub told_is : told ≡ answer.replies
 
-module _ (between : Point → Point → Type 0) (adds : Point → Accepted → Point → Type 0) (step : Point → Answer → Type 0) where
+module _ (between : Point → Point → Type 0) (adds : Point → Accepted → Point → Type 0) (step : Point → Answer → Type 0) (writes : List ℕ → Type 0) where
   -- a step that changes nothing, at the point that was looked at
-  pub made : (p q : Point) (env : Env) (phase : Stage) (told : List Reply) (out out' : List ℕ)
-      → between p q → step q (says env phase told) → out' ≡ out ++ print told → Made between adds step p out q phase out'
-  made p q env phase told out out' later step_is written = record {
+  pub made : (p q : Point) (env : Env) (phase : Stage) (told : List Reply)
+      → between p q → step q (says env phase told) → writes (print told) → Made between adds step p q phase writes
+  made p q env phase told later step_is written = record {
     answer = says env phase told;
     happens = record { at = q; later = later; step_is = step_is; moves = (q, refl, refl) };
     phase_after = refl;
     written = written;
   }
 
+  -- such a step, of whose replies a part is written
+  pub made_part : (p q : Point) (env : Env) (phase : Stage) (told : List Reply)
+      → between p q → step q (says env phase told) → WritesPart writes (print told) → Misses between adds step p q writes
+  made_part p q env phase told later step_is part = inr (says env phase told, record { at = q; later = later; step_is = step_is; moves = (q, refl, refl) }, part)
+
   -- its replies are written
-  pub told : (p q : Point) (phase : Stage) (said : List Reply) (out out' : List ℕ)
-      → Leads between adds step p q phase said → out' ≡ out ++ print said → Made between adds step p out q phase out'
-  told p q phase said out out' leads written = record {
+  pub told : (p q : Point) (phase : Stage) (said : List Reply)
+      → Leads between adds step p q phase said → writes (print said) → Made between adds step p q phase writes
+  told p q phase said leads written = record {
     answer = leads.answer;
     happens = leads.happens;
     phase_after = leads.phase_is;
-    written = written ∙ ap (λ (rs : List Reply). out ++ print rs) leads.told_is;
+    written = subst (λ (rs : List Reply). writes (print rs)) leads.told_is written;
   }
 
-  -- its replies are lost
-  pub untold : (p q : Point) (phase : Stage) (said : List Reply) → Leads between adds step p q phase said → Misses between adds step p q
-  untold p q phase said leads = inr (leads.answer, leads.happens)
+  -- a part of its replies is written
+  pub told_part : (p q : Point) (phase : Stage) (said : List Reply)
+      → Leads between adds step p q phase said → WritesPart writes (print said) → Misses between adds step p q writes
+  told_part p q phase said leads part = inr (leads.answer, leads.happens, subst (λ (rs : List Reply). WritesPart writes (print rs)) leads.told_is part)
 
 module _ (between : Point → Point → Type 0) (adds : Point → Accepted → Point → Type 0) (env : Env) (client : Client) (asked : Asked) (t : TxnState) (date : List ℕ) (is_date : IsDateText env.moment date)
     (ask : CommitAsk) (same : ask ≡ commit_ask client asked date) (p q : Point) where
@@ -180,6 +188,6 @@ module _ (between : Point → Point → Type 0) (adds : Point → Accepted → P
   }
 
 -- memory was refused: the commit is not made
-pub not_asked : (between : Point → Point → Type 0) (adds : Point → Accepted → Point → Type 0) (step : Point → Answer → Type 0) (ask : CommitAsk) (t : TxnState) (p q : Point)
-    → ((at : Point) × between p at × CommitsAt adds ask t at (Err change_faults.NoMemory) q) → Misses between adds step p q
-not_asked between adds step ask t p q (at, later, stays) = inl (subst (λ (x : Point). between p x) (sym stays) later)
+pub not_asked : (between : Point → Point → Type 0) (adds : Point → Accepted → Point → Type 0) (step : Point → Answer → Type 0) (writes : List ℕ → Type 0) (ask : CommitAsk) (t : TxnState) (p q : Point)
+    → ((at : Point) × between p at × CommitsAt adds ask t at (Err change_faults.NoMemory) q) → writes [] → Misses between adds step p q writes
+not_asked between adds step writes ask t p q (at, later, stays) unwritten = inl (subst (λ (x : Point). between p x) (sym stays) later, unwritten)

@@ -10,9 +10,12 @@ ghost use Rattle.repo_api.specs.Properties.{PropertyList};
 ghost use Rattle.edit_commands.specs.Editing.{editor_command, ends_edit};
 ghost use Rattle.edit_rules.specs.Editor.{IfRefused, Applies, finished, RestsOn};
 ghost use Rattle.edit_rules.specs.Edits.{new_edit};
+ghost use Rattle.edit_rules.specs.Soundness.{IsSoundEdit};
 ghost use Rattle.machine.specs.Points.{world};
 ghost use Rattle.edit_rules.specs.Refusing.{is_property_name, edit_refusal};
-ghost use Rattle.machine.specs.Machine.{print, lock_tokens, are_named, set_all, asked_by, commit_begins, skipping_answer, gives_up, says, CommitStep, CloseStep, EditStep, EditingStep};
+ghost use Rattle.replies.specs.Replies.{print};
+ghost use Rattle.replies.specs.Sinks.{WritesPart};
+ghost use Rattle.machine.specs.Machine.{lock_tokens, are_named, set_all, asked_by, commit_begins, skipping_answer, gives_up, says, CommitStep, CloseStep, EditStep, EditingStep};
 ghost use Rattle.machine.specs.Access.{Made, Misses};
 ghost use Rattle.machine.specs.Replying.{IsAnswered};
 ghost use Rattle.machine.specs.declared.env.Env.{Env};
@@ -26,10 +29,10 @@ use forms::{CommandFault, Pairs};
 use items::{Item, Text};
 use machine::{
     Asked, Client, Ending, Env, Options, Phase, RepoAccess, SessionPhase, bytes_of, drop_asked,
-    drop_edit, end_malformed, ending_of, forget, give_up, refuse, say, say_both, text_of,
+    drop_edit, end_malformed, ending_of, forget, give_up, refuse, say_both, text_of,
 };
 use refusals::{Refusal, path_refusal};
-use replies::Reply;
+use replies::{Reply, ReplySink};
 use repo_api::{ChangeFault, CommitAsk, LockTokens, Properties, Repository};
 use std::alloc::{AllocError, Global};
 use svnpath::{Bytes, Path, PathFault};
@@ -134,48 +137,71 @@ fn asked_by(alloc: Global, base: &Path, command: &CommitCommand) -> Result<Asked
 }
 
 /// Tells a client that its edit may begin.
-fn tell_begun(alloc: Global, out: &mut Vec<u8>) -> Result<(), AllocError>
-    ensures { OnOk result (out.new.items ≡ out.old.items ++ print (Reply.Success ∷ [])) }
+fn tell_begun<S: ReplySink>(out: &mut S) -> Result<(), AllocError>
+    ensures ok { OnOk result (S.writes out.old out.new (print (Reply.Success ∷ []))) }
+    ensures err { OnErr result (WritesPart (S.writes out.old out.new) (print (Reply.Success ∷ []))) }
 {
-    say(alloc, &Reply::Success, out)
+    out.say(&Reply::Success)
 }
 
-/// An edit that nothing has been made of, once its client is told that it may begin.
-fn begin<R: Repository>(
+/// An edit that nothing has been made of.
+fn new_editor<R: Repository>(
     alloc: Global,
     options: &Options,
     path: &Path,
-    out: &mut Vec<u8>,
 ) -> Result<CommitEditor<R>, AllocError>
-    ensures edit { IfOk result (λ editor. editor ≡ new_edit path.now options.now.name) }
-    ensures told { OnOk result (out.new.items ≡ out.old.items ++ print (Reply.Success ∷ [])) }
+    ensures { IfOk result (λ editor. editor ≡ new_edit path.now options.now.name) }
 {
-    tell_begun(alloc, out)?;
     let name = String::from_str(alloc, options.name())?;
     Ok(CommitEditor::new(alloc, path.clone()?, name))
 }
 
 /// Tells why a command is refused.
-fn tell_refusal(alloc: Global, refusal: Refusal, out: &mut Vec<u8>) -> Result<(), AllocError>
-    ensures { OnOk result (out.new.items ≡ out.old.items ++ print (Reply.Failure refusal ∷ [])) }
+fn tell_refusal<S: ReplySink>(refusal: Refusal, out: &mut S) -> Result<(), AllocError>
+    ensures ok { OnOk result (S.writes out.old out.new (print (Reply.Failure refusal ∷ []))) }
+    ensures err { OnErr result (WritesPart (S.writes out.old out.new) (print (Reply.Failure refusal ∷ []))) }
 {
-    say(alloc, &Reply::Failure(refusal), out)
+    out.say(&Reply::Failure(refusal))
+}
+
+/// An edit is open, once its client is told that it may begin.
+fn open_edit<R: Repository, S: ReplySink>(
+    client: Client,
+    asked: Asked,
+    editor: CommitEditor<R>,
+    out: &mut S,
+) -> Result<SessionPhase<R>, AllocError>
+    ensures ok { IfOk result (λ phase. (env : Env) → IsAnswered (says env (Phase.Editing client asked editor) (Reply.Success ∷ [])) phase (S.writes out.old out.new)) }
+    ensures err { OnErr result (WritesPart (S.writes out.old out.new) (print (Reply.Success ∷ []))) }
+{
+    match tell_begun(out) {
+        Ok(()) => Ok(Phase::Editing(client, asked, editor)),
+        Err(error) => {
+            forget(client);
+            drop_edit(asked, editor);
+            Err(error)
+        }
+    }
 }
 
 /// The beginning of an edit.
-pub fn begin_edit<R: Repository>(
+pub fn begin_edit<R: Repository, S: ReplySink>(
     alloc: Global,
     options: &Options,
     client: Client,
     command: &CommitCommand,
-    out: &mut Vec<u8>,
+    out: &mut S,
 ) -> Result<SessionPhase<R>, AllocError>
-    ensures { IfOk result (λ phase. (env : Env) → IsAnswered (commit_begins options.now env client (asked_by command.now (lock_tokens client.path command.now.tokens))) phase out.old.items out.new.items) }
+    ensures ok { IfOk result (λ phase. (env : Env) → IsAnswered (commit_begins options.now env client (asked_by command.now (lock_tokens client.path command.now.tokens))) phase (S.writes out.old out.new)) }
+    ensures err { OnErr result ((env : Env) → WritesPart (S.writes out.old out.new) (print (commit_begins options.now env client (asked_by command.now (lock_tokens client.path command.now.tokens))).replies)) }
 {
     match asked_by(alloc, &client.path, command) {
         Ok(asked) => {
-            match begin(alloc, options, &client.path, out) {
-                Ok(editor) => Ok(Phase::Editing(client, asked, editor)),
+            match new_editor(alloc, options, &client.path) {
+                Ok(editor) => {
+                    let phase = open_edit(client, asked, editor, out)?;
+                    Ok(phase)
+                }
                 Err(error) => {
                     forget(client);
                     drop_asked(asked);
@@ -183,13 +209,10 @@ pub fn begin_edit<R: Repository>(
                 }
             }
         }
-        Err(EditFault::Refused(refusal)) => match tell_refusal(alloc, refusal, out) {
-            Ok(()) => Ok(Phase::Serving(client)),
-            Err(error) => {
-                forget(client);
-                Err(error)
-            }
-        },
+        Err(EditFault::Refused(refusal)) => {
+            let phase = refuse(client, refusal, out)?;
+            Ok(phase)
+        }
         Err(EditFault::NoMemory) => {
             forget(client);
             Err(AllocError)
@@ -203,7 +226,8 @@ fn apply_now<R: Repository, A: RepoAccess<View = R>>(
     command: &EditorCommand,
     access: &mut A,
 ) -> Result<(), EditFault>
-    requires { RestsOn editor.old (world (A.point access.old)) }
+    requires rests { RestsOn editor.old (world (A.point access.old)) }
+    requires sound { IsSoundEdit editor.old }
     ensures ok { OnOk result ((edit_refusal (world (A.point access.new)) editor.old command.now ≡ None) × Applies (world (A.point access.new)) editor.old command.now editor.new) }
     ensures err { IfErr result (λ fault. IfRefused fault (λ r. edit_refusal (world (A.point access.new)) editor.old command.now ≡ Some r)) }
     ensures later { A.between (A.point access.old) (A.point access.new) }
@@ -213,17 +237,17 @@ fn apply_now<R: Repository, A: RepoAccess<View = R>>(
 }
 
 /// Gives an edit up, and tells why.
-fn give_up_over<R: Repository>(
-    alloc: Global,
+fn give_up_over<R: Repository, S: ReplySink>(
     client: Client,
     asked: Asked,
     editor: CommitEditor<R>,
     refusal: Refusal,
-    out: &mut Vec<u8>,
+    out: &mut S,
 ) -> Result<SessionPhase<R>, AllocError>
-    ensures { IfOk result (λ phase. (env : Env) → IsAnswered (gives_up env client refusal) phase out.old.items out.new.items) }
+    ensures ok { IfOk result (λ phase. (env : Env) → IsAnswered (gives_up env client refusal) phase (S.writes out.old out.new)) }
+    ensures err { OnErr result (WritesPart (S.writes out.old out.new) (print (Reply.Failure refusal ∷ []))) }
 {
-    match tell_refusal(alloc, refusal, out) {
+    match tell_refusal(refusal, out) {
         Ok(()) => Ok(give_up(client, asked, editor)),
         Err(error) => {
             forget(client);
@@ -234,25 +258,25 @@ fn give_up_over<R: Repository>(
 }
 
 /// A command that edits. One that is refused gives the edit up.
-fn edit<R: Repository, A: RepoAccess<View = R>>(
-    alloc: Global,
+fn edit<R: Repository, A: RepoAccess<View = R>, S: ReplySink>(
     client: Client,
     asked: Asked,
     editor: CommitEditor<R>,
     command: &EditorCommand,
     access: &mut A,
     env: Env,
-    out: &mut Vec<u8>,
+    out: &mut S,
 ) -> Result<SessionPhase<R>, AllocError>
     requires rests { RestsOn editor (world (A.point access.old)) }
-    ensures ok { IfOk result (λ phase. Made A.between A.adds (λ at a. EditStep env (world at) client asked editor command.now a) (A.point access.old) out.old.items (A.point access.new) phase out.new.items) }
-    ensures later { A.between (A.point access.old) (A.point access.new) }
+    requires sound { IsSoundEdit editor }
+    ensures ok { IfOk result (λ phase. Made A.between A.adds (λ at a. EditStep env (world at) client asked editor command.now a) (A.point access.old) (A.point access.new) phase (S.writes out.old out.new)) }
+    ensures err { OnErr result (Misses A.between A.adds (λ at a. EditStep env (world at) client asked editor command.now a) (A.point access.old) (A.point access.new) (S.writes out.old out.new)) }
 {
     let mut editor = editor;
     match apply_now(&mut editor, command, access) {
         Ok(()) => Ok(Phase::Editing(client, asked, editor)),
         Err(EditFault::Refused(refusal)) => {
-            let phase = give_up_over(alloc, client, asked, editor, refusal, out)?;
+            let phase = give_up_over(client, asked, editor, refusal, out)?;
             Ok(phase)
         }
         Err(EditFault::NoMemory) => {
@@ -325,65 +349,65 @@ fn user_of(user: &Option<Bytes>) -> Result<Option<Bytes>, AllocError>
 }
 
 /// Tells of a commit.
-fn report(
-    alloc: Global,
+fn report<S: ReplySink>(
     revision: u64,
     date: Text,
     author: Option<Text>,
-    out: &mut Vec<u8>,
+    out: &mut S,
 ) -> Result<(), AllocError>
-    ensures { OnOk result (out.new.items ≡ out.old.items ++ print (Reply.Success ∷ Reply.NoLogin ∷ Reply.CommitInfo revision date author ∷ [])) }
+    ensures ok { OnOk result (S.writes out.old out.new (print (Reply.Success ∷ Reply.NoLogin ∷ Reply.CommitInfo revision date author ∷ []))) }
+    ensures err { OnErr result (WritesPart (S.writes out.old out.new) (print (Reply.Success ∷ Reply.NoLogin ∷ Reply.CommitInfo revision date author ∷ []))) }
 {
-    say_both(alloc, &Reply::Success, &Reply::NoLogin, out)?;
-    say(alloc, &Reply::CommitInfo(revision, date, author), out)
+    say_both(&Reply::Success, &Reply::NoLogin, out)?;
+    out.say(&Reply::CommitInfo(revision, date, author))
 }
 
 /// Ends the session, since no change is made any more.
-fn end_halted<R: Repository>(
-    alloc: Global,
+fn end_halted<R: Repository, S: ReplySink>(
     client: Client,
-    out: &mut Vec<u8>,
+    out: &mut S,
 ) -> Result<SessionPhase<R>, AllocError>
-    ensures { IfOk result (λ phase. (env : Env) → IsAnswered (says env Phase.Ended (Reply.Failure Refusal.StoreFailed ∷ [])) phase out.old.items out.new.items) }
+    ensures ok { IfOk result (λ phase. (env : Env) → IsAnswered (says env Phase.Ended (Reply.Failure Refusal.StoreFailed ∷ [])) phase (S.writes out.old out.new)) }
+    ensures err { OnErr result (WritesPart (S.writes out.old out.new) (print (Reply.Failure Refusal.StoreFailed ∷ []))) }
 {
     forget(client);
-    tell_refusal(alloc, Refusal::StoreFailed, out)?;
+    tell_refusal(Refusal::StoreFailed, out)?;
     Ok(Phase::Ended)
 }
 
 /// Commits a transaction.
-fn commit<R: Repository, A: RepoAccess<View = R>>(
+fn commit<R: Repository, A: RepoAccess<View = R>, S: ReplySink>(
     alloc: Global,
     client: Client,
     asked: Asked,
     txn: R::Txn,
     access: &mut A,
     env: Env,
-    out: &mut Vec<u8>,
+    out: &mut S,
 ) -> Result<SessionPhase<R>, AllocError>
     requires rests { IsBeginning (R.txn_state txn).shown (world (A.point access.old)).revisions }
     requires moment { env.moment ≤ 200000000000000000 }
-    ensures ok { IfOk result (λ phase. Made A.between A.adds (λ at a. CloseStep at.halted env (world at) client asked (Ok (R.txn_state txn)) a) (A.point access.old) out.old.items (A.point access.new) phase out.new.items) }
-    ensures err { OnErr result (Misses A.between A.adds (λ at a. CloseStep at.halted env (world at) client asked (Ok (R.txn_state txn)) a) (A.point access.old) (A.point access.new)) }
+    ensures ok { IfOk result (λ phase. Made A.between A.adds (λ at a. CloseStep at.halted env (world at) client asked (Ok (R.txn_state txn)) a) (A.point access.old) (A.point access.new) phase (S.writes out.old out.new)) }
+    ensures err { OnErr result (Misses A.between A.adds (λ at a. CloseStep at.halted env (world at) client asked (Ok (R.txn_state txn)) a) (A.point access.old) (A.point access.new) (S.writes out.old out.new)) }
 {
     let date = date_of(alloc, env.moment)?;
     let author = author_of(alloc, &client.user)?;
     let ask = commit_ask(alloc, &client.user, asked, &date)?;
     match access.commit(ask, txn) {
         Ok(revision) => {
-            report(alloc, revision, date, author, out)?;
+            report(revision, date, author, out)?;
             Ok(Phase::Serving(client))
         }
         Err(ChangeFault::Refused(refusal)) => {
-            let phase = refuse(alloc, client, refusal, out)?;
+            let phase = refuse(client, refusal, out)?;
             Ok(phase)
         }
         Err(ChangeFault::StoreFailed) => {
-            let phase = refuse(alloc, client, Refusal::StoreFailed, out)?;
+            let phase = refuse(client, Refusal::StoreFailed, out)?;
             Ok(phase)
         }
         Err(ChangeFault::Halted) => {
-            let phase = end_halted(alloc, client, out)?;
+            let phase = end_halted(client, out)?;
             Ok(phase)
         }
         Err(ChangeFault::NoMemory) => Err(AllocError),
@@ -391,19 +415,19 @@ fn commit<R: Repository, A: RepoAccess<View = R>>(
 }
 
 /// The end of an edit: its transaction is committed, if it has one.
-fn close<R: Repository, A: RepoAccess<View = R>>(
+fn close<R: Repository, A: RepoAccess<View = R>, S: ReplySink>(
     alloc: Global,
     client: Client,
     asked: Asked,
     editor: CommitEditor<R>,
     access: &mut A,
     env: Env,
-    out: &mut Vec<u8>,
+    out: &mut S,
 ) -> Result<SessionPhase<R>, AllocError>
     requires rests { RestsOn editor (world (A.point access.old)) }
     requires moment { env.moment ≤ 200000000000000000 }
-    ensures ok { IfOk result (λ phase. Made A.between A.adds (λ at a. CloseStep at.halted env (world at) client asked (finished editor) a) (A.point access.old) out.old.items (A.point access.new) phase out.new.items) }
-    ensures err { OnErr result (Misses A.between A.adds (λ at a. CloseStep at.halted env (world at) client asked (finished editor) a) (A.point access.old) (A.point access.new)) }
+    ensures ok { IfOk result (λ phase. Made A.between A.adds (λ at a. CloseStep at.halted env (world at) client asked (finished editor) a) (A.point access.old) (A.point access.new) phase (S.writes out.old out.new)) }
+    ensures err { OnErr result (Misses A.between A.adds (λ at a. CloseStep at.halted env (world at) client asked (finished editor) a) (A.point access.old) (A.point access.new) (S.writes out.old out.new)) }
 {
     match editor.finish() {
         Ok(txn) => {
@@ -412,14 +436,14 @@ fn close<R: Repository, A: RepoAccess<View = R>>(
         }
         Err(refusal) => {
             drop_asked(asked);
-            let phase = refuse(alloc, client, refusal, out)?;
+            let phase = refuse(client, refusal, out)?;
             Ok(phase)
         }
     }
 }
 
 /// A command of an edit.
-fn obey<R: Repository, A: RepoAccess<View = R>>(
+fn obey<R: Repository, A: RepoAccess<View = R>, S: ReplySink>(
     alloc: Global,
     client: Client,
     asked: Asked,
@@ -427,12 +451,13 @@ fn obey<R: Repository, A: RepoAccess<View = R>>(
     command: &EditorCommand,
     access: &mut A,
     env: Env,
-    out: &mut Vec<u8>,
+    out: &mut S,
 ) -> Result<SessionPhase<R>, AllocError>
     requires rests { RestsOn editor (world (A.point access.old)) }
+    requires sound { IsSoundEdit editor }
     requires moment { env.moment ≤ 200000000000000000 }
-    ensures ok { IfOk result (λ phase. Made A.between A.adds (λ at a. EditingStep at.halted env (world at) client asked editor (Ok command.now) a) (A.point access.old) out.old.items (A.point access.new) phase out.new.items) }
-    ensures err { OnErr result (Misses A.between A.adds (λ at a. EditingStep at.halted env (world at) client asked editor (Ok command.now) a) (A.point access.old) (A.point access.new)) }
+    ensures ok { IfOk result (λ phase. Made A.between A.adds (λ at a. EditingStep at.halted env (world at) client asked editor (Ok command.now) a) (A.point access.old) (A.point access.new) phase (S.writes out.old out.new)) }
+    ensures err { OnErr result (Misses A.between A.adds (λ at a. EditingStep at.halted env (world at) client asked editor (Ok command.now) a) (A.point access.old) (A.point access.new) (S.writes out.old out.new)) }
 {
     match ending_of(command) {
         Some(Ending::Commits) => {
@@ -441,18 +466,18 @@ fn obey<R: Repository, A: RepoAccess<View = R>>(
         }
         Some(Ending::GivesUp) => {
             drop_edit(asked, editor);
-            say(alloc, &Reply::Success, out)?;
+            out.say(&Reply::Success)?;
             Ok(Phase::Serving(client))
         }
         None => {
-            let phase = edit(alloc, client, asked, editor, command, access, env, out)?;
+            let phase = edit(client, asked, editor, command, access, env, out)?;
             Ok(phase)
         }
     }
 }
 
 /// A command of an edit, which is dropped then.
-fn carry_out<R: Repository, A: RepoAccess<View = R>>(
+fn carry_out<R: Repository, A: RepoAccess<View = R>, S: ReplySink>(
     alloc: Global,
     client: Client,
     asked: Asked,
@@ -460,18 +485,19 @@ fn carry_out<R: Repository, A: RepoAccess<View = R>>(
     command: EditorCommand,
     access: &mut A,
     env: Env,
-    out: &mut Vec<u8>,
+    out: &mut S,
 ) -> Result<SessionPhase<R>, AllocError>
     requires rests { RestsOn editor (world (A.point access.old)) }
+    requires sound { IsSoundEdit editor }
     requires moment { env.moment ≤ 200000000000000000 }
-    ensures ok { IfOk result (λ phase. Made A.between A.adds (λ at a. EditingStep at.halted env (world at) client asked editor (Ok command) a) (A.point access.old) out.old.items (A.point access.new) phase out.new.items) }
-    ensures err { OnErr result (Misses A.between A.adds (λ at a. EditingStep at.halted env (world at) client asked editor (Ok command) a) (A.point access.old) (A.point access.new)) }
+    ensures ok { IfOk result (λ phase. Made A.between A.adds (λ at a. EditingStep at.halted env (world at) client asked editor (Ok command) a) (A.point access.old) (A.point access.new) phase (S.writes out.old out.new)) }
+    ensures err { OnErr result (Misses A.between A.adds (λ at a. EditingStep at.halted env (world at) client asked editor (Ok command) a) (A.point access.old) (A.point access.new) (S.writes out.old out.new)) }
 {
     obey(alloc, client, asked, editor, &command, access, env, out)
 }
 
 /// An item within an edit.
-pub fn edit_item<R: Repository, A: RepoAccess<View = R>>(
+pub fn edit_item<R: Repository, A: RepoAccess<View = R>, S: ReplySink>(
     alloc: Global,
     client: Client,
     asked: Asked,
@@ -479,23 +505,24 @@ pub fn edit_item<R: Repository, A: RepoAccess<View = R>>(
     item: &Item,
     access: &mut A,
     env: Env,
-    out: &mut Vec<u8>,
+    out: &mut S,
 ) -> Result<SessionPhase<R>, AllocError>
     requires rests { RestsOn editor (world (A.point access.old)) }
+    requires sound { IsSoundEdit editor }
     requires moment { env.moment ≤ 200000000000000000 }
-    ensures ok { IfOk result (λ phase. Made A.between A.adds (λ at a. EditingStep at.halted env (world at) client asked editor (editor_command (tree_of item.now)) a) (A.point access.old) out.old.items (A.point access.new) phase out.new.items) }
-    ensures err { OnErr result (Misses A.between A.adds (λ at a. EditingStep at.halted env (world at) client asked editor (editor_command (tree_of item.now)) a) (A.point access.old) (A.point access.new)) }
+    ensures ok { IfOk result (λ phase. Made A.between A.adds (λ at a. EditingStep at.halted env (world at) client asked editor (editor_command (tree_of item.now)) a) (A.point access.old) (A.point access.new) phase (S.writes out.old out.new)) }
+    ensures err { OnErr result (Misses A.between A.adds (λ at a. EditingStep at.halted env (world at) client asked editor (editor_command (tree_of item.now)) a) (A.point access.old) (A.point access.new) (S.writes out.old out.new)) }
 {
     match EditorCommand::from_item(alloc, item) {
         Ok(command) => carry_out(alloc, client, asked, editor, command, access, env, out),
         Err(CommandFault::UnknownName) => {
-            let phase = give_up_over(alloc, client, asked, editor, Refusal::UnknownCommand, out)?;
+            let phase = give_up_over(client, asked, editor, Refusal::UnknownCommand, out)?;
             Ok(phase)
         }
         Err(CommandFault::BadParameters) => {
             forget(client);
             drop_edit(asked, editor);
-            let phase = end_malformed(alloc, out)?;
+            let phase = end_malformed(out)?;
             Ok(phase)
         }
         Err(CommandFault::NoMemory) => {
@@ -507,20 +534,20 @@ pub fn edit_item<R: Repository, A: RepoAccess<View = R>>(
 }
 
 /// An item of an edit that was given up.
-pub fn skip<R: Repository>(
-    alloc: Global,
+pub fn skip<R: Repository, S: ReplySink>(
     client: Client,
     item: &Item,
-    out: &mut Vec<u8>,
+    out: &mut S,
 ) -> Result<SessionPhase<R>, AllocError>
-    ensures { IfOk result (λ phase. (env : Env) → IsAnswered (skipping_answer env client (ends_edit (tree_of item.now))) phase out.old.items out.new.items) }
+    ensures ok { IfOk result (λ phase. (env : Env) → IsAnswered (skipping_answer env client (ends_edit (tree_of item.now))) phase (S.writes out.old out.new)) }
+    ensures err { OnErr result ((env : Env) → WritesPart (S.writes out.old out.new) (print (skipping_answer env client (ends_edit (tree_of item.now))).replies)) }
 {
     match ends_edit(item) {
         Some(true) => Ok(Phase::Serving(client)),
         Some(false) => Ok(Phase::Skipping(client)),
         None => {
             forget(client);
-            let phase = end_malformed(alloc, out)?;
+            let phase = end_malformed(out)?;
             Ok(phase)
         }
     }

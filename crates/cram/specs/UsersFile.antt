@@ -70,4 +70,5 @@ pub record IsSaidBy (before : List Line) (headed : Bool) (logins : List Login) :
 
 -- behind these lines the next is kept, and this is what all of them say; or it breaks a rule
 abbrev pub TakesLine : List Line → Line → Bool → Bool → List Login → Type 0
-TakesLine before line kept headed logins = MatchBool kept ((breaks before line ≡ false) × IsSaidBy (before ++ line ∷ []) headed logins) (breaks before line ≡ true)
+TakesLine before line kept headed logins =
+    MatchBool kept ((breaks before line ≡ false) × IsSaidBy (before ++ line ∷ []) headed logins) (breaks before line ≡ true)

@@ -144,7 +144,9 @@ enum FileName {
 
 /// The name of a command that is of no file, if it is one.
 fn entry_name(name: &[u8]) -> Option<EntryName>
-    ensures { MatchOption result ((params : Trees) → editing_named name.now params ≡ file_named name.now params) (λ n. (params : Trees) → editing_named name.now params ≡ entry_command n params) }
+    ensures { MatchOption result
+        ((params : Trees) → editing_named name.now params ≡ file_named name.now params)
+        (λ n. (params : Trees) → editing_named name.now params ≡ entry_command n params) }
 {
     if name == b"target-rev".as_slice() {
         Some(EntryName::TargetRevision)
@@ -173,7 +175,8 @@ fn entry_name(name: &[u8]) -> Option<EntryName>
 
 /// The name of a command of a file, if it is one.
 fn file_name(name: &[u8]) -> Option<FileName>
-    ensures { MatchOption result ((params : Trees) → file_named name.now params ≡ Err UnknownName) (λ n. (params : Trees) → file_named name.now params ≡ file_command n params) }
+    ensures { MatchOption result ((params : Trees) → file_named name.now params ≡ Err UnknownName)
+        (λ n. (params : Trees) → file_named name.now params ≡ file_command n params) }
 {
     if name == b"add-file".as_slice() {
         Some(FileName::Add)

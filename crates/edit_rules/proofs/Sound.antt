@@ -20,9 +20,10 @@ use Rattle.svndiff0.specs.Applying.{fed}
 use Rattle.refusals.specs.declared.Refusal.{Refusal}
 use Rattle.refusals.specs.declared.Refusal.TheVariants as refusals
 use Rattle.repo_api.specs.Trees.{Tree, IsTree, HasDirectory, HasFile, is_directory, is_directory_content}
-use Rattle.repo_api.specs.Edits.{touched, opened, touched_above, new_entry, added, revised, with_text, with_value, without_value, deleted, grafted, copy_of, copied, edited, begun}
+use Rattle.repo_api.specs.Edits.{touched, opened, touched_above, new_entry, added, revised, with_text, with_value, without_value, grafted, copy_of, copied, edited, begun}
 use Rattle.repo_api.specs.EditLaws.{grafted_over}
 use Rattle.repo_api.specs.Marks.{AreMarked, HasSource}
+use Rattle.repo_api.specs.RightEdits.{HasParent}
 use Rattle.repo_api.specs.Transactions.{IsMarkedTxn}
 use Rattle.repo_api.specs.States.{RepoState, TxnState, Fixed, IsBeginning, IsBegun, IsEdited, tree_of, tree_in, tree_at, trees_in, youngest}
 use Rattle.repo_api.specs.Kinds.{kind_of, kind_at, content_kind}
@@ -141,7 +142,7 @@ all_found P test (e ∷ es) all = by (test e.0) (all_found P test es (All-tail (
     by true later = All-head (OfOpened P) e es all
     by false later = later
 
-found_under : (P : Opened → Type 0) (tokens : Tokens) (token : List ℕ) (o : Opened) → All (OfOpened P) tokens → opened_under tokens token ≡ Some o → P o
+pub found_under : (P : Opened → Type 0) (tokens : Tokens) (token : List ℕ) (o : Opened) → All (OfOpened P) tokens → opened_under tokens token ≡ Some o → P o
 found_under P tokens token o all at = subst (IfFound P) at (all_found P (is_at (slice_cmp nat_cmp token)) tokens all)
 
 -- ---- one name beneath a directory
@@ -154,7 +155,7 @@ alone [] e = absurd (omega (arith, e))
 alone (c ∷ []) e = (c, refl)
 alone (c ∷ d ∷ r) e = absurd (omega (arith, e))
 
-both_true : (a b : Bool) → a && b ≡ true → (a ≡ true) × (b ≡ true)
+pub both_true : (a b : Bool) → a && b ≡ true → (a ≡ true) × (b ≡ true)
 both_true true true e = (refl, refl)
 both_true true false e = cc
 both_true false b e = cc
@@ -166,13 +167,11 @@ beneath d p within =
     let rest = alone (drop (length d) p) (omega (arith, length-drop (length d) p)) in
     (rest.0, under_is p d both.0 ∙ ap (λ (r : List Component). d ++ r) rest.1)
 
--- a path whose parent is a directory of the tree
-abbrev HasParent : Tree → PathValue → Type 0
-HasParent t p = (d : PathValue) × (HasDirectory t d × IsBeneath d p)
-
 within_found : (t : Tree) (o : Option Opened) (p : PathValue) → IfFound (StandsIn t) o → is_within (option_and_then directory_path o) p ≡ true → HasParent t p
 within_found t None p found within = cc
-within_found t (Some (Directory d)) p found within = (d.path, (found, beneath d.path p within))
+within_found t (Some (Directory d)) p found within =
+    let b = beneath d.path p within in
+    record { directory = d.path; is_directory = found; name = b.0; is = b.1 }
 within_found t (Some (File d delta)) p found within = cc
 
 -- ---- what stands where
@@ -262,7 +261,7 @@ directory_there : (o : Option Entry) → directory_refusal (kind_of o) ≡ None 
 directory_there None e = cc
 directory_there (Some x) e = directory_content x.content e
 
-first_none : (a b : Option Refusal) → first a b ≡ None → (a ≡ None) × (b ≡ None)
+pub first_none : (a b : Option Refusal) → first a b ≡ None → (a ≡ None) × (b ≡ None)
 first_none None b e = (refl, e)
 first_none (Some r) b e = cc
 
@@ -278,12 +277,12 @@ no_content : (x : Content) → add_refusal (content_kind x) ≡ None → ⊥
 no_content contents.Directory e = cc
 no_content (contents.File text) e = cc
 
-nothing_there : (o : Option Entry) → add_refusal (kind_of o) ≡ None → o ≡ None
+pub nothing_there : (o : Option Entry) → add_refusal (kind_of o) ≡ None → o ≡ None
 nothing_there None e = refl
 nothing_there (Some x) e = absurd (no_content x.content e)
 
 -- what has to hold does
-holds : (b : Bool) (r : Refusal) → unless b r ≡ None → b ≡ true
+pub holds : (b : Bool) (r : Refusal) → unless b r ≡ None → b ≡ true
 holds true r e = refl
 holds false r e = cc
 
@@ -293,7 +292,7 @@ tree_there [] n p trees e = cc (ap (λ (o : Option Entry). directory_refusal (ki
 tree_there (r ∷ rs) zero p trees e = trees.0
 tree_there (r ∷ rs) (suc n) p trees e = tree_there rs n p trees.1 e
 
-stands_some : (kind : Bool) (o : Option Entry) → StandsAs kind o → IsSome o
+pub stands_some : (kind : Bool) (o : Option Entry) → StandsAs kind o → IsSome o
 stands_some kind None h = absurd h
 stands_some kind (Some e) h = refl
 
@@ -316,13 +315,13 @@ parent_there : (t : Tree) (tokens : Tokens) (parent : List ℕ) (p : PathValue) 
 parent_there t tokens parent p all within =
     within_found t (opened_under tokens parent) p (all_found (StandsIn t) (is_at (slice_cmp nat_cmp parent)) tokens all) within
 
-placed_there : (t : Tree) (old : EditState) (parent token : List ℕ) (p : PathValue) → All (OfOpened (StandsIn t)) old.tokens → place_refusal old parent token p ≡ None → HasParent t p
+pub placed_there : (t : Tree) (old : EditState) (parent token : List ℕ) (p : PathValue) → All (OfOpened (StandsIn t)) old.tokens → place_refusal old parent token p ≡ None → HasParent t p
 placed_there t old parent token p all none =
     let has = both_true (is_some old.txn) (is_placed old.tokens parent token p) (holds (is_some old.txn && is_placed old.tokens parent token p) refusals.MalformedData none) in
     let within = both_true (not (is_some (opened_under old.tokens token))) (is_within (directory_of old.tokens parent) p) has.1 in
     parent_there t old.tokens parent p all within.1
 
-beneath_there : (t : Tree) (old : EditState) (parent : List ℕ) (p : PathValue) → All (OfOpened (StandsIn t)) old.tokens → parent_refusal old parent p ≡ None → HasParent t p
+pub beneath_there : (t : Tree) (old : EditState) (parent : List ℕ) (p : PathValue) → All (OfOpened (StandsIn t)) old.tokens → parent_refusal old parent p ≡ None → HasParent t p
 beneath_there t old parent p all none =
     let has = both_true (is_some old.txn) (is_within (directory_of old.tokens parent) p) (holds (is_some old.txn && is_within (directory_of old.tokens parent) p) refusals.MalformedData none) in
     parent_there t old.tokens parent p all has.1
@@ -331,6 +330,23 @@ beneath_there t old parent p all none =
 begins_at : (t : Tree) (e : EditState) (checksum : Option (List ℕ)) (o : Opened) → begin_delta_refusal e checksum (Some o) ≡ None → StandsIn t o → HasFile t (path_of o)
 begins_at t e checksum (Directory d) none h = cc
 begins_at t e checksum (File p delta) none h = h
+
+-- the token of what is added is new
+new_token : (old : EditState) (parent token : List ℕ) (p : PathValue) → place_refusal old parent token p ≡ None → opened_under old.tokens token ≡ None
+new_token old parent token p none =
+    let has = both_true (is_some old.txn) (is_placed old.tokens parent token p) (holds (is_some old.txn && is_placed old.tokens parent token p) refusals.MalformedData none) in
+    missing (opened_under old.tokens token) (both_true (not (is_some (opened_under old.tokens token))) (is_within (directory_of old.tokens parent) p) has.1).0
+  where
+    missing : (o : Option Opened) → not (is_some o) ≡ true → o ≡ None
+    missing None e = refl
+    missing (Some o) e = cc
+
+-- the kind of the source is not refused
+pub right_source : (c : RepoState) (is_file : Bool) (p : PathValue) (source : Source) → source_refusal c is_file p source ≡ None → StandsAs (not is_file) (trees_in c.revisions source.revision source.path)
+right_source c is_file p source none =
+    let later = first_none (unless (nat_le source.revision (youngest c)) refusals.NoSuchRevision) (first (source_kind_refusal is_file (kind_at c source.revision source.path)) (depth_refusal c source p)) none in
+    let kind = first_none (source_kind_refusal is_file (kind_at c source.revision source.path)) (depth_refusal c source p) later.1 in
+    source_stands is_file (get (tree_at c source.revision) source.path) kind.0
 
 -- ---- what each command keeps, where the transaction stays as it is
 
@@ -440,7 +456,7 @@ module _ (begins : (t : Tree) → IsTree t → IsTree (begun t))
       let here : delete_entry_refusal old entry (Ok p) ≡ None = named_none (delete_entry_refusal old entry) (joined old.path entry.path) p named none in
       let place = first_none (parent_refusal old entry.parent p) (delete_refusal (standing old.txn p) (age_refusal entry.revision (created old.txn p))) here in
       let up : HasParent t p = beneath_there t old entry.parent p s.1 place.0 in
-      let is_tree : IsTree (edited (trees_in c.revisions) t (edits.Delete p)) = subst (λ (q : PathValue). IsTree (edited (trees_in c.revisions) t (edits.Delete q))) (sym up.1.1.1) (deletes (trees_in c.revisions) t up.0 up.1.1.0 s.0) in
+      let is_tree : IsTree (edited (trees_in c.revisions) t (edits.Delete p)) = subst (λ (q : PathValue). IsTree (edited (trees_in c.revisions) t (edits.Delete q))) (sym up.is) (deletes (trees_in c.revisions) t up.directory up.name s.0) in
       let all : All (OfOpened (StandsIn (edited (trees_in c.revisions) t (edits.Delete p)))) (closed_beneath old.tokens p) =
       all_kept (OfOpened (StandsIn t)) (OfOpened (StandsIn (edited (trees_in c.revisions) t (edits.Delete p)))) (λ e. not (is_at_or_under (path_of e.1) p)) (λ e kept h. stays_outside t (λ _. None) p e.1 kept h) old.tokens s.1 in
       after c old new (edits.Delete p) (closed_beneath old.tokens p) a marked rests tt s.2 is_tree all
@@ -454,7 +470,7 @@ module _ (begins : (t : Tree) → IsTree t → IsTree (begun t))
       let tokens : Tokens = with_token old.tokens token opened in
       let t : Tree = tree_of a.before.tree in
       let s = before c old new op tokens a sound in
-      let is_tree : IsTree (edited (trees_in c.revisions) t op) = subst (λ (q : PathValue). IsTree (edited (trees_in c.revisions) t (edits.AddDirectory q))) (sym up.1.1.1) (adds (trees_in c.revisions) t up.0 up.1.1.0 s.0 up.1.0) in
+      let is_tree : IsTree (edited (trees_in c.revisions) t op) = subst (λ (q : PathValue). IsTree (edited (trees_in c.revisions) t (edits.AddDirectory q))) (sym up.is) (adds (trees_in c.revisions) t up.directory up.name s.0 up.is_directory) in
       let others : All (OfOpened (StandsIn (edited (trees_in c.revisions) t op))) old.tokens = All-weaker (OfOpened (StandsIn t)) (OfOpened (StandsIn (edited (trees_in c.revisions) t op))) (λ e h. stays_added t p contents.Directory free e.1 h) old.tokens s.1 in
       after c old new op tokens a marked rests tt s.2 is_tree (all_inserted (StandsIn (edited (trees_in c.revisions) t op)) (slice_cmp nat_cmp) old.tokens token opened (new_stands t p contents.Directory) others)
 
@@ -465,8 +481,8 @@ module _ (begins : (t : Tree) → IsTree t → IsTree (begun t))
       let tokens : Tokens = with_token old.tokens token (File p Untouched) in
       let t : Tree = tree_of a.before.tree in
       let s = before c old new op tokens a sound in
-      let beneath : p ≡ up.0 ++ up.1.1.0 ∷ [] = up.1.1.1 in
-      let is_tree : IsTree (edited (trees_in c.revisions) t op) = subst (λ (q : PathValue). IsTree (edited (trees_in c.revisions) t (edits.AddFile q))) (sym beneath) (adds_files (trees_in c.revisions) t up.0 up.1.1.0 s.0 up.1.0 (ap t (sym beneath) ∙ free)) in
+      let beneath : p ≡ up.directory ++ up.name ∷ [] = up.is in
+      let is_tree : IsTree (edited (trees_in c.revisions) t op) = subst (λ (q : PathValue). IsTree (edited (trees_in c.revisions) t (edits.AddFile q))) (sym beneath) (adds_files (trees_in c.revisions) t up.directory up.name s.0 up.is_directory (ap t (sym beneath) ∙ free)) in
       let others : All (OfOpened (StandsIn (edited (trees_in c.revisions) t op))) old.tokens = All-weaker (OfOpened (StandsIn t)) (OfOpened (StandsIn (edited (trees_in c.revisions) t op))) (λ e h. stays_added t p (contents.File []) free e.1 h) old.tokens s.1 in
       after c old new op tokens a marked rests tt s.2 is_tree (all_inserted (StandsIn (edited (trees_in c.revisions) t op)) (slice_cmp nat_cmp) old.tokens token (File p Untouched) (new_stands t p (contents.File [])) others)
 
@@ -478,15 +494,15 @@ module _ (begins : (t : Tree) → IsTree t → IsTree (begun t))
 
   -- a copy, and what was open beneath it is closed
   copy_tree : (trees : ℕ → Tree) (t : Tree) (kind : NodeKind) (source : Source) (p : PathValue) → IsTree (trees source.revision) → IsTree t → HasParent t p → IsTree (edited trees t (copy_edit kind p source))
-  copy_tree trees t kind source p s is up = subst (λ (q : PathValue). IsTree (edited trees t (copy_edit kind q source))) (sym up.1.1.1) (by kind)
+  copy_tree trees t kind source p s is up = subst (λ (q : PathValue). IsTree (edited trees t (copy_edit kind q source))) (sym up.is) (by kind)
     where
       at : PathValue
-      at = up.0 ++ up.1.1.0 ∷ []
+      at = up.directory ++ up.name ∷ []
 
-      by : (kind : NodeKind) → IsTree (edited trees t (copy_edit kind (up.0 ++ up.1.1.0 ∷ []) source))
-      by kinds.Absent = copies trees t source up.0 up.1.1.0 s is up.1.0
-      by kinds.File = replaces trees t source up.0 up.1.1.0 s is up.1.0
-      by kinds.Directory = replaces trees t source up.0 up.1.1.0 s is up.1.0
+      by : (kind : NodeKind) → IsTree (edited trees t (copy_edit kind (up.directory ++ up.name ∷ []) source))
+      by kinds.Absent = copies trees t source up.directory up.name s is up.is_directory
+      by kinds.File = replaces trees t source up.directory up.name s is up.is_directory
+      by kinds.Directory = replaces trees t source up.directory up.name s is up.is_directory
 
   copy_source : (trees : ℕ → Tree) (kind : NodeKind) (p : PathValue) (source : Source) → IsSome (trees source.revision source.path) → HasSource trees (copy_edit kind p source)
   copy_source trees kinds.Absent p source some = some
@@ -538,23 +554,6 @@ module _ (begins : (t : Tree) → IsTree t → IsTree (begun t))
         where
           outside : not (is_at_or_under (path_of e.1) p) ≡ true
           outside = ap (λ (r : PathValue). not (is_at_or_under (path_of e.1) r)) (sym is_at_p) ∙ ap (λ (b : Bool). b || not (is_at_or_under (path_of e.1) at)) (sym (texts_ties token e.0 ∙ other)) ∙ kept
-
-  -- what the refusals say of what is added: its token is new, and its parent is a directory
-  new_token : (old : EditState) (parent token : List ℕ) (p : PathValue) → place_refusal old parent token p ≡ None → opened_under old.tokens token ≡ None
-  new_token old parent token p none =
-      let has = both_true (is_some old.txn) (is_placed old.tokens parent token p) (holds (is_some old.txn && is_placed old.tokens parent token p) refusals.MalformedData none) in
-      missing (opened_under old.tokens token) (both_true (not (is_some (opened_under old.tokens token))) (is_within (directory_of old.tokens parent) p) has.1).0
-    where
-      missing : (o : Option Opened) → not (is_some o) ≡ true → o ≡ None
-      missing None e = refl
-      missing (Some o) e = cc
-
-  -- the kind of the source is not refused
-  right_source : (c : RepoState) (is_file : Bool) (p : PathValue) (source : Source) → source_refusal c is_file p source ≡ None → StandsAs (not is_file) (trees_in c.revisions source.revision source.path)
-  right_source c is_file p source none =
-      let later = first_none (unless (nat_le source.revision (youngest c)) refusals.NoSuchRevision) (first (source_kind_refusal is_file (kind_at c source.revision source.path)) (depth_refusal c source p)) none in
-      let kind = first_none (source_kind_refusal is_file (kind_at c source.revision source.path)) (depth_refusal c source p) later.1 in
-      source_stands is_file (get (tree_at c source.revision) source.path) kind.0
 
   adds_by : (is_file : Bool) (c : RepoState) (old new : EditState) (entry : AddedEntry) (p : PathValue) (source : Option Source)
       (a : Edits c old (added_edit is_file (standing old.txn p) p source) (tokens_added old.tokens entry.token (added_opened is_file p source) source) new)

@@ -103,7 +103,8 @@ unread base = record { base = base; reading = read base [] }
 
 -- the delta is over the file's text as it stands
 abbrev pub BeginsDelta : EditState → List ℕ → EditState → Type 0
-BeginsDelta old token new = Under old token (λ o. new ≡ record old { tokens = with_change old.tokens token (File (path_of o) (Reading (unread (file_text old (path_of o))))) })
+BeginsDelta old token new = Under old token (λ o.
+    new ≡ record old { tokens = with_change old.tokens token (File (path_of o) (Reading (unread (file_text old (path_of o))))) })
 
 -- of a file whose delta is being read
 abbrev pub ReadsUnder : EditState → List ℕ → (PathValue → Applying → Type 0) → Type 0
@@ -115,7 +116,8 @@ FeedsDelta old token bytes new = ReadsUnder old token (λ p a. new ≡ record ol
 -- the document's text is the file's
 abbrev pub EndsDelta : RepoState → EditState → List ℕ → EditState → Type 0
 EndsDelta c old token new =
-    ReadsUnder old token (λ p a. (text : List ℕ) × (outcome a.reading ≡ Ok text) × Edits c old (edits.SetText p text) (with_change old.tokens token (File p Made)) new)
+    ReadsUnder old token (λ p a. (text : List ℕ) × (outcome a.reading ≡ Ok text)
+    × Edits c old (edits.SetText p text) (with_change old.tokens token (File p Made)) new)
 
 abbrev pub Closes : EditState → List ℕ → EditState → Type 0
 Closes old token new = new ≡ record old { tokens = without_token old.tokens token }

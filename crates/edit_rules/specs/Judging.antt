@@ -1,6 +1,5 @@
 -- What the judging of a command answers.
 use Rattle.std.specs.Prelude.{◌≡◌, Option, Some, None, Result, Ok, Err}
-use Rattle.svnpath.specs.Paths.{PathValue}
 use Rattle.svnpath.specs.declared.fault.PathFault.{PathFault}
 use Rattle.svnpath.specs.declared.fault.PathFault.TheVariants as path_faults
 use Rattle.refusals.specs.declared.Refusal.{Refusal}

@@ -4,3 +4,4 @@ pub mod Refusing
 pub mod Editor
 pub mod Judging
 pub mod Soundness
+pub mod Texts

@@ -4,7 +4,9 @@ use Rattle.std.specs.List.{All}
 use Rattle.repo_api.specs.Trees.{Tree, IsTree, HasDirectory, HasFile}
 use Rattle.repo_api.specs.Marks.{AreMarked}
 use Rattle.repo_api.specs.Transactions.{IsMarkedTxn}
-use Rattle.repo_api.specs.States.{TxnState, Fixed, tree_of, trees_in}
+use Rattle.repo_api.specs.RightEdits.{IsRightEdit}
+use Rattle.repo_api.specs.States.{RepoState, TxnState, Fixed, tree_of, trees_in}
+use Rattle.repo_api.specs.declared.edit.EditOp.{EditOp}
 use Rattle.edit_rules.specs.Tokens.{Tokens}
 use Rattle.edit_rules.specs.Edits.{EditState}
 use Rattle.edit_rules.specs.declared.opened.Opened.{Opened}
@@ -32,3 +34,8 @@ IsSoundIn (Some t) tokens = IsTree (tree_of t.tree) × All (λ e. StandsIn (tree
 
 abbrev pub IsSoundEdit : EditState → Type 0
 IsSoundEdit e = IsSoundIn e.txn e.tokens
+
+-- there is a transaction, in which the edit may be made
+abbrev pub IsRightIn : RepoState → Option TxnState → EditOp → Type 0
+IsRightIn c None op = ⊥
+IsRightIn c (Some t) op = IsRightEdit (trees_in c.revisions) (tree_of t.tree) op

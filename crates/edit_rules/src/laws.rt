@@ -1,18 +1,28 @@
 //! What holds of every edit. The functions do nothing: their contracts are the laws.
-ghost use Rattle.std.specs.Prelude.{◌≡◌, ℕ, List, None};
+ghost use Rattle.std.specs.Prelude.{◌≡◌, ℕ, Bool, List, Option, Some, None, Ok};
 ghost use Rattle.svnpath.specs.Paths.{PathValue};
 ghost use Rattle.repo_api.specs.States.{RepoState};
 ghost use Rattle.edit_commands.specs.declared.editing.EditorCommand.{EditorCommand};
-ghost use Rattle.edit_rules.specs.Edits.{EditState, new_edit};
-ghost use Rattle.edit_rules.specs.Refusing.{edit_refusal};
-ghost use Rattle.edit_rules.specs.Editor.{Applies, RestsOn};
-ghost use Rattle.edit_rules.specs.Soundness.{AreSound, IsSoundEdit};
+ghost use Rattle.edit_commands.specs.declared.editing.AddedEntry.{AddedEntry};
+ghost use Rattle.edit_commands.specs.declared.editing.DeletedEntry.{DeletedEntry};
+ghost use Rattle.repo_api.specs.declared.change.Source.{Source};
+ghost use Rattle.repo_api.specs.declared.edit.EditOp.TheVariants.{Delete, SetText};
+ghost use Rattle.edit_rules.specs.Edits.{EditState, new_edit, standing};
+ghost use Rattle.edit_rules.specs.Refusing.{edit_refusal, add_entry_refusal, delete_entry_refusal, opened};
+ghost use Rattle.edit_rules.specs.Editor.{Applies, RestsOn, added_edit, property_edit};
+ghost use Rattle.edit_rules.specs.Soundness.{AreSound, IsSoundEdit, IsRightIn};
+ghost use Rattle.edit_rules.specs.Tokens.{path_of};
+ghost use Rattle.edit_rules.specs.declared.opened.Delta.{Delta};
+ghost use Rattle.edit_rules.specs.declared.opened.Opened.{Opened};
+ghost use Rattle.edit_rules.specs.declared.opened.Opened.TheVariants.{File};
 
 /// An edit that has heard nothing is sound, and so is an edit after each command that is not refused, where
 /// every tree of the repository is a tree.
 pub fn edits_keep_trees()
     ensures begins { (path : PathValue) (name : List ℕ) → IsSoundEdit (new_edit path name) }
-    ensures goes_on { (c : RepoState) (old new : EditState) (command : EditorCommand) → AreSound c.revisions → RestsOn old c → IsSoundEdit old → edit_refusal c old command ≡ None → Applies c old command new → IsSoundEdit new }
+    ensures goes_on { (c : RepoState) (old new : EditState) (command : EditorCommand)
+        → AreSound c.revisions → RestsOn old c → IsSoundEdit old → edit_refusal c old command ≡ None
+        → Applies c old command new → IsSoundEdit new }
 {
     repo_api::beginnings_are_trees();
     repo_api::edits_keep_trees();
@@ -20,3 +30,17 @@ pub fn edits_keep_trees()
     repo_api::transactions_begin_marked();
     repo_api::transactions_stay_marked();
 }
+
+/// What the commands of a sound edit make of its transaction may be made of it, where the command is not refused,
+/// or of what is open under its token.
+pub fn edits_are_right()
+    ensures deletes { (c : RepoState) (e : EditState) (entry : DeletedEntry) (p : PathValue) → IsSoundEdit e
+        → delete_entry_refusal e entry (Ok p) ≡ None → IsRightIn c e.txn (Delete p) }
+    ensures adds { (c : RepoState) (e : EditState) (is_file : Bool) (entry : AddedEntry) (p : PathValue) (source : Option Source)
+        → IsSoundEdit e → add_entry_refusal c e is_file entry (Ok p) (Ok source) ≡ None
+        → IsRightIn c e.txn (added_edit is_file (standing e.txn p) p source) }
+    ensures sets_properties { (c : RepoState) (e : EditState) (token : List ℕ) (o : Opened) (name : List ℕ) (value : Option (List ℕ))
+        → IsSoundEdit e → opened e token ≡ Some o → IsRightIn c e.txn (property_edit (path_of o) name value) }
+    ensures sets_texts { (c : RepoState) (e : EditState) (token : List ℕ) (p : PathValue) (delta : Delta) (text : List ℕ)
+        → IsSoundEdit e → opened e token ≡ Some (File p delta) → IsRightIn c e.txn (SetText p text) }
+{}

@@ -7,6 +7,7 @@ mod fault;
 mod judging;
 mod laws;
 mod opened;
+mod texts;
 mod tokens;
 
 pub use checksums::judge_checksum;
@@ -15,8 +16,9 @@ pub use judging::{
     is_property_name, is_within, judge, judge_absence, judge_age, judge_directory, judge_file,
     judge_name, judge_presence, judge_room, judge_source_kind, path_named, source_named,
 };
-pub use laws::edits_keep_trees;
+pub use laws::{edits_are_right, edits_keep_trees};
 pub use opened::{Delta, Opened, OpenedDirectory};
+pub use texts::text_edit_under;
 pub use tokens::{
     close_beneath, close_others_beneath, copies_under, directory_under, feed_under, has_unfinished,
     set_delta,

@@ -58,7 +58,9 @@ pub fn close_others_beneath(tokens: &mut BTreeMap<Bytes, Opened>, path: &Path, t
 
 /// Another delta of the file that is open under the token. It takes no memory.
 pub fn set_delta(tokens: &mut BTreeMap<Bytes, Opened>, token: &Bytes, delta: Delta)
-    ensures { (p : PathValue) (old : Delta) → opened_under tokens.old.entries token.now ≡ Some (File p old) → tokens.new.entries ≡ with_change tokens.old.entries token.now (File p delta) }
+    ensures { (p : PathValue) (old : Delta)
+        → opened_under tokens.old.entries token.now ≡ Some (File p old)
+        → tokens.new.entries ≡ with_change tokens.old.entries token.now (File p delta) }
 {
     if let Some(opened) = tokens.get_mut(token) {
         replace_delta(opened, delta);
@@ -81,7 +83,9 @@ pub fn feed_under(
     bytes: &[u8],
 ) -> Result<(), EditFault>
     ensures judged { Judges result (chunk_refusal bytes.now (opened_under tokens.old.entries token.now)) }
-    ensures ok { OnOk result ((p : PathValue) × (a : Applying) × (opened_under tokens.old.entries token.now ≡ Some (File p (Reading a))) × (tokens.new.entries ≡ with_change tokens.old.entries token.now (File p (Reading (fed a bytes.now))))) }
+    ensures ok { OnOk result ((p : PathValue) × (a : Applying)
+        × (opened_under tokens.old.entries token.now ≡ Some (File p (Reading a)))
+        × (tokens.new.entries ≡ with_change tokens.old.entries token.now (File p (Reading (fed a bytes.now))))) }
     ensures err { IfErr result (λ fault. IfNoMemory fault (tokens.new.entries ≡ tokens.old.entries)) }
 {
     let mut fed = Err(EditFault::Refused(Refusal::MalformedData));

@@ -1,5 +1,5 @@
 -- The steps of an edit: what is put in, and what is taken out again.
-use Rattle.std.proofs.Common.{◌≡◌, ℕ, Bool, true, false, cond, not, ◌&&◌, List, [], ◌∷◌, Option, Some, None, is_some, Ok, refl, sym, ap, subst, ◌∙◌}
+use Rattle.std.proofs.Common.{◌≡◌, ℕ, Bool, true, false, cond, not, ◌&&◌, List, [], ◌∷◌, Option, Some, None, is_some, Ok, refl, ap, subst, ◌∙◌}
 use Rattle.std.specs.Prelude.{Result, Err, OnOk}
 use Rattle.std.specs.BTreeMap.{insert_entry, is_at}
 use Rattle.std.specs.Map.{lookup, remove_entry}
@@ -16,9 +16,9 @@ use Rattle.refusals.specs.declared.Refusal.TheVariants as refusals
 use Rattle.edit_rules.specs.declared.opened.Opened.{Opened}
 use Rattle.edit_rules.specs.declared.opened.Opened.TheVariants.{Directory}
 use Rattle.edit_rules.specs.Tokens.{Tokens, with_token, without_token, path_of, opened_under, directory_of, is_placed, is_within}
-use Rattle.edit_rules.specs.Edits.{EditState, standing}
+use Rattle.edit_rules.specs.Edits.{EditState}
 use Rattle.edit_rules.specs.Refusing.{first, unless, place_refusal, parent_refusal}
-use Rattle.edit_rules.specs.Editor.{OpensRoot, Edits, opened_directory, added_opened}
+use Rattle.edit_rules.specs.Editor.{OpensRoot, Edits, Opens, Closes, opened_directory, added_opened}
 
 pub on_ok : {T E : Type 0} {P Q : Type 0} (r : Result T E) → (P → Q) → OnOk r P → OnOk r Q
 on_ok (Ok x) f p = f p
@@ -79,15 +79,17 @@ same_both_ways Greater e = cc
 same_token : (token : List ℕ) → slice_cmp nat_cmp token token ≡ Equal
 same_token token = same_both_ways (slice_cmp nat_cmp token token) (nat_list_cmp_total.antisymm token token)
 
--- a token that was new is put in and taken out again, and the transaction is as it was
-pub restored : (now old : EditState) (token key : List ℕ) (opened : Opened) (before after : TxnState) (more less : Tokens) → now ≡ old → now.txn ≡ Some before → key ≡ token → opened_under old.tokens token ≡ None
-    → more ≡ with_token now.tokens key opened → after ≡ before → less ≡ without_token more token → record now { txn = Some after; tokens = less } ≡ old
-restored now old token key opened before after more less same had is_key is_new put kept taken =
-    let is_less : less ≡ now.tokens =
-    taken ∙ ap (λ (ts : Tokens). without_token ts token) (put ∙ ap (λ (k : List ℕ). with_token now.tokens k opened) is_key)
-    ∙ taken_out (slice_cmp nat_cmp) token opened (same_token token) now.tokens (ap (λ (e : EditState). opened_under e.tokens token) same ∙ is_new) in
-    let is_txn : Some after ≡ now.txn = ap (λ (t : TxnState). Some t) kept ∙ sym had in
-    (λ i. record now { txn = is_txn i; tokens = is_less i }) ∙ same
+-- an edit that is made once an entry is open for it
+pub opened_edit : (c : RepoState) (old mid new : EditState) (op : EditOp) (token : List ℕ) (opened : Opened) → Opens old token opened mid → Edits c mid op mid.tokens new → Edits c old op (with_token old.tokens token opened) new
+opened_edit c old mid new op token opened is h =
+    let e : Edits c (record old { tokens = with_token old.tokens token opened }) op (with_token old.tokens token opened) new = subst (λ (m : EditState). Edits c m op m.tokens new) is h in
+    record { before = e.before; had = e.had; after = e.after; edited = e.edited; is = e.is }
+
+-- an entry that is opened under a new token and closed again
+pub closed_again : (old mid after back : EditState) (token key : List ℕ) (opened : Opened) → opened_under old.tokens token ≡ None → Opens old token opened mid → after ≡ mid → key ≡ token → Closes after key back → back ≡ old
+closed_again old mid after back token key opened none is same is_key closed =
+    closed ∙ (λ i. record ((same ∙ is) i) { tokens = without_token ((same ∙ is) i).tokens (is_key i) })
+    ∙ ap (λ (ts : Tokens). record old { tokens = ts }) (taken_out (slice_cmp nat_cmp) token opened (same_token token) old.tokens none)
 
 -- ---- what a judgement says
 

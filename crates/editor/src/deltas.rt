@@ -1,23 +1,26 @@
 //! Texts of files.
-ghost use Rattle.std.specs.Prelude.{◌≡◌, Some, OnOk, OnErr, IfOk, IfErr, List, ℕ, Ok, is_some, true};
+ghost use Rattle.std.specs.Prelude.{◌≡◌, Some, OnOk, OnErr, IfOk, IfErr, Ok, is_some, true};
+ghost use Rattle.std.specs.Arc.{arc_value};
 ghost use Rattle.svnpath.specs.Paths.{PathValue};
-ghost use Rattle.svndiff0.specs.Applying.{Applying};
-ghost use Rattle.svndiff0.specs.Document.{outcome};
-ghost use Rattle.repo_api.specs.declared.edit.EditOp.TheVariants as edits;
 ghost use Rattle.edit_rules.specs.Edits.{file_text};
-ghost use Rattle.edit_rules.specs.Refusing.{begin_delta_refusal, checksum_refusal, chunk_refusal, end_delta_refusal, outcome_refusal, close_file_refusal, closed_text_refusal, opened};
+ghost use Rattle.edit_rules.specs.Refusing.{begin_delta_refusal, checksum_refusal, chunk_refusal, end_delta_refusal, close_file_refusal, closed_text_refusal, opened};
+ghost use Rattle.edit_rules.specs.Texts.{SetsText};
 ghost use Rattle.edit_rules.specs.Tokens.{opened_under, with_change, path_of};
 ghost use Rattle.edit_rules.specs.Editor.{BeginsDelta, FeedsDelta, EndsDelta, Closes, ReadsUnder, Under, unread, RestsOn};
 ghost use Rattle.edit_rules.specs.Judging.{Judges, Leaves};
+ghost use Rattle.edit_rules.specs.Soundness.{IsSoundEdit};
 ghost use Rattle.edit_rules.specs.declared.opened.Opened.TheVariants.{File};
 ghost use Rattle.edit_rules.specs.declared.opened.Delta.TheVariants as deltas;
 
 use crate::editor::CommitEditor;
-use edit_rules::{Delta, EditFault, Opened, feed_under, judge_checksum, set_delta};
+use edit_rules::{
+    Delta, EditFault, Opened, edits_are_right, feed_under, judge_checksum, set_delta,
+    text_edit_under,
+};
 use items::Text;
 use refusals::Refusal;
-use repo_api::{EditOp, FileText, Repository};
-use std::alloc::AllocError;
+use repo_api::{EditOp, Repository};
+use std::sync::Arc;
 use svndiff0::Applier;
 use svnpath::{Bytes, Path};
 
@@ -44,20 +47,21 @@ impl<R: Repository> CommitEditor<R> {
         Ok(())
     }
 
-    /// The text over which a delta may begin.
+    /// The text over which a delta may begin, which is not copied.
     fn base_under(
         &self,
         token: &Bytes,
         checksum: &Option<Text>,
         repository: &R,
-    ) -> Result<Vec<u8>, EditFault>
+    ) -> Result<Arc<Vec<u8>>, EditFault>
         requires { RestsOn self.now (R.content repository.now) }
         ensures judged { Judges result (begin_delta_refusal self.now checksum.now (opened self.now token.now)) }
-        ensures base { IfOk result (λ base. (p : PathValue) × (opened self.now token.now ≡ Some (File p deltas.Untouched)) × (base.items ≡ file_text self.now p)) }
+        ensures base { IfOk result (λ base. (p : PathValue) × (opened self.now token.now ≡ Some (File p deltas.Untouched))
+            × ((arc_value base).items ≡ file_text self.now p)) }
     {
         match self.open_under(token) {
             Some(Opened::File(path, Delta::Untouched)) => {
-                let base = self.text_copy(path, repository)?;
+                let base = self.shared_text(path, repository)?;
                 judge_checksum(self.alloc, checksum, base.as_slice())?;
                 Ok(base)
             }
@@ -85,50 +89,30 @@ impl<R: Repository> CommitEditor<R> {
 
     /// Ends a text delta: its text is the file's.
     pub(crate) fn end_delta(&mut self, token: &Text, repository: &R) -> Result<(), EditFault>
-        requires { RestsOn self.old (R.content repository.now) }
+        requires rests { RestsOn self.old (R.content repository.now) }
+        requires sound { IsSoundEdit self.old }
         ensures judged { Judges result (end_delta_refusal (opened self.old token.now)) }
         ensures ok { OnOk result (EndsDelta (R.content repository.now) self.old token.now self.new) }
         ensures err { OnErr result (self.new ≡ self.old) }
     {
         let token = self.copied(token)?;
         let op = self.text_edit(&token)?;
+        edits_are_right();
         self.edit(op, repository)?;
         set_delta(&mut self.tokens, &token, Delta::Made);
         Ok(())
     }
 
-    /// The edit of a text by the delta that is being read under the token.
-    fn text_edit(&self, token: &Bytes) -> Result<EditOp, EditFault>
-        ensures judged { Judges result (end_delta_refusal (opened self.now token.now)) }
-        ensures op { IfOk result (λ op. (p : PathValue) × (a : Applying) × (opened self.now token.now ≡ Some (File p (deltas.Reading a))) × ((text : List ℕ) × (outcome a.reading ≡ Ok text) × (op ≡ edits.SetText p text))) }
+    /// The edit of a text by the delta that is being read under the token. The text is not copied.
+    fn text_edit(&mut self, token: &Bytes) -> Result<EditOp, EditFault>
+        ensures judged { Judges result (end_delta_refusal (opened self.old token.now)) }
+        ensures op { IfOk result (λ op. SetsText (opened self.old token.now) op) }
+        ensures same { self.new ≡ self.old }
     {
-        match self.open_under(token) {
-            Some(Opened::File(path, Delta::Reading(applier))) => {
-                let op = self.text_edit_of(path, applier)?;
-                Ok(op)
-            }
-            Some(Opened::File(_, Delta::Untouched)) => {
-                Err(EditFault::Refused(Refusal::MalformedData))
-            }
-            Some(Opened::File(_, Delta::Made)) => Err(EditFault::Refused(Refusal::MalformedData)),
-            Some(Opened::Directory(_)) => Err(EditFault::Refused(Refusal::MalformedData)),
-            None => Err(EditFault::Refused(Refusal::MalformedData)),
+        if self.txn.is_none() {
+            return Err(EditFault::Refused(Refusal::MalformedData));
         }
-    }
-
-    /// The edit of a text by a delta.
-    fn text_edit_of(&self, path: &Path, applier: &Applier) -> Result<EditOp, EditFault>
-        ensures judged { Judges result (outcome_refusal (outcome applier.now.reading)) }
-        ensures op { IfOk result (λ op. (text : List ℕ) × (outcome applier.now.reading ≡ Ok text) × (op ≡ edits.SetText path.now text)) }
-    {
-        match applier.text() {
-            Ok(text) => {
-                let bytes = Bytes::new(Vec::from_slice(self.alloc, text)?);
-                let text = FileText::new(self.alloc, bytes)?;
-                Ok(EditOp::SetText(path.clone()?, text))
-            }
-            Err(_) => Err(EditFault::Refused(Refusal::BadSvndiff)),
-        }
+        text_edit_under(&mut self.tokens, token)
     }
 
     /// Closes a file.

@@ -1,19 +1,22 @@
 //! The editor of a commit.
 ghost use Rattle.std.specs.Prelude.{◌≡◌, Ok, Err, None, OnOk, IfOk, IfErr, MatchResult, string_bytes};
+ghost use Rattle.std.specs.Arc.{arc_value};
 ghost use Rattle.edit_rules.specs.Edits.{new_edit, standing, created, file_text};
 ghost use Rattle.edit_rules.specs.Refusing.{before_root, edit_refusal};
 ghost use Rattle.edit_rules.specs.Editor.{given_up, Applies, NotApplied, finished, RestsOn};
 ghost use Rattle.edit_rules.specs.Judging.{Judges, Leaves};
+ghost use Rattle.edit_rules.specs.Soundness.{IsSoundEdit};
 ghost use Rattle.edit_rules.specs.declared.fault.EditFault.TheVariants.{Refused};
 
 use edit_commands::EditorCommand;
 use edit_rules::{EditFault, Opened, has_unfinished, judge};
 use items::Text;
 use refusals::Refusal;
-use repo_api::{NodeKind, Repository};
+use repo_api::{FileText, NodeKind, Repository};
 use std::alloc::{AllocError, Global};
 use std::collections::BTreeMap;
 use std::marker::Model;
+use std::sync::Arc;
 use svnpath::{Bytes, Path};
 
 /// An edit on its way to a commit.
@@ -37,7 +40,13 @@ impl<R: Repository> Model for CommitEditor<R> {
 
     ghost coded = { Prim.hlevel (map_code, codes) };
 
-    ghost view = { λ e. record { path = e.path; name = string_bytes e.name; txn = option_map R.txn_state e.txn; tokens = e.tokens.entries; refused = e.refused } };
+    ghost view = { λ e. record {
+      path = e.path;
+      name = string_bytes e.name;
+      txn = option_map R.txn_state e.txn;
+      tokens = e.tokens.entries;
+      refused = e.refused;
+    } };
 }
 
 impl<R: Repository> CommitEditor<R> {
@@ -56,10 +65,13 @@ impl<R: Repository> CommitEditor<R> {
     }
 
     /// Carries a command out. After one that is refused the edit is given up, and each further one is answered
-    /// by `EditAborted`. The repository's revisions begin with those that the edit has seen.
+    /// by `EditAborted`. The repository's revisions begin with those that the edit has seen, and the edit's
+    /// transaction has a tree in which stands what is open.
     pub fn apply(&mut self, command: &EditorCommand, repository: &R) -> Result<(), EditFault>
-        requires { RestsOn self.old (R.content repository.now) }
-        ensures ok { OnOk result ((edit_refusal (R.content repository.now) self.old command.now ≡ None) × Applies (R.content repository.now) self.old command.now self.new) }
+        requires rests { RestsOn self.old (R.content repository.now) }
+        requires sound { IsSoundEdit self.old }
+        ensures ok { OnOk result ((edit_refusal (R.content repository.now) self.old command.now ≡ None)
+            × Applies (R.content repository.now) self.old command.now self.new) }
         ensures err { IfErr result (λ fault. NotApplied (R.content repository.now) self.old command.now fault self.new) }
     {
         match self.carry_out(command, repository) {
@@ -82,7 +94,8 @@ impl<R: Repository> CommitEditor<R> {
 
     /// Carries a command out, unless the edit was given up.
     fn carry_out(&mut self, command: &EditorCommand, repository: &R) -> Result<(), EditFault>
-        requires { RestsOn self.old (R.content repository.now) }
+        requires rests { RestsOn self.old (R.content repository.now) }
+        requires sound { IsSoundEdit self.old }
         ensures judged { Judges result (edit_refusal (R.content repository.now) self.old command.now) }
         ensures ok { OnOk result (Applies (R.content repository.now) self.old command.now self.new) }
         ensures err { IfErr result (λ fault. Leaves self.old fault self.new) }
@@ -151,16 +164,21 @@ impl<R: Repository> CommitEditor<R> {
         }
     }
 
-    /// A copy of the text of the file at a path.
-    pub(crate) fn text_copy(&self, path: &Path, repository: &R) -> Result<Vec<u8>, AllocError>
+    /// The text of the file at a path, which is not copied.
+    pub(crate) fn shared_text(
+        &self,
+        path: &Path,
+        repository: &R,
+    ) -> Result<Arc<Vec<u8>>, AllocError>
         requires { RestsOn self.now (R.content repository.now) }
-        ensures { IfOk result (λ text. text.items ≡ file_text self.now path.now) }
+        ensures { IfOk result (λ text. (arc_value text).items ≡ file_text self.now path.now) }
     {
+        let empty = FileText::empty();
         match &self.txn {
-            None => Ok(Vec::new(self.alloc)),
+            None => empty.share(self.alloc),
             Some(txn) => match repository.text_in(txn, path) {
-                None => Ok(Vec::new(self.alloc)),
-                Some(text) => Ok(Vec::from_slice(self.alloc, text.as_slice())?),
+                None => empty.share(self.alloc),
+                Some(text) => text.share(self.alloc),
             },
         }
     }

@@ -7,6 +7,7 @@ ghost use Rattle.edit_rules.specs.Edits.{standing};
 ghost use Rattle.edit_rules.specs.Refusing.{first, source_of, source_refusal, add_refusal, open_root_refusal, delete_entry_refusal, add_entry_refusal, open_directory_refusal, open_file_refusal, absent_refusal, place_refusal, parent_refusal, close_directory_refusal, opened};
 ghost use Rattle.edit_rules.specs.Editor.{OpensRoot, Edits, Named, Opens, Adds, opened_directory, copy_edit, added_edit, added_opened, tokens_added, Closes, RestsOn};
 ghost use Rattle.edit_rules.specs.Judging.{Judges, Leaves};
+ghost use Rattle.edit_rules.specs.Soundness.{IsSoundEdit, IsRightIn};
 ghost use Rattle.edit_rules.specs.declared.opened.Opened.TheVariants.{Directory, File};
 ghost use Rattle.edit_rules.specs.declared.opened.Delta.TheVariants.{Untouched};
 
@@ -14,8 +15,8 @@ use crate::editor::CommitEditor;
 use edit_commands::{AbsentEntry, AddedEntry, DeletedEntry, OpenedEntry};
 use edit_rules::{
     Delta, EditFault, Opened, OpenedDirectory, close_beneath, close_others_beneath, copies_under,
-    directory_under, is_within, judge, judge_absence, judge_directory, judge_file, judge_presence,
-    judge_room, judge_source_kind, path_named, source_named,
+    directory_under, edits_are_right, is_within, judge, judge_absence, judge_directory, judge_file,
+    judge_presence, judge_room, judge_source_kind, path_named, source_named,
 };
 use items::Text;
 use refusals::Refusal;
@@ -137,8 +138,11 @@ impl<R: Repository> CommitEditor<R> {
         entry: &AddedEntry,
         repository: &R,
     ) -> Result<(), EditFault>
-        requires { RestsOn self.old (R.content repository.now) }
-        ensures judged { Judges result (add_entry_refusal (R.content repository.now) self.old is_file entry.now (joined self.old.path entry.now.path) (source_of self.old.name entry.now.source)) }
+        requires rests { RestsOn self.old (R.content repository.now) }
+        requires sound { IsSoundEdit self.old }
+        ensures judged { Judges result (add_entry_refusal
+            (R.content repository.now) self.old is_file entry.now
+            (joined self.old.path entry.now.path) (source_of self.old.name entry.now.source)) }
         ensures ok { OnOk result (Adds (R.content repository.now) self.old is_file entry.now self.new) }
         ensures err { OnErr result (self.new ≡ self.old) }
     {
@@ -156,9 +160,12 @@ impl<R: Repository> CommitEditor<R> {
         source: &Option<Source>,
         repository: &R,
     ) -> Result<(), EditFault>
-        requires { RestsOn self.old (R.content repository.now) }
+        requires rests { RestsOn self.old (R.content repository.now) }
+        requires sound { IsSoundEdit self.old }
         ensures judged { Judges result (add_entry_refusal (R.content repository.now) self.old is_file entry.now (Ok path.now) (Ok source.now)) }
-        ensures ok { OnOk result (Edits (R.content repository.now) self.old (added_edit is_file (standing self.old.txn path.now) path.now source.now) (tokens_added self.old.tokens entry.now.token (added_opened is_file path.now source.now) source.now) self.new) }
+        ensures ok { OnOk result (Edits (R.content repository.now) self.old
+            (added_edit is_file (standing self.old.txn path.now) path.now source.now)
+            (tokens_added self.old.tokens entry.now.token (added_opened is_file path.now source.now) source.now) self.new) }
         ensures err { OnErr result (self.new ≡ self.old) }
     {
         match source {
@@ -175,12 +182,16 @@ impl<R: Repository> CommitEditor<R> {
         path: &Path,
         repository: &R,
     ) -> Result<(), EditFault>
-        requires { RestsOn self.old (R.content repository.now) }
+        requires rests { RestsOn self.old (R.content repository.now) }
+        requires sound { IsSoundEdit self.old }
         ensures judged { Judges result (add_entry_refusal (R.content repository.now) self.old is_file entry.now (Ok path.now) (Ok None)) }
-        ensures ok { OnOk result (Edits (R.content repository.now) self.old (added_edit is_file (standing self.old.txn path.now) path.now None) (with_token self.old.tokens entry.now.token (added_opened is_file path.now None)) self.new) }
+        ensures ok { OnOk result (Edits (R.content repository.now) self.old
+            (added_edit is_file (standing self.old.txn path.now) path.now None)
+            (with_token self.old.tokens entry.now.token (added_opened is_file path.now None)) self.new) }
         ensures err { OnErr result (self.new ≡ self.old) }
     {
         self.judge_new(entry, path, repository)?;
+        edits_are_right();
         let token = self.copied(&entry.token)?;
         let opened = path.clone()?;
         let added = path.clone()?;
@@ -212,12 +223,16 @@ impl<R: Repository> CommitEditor<R> {
         source: &Source,
         repository: &R,
     ) -> Result<(), EditFault>
-        requires { RestsOn self.old (R.content repository.now) }
+        requires rests { RestsOn self.old (R.content repository.now) }
+        requires sound { IsSoundEdit self.old }
         ensures judged { Judges result (add_entry_refusal (R.content repository.now) self.old is_file entry.now (Ok path.now) (Ok (Some source.now))) }
-        ensures ok { OnOk result (Edits (R.content repository.now) self.old (copy_edit (standing self.old.txn path.now) path.now source.now) (tokens_added self.old.tokens entry.now.token (added_opened is_file path.now (Some source.now)) (Some source.now)) self.new) }
+        ensures ok { OnOk result (Edits (R.content repository.now) self.old
+            (copy_edit (standing self.old.txn path.now) path.now source.now)
+            (tokens_added self.old.tokens entry.now.token (added_opened is_file path.now (Some source.now)) (Some source.now)) self.new) }
         ensures err { OnErr result (self.new ≡ self.old) }
     {
         self.judge_copy(is_file, entry, path, source, repository)?;
+        edits_are_right();
         let token = self.copied(&entry.token)?;
         let key = self.copied(&entry.token)?;
         let opened = path.clone()?;
@@ -249,7 +264,7 @@ impl<R: Repository> CommitEditor<R> {
         Ok(())
     }
 
-    /// Makes an edit that adds an entry, and opens it under a new token. The edit is dropped then.
+    /// Opens an entry under a new token, makes the edit that adds it, and closes it again where memory is refused.
     fn put_new(
         &mut self,
         token: Bytes,
@@ -259,51 +274,49 @@ impl<R: Repository> CommitEditor<R> {
     ) -> Result<(), AllocError>
         requires rests { RestsOn self.old (R.content repository.now) }
         requires is_new { opened_under self.old.tokens token ≡ None }
-        requires has_txn { is_some self.old.txn ≡ true }
+        requires right { IsRightIn (R.content repository.now) self.old.txn op }
         ensures ok { OnOk result (Edits (R.content repository.now) self.old op (with_token self.old.tokens token opened) self.new) }
         ensures err { OnErr result (self.new ≡ self.old) }
     {
-        self.put(token, opened, &op, repository)
-    }
-
-    /// Makes an edit that adds an entry, and opens it under a new token.
-    fn put(
-        &mut self,
-        token: Bytes,
-        opened: Opened,
-        op: &EditOp,
-        repository: &R,
-    ) -> Result<(), AllocError>
-        requires rests { RestsOn self.old (R.content repository.now) }
-        requires is_new { opened_under self.old.tokens token ≡ None }
-        requires has_txn { is_some self.old.txn ≡ true }
-        ensures ok { OnOk result (Edits (R.content repository.now) self.old op.now (with_token self.old.tokens token opened) self.new) }
-        ensures err { OnErr result (self.new ≡ self.old) }
-    {
-        let Some(txn) = &mut self.txn else {
-            unreachable!();
-        };
-        self.tokens.insert(token.clone()?, opened)?;
-        match repository.edit(txn, op) {
+        let token = self.open_new(token, opened)?;
+        match self.edit(op, repository) {
             Ok(()) => Ok(()),
             Err(error) => {
-                self.tokens.remove(&token);
+                self.close(&token);
                 Err(error)
             }
         }
     }
 
+    /// Opens an entry under a new token, and answers the token.
+    fn open_new(&mut self, token: Bytes, opened: Opened) -> Result<Bytes, AllocError>
+        ensures ok { OnOk result (Opens self.old token opened self.new) }
+        ensures token { IfOk result (λ key. key ≡ token) }
+        ensures err { OnErr result (self.new ≡ self.old) }
+    {
+        let key = token.clone()?;
+        self.tokens.insert(key, opened)?;
+        Ok(token)
+    }
+
+    /// Closes what is open under a token.
+    fn close(&mut self, token: &Bytes)
+        ensures { Closes self.old token.now self.new }
+    {
+        self.tokens.remove(token);
+    }
+
     /// Makes an edit.
     pub(crate) fn edit(&mut self, op: EditOp, repository: &R) -> Result<(), AllocError>
         requires rests { RestsOn self.old (R.content repository.now) }
-        requires has_txn { is_some self.old.txn ≡ true }
+        requires right { IsRightIn (R.content repository.now) self.old.txn op }
         ensures ok { OnOk result (Edits (R.content repository.now) self.old op self.old.tokens self.new) }
         ensures err { OnErr result (self.new ≡ self.old) }
     {
         let Some(txn) = &mut self.txn else {
             unreachable!();
         };
-        repository.edit(txn, &op)
+        repository.edit(txn, op)
     }
 
     /// Deletes an entry, and closes what is open at or under it.
@@ -312,9 +325,12 @@ impl<R: Repository> CommitEditor<R> {
         entry: &DeletedEntry,
         repository: &R,
     ) -> Result<(), EditFault>
-        requires { RestsOn self.old (R.content repository.now) }
+        requires rests { RestsOn self.old (R.content repository.now) }
+        requires sound { IsSoundEdit self.old }
         ensures judged { Judges result (delete_entry_refusal self.old entry.now (joined self.old.path entry.now.path)) }
-        ensures ok { OnOk result (Named self.old entry.now.path (λ p. Edits (R.content repository.now) self.old (edits.Delete p) (closed_beneath self.old.tokens p) self.new)) }
+        ensures ok { OnOk result (Named self.old entry.now.path (λ p. Edits
+            (R.content repository.now) self.old (edits.Delete p)
+            (closed_beneath self.old.tokens p) self.new)) }
         ensures err { OnErr result (self.new ≡ self.old) }
     {
         let path = path_named(self.alloc, &self.path, &entry.path)?;
@@ -328,12 +344,14 @@ impl<R: Repository> CommitEditor<R> {
         path: &Path,
         repository: &R,
     ) -> Result<(), EditFault>
-        requires { RestsOn self.old (R.content repository.now) }
+        requires rests { RestsOn self.old (R.content repository.now) }
+        requires sound { IsSoundEdit self.old }
         ensures judged { Judges result (delete_entry_refusal self.old entry.now (Ok path.now)) }
         ensures ok { OnOk result (Edits (R.content repository.now) self.old (edits.Delete path.now) (closed_beneath self.old.tokens path.now) self.new) }
         ensures err { OnErr result (self.new ≡ self.old) }
     {
         self.judge_delete(entry, path, repository)?;
+        edits_are_right();
         let deleted = path.clone()?;
         self.edit(EditOp::Delete(deleted), repository)?;
         close_beneath(&mut self.tokens, path);
@@ -366,7 +384,9 @@ impl<R: Repository> CommitEditor<R> {
     ) -> Result<(), EditFault>
         requires { RestsOn self.old (R.content repository.now) }
         ensures judged { Judges result (open_directory_refusal self.old entry.now (joined self.old.path entry.now.path)) }
-        ensures ok { OnOk result (Named self.old entry.now.path (λ p. Opens self.old entry.now.token (Directory (opened_directory p entry.now.revision (copies_under self.old.tokens entry.now.parent))) self.new)) }
+        ensures ok { OnOk result (Named self.old entry.now.path (λ p. Opens self.old entry.now.token
+            (Directory (opened_directory p entry.now.revision (copies_under self.old.tokens entry.now.parent)))
+            self.new)) }
         ensures err { OnErr result (self.new ≡ self.old) }
     {
         let path = path_named(self.alloc, &self.path, &entry.path)?;

@@ -4,10 +4,11 @@ ghost use Rattle.edit_rules.specs.Refusing.{directory_property_refusal, file_pro
 ghost use Rattle.edit_rules.specs.Tokens.{path_of};
 ghost use Rattle.edit_rules.specs.Editor.{ChangesProperty, property_edit, RestsOn};
 ghost use Rattle.edit_rules.specs.Judging.{Judges};
+ghost use Rattle.edit_rules.specs.Soundness.{IsSoundEdit};
 
 use crate::editor::CommitEditor;
 use edit_commands::PropertyChange;
-use edit_rules::{EditFault, Opened, judge_age, judge_name};
+use edit_rules::{EditFault, Opened, edits_are_right, judge_age, judge_name};
 use refusals::Refusal;
 use repo_api::{EditOp, Repository};
 use std::alloc::AllocError;
@@ -20,13 +21,15 @@ impl<R: Repository> CommitEditor<R> {
         change: &PropertyChange,
         repository: &R,
     ) -> Result<(), EditFault>
-        requires { RestsOn self.old (R.content repository.now) }
+        requires rests { RestsOn self.old (R.content repository.now) }
+        requires sound { IsSoundEdit self.old }
         ensures judged { Judges result (directory_property_refusal self.old.txn change.now.name (opened self.old change.now.token)) }
         ensures ok { OnOk result (ChangesProperty (R.content repository.now) self.old change.now self.new) }
         ensures err { OnErr result (self.new ≡ self.old) }
     {
         let token = self.copied(&change.token)?;
         let op = self.directory_property(&token, change, repository)?;
+        edits_are_right();
         self.edit(op, repository)?;
         Ok(())
     }
@@ -40,7 +43,8 @@ impl<R: Repository> CommitEditor<R> {
     ) -> Result<EditOp, EditFault>
         requires { RestsOn self.now (R.content repository.now) }
         ensures judged { Judges result (directory_property_refusal self.now.txn change.now.name (opened self.now token.now)) }
-        ensures op { IfOk result (λ op. (o : Opened) × (opened self.now token.now ≡ Some o) × (op ≡ property_edit (path_of o) change.now.name change.now.value)) }
+        ensures op { IfOk result (λ op. (o : Opened) × (opened self.now token.now ≡ Some o)
+            × (op ≡ property_edit (path_of o) change.now.name change.now.value)) }
     {
         match self.open_under(token) {
             Some(Opened::Directory(directory)) => {
@@ -63,13 +67,15 @@ impl<R: Repository> CommitEditor<R> {
         change: &PropertyChange,
         repository: &R,
     ) -> Result<(), EditFault>
-        requires { RestsOn self.old (R.content repository.now) }
+        requires rests { RestsOn self.old (R.content repository.now) }
+        requires sound { IsSoundEdit self.old }
         ensures judged { Judges result (file_property_refusal change.now.name (opened self.old change.now.token)) }
         ensures ok { OnOk result (ChangesProperty (R.content repository.now) self.old change.now self.new) }
         ensures err { OnErr result (self.new ≡ self.old) }
     {
         let token = self.copied(&change.token)?;
         let op = self.file_property(&token, change)?;
+        edits_are_right();
         self.edit(op, repository)?;
         Ok(())
     }
@@ -77,7 +83,8 @@ impl<R: Repository> CommitEditor<R> {
     /// The edit of a property of the file that is open under the token.
     fn file_property(&self, token: &Bytes, change: &PropertyChange) -> Result<EditOp, EditFault>
         ensures judged { Judges result (file_property_refusal change.now.name (opened self.now token.now)) }
-        ensures op { IfOk result (λ op. (o : Opened) × (opened self.now token.now ≡ Some o) × (op ≡ property_edit (path_of o) change.now.name change.now.value)) }
+        ensures op { IfOk result (λ op. (o : Opened) × (opened self.now token.now ≡ Some o)
+            × (op ≡ property_edit (path_of o) change.now.name change.now.value)) }
     {
         match self.open_under(token) {
             Some(Opened::File(path, _)) => {

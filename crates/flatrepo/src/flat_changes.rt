@@ -123,7 +123,8 @@ fn plain(action: Action, source: Option<Source>) -> Change
 
 /// Puts a modification at the path if nothing was changed there.
 fn make_modified(changes: &mut BTreeMap<Path, Change>, path: &Path) -> Result<(), AllocError>
-    ensures ok { OnOk result ((q : PathValue) → found changes.new.entries q ≡ noted (found changes.old.entries) path.now (or_modified (found changes.old.entries path.now)) q) }
+    ensures ok { OnOk result ((q : PathValue)
+        → found changes.new.entries q ≡ noted (found changes.old.entries) path.now (or_modified (found changes.old.entries path.now)) q) }
     ensures err { OnErr result (changes.new.entries ≡ changes.old.entries) }
 {
     if changes.contains_key(path) {

@@ -222,7 +222,9 @@ impl FlatTree {
         base: Option<&FlatTree>,
         youngest: Option<&FlatTree>,
     ) -> bool
-        ensures { result ≡ list_any (conflict_at (map_of (option_copied base.entry)) self.now (map_of (option_copied youngest.entry))) (keys (map_of (option_copied paths.entry))) }
+        ensures { result ≡ list_any
+            (conflict_at (map_of (option_copied base.entry)) self.now (map_of (option_copied youngest.entry)))
+            (keys (map_of (option_copied paths.entry))) }
     {
         let Some(paths) = paths else {
             return false;

@@ -123,9 +123,9 @@ impl Repository for FlatRepo {
         })
     }
 
-    fn edit(&self, txn: &mut FlatTxn, op: &EditOp) -> Result<(), AllocError> {
+    fn edit(&self, txn: &mut FlatTxn, op: EditOp) -> Result<(), AllocError> {
         let shown = Arc::try_clone(&self.held)?;
-        edit_parts(self.alloc, &self.held, &mut txn.tree, &mut txn.changes, op)?;
+        edit_parts(self.alloc, &self.held, &mut txn.tree, &mut txn.changes, &op)?;
         txn.shown = shown;
         Ok(())
     }
@@ -293,8 +293,12 @@ fn revise_properties(
     path: &Path,
     properties: Option<Properties>,
 ) -> Result<(), AllocError>
-    ensures tree { OnOk result ((f : Entry → Entry) → properties ≡ option_map (λ e. (f e).properties) (get tree.old path.now) → ((e : Entry) → f e ≡ with_properties (f e).properties e) → (q : PathValue) → get tree.new q ≡ revised (tree_of tree.old) path.now f q) }
-    ensures changes { OnOk result ((q : PathValue) → get changes.new q ≡ noted (changes_of changes.old) path.now (after_property (get changes.old path.now)) q) }
+    ensures tree { OnOk result ((f : Entry → Entry)
+        → properties ≡ option_map (λ e. (f e).properties) (get tree.old path.now)
+        → ((e : Entry) → f e ≡ with_properties (f e).properties e) → (q : PathValue)
+        → get tree.new q ≡ revised (tree_of tree.old) path.now f q) }
+    ensures changes { OnOk result ((q : PathValue)
+        → get changes.new q ≡ noted (changes_of changes.old) path.now (after_property (get changes.old path.now)) q) }
     ensures tree_stays { OnErr result (tree.new ≡ tree.old) }
     ensures changes_stay { OnErr result (changes.new ≡ changes.old) }
 {
@@ -316,7 +320,8 @@ fn add(
     is_file: bool,
 ) -> Result<(), AllocError>
     ensures tree { OnOk result ((q : PathValue) → get tree.new q ≡ added (tree_of tree.old) path.now (empty_content is_file) q) }
-    ensures changes { OnOk result ((q : PathValue) → get changes.new q ≡ noted (changes_of changes.old) path.now (after_add None (get changes.old path.now)) q) }
+    ensures changes { OnOk result ((q : PathValue)
+        → get changes.new q ≡ noted (changes_of changes.old) path.now (after_add None (get changes.old path.now)) q) }
     ensures tree_stays { OnErr result (tree.new ≡ tree.old) }
     ensures changes_stay { OnErr result (changes.new ≡ changes.old) }
 {

@@ -4,17 +4,17 @@ use Rattle.repo_api.specs.States.{RepoState, IsBeginning}
 use Rattle.replies.specs.declared.reply.Reply.{Reply}
 use Rattle.machine.specs.Stages.{SessionState}
 use Rattle.machine.specs.declared.env.Env.{Env}
-use Rattle.hub.specs.State.{HubState, session_of, updated}
+use Rattle.hub.specs.State.{HubState, HasTrees, session_of, updated}
 use Rattle.hub.specs.Runs.{Event, HubStep, HubRun, heard}
 use Rattle.hub.specs.Runs.Event.{Connects, Drops}
 use Rattle.hub.specs.Calls.{CallStep, CallRun, BeginsCalls}
-use Rattle.hub.specs.Laws.{KeepsConstants, KeepsProperties, HasTrees, OverwritesNothing, KeepsAll}
+use Rattle.hub.specs.Laws.{KeepsConstants, KeepsProperties, OverwritesNothing, KeepsAll}
 use Rattle.hub.specs.declared.hub.HubFault.TheVariants.{NoSession, NoMemory, Halted, Full}
 use Rattle.hub.specs.declared.calls.Call.{Call}
 use Rattle.hub.specs.declared.calls.Call.TheVariants.{Connect, Feed, Disconnect}
 use Rattle.hub.specs.declared.calls.Outcome.{Outcome}
 use Rattle.hub.specs.declared.calls.Outcome.TheVariants.{Connected, Wrote, Dropped, Failed}
-use Rattle.hub.proofs.Everywhere.{AllSound-at, AllSound-updated, AllRest-at, AllRest-updated}
+use Rattle.hub.proofs.Everywhere.{HasTrees-heard}
 use Rattle.hub.proofs.Staying.{KeepsRevisions, same_revisions, keeps_on, run_keeps, same_properties, properties_on, run_keeps_properties, OnlyCommits, no_commits, commits_on, run_commits, same_constants, constants_on, run_constants}
 use Rattle.hub.proofs.Failing.{AreCounted, none_counted, counted_on, run_counted, StaysHalted, none_halted, halted_on, run_halted}
 
@@ -57,23 +57,12 @@ makes_one old new e told step = record {
   run = (told, new, some_words, [], step, (refl, refl, refl), refl);
 }
 
--- what has come of a stream changes no tree
-heard_trees : (old : HubState) (n : ℕ) (s : SessionState) (rest : List ℕ)
-    → session_of old.sessions n ≡ Some s → HasTrees old → HasTrees (heard old n s rest)
-heard_trees old n s rest found trees =
-    let s' : SessionState = record { rest = rest; phase = s.phase } in
-    record {
-      revisions = trees.revisions;
-      edits = AllSound-updated old.sessions n s' trees.edits (AllSound-at old.sessions n s trees.edits found);
-      rests = AllRest-updated old.content old.sessions n s' trees.rests (AllRest-at old.content old.sessions n s trees.rests found);
-    }
-
 makes_heard : (old : HubState) (n : ℕ) (s : SessionState) (rest : List ℕ)
     (env after : Env) (events : List Event) (told : List Reply) (new : HubState)
     → session_of old.sessions n ≡ Some s → HubRun (heard old n s rest) env events told new after → Makes old new
 makes_heard old n s rest env after events told new found run = record {
   sessions = updated old.sessions n (record { rest = rest; phase = s.phase });
-  trees = heard_trees old n s rest found;
+  trees = HasTrees-heard old n s rest found;
   env = env;
   after = after;
   events = events;

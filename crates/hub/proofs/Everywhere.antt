@@ -1,13 +1,12 @@
 -- What holds of each session.
-use Rattle.std.proofs.Common.{◌≡◌, ℕ, List, [], ◌∷◌, ◌++◌, Option, Some, None, true, false, refl, subst}
+use Rattle.std.proofs.Common.{◌≡◌, ℕ, List, [], ◌∷◌, ◌++◌, Option, Some, None, true, false, refl, sym, subst}
 use Rattle.std.specs.Prelude.{if◌then◌else◌, ◌==◌, not}
 use Rattle.repo_api.specs.States.{RepoState, TxnState, IsBeginning}
 use Rattle.edit_rules.specs.Editor.{RestsIn}
-use Rattle.machine.specs.Stages.{Stage, SessionState, is_open, RestsOn}
+use Rattle.machine.specs.Stages.{Stage, SessionState, is_open, EditRests, EditIsSound, RestsOn}
 use Rattle.machine.specs.declared.phase.Phase.TheVariants.{Greeted, LoggingIn, Serving, Editing, Skipping, Ended}
-use Rattle.machine.specs.Soundness.{IsSound}
-use Rattle.hub.specs.State.{session_of, updated, without, kept, AllOpen, AllRest}
-use Rattle.hub.specs.Laws.{AllSound}
+use Rattle.hub.specs.State.{HubState, session_of, updated, without, kept, AllOpen, AllRest, AllSound, HasTrees}
+use Rattle.hub.specs.Runs.{new_session, heard}
 use Rattle.hub.proofs.Staying.{joins}
 
 -- `Every xs` says `P` of each session of the list
@@ -61,21 +60,21 @@ AllOpen-push = every-push Lives AllOpen tt (λ x xs p r. (p, r)) (λ x xs r. r)
 -- ---- all rest on what the repository contains
 
 abbrev pub Rests : RepoState → SessionState → Type 0
-Rests c s = RestsOn s.phase c
+Rests c s = EditRests s.phase c
 
 pub AllRest-without : (c : RepoState) (xs : List (ℕ × SessionState)) (n : ℕ) → AllRest c xs → AllRest c (without xs n)
 AllRest-without c = every-without (Rests c) (AllRest c) tt (λ x xs p r. (p, r)) (λ x xs r. r)
 
-pub AllRest-at : (c : RepoState) (xs : List (ℕ × SessionState)) (n : ℕ) (s : SessionState) → AllRest c xs → session_of xs n ≡ Some s → RestsOn s.phase c
+pub AllRest-at : (c : RepoState) (xs : List (ℕ × SessionState)) (n : ℕ) (s : SessionState) → AllRest c xs → session_of xs n ≡ Some s → EditRests s.phase c
 AllRest-at c = every-at (Rests c) (AllRest c) tt (λ x xs p r. (p, r)) (λ x xs r. r)
 
-pub AllRest-kept : (c : RepoState) (xs : List (ℕ × SessionState)) (n : ℕ) (s : SessionState) → AllRest c xs → RestsOn s.phase c → AllRest c (kept xs n s)
+pub AllRest-kept : (c : RepoState) (xs : List (ℕ × SessionState)) (n : ℕ) (s : SessionState) → AllRest c xs → EditRests s.phase c → AllRest c (kept xs n s)
 AllRest-kept c xs n s r p = every-kept (Rests c) (AllRest c) tt (λ x xs p r. (p, r)) (λ x xs r. r) xs n s r (λ e. p)
 
-pub AllRest-updated : (c : RepoState) (xs : List (ℕ × SessionState)) (n : ℕ) (s : SessionState) → AllRest c xs → RestsOn s.phase c → AllRest c (updated xs n s)
+pub AllRest-updated : (c : RepoState) (xs : List (ℕ × SessionState)) (n : ℕ) (s : SessionState) → AllRest c xs → EditRests s.phase c → AllRest c (updated xs n s)
 AllRest-updated c = every-updated (Rests c) (AllRest c) tt (λ x xs p r. (p, r)) (λ x xs r. r)
 
-pub AllRest-push : (c : RepoState) (xs : List (ℕ × SessionState)) (n : ℕ) (s : SessionState) → AllRest c xs → RestsOn s.phase c → AllRest c (xs ++ (n, s) ∷ [])
+pub AllRest-push : (c : RepoState) (xs : List (ℕ × SessionState)) (n : ℕ) (s : SessionState) → AllRest c xs → EditRests s.phase c → AllRest c (xs ++ (n, s) ∷ [])
 AllRest-push c = every-push (Rests c) (AllRest c) tt (λ x xs p r. (p, r)) (λ x xs r. r)
 
 txn-later : (txn : Option TxnState) (c d : RepoState) → IsBeginning c.revisions d.revisions → RestsIn txn c → RestsIn txn d
@@ -83,7 +82,7 @@ txn-later None c d b r = tt
 txn-later (Some t) c d b r = joins t.shown c.revisions d.revisions r b
 
 -- a repository that has gone on
-rests-later : (phase : Stage) (c d : RepoState) → IsBeginning c.revisions d.revisions → RestsOn phase c → RestsOn phase d
+rests-later : (phase : Stage) (c d : RepoState) → IsBeginning c.revisions d.revisions → EditRests phase c → EditRests phase d
 rests-later Greeted c d b r = tt
 rests-later (LoggingIn client) c d b r = tt
 rests-later (Serving client) c d b r = tt
@@ -95,22 +94,67 @@ pub AllRest-later : (c d : RepoState) (xs : List (ℕ × SessionState)) → IsBe
 AllRest-later c d [] b r = tt
 AllRest-later c d (x ∷ xs) b r = (rests-later x.1.phase c d b r.0, AllRest-later c d xs b r.1)
 
--- ---- each edit has a tree
+-- ---- each edit is sound
 
 abbrev pub Sound : SessionState → Type 0
-Sound s = IsSound s.phase
+Sound s = EditIsSound s.phase
 
 pub AllSound-without : (xs : List (ℕ × SessionState)) (n : ℕ) → AllSound xs → AllSound (without xs n)
 AllSound-without = every-without Sound AllSound tt (λ x xs p r. (p, r)) (λ x xs r. r)
 
-pub AllSound-at : (xs : List (ℕ × SessionState)) (n : ℕ) (s : SessionState) → AllSound xs → session_of xs n ≡ Some s → IsSound s.phase
+pub AllSound-at : (xs : List (ℕ × SessionState)) (n : ℕ) (s : SessionState) → AllSound xs → session_of xs n ≡ Some s → EditIsSound s.phase
 AllSound-at = every-at Sound AllSound tt (λ x xs p r. (p, r)) (λ x xs r. r)
 
-pub AllSound-kept : (xs : List (ℕ × SessionState)) (n : ℕ) (s : SessionState) → AllSound xs → IsSound s.phase → AllSound (kept xs n s)
+pub AllSound-kept : (xs : List (ℕ × SessionState)) (n : ℕ) (s : SessionState) → AllSound xs → EditIsSound s.phase → AllSound (kept xs n s)
 AllSound-kept xs n s r p = every-kept Sound AllSound tt (λ x xs q t. (q, t)) (λ x xs t. t) xs n s r (λ e. p)
 
-pub AllSound-updated : (xs : List (ℕ × SessionState)) (n : ℕ) (s : SessionState) → AllSound xs → IsSound s.phase → AllSound (updated xs n s)
+pub AllSound-updated : (xs : List (ℕ × SessionState)) (n : ℕ) (s : SessionState) → AllSound xs → EditIsSound s.phase → AllSound (updated xs n s)
 AllSound-updated = every-updated Sound AllSound tt (λ x xs p r. (p, r)) (λ x xs r. r)
 
-pub AllSound-push : (xs : List (ℕ × SessionState)) (n : ℕ) (s : SessionState) → AllSound xs → IsSound s.phase → AllSound (xs ++ (n, s) ∷ [])
+pub AllSound-push : (xs : List (ℕ × SessionState)) (n : ℕ) (s : SessionState) → AllSound xs → EditIsSound s.phase → AllSound (xs ++ (n, s) ∷ [])
 AllSound-push = every-push Sound AllSound tt (λ x xs p r. (p, r)) (λ x xs r. r)
+
+-- ---- every tree is a tree
+
+pub HasTrees-at : (h : HubState) (n : ℕ) (s : SessionState) → HasTrees h → session_of h.sessions n ≡ Some s → RestsOn s.phase h.content
+HasTrees-at h n s trees found = record {
+  trees = trees.revisions;
+  rests = AllRest-at h.content h.sessions n s trees.rests found;
+  sound = AllSound-at h.sessions n s trees.edits found;
+}
+
+pub HasTrees-push : (h : HubState) (n : ℕ) → HasTrees h → HasTrees (record h { sessions = h.sessions ++ (n, new_session) ∷ []; used = n })
+HasTrees-push h n trees = record {
+  revisions = trees.revisions;
+  edits = AllSound-push h.sessions n new_session trees.edits tt;
+  rests = AllRest-push h.content h.sessions n new_session trees.rests tt;
+}
+
+pub HasTrees-without : (h : HubState) (n : ℕ) → HasTrees h → HasTrees (record h { sessions = without h.sessions n })
+HasTrees-without h n trees = record {
+  revisions = trees.revisions;
+  edits = AllSound-without h.sessions n trees.edits;
+  rests = AllRest-without h.content h.sessions n trees.rests;
+}
+
+-- what has come of a stream changes no tree
+pub HasTrees-heard : (h : HubState) (n : ℕ) (s : SessionState) (rest : List ℕ)
+    → session_of h.sessions n ≡ Some s → HasTrees h → HasTrees (heard h n s rest)
+HasTrees-heard h n s rest found trees =
+    let s' : SessionState = record { rest = rest; phase = s.phase } in
+    record {
+      revisions = trees.revisions;
+      edits = AllSound-updated h.sessions n s' trees.edits (AllSound-at h.sessions n s trees.edits found);
+      rests = AllRest-updated h.content h.sessions n s' trees.rests (AllRest-at h.content h.sessions n s trees.rests found);
+    }
+
+-- a session was served, and the repository has gone on
+pub HasTrees-kept : (old new : HubState) (n : ℕ) (s : SessionState) → HasTrees old → IsBeginning old.content.revisions new.content.revisions
+    → RestsOn s.phase new.content → new.sessions ≡ kept old.sessions n s → HasTrees new
+HasTrees-kept old new n s trees later rests is =
+    let others = AllRest-later old.content new.content old.sessions later trees.rests in
+    record {
+      revisions = rests.trees;
+      edits = subst AllSound (sym is) (AllSound-kept old.sessions n s trees.edits rests.sound);
+      rests = subst (AllRest new.content) (sym is) (AllRest-kept new.content old.sessions n s others rests.rests);
+    }

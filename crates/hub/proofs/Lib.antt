@@ -9,3 +9,4 @@ pub mod Everywhere
 pub mod Trees
 pub mod Calling
 pub mod InMemory
+pub mod Sinks

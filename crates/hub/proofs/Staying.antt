@@ -4,7 +4,7 @@ use Rattle.refusals.specs.declared.Refusal.{Refusal}
 use Rattle.repo_api.specs.Properties.{PropertyList}
 use Rattle.repo_api.specs.States.{RepoState, TxnState, Fixed, IsBeginning}
 use Rattle.repo_api.specs.Commits.{committed, revision_properties}
-use Rattle.repo_api.specs.Accepted.{Accepted, changed, changed_all}
+use Rattle.repo_api.specs.Accepted.{Accepted, AreAccepted, changed, changed_all}
 use Rattle.repo_api.specs.Accepted.Accepted.{Commits}
 use Rattle.repo_api.specs.declared.ask.CommitAsk.{CommitAsk}
 use Rattle.replies.specs.declared.reply.Reply.{Reply}
@@ -16,7 +16,7 @@ use Rattle.machine.specs.declared.env.Env.{Env}
 use Rattle.hub.specs.State.{HubState, session_of}
 use Rattle.hub.specs.Runs.{Event, InputHappens, HubStep, HubRun, heard, Feeds, Breaks}
 use Rattle.hub.specs.Runs.Event.{Connects, Gets, Drops}
-use Rattle.hub.specs.Laws.{TellsFailure, IsCommit, IsToldCommit, MakesCommits, KeepsConstants, KeepsProperties}
+use Rattle.hub.specs.Laws.{TellsFailure, IsCommit, IsToldCommit, KeepsConstants, KeepsProperties}
 use Rattle.hub.proofs.Effects.{Does, does}
 use Rattle.hub.proofs.Running.{through_run}
 
@@ -153,23 +153,31 @@ properties_on a b c x y =
 pub run_keeps_properties : (old new : HubState) (env after : Env) (events : List Event) (told : List Reply) → HubRun old env events told new after → KeepsProperties old.content new.content
 run_keeps_properties = run_by_commits KeepsProperties same_properties commit_adds properties_on
 
--- ---- commits, one after another
+-- ---- accepted changes, one after another
 
 abbrev pub OnlyCommits : RepoState → RepoState → Type 0
-OnlyCommits old new = (states : List RepoState) × MakesCommits old states new
+OnlyCommits old new = (changes : List Accepted) × AreAccepted old changes × (new ≡ changed_all old changes)
 
 pub no_commits : (c : RepoState) → OnlyCommits c c
-no_commits c = ([], refl)
+no_commits c = ([], tt, refl)
 
 pub one_commit : (old new : RepoState) → IsCommit old new → OnlyCommits old new
-one_commit old new c = (new ∷ [], (c, refl))
+one_commit old new c = (Commits c.ask c.txn ∷ [], (c.accepted, tt), c.is)
 
-more_commits : (a b c : RepoState) (xs ys : List RepoState) → MakesCommits a xs b → MakesCommits b ys c → MakesCommits a (xs ++ ys) c
-more_commits a b c [] ys e run = subst (λ (x : RepoState). MakesCommits x ys c) e run
-more_commits a b c (x ∷ xs) ys (commit, more) run = (commit, more_commits x b c xs ys more run)
+all_accepted : (c : RepoState) (xs ys : List Accepted) → AreAccepted c xs → AreAccepted (changed_all c xs) ys → AreAccepted c (xs ++ ys)
+all_accepted c [] ys are more = more
+all_accepted c (x ∷ xs) ys (one, are) more = (one, all_accepted (changed c x) xs ys are more)
+
+changed-append : (c : RepoState) (xs ys : List Accepted) → changed_all c (xs ++ ys) ≡ changed_all (changed_all c xs) ys
+changed-append c [] ys = refl
+changed-append c (x ∷ xs) ys = changed-append (changed c x) xs ys
 
 pub commits_on : (a b c : RepoState) → OnlyCommits a b → OnlyCommits b c → OnlyCommits a c
-commits_on a b c x y = (x.0 ++ y.0, more_commits a b c x.0 y.0 x.1 y.1)
+commits_on a b c (xs, are, is) (ys, more, to) = (
+  xs ++ ys,
+  all_accepted a xs ys are (subst (λ (x : RepoState). AreAccepted x ys) is more),
+  to ∙ ap (λ (x : RepoState). changed_all x ys) is ∙ sym (changed-append a xs ys),
+)
 
 pub run_commits : (old new : HubState) (env after : Env) (events : List Event) (told : List Reply) → HubRun old env events told new after → OnlyCommits old.content new.content
 run_commits = run_by_commits OnlyCommits no_commits one_commit commits_on

@@ -9,56 +9,39 @@ use Rattle.repo_api.specs.Commits.{next_tree}
 use Rattle.repo_api.specs.Accepted.{Accepted, changed_all}
 use Rattle.repo_api.specs.Accepted.Accepted.{Commits}
 use Rattle.repo_api.specs.States.{RepoState, TxnState, ChangeMap, tree_of, tree_at, trees_in, youngest}
-use Rattle.repo_api.specs.Opening.{opening_tree}
+use Rattle.repo_api.specs.Opening.{opening_tree, opened}
 use Rattle.replies.specs.declared.reply.Reply.{Reply}
 use Rattle.edit_rules.specs.Soundness.{AreSound}
 use Rattle.machine.specs.Settings.{Settings}
 use Rattle.machine.specs.Hearing.{Input}
 use Rattle.machine.specs.Stages.{Stage, SessionState, RestsOn}
-use Rattle.machine.specs.Soundness.{IsSound, MeetBy}
+use Rattle.machine.specs.Soundness.{MeetBy}
 use Rattle.machine.specs.Machine.{Answer, InputStep, content_after}
 use Rattle.machine.specs.declared.env.Env.{Env}
-use Rattle.hub.specs.State.{HubState, session_of}
-use Rattle.hub.specs.Runs.{Event, InputHappens, HubStep, HubRun, new_session}
+use Rattle.hub.specs.State.{HubState, HasTrees, session_of}
+use Rattle.hub.specs.Runs.{Event, InputHappens, HubStep, HubRun, answered}
 use Rattle.hub.specs.Runs.Event.{Connects, Gets, Drops}
-use Rattle.hub.specs.Laws.{new_hub, HasTrees, OverwritesNothing}
-use Rattle.hub.proofs.Everywhere.{AllSound-at, AllSound-kept, AllSound-push, AllSound-without, AllRest-at, AllRest-kept, AllRest-push, AllRest-without, AllRest-later}
+use Rattle.hub.specs.Laws.{OverwritesNothing}
+use Rattle.hub.proofs.Everywhere.{HasTrees-at, HasTrees-kept, HasTrees-push, HasTrees-without}
 use Rattle.hub.proofs.Effects.{Does, does}
 use Rattle.hub.proofs.Staying.{changes_keep}
 
 module _ (step_keeps : (halted : Bool) (s : Settings) (env : Env) (c : RepoState) (phase : Stage) (input : Input) (a : Answer)
-    → AreSound c.revisions → RestsOn phase c → IsSound phase → InputStep halted s env c phase input a → AreSound (content_after c a.effect).revisions × IsSound a.phase × MeetBy c a.effect.changes)
-    (step_rests : (halted : Bool) (s : Settings) (env : Env) (c : RepoState) (phase : Stage) (input : Input) (a : Answer)
-    → RestsOn phase c → InputStep halted s env c phase input a → RestsOn a.phase (content_after c a.effect)) where
+    → RestsOn phase c → InputStep halted s env c phase input a → RestsOn a.phase (content_after c a.effect) × MeetBy c a.effect.changes) where
   input_keeps : (old : HubState) (env : Env) (n : ℕ) (o : Option SessionState) (input : Input) (told : List Reply) (new : HubState) (after : Env)
       → session_of old.sessions n ≡ o → HasTrees old → InputHappens old env n o input told new after → HasTrees new
   input_keeps old env n None input told new after found trees h = subst HasTrees (sym h.1) trees
   input_keeps old env n (Some s) input told new after found trees (a, step, is_told, left, failures, counts, is) =
-      let c : RepoState = content_after old.content a.effect in
+      let next : HubState = answered old n s a failures in
       let s' : SessionState = record { rest = s.rest; phase = a.phase } in
-      let rests = AllRest-at old.content old.sessions n s trees.rests found in
-      let kept = step_keeps old.halted old.settings env old.content s.phase input a trees.revisions rests (AllSound-at old.sessions n s trees.edits found) step in
-      let later = AllRest-later old.content c old.sessions (changes_keep old.content a.effect.changes) trees.rests in
-      subst HasTrees (sym is) (record {
-        revisions = kept.0;
-        edits = AllSound-kept old.sessions n s' trees.edits kept.1;
-        rests = AllRest-kept c old.sessions n s' later (step_rests old.halted old.settings env old.content s.phase input a rests step);
-      })
+      let rests = HasTrees-at old n s trees found in
+      let kept = step_keeps old.halted old.settings env old.content s.phase input a rests step in
+      subst HasTrees (sym is) (HasTrees-kept old next n s' trees (changes_keep old.content a.effect.changes) kept.0 refl)
 
   event_keeps : (old new : HubState) (env after : Env) (e : Event) (told : List Reply) → HasTrees old → HubStep old env e told new after → HasTrees new
-  event_keeps old new env after (Connects n) told trees h =
-      subst HasTrees (sym h.3) (record {
-        revisions = trees.revisions;
-        edits = AllSound-push old.sessions n new_session trees.edits tt;
-        rests = AllRest-push old.content old.sessions n new_session trees.rests tt;
-      })
+  event_keeps old new env after (Connects n) told trees h = subst HasTrees (sym h.3) (HasTrees-push old n trees)
   event_keeps old new env after (Gets n input) told trees h = input_keeps old env n (session_of old.sessions n) input told new after refl trees h
-  event_keeps old new env after (Drops n) told trees h =
-      subst HasTrees (sym h.2) (record {
-        revisions = trees.revisions;
-        edits = AllSound-without old.sessions n trees.edits;
-        rests = AllRest-without old.content old.sessions n trees.rests;
-      })
+  event_keeps old new env after (Drops n) told trees h = subst HasTrees (sym h.2) (HasTrees-without old n trees)
 
   pub trees_stay : (old new : HubState) (env after : Env) (events : List Event) (told : List Reply) → HasTrees old → HubRun old env events told new after → HasTrees new
   trees_stay old new env after [] told trees h = subst HasTrees (sym h.1) trees
@@ -79,15 +62,14 @@ module _ (step_keeps : (halted : Bool) (s : Settings) (env : Env) (c : RepoState
         → session_of old.sessions n ≡ o → HasTrees old → InputHappens old env n o input told new after → OverwritesNothing old.content new.content
     input_overwrites old env n None input told new after found trees h = inl (ap (λ (x : HubState). x.content) h.1)
     input_overwrites old env n (Some s) input told new after found trees (a, step, is_told, left, failures, counts, is) =
-        let rests = AllRest-at old.content old.sessions n s trees.rests found in
-        let kept = step_keeps old.halted old.settings env old.content s.phase input a trees.revisions rests (AllSound-at old.sessions n s trees.edits found) step in
-        subst (λ (x : HubState). OverwritesNothing old.content x.content) (sym is) (answer_keeps old.halted old.content a (does old.halted old.settings env old.content s.phase input a step) kept.2)
+        let kept = step_keeps old.halted old.settings env old.content s.phase input a (HasTrees-at old n s trees found) step in
+        subst (λ (x : HubState). OverwritesNothing old.content x.content) (sym is) (answer_keeps old.halted old.content a (does old.halted old.settings env old.content s.phase input a step) kept.1)
 
     pub overwrites_nothing : (old new : HubState) (env after : Env) (e : Event) (told : List Reply) → HasTrees old → HubStep old env e told new after → OverwritesNothing old.content new.content
     overwrites_nothing old new env after (Connects n) told trees h = inl (ap (λ (x : HubState). x.content) h.3)
     overwrites_nothing old new env after (Gets n input) told trees h = input_overwrites old env n (session_of old.sessions n) input told new after refl trees h
     overwrites_nothing old new env after (Drops n) told trees h = inl (ap (λ (x : HubState). x.content) h.2)
 
-pub new_trees : IsTree (tree_of opening_tree) → ((changes : ChangeMap) → AreMarked (trees_in (record { tree = opening_tree; changes = changes } ∷ [])))
-    → (settings : Settings) (uuid : ℕ) (date : List ℕ) → HasTrees (new_hub settings uuid date)
-new_trees opening marked settings uuid date = record { revisions = ((opening, tt), marked empty); edits = tt; rests = tt }
+pub opening_sound : IsTree (tree_of opening_tree) → ((changes : ChangeMap) → AreMarked (trees_in (record { tree = opening_tree; changes = changes } ∷ [])))
+    → (c : RepoState) (uuid : ℕ) (date : List ℕ) → c ≡ opened uuid date → AreSound c.revisions
+opening_sound opening marked c uuid date is = subst (λ (x : RepoState). AreSound x.revisions) (sym is) ((opening, tt), marked empty)

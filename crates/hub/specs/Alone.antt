@@ -3,6 +3,7 @@ use Rattle.std.specs.Prelude.{◌≡◌, ◌≤◌, true, false, []}
 use Rattle.std.proofs.Common.{sym, ap, subst, ◌∙◌, append-nil, le_refl}
 use Rattle.repo_api.specs.States.{RepoState, IsBeginning}
 use Rattle.repo_api.specs.Accepted.{Accepted, changed}
+use Rattle.edit_rules.specs.Soundness.{AreSound}
 use Rattle.machine.specs.Points.{Point, world}
 
 -- where the repository contains this: changes never come to a halt, and no store ever fails
@@ -15,6 +16,9 @@ point_after p e = record { first = changed (world p) e; changes = []; halted = p
 
 pub same_keeps : (p q : Point) → q ≡ p → IsBeginning (world p).revisions (world q).revisions
 same_keeps p q e = subst (λ (x : Point). IsBeginning (world p).revisions (world x).revisions) (sym e) (record { more = []; is = sym (append-nil (world p).revisions) })
+
+pub same_sound : (p q : Point) → q ≡ p → AreSound (world p).revisions → AreSound (world q).revisions
+same_sound p q e s = subst (λ (x : Point). AreSound (world x).revisions) (sym e) s
 
 pub same_lasts : (p q : Point) → q ≡ p → (p.halted ≡ true → q.halted ≡ true) × (p.failures ≤ q.failures)
 same_lasts p q e = (λ h. ap (λ (x : Point). x.halted) e ∙ h, subst (λ (x : Point). p.failures ≤ x.failures) (sym e) (le_refl p.failures))

@@ -1,7 +1,7 @@
 -- What the calls of a hub do.
 use Rattle.std.specs.Prelude.{◌≡◌, ◌⊎◌, ℕ, ◌+◌, ◌<◌, ◌≤◌, ◌^◌, true, false, List, [], ◌∷◌, ◌++◌, length, None}
 use Rattle.replies.specs.declared.reply.Reply.{Reply}
-use Rattle.machine.specs.Machine.{print}
+use Rattle.replies.specs.Replies.{print}
 use Rattle.machine.specs.declared.env.Env.{Env}
 use Rattle.hub.specs.declared.hub.HubFault.{HubFault}
 use Rattle.hub.specs.declared.hub.HubFault.TheVariants.{NoSession, NoMemory, Halted, Full}
@@ -10,7 +10,7 @@ use Rattle.hub.specs.declared.calls.Call.TheVariants.{Connect, Feed, Disconnect}
 use Rattle.hub.specs.declared.calls.Outcome.{Outcome}
 use Rattle.hub.specs.declared.calls.Outcome.TheVariants.{Connected, Wrote, Dropped, Failed}
 use Rattle.hub.specs.State.{HubState, session_of}
-use Rattle.hub.specs.Runs.{HubStep, Feeds, Breaks}
+use Rattle.hub.specs.Runs.{HubStep, Feeds, Breaks, BreaksOff}
 use Rattle.hub.specs.Runs.Event.{Connects, Drops}
 
 -- there was room for a new session, which is greeted so
@@ -39,6 +39,17 @@ FeedFails old env n piece NoSession new = (old.halted ≡ false) × (session_of 
 FeedFails old env n piece NoMemory new = (old.halted ≡ false) × Breaks old env n piece new
 FeedFails old env n piece Halted new = (old.halted ≡ true) × (new ≡ old)
 FeedFails old env n piece Full new = ⊥
+
+-- a piece was heard, and what it draws was written
+abbrev pub FeedsTo : HubState → Env → ℕ → List ℕ → HubState → (List ℕ → Type 0) → Type 0
+FeedsTo old env n piece new writes = (out : List ℕ) × FeedsAs old env n piece out new × writes out
+
+-- why no more was written than a part of what the inputs that were served draw
+abbrev pub FeedBreaks : HubState → Env → ℕ → List ℕ → HubFault → HubState → (List ℕ → Type 0) → Type 0
+FeedBreaks old env n piece NoSession new writes = FeedFails old env n piece NoSession new × writes []
+FeedBreaks old env n piece NoMemory new writes = (old.halted ≡ false) × BreaksOff old env n piece new writes
+FeedBreaks old env n piece Halted new writes = FeedFails old env n piece Halted new × writes []
+FeedBreaks old env n piece Full new writes = ⊥
 
 abbrev pub CallStep : HubState → Call → Outcome → HubState → Type 0
 CallStep old Connect (Connected n out) new = ConnectsAs old n out.items new

@@ -12,11 +12,8 @@ use Rattle.repo_api.specs.Opening.{opened}
 use Rattle.refusals.specs.declared.Refusal.{Refusal}
 use Rattle.replies.specs.declared.reply.Reply.{Reply}
 use Rattle.replies.specs.declared.reply.Reply.TheVariants.{CommitInfo, Failure}
-use Rattle.edit_rules.specs.Soundness.{AreSound}
 use Rattle.machine.specs.Settings.{Settings}
-use Rattle.machine.specs.Stages.{SessionState}
-use Rattle.machine.specs.Soundness.{IsSound}
-use Rattle.hub.specs.State.{HubState, AllRest}
+use Rattle.hub.specs.State.{HubState}
 use Rattle.machine.specs.Hearing.{Input}
 use Rattle.machine.specs.Hearing.Input.{Whole, Broken}
 
@@ -47,11 +44,6 @@ pub record IsToldCommit (old : RepoState) (told : List Reply) (new : RepoState) 
   pub commit : IsCommit old new
   pub info : Contains told (CommitInfo (length old.revisions) commit.ask.date commit.ask.author)
 
--- one repository after another, each made of the one before it by a commit that the rules accept
-abbrev pub MakesCommits : RepoState → List RepoState → RepoState → Type 0
-MakesCommits old [] new = new ≡ old
-MakesCommits old (next ∷ more) new = IsCommit old next × MakesCommits next more new
-
 -- what nothing changes: the settings, the repository's name among all repositories, and its locks
 pub record KeepsConstants (old new : HubState) : Type 0 where
   pub settings : new.settings ≡ old.settings
@@ -61,18 +53,6 @@ pub record KeepsConstants (old new : HubState) : Type 0 where
 -- each revision that is there keeps its properties
 abbrev pub KeepsProperties : RepoState → RepoState → Type 0
 KeepsProperties old new = (more : List PropertyList) × (new.properties ≡ old.properties ++ more)
-
--- the edit of each session, if it has one, has a tree
-abbrev pub AllSound : List (ℕ × SessionState) → Type 0
-AllSound [] = Unit {0}
-AllSound (x ∷ xs) = IsSound x.1.phase × AllSound xs
-
--- every tree is a tree whose marks name what they mark: those of the revisions, and those of the open edits, which
--- were last shown revisions that are there
-pub record HasTrees (h : HubState) : Type 0 where
-  pub revisions : AreSound h.content.revisions
-  pub edits : AllSound h.sessions
-  pub rests : AllRest h.content h.sessions
 
 -- no byte of the stream is wrong so far
 abbrev pub IsUnbroken : List Input → Type 0

@@ -4,7 +4,9 @@ use Rattle.replies.specs.declared.reply.Reply.{Reply}
 use Rattle.replies.specs.declared.reply.Reply.TheVariants.{Greeting}
 use Rattle.machine.specs.Hearing.{Input, Comes, IsSettled}
 use Rattle.machine.specs.Stages.{SessionState}
-use Rattle.machine.specs.Machine.{Answer, InputStep, Counts, print, content_after, halted_after}
+use Rattle.replies.specs.Replies.{print}
+use Rattle.replies.specs.Sinks.{WritesPart}
+use Rattle.machine.specs.Machine.{Answer, InputStep, Counts, content_after, halted_after}
 use Rattle.machine.specs.declared.env.Env.{Env}
 use Rattle.machine.specs.declared.phase.Phase.TheVariants.{Greeted}
 use Rattle.hub.specs.State.{HubState, session_of, updated, without, kept}
@@ -95,3 +97,8 @@ pub record Breaks (old : HubState) (env : Env) (n : ℕ) (piece : List ℕ) (new
   pub told : List Reply
   pub env_after : Env
   pub run : HubRun (heard old n session rest) env (events ++ Drops n ∷ []) told new env_after
+
+-- so it was, and a part of what the inputs draw was written
+pub record BreaksOff (old : HubState) (env : Env) (n : ℕ) (piece : List ℕ) (new : HubState) (writes : List ℕ → Type 0) : Type 0 where
+  pub breaks : Breaks old env n piece new
+  pub written : WritesPart writes (print breaks.told)

@@ -3,7 +3,8 @@ use Rattle.std.specs.Prelude.{◌≡◌, ℕ, Bool, true, List, [], ◌∷◌, O
 use Rattle.repo_api.specs.States.{RepoState}
 use Rattle.machine.specs.Points.{Point, world}
 use Rattle.machine.specs.Settings.{Settings}
-use Rattle.machine.specs.Stages.{SessionState, is_open, RestsOn}
+use Rattle.edit_rules.specs.Soundness.{AreSound}
+use Rattle.machine.specs.Stages.{SessionState, is_open, EditRests, EditIsSound}
 
 pub record HubState : Type 0 where
   pub settings : Settings
@@ -54,7 +55,19 @@ AllOpen (x ∷ xs) = (is_open x.1.phase ≡ true) × AllOpen xs
 -- the edit of each session, if it has one, has seen revisions that begin the repository's
 abbrev pub AllRest : RepoState → List (ℕ × SessionState) → Type 0
 AllRest c [] = Unit {0}
-AllRest c (x ∷ xs) = RestsOn x.1.phase c × AllRest c xs
+AllRest c (x ∷ xs) = EditRests x.1.phase c × AllRest c xs
+
+-- the edit of each session, if it has one, is sound
+abbrev pub AllSound : List (ℕ × SessionState) → Type 0
+AllSound [] = Unit {0}
+AllSound (x ∷ xs) = EditIsSound x.1.phase × AllSound xs
+
+-- every tree is a tree whose marks name what they mark: those of the revisions, and those of the open edits, which
+-- were last shown revisions that are there
+pub record HasTrees (h : HubState) : Type 0 where
+  pub revisions : AreSound h.content.revisions
+  pub edits : AllSound h.sessions
+  pub rests : AllRest h.content h.sessions
 
 -- the session of the number is at this place
 pub record Finds (xs : List (ℕ × SessionState)) (n i : ℕ) : Type 0 where

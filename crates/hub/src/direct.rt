@@ -23,7 +23,7 @@ impl<R: Repository> Direct<R> {
 impl<R: Repository> RepoAccess for Direct<R> {
     ghost use Rattle.std.specs.Prelude.{◌≡◌, refl};
     ghost use Rattle.std.proofs.Common.{◌∙◌};
-    ghost use Rattle.hub.specs.Alone.{point_at, point_after, same_keeps, same_lasts, adds_counts};
+    ghost use Rattle.hub.specs.Alone.{point_at, point_after, same_keeps, same_sound, same_lasts, adds_counts};
 
     type View = R;
 
@@ -38,6 +38,8 @@ impl<R: Repository> RepoAccess for Direct<R> {
     ghost goes_on = { λ p q r a b. b ∙ a };
 
     ghost keeps = { same_keeps };
+
+    ghost sound = { same_sound };
 
     ghost lasts = { same_lasts };
 

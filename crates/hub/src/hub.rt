@@ -1,18 +1,21 @@
 //! Many sessions over one repository.
-ghost use Rattle.std.specs.Prelude.{◌≡◌, if◌then◌else◌, ◌+◌, ◌<◌, ◌≤◌, ◌++◌, [], ◌∷◌, ℕ, Bool, true, false, not, ◌&&◌, length, MatchOption, IfOk, IfErr, OnOk, OnErr, None, is_some};
+ghost use Rattle.std.specs.Prelude.{◌≡◌, if◌then◌else◌, ◌+◌, ◌<◌, ◌≤◌, ◌++◌, [], ◌∷◌, ℕ, List, Bool, true, false, not, ◌&&◌, length, MatchOption, IfOk, IfErr, OnOk, OnErr, None, is_some};
+ghost use Rattle.repo_api.specs.Opening.{opened};
+ghost use Rattle.edit_rules.specs.Soundness.{AreSound};
 ghost use Rattle.machine.specs.Points.{world};
-ghost use Rattle.machine.specs.Machine.{print};
+ghost use Rattle.replies.specs.Replies.{print};
 ghost use Rattle.machine.specs.declared.env.Env.{Env};
 ghost use Rattle.replies.specs.declared.reply.Reply.TheVariants.{Greeting};
-ghost use Rattle.hub.specs.State.{hub_at, session_of, without, Finds, AllOpen, AllRest};
+ghost use Rattle.hub.specs.State.{hub_at, session_of, without, Finds};
 ghost use Rattle.hub.specs.Alone.{point_at};
-ghost use Rattle.hub.specs.Runs.{HubStep, Feeds, Breaks, new_session};
+ghost use Rattle.hub.specs.Runs.{HubStep, Feeds, BreaksOff, new_session};
 ghost use Rattle.hub.specs.Runs.Event.{Drops};
-ghost use Rattle.hub.specs.Calls.{ConnectsAs, ConnectFails, FeedsAs, FeedFails};
+ghost use Rattle.hub.specs.Calls.{ConnectsAs, ConnectFails, FeedsAs, FeedFails, FeedsTo, FeedBreaks};
 
 use crate::direct::Direct;
+use crate::laws::new_repositories_are_sound;
 use machine::{Env, Options, SoleAccess};
-use replies::Reply;
+use replies::{MemorySink, Reply, ReplySink};
 use repo_api::Repository;
 use session::Session;
 use std::alloc::{AllocError, Global};
@@ -28,7 +31,7 @@ pub enum HubFault {
     /// No session of that number is open.
     #[error("no open session of that number")]
     NoSession,
-    /// Memory was refused. A session that was fed has ended.
+    /// Memory was refused, or a sink of replies failed. A session that was fed has ended.
     #[error("no memory")]
     NoMemory,
     /// The store failed badly, and nothing is served any more.
@@ -106,8 +109,7 @@ pub struct Hub<A: SoleAccess> {
 impl<A: SoleAccess> Model for Hub<A> {
     ghost use Rattle.std.specs.Coded.{codes};
     ghost use Rattle.std.specs.FinMap.{code as map_code};
-    ghost use Rattle.machine.specs.Points.{world};
-    ghost use Rattle.hub.specs.State.{HubState, hub_at, AllOpen, AllRest};
+    ghost use Rattle.hub.specs.State.{HubState, hub_at, AllOpen, HasTrees};
 
     ghost Value = { HubState };
 
@@ -115,22 +117,34 @@ impl<A: SoleAccess> Model for Hub<A> {
 
     ghost view = { λ h. hub_at h.options (A.point h.access) h.sessions.items h.used };
 
-    ghost invariant = { λ h. AllOpen h.sessions.items × AllRest (world (A.point h.access)) h.sessions.items };
+    ghost invariant = { λ h. AllOpen h.sessions.items × HasTrees (hub_at h.options (A.point h.access) h.sessions.items h.used) };
 }
 
 impl<R: Repository> Hub<Direct<R>> {
-    /// A hub without sessions over a repository in memory that nobody else has.
+    /// A hub without sessions over a repository in memory that nobody else has, whose trees are sound.
     pub fn over(alloc: Global, repository: R, options: Options) -> Result<Self, HubFault>
+        requires { AreSound (R.content repository).revisions }
         ensures ok { IfOk result (λ hub. hub ≡ hub_at options (point_at (R.content repository)) [] 0) }
         ensures err { IfErr result (λ fault. fault ≡ HubFault.NoMemory) }
     {
         Ok(Hub::with_access(alloc, Direct::new(repository), options))
     }
+
+    /// A hub without sessions over a new repository in memory that nobody else has.
+    pub fn over_new(alloc: Global, repository: R, options: Options) -> Result<Self, HubFault>
+        requires { (uuid : ℕ) × (date : List ℕ) × (R.content repository ≡ opened uuid date) }
+        ensures ok { IfOk result (λ hub. hub ≡ hub_at options (point_at (R.content repository)) [] 0) }
+        ensures err { IfErr result (λ fault. fault ≡ HubFault.NoMemory) }
+    {
+        new_repositories_are_sound();
+        Hub::over(alloc, repository, options)
+    }
 }
 
 impl<A: SoleAccess> Hub<A> {
-    /// A hub without sessions over what an access reaches.
+    /// A hub without sessions over what an access reaches, whose trees are sound.
     pub fn with_access(alloc: Global, access: A, options: Options) -> Self
+        requires { AreSound (world (A.point access)).revisions }
         ensures { result ≡ hub_at options (A.point access) [] 0 }
     {
         Hub {
@@ -176,26 +190,25 @@ impl<A: SoleAccess> Hub<A> {
     }
 
     /// Feeds the open session at this place; one that has ended then is dropped.
-    fn feed_open(
+    fn feed_open<S: ReplySink>(
         &mut self,
         number: SessionId,
         i: usize,
         piece: &[u8],
         env: Env,
-    ) -> Result<Vec<u8>, AllocError>
+        out: &mut S,
+    ) -> Result<(), AllocError>
         requires found { Finds self.old.sessions number i }
         requires moment { env.moment ≤ 200000000000000000 }
-        ensures ok { IfOk result (λ out. Feeds self.old env number piece.now out.items self.new) }
-        ensures err { OnErr result (Breaks self.old env number piece.now self.new) }
+        ensures ok { OnOk result ((told : List ℕ) × Feeds self.old env number piece.now told self.new × S.writes out.old out.new told) }
+        ensures err { OnErr result (BreaksOff self.old env number piece.now self.new (S.writes out.old out.new)) }
     {
         let entry = &mut self.sessions[i];
-        let fed = entry
-            .1
-            .feed(self.alloc, &self.options, piece, &mut self.access, env);
+        let fed = entry.1.feed(self.alloc, &self.options, piece, &mut self.access, env, out);
         let is_open = entry.1.is_open();
         drop_unless(is_open, &mut self.sessions, number);
         match fed {
-            Ok(out) => Ok(out),
+            Ok(()) => Ok(()),
             Err(_) => Err(AllocError),
         }
     }
@@ -206,16 +219,41 @@ impl<A: SoleAccess> Hub<A> {
         ensures ok { IfOk result (λ out. FeedsAs self.old env number piece.now out.items self.new) }
         ensures err { IfErr result (λ e. FeedFails self.old env number piece.now e self.new) }
     {
+        let mut sink = MemorySink::new(self.alloc);
+        match self.feed_to(number, piece, env, &mut sink) {
+            Ok(()) => Ok(sink.into_bytes()),
+            Err(fault) => Err(fault),
+        }
+    }
+
+    /// Feeds a piece of what a client sends to its session, and writes what it is answered as it is made. Where the
+    /// sink fails, the session has ended as for want of memory, and the sink has its own fault.
+    pub fn feed_to<S: ReplySink>(
+        &mut self,
+        number: SessionId,
+        piece: &[u8],
+        env: Env,
+        out: &mut S,
+    ) -> Result<(), HubFault>
+        requires { env.moment ≤ 200000000000000000 }
+        ensures ok { OnOk result (FeedsTo self.old env number piece.now self.new (S.writes out.old out.new)) }
+        ensures err { IfErr result (λ e. FeedBreaks self.old env number piece.now e self.new (S.writes out.old out.new)) }
+    {
         if self.access.is_halted() {
             return Err(HubFault::Halted);
         }
         let Some(i) = place(&self.sessions, number) else {
             return Err(HubFault::NoSession);
         };
-        match self.feed_open(number, i, piece, env) {
-            Ok(out) => Ok(out),
+        match self.feed_open(number, i, piece, env, out) {
+            Ok(()) => Ok(()),
             Err(_) => Err(HubFault::NoMemory),
         }
+    }
+
+    /// Where a hub has its memory from.
+    pub fn alloc(&self) -> Global {
+        self.alloc
     }
 
     /// Whether a session of this number is open.

@@ -1,15 +1,17 @@
 //! What holds of every run of a hub. The functions do nothing: their contracts are the laws.
 ghost use Rattle.std.specs.Prelude.{◌<◌, ◌≤◌, ◌+◌, ◌≡◌, ◌⊎◌, ◌++◌, ℕ, true, List, length};
 ghost use Rattle.repo_api.specs.States.{RepoState, IsBeginning, trees_in};
+ghost use Rattle.repo_api.specs.Accepted.{Accepted, AreAccepted, changed_all};
 ghost use Rattle.repo_api.specs.Marks.{AreMarked};
-ghost use Rattle.edit_rules.specs.Soundness.{AreTrees};
+ghost use Rattle.repo_api.specs.Opening.{opened};
+ghost use Rattle.edit_rules.specs.Soundness.{AreTrees, AreSound};
 ghost use Rattle.replies.specs.declared.reply.Reply.{Reply};
 ghost use Rattle.machine.specs.Points.{last_count};
 ghost use Rattle.machine.specs.Hearing.{Input, Comes};
 ghost use Rattle.machine.specs.Settings.{Settings};
-ghost use Rattle.hub.specs.Laws.{TellsFailure, IsToldCommit, MakesCommits, KeepsConstants, KeepsProperties, IsUnbroken, new_hub, HasTrees, OverwritesNothing, KeepsAll};
+ghost use Rattle.hub.specs.Laws.{TellsFailure, IsToldCommit, KeepsConstants, KeepsProperties, IsUnbroken, new_hub, OverwritesNothing, KeepsAll};
 ghost use Rattle.machine.specs.declared.env.Env.{Env};
-ghost use Rattle.hub.specs.State.{HubState};
+ghost use Rattle.hub.specs.State.{HubState, HasTrees};
 ghost use Rattle.hub.specs.Runs.{Event, HubStep, HubRun};
 ghost use Rattle.hub.specs.Calls.{CallStep, CallRun};
 ghost use Rattle.hub.specs.declared.calls.Call.{Call};
@@ -37,15 +39,17 @@ pub fn refused_changes_nothing()
         → (new.content ≡ old.content) ⊎ IsToldCommit old.content told new.content }
 {}
 
-/// Whatever happens, and whatever calls come, the repository has gone on by commits that the rules accept, one after
+/// Whatever happens, and whatever calls come, the repository has gone on by changes that the rules accept, one after
 /// another, and by nothing else.
 pub fn only_commits_change()
     ensures events { (old new : HubState) (env after : Env) (events : List Event) (told : List Reply)
         → HubRun old env events told new after
-        → (states : List RepoState) × MakesCommits old.content states new.content }
+        → (changes : List Accepted) × AreAccepted old.content changes
+        × (new.content ≡ changed_all old.content changes) }
     ensures calls { (old new : HubState) (calls : List Call) (outcomes : List Outcome)
         → CallRun old calls outcomes new
-        → (states : List RepoState) × MakesCommits old.content states new.content }
+        → (changes : List Accepted) × AreAccepted old.content changes
+        × (new.content ≡ changed_all old.content changes) }
 {}
 
 /// Whatever calls come, the trees and changes of revisions that are there stay the same.
@@ -115,7 +119,6 @@ pub fn trees_stay_trees()
         → HasTrees old → CallRun old calls outcomes new → HasTrees new }
 {
     machine::steps_keep_trees();
-    machine::steps_rest();
 }
 
 /// A commit never overwrites what was changed since its base: where every tree is a tree, what an event makes of the
@@ -125,16 +128,22 @@ pub fn nothing_is_overwritten()
         → HasTrees old → HubStep old env event told new after → OverwritesNothing old.content new.content }
 {
     machine::steps_keep_trees();
-    machine::steps_rest();
     repo_api::commits_keep_both_sides();
+}
+
+/// The trees of a new repository are sound: a hub may be made over it.
+pub fn new_repositories_are_sound()
+    ensures { (c : RepoState) (uuid : ℕ) (date : List ℕ) → c ≡ opened uuid date → AreSound c.revisions }
+{
+    repo_api::opening_is_a_tree();
+    repo_api::opening_is_marked();
 }
 
 /// In a hub that is new over a new repository every tree is a tree.
 pub fn new_trees_are_trees()
     ensures { (settings : Settings) (uuid : ℕ) (date : List ℕ) → HasTrees (new_hub settings uuid date) }
 {
-    repo_api::opening_is_a_tree();
-    repo_api::opening_is_marked();
+    new_repositories_are_sound();
 }
 
 /// The tree of each revision is a tree, whatever happens to a new hub, and whatever it is called for.

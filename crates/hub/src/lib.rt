@@ -11,8 +11,9 @@ pub use direct::Direct;
 pub use hub::{Hub, HubFault, SessionId};
 pub use laws::{
     a_halt_stays, calls_keep_history, commits_overwrite_nothing, constants_stay, cut_anywhere,
-    failures_never_fall, halts_are_counted, marks_name_what_they_mark, new_trees_are_trees,
-    nothing_is_overwritten, one_revision_an_event, only_commits_change, refused_changes_nothing,
-    revision_properties_stay, revisions_are_trees, revisions_stay, trees_stay_trees,
+    failures_never_fall, halts_are_counted, marks_name_what_they_mark, new_repositories_are_sound,
+    new_trees_are_trees, nothing_is_overwritten, one_revision_an_event, only_commits_change,
+    refused_changes_nothing, revision_properties_stay, revisions_are_trees, revisions_stay,
+    trees_stay_trees,
 };
 pub use machine::{Env, Options, is_repository_name};

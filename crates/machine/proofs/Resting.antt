@@ -1,5 +1,5 @@
 -- An edit rests on revisions that stay.
-use Rattle.std.proofs.Common.{◌≡◌, ℕ, List, [], ◌∷◌, ◌++◌, Bool, true, false, Option, Some, None, refl, sym, ap, subst, ◌∙◌, append-nil, append_assoc}
+use Rattle.std.proofs.Common.{◌≡◌, inl, inr, ℕ, List, [], ◌∷◌, ◌++◌, Bool, true, false, Option, Some, None, refl, sym, ap, subst, ◌∙◌, append-nil, append_assoc}
 use Rattle.std.specs.Prelude.{Result, Ok, Err, if◌then◌else◌, codes}
 use Rattle.svnpath.specs.Paths.{PathValue}
 use Rattle.svnpath.specs.Urls.{path_of_text, root_of_text}
@@ -27,14 +27,16 @@ use Rattle.edit_rules.specs.Tokens.{Tokens}
 use Rattle.edit_rules.specs.Edits.{EditState}
 use Rattle.edit_rules.specs.Refusing.{edit_refusal}
 use Rattle.edit_rules.specs.Editor.{RestsIn, RestsOn as EditRestsOn, Edits as EditsTxn, Applies, finished}
+use Rattle.edit_rules.specs.Soundness.{AreSound}
 use Rattle.machine.specs.Points.{Point, world}
 use Rattle.machine.specs.Settings.{Settings}
-use Rattle.machine.specs.Stages.{Stage, RestsOn}
+use Rattle.machine.specs.Stages.{Stage, EditRests, RestsOn}
+use Rattle.machine.specs.Soundness.{MeetBy}
 use Rattle.machine.specs.Hearing.{Input}
 use Rattle.machine.specs.Hearing.Input.{Whole, Broken}
 use Rattle.machine.specs.Machine.{Verdict, Effect, Answer, InputStep, Edits, CommitStep, CloseStep, CommandStep, EditingStep, ending_of, content_after, says, speaks, url_answer, greeting_answer, login_answer, command_answer, asked_by, lock_tokens, commit_begins, commit_ask, commit_answer, skipping_answer}
 use Rattle.machine.specs.Machine.Verdict.{Went, Failed, Halts}
-use Rattle.machine.specs.Access.{Served, AddsAll, Stores, Moves}
+use Rattle.machine.specs.Access.{Serves, Served, Fails, AddsAll, Stores, Moves}
 use Rattle.machine.specs.declared.asked.Asked.{Asked}
 use Rattle.machine.specs.declared.env.Env.{Env}
 use Rattle.machine.specs.declared.ending.Ending.{Ending}
@@ -57,7 +59,7 @@ rests_in_trans (Some t) c d r b = beginning_trans t.shown c.revisions d.revision
 pub edit_rests : (e : EditState) (c d : RepoState) → EditRestsOn e c → IsBeginning c.revisions d.revisions → EditRestsOn e d
 edit_rests e c d r b = rests_in_trans e.txn c d r b
 
-rests_trans : (phase : Stage) (c d : RepoState) → RestsOn phase c → IsBeginning c.revisions d.revisions → RestsOn phase d
+rests_trans : (phase : Stage) (c d : RepoState) → EditRests phase c → IsBeginning c.revisions d.revisions → EditRests phase d
 rests_trans Greeted c d r b = tt
 rests_trans (LoggingIn client) c d r b = tt
 rests_trans (Serving client) c d r b = tt
@@ -67,34 +69,34 @@ rests_trans Ended c d r b = tt
 
 -- ---- the answers
 
-rests_is : (c : RepoState) (a b : Answer) → a ≡ b → RestsOn b.phase c → RestsOn a.phase c
-rests_is c a b e r = subst (λ (x : Answer). RestsOn x.phase c) (sym e) r
+rests_is : (c : RepoState) (a b : Answer) → a ≡ b → EditRests b.phase c → EditRests a.phase c
+rests_is c a b e r = subst (λ (x : Answer). EditRests x.phase c) (sym e) r
 
-rests_if : (c : RepoState) (b : Bool) (x y : Answer) → RestsOn x.phase c → RestsOn y.phase c → RestsOn (if b then x else y).phase c
+rests_if : (c : RepoState) (b : Bool) (x y : Answer) → EditRests x.phase c → EditRests y.phase c → EditRests (if b then x else y).phase c
 rests_if c true x y p q = p
 rests_if c false x y p q = q
 
-rests_url : (c : RepoState) (s : Settings) (env : Env) (path : Result PathValue PathFault) (root : Result (List ℕ) PathFault) → RestsOn (url_answer s env path root).phase c
+rests_url : (c : RepoState) (s : Settings) (env : Env) (path : Result PathValue PathFault) (root : Result (List ℕ) PathFault) → EditRests (url_answer s env path root).phase c
 rests_url c s env (Ok path) (Ok root) = tt
 rests_url c s env (Ok path) (Err fault) = tt
 rests_url c s env (Err fault) root = tt
 
-rests_greeting : (c : RepoState) (s : Settings) (env : Env) (r : Result ClientGreeting CommandFault) → RestsOn (greeting_answer s env r).phase c
+rests_greeting : (c : RepoState) (s : Settings) (env : Env) (r : Result ClientGreeting CommandFault) → EditRests (greeting_answer s env r).phase c
 rests_greeting c s env (Ok g) =
     let path = path_of_text g.url s.name in
     let root = root_of_text g.url s.name in
     rests_if c (speaks g) (url_answer s env path root) (says env Ended []) (rests_url c s env path root) tt
 rests_greeting c s env (Err fault) = tt
 
-rests_login : (c : RepoState) (env : Env) (client : Client) (r : Result AuthResponse CommandFault) → RestsOn (login_answer env c client r).phase c
+rests_login : (c : RepoState) (env : Env) (client : Client) (r : Result AuthResponse CommandFault) → EditRests (login_answer env c client r).phase c
 rests_login c env client (Ok r) = rests_if c (is_name r.mechanism (codes "ANONYMOUS")) (says env (Serving client) _) (says env (LoggingIn client) _) tt tt
 rests_login c env client (Err fault) = tt
 
-rests_begins : (c : RepoState) (s : Settings) (env : Env) (client : Client) (r : Result Asked Refusal) → RestsOn (commit_begins s env client r).phase c
+rests_begins : (c : RepoState) (s : Settings) (env : Env) (client : Client) (r : Result Asked Refusal) → EditRests (commit_begins s env client r).phase c
 rests_begins c s env client (Ok asked) = tt
 rests_begins c s env client (Err r) = tt
 
-rests_command : (c : RepoState) (s : Settings) (env : Env) (client : Client) (r : Result MainCommand CommandFault) → RestsOn (command_answer s env c client r).phase c
+rests_command : (c : RepoState) (s : Settings) (env : Env) (client : Client) (r : Result MainCommand CommandFault) → EditRests (command_answer s env c client r).phase c
 rests_command c s env client (Ok GetLatestRev) = tt
 rests_command c s env client (Ok (CheckPath path revision)) = tt
 rests_command c s env client (Ok (RevProplist n)) = tt
@@ -104,7 +106,7 @@ rests_command c s env client (Err UnknownName) = tt
 rests_command c s env client (Err BadParameters) = tt
 rests_command c s env client (Err NoMemory) = tt
 
-rests_skipping : (c : RepoState) (env : Env) (client : Client) (ends : Option Bool) → RestsOn (skipping_answer env client ends).phase c
+rests_skipping : (c : RepoState) (env : Env) (client : Client) (ends : Option Bool) → EditRests (skipping_answer env client ends).phase c
 rests_skipping c env client None = tt
 rests_skipping c env client (Some true) = tt
 rests_skipping c env client (Some false) = tt
@@ -151,35 +153,35 @@ rests_applied c old new CloseEdit r h = absurd h
 rests_applied c old new AbortEdit r h = absurd h
 
 rests_edits : (env : Env) (c : RepoState) (client : Client) (asked : Asked) (edit : EditState) (command : EditorCommand) (r : Option Refusal) (a : Answer)
-    → EditRestsOn edit c → Edits env c client asked edit command r a → RestsOn a.phase c
+    → EditRestsOn edit c → Edits env c client asked edit command r a → EditRests a.phase c
 rests_edits env c client asked edit command None a rests (after, applies, is) = rests_is c a _ is (rests_applied c edit after command rests applies)
 rests_edits env c client asked edit command (Some r) a rests is = rests_is c a _ is tt
 
-rests_committed : (env : Env) (c : RepoState) (client : Client) (asked : Asked) (t : TxnState) (date : List ℕ) (v : Verdict) → RestsOn (commit_answer env c client asked t date v).phase c
+rests_committed : (env : Env) (c : RepoState) (client : Client) (asked : Asked) (t : TxnState) (date : List ℕ) (v : Verdict) → EditRests (commit_answer env c client asked t date v).phase c
 rests_committed env c client asked t date Went = tt
 rests_committed env c client asked t date Failed = tt
 rests_committed env c client asked t date Halts = tt
 
 rests_commit : (halted : Bool) (env : Env) (c : RepoState) (client : Client) (asked : Asked) (t : TxnState)
-    (date : List ℕ) (r : Option Refusal) (a : Answer) → CommitStep halted env c client asked t date r a → RestsOn a.phase c
+    (date : List ℕ) (r : Option Refusal) (a : Answer) → CommitStep halted env c client asked t date r a → EditRests a.phase c
 rests_commit true env c client asked t date r a is = rests_is c a _ is tt
 rests_commit false env c client asked t date (Some r) a is = rests_is c a _ is tt
 rests_commit false env c client asked t date None a (v, is) = rests_is c a _ is (rests_committed env c client asked t date v)
 
 rests_close : (halted : Bool) (env : Env) (c : RepoState) (client : Client) (asked : Asked) (r : Result TxnState Refusal) (a : Answer)
-    → CloseStep halted env c client asked r a → RestsOn a.phase c
+    → CloseStep halted env c client asked r a → EditRests a.phase c
 rests_close halted env c client asked (Ok t) a (date, is_date, step) =
     rests_commit halted env c client asked t date (commit_refusal c (commit_ask client asked date) t) a step
 rests_close halted env c client asked (Err r) a is = rests_is c a _ is tt
 
 rests_told : (halted : Bool) (env : Env) (c : RepoState) (client : Client) (asked : Asked) (edit : EditState) (command : EditorCommand) (ending : Option Ending) (a : Answer)
-    → EditRestsOn edit c → CommandStep halted env c client asked edit command ending a → RestsOn a.phase c
+    → EditRestsOn edit c → CommandStep halted env c client asked edit command ending a → EditRests a.phase c
 rests_told halted env c client asked edit command None a rests step = rests_edits env c client asked edit command (edit_refusal c edit command) a rests step
 rests_told halted env c client asked edit command (Some ToCommit) a rests step = rests_close halted env c client asked (finished edit) a step
 rests_told halted env c client asked edit command (Some GivesUp) a rests is = rests_is c a _ is tt
 
 rests_editing : (halted : Bool) (env : Env) (c : RepoState) (client : Client) (asked : Asked) (edit : EditState) (r : Result EditorCommand CommandFault) (a : Answer)
-    → EditRestsOn edit c → EditingStep halted env c client asked edit r a → RestsOn a.phase c
+    → EditRestsOn edit c → EditingStep halted env c client asked edit r a → EditRests a.phase c
 rests_editing halted env c client asked edit (Ok command) a rests step = rests_told halted env c client asked edit command (ending_of command) a rests step
 rests_editing halted env c client asked edit (Err UnknownName) a rests is = rests_is c a _ is tt
 rests_editing halted env c client asked edit (Err BadParameters) a rests is = rests_is c a _ is tt
@@ -187,7 +189,7 @@ rests_editing halted env c client asked edit (Err NoMemory) a rests is = rests_i
 
 -- ---- an input
 
-rests_step : (halted : Bool) (s : Settings) (env : Env) (c : RepoState) (phase : Stage) (input : Input) (a : Answer) → RestsOn phase c → InputStep halted s env c phase input a → RestsOn a.phase c
+rests_step : (halted : Bool) (s : Settings) (env : Env) (c : RepoState) (phase : Stage) (input : Input) (a : Answer) → EditRests phase c → InputStep halted s env c phase input a → EditRests a.phase c
 rests_step halted s env c Greeted (Whole t) a rests is = rests_is c a _ is (rests_greeting c s env (client_greeting t))
 rests_step halted s env c (LoggingIn client) (Whole t) a rests is = rests_is c a _ is (rests_login c env client (auth_response t))
 rests_step halted s env c (Serving client) (Whole t) a rests is = rests_is c a _ is (rests_command c s env client (main_command t))
@@ -207,7 +209,7 @@ changes_keep : (c : RepoState) (es : List Accepted) → IsBeginning c.revisions 
 changes_keep c [] = begins c.revisions
 changes_keep c (e ∷ es) = beginning_trans c.revisions (changed c e).revisions (changed_all (changed c e) es).revisions (change_keeps c e) (changes_keep (changed c e) es)
 
-pub rests_on : (halted : Bool) (s : Settings) (env : Env) (c : RepoState) (phase : Stage) (input : Input) (a : Answer) → RestsOn phase c → InputStep halted s env c phase input a → RestsOn a.phase (content_after c a.effect)
+pub rests_on : (halted : Bool) (s : Settings) (env : Env) (c : RepoState) (phase : Stage) (input : Input) (a : Answer) → EditRests phase c → InputStep halted s env c phase input a → EditRests a.phase (content_after c a.effect)
 rests_on halted s env c phase input a rests step = rests_trans a.phase c (content_after c a.effect) (rests_step halted s env c phase input a rests step) (changes_keep c a.effect.changes)
 
 module _ (between : Point → Point → Type 0) (adds : Point → Accepted → Point → Type 0)
@@ -225,15 +227,34 @@ module _ (between : Point → Point → Type 0) (adds : Point → Accepted → P
   pub moved : (p : Point) (e : Effect) (q : Point) → Moves adds p e q → world q ≡ content_after (world p) e
   moved p e q (mid, adds, stores) = stored e.store mid q stores ∙ added p e.changes mid adds
 
-  pub rests_served : (s : Settings) (env env' : Env) (p q : Point) (phase after : Stage) (input : Input) (out out' : List ℕ)
-      → Served between adds s env p phase input out env' q after out' → RestsOn phase (world p) → RestsOn after (world q)
-  rests_served s env env' p q phase after input out out' h rests =
-      let a = h.answer in
-      let at = h.serves.at in
-      let before = rests_trans phase (world p) (world at) rests (keeps p at h.serves.later) in
-      let here = rests_on at.halted s env (world at) phase input a before h.serves.step_is in
-      subst (λ (x : Stage). RestsOn x (world q)) (sym h.phase_after)
-      (subst (λ (c : RepoState). RestsOn a.phase c) (sym (moved at a.effect q h.serves.moves)) here)
+  -- a session goes on to rest on what is there, as others go on too
+  module _ (sound : (p q : Point) → between p q → AreSound (world p).revisions → AreSound (world q).revisions)
+      (step_keeps : (halted : Bool) (s : Settings) (env : Env) (c : RepoState) (phase : Stage) (input : Input) (a : Answer)
+      → RestsOn phase c → InputStep halted s env c phase input a → RestsOn a.phase (content_after c a.effect) × MeetBy c a.effect.changes) where
+    rests_later : (phase : Stage) (p q : Point) → between p q → RestsOn phase (world p) → RestsOn phase (world q)
+    rests_later phase p q later h = record {
+      trees = sound p q later h.trees;
+      rests = rests_trans phase (world p) (world q) h.rests (keeps p q later);
+      sound = h.sound;
+    }
+
+    rests_after : (s : Settings) (env : Env) (p q : Point) (phase : Stage) (input : Input) (a : Answer)
+        → Serves between adds s env p phase input a q → RestsOn phase (world p) → RestsOn a.phase (world q)
+    rests_after s env p q phase input a h rests =
+        let before = rests_later phase p h.at h.later rests in
+        let here = (step_keeps h.at.halted s env (world h.at) phase input a before h.step_is).0 in
+        subst (λ (c : RepoState). RestsOn a.phase c) (sym (moved h.at a.effect q h.moves)) here
+
+    pub rests_served : (s : Settings) (env env' : Env) (p q : Point) (phase after : Stage) (input : Input) (writes : List ℕ → Type 0)
+        → Served between adds s env p phase input env' q after writes → RestsOn phase (world p) → RestsOn after (world q)
+    rests_served s env env' p q phase after input writes h rests =
+        subst (λ (x : Stage). RestsOn x (world q)) (sym h.phase_after) (rests_after s env p q phase input h.answer h.serves rests)
+
+    -- for want of memory the session has ended, and the repository is sound
+    pub trees_failed : (s : Settings) (env : Env) (p q : Point) (phase : Stage) (input : Input) (writes : List ℕ → Type 0)
+        → Fails between adds s env p phase input q writes → RestsOn phase (world p) → AreSound (world q).revisions
+    trees_failed s env p q phase input writes (inl (later, unwritten)) rests = sound p q later rests.trees
+    trees_failed s env p q phase input writes (inr (a, serves, part)) rests = (rests_after s env p q phase input a serves rests).trees
 
 pub edit_rests_later : (between : Point → Point → Type 0) → ((p q : Point) → between p q → IsBeginning (world p).revisions (world q).revisions)
     → (e : EditState) (p q : Point) → EditRestsOn e (world p) → between p q → EditRestsOn e (world q)

@@ -32,8 +32,8 @@ use Rattle.edit_rules.specs.Refusing.{edit_refusal}
 use Rattle.edit_rules.specs.Editor.{Applies, finished, finished_txn, RestsIn, RestsOn}
 use Rattle.edit_rules.specs.Soundness.{AreTrees, AreSound, IsSoundEdit, IsSoundIn}
 use Rattle.machine.specs.Settings.{Settings}
-use Rattle.machine.specs.Stages.{Stage, RestsOn as StageRests}
-use Rattle.machine.specs.Soundness.{IsSound, MeetBy}
+use Rattle.machine.specs.Stages.{Stage, EditRests, EditIsSound, RestsOn as SessionRestsOn}
+use Rattle.machine.specs.Soundness.{MeetBy}
 use Rattle.machine.specs.Hearing.{Input}
 use Rattle.machine.specs.Hearing.Input.{Whole, Broken}
 use Rattle.machine.specs.Machine.{Verdict, Answer, InputStep, Edits, CommitStep, CloseStep, CommandStep, EditingStep, ending_of, content_after, says, speaks, url_answer, greeting_answer, login_answer, command_answer, asked_by, lock_tokens, commit_begins, commit_ask, commit_answer, skipping_answer}
@@ -44,6 +44,7 @@ use Rattle.machine.specs.declared.ending.Ending.{Ending}
 use Rattle.machine.specs.declared.ending.Ending.TheVariants.{Commits, GivesUp}
 use Rattle.machine.specs.declared.phase.Phase.TheVariants.{Greeted, LoggingIn, Serving, Editing, Skipping, Ended}
 use Rattle.machine.specs.declared.phase.Client.{Client}
+use Rattle.machine.proofs.Resting.{rests_on}
 
 trees_more : (rs : List Fixed) (r : Fixed) → AreTrees rs → IsTree (tree_of r.tree) → AreTrees (rs ++ r ∷ [])
 trees_more [] r trees one = (one, tt)
@@ -82,7 +83,7 @@ youngest_tree c t trees b m =
 
 -- after an answer the repository's trees are trees, and the session's edit is sound
 abbrev pub LeavesTrees : RepoState → Answer → Type 0
-LeavesTrees c a = AreSound (content_after c a.effect).revisions × IsSound a.phase × MeetBy c a.effect.changes
+LeavesTrees c a = AreSound (content_after c a.effect).revisions × EditIsSound a.phase × MeetBy c a.effect.changes
 
 leaves_is : (c : RepoState) (a b : Answer) → a ≡ b → LeavesTrees c b → LeavesTrees c a
 leaves_is c a b e r = subst (λ (x : Answer). LeavesTrees c x) (sym e) r
@@ -177,8 +178,8 @@ module _ (begins : (path : PathValue) (name : List ℕ) → IsSoundEdit (new_edi
   leaves_editing halted env c client asked edit (Err BadParameters) a trees rests sound is = leaves_is c a _ is (trees, tt, tt)
   leaves_editing halted env c client asked edit (Err NoMemory) a trees rests sound is = leaves_is c a _ is (trees, tt, tt)
 
-  pub leaves_trees : (halted : Bool) (s : Settings) (env : Env) (c : RepoState) (phase : Stage) (input : Input) (a : Answer)
-      → AreSound c.revisions → StageRests phase c → IsSound phase → InputStep halted s env c phase input a → LeavesTrees c a
+  leaves_trees : (halted : Bool) (s : Settings) (env : Env) (c : RepoState) (phase : Stage) (input : Input) (a : Answer)
+      → AreSound c.revisions → EditRests phase c → EditIsSound phase → InputStep halted s env c phase input a → LeavesTrees c a
   leaves_trees halted s env c Greeted (Whole t) a trees rests sound is = leaves_is c a _ is (leaves_greeting c s env (client_greeting t) trees)
   leaves_trees halted s env c (LoggingIn client) (Whole t) a trees rests sound is = leaves_is c a _ is (leaves_login c env client (auth_response t) trees)
   leaves_trees halted s env c (Serving client) (Whole t) a trees rests sound is = leaves_is c a _ is (leaves_command c s env client (main_command t) trees)
@@ -190,3 +191,10 @@ module _ (begins : (path : PathValue) (name : List ℕ) → IsSoundEdit (new_edi
   leaves_trees halted s env c (Editing client asked edit) Broken a trees rests sound is = leaves_is c a _ is (trees, tt, tt)
   leaves_trees halted s env c (Skipping client) Broken a trees rests sound is = leaves_is c a _ is (trees, tt, tt)
   leaves_trees halted s env c Ended input a trees rests sound is = leaves_is c a _ is (trees, tt, tt)
+
+  pub keeps_rests : (halted : Bool) (s : Settings) (env : Env) (c : RepoState) (phase : Stage) (input : Input) (a : Answer)
+      → SessionRestsOn phase c → InputStep halted s env c phase input a
+      → SessionRestsOn a.phase (content_after c a.effect) × MeetBy c a.effect.changes
+  keeps_rests halted s env c phase input a h step =
+      let kept = leaves_trees halted s env c phase input a h.trees h.rests h.sound step in
+      (record { trees = kept.0; rests = rests_on halted s env c phase input a h.rests step; sound = kept.1 }, kept.2)

@@ -13,7 +13,9 @@ use Rattle.machine.specs.Stages.{Stage, is_open}
 use Rattle.machine.specs.Points.{Point, world, HasRisen}
 use Rattle.machine.specs.Settings.{Settings}
 use Rattle.machine.specs.Hearing.{Input, Comes, IsSettled}
-use Rattle.machine.specs.Machine.{Verdict, Effect, Answer, InputStep, print}
+use Rattle.replies.specs.Replies.{print}
+use Rattle.replies.specs.Sinks.{WritesPart}
+use Rattle.machine.specs.Machine.{Verdict, Effect, Answer, InputStep}
 use Rattle.machine.specs.Machine.Verdict.{Went, Failed, Halts}
 
 -- the store failed, and no change is made any more
@@ -75,40 +77,44 @@ SessionRun between adds s env p phase (input ∷ inputs) told env' p' phase' =
     × SessionRun between adds s a.env q a.phase inputs more env' p' phase' × (told ≡ a.replies ++ more)
 
 -- one input was served, and its replies were written
-pub record Served (between : Point → Point → Type 0) (adds : Point → Accepted → Point → Type 0) (s : Settings) (env : Env) (p : Point) (phase : Stage) (input : Input) (out : List ℕ) (env' : Env) (q : Point) (phase' : Stage) (out' : List ℕ) : Type 0 where
+pub record Served (between : Point → Point → Type 0) (adds : Point → Accepted → Point → Type 0) (s : Settings) (env : Env) (p : Point) (phase : Stage) (input : Input) (env' : Env) (q : Point) (phase' : Stage) (writes : List ℕ → Type 0) : Type 0 where
   pub answer : Answer
   pub serves : Serves between adds s env p phase input answer q
   pub env_after : env' ≡ answer.env
   pub phase_after : phase' ≡ answer.phase
-  pub written : out' ≡ out ++ print answer.replies
+  pub written : writes (print answer.replies)
 
 -- a step was made, and its replies were written
-pub record Made (between : Point → Point → Type 0) (adds : Point → Accepted → Point → Type 0) (step : Point → Answer → Type 0) (p : Point) (out : List ℕ) (q : Point) (phase' : Stage) (out' : List ℕ) : Type 0 where
+pub record Made (between : Point → Point → Type 0) (adds : Point → Accepted → Point → Type 0) (step : Point → Answer → Type 0) (p q : Point) (phase' : Stage) (writes : List ℕ → Type 0) : Type 0 where
   pub answer : Answer
   pub happens : Happens between adds step p answer q
   pub phase_after : phase' ≡ answer.phase
-  pub written : out' ≡ out ++ print answer.replies
+  pub written : writes (print answer.replies)
 
--- for want of memory a step was not made, or it was and its replies are lost
-abbrev pub Misses : (Point → Point → Type 0) → (Point → Accepted → Point → Type 0) → (Point → Answer → Type 0) → Point → Point → Type 0
-Misses between adds step p q = between p q ⊎ ((a : Answer) × Happens between adds step p a q)
+-- for want of memory or of the sink a step was not made, and nothing was written; or it was made, and a part of its
+-- replies was written
+abbrev pub Misses : (Point → Point → Type 0) → (Point → Accepted → Point → Type 0) → (Point → Answer → Type 0) → Point → Point → (List ℕ → Type 0) → Type 0
+Misses between adds step p q writes =
+    (between p q × writes []) ⊎ ((a : Answer) × Happens between adds step p a q × WritesPart writes (print a.replies))
 
--- for want of memory an input was not served, or it was and its replies are lost
-abbrev pub Fails : (Point → Point → Type 0) → (Point → Accepted → Point → Type 0) → Settings → Env → Point → Stage → Input → Point → Type 0
-Fails between adds s env p phase input q = between p q ⊎ ((a : Answer) × Serves between adds s env p phase input a q)
+-- for want of memory or of the sink an input was not served, and nothing was written; or it was served, and a part of
+-- its replies was written
+abbrev pub Fails : (Point → Point → Type 0) → (Point → Accepted → Point → Type 0) → Settings → Env → Point → Stage → Input → Point → (List ℕ → Type 0) → Type 0
+Fails between adds s env p phase input q writes =
+    (between p q × writes []) ⊎ ((a : Answer) × Serves between adds s env p phase input a q × WritesPart writes (print a.replies))
 
--- the stream's inputs were served, and their replies are these bytes; a session that is still open leaves none
-pub record Fed (between : Point → Point → Type 0) (adds : Point → Accepted → Point → Type 0) (s : Settings) (env : Env) (p : Point) (phase : Stage) (stream rest : List ℕ) (q : Point) (phase' : Stage) (out : List ℕ) : Type 0 where
+-- the stream's inputs were served, and their replies were written; a session that is still open leaves none
+pub record Fed (between : Point → Point → Type 0) (adds : Point → Accepted → Point → Type 0) (s : Settings) (env : Env) (p : Point) (phase : Stage) (stream rest : List ℕ) (q : Point) (phase' : Stage) (writes : List ℕ → Type 0) : Type 0 where
   pub inputs : List Input
   pub comes : Comes stream inputs rest
   pub settled : is_open phase' ≡ true → IsSettled rest
   pub told : List Reply
   pub env_after : Env
   pub run : SessionRun between adds s env p phase inputs told env_after q phase'
-  pub written : out ≡ print told
+  pub written : writes (print told)
 
--- some of the stream's inputs were served in order, and the replies are lost
-pub record Lost (between : Point → Point → Type 0) (adds : Point → Accepted → Point → Type 0) (s : Settings) (env : Env) (p : Point) (phase : Stage) (stream : List ℕ) (q : Point) : Type 0 where
+-- some of the stream's inputs were served in order, and a part of their replies was written
+pub record Lost (between : Point → Point → Type 0) (adds : Point → Accepted → Point → Type 0) (s : Settings) (env : Env) (p : Point) (phase : Stage) (stream : List ℕ) (q : Point) (writes : List ℕ → Type 0) : Type 0 where
   pub inputs : List Input
   pub rest : List ℕ
   pub comes : Comes stream inputs rest
@@ -116,3 +122,4 @@ pub record Lost (between : Point → Point → Type 0) (adds : Point → Accepte
   pub env_after : Env
   pub phase_after : Stage
   pub run : SessionRun between adds s env p phase inputs told env_after q phase_after
+  pub written : WritesPart writes (print told)

@@ -1,11 +1,10 @@
 -- One session of the machine: where it stands, and what each input does.
 use Rattle.std.specs.Prelude.{◌≡◌, ℕ, Bool, true, false, ◌&&◌, ◌||◌, ◌==◌, nat_lt, List, [], ◌∷◌, ◌++◌, length, Option, Some, None, option_map, Result, Ok, Err, if◌then◌else◌, codes}
-use Rattle.std.specs.List.{flat_map, list_all}
+use Rattle.std.specs.List.{list_all}
 use Rattle.svnpath.specs.Paths.{PathValue}
 use Rattle.svnpath.specs.Texts.{joined}
 use Rattle.svnpath.specs.Urls.{path_of_text, root_of_text}
 use Rattle.svnpath.specs.declared.fault.PathFault.{PathFault}
-use Rattle.items.specs.Print.{printed}
 use Rattle.refusals.specs.declared.Refusal.{Refusal}
 use Rattle.refusals.specs.declared.Refusal.TheVariants as refusals
 use Rattle.dates.specs.Dates.{IsDateText}
@@ -21,7 +20,6 @@ use Rattle.commands.specs.Commands.{main_command}
 use Rattle.commands.specs.Logins.{client_greeting, auth_response}
 use Rattle.edit_commands.specs.Editing.{editor_command, ends_edit}
 use Rattle.refusals.specs.Refusing.{path_refusal}
-use Rattle.replies.specs.Replies.{reply_tree}
 use Rattle.commands.specs.declared.command.CommitCommand.{CommitCommand}
 use Rattle.commands.specs.declared.command.MainCommand.{MainCommand}
 use Rattle.commands.specs.declared.command.MainCommand.TheVariants.{GetLatestRev, CheckPath, RevProplist, Commit, AbortEdit}
@@ -93,10 +91,6 @@ pub record Answer : Type 0 where
   pub phase : Stage
   pub env : Env
   pub effect : Effect
-
--- the bytes of replies
-abbrev pub print : List Reply → List ℕ
-print rs = flat_map (λ r. printed (reply_tree r)) rs
 
 -- replies that change nothing
 abbrev pub says : Env → Stage → List Reply → Answer

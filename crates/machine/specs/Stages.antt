@@ -3,6 +3,7 @@ use Rattle.std.specs.Prelude.{ℕ, Bool, true, false, List}
 use Rattle.repo_api.specs.States.{RepoState}
 use Rattle.edit_rules.specs.Edits.{EditState}
 use Rattle.edit_rules.specs.Editor.{RestsOn as EditRestsOn}
+use Rattle.edit_rules.specs.Soundness.{AreSound, IsSoundEdit}
 use Rattle.machine.specs.declared.phase.Phase.{Phase}
 use Rattle.machine.specs.declared.phase.Phase.TheVariants.{Greeted, LoggingIn, Serving, Editing, Skipping, Ended}
 
@@ -19,13 +20,29 @@ is_open (Skipping client) = true
 is_open Ended = false
 
 -- the edit of the session, if it has one, has seen revisions that begin the repository's
-abbrev pub RestsOn : Stage → RepoState → Type 0
-RestsOn Greeted c = Unit {0}
-RestsOn (LoggingIn client) c = Unit {0}
-RestsOn (Serving client) c = Unit {0}
-RestsOn (Editing client asked edit) c = EditRestsOn edit c
-RestsOn (Skipping client) c = Unit {0}
-RestsOn Ended c = Unit {0}
+abbrev pub EditRests : Stage → RepoState → Type 0
+EditRests Greeted c = Unit {0}
+EditRests (LoggingIn client) c = Unit {0}
+EditRests (Serving client) c = Unit {0}
+EditRests (Editing client asked edit) c = EditRestsOn edit c
+EditRests (Skipping client) c = Unit {0}
+EditRests Ended c = Unit {0}
+
+-- the edit of the session, if it has one, is sound
+abbrev pub EditIsSound : Stage → Type 0
+EditIsSound Greeted = Unit {0}
+EditIsSound (LoggingIn client) = Unit {0}
+EditIsSound (Serving client) = Unit {0}
+EditIsSound (Editing client asked edit) = IsSoundEdit edit
+EditIsSound (Skipping client) = Unit {0}
+EditIsSound Ended = Unit {0}
+
+-- what a session stands on: the repository's trees are sound, and so is the session's edit, if it has one, which has
+-- seen revisions that begin the repository's
+pub record RestsOn (phase : Stage) (c : RepoState) : Type 0 where
+  pub trees : AreSound c.revisions
+  pub rests : EditRests phase c
+  pub sound : EditIsSound phase
 
 -- a session: what has come of its next item, and where it stands
 pub record SessionState : Type 0 where

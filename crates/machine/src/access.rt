@@ -2,6 +2,7 @@
 ghost use Rattle.std.specs.Prelude.{◌≡◌, ◌≤◌, true, IfOk};
 ghost use Rattle.repo_api.specs.States.{IsBeginning};
 ghost use Rattle.repo_api.specs.Accepted.{Accepted, changed};
+ghost use Rattle.edit_rules.specs.Soundness.{AreSound};
 ghost use Rattle.machine.specs.Points.{Point, world};
 ghost use Rattle.machine.specs.Access.{CommitsAt};
 
@@ -47,6 +48,9 @@ pub trait RepoAccess {
 
     /// What is shown never goes back.
     ghost keeps: { (p q : Point) → between p q → IsBeginning (world p).revisions (world q).revisions };
+
+    /// Others leave the trees of the repository sound.
+    ghost sound: { (p q : Point) → between p q → AreSound (world p).revisions → AreSound (world q).revisions };
 
     /// Changes that have come to a halt are not made again, and the count of failures never falls.
     ghost lasts: { (p q : Point) → between p q → (p.halted ≡ true → q.halted ≡ true) × (p.failures ≤ q.failures) };

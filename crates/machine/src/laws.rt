@@ -1,10 +1,9 @@
 //! What holds of all that a stream brings. The functions do nothing: their contracts are the laws.
 ghost use Rattle.std.specs.Prelude.{◌≡◌, ℕ, List, Bool};
 ghost use Rattle.repo_api.specs.States.{RepoState};
-ghost use Rattle.edit_rules.specs.Soundness.{AreSound};
 ghost use Rattle.machine.specs.Settings.{Settings};
-ghost use Rattle.machine.specs.Stages.{Stage, RestsOn};
-ghost use Rattle.machine.specs.Soundness.{IsSound, MeetBy};
+ghost use Rattle.machine.specs.Stages.{Stage, EditRests, RestsOn};
+ghost use Rattle.machine.specs.Soundness.{MeetBy};
 ghost use Rattle.machine.specs.Machine.{Answer, InputStep, content_after};
 ghost use Rattle.machine.specs.declared.env.Env.{Env};
 ghost use Rattle.machine.specs.Hearing.{Input, Comes, IsSettled, EndsBroken};
@@ -26,13 +25,17 @@ pub fn one_hearing()
 
 /// A session's edit goes on to rest on what the repository contains.
 pub fn steps_rest()
-    ensures { (halted : Bool) (s : Settings) (env : Env) (c : RepoState) (phase : Stage) (input : Input) (a : Answer) → RestsOn phase c → InputStep halted s env c phase input a → RestsOn a.phase (content_after c a.effect) }
+    ensures { (halted : Bool) (s : Settings) (env : Env) (c : RepoState) (phase : Stage) (input : Input) (a : Answer)
+        → EditRests phase c → InputStep halted s env c phase input a → EditRests a.phase (content_after c a.effect) }
 {}
 
 /// Where every tree of the repository is a tree whose marks name what they mark, and so is the tree of the session's
-/// edit, so it is after an input, and a commit that is accepted meets the youngest revision well.
+/// edit, which has seen revisions that are there, so it is after an input, and a commit that is accepted meets the
+/// youngest revision well.
 pub fn steps_keep_trees()
-    ensures { (halted : Bool) (s : Settings) (env : Env) (c : RepoState) (phase : Stage) (input : Input) (a : Answer) → AreSound c.revisions → RestsOn phase c → IsSound phase → InputStep halted s env c phase input a → AreSound (content_after c a.effect).revisions × IsSound a.phase × MeetBy c a.effect.changes }
+    ensures { (halted : Bool) (s : Settings) (env : Env) (c : RepoState) (phase : Stage) (input : Input) (a : Answer)
+        → RestsOn phase c → InputStep halted s env c phase input a
+        → RestsOn a.phase (content_after c a.effect) × MeetBy c a.effect.changes }
 {
     edit_rules::edits_keep_trees();
     repo_api::accepted_commits_meet_well();

@@ -22,4 +22,4 @@ pub use laws::{one_hearing, steps_keep_trees, steps_rest};
 pub use open::is_open;
 pub use options::{Options, is_repository_name};
 pub use phase::{Client, Phase, SessionPhase, drop_asked, drop_edit, forget, give_up};
-pub use writing::{end_malformed, refuse, say, say_both};
+pub use writing::{end_malformed, refuse, say_both};

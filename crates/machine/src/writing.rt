@@ -1,57 +1,46 @@
-//! Replies as a session writes them.
-ghost use Rattle.std.specs.Prelude.{◌≡◌, ◌∷◌, ◌++◌, [], IfOk, OnOk};
-ghost use Rattle.machine.specs.Machine.{print, says, malformed};
+//! Replies as a session writes them. Where one of these fails, a part of what it says was written.
+ghost use Rattle.std.specs.Prelude.{◌≡◌, ◌∷◌, [], IfOk, OnOk, OnErr};
+ghost use Rattle.replies.specs.Replies.{print};
+ghost use Rattle.replies.specs.Sinks.{WritesPart};
+ghost use Rattle.machine.specs.Machine.{says, malformed};
 ghost use Rattle.machine.specs.Replying.{IsAnswered};
 ghost use Rattle.machine.specs.declared.env.Env.{Env};
 
 use crate::phase::{Client, Phase, SessionPhase};
 use refusals::Refusal;
-use replies::Reply;
+use replies::{Reply, ReplySink};
 use repo_api::Repository;
-use std::alloc::{AllocError, Global};
-
-/// Writes one reply.
-pub fn say(alloc: Global, reply: &Reply, out: &mut Vec<u8>) -> Result<(), AllocError>
-    ensures { OnOk result (out.new.items ≡ out.old.items ++ print (reply.now ∷ [])) }
-{
-    reply.write(alloc, out)?;
-    Ok(())
-}
+use std::alloc::AllocError;
 
 /// Writes two replies.
-pub fn say_both(
-    alloc: Global,
-    first: &Reply,
-    second: &Reply,
-    out: &mut Vec<u8>,
-) -> Result<(), AllocError>
-    ensures { OnOk result (out.new.items ≡ out.old.items ++ print (first.now ∷ second.now ∷ [])) }
+pub fn say_both<S: ReplySink>(first: &Reply, second: &Reply, out: &mut S) -> Result<(), AllocError>
+    ensures ok { OnOk result (S.writes out.old out.new (print (first.now ∷ second.now ∷ []))) }
+    ensures err { OnErr result (WritesPart (S.writes out.old out.new) (print (first.now ∷ second.now ∷ []))) }
 {
-    first.write(alloc, out)?;
-    second.write(alloc, out)?;
-    Ok(())
+    out.say(first)?;
+    out.say(second)
 }
 
 /// Ends the session over what is no command.
-pub fn end_malformed<R: Repository>(
-    alloc: Global,
-    out: &mut Vec<u8>,
+pub fn end_malformed<R: Repository, S: ReplySink>(
+    out: &mut S,
 ) -> Result<SessionPhase<R>, AllocError>
-    ensures { IfOk result (λ phase. (env : Env) → IsAnswered (malformed env) phase out.old.items out.new.items) }
+    ensures ok { IfOk result (λ phase. (env : Env) → IsAnswered (malformed env) phase (S.writes out.old out.new)) }
+    ensures err { OnErr result ((env : Env) → WritesPart (S.writes out.old out.new) (print (malformed env).replies)) }
 {
-    say(alloc, &Reply::Failure(Refusal::MalformedData), out)?;
+    out.say(&Reply::Failure(Refusal::MalformedData))?;
     Ok(Phase::Ended)
 }
 
 /// Tells why a commit is not made. Commands are awaited again.
-pub fn refuse<R: Repository>(
-    alloc: Global,
+pub fn refuse<R: Repository, S: ReplySink>(
     client: Client,
     refusal: Refusal,
-    out: &mut Vec<u8>,
+    out: &mut S,
 ) -> Result<SessionPhase<R>, AllocError>
-    ensures { IfOk result (λ phase. (env : Env) → IsAnswered (says env (Phase.Serving client) (Reply.Failure refusal ∷ [])) phase out.old.items out.new.items) }
+    ensures ok { IfOk result (λ phase. (env : Env) → IsAnswered (says env (Phase.Serving client) (Reply.Failure refusal ∷ [])) phase (S.writes out.old out.new)) }
+    ensures err { OnErr result (WritesPart (S.writes out.old out.new) (print (Reply.Failure refusal ∷ []))) }
 {
-    say(alloc, &Reply::Failure(refusal), out)?;
+    out.say(&Reply::Failure(refusal))?;
     Ok(Phase::Serving(client))
 }

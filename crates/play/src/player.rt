@@ -21,7 +21,7 @@ fn make_hub(alloc: Global, asked: NewHub) -> Result<MemoryHub, LineFault>
     ensures { IfOk result (λ hub. (date : List ℕ) × IsDateText asked.moment date × (hub ≡ new_hub asked.options asked.uuid date)) }
 {
     let repository = FlatRepo::new(alloc, asked.uuid, asked.moment)?;
-    match Hub::over(alloc, repository, asked.options) {
+    match Hub::over_new(alloc, repository, asked.options) {
         Ok(hub) => Ok(hub),
         Err(_) => Err(LineFault::NoMemory),
     }

@@ -1,7 +1,9 @@
 -- The items that replies are sent as.
 use Rattle.std.specs.Prelude.{ℕ, List, [], ◌∷◌, Option, Some, None, codes}
 use Rattle.std.specs.Int.{to_be_bytes, w128}
+use Rattle.std.specs.List.{flat_map}
 use Rattle.uuid.specs.Text.{hyphenated_text, lower}
+use Rattle.items.specs.Print.{printed}
 use Rattle.items.specs.Tree.{Tree, word, number, string, list, Trees, none, more}
 use Rattle.refusals.specs.Table.{number_of, text_of}
 use Rattle.repo_api.specs.Properties.{PropertyList}
@@ -68,3 +70,7 @@ reply_tree (Kind kind) = success (only (word (kind_word kind)))
 reply_tree (Properties ps) = success (only (list (property_trees ps)))
 reply_tree (CommitInfo revision date author) = commit_info revision date author
 reply_tree (Failure refusal) = failure (only (list (more (number (number_of refusal)) (more (string (text_of refusal)) (both (string []) (number 0))))))
+
+-- the bytes of replies
+abbrev pub print : List Reply → List ℕ
+print rs = flat_map (λ r. printed (reply_tree r)) rs

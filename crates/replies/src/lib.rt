@@ -1,7 +1,9 @@
-//! The replies of the server, as items of the protocol.
+//! The replies of the server, as items of the protocol, and where they go.
 #![tactic(auto)]
 
 mod build;
 mod reply;
+mod sink;
 
 pub use reply::Reply;
+pub use sink::{MemorySink, ReplySink};

@@ -1,8 +1,8 @@
 -- The accepted changes of a repository, and what they make of it.
-use Rattle.std.specs.Prelude.{List, [], ◌∷◌, Result, Ok, Err}
+use Rattle.std.specs.Prelude.{◌≡◌, List, [], ◌∷◌, None, Result, Ok, Err}
 use Rattle.refusals.specs.declared.Refusal.{Refusal}
 use Rattle.repo_api.specs.States.{RepoState, TxnState}
-use Rattle.repo_api.specs.Commits.{committed}
+use Rattle.repo_api.specs.Commits.{commit_refusal, committed}
 use Rattle.repo_api.specs.declared.ask.CommitAsk.{CommitAsk}
 use Rattle.repo_api.specs.declared.fault.ChangeFault.{ChangeFault}
 use Rattle.repo_api.specs.declared.fault.ChangeFault.TheVariants.{Refused, StoreFailed, Halted, NoMemory}
@@ -17,6 +17,15 @@ changed c (Commits ask t) = committed c ask t
 abbrev pub changed_all : RepoState → List Accepted → RepoState
 changed_all c [] = c
 changed_all c (e ∷ es) = changed_all (changed c e) es
+
+-- a change that the rules accept
+abbrev pub IsAccepted : RepoState → Accepted → Type 0
+IsAccepted c (Commits ask t) = commit_refusal c ask t ≡ None
+
+-- changes one after another, each accepted in the state that those before it make
+abbrev pub AreAccepted : RepoState → List Accepted → Type 0
+AreAccepted c [] = Unit {0}
+AreAccepted c (e ∷ es) = IsAccepted c e × AreAccepted (changed c e) es
 
 -- what a refusal says
 abbrev pub IfRefused : {T : Type 0} → Result T ChangeFault → (Refusal → Type 0) → Type 0

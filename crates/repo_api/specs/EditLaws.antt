@@ -21,7 +21,8 @@ grafted_over t part p q = by (is_at_or_under q p)
     beside = touched_above p t q
 
     by : (under : Bool)
-        → (if under then part (drop (length p) q) else (if is_at_or_under p q then option_map touched (if under then None else beside) else (if under then None else beside)))
+        → (if under then part (drop (length p) q)
+        else (if is_at_or_under p q then option_map touched (if under then None else beside) else (if under then None else beside)))
         ≡ (if under then part (drop (length p) q) else beside)
     by true = refl
     by false = touched_twice (is_at_or_under p q) (t q)

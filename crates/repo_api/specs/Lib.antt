@@ -2,6 +2,7 @@ pub mod Texts
 pub mod Properties
 pub mod Trees
 pub mod Edits
+pub mod RightEdits
 pub mod Changes
 pub mod States
 pub mod Merge

@@ -3,6 +3,7 @@ use Rattle.std.specs.Prelude.{◌≡◌, ◌==◌, ℕ, Bool, true, false, ◌++
 use Rattle.svnpath.specs.Paths.{PathValue, is_at_or_under}
 use Rattle.repo_api.specs.Properties.{PropertyList}
 use Rattle.repo_api.specs.Trees.{Tree, IsTree, is_open}
+use Rattle.repo_api.specs.RightEdits.{IsThere}
 use Rattle.repo_api.specs.Merge.{is_changed, has_open_last, HasNoConflict}
 use Rattle.repo_api.specs.declared.entry.Entry.{Entry}
 use Rattle.repo_api.specs.declared.entry.Mark.{Mark}
@@ -76,8 +77,8 @@ with_tree trees n t k = if k == n then t else trees k
 abbrev pub HasSource : (ℕ → Tree) → EditOp → Type 0
 HasSource trees (AddDirectory p) = Unit {0}
 HasSource trees (AddFile p) = Unit {0}
-HasSource trees (Copy source p) = IsSome (trees source.revision source.path)
-HasSource trees (Replace source p) = IsSome (trees source.revision source.path)
+HasSource trees (Copy source p) = IsThere trees source
+HasSource trees (Replace source p) = IsThere trees source
 HasSource trees (Delete p) = Unit {0}
 HasSource trees (SetProperty p name value) = Unit {0}
 HasSource trees (RemoveProperty p name) = Unit {0}

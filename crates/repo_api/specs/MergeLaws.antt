@@ -80,14 +80,19 @@ any_there : (f : PathValue → Bool) (ps : List PathValue) (p : PathValue) → C
 any_there f ps p there h = list_any_at f ps there.0 p there.1 (ap f there.2 ∙ h)
 
 -- no path at all is in conflict where no key is
-pub no_conflict_anywhere : (base txn youngest : TreeMap) → has_conflict base txn youngest ≡ false → HasNoConflict (tree_of base) (tree_of txn) (tree_of youngest)
+pub no_conflict_anywhere : (base txn youngest : TreeMap) → has_conflict base txn youngest ≡ false
+    → HasNoConflict (tree_of base) (tree_of txn) (tree_of youngest)
 no_conflict_anywhere base txn youngest none p = by (is_in_conflict (get base p) (get txn p) (get youngest p)) refl
   where
     abbreviated : is_in_conflict (get base p) (get txn p) (get youngest p) ≡ true → Contains (keys base ++ keys txn) p
-    abbreviated h = ⊎_elim (λ s. Contains-append_left (keys base) (keys txn) p (key_there base p s)) (λ s. Contains-append_right (keys base) (keys txn) p (key_there txn p s)) (conflict_some (get base p) (get txn p) (get youngest p) h)
+    abbreviated h = ⊎_elim
+        (λ s. Contains-append_left (keys base) (keys txn) p (key_there base p s))
+        (λ s. Contains-append_right (keys base) (keys txn) p (key_there txn p s))
+        (conflict_some (get base p) (get txn p) (get youngest p) h)
 
     by : (b : Bool) → is_in_conflict (get base p) (get txn p) (get youngest p) ≡ b → b ≡ false
-    by true h = absurd (false≢true (sym none ∙ any_there (λ q. is_in_conflict (get base q) (get txn q) (get youngest q)) (keys base ++ keys txn) p (abbreviated h) h))
+    by true h = absurd (false≢true (sym none
+        ∙ any_there (λ q. is_in_conflict (get base q) (get txn q) (get youngest q)) (keys base ++ keys txn) p (abbreviated h) h))
     by false h = refl
 
 any_none : (f : PathValue → Bool) (ps : List PathValue) → ((p : PathValue) → f p ≡ false) → list_any f ps ≡ false
@@ -98,7 +103,8 @@ pub no_conflict_is : (base txn youngest : TreeMap) → HasNoConflict (tree_of ba
 no_conflict_is base txn youngest none = any_none (λ q. is_in_conflict (get base q) (get txn q) (get youngest q)) (keys base ++ keys txn) none
 
 -- a path in conflict is found
-pub conflict_is : (base txn youngest : TreeMap) (p : PathValue) → is_in_conflict (get base p) (get txn p) (get youngest p) ≡ true → has_conflict base txn youngest ≡ true
+pub conflict_is : (base txn youngest : TreeMap) (p : PathValue)
+    → is_in_conflict (get base p) (get txn p) (get youngest p) ≡ true → has_conflict base txn youngest ≡ true
 conflict_is base txn youngest p h = by (has_conflict base txn youngest) refl
   where
     by : (b : Bool) → has_conflict base txn youngest ≡ b → b ≡ true

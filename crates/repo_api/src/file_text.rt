@@ -1,15 +1,15 @@
 //! Texts of files.
 ghost use Rattle.std.specs.Prelude.{◌≡◌, [], IfOk};
+ghost use Rattle.std.specs.Arc.{arc_value};
 
 use std::alloc::{AllocError, Global};
 use std::marker::Model;
 use std::sync::Arc;
-use svnpath::Bytes;
 
 /// The text of a file. A clone shares its bytes, so that the trees of many revisions hold a text once.
 #[derive(Debug, Drop)]
 pub struct FileText {
-    bytes: Option<Arc<Bytes>>,
+    bytes: Option<Arc<Vec<u8>>>,
 }
 
 impl Model for FileText {
@@ -29,12 +29,21 @@ impl FileText {
         FileText { bytes: None }
     }
 
-    /// A text of these bytes, which are not copied.
-    pub fn new(alloc: Global, bytes: Bytes) -> Result<Self, AllocError>
-        ensures { IfOk result (λ text. text ≡ bytes) }
+    /// The text that these bytes are. None is copied, and it takes no memory.
+    pub fn from_shared(bytes: Arc<Vec<u8>>) -> Self
+        ensures { result ≡ (arc_value bytes).items }
     {
-        let bytes = Arc::new(alloc, bytes)?;
-        Ok(FileText { bytes: Some(bytes) })
+        FileText { bytes: Some(bytes) }
+    }
+
+    /// The bytes of the text, which are shared and not copied.
+    pub fn share(&self, alloc: Global) -> Result<Arc<Vec<u8>>, AllocError>
+        ensures { IfOk result (λ bytes. (arc_value bytes).items ≡ self.now) }
+    {
+        match &self.bytes {
+            None => Ok(Arc::new(alloc, Vec::new(alloc))?),
+            Some(bytes) => Arc::try_clone(bytes),
+        }
     }
 
     pub fn as_slice(&self) -> &[u8]

@@ -30,13 +30,21 @@ pub fn beginnings_are_trees()
 /// nothing stands, a copy into a directory, over what
 /// stands there or not, a delete below the root, a property anywhere, and the text of a file.
 pub fn edits_keep_trees()
-    ensures adds { (trees : ℕ → Tree) (t : Tree) (p : PathValue) (c : Component) → IsTree t → HasDirectory t p → IsTree (edited trees t (AddDirectory (p ++ c ∷ []))) }
-    ensures adds_files { (trees : ℕ → Tree) (t : Tree) (p : PathValue) (c : Component) → IsTree t → HasDirectory t p → t (p ++ c ∷ []) ≡ None → IsTree (edited trees t (AddFile (p ++ c ∷ []))) }
+    ensures adds { (trees : ℕ → Tree) (t : Tree) (p : PathValue) (c : Component) → IsTree t
+        → HasDirectory t p → IsTree (edited trees t (AddDirectory (p ++ c ∷ []))) }
+    ensures adds_files { (trees : ℕ → Tree) (t : Tree) (p : PathValue) (c : Component) → IsTree t
+        → HasDirectory t p → t (p ++ c ∷ []) ≡ None
+        → IsTree (edited trees t (AddFile (p ++ c ∷ []))) }
     ensures deletes { (trees : ℕ → Tree) (t : Tree) (p : PathValue) (c : Component) → IsTree t → IsTree (edited trees t (Delete (p ++ c ∷ []))) }
-    ensures sets_properties { (trees : ℕ → Tree) (t : Tree) (p : PathValue) (name value : List ℕ) → IsTree t → IsTree (edited trees t (SetProperty p name value)) }
+    ensures sets_properties { (trees : ℕ → Tree) (t : Tree) (p : PathValue) (name value : List ℕ)
+        → IsTree t → IsTree (edited trees t (SetProperty p name value)) }
     ensures removes_properties { (trees : ℕ → Tree) (t : Tree) (p : PathValue) (name : List ℕ) → IsTree t → IsTree (edited trees t (RemoveProperty p name)) }
-    ensures copies { (trees : ℕ → Tree) (t : Tree) (source : Source) (p : PathValue) (c : Component) → IsTree (trees source.revision) → IsTree t → HasDirectory t p → IsTree (edited trees t (Copy source (p ++ c ∷ []))) }
-    ensures replaces { (trees : ℕ → Tree) (t : Tree) (source : Source) (p : PathValue) (c : Component) → IsTree (trees source.revision) → IsTree t → HasDirectory t p → IsTree (edited trees t (Replace source (p ++ c ∷ []))) }
+    ensures copies { (trees : ℕ → Tree) (t : Tree) (source : Source) (p : PathValue) (c : Component)
+        → IsTree (trees source.revision) → IsTree t → HasDirectory t p
+        → IsTree (edited trees t (Copy source (p ++ c ∷ []))) }
+    ensures replaces { (trees : ℕ → Tree) (t : Tree) (source : Source) (p : PathValue) (c : Component)
+        → IsTree (trees source.revision) → IsTree t → HasDirectory t p
+        → IsTree (edited trees t (Replace source (p ++ c ∷ []))) }
     ensures sets_texts { (trees : ℕ → Tree) (t : Tree) (p : PathValue) (text : List ℕ) → IsTree t → HasFile t p → IsTree (edited trees t (SetText p text)) }
 {}
 
@@ -57,17 +65,22 @@ pub fn beginnings_are_marked()
 
 /// Whatever edit is made, what is copied being there, marks name what they mark.
 pub fn edits_keep_marks()
-    ensures { (trees : ℕ → Tree) (base t : Tree) (op : EditOp) → AreMarked trees → HasSource trees op → IsTransactionOf trees base t → IsTransactionOf trees base (edited trees t op) }
+    ensures { (trees : ℕ → Tree) (base t : Tree) (op : EditOp) → AreMarked trees
+        → HasSource trees op → IsTransactionOf trees base t
+        → IsTransactionOf trees base (edited trees t op) }
 {}
 
 /// An open transaction goes on where revisions are added.
 pub fn new_revisions_keep_transactions()
-    ensures { (old new : ℕ → Tree) (base : ℕ) (txn : Tree) → KeepsTrees old new → IsTree (old base) → IsTransactionOf old (old base) txn → IsTransactionOf new (new base) txn }
+    ensures { (old new : ℕ → Tree) (base : ℕ) (txn : Tree) → KeepsTrees old new → IsTree (old base)
+        → IsTransactionOf old (old base) txn → IsTransactionOf new (new base) txn }
 {}
 
 /// With the revision that a merge adds, marks name what they mark.
 pub fn merges_keep_marks()
-    ensures { (trees : ℕ → Tree) (n base youngest : ℕ) (txn : Tree) → IsFree trees n → MeetWell trees base txn youngest → AreMarked (with_tree trees n (merged n (trees base) txn (trees youngest))) }
+    ensures { (trees : ℕ → Tree) (n base youngest : ℕ) (txn : Tree) → IsFree trees n
+        → MeetWell trees base txn youngest
+        → AreMarked (with_tree trees n (merged n (trees base) txn (trees youngest))) }
 {}
 
 /// A merge makes a tree.
@@ -78,21 +91,34 @@ pub fn merges_are_trees()
 /// A commit never overwrites what was changed since its base: each path that others changed stays as they left
 /// it, and each path that the transaction changed is as the transaction left it.
 pub fn merges_keep_both_sides()
-    ensures theirs { (trees : ℕ → Tree) (n base youngest : ℕ) (txn : Tree) → MeetWell trees base txn youngest → (p : PathValue) → is_changed (trees base p) (trees youngest p) ≡ true → (shown (merged n (trees base) txn (trees youngest) p) ≡ shown (trees youngest p)) × (own_of (merged n (trees base) txn (trees youngest) p) ≡ own_of (trees youngest p)) }
-    ensures ours { (trees : ℕ → Tree) (n base youngest : ℕ) (txn : Tree) → MeetWell trees base txn youngest → (p : PathValue) → is_changed (trees base p) (txn p) ≡ true → shown (merged n (trees base) txn (trees youngest) p) ≡ shown (txn p) }
+    ensures theirs { (trees : ℕ → Tree) (n base youngest : ℕ) (txn : Tree)
+        → MeetWell trees base txn youngest → (p : PathValue)
+        → is_changed (trees base p) (trees youngest p) ≡ true
+        → (shown (merged n (trees base) txn (trees youngest) p) ≡ shown (trees youngest p))
+        × (own_of (merged n (trees base) txn (trees youngest) p) ≡ own_of (trees youngest p)) }
+    ensures ours { (trees : ℕ → Tree) (n base youngest : ℕ) (txn : Tree)
+        → MeetWell trees base txn youngest → (p : PathValue)
+        → is_changed (trees base p) (txn p) ≡ true
+        → shown (merged n (trees base) txn (trees youngest) p) ≡ shown (txn p) }
 {}
 
 /// A commit at whose time nobody else has committed since its base meets no conflict, and makes the
 /// transaction's tree with its marks closed.
 pub fn merges_with_the_base()
     ensures clean { (base txn : Tree) → HasNoConflict base txn base }
-    ensures sealed { (trees : ℕ → Tree) (n base : ℕ) (txn : Tree) → MeetWell trees base txn base → (p : PathValue) → merged n (trees base) txn (trees base) p ≡ option_map (sealed n p) (txn p) }
+    ensures sealed { (trees : ℕ → Tree) (n base : ℕ) (txn : Tree) → MeetWell trees base txn base
+        → (p : PathValue)
+        → merged n (trees base) txn (trees base) p ≡ option_map (sealed n p) (txn p) }
 {}
 
 /// A closed mark names one thing wherever it stands: a `last` one subtree, an `own` one kind, properties and text.
 pub fn marks_name_one_thing()
-    ensures lasts { (trees : ℕ → Tree) (x y : Tree) (p q : PathValue) (n : ℕ) (at : PathValue) → MarksName trees x → MarksName trees y → last_of (x p) ≡ Some (Made n at) → last_of (y q) ≡ Some (Made n at) → (rest : PathValue) → x (p ++ rest) ≡ y (q ++ rest) }
-    ensures owns { (trees : ℕ → Tree) (x y : Tree) (p q : PathValue) (n : ℕ) (at : PathValue) → MarksName trees x → MarksName trees y → own_of (x p) ≡ Some (Made n at) → own_of (y q) ≡ Some (Made n at) → shown (x p) ≡ shown (y q) }
+    ensures lasts { (trees : ℕ → Tree) (x y : Tree) (p q : PathValue) (n : ℕ) (at : PathValue)
+        → MarksName trees x → MarksName trees y → last_of (x p) ≡ Some (Made n at)
+        → last_of (y q) ≡ Some (Made n at) → (rest : PathValue) → x (p ++ rest) ≡ y (q ++ rest) }
+    ensures owns { (trees : ℕ → Tree) (x y : Tree) (p q : PathValue) (n : ℕ) (at : PathValue)
+        → MarksName trees x → MarksName trees y → own_of (x p) ≡ Some (Made n at)
+        → own_of (y q) ≡ Some (Made n at) → shown (x p) ≡ shown (y q) }
 {}
 
 /// A transaction begins among the revisions with its marks in order.
@@ -102,19 +128,33 @@ pub fn transactions_begin_marked()
 
 /// An edit over revisions that go on from those last shown keeps a transaction's marks in order.
 pub fn transactions_stay_marked()
-    ensures { (shown : List Fixed) (old : TxnState) (op : EditOp) (new : TxnState) → AreMarked (trees_in shown) → IsBeginning old.shown shown → HasSource (trees_in shown) op → IsMarkedTxn old → IsEdited shown old op new → IsMarkedTxn new }
+    ensures { (shown : List Fixed) (old : TxnState) (op : EditOp) (new : TxnState)
+        → AreMarked (trees_in shown) → IsBeginning old.shown shown → HasSource (trees_in shown) op
+        → IsMarkedTxn old → IsEdited shown old op new → IsMarkedTxn new }
 {}
 
 /// A commit that is accepted meets the youngest revision well.
 pub fn accepted_commits_meet_well()
-    ensures { (c : RepoState) (ask : CommitAsk) (t : TxnState) → AreMarked (trees_in c.revisions) → IsTree (trees_in c.revisions (youngest c)) → IsBeginning t.shown c.revisions → IsMarkedTxn t → IsTree (tree_of t.tree) → commit_refusal c ask t ≡ None → MeetWell (trees_in c.revisions) t.base (tree_of t.tree) (youngest c) }
+    ensures { (c : RepoState) (ask : CommitAsk) (t : TxnState) → AreMarked (trees_in c.revisions)
+        → IsTree (trees_in c.revisions (youngest c)) → IsBeginning t.shown c.revisions
+        → IsMarkedTxn t → IsTree (tree_of t.tree) → commit_refusal c ask t ≡ None
+        → MeetWell (trees_in c.revisions) t.base (tree_of t.tree) (youngest c) }
 {}
 
 /// What an accepted commit adds is a tree, marks go on naming what they mark, and nothing that was changed on
 /// either side since the base is lost.
 pub fn commits_keep_both_sides()
     ensures tree { (c : RepoState) (t : TxnState) → MeetWell (trees_in c.revisions) t.base (tree_of t.tree) (youngest c) → IsTree (tree_of (next_tree c t)) }
-    ensures marks { (c : RepoState) (ask : CommitAsk) (t : TxnState) → MeetWell (trees_in c.revisions) t.base (tree_of t.tree) (youngest c) → AreMarked (trees_in (committed c ask t).revisions) }
-    ensures theirs { (c : RepoState) (t : TxnState) → MeetWell (trees_in c.revisions) t.base (tree_of t.tree) (youngest c) → (p : PathValue) → is_changed (get (tree_at c t.base) p) (get (tree_at c (youngest c)) p) ≡ true → (shown (get (next_tree c t) p) ≡ shown (get (tree_at c (youngest c)) p)) × (own_of (get (next_tree c t) p) ≡ own_of (get (tree_at c (youngest c)) p)) }
-    ensures ours { (c : RepoState) (t : TxnState) → MeetWell (trees_in c.revisions) t.base (tree_of t.tree) (youngest c) → (p : PathValue) → is_changed (get (tree_at c t.base) p) (get t.tree p) ≡ true → shown (get (next_tree c t) p) ≡ shown (get t.tree p) }
+    ensures marks { (c : RepoState) (ask : CommitAsk) (t : TxnState)
+        → MeetWell (trees_in c.revisions) t.base (tree_of t.tree) (youngest c)
+        → AreMarked (trees_in (committed c ask t).revisions) }
+    ensures theirs { (c : RepoState) (t : TxnState)
+        → MeetWell (trees_in c.revisions) t.base (tree_of t.tree) (youngest c) → (p : PathValue)
+        → is_changed (get (tree_at c t.base) p) (get (tree_at c (youngest c)) p) ≡ true
+        → (shown (get (next_tree c t) p) ≡ shown (get (tree_at c (youngest c)) p))
+        × (own_of (get (next_tree c t) p) ≡ own_of (get (tree_at c (youngest c)) p)) }
+    ensures ours { (c : RepoState) (t : TxnState)
+        → MeetWell (trees_in c.revisions) t.base (tree_of t.tree) (youngest c) → (p : PathValue)
+        → is_changed (get (tree_at c t.base) p) (get t.tree p) ≡ true
+        → shown (get (next_tree c t) p) ≡ shown (get t.tree p) }
 {}

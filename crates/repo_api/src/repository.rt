@@ -1,6 +1,7 @@
 //! A repository, by what it contains.
 ghost use Rattle.std.specs.Prelude.{◌≡◌, ◌<◌, length, IfOk, OnOk, OnErr, None, Some, option_copied, slice_get};
-ghost use Rattle.repo_api.specs.States.{RepoState, TxnState, IsBeginning, IsBegun, IsEdited, youngest};
+ghost use Rattle.repo_api.specs.States.{RepoState, TxnState, IsBeginning, IsBegun, IsEdited, tree_of, trees_in, youngest};
+ghost use Rattle.repo_api.specs.RightEdits.{IsRightEdit};
 ghost use Rattle.repo_api.specs.Commits.{commit_refusal, committed};
 ghost use Rattle.repo_api.specs.Accepted.{IfRefused, IsOfMemory};
 ghost use Rattle.repo_api.specs.Kinds.{kind_at, has_deeper_at, kind_in, created_in, text_in};
@@ -70,10 +71,12 @@ pub trait Repository: Drop {
         requires { IsBeginning (txn_state txn.now).shown (content self.now).revisions }
         ensures { option_copied result ≡ text_in (txn_state txn.now) path.now };
 
-    /// Makes an edit in a transaction, which was last shown a repository whose revisions begin this one's.
-    fn edit(&self, txn: &mut Self::Txn, op: &EditOp) -> Result<(), AllocError>
-        requires { IsBeginning (txn_state txn.old).shown (content self.now).revisions }
-        ensures ok { OnOk result (IsEdited (content self.now).revisions (txn_state txn.old) op.now (txn_state txn.new)) }
+    /// Makes an edit in a transaction, which was last shown a repository whose revisions begin this one's. It adds to
+    /// a directory where nothing stands, and what it copies, replaces, deletes or sets is there.
+    fn edit(&self, txn: &mut Self::Txn, op: EditOp) -> Result<(), AllocError>
+        requires rests { IsBeginning (txn_state txn.old).shown (content self.now).revisions }
+        requires right { IsRightEdit (trees_in (content self.now).revisions) (tree_of (txn_state txn.old).tree) op }
+        ensures ok { OnOk result (IsEdited (content self.now).revisions (txn_state txn.old) op (txn_state txn.new)) }
         ensures err { OnErr result (txn_state txn.new ≡ txn_state txn.old) };
 
     /// Makes the transaction the next revision, and answers its number. The transaction was last shown a

@@ -4,6 +4,7 @@ ghost use Rattle.hub.specs.Calls.{IsTimely};
 
 use flatrepo::FlatRepo;
 use hub::{Call, Direct, Env, Hub, Options, Outcome, make_call, make_calls};
+use machine::RepoAccess;
 use std::alloc::{AllocError, Global};
 use std::test::Fail;
 
@@ -28,7 +29,7 @@ const ANSWER: &[u8] =
 fn new_hub(alloc: Global) -> Result<Hub<Direct<FlatRepo>>, Fail> {
     let repository = FlatRepo::new(alloc, UUID, 0)?;
     let options = Options::new(alloc, "r")?;
-    Ok(Hub::over(alloc, repository, options)?)
+    Ok(Hub::over_new(alloc, repository, options)?)
 }
 
 fn feed_call(alloc: Global) -> Result<Call, AllocError>
@@ -58,6 +59,7 @@ fn one_call_after_another(rt: HostRuntime) -> Result<(), Fail> {
     let out = hub.feed(number, CLIENT, ENV)?;
     assert_eq!(rt; out.as_slice(), ANSWER);
     assert!(rt; hub.is_open(number));
+    assert!(rt; !hub.access().is_halted());
     hub.disconnect(number);
     assert!(rt; !hub.is_open(number));
     Ok(())

@@ -1,12 +1,12 @@
 -- What is heard grows by a piece.
 use Rattle.std.proofs.Common.{◌≡◌, ℕ, ◌<◌, ◌≤◌, true, List, [], ◌∷◌, ◌++◌, length, refl, sym, ap, subst, ◌∙◌, append-nil, inr}
-use Rattle.std.specs.Prelude.{Option, Result, Ok, Err, OnOk, IfErr, IsErrAnd, MatchResult}
+use Rattle.std.specs.Prelude.{Option, Result, Ok, Err, OnOk, IsErrAnd, MatchResult}
 use Rattle.std.proofs.lemmas.Grind.{flat_map-append}
 use Rattle.std.proofs.KnownBytes.{Consumes-nil, Appends-nil, Consumes-trans, Appends-trans, Consumes-kept}
 use Rattle.std.specs.Io.KnownBytes.{Consumes, Appends, Keeps}
 use Rattle.machine.specs.declared.env.Env.{Env}
 use Rattle.hub.specs.declared.hub.HubFault.{HubFault}
-use Rattle.hub.specs.Calls.{ConnectsAs, FeedsAs, FeedFails}
+use Rattle.hub.specs.Calls.{ConnectsAs, FeedsAs, FeedBreaks}
 use Rattle.serving.specs.declared.fault.ServeFault.{ServeFault}
 use Rattle.serving.specs.declared.fault.ServeFault.TheVariants.{Read, Write, Hub}
 use Rattle.serving.specs.Stream.{Piece, bytes_of, GivesAll, Scene, scene, Hears, is_hearing, IsServed, HearsUntil, Answered, Answers, Serves, HubFails, IfRead, IfHub}
@@ -91,24 +91,34 @@ was_ok (Err e) x bad = absurd bad
 abbrev as_err : (T : Type 0) → ServeFault → Result T ServeFault
 as_err T e = Err e
 
--- a hub's fault is handed out as it is
-of_hub : {T U : Type 0} (r : Result T ServeFault) (e : ServeFault) (fed : Result U HubFault) (P Q : HubFault → Type 0)
-    → ((fault : HubFault) → P fault → Q fault) → IsErrAnd r (λ x. x ≡ e)
-    → MatchResult fed (λ (x : U). ◌≡◌ {A = Result U ServeFault} (Err e) (Ok x)) (λ fault. e ≡ Hub fault) → IfErr fed P → IfHub r Q
-of_hub (Ok x) e fed P Q f same from known = tt
-of_hub {T} (Err x) e (Err fault) P Q f same from known =
-    subst (λ (y : ServeFault). IfHub (as_err T y) Q) (sym (same ∙ from)) (f fault known)
-of_hub (Err x) e (Ok y) P Q f same from known = absurd (err_not_ok e y from)
+-- a fault is handed out as it is
+hub_as : (T U : Type 0) (P Q : HubFault → Type 0) → ((fault : HubFault) → P fault → Q fault) → (e : ServeFault) → IfHub (as_err U e) P → IfHub (as_err T e) Q
+hub_as T U P Q f (Read error) known = tt
+hub_as T U P Q f (Write error) known = tt
+hub_as T U P Q f (Hub fault) known = f fault known
+
+read_as : (T U : Type 0) (P : Type 0) (e : ServeFault) → IfRead (as_err U e) ⊥ → IfRead (as_err T e) P
+read_as T U P (Read error) known = absurd known
+read_as T U P (Write error) known = tt
+read_as T U P (Hub fault) known = tt
+
+handed : {T : Type 0} (K : Result T ServeFault → Type 0) (ok : (x : T) → K (Ok x)) (r : Result T ServeFault) (e : ServeFault) → IsErrAnd r (λ x. x ≡ e) → K (Err e) → K r
+handed K ok (Ok x) e same known = ok x
+handed K ok (Err x) e same known = subst (λ (y : ServeFault). K (Err y)) (sym same) known
+
+pub if_hub : {T : Type 0} (U : Type 0) (r : Result T ServeFault) (e : ServeFault) (P Q : HubFault → Type 0) → ((fault : HubFault) → P fault → Q fault)
+    → IsErrAnd r (λ x. x ≡ e) → IfHub (as_err U e) P → IfHub r Q
+if_hub {T} U r e P Q f same known = handed (λ (x : Result T ServeFault). IfHub x Q) (λ x. tt) r e same (hub_as T U P Q f e known)
+
+pub if_read : {T : Type 0} (U : Type 0) (r : Result T ServeFault) (e : ServeFault) (P : Type 0) → IsErrAnd r (λ x. x ≡ e) → IfRead (as_err U e) ⊥ → IfRead r P
+if_read {T} U r e P same known = handed (λ (x : Result T ServeFault). IfRead x P) (λ x. tt) r e same (read_as T U P e known)
 
 -- serving ends by the fault of a feed
-pub hears_until : {E T U : Type 0} (gives : E → Env → E → Type 0) (n : ℕ) (old mid new : Scene E) (env : Env) (bytes : List ℕ) (fed : Result U HubFault) (r : Result T ServeFault) (e : ServeFault)
-    → Hears gives n old mid → is_hearing mid.hub n ≡ true → gives mid.envs env new.envs → Consumes mid.input new.input bytes → new.output ≡ mid.output
-    → IfErr fed (λ fault. FeedFails mid.hub env n bytes fault new.hub)
-    → IsErrAnd r (λ x. x ≡ e) → MatchResult fed (λ (x : U). ◌≡◌ {A = Result U ServeFault} (Err e) (Ok x)) (λ fault. e ≡ Hub fault)
-    → IfHub r (λ fault. HearsUntil gives n fault old new)
-hears_until gives n old mid new env bytes fed r e h hearing given read unwritten fails same from =
-    of_hub r e fed (λ fault. FeedFails mid.hub env n bytes fault new.hub) (λ fault. HearsUntil gives n fault old new)
-    (λ fault failed. (mid, h, record { hearing = hearing; env = env; given = given; bytes = bytes; read = read; fails = failed; unwritten = unwritten })) same from fails
+pub hears_until : {E : Type 0} (gives : E → Env → E → Type 0) (n : ℕ) (old mid new : Scene E) (env : Env) (bytes : List ℕ) (fault : HubFault)
+    → Hears gives n old mid → is_hearing mid.hub n ≡ true → gives mid.envs env new.envs → Consumes mid.input new.input bytes
+    → FeedBreaks mid.hub env n bytes fault new.hub (Appends mid.output new.output) → HearsUntil gives n fault old new
+hears_until gives n old mid new env bytes fault h hearing given read fails =
+    (mid, h, record { hearing = hearing; env = env; given = given; bytes = bytes; read = read; fails = fails })
 
 -- what happened to a greeted session happened to one that was connected
 module _ {E T : Type 0} (gives : E → Env → E → Type 0) (n : ℕ) (old greeted new : Scene E) (all : (s : Scene E) → Hears gives n greeted s → Answered gives n old s) where

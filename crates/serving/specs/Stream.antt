@@ -5,12 +5,12 @@ use Rattle.std.specs.Io.KnownBytes.{Consumes, Appends, IsAtEnd}
 use Rattle.replies.specs.declared.reply.Reply.{Reply}
 use Rattle.machine.specs.Hearing.{Input, Comes}
 use Rattle.machine.specs.Stages.{SessionState}
-use Rattle.machine.specs.Machine.{print}
+use Rattle.replies.specs.Replies.{print}
 use Rattle.machine.specs.declared.env.Env.{Env}
 use Rattle.hub.specs.declared.hub.HubFault.{HubFault}
 use Rattle.hub.specs.State.{HubState, session_of}
 use Rattle.hub.specs.Runs.{Event, HubRun, InputsAre, IfOpen, heard}
-use Rattle.hub.specs.Calls.{ConnectsAs, ConnectFails, FeedFails}
+use Rattle.hub.specs.Calls.{ConnectsAs, ConnectFails, FeedBreaks}
 use Rattle.serving.specs.declared.fault.ServeFault.{ServeFault}
 use Rattle.serving.specs.declared.fault.ServeFault.TheVariants.{Read, Write, Hub}
 
@@ -94,15 +94,15 @@ is_hearing h n = is_some (session_of h.sessions n) && not h.halted
 abbrev pub IsServed : {E : Type 0} → ℕ → Scene E → Type 0
 IsServed n new = is_hearing new.hub n ≡ true → IsAtEnd new.input
 
--- A piece was read for a session that hears what comes, and the hub failed at it. Nothing was written.
+-- A piece was read for a session that hears what comes, and the hub failed at it. What was written then is a part of
+-- what the inputs draw that were served.
 pub record Stops {E : Type 0} (gives : E → Env → E → Type 0) (n : ℕ) (fault : HubFault) (old new : Scene E) : Type 0 where
   pub hearing : is_hearing old.hub n ≡ true
   pub env : Env
   pub given : gives old.envs env new.envs
   pub bytes : List ℕ
   pub read : Consumes old.input new.input bytes
-  pub fails : FeedFails old.hub env n bytes fault new.hub
-  pub unwritten : new.output ≡ old.output
+  pub fails : FeedBreaks old.hub env n bytes fault new.hub (Appends old.output new.output)
 
 -- pieces were answered, and at the next one the hub failed
 abbrev pub HearsUntil : {E : Type 0} → (E → Env → E → Type 0) → ℕ → HubFault → Scene E → Scene E → Type 0

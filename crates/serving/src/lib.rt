@@ -3,9 +3,11 @@
 
 mod envs;
 mod fault;
+mod sink;
 mod stdio;
 
 pub use envs::EnvSource;
 pub use fault::ServeFault;
 pub use machine::Env;
+pub use sink::OutputSink;
 pub use stdio::run_stdio;

@@ -1,13 +1,15 @@
 //! One session over a reader and a writer.
-ghost use Rattle.std.specs.Prelude.{OnOk};
+ghost use Rattle.std.specs.Prelude.{OnOk, ◌≤◌};
+ghost use Rattle.hub.specs.Calls.{FeedsTo, FeedBreaks};
 ghost use Rattle.std.specs.Io.{ReadsAtMost};
 ghost use Rattle.std.specs.Io.KnownBytes.{Appends, ReadConsumes};
 ghost use Rattle.serving.specs.Stream.{scene, Answers, Hears, HearsUntil, HubFails, IfHub, IfRead, IsServed, Serves};
 
 use crate::envs::EnvSource;
 use crate::fault::ServeFault;
+use crate::sink::{OutputSink, write_now};
 use hub::{Hub, SessionId};
-use machine::SoleAccess;
+use machine::{Env, SoleAccess};
 use std::io;
 use std::io::{ErrorKind, Read, Write};
 
@@ -29,12 +31,44 @@ fn read_piece<R: Read>(input: &mut R, buffer: &mut [u8]) -> io::Result<usize>
     Err(io::Error::from(ErrorKind::Interrupted))
 }
 
-/// Writes an answer at once.
-fn write_now<W: Write>(output: &mut W, answer: &[u8]) -> io::Result<()>
-    ensures { OnOk result (Appends (W.contents output.old) (W.contents output.new) answer.now) }
+/// Feeds a piece, and writes what it draws as it is made.
+fn answer_piece<A: SoleAccess, W: Write>(
+    hub: &mut Hub<A>,
+    number: SessionId,
+    piece: &[u8],
+    env: Env,
+    output: &mut W,
+) -> Result<(), ServeFault>
+    requires { env.moment ≤ 200000000000000000 }
+    ensures ok { OnOk result (FeedsTo hub.old env number piece.now hub.new (Appends (W.contents output.old) (W.contents output.new))) }
+    ensures read { IfRead result ⊥ }
+    ensures stopped { IfHub result (λ fault. FeedBreaks hub.old env number piece.now fault hub.new (Appends (W.contents output.old) (W.contents output.new))) }
 {
-    output.write_all(answer)?;
-    output.flush()
+    let alloc = hub.alloc();
+    let buffer = Vec::new(alloc);
+    let mut sink = OutputSink {
+        alloc,
+        output,
+        buffer,
+        fault: None,
+    };
+    let fed = hub.feed_to(number, piece, env, &mut sink);
+    let finished = sink.finish();
+    let OutputSink {
+        alloc: _,
+        output,
+        buffer: _buffer,
+        fault: _fault,
+    } = sink;
+    // No effect at run time. The proof reads what the writer holds from this use of it.
+    let _ = &*output;
+    match finished {
+        Ok(()) => match fed {
+            Ok(()) => Ok(()),
+            Err(fault) => Err(ServeFault::Hub(fault)),
+        },
+        Err(error) => Err(ServeFault::Write(error)),
+    }
 }
 
 /// Answers pieces of the input, each before the next is read, until it ends or the session isn't open any more.
@@ -67,9 +101,7 @@ fn serve_pieces<A: SoleAccess, R: Read, W: Write, E: EnvSource>(
             return Ok(());
         }
         let env = envs.next_env();
-        let fed = hub.feed(number, &buffer[..count], env);
-        let answer = fed.map_err(ServeFault::Hub)?;
-        write_now(output, answer.as_slice()).map_err(ServeFault::Write)?;
+        answer_piece(hub, number, &buffer[..count], env, output)?;
     }
     Err(ServeFault::Read(io::Error::from(ErrorKind::Other)))
 }

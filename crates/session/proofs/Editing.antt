@@ -64,12 +64,12 @@ editing_env halted env c client asked edit (Err UnknownName) a step = ap (λ (x 
 editing_env halted env c client asked edit (Err BadParameters) a step = ap (λ (x : Answer). x.env) step
 editing_env halted env c client asked edit (Err NoMemory) a step = ap (λ (x : Answer). x.env) step
 
-module _ (between : Point → Point → Type 0) (adds : Point → Accepted → Point → Type 0) (s : Settings) where
+module _ (between : Point → Point → Type 0) (adds : Point → Accepted → Point → Type 0) (s : Settings) (writes : List ℕ → Type 0) where
   -- an item within an edit is served once its step is made
-  pub edit_served : (env : Env) (p q : Point) (client : Client) (asked : Asked) (edit : EditState) (after : Stage) (t : Tree) (out out' : List ℕ)
-      → Made between adds (λ at a. EditingStep at.halted env (world at) client asked edit (editor_command t) a) p out q after out'
-      → Served between adds s env p (Editing client asked edit) (Whole t) out env q after out'
-  edit_served env p q client asked edit after t out out' made =
+  pub edit_served : (env : Env) (p q : Point) (client : Client) (asked : Asked) (edit : EditState) (after : Stage) (t : Tree)
+      → Made between adds (λ at a. EditingStep at.halted env (world at) client asked edit (editor_command t) a) p q after writes
+      → Served between adds s env p (Editing client asked edit) (Whole t) env q after writes
+  edit_served env p q client asked edit after t made =
       let h = made.happens in
       record {
         answer = made.answer;
@@ -80,6 +80,6 @@ module _ (between : Point → Point → Type 0) (adds : Point → Accepted → P
       }
 
   pub edit_fails : (env : Env) (p q : Point) (client : Client) (asked : Asked) (edit : EditState) (t : Tree)
-      → Misses between adds (λ at a. EditingStep at.halted env (world at) client asked edit (editor_command t) a) p q
-      → Fails between adds s env p (Editing client asked edit) (Whole t) q
+      → Misses between adds (λ at a. EditingStep at.halted env (world at) client asked edit (editor_command t) a) p q writes
+      → Fails between adds s env p (Editing client asked edit) (Whole t) q writes
   edit_fails env p q client asked edit t misses = misses

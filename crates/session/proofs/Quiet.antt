@@ -1,5 +1,5 @@
 -- Answers that change nothing, and inputs that are answered so.
-use Rattle.std.proofs.Common.{◌≡◌, ℕ, List, [], ◌∷◌, ◌++◌, Bool, true, false, Option, Some, None, refl, sym, ap, subst, ◌∙◌, append_assoc}
+use Rattle.std.proofs.Common.{◌≡◌, ℕ, List, [], ◌∷◌, ◌++◌, Bool, true, false, Option, Some, None, refl, sym, subst, inr}
 use Rattle.std.specs.Prelude.{Result, Ok, Err, if◌then◌else◌, codes}
 use Rattle.svnpath.specs.Urls.{path_of_text, root_of_text}
 use Rattle.forms.specs.Forms.{is_name}
@@ -20,12 +20,14 @@ use Rattle.machine.specs.declared.asked.Asked.{Asked}
 use Rattle.machine.specs.Points.{Point, world}
 use Rattle.machine.specs.Settings.{Settings}
 use Rattle.machine.specs.Hearing.{Input}
-use Rattle.machine.specs.Machine.{Effect, no_effect, Answer, InputStep, print, says, speaks, malformed, url_answer, greeting_answer, login_answer, own_answer, login_request, behind, command_answer, asked_by, lock_tokens, commit_begins, skipping_answer}
-use Rattle.machine.specs.Access.{Served, Moves}
+use Rattle.replies.specs.Replies.{print}
+use Rattle.replies.specs.Sinks.{WritesPart}
+use Rattle.replies.proofs.Parts.{both_written, part_behind}
+use Rattle.machine.specs.Machine.{Effect, no_effect, Answer, InputStep, says, speaks, malformed, url_answer, greeting_answer, login_answer, own_answer, login_request, behind, command_answer, asked_by, lock_tokens, commit_begins, skipping_answer}
+use Rattle.machine.specs.Access.{Served, Fails, Moves}
 use Rattle.machine.specs.Replying.{IsAnswered}
 use Rattle.machine.specs.declared.env.Env.{Env}
 use Rattle.machine.specs.Stages.{Stage}
-use Rattle.session.proofs.Runs.{print-append}
 use Rattle.machine.specs.declared.phase.Phase.TheVariants.{LoggingIn, Serving, Ended}
 use Rattle.machine.specs.declared.phase.Client.{Client}
 
@@ -91,24 +93,36 @@ quiet_malformed env = quiet_says env _ _
 pub quiet_end : (env : Env) → IsQuiet env (says env Ended [])
 quiet_end env = quiet_says env _ _
 
--- what is told before an answer, and then the answer
-pub behind_answered : (told : List Reply) (a : Answer) (phase : Stage) (out mid out' : List ℕ)
-    → mid ≡ out ++ print told → IsAnswered a phase mid out' → IsAnswered (behind told a) phase out out'
-behind_answered told a phase out mid out' before answered = record {
-  phase_is = answered.phase_is;
-  written = answered.written ∙ ap (λ (x : List ℕ). x ++ print a.replies) before ∙ append_assoc out (print told) (print a.replies)
-      ∙ ap (λ (x : List ℕ). out ++ x) (sym (print-append told a.replies));
-}
+-- what is told before an answer, and then the answer, or a part of it
+module _ {S : Type 0} (writes : S → S → List ℕ → Type 0)
+    (further : (o o' o'' : S) (first second : List ℕ) → writes o o' first → writes o' o'' second → writes o o'' (first ++ second)) where
+  pub behind_answered : (told : List Reply) (a : Answer) (phase : Stage) (out mid out' : S)
+      → writes out mid (print told) → IsAnswered a phase (writes mid out') → IsAnswered (behind told a) phase (writes out out')
+  behind_answered told a phase out mid out' before answered = record {
+    phase_is = answered.phase_is;
+    written = both_written writes further out mid out' told a.replies before answered.written;
+  }
 
-module _ (between : Point → Point → Type 0) (adds : Point → Accepted → Point → Type 0) (s : Settings) where
+  pub behind_part : (told : List Reply) (a : Answer) (out mid out' : S)
+      → writes out mid (print told) → WritesPart (writes mid out') (print a.replies) → WritesPart (writes out out') (print (behind told a).replies)
+  behind_part told a out mid out' before part = part_behind writes further out mid out' told a.replies before part
+
+module _ (between : Point → Point → Type 0) (adds : Point → Accepted → Point → Type 0) (s : Settings) (writes : List ℕ → Type 0) where
   -- an input that is answered so, at the point that was looked at
-  pub said : (env : Env) (p q : Point) (phase after : Stage) (input : Input) (a : Answer) (out out' : List ℕ)
-      → between p q → InputStep q.halted s env (world q) phase input a → IsQuiet env a → IsAnswered a after out out'
-      → Served between adds s env p phase input out env q after out'
-  said env p q phase after input a out out' later step quiet answered = record {
+  pub said : (env : Env) (p q : Point) (phase after : Stage) (input : Input) (a : Answer)
+      → between p q → InputStep q.halted s env (world q) phase input a → IsQuiet env a → IsAnswered a after writes
+      → Served between adds s env p phase input env q after writes
+  said env p q phase after input a later step quiet answered = record {
     answer = a;
     serves = record { at = q; later = later; step_is = step; moves = subst (λ (e : Effect). Moves adds q e q) (sym quiet.effect) (q, refl, refl) };
     env_after = sym quiet.env_is;
     phase_after = answered.phase_is;
     written = answered.written;
   }
+
+  -- one of whose answer a part is written
+  pub said_part : (env : Env) (p q : Point) (phase : Stage) (input : Input) (a : Answer)
+      → between p q → InputStep q.halted s env (world q) phase input a → IsQuiet env a → WritesPart writes (print a.replies)
+      → Fails between adds s env p phase input q writes
+  said_part env p q phase input a later step quiet part =
+      inr (a, record { at = q; later = later; step_is = step; moves = subst (λ (e : Effect). Moves adds q e q) (sym quiet.effect) (q, refl, refl) }, part)

@@ -1,46 +1,43 @@
 -- How far a run has come.
-use Rattle.std.proofs.Common.{◌≡◌, ℕ, List, [], ◌∷◌, ◌++◌, true, refl, sym, ap, subst, ◌∙◌, inl, inr, append-nil, append_assoc}
-use Rattle.items.specs.Print.{printed}
+use Rattle.std.proofs.Common.{◌≡◌, ℕ, List, [], ◌∷◌, ◌++◌, true, refl, sym, subst, inl, inr, append-nil, append_assoc}
 use Rattle.repo_api.specs.Accepted.{Accepted}
-use Rattle.replies.specs.Replies.{reply_tree}
+use Rattle.replies.specs.Replies.{print}
+use Rattle.replies.proofs.Parts.{both_written, part_none, part_all, part_first, part_behind}
 use Rattle.replies.specs.declared.reply.Reply.{Reply}
 use Rattle.machine.specs.Points.{Point}
 use Rattle.machine.specs.Settings.{Settings}
 use Rattle.machine.specs.Hearing.{Input, Brings, Comes, IsSettled}
-use Rattle.machine.specs.Machine.{print}
 use Rattle.machine.specs.Access.{Served, SessionRun, Fails, Fed, Lost}
 use Rattle.machine.specs.declared.env.Env.{Env}
 use Rattle.machine.specs.Stages.{Stage, is_open}
 
-pub print-append : (xs ys : List Reply) → print (xs ++ ys) ≡ print xs ++ print ys
-print-append [] ys = refl
-print-append (x ∷ xs) ys = ap (λ t. printed (reply_tree x) ++ t) (print-append xs ys) ∙ sym (append_assoc (printed (reply_tree x)) (print xs) (print ys))
-
 -- from (env0, p0, phase0) over the inputs done to (env, p, phase); what is told is written
-pub record Progress (between : Point → Point → Type 0) (adds : Point → Accepted → Point → Type 0) (s : Settings) (env0 : Env) (p0 : Point) (phase0 : Stage) (stream : List ℕ) (env : Env) (p : Point) (phase : Stage) (rest : List ℕ) (out : List ℕ) : Type 0 where
+pub record Progress (between : Point → Point → Type 0) (adds : Point → Accepted → Point → Type 0) (s : Settings) (env0 : Env) (p0 : Point) (phase0 : Stage) (stream : List ℕ) (env : Env) (p : Point) (phase : Stage) (rest : List ℕ) (writes : List ℕ → Type 0) : Type 0 where
   pub done : List Input
   pub told : List Reply
   pub came : (more : List Input) (end : List ℕ) → Comes rest more end → Comes stream (done ++ more) end
-  pub written : out ≡ print told
+  pub written : writes (print told)
   pub goes : (inputs : List Input) (replies : List Reply) (env' : Env) (p' : Point) (phase' : Stage)
       → SessionRun between adds s env p phase inputs replies env' p' phase' → SessionRun between adds s env0 p0 phase0 (done ++ inputs) (told ++ replies) env' p' phase'
 
-module _ (between : Point → Point → Type 0) (adds : Point → Accepted → Point → Type 0) (s : Settings) (stays : (p : Point) → between p p) (env0 : Env) (p0 : Point) (phase0 : Stage) (stream : List ℕ) where
-  pub start : (out : List ℕ) → out ≡ [] → Progress between adds s env0 p0 phase0 stream env0 p0 phase0 stream out
-  start out e = record { done = []; told = []; came = λ more end comes. comes; written = e; goes = λ inputs replies env' p' phase' run. run }
+module _ {S : Type 0} (writes : S → S → List ℕ → Type 0) (nothing : (o : S) → writes o o [])
+    (further : (o o' o'' : S) (first second : List ℕ) → writes o o' first → writes o' o'' second → writes o o'' (first ++ second))
+    (between : Point → Point → Type 0) (adds : Point → Accepted → Point → Type 0) (s : Settings) (stays : (p : Point) → between p p) (env0 : Env) (p0 : Point) (phase0 : Stage) (stream : List ℕ) (out0 : S) where
+  pub start : Progress between adds s env0 p0 phase0 stream env0 p0 phase0 stream (writes out0 out0)
+  start = record { done = []; told = []; came = λ more end comes. comes; written = nothing out0; goes = λ inputs replies env' p' phase' run. run }
 
-  pub more : (env env' : Env) (p q : Point) (phase phase' : Stage) (rest rest' out out' : List ℕ) (input : Input)
-      → Progress between adds s env0 p0 phase0 stream env p phase rest out
+  pub more : (env env' : Env) (p q : Point) (phase phase' : Stage) (rest rest' : List ℕ) (out out' : S) (input : Input)
+      → Progress between adds s env0 p0 phase0 stream env p phase rest (writes out0 out)
       → Brings rest input rest'
-      → Served between adds s env p phase input out env' q phase' out'
-      → Progress between adds s env0 p0 phase0 stream env' q phase' rest' out'
+      → Served between adds s env p phase input env' q phase' (writes out out')
+      → Progress between adds s env0 p0 phase0 stream env' q phase' rest' (writes out0 out')
   more env env' p q phase phase' rest rest' out out' input h brings served =
       let a = served.answer in
       record {
         done = h.done ++ input ∷ [];
         told = h.told ++ a.replies;
         came = λ more end comes. subst (λ (x : List Input). Comes stream x end) (sym (append_assoc h.done (input ∷ []) more)) (h.came (input ∷ more) end (rest', brings, comes));
-        written = served.written ∙ ap (λ x. x ++ print a.replies) h.written ∙ sym (print-append h.told a.replies);
+        written = both_written writes further out0 out out' h.told a.replies h.written served.written;
         goes = λ inputs replies env'' p'' phase'' run.
             let run' : SessionRun between adds s a.env q a.phase inputs replies env'' p'' phase'' =
             subst (λ (x : Env). SessionRun between adds s x q a.phase inputs replies env'' p'' phase'') served.env_after
@@ -50,9 +47,9 @@ module _ (between : Point → Point → Type 0) (adds : Point → Accepted → P
             (subst (λ (x : List Reply). SessionRun between adds s env0 p0 phase0 (h.done ++ input ∷ inputs) x env'' p'' phase'') (sym (append_assoc h.told a.replies replies)) whole);
       }
 
-  pub finish : (env : Env) (p : Point) (phase : Stage) (rest out : List ℕ) → Progress between adds s env0 p0 phase0 stream env p phase rest out
+  pub finish : (env : Env) (p : Point) (phase : Stage) (rest : List ℕ) (out : S) → Progress between adds s env0 p0 phase0 stream env p phase rest (writes out0 out)
       → (is_open phase ≡ true → IsSettled rest)
-      → Fed between adds s env0 p0 phase0 stream rest p phase out
+      → Fed between adds s env0 p0 phase0 stream rest p phase (writes out0 out)
   finish env p phase rest out h settled =
       record {
         inputs = h.done ++ [];
@@ -61,12 +58,12 @@ module _ (between : Point → Point → Type 0) (adds : Point → Accepted → P
         told = h.told ++ [];
         env_after = env;
         run = h.goes [] [] env p phase (stays p, refl, refl, refl);
-        written = h.written ∙ ap print (sym (append-nil h.told));
+        written = subst (λ (rs : List Reply). writes out0 out (print rs)) (sym (append-nil h.told)) h.written;
       }
 
-  pub stop : (env : Env) (p q : Point) (phase : Stage) (rest rest' out : List ℕ) (input : Input) → Progress between adds s env0 p0 phase0 stream env p phase rest out
-      → Brings rest input rest' → Fails between adds s env p phase input q → Lost between adds s env0 p0 phase0 stream q
-  stop env p q phase rest rest' out input h brings (inl later) =
+  pub stop : (env : Env) (p q : Point) (phase : Stage) (rest rest' : List ℕ) (out out' : S) (input : Input) → Progress between adds s env0 p0 phase0 stream env p phase rest (writes out0 out)
+      → Brings rest input rest' → Fails between adds s env p phase input q (writes out out') → Lost between adds s env0 p0 phase0 stream q (writes out0 out')
+  stop env p q phase rest rest' out out' input h brings (inl (later, unwritten)) =
       record {
         inputs = h.done ++ [];
         rest = rest;
@@ -75,8 +72,9 @@ module _ (between : Point → Point → Type 0) (adds : Point → Accepted → P
         env_after = env;
         phase_after = phase;
         run = h.goes [] [] env q phase (later, refl, refl, refl);
+        written = part_behind writes further out0 out out' h.told [] h.written (part_none (writes out out') [] unwritten);
       }
-  stop env p q phase rest rest' out input h brings (inr (a, serves)) =
+  stop env p q phase rest rest' out out' input h brings (inr (a, serves, part)) =
       record {
         inputs = h.done ++ input ∷ [];
         rest = rest';
@@ -85,10 +83,12 @@ module _ (between : Point → Point → Type 0) (adds : Point → Accepted → P
         env_after = a.env;
         phase_after = a.phase;
         run = h.goes (input ∷ []) (a.replies ++ []) a.env q a.phase (a, q, [], serves, (stays q, refl, refl, refl), refl);
+        written = part_behind writes further out0 out out' h.told (a.replies ++ []) h.written (part_first (writes out out') a.replies [] part);
       }
 
   -- without another input
-  pub halt : (env : Env) (p : Point) (phase : Stage) (rest out : List ℕ) → Progress between adds s env0 p0 phase0 stream env p phase rest out → Lost between adds s env0 p0 phase0 stream p
+  pub halt : (env : Env) (p : Point) (phase : Stage) (rest : List ℕ) (out : S) → Progress between adds s env0 p0 phase0 stream env p phase rest (writes out0 out)
+      → Lost between adds s env0 p0 phase0 stream p (writes out0 out)
   halt env p phase rest out h =
       record {
         inputs = h.done ++ [];
@@ -98,8 +98,9 @@ module _ (between : Point → Point → Type 0) (adds : Point → Accepted → P
         env_after = env;
         phase_after = phase;
         run = h.goes [] [] env p phase (stays p, refl, refl, refl);
+        written = part_first (writes out0 out) h.told [] (part_all (writes out0 out) (print h.told) h.written);
       }
 
   -- before any input
-  pub lost_all : Lost between adds s env0 p0 phase0 stream p0
-  lost_all = record { inputs = []; rest = stream; comes = refl; told = []; env_after = env0; phase_after = phase0; run = (stays p0, refl, refl, refl) }
+  pub lost_all : Lost between adds s env0 p0 phase0 stream p0 (writes out0 out0)
+  lost_all = record { inputs = []; rest = stream; comes = refl; told = []; env_after = env0; phase_after = phase0; run = (stays p0, refl, refl, refl); written = part_none (writes out0 out0) [] (nothing out0) }

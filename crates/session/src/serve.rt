@@ -10,11 +10,13 @@ ghost use Rattle.svnpath.specs.Texts.{joined};
 ghost use Rattle.machine.specs.Points.{world};
 ghost use Rattle.session.specs.Taking.{input_of};
 ghost use Rattle.machine.specs.Hearing.Input.{Whole, Broken};
-ghost use Rattle.machine.specs.Machine.{check_path_reply, rev_proplist_reply, print, at_revision, serves, greeting_answer, login_answer, own_answer, login_request, command_answer};
+ghost use Rattle.replies.specs.Replies.{print};
+ghost use Rattle.machine.specs.Machine.{check_path_reply, rev_proplist_reply, at_revision, serves, greeting_answer, login_answer, own_answer, login_request, command_answer};
 ghost use Rattle.repo_api.specs.States.{youngest};
 ghost use Rattle.machine.specs.Stages.{RestsOn};
 ghost use Rattle.machine.specs.Access.{Served, Fails};
 ghost use Rattle.machine.specs.Replying.{IsAnswered};
+ghost use Rattle.replies.specs.Sinks.{WritesPart};
 ghost use Rattle.machine.specs.declared.env.Env.{Env};
 
 use crate::incoming::Incoming;
@@ -23,23 +25,24 @@ use committing::{begin_edit, edit_item, skip};
 use forms::CommandFault;
 use items::{Item, Text};
 use machine::{
-    Client, Env, Options, Phase, RepoAccess, SessionPhase, drop_edit, end_malformed, forget, say,
+    Client, Env, Options, Phase, RepoAccess, SessionPhase, drop_edit, end_malformed, forget,
     say_both, text_of,
 };
 use refusals::{Refusal, path_refusal};
-use replies::Reply;
+use replies::{Reply, ReplySink};
 use repo_api::{Properties, Repository};
 use std::alloc::{AllocError, Global};
 use svnpath::{Bytes, Path, PathFault, RepositoryUrl};
 
 /// The answer to the greeting.
-fn greet<R: Repository>(
+fn greet<R: Repository, S: ReplySink>(
     alloc: Global,
     options: &Options,
     item: &Item,
-    out: &mut Vec<u8>,
+    out: &mut S,
 ) -> Result<SessionPhase<R>, AllocError>
-    ensures { IfOk result (λ phase. (env : Env) → IsAnswered (greeting_answer options.now env (client_greeting (tree_of item.now))) phase out.old.items out.new.items) }
+    ensures ok { IfOk result (λ phase. (env : Env) → IsAnswered (greeting_answer options.now env (client_greeting (tree_of item.now))) phase (S.writes out.old out.new)) }
+    ensures err { OnErr result ((env : Env) → WritesPart (S.writes out.old out.new) (print (greeting_answer options.now env (client_greeting (tree_of item.now))).replies)) }
 {
     match ClientGreeting::from_item(alloc, item) {
         Ok(greeting) => {
@@ -48,24 +51,25 @@ fn greet<R: Repository>(
         }
         Err(CommandFault::NoMemory) => Err(AllocError),
         Err(CommandFault::UnknownName) => {
-            let phase = end_malformed(alloc, out)?;
+            let phase = end_malformed(out)?;
             Ok(phase)
         }
         Err(CommandFault::BadParameters) => {
-            let phase = end_malformed(alloc, out)?;
+            let phase = end_malformed(out)?;
             Ok(phase)
         }
     }
 }
 
 /// Asks a client for its login, if it speaks this protocol and names this repository.
-fn begin<R: Repository>(
+fn begin<R: Repository, S: ReplySink>(
     alloc: Global,
     options: &Options,
     greeting: &ClientGreeting,
-    out: &mut Vec<u8>,
+    out: &mut S,
 ) -> Result<SessionPhase<R>, AllocError>
-    ensures { IfOk result (λ phase. (env : Env) → IsAnswered (greeting_answer options.now env (Ok greeting.now)) phase out.old.items out.new.items) }
+    ensures ok { IfOk result (λ phase. (env : Env) → IsAnswered (greeting_answer options.now env (Ok greeting.now)) phase (S.writes out.old out.new)) }
+    ensures err { OnErr result ((env : Env) → WritesPart (S.writes out.old out.new) (print (greeting_answer options.now env (Ok greeting.now)).replies)) }
 {
     if greeting.version != 2 || !greeting.edit_pipeline {
         return Ok(Phase::Ended);
@@ -73,7 +77,7 @@ fn begin<R: Repository>(
     match RepositoryUrl::read(alloc, greeting.url.as_bytes(), options.name()) {
         Ok(named) => {
             let RepositoryUrl { root, path } = named;
-            say(alloc, &Reply::Login(realm(alloc, options)?), out)?;
+            ask_login(alloc, options, out)?;
             Ok(Phase::LoggingIn(Client {
                 path,
                 root,
@@ -82,10 +86,27 @@ fn begin<R: Repository>(
         }
         Err(PathFault::NoMemory) => Err(AllocError),
         Err(fault) => {
-            say(alloc, &Reply::Failure(path_refusal(fault)), out)?;
+            tell_refusal(path_refusal(fault), out)?;
             Ok(Phase::Ended)
         }
     }
+}
+
+/// Asks a client for its login.
+fn ask_login<S: ReplySink>(alloc: Global, options: &Options, out: &mut S) -> Result<(), AllocError>
+    ensures ok { OnOk result (S.writes out.old out.new (print (Reply.Login options.now.name ∷ []))) }
+    ensures err { OnErr result (WritesPart (S.writes out.old out.new) (print (Reply.Login options.now.name ∷ []))) }
+{
+    let realm = realm(alloc, options)?;
+    out.say(&Reply::Login(realm))
+}
+
+/// Tells why a client is not served.
+fn tell_refusal<S: ReplySink>(refusal: Refusal, out: &mut S) -> Result<(), AllocError>
+    ensures ok { OnOk result (S.writes out.old out.new (print (Reply.Failure refusal ∷ []))) }
+    ensures err { OnErr result (WritesPart (S.writes out.old out.new) (print (Reply.Failure refusal ∷ []))) }
+{
+    out.say(&Reply::Failure(refusal))
 }
 
 /// What a login is for: the repository's name.
@@ -96,14 +117,15 @@ fn realm(alloc: Global, options: &Options) -> Result<Text, AllocError>
 }
 
 /// The choice of a mechanism.
-fn log_in<R: Repository, A: RepoAccess<View = R>>(
+fn log_in<R: Repository, A: RepoAccess<View = R>, S: ReplySink>(
     alloc: Global,
     client: Client,
     item: &Item,
     access: &mut A,
-    out: &mut Vec<u8>,
+    out: &mut S,
 ) -> Result<SessionPhase<R>, AllocError>
-    ensures ok { IfOk result (λ phase. (env : Env) → IsAnswered (login_answer env (world (A.point access.new)) client (auth_response (tree_of item.now))) phase out.old.items out.new.items) }
+    ensures ok { IfOk result (λ phase. (env : Env) → IsAnswered (login_answer env (world (A.point access.new)) client (auth_response (tree_of item.now))) phase (S.writes out.old out.new)) }
+    ensures err { OnErr result ((env : Env) → WritesPart (S.writes out.old out.new) (print (login_answer env (world (A.point access.new)) client (auth_response (tree_of item.now))).replies)) }
     ensures later { A.between (A.point access.old) (A.point access.new) }
 {
     match AuthResponse::from_item(alloc, item) {
@@ -114,30 +136,31 @@ fn log_in<R: Repository, A: RepoAccess<View = R>>(
         Err(CommandFault::NoMemory) => Err(AllocError),
         Err(CommandFault::UnknownName) => {
             forget(client);
-            let phase = end_malformed(alloc, out)?;
+            let phase = end_malformed(out)?;
             Ok(phase)
         }
         Err(CommandFault::BadParameters) => {
             forget(client);
-            let phase = end_malformed(alloc, out)?;
+            let phase = end_malformed(out)?;
             Ok(phase)
         }
     }
 }
 
 /// Admits a client without a name. Any other mechanism is not offered, and another choice is awaited.
-fn admit<R: Repository, A: RepoAccess<View = R>>(
+fn admit<R: Repository, A: RepoAccess<View = R>, S: ReplySink>(
     alloc: Global,
     client: Client,
     response: &AuthResponse,
     access: &mut A,
-    out: &mut Vec<u8>,
+    out: &mut S,
 ) -> Result<SessionPhase<R>, AllocError>
-    ensures ok { IfOk result (λ phase. (env : Env) → IsAnswered (login_answer env (world (A.point access.new)) client (Ok response.now)) phase out.old.items out.new.items) }
+    ensures ok { IfOk result (λ phase. (env : Env) → IsAnswered (login_answer env (world (A.point access.new)) client (Ok response.now)) phase (S.writes out.old out.new)) }
+    ensures err { OnErr result ((env : Env) → WritesPart (S.writes out.old out.new) (print (login_answer env (world (A.point access.new)) client (Ok response.now)).replies)) }
     ensures later { A.between (A.point access.old) (A.point access.new) }
 {
     if response.mechanism.as_bytes() != b"ANONYMOUS".as_slice() {
-        offer_again(alloc, out)?;
+        offer_again(out)?;
         return Ok(Phase::LoggingIn(client));
     }
     welcome(alloc, &client.root, access, out)?;
@@ -145,24 +168,26 @@ fn admit<R: Repository, A: RepoAccess<View = R>>(
 }
 
 /// Tells that a mechanism is not offered.
-fn offer_again(alloc: Global, out: &mut Vec<u8>) -> Result<(), AllocError>
-    ensures { OnOk result (out.new.items ≡ out.old.items ++ print (Reply.MechanismNotOffered ∷ [])) }
+fn offer_again<S: ReplySink>(out: &mut S) -> Result<(), AllocError>
+    ensures ok { OnOk result (S.writes out.old out.new (print (Reply.MechanismNotOffered ∷ []))) }
+    ensures err { OnErr result (WritesPart (S.writes out.old out.new) (print (Reply.MechanismNotOffered ∷ []))) }
 {
-    say(alloc, &Reply::MechanismNotOffered, out)
+    out.say(&Reply::MechanismNotOffered)
 }
 
 /// Tells a client that it has logged in, and of the repository.
-fn welcome<R: Repository, A: RepoAccess<View = R>>(
+fn welcome<R: Repository, A: RepoAccess<View = R>, S: ReplySink>(
     alloc: Global,
     root: &Bytes,
     access: &mut A,
-    out: &mut Vec<u8>,
+    out: &mut S,
 ) -> Result<(), AllocError>
-    ensures ok { OnOk result (out.new.items ≡ out.old.items ++ print (Reply.Success ∷ Reply.ReposInfo (world (A.point access.new)).uuid root.now ∷ [])) }
+    ensures ok { OnOk result (S.writes out.old out.new (print (Reply.Success ∷ Reply.ReposInfo (world (A.point access.new)).uuid root.now ∷ []))) }
+    ensures err { OnErr result (WritesPart (S.writes out.old out.new) (print (Reply.Success ∷ Reply.ReposInfo (world (A.point access.new)).uuid root.now ∷ []))) }
     ensures later { A.between (A.point access.old) (A.point access.new) }
 {
     let info = repos_info(alloc, root, access)?;
-    say_both(alloc, &Reply::Success, &info, out)?;
+    say_both(&Reply::Success, &info, out)?;
     Ok(())
 }
 
@@ -181,15 +206,16 @@ fn repos_info<R: Repository, A: RepoAccess<View = R>>(
 }
 
 /// A command.
-fn obey<R: Repository, A: RepoAccess<View = R>>(
+fn obey<R: Repository, A: RepoAccess<View = R>, S: ReplySink>(
     alloc: Global,
     options: &Options,
     client: Client,
     item: &Item,
     access: &mut A,
-    out: &mut Vec<u8>,
+    out: &mut S,
 ) -> Result<SessionPhase<R>, AllocError>
-    ensures ok { IfOk result (λ phase. (env : Env) → IsAnswered (command_answer options.now env (world (A.point access.new)) client (main_command (tree_of item.now))) phase out.old.items out.new.items) }
+    ensures ok { IfOk result (λ phase. (env : Env) → IsAnswered (command_answer options.now env (world (A.point access.new)) client (main_command (tree_of item.now))) phase (S.writes out.old out.new)) }
+    ensures err { OnErr result ((env : Env) → WritesPart (S.writes out.old out.new) (print (command_answer options.now env (world (A.point access.new)) client (main_command (tree_of item.now))).replies)) }
     ensures later { A.between (A.point access.old) (A.point access.new) }
 {
     match MainCommand::from_item(alloc, item) {
@@ -198,12 +224,12 @@ fn obey<R: Repository, A: RepoAccess<View = R>>(
             Ok(phase)
         }
         Err(CommandFault::UnknownName) => {
-            say(alloc, &Reply::Failure(Refusal::UnknownCommand), out)?;
+            out.say(&Reply::Failure(Refusal::UnknownCommand))?;
             Ok(Phase::Serving(client))
         }
         Err(CommandFault::BadParameters) => {
             forget(client);
-            let phase = end_malformed(alloc, out)?;
+            let phase = end_malformed(out)?;
             Ok(phase)
         }
         Err(CommandFault::NoMemory) => Err(AllocError),
@@ -211,18 +237,19 @@ fn obey<R: Repository, A: RepoAccess<View = R>>(
 }
 
 /// A command that is known: the login request, and then its own answer.
-fn run<R: Repository, A: RepoAccess<View = R>>(
+fn run<R: Repository, A: RepoAccess<View = R>, S: ReplySink>(
     alloc: Global,
     options: &Options,
     client: Client,
     command: &MainCommand,
     access: &mut A,
-    out: &mut Vec<u8>,
+    out: &mut S,
 ) -> Result<SessionPhase<R>, AllocError>
-    ensures ok { IfOk result (λ phase. (env : Env) → IsAnswered (command_answer options.now env (world (A.point access.new)) client (Ok command.now)) phase out.old.items out.new.items) }
+    ensures ok { IfOk result (λ phase. (env : Env) → IsAnswered (command_answer options.now env (world (A.point access.new)) client (Ok command.now)) phase (S.writes out.old out.new)) }
+    ensures err { OnErr result ((env : Env) → WritesPart (S.writes out.old out.new) (print (command_answer options.now env (world (A.point access.new)) client (Ok command.now)).replies)) }
     ensures later { A.between (A.point access.old) (A.point access.new) }
 {
-    match request_login(alloc, command, out) {
+    match request_login(command, out) {
         Ok(()) => {
             let phase = answer(alloc, options, client, command, access, out)?;
             Ok(phase)
@@ -235,51 +262,54 @@ fn run<R: Repository, A: RepoAccess<View = R>>(
 }
 
 /// Tells the login request that comes before a command's own answer, if there is one.
-fn request_login(alloc: Global, command: &MainCommand, out: &mut Vec<u8>) -> Result<(), AllocError>
-    ensures { OnOk result (out.new.items ≡ out.old.items ++ print (login_request command.now)) }
+fn request_login<S: ReplySink>(command: &MainCommand, out: &mut S) -> Result<(), AllocError>
+    ensures ok { OnOk result (S.writes out.old out.new (print (login_request command.now))) }
+    ensures err { OnErr result (WritesPart (S.writes out.old out.new) (print (login_request command.now))) }
 {
     match command {
-        MainCommand::GetLatestRev => want_no_login(alloc, out),
-        MainCommand::CheckPath(_, _) => want_no_login(alloc, out),
-        MainCommand::RevProplist(_) => want_no_login(alloc, out),
-        MainCommand::Commit(_) => want_no_login(alloc, out),
+        MainCommand::GetLatestRev => want_no_login(out),
+        MainCommand::CheckPath(_, _) => want_no_login(out),
+        MainCommand::RevProplist(_) => want_no_login(out),
+        MainCommand::Commit(_) => want_no_login(out),
         MainCommand::AbortEdit => Ok(()),
     }
 }
 
 /// Tells a client that no login is wanted.
-fn want_no_login(alloc: Global, out: &mut Vec<u8>) -> Result<(), AllocError>
-    ensures { OnOk result (out.new.items ≡ out.old.items ++ print (Reply.NoLogin ∷ [])) }
+fn want_no_login<S: ReplySink>(out: &mut S) -> Result<(), AllocError>
+    ensures ok { OnOk result (S.writes out.old out.new (print (Reply.NoLogin ∷ []))) }
+    ensures err { OnErr result (WritesPart (S.writes out.old out.new) (print (Reply.NoLogin ∷ []))) }
 {
-    say(alloc, &Reply::NoLogin, out)
+    out.say(&Reply::NoLogin)
 }
 
 /// A command's own answer.
-fn answer<R: Repository, A: RepoAccess<View = R>>(
+fn answer<R: Repository, A: RepoAccess<View = R>, S: ReplySink>(
     alloc: Global,
     options: &Options,
     client: Client,
     command: &MainCommand,
     access: &mut A,
-    out: &mut Vec<u8>,
+    out: &mut S,
 ) -> Result<SessionPhase<R>, AllocError>
-    ensures ok { IfOk result (λ phase. (env : Env) → IsAnswered (own_answer options.now env (world (A.point access.new)) client command.now) phase out.old.items out.new.items) }
+    ensures ok { IfOk result (λ phase. (env : Env) → IsAnswered (own_answer options.now env (world (A.point access.new)) client command.now) phase (S.writes out.old out.new)) }
+    ensures err { OnErr result ((env : Env) → WritesPart (S.writes out.old out.new) (print (own_answer options.now env (world (A.point access.new)) client command.now).replies)) }
     ensures later { A.between (A.point access.old) (A.point access.new) }
 {
     match command {
         MainCommand::GetLatestRev => {
             let reply = youngest_reply(access)?;
-            let phase = tell(alloc, client, reply, out)?;
+            let phase = tell(client, reply, out)?;
             Ok(phase)
         }
         MainCommand::CheckPath(path, revision) => {
             let reply = kind_reply(alloc, &client.path, path, *revision, access)?;
-            let phase = tell(alloc, client, reply, out)?;
+            let phase = tell(client, reply, out)?;
             Ok(phase)
         }
         MainCommand::RevProplist(revision) => {
             let reply = properties_reply(alloc, *revision, access)?;
-            let phase = tell(alloc, client, reply, out)?;
+            let phase = tell(client, reply, out)?;
             Ok(phase)
         }
         MainCommand::Commit(commit) => {
@@ -291,23 +321,24 @@ fn answer<R: Repository, A: RepoAccess<View = R>>(
 }
 
 /// Answers a command. The next one is awaited.
-fn tell<R: Repository>(
-    alloc: Global,
+fn tell<R: Repository, S: ReplySink>(
     client: Client,
     reply: Reply,
-    out: &mut Vec<u8>,
+    out: &mut S,
 ) -> Result<SessionPhase<R>, AllocError>
-    ensures { IfOk result (λ phase. (env : Env) → IsAnswered (serves env client reply) phase out.old.items out.new.items) }
+    ensures ok { IfOk result (λ phase. (env : Env) → IsAnswered (serves env client reply) phase (S.writes out.old out.new)) }
+    ensures err { OnErr result ((env : Env) → WritesPart (S.writes out.old out.new) (print (serves env client reply).replies)) }
 {
-    say_answer(alloc, reply, out)?;
+    say_answer(reply, out)?;
     Ok(Phase::Serving(client))
 }
 
 /// Writes the answer to a command.
-fn say_answer(alloc: Global, reply: Reply, out: &mut Vec<u8>) -> Result<(), AllocError>
-    ensures { OnOk result (out.new.items ≡ out.old.items ++ print (reply ∷ [])) }
+fn say_answer<S: ReplySink>(reply: Reply, out: &mut S) -> Result<(), AllocError>
+    ensures ok { OnOk result (S.writes out.old out.new (print (reply ∷ []))) }
+    ensures err { OnErr result (WritesPart (S.writes out.old out.new) (print (reply ∷ []))) }
 {
-    say(alloc, &reply, out)
+    out.say(&reply)
 }
 
 /// The youngest revision of the repository as it is now.
@@ -396,19 +427,19 @@ fn rev_proplist<R: Repository>(alloc: Global, view: &R, revision: u64) -> Result
 }
 
 /// An item.
-fn serve_item<R: Repository, A: RepoAccess<View = R>>(
+fn serve_item<R: Repository, A: RepoAccess<View = R>, S: ReplySink>(
     alloc: Global,
     options: &Options,
     phase: SessionPhase<R>,
     item: &Item,
     access: &mut A,
     env: &mut Env,
-    out: &mut Vec<u8>,
+    out: &mut S,
 ) -> Result<SessionPhase<R>, AllocError>
     requires rests { RestsOn phase (world (A.point access.old)) }
     requires moment { env.old.moment ≤ 200000000000000000 }
-    ensures ok { IfOk result (λ after. Served A.between A.adds options.now env.old (A.point access.old) phase (Whole (tree_of item.now)) out.old.items env.new (A.point access.new) after out.new.items) }
-    ensures err { OnErr result (Fails A.between A.adds options.now env.old (A.point access.old) phase (Whole (tree_of item.now)) (A.point access.new)) }
+    ensures ok { IfOk result (λ after. Served A.between A.adds options.now env.old (A.point access.old) phase (Whole (tree_of item.now)) env.new (A.point access.new) after (S.writes out.old out.new)) }
+    ensures err { OnErr result (Fails A.between A.adds options.now env.old (A.point access.old) phase (Whole (tree_of item.now)) (A.point access.new) (S.writes out.old out.new)) }
     ensures moment { env.new.moment ≡ env.old.moment }
 {
     match phase {
@@ -429,7 +460,7 @@ fn serve_item<R: Repository, A: RepoAccess<View = R>>(
             Ok(after)
         }
         Phase::Skipping(client) => {
-            let after = skip(alloc, client, item, out)?;
+            let after = skip(client, item, out)?;
             Ok(after)
         }
         Phase::Ended => Ok(Phase::Ended),
@@ -437,61 +468,61 @@ fn serve_item<R: Repository, A: RepoAccess<View = R>>(
 }
 
 /// A byte that goes on to no item.
-fn serve_broken<R: Repository, A: RepoAccess<View = R>>(
-    alloc: Global,
+fn serve_broken<R: Repository, A: RepoAccess<View = R>, S: ReplySink>(
     options: &Options,
     phase: SessionPhase<R>,
     access: &A,
     env: &mut Env,
-    out: &mut Vec<u8>,
+    out: &mut S,
 ) -> Result<SessionPhase<R>, AllocError>
-    ensures ok { IfOk result (λ after. Served A.between A.adds options.now env.old (A.point access.now) phase Broken out.old.items env.new (A.point access.now) after out.new.items) }
+    ensures ok { IfOk result (λ after. Served A.between A.adds options.now env.old (A.point access.now) phase Broken env.new (A.point access.now) after (S.writes out.old out.new)) }
+    ensures err { OnErr result (Fails A.between A.adds options.now env.old (A.point access.now) phase Broken (A.point access.now) (S.writes out.old out.new)) }
     ensures moment { env.new.moment ≡ env.old.moment }
 {
     match phase {
         Phase::Greeted => {
-            let after = end_malformed(alloc, out)?;
+            let after = end_malformed(out)?;
             Ok(after)
         }
         Phase::LoggingIn(client) => {
             forget(client);
-            let after = end_malformed(alloc, out)?;
+            let after = end_malformed(out)?;
             Ok(after)
         }
         Phase::Serving(client) => {
             forget(client);
-            let after = end_malformed(alloc, out)?;
+            let after = end_malformed(out)?;
             Ok(after)
         }
         Phase::Editing(client, asked, editor) => {
             forget(client);
             drop_edit(asked, editor);
-            let after = end_malformed(alloc, out)?;
+            let after = end_malformed(out)?;
             Ok(after)
         }
         Phase::Skipping(client) => {
             forget(client);
-            let after = end_malformed(alloc, out)?;
+            let after = end_malformed(out)?;
             Ok(after)
         }
         Phase::Ended => Ok(Phase::Ended),
     }
 }
 
-/// One input: an `Err` is want of memory.
-pub fn serve<R: Repository, A: RepoAccess<View = R>>(
+/// One input: an `Err` is want of memory, or of the sink.
+pub fn serve<R: Repository, A: RepoAccess<View = R>, S: ReplySink>(
     alloc: Global,
     options: &Options,
     phase: SessionPhase<R>,
     incoming: &Incoming,
     access: &mut A,
     env: &mut Env,
-    out: &mut Vec<u8>,
+    out: &mut S,
 ) -> Result<SessionPhase<R>, AllocError>
     requires rests { RestsOn phase (world (A.point access.old)) }
     requires moment { env.old.moment ≤ 200000000000000000 }
-    ensures ok { IfOk result (λ after. Served A.between A.adds options.now env.old (A.point access.old) phase (input_of incoming.now) out.old.items env.new (A.point access.new) after out.new.items) }
-    ensures err { OnErr result (Fails A.between A.adds options.now env.old (A.point access.old) phase (input_of incoming.now) (A.point access.new)) }
+    ensures ok { IfOk result (λ after. Served A.between A.adds options.now env.old (A.point access.old) phase (input_of incoming.now) env.new (A.point access.new) after (S.writes out.old out.new)) }
+    ensures err { OnErr result (Fails A.between A.adds options.now env.old (A.point access.old) phase (input_of incoming.now) (A.point access.new) (S.writes out.old out.new)) }
     ensures moment { env.new.moment ≡ env.old.moment }
 {
     match incoming {
@@ -500,7 +531,7 @@ pub fn serve<R: Repository, A: RepoAccess<View = R>>(
             Ok(after)
         }
         Incoming::Broken => {
-            let after = serve_broken(alloc, options, phase, access, env, out)?;
+            let after = serve_broken(options, phase, access, env, out)?;
             Ok(after)
         }
     }

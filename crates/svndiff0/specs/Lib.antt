@@ -6,5 +6,6 @@ pub mod Window
 pub mod Document
 pub mod Applying
 pub mod Stages
+pub mod Targets
 pub mod Full
 pub mod Format

@@ -1,47 +1,55 @@
 //! Reading a document over a base.
 
 use crate::fault::DiffFault;
-use crate::reading::read_on;
 use crate::stage::Stage;
+use crate::target::Target;
 use bytes::{Buf, BytesMut};
 use std::alloc::Global;
 use std::marker::Model;
+use std::sync::Arc;
 
 /// Applies an svndiff 0 document, fed in pieces, to a base.
 ///
-/// It keeps the base, the text of the windows so far, and the bytes of the window that isn't whole yet.
+/// It keeps the base, which it shares with whoever gave it, the text of the windows so far, and the bytes of the window
+/// that isn't whole yet.
 #[derive(Drop)]
 pub struct Applier {
-    base: Vec<u8>,
-    text: Vec<u8>,
+    alloc: Global,
+    base: Arc<Vec<u8>>,
+    text: Target,
     rest: BytesMut,
     stage: Stage,
 }
 
 impl Model for Applier {
     ghost use Rattle.svndiff0.specs.Applying.{Applying};
+    ghost use Rattle.std.specs.Arc.{arc_value};
     ghost use Rattle.svndiff0.specs.Stages.{reading_of, HasTextOf};
+    ghost use Rattle.svndiff0.specs.Targets.{target_bytes};
 
     ghost Value = { Applying };
 
-    ghost view = { λ a. record { base = a.base.items; reading = reading_of a.stage a.text.items a.rest.items } };
+    ghost view = { λ a. record { base = (arc_value a.base).items; reading = reading_of a.stage (target_bytes a.text) a.rest.items } };
 
-    ghost invariant = { λ a. HasTextOf a.stage a.text.items };
+    ghost invariant = { λ a. HasTextOf a.stage (target_bytes a.text) };
 }
 
 impl Applier {
-    ghost use Rattle.std.specs.Prelude.{◌≡◌, ◌++◌, ℕ, List, [], MatchResult};
+    ghost use Rattle.std.specs.Prelude.{◌≡◌, ◌≢◌, ◌++◌, ℕ, List, [], MatchResult};
+    ghost use Rattle.std.specs.Arc.{arc_value};
     ghost use Rattle.svndiff0.specs.Document.{opening, outcome, text_of};
     ghost use Rattle.svndiff0.specs.Applying.{HasRead, fed, Feeds};
+    ghost use Rattle.svndiff0.specs.declared.fault.DiffFault.TheVariants.{NoMemory};
 
-    /// An applier over this base, in bytes, that was fed nothing.
-    pub fn new(alloc: Global, base: Vec<u8>) -> Applier
-        ensures base { result.base ≡ base.items }
+    /// An applier over this base, of which no byte is copied, that was fed nothing.
+    pub fn new(alloc: Global, base: Arc<Vec<u8>>) -> Applier
+        ensures base { result.base ≡ (arc_value base).items }
         ensures reading { HasRead result [] }
     {
         Applier {
+            alloc,
             base,
-            text: Vec::new(alloc),
+            text: Target::Growing(Vec::new(alloc)),
             rest: BytesMut::new(alloc),
             stage: Stage::Header,
         }
@@ -63,9 +71,9 @@ impl Applier {
             return Err(fault);
         }
         let kept = self.rest.len();
-        let written = self.text.len();
         self.rest.extend_from_slice(piece)?;
-        match read_on(self.stage, &self.base, &mut self.text, self.rest.as_slice()) {
+        let (stage, base, bytes) = (self.stage, self.base.as_slice(), self.rest.as_slice());
+        match self.text.read_on(self.alloc, stage, base, bytes) {
             Ok((stage, rest)) => {
                 let left = rest.len();
                 self.rest.advance(self.rest.len() - left);
@@ -74,7 +82,6 @@ impl Applier {
             }
             Err(fault) => match fault {
                 DiffFault::NoMemory => {
-                    self.text.truncate(written);
                     self.rest.truncate(kept);
                     Err(DiffFault::NoMemory)
                 }
@@ -92,7 +99,9 @@ impl Applier {
     ///
     /// The rule that the document breaks; `Truncated` where it ends within its header or a window.
     pub fn text(&self) -> Result<&[u8], DiffFault>
-        ensures { MatchResult result (λ text. outcome self.now.reading ≡ Ok text.now) (λ f. outcome self.now.reading ≡ Err f) }
+        ensures outcome { MatchResult result (λ text. outcome self.now.reading ≡ Ok text.now) (λ f. outcome self.now.reading ≡ Err f) }
+        ensures text { (document : List ℕ) → HasRead self.now document
+            → MatchResult result (λ text. text_of self.now.base document ≡ Ok text.now) (λ f. text_of self.now.base document ≡ Err f) }
     {
         match self.stage {
             Stage::Broken(fault) => Err(fault),
@@ -101,19 +110,25 @@ impl Applier {
         }
     }
 
-    /// The text of the document that was fed, which ends here.
+    /// What `text` answers, as a hold of the text, of which no byte is copied. More may be fed afterwards.
     ///
     /// # Errors
     ///
-    /// The rule that the document breaks; `Truncated` where it ends within its header or a window.
-    pub fn finish(self) -> Result<Vec<u8>, DiffFault>
-        ensures outcome { MatchResult result (λ v. outcome self.reading ≡ Ok v.items) (λ f. outcome self.reading ≡ Err f) }
-        ensures text { (document : List ℕ) → HasRead self document
-            → MatchResult result (λ v. text_of self.base document ≡ Ok v.items) (λ f. text_of self.base document ≡ Err f) }
+    /// As `text`, and `NoMemory` where memory runs out. Nothing changes in any case.
+    pub fn share_text(&mut self) -> Result<Arc<Vec<u8>>, DiffFault>
+        ensures outcome { MatchResult result (λ text. outcome self.old.reading ≡ Ok (arc_value text).items)
+            (λ f. f ≢ NoMemory → outcome self.old.reading ≡ Err f) }
+        ensures text { (document : List ℕ) → HasRead self.old document
+            → MatchResult result (λ text. text_of self.old.base document ≡ Ok (arc_value text).items)
+            (λ f. f ≢ NoMemory → text_of self.old.base document ≡ Err f) }
+        ensures same { self.new ≡ self.old }
     {
         match self.stage {
             Stage::Broken(fault) => Err(fault),
-            Stage::Windows if self.rest.is_empty() => Ok(self.text),
+            Stage::Windows if self.rest.is_empty() => {
+                let text = self.text.share(self.alloc)?;
+                Ok(text)
+            }
             _ => Err(DiffFault::Truncated),
         }
     }

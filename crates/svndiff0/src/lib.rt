@@ -12,6 +12,7 @@ mod integer;
 mod reading;
 mod section;
 mod stage;
+mod target;
 mod window;
 
 pub use applier::Applier;

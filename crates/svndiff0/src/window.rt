@@ -86,6 +86,8 @@ fn apply_window<'a>(
     if sums.all != head.target || sums.new_data != head.new_data {
         return Err(DiffFault::LengthsDisagree);
     }
+    // a text of one window takes no more room than it needs
+    text.reserve(head.target)?;
     carry_out(view, section, new_data, text)?;
     Ok(Some(behind))
 }

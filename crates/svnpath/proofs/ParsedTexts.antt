@@ -107,6 +107,10 @@ parsed-path_text ([] ∷ path) right = cc (All-head IsComponent [] path right.co
 parsed-path_text ((b ∷ c) ∷ path) right =
     ap (beneath []) (split_texts (b ∷ c) path right.components) ∙ beneath_root ((b ∷ c) ∷ path) right
 
+-- right paths of one text are one path
+pub same_path_text : (p q : PathValue) → IsRightPath p → IsRightPath q → path_text p ≡ path_text q → p ≡ q
+same_path_text p q right other_right same = cc (sym (parsed-path_text p right) ∙ ap parsed same ∙ parsed-path_text q other_right)
+
 pub answer_text : (text : List ℕ) (r : Result PathValue PathFault) → Answers r (parsed text) → IfOk r (λ path. text ≡ path_text path)
 answer_text text (Ok path) h = (parsed_text text path h).0
 answer_text text (Err fault) h = tt

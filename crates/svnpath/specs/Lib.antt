@@ -4,3 +4,5 @@ pub mod Components
 pub mod Texts
 pub mod Urls
 pub mod Spelled
+pub mod Sorting
+pub mod Listings

@@ -1,5 +1,5 @@
 -- Paths as texts.
-use Rattle.std.specs.Prelude.{ℕ, Bool, ◌==◌, ◌-◌, List, [], ◌∷◌, Option, Some, None, Result, Err, length, take, drop, if◌then◌else◌}
+use Rattle.std.specs.Prelude.{ℕ, Bool, ◌==◌, ◌-◌, List, [], ◌∷◌, ◌++◌, Option, Some, None, Result, Err, length, take, drop, if◌then◌else◌}
 use Rattle.std.specs.List.{starts_with, ends_with, slice_split, flat_map}
 use Rattle.svnpath.specs.Paths.{PathValue, Component}
 use Rattle.svnpath.specs.Components.{beneath}
@@ -36,6 +36,10 @@ joined path text = beneath path (components_of (without_last_slash (without_firs
 abbrev pub path_text : PathValue → List ℕ
 path_text [] = 47 ∷ []
 path_text (c ∷ p) = flat_map (λ component. 47 ∷ component) (c ∷ p)
+
+-- a text that begins so and goes on with the texts of these components
+abbrev pub text_from : List ℕ → List Component → List ℕ
+text_from front others = front ++ flat_map (λ component. 47 ∷ component) others
 
 -- the path above, which the root lacks
 abbrev pub parent : PathValue → Option PathValue

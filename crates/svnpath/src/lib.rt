@@ -8,11 +8,13 @@
 mod bytes;
 mod component;
 mod fault;
+mod listings;
 mod path;
 mod repository_url;
 
 pub use bytes::Bytes;
 pub use component::{COMPONENT_LIMIT, DEPTH_LIMIT};
 pub use fault::PathFault;
+pub use listings::{by_text, pairs_by_text, sort_by_text};
 pub use path::Path;
 pub use repository_url::{RepositoryUrl, root_url};

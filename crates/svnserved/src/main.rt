@@ -54,7 +54,7 @@ fn empty_hub(alloc: Global, name: &str) -> Result<Hub<Direct<FlatRepo>>, Program
     }
     let options = Options::new(alloc, name)?;
     let repository = FlatRepo::new(alloc, EMPTY_UUID, 0)?;
-    Ok(Hub::over(alloc, repository, options)?)
+    Ok(Hub::over_new(alloc, repository, options)?)
 }
 
 /// Serves one session over the standard streams, on an empty repository in memory.

@@ -2,6 +2,7 @@ ghost use Rattle.std.specs.Prelude.{◌≤◌, length};
 
 use std::alloc::Global;
 use std::process::Abort;
+use std::sync::Arc;
 use std::test::*;
 use svndiff0::{Applier, DiffFault, encode_full};
 
@@ -15,26 +16,34 @@ type Row = (
 );
 
 /// Feeds a document in one piece up to the byte `cut`, and byte by byte from there; gives the byte of the first fault,
-/// and what the end answers.
+/// and what the end answers. The text is shared at the cut too, and held while more is fed.
 fn apply(
     rt: &impl Abort,
     alloc: Global,
     base: &[u8],
     document: &[u8],
     cut: usize,
-) -> Result<(Option<usize>, Result<Vec<u8>, DiffFault>), Fail>
+) -> Result<(Option<usize>, Result<Arc<Vec<u8>>, DiffFault>), Fail>
     requires { cut ≤ length document.now }
 {
-    let mut applier = Applier::new(alloc, Vec::from_slice(alloc, base)?);
+    let base = Arc::new(alloc, Vec::from_slice(alloc, base)?)?;
+    let mut applier = Applier::new(alloc, base);
     let (front, back) = document.split_at(cut);
     let mut first = applier.feed(front).err().map(|fault| (0usize, fault));
+    let _held = applier.share_text();
     for (at, byte) in back.iter().enumerate() {
         if let Err(fault) = applier.feed(&[*byte]) {
             let (_, known) = *first.get_or_insert((at.saturating_add(cut), fault));
             assert_eq!(rt; fault, known);
         }
     }
-    Ok((first.map(|(at, _)| at), applier.finish()))
+    let shared = applier.share_text();
+    match (applier.text(), &shared) {
+        (Ok(text), Ok(shared)) => assert_eq!(rt; text, shared.as_slice()),
+        (Err(fault), Err(known)) => assert_eq!(rt; fault, *known),
+        _ => assert!(rt; false, "{document:?}"),
+    }
+    Ok((first.map(|(at, _)| at), shared))
 }
 
 fn check_row(rt: &impl Abort, alloc: Global, row: Row) -> Result<(), Fail> {

@@ -1,6 +1,10 @@
 use std::alloc::{AllocError, Global};
 use std::cmp::Ordering;
-use svnpath::{Bytes, DEPTH_LIMIT, Path, PathFault, RepositoryUrl, root_url};
+use std::collections::BTreeMap;
+use svnpath::{
+    Bytes, DEPTH_LIMIT, Path, PathFault, RepositoryUrl, by_text, pairs_by_text, root_url,
+    sort_by_text,
+};
 
 /// Whether the answer is the path of this text, or this fault.
 fn is_answer(
@@ -165,5 +169,58 @@ fn serves_trees(rt: HostRuntime) -> Result<(), PathFault> {
     assert!(rt; a.cmp(&below) == Ordering::Less && below.clone()? == below);
     assert!(rt; a.components().first() == Some(&name));
     assert!(rt; name.into_vec().as_slice() == b"a".as_slice());
+    Ok(())
+}
+
+/// Whether the entries are the paths of these texts in turn, each with its text.
+fn is_listed(alloc: Global, listed: &[(&Path, &&str)], texts: &[&str]) -> Result<bool, AllocError> {
+    for ((path, value), wanted) in listed.iter().zip(texts) {
+        let mut text = Vec::new(alloc);
+        path.append_text(&mut text)?;
+        if text.as_slice() != wanted.as_bytes() || **value != *wanted {
+            return Ok(false);
+        }
+    }
+    Ok(listed.len() == texts.len())
+}
+
+#[test]
+fn lists_by_the_bytes_of_texts(rt: HostRuntime) -> Result<(), PathFault> {
+    let alloc = rt.alloc();
+    let mut map = BTreeMap::new(alloc);
+    let mut pairs = Vec::new(alloc);
+    for text in ["/a.b", "/", "/ab", "/a/b", "/a", "/a-b"] {
+        map.insert(Path::parse(alloc, text.as_bytes())?, text)?;
+        pairs.push((Path::parse(alloc, text.as_bytes())?, text))?;
+    }
+    let texts = ["/", "/a", "/a-b", "/a.b", "/a/b", "/ab"];
+    let by_components = ["/", "/a", "/a/b", "/a-b", "/a.b", "/ab"];
+    let mut found = map.iter().collect::<Vec<_>>(alloc)?;
+    assert!(rt; is_listed(alloc, found.as_slice(), by_components.as_slice())?);
+    sort_by_text(&mut found)?;
+    assert!(rt; is_listed(alloc, found.as_slice(), texts.as_slice())?);
+    let listed = by_text(alloc, &map)?;
+    assert!(rt; is_listed(alloc, listed.as_slice(), texts.as_slice())?);
+    let listed = pairs_by_text(alloc, pairs.as_slice())?;
+    assert!(rt; is_listed(alloc, listed.as_slice(), texts.as_slice())?);
+    Ok(())
+}
+
+#[test]
+fn compares_texts(rt: HostRuntime) -> Result<(), PathFault> {
+    let alloc = rt.alloc();
+    for (mine, theirs, wanted) in [
+        ("/", "/", Ordering::Equal),
+        ("/", "/a", Ordering::Less),
+        ("/a/b", "/a/b", Ordering::Equal),
+        ("/a/b", "/a", Ordering::Greater),
+        ("/a/b", "/a-b", Ordering::Greater),
+        ("/a/b", "/a0", Ordering::Less),
+        ("/a/z", "/ab/c", Ordering::Less),
+    ] {
+        let mine = Path::parse(alloc, mine.as_bytes())?;
+        let theirs = Path::parse(alloc, theirs.as_bytes())?;
+        assert!(rt; mine.text_cmp(&theirs) == wanted && theirs.text_cmp(&mine) == wanted.reverse());
+    }
     Ok(())
 }

@@ -1,5 +1,10 @@
-use Rattle.hub.proofs.Trees.{new_trees}
+use Rattle.std.proofs.Common.{refl}
+use Rattle.repo_api.specs.Opening.{opened}
 use Rattle.hub.proofs.laws.new_trees_are_trees.Goals as goal
 
 pub returns : goal.returns
-returns c = new_trees c.opening_is_a_tree.ensures c.opening_is_marked.ensures
+returns c = λ settings uuid date. record {
+  revisions = c.new_repositories_are_sound.ensures (opened uuid date) uuid date refl;
+  edits = tt;
+  rests = tt;
+}

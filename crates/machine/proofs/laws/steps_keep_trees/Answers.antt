@@ -1,5 +1,5 @@
-use Rattle.machine.proofs.Sound.{leaves_trees}
+use Rattle.machine.proofs.Sound.{keeps_rests}
 use Rattle.machine.proofs.laws.steps_keep_trees.Goals as goal
 
 pub returns : goal.returns
-returns c = leaves_trees c.edits_keep_trees.ensures.begins c.edits_keep_trees.ensures.goes_on c.accepted_commits_meet_well.ensures c.commits_keep_both_sides.ensures.tree c.commits_keep_both_sides.ensures.marks
+returns c = keeps_rests c.edits_keep_trees.ensures.begins c.edits_keep_trees.ensures.goes_on c.accepted_commits_meet_well.ensures c.commits_keep_both_sides.ensures.tree c.commits_keep_both_sides.ensures.marks

@@ -65,5 +65,6 @@ returns-clause-applies c =
           (agree head (take head.view (drop head.offset base)) fresh is c.in_ok-sums.sums (rw c.in-Some.is at c.in_ok-head.ensures.bounds) n c.in_ok-sums.ensures.2 c.if-sums-head.false c.if-sums-head-2.false)
           ∙ ap (λ r. Ok (Some (target_of (take head.view (drop head.offset base)) fresh is, r))) (sym c.split_at.ensures.back))),
       c.in_ok-carry_out.ensures.ok is (ap (λ k. instructions_of k section) len ∙ c.in_ok-sums.ensures.1)
-          ∙ ap (λ u. c.args.text.now.items ++ target_of u fresh is) v,
+          ∙ (ap (λ t. t ++ target_of (take (head.offset + head.view - head.offset) (drop head.offset base)) fresh is) c.reserve.ensures.items
+          ∙ ap (λ u. c.args.text.now.items ++ target_of u fresh is) v),
     )

@@ -1,12 +1,12 @@
-use Rattle.std.proofs.Common.{Some, ap, sym, ◌≡◌, ◌∙◌}
+use Rattle.std.proofs.Common.{Some, ap, sym, subst, ◌≡◌, ◌∙◌}
 use Rattle.svnpath.specs.Paths.{PathValue}
 use Rattle.repo_api.specs.declared.entry.NodeKind.{NodeKind}
-use Rattle.edit_rules.specs.Tokens.{Tokens, with_token, others_closed_beneath}
+use Rattle.repo_api.specs.declared.edit.EditOp.{EditOp}
+use Rattle.edit_rules.specs.Soundness.{IsRightIn}
+use Rattle.edit_rules.specs.Tokens.{with_token, others_closed_beneath}
 use Rattle.edit_rules.specs.Edits.{EditState, standing}
-use Rattle.edit_rules.specs.Refusing.{room_refusal, source_refusal}
 use Rattle.edit_rules.specs.Editor.{copy_edit, added_opened}
-use Rattle.edit_rules.specs.declared.opened.Opened.{Opened}
-use Rattle.editor.proofs.Steps.{placed_first, reopened, path_of_added}
+use Rattle.editor.proofs.Steps.{reopened, path_of_added}
 use Rattle.editor.proofs.editor.CommitEditor.add_copy.Goals as goal
 
 pub returns-clause-ok : goal.returns-clause-ok
@@ -19,3 +19,11 @@ returns-clause-ok g c =
     (c.in_ok-op.ensures ∙ ap (λ (kind : NodeKind). copy_edit kind p c.args.source.now) c.standing.ensures)
     (c.close_others_beneath.ensures ∙ ap (λ (e : EditState). others_closed_beneath e.tokens p c.in_ok-token.token) (c.self.view_is ∙ h.is)
     ∙ (λ i. others_closed_beneath (with_token old.tokens (c.in_ok-key.ensures i) (opened i)) (sym (path_of_added c.args.is_file p c.args.source.now) i) (c.in_ok-token.ensures i)))
+
+pub put_new-requires-clause-right : goal.put_new-requires-clause-right
+put_new-requires-clause-right g c =
+    let e : EditState = c.args.self.now in
+    let p : PathValue = c.args.path.now in
+    let is_op : c.in_ok-op.op ≡ copy_edit (standing e.txn p) p c.args.source.now = c.in_ok-op.ensures ∙ ap (λ (kind : NodeKind). copy_edit kind p c.args.source.now) c.standing.ensures in
+    subst (λ (op : EditOp). IsRightIn (g.R.Repository.content c.args.repository.now) e.txn op) (sym is_op)
+    (c.edits_are_right.ensures.adds (g.R.Repository.content c.args.repository.now) e c.args.is_file c.args.entry.now p (Some c.args.source.now) c.requires.sound c.in_ok-judge_copy.ensures)

@@ -1,10 +1,9 @@
 use Rattle.std.proofs.Common.{rules, ◌⊎◌, inl, inr, ◌≤◌, ◌^◌, length, false, ◌≡◌, [], ◌∷◌, ◌+◌, refl, sym, subst, ◌∙◌}
-use Rattle.machine.specs.Points.{world}
 use Rattle.replies.specs.declared.reply.Reply.TheVariants.{Greeting}
 use Rattle.hub.specs.State.{HubState, hub_at}
 use Rattle.hub.specs.Calls.{ConnectsAs}
 use Rattle.hub.specs.Runs.{new_session}
-use Rattle.hub.proofs.Everywhere.{AllOpen-push, AllRest-push}
+use Rattle.hub.proofs.Everywhere.{AllOpen-push, HasTrees-push}
 use Rattle.hub.proofs.hub.Hub.connect.Goals as goal
 use Rattle.hub.proofs.hub.Hub.connect.Goals.{then-len-ge16-via-then-len-ge16, then-len-ge16-via-else-len-ge16+then-self}
 
@@ -12,7 +11,8 @@ pub invariant_of-self : goal.invariant_of-self
 invariant_of-self g c =
     let xs = c.self.inside.sessions.items in
     let n = c.self.inside.used + 1 in
-    rw c.in-Ok-add_session.ensures.ok (AllOpen-push xs n new_session c.self.invariant.0 refl, AllRest-push (world (g.A.RepoAccess.point c.self.inside.access)) xs n new_session c.self.invariant.1 tt)
+    let old = hub_at c.self.inside.options (g.A.RepoAccess.point c.self.inside.access) xs c.self.inside.used in
+    rw c.in-Ok-add_session.ensures.ok (AllOpen-push xs n new_session c.self.invariant.0 refl, HasTrees-push old n c.self.invariant.1)
 
 pub returns-in-Ok-add_session-clause-ok : goal.returns-in-Ok-add_session-clause-ok
 returns-in-Ok-add_session-clause-ok g c =

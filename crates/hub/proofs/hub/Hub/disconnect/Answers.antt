@@ -1,8 +1,9 @@
-use Rattle.machine.specs.Points.{world}
-use Rattle.hub.proofs.Everywhere.{AllOpen-without, AllRest-without}
+use Rattle.hub.specs.State.{hub_at}
+use Rattle.hub.proofs.Everywhere.{AllOpen-without, HasTrees-without}
 use Rattle.hub.proofs.hub.Hub.disconnect.Goals as goal
 
 pub invariant_of-self : goal.invariant_of-self
 invariant_of-self g c =
     let xs = c.self.inside.sessions.items in
-    rw c.drop_session.ensures (AllOpen-without xs c.args.number c.self.invariant.0, AllRest-without (world (g.A.RepoAccess.point c.self.inside.access)) xs c.args.number c.self.invariant.1)
+    let old = hub_at c.self.inside.options (g.A.RepoAccess.point c.self.inside.access) xs c.self.inside.used in
+    rw c.drop_session.ensures (AllOpen-without xs c.args.number c.self.invariant.0, HasTrees-without old c.args.number c.self.invariant.1)

@@ -1,0 +1,68 @@
+//! Texts that deltas make.
+ghost use Rattle.std.specs.Prelude.{◌≡◌, Some, Ok, IfOk};
+ghost use Rattle.svnpath.specs.Paths.{PathValue};
+ghost use Rattle.svndiff0.specs.Applying.{Applying};
+ghost use Rattle.svndiff0.specs.Document.{outcome};
+ghost use Rattle.edit_rules.specs.Texts.{SetsText};
+ghost use Rattle.edit_rules.specs.Tokens.{opened_under};
+ghost use Rattle.edit_rules.specs.Refusing.{end_delta_refusal};
+ghost use Rattle.edit_rules.specs.Judging.{Judges};
+ghost use Rattle.edit_rules.specs.declared.opened.Opened.TheVariants.{File};
+ghost use Rattle.edit_rules.specs.declared.opened.Delta.TheVariants.{Reading};
+
+use crate::fault::EditFault;
+use crate::opened::{Delta, Opened};
+use refusals::Refusal;
+use repo_api::{EditOp, FileText};
+use std::collections::BTreeMap;
+use svndiff0::DiffFault;
+use svnpath::Bytes;
+
+/// The edit of a text by the delta of the file that is open under the token. The text is shared and not copied, and
+/// what is open stays as it is.
+pub fn text_edit_under(
+    tokens: &mut BTreeMap<Bytes, Opened>,
+    token: &Bytes,
+) -> Result<EditOp, EditFault>
+    ensures judged { Judges result (end_delta_refusal (opened_under tokens.old.entries token.now)) }
+    ensures op { IfOk result (λ op. SetsText (opened_under tokens.old.entries token.now) op) }
+    ensures same { tokens.new.entries ≡ tokens.old.entries }
+{
+    match tokens.get_mut(token) {
+        Some(opened) => text_edit(opened),
+        None => Err(EditFault::Refused(Refusal::MalformedData)),
+    }
+}
+
+/// The edit of a text by a file's text delta.
+fn text_edit(opened: &mut Opened) -> Result<EditOp, EditFault>
+    ensures judged { Judges result (end_delta_refusal (Some opened.old)) }
+    ensures op { IfOk result (λ op. SetsText (Some opened.old) op) }
+    ensures same { opened.new ≡ opened.old }
+{
+    match opened {
+        Opened::File(path, delta) => {
+            let path = path.clone()?;
+            let text = shared_text(delta)?;
+            Ok(EditOp::SetText(path, text))
+        }
+        Opened::Directory(_) => Err(EditFault::Refused(Refusal::MalformedData)),
+    }
+}
+
+/// The text that a delta makes.
+fn shared_text(delta: &mut Delta) -> Result<FileText, EditFault>
+    ensures judged { (p : PathValue) → Judges result (end_delta_refusal (Some (File p delta.old))) }
+    ensures text { IfOk result (λ text. (a : Applying) × (delta.old ≡ Reading a) × (outcome a.reading ≡ Ok text)) }
+    ensures same { delta.new ≡ delta.old }
+{
+    match delta {
+        Delta::Reading(applier) => match applier.share_text() {
+            Ok(text) => Ok(FileText::from_shared(text)),
+            Err(DiffFault::NoMemory) => Err(EditFault::NoMemory),
+            Err(_) => Err(EditFault::Refused(Refusal::BadSvndiff)),
+        },
+        Delta::Untouched => Err(EditFault::Refused(Refusal::MalformedData)),
+        Delta::Made => Err(EditFault::Refused(Refusal::MalformedData)),
+    }
+}

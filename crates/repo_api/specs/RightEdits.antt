@@ -1,0 +1,34 @@
+-- Which edits may be made of a tree.
+use Rattle.std.specs.Prelude.{◌≡◌, ℕ, [], ◌∷◌, ◌++◌, None, IsSome}
+use Rattle.svnpath.specs.Paths.{PathValue, Component}
+use Rattle.repo_api.specs.Trees.{Tree, HasDirectory, HasFile}
+use Rattle.repo_api.specs.declared.change.Source.{Source}
+use Rattle.repo_api.specs.declared.edit.EditOp.{EditOp}
+use Rattle.repo_api.specs.declared.edit.EditOp.TheVariants.{AddDirectory, AddFile, Copy, Replace, Delete, SetProperty, RemoveProperty, SetText}
+
+-- a path beneath a directory of the tree
+pub record HasParent (t : Tree) (p : PathValue) : Type 0 where
+  pub directory : PathValue
+  pub is_directory : HasDirectory t directory
+  pub name : Component
+  pub is : p ≡ directory ++ name ∷ []
+
+-- nothing stands at the path or beneath it
+abbrev pub IsVacant : Tree → PathValue → Type 0
+IsVacant t p = (rest : PathValue) → t (p ++ rest) ≡ None
+
+-- what is copied is there
+abbrev pub IsThere : (ℕ → Tree) → Source → Type 0
+IsThere trees source = IsSome (trees source.revision source.path)
+
+-- what is added goes into a directory, to where nothing stands; a copy is of something that is there; and what is
+-- replaced, deleted or set is there: a text at a file, and neither of the first two at the root
+abbrev pub IsRightEdit : (ℕ → Tree) → Tree → EditOp → Type 0
+IsRightEdit trees t (AddDirectory p) = HasParent t p × IsVacant t p
+IsRightEdit trees t (AddFile p) = HasParent t p × IsVacant t p
+IsRightEdit trees t (Copy source p) = HasParent t p × IsVacant t p × IsThere trees source
+IsRightEdit trees t (Replace source p) = HasParent t p × IsSome (t p) × IsThere trees source
+IsRightEdit trees t (Delete p) = HasParent t p × IsSome (t p)
+IsRightEdit trees t (SetProperty p name value) = IsSome (t p)
+IsRightEdit trees t (RemoveProperty p name) = IsSome (t p)
+IsRightEdit trees t (SetText p text) = HasFile t p
