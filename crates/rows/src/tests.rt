@@ -5,7 +5,10 @@ ghost use Rattle.hub.specs.Calls.{IsTimely};
 use flatrepo::FlatRepo;
 use hub::{Call, Direct, Env, Hub, Options, Outcome, make_call, make_calls};
 use machine::RepoAccess;
+use serving::OutputSink;
 use std::alloc::{AllocError, Global};
+use std::io;
+use std::io::{ErrorKind, Write};
 use std::test::Fail;
 
 const UUID: u128 = 0x0000_0000_0000_4000_8000_0000_0000_0000;
@@ -81,5 +84,77 @@ fn a_list_of_calls(rt: HostRuntime) -> Result<(), Fail> {
     assert_eq!(rt; wrote(&outcomes[1]), ANSWER);
     assert_eq!(rt; wrote(&outcomes[2]), b"dropped".as_slice());
     assert_eq!(rt; wrote(&outcomes[3]), GREETING);
+    Ok(())
+}
+
+/// A command, and what is written for it.
+const COMMAND: &[u8] = b"( get-latest-rev ( ) ) ";
+
+const REPLIES: &[u8] = b"( success ( ( ) 0: ) ) ( success ( 0 ) ) ";
+
+/// Notes how it is called.
+#[derive(Drop)]
+struct Noting {
+    bytes: Vec<u8>,
+    writes: usize,
+    largest: usize,
+}
+
+impl Write for Noting {
+    fn write(&mut self, buf: &[u8]) -> io::Result<usize> {
+        if self.bytes.extend_from_slice(buf).is_err() {
+            return Err(io::Error::from(ErrorKind::OutOfMemory));
+        }
+        self.writes = self.writes.saturating_add(1);
+        self.largest = self.largest.max(buf.len());
+        Ok(buf.len())
+    }
+
+    fn flush(&mut self) -> io::Result<()> {
+        Ok(())
+    }
+}
+
+fn repeated(alloc: Global, bytes: &[u8], times: usize) -> Result<Vec<u8>, AllocError> {
+    let mut all = Vec::new(alloc);
+    for _ in 0..times {
+        all.extend_from_slice(bytes)?;
+    }
+    Ok(all)
+}
+
+/// Feeds a piece whose replies go to the output.
+fn feed_through(
+    hub: &mut Hub<Direct<FlatRepo>>,
+    number: u64,
+    piece: &[u8],
+    output: &mut Noting,
+) -> Result<(), Fail> {
+    let mut sink = OutputSink::new(hub.alloc(), output);
+    let fed = hub.feed_to(number, piece, ENV, &mut sink);
+    let finished = sink.finish();
+    drop(sink);
+    fed?;
+    finished?;
+    Ok(())
+}
+
+#[test]
+fn replies_go_out_as_they_are_made(rt: HostRuntime) -> Result<(), Fail> {
+    let alloc = rt.alloc();
+    let mut hub = new_hub(alloc)?;
+    let (number, _) = hub.connect()?;
+    hub.feed(number, CLIENT, ENV)?;
+    let commands = repeated(alloc, COMMAND, 100_000)?;
+    let mut output = Noting {
+        bytes: Vec::new(alloc),
+        writes: 0,
+        largest: 0,
+    };
+    feed_through(&mut hub, number, commands.as_slice(), &mut output)?;
+    let wanted = repeated(alloc, REPLIES, 100_000)?;
+    assert!(rt; output.bytes.as_slice() == wanted.as_slice());
+    assert_eq!(rt; output.largest, 65_536);
+    assert_eq!(rt; output.writes, wanted.len().div_ceil(65_536));
     Ok(())
 }
