@@ -1,22 +1,23 @@
 //! The main commands.
-ghost use Rattle.items.specs.View.{tree_of, trees_of};
-ghost use Rattle.forms.specs.Answering.{Answers};
-ghost use Rattle.commands.specs.Commands.{main_command, command_named, check_path, revision_behind, path_at, rev_proplist, commit, tokens_first, keep_locks_first, commit_of, properties_at_end};
-ghost use Rattle.forms.specs.Forms.{pairs};
-ghost use Rattle.forms.specs.declared.fault.CommandFault.TheVariants.{BadParameters};
-ghost use Rattle.std.specs.Option.{ok_or};
+ghost use Rattle.items.specs.View.{value_of, values_of};
+ghost use Rattle.std.specs.Prelude.{◌≡◌, option_map};
+ghost use Rattle.forms.specs.Answering.{Answers, Reads};
+ghost use Rattle.commands.specs.Commands.{main_command, command_named, check_path, rev_proplist, locks_first, properties_at_end, commit};
 
+use byte_string::ByteString;
+use forms::CommandFault::{self, BadParameters};
 use forms::{
-    CommandFault, Pairs, copy_text, read_boolean, read_form, read_optional_number, read_pairs,
+    Pairs, read_boolean, read_form, read_items, read_list, read_number, read_optional_number,
+    read_pairs, read_string,
 };
-use items::{Item, Text};
+use items::Item;
 use std::alloc::Global;
 
 /// What a `commit` hands in.
 #[derive(Drop)]
 pub struct CommitCommand {
     /// The message.
-    pub message: Text,
+    pub message: ByteString,
     /// Paths, each with the token of the lock that stands there.
     pub tokens: Pairs,
     /// Whether the locks stay after the commit.
@@ -28,37 +29,38 @@ pub struct CommitCommand {
 /// A command outside an edit or a report, with its parameters.
 #[derive(Drop)]
 pub enum MainCommand {
-    /// The number of the youngest revision.
+    /// The number of the youngest revision: `( get-latest-rev ( ) )`.
     GetLatestRev,
-    /// What stands at a path, in a revision or the youngest.
-    CheckPath(Text, Option<u64>),
-    /// The properties of a revision.
+    /// What stands at a path, in a revision or the youngest: `( check-path ( path [ rev ] ) )`.
+    CheckPath(ByteString, Option<u64>),
+    /// The properties of a revision: `( rev-proplist ( rev ) )`.
     RevProplist(u64),
-    /// Begins an edit.
+    /// Begins an edit:
+    /// `( commit ( message ? ( ( path token ) ... ) keep-locks ? ( ( name value ) ... ) ) )`.
     Commit(CommitCommand),
-    /// What a client sends after a commit that failed.
+    /// What a client sends after a commit that failed: `( abort-edit ( ) )`.
     AbortEdit,
 }
 
 impl MainCommand {
     /// The command that an item is.
     pub fn from_item(alloc: Global, item: &Item) -> Result<MainCommand, CommandFault>
-        ensures { Answers result (main_command (tree_of item.now)) }
+        ensures { Answers result (main_command (value_of item.now)) }
     {
         match read_form(item) {
             Some((name, params)) => read_named(alloc, name, params),
-            None => Err(CommandFault::BadParameters),
+            None => Err(BadParameters),
         }
     }
 }
 
 fn read_named(alloc: Global, name: &[u8], params: &[Item]) -> Result<MainCommand, CommandFault>
-    ensures { Answers result (command_named name.now (trees_of params.now)) }
+    ensures { Answers result (command_named name.now (values_of params.now)) }
 {
     if name == b"get-latest-rev".as_slice() {
         Ok(MainCommand::GetLatestRev)
     } else if name == b"check-path".as_slice() {
-        read_check_path(alloc, params)
+        read_check_path(params)
     } else if name == b"rev-proplist".as_slice() {
         read_rev_proplist(params)
     } else if name == b"commit".as_slice() {
@@ -71,126 +73,57 @@ fn read_named(alloc: Global, name: &[u8], params: &[Item]) -> Result<MainCommand
 }
 
 /// `( path [ rev ] )`
-fn read_check_path(alloc: Global, params: &[Item]) -> Result<MainCommand, CommandFault>
-    ensures { Answers result (check_path (trees_of params.now)) }
+fn read_check_path(params: &[Item]) -> Result<MainCommand, CommandFault>
+    ensures { Reads result (check_path (values_of params.now)) }
 {
-    match params {
-        [Item::Str(path), rest @ ..] => read_revision_behind(alloc, path, rest),
-        _ => Err(CommandFault::BadParameters),
-    }
-}
-
-/// `[ rev ]`, behind the path.
-fn read_revision_behind(
-    alloc: Global,
-    path: &Text,
-    items: &[Item],
-) -> Result<MainCommand, CommandFault>
-    ensures { Answers result (revision_behind path.now (trees_of items.now)) }
-{
-    match items {
-        [Item::List(revision), ..] => check_path_at(
-            alloc,
-            path,
-            read_optional_number(revision.as_slice()),
-        ),
-        _ => Err(CommandFault::BadParameters),
-    }
-}
-
-fn check_path_at(
-    alloc: Global,
-    path: &Text,
-    revision: Option<Option<u64>>,
-) -> Result<MainCommand, CommandFault>
-    ensures { Answers result (path_at path.now revision) }
-{
-    match revision {
-        Some(revision) => Ok(MainCommand::CheckPath(copy_text(alloc, path)?, revision)),
-        None => Err(CommandFault::BadParameters),
-    }
+    let (path, rest) = read_string(params).ok_or(BadParameters)?;
+    let (revision, _) = read_list(rest).ok_or(BadParameters)?;
+    let revision = read_optional_number(revision).ok_or(BadParameters)?;
+    Ok(MainCommand::CheckPath(path.clone()?, revision))
 }
 
 /// `( rev )`
 fn read_rev_proplist(params: &[Item]) -> Result<MainCommand, CommandFault>
-    ensures { Answers result (rev_proplist (trees_of params.now)) }
+    ensures { Reads result (rev_proplist (values_of params.now)) }
 {
-    match params {
-        [Item::Number(revision), ..] => Ok(MainCommand::RevProplist(*revision)),
-        _ => Err(CommandFault::BadParameters),
-    }
+    let (revision, _) = read_number(params).ok_or(BadParameters)?;
+    Ok(MainCommand::RevProplist(revision))
 }
 
 /// `( message ? ( ( path token ) ... ) keep-locks ? ( ( name value ) ... ) )`
 fn read_commit(alloc: Global, params: &[Item]) -> Result<MainCommand, CommandFault>
-    ensures { Answers result (commit (trees_of params.now)) }
+    ensures { Reads result (commit (values_of params.now)) }
 {
-    match params {
-        [Item::Str(message), rest @ ..] => read_tokens(alloc, message, rest),
-        _ => Err(CommandFault::BadParameters),
-    }
-}
-
-/// `? ( ( path token ) ... ) keep-locks ? ( ( name value ) ... )`, behind the message.
-fn read_tokens(alloc: Global, message: &Text, items: &[Item]) -> Result<MainCommand, CommandFault>
-    ensures { Answers result (tokens_first message.now (trees_of items.now)) }
-{
-    match items {
-        [] => make_commit(alloc, message, &[], Some(true), &[]),
-        [Item::List(tokens), rest @ ..] => read_keep_locks(alloc, message, tokens.as_slice(), rest),
-        _ => Err(CommandFault::BadParameters),
-    }
-}
-
-/// `keep-locks ? ( ( name value ) ... )`, behind the tokens.
-fn read_keep_locks(
-    alloc: Global,
-    message: &Text,
-    tokens: &[Item],
-    items: &[Item],
-) -> Result<MainCommand, CommandFault>
-    ensures { Answers result (keep_locks_first message.now (pairs (trees_of tokens.now)) (trees_of items.now)) }
-{
-    match items {
-        [keep_locks, rest @ ..] => make_commit(
-            alloc,
-            message,
-            tokens,
-            read_boolean(keep_locks),
-            rest,
-        ),
-        [] => Err(CommandFault::BadParameters),
-    }
-}
-
-fn make_commit(
-    alloc: Global,
-    message: &Text,
-    tokens: &[Item],
-    keep_locks: Option<bool>,
-    rest: &[Item],
-) -> Result<MainCommand, CommandFault>
-    ensures { Answers result (commit_of message.now (pairs (trees_of tokens.now)) keep_locks (properties_at_end (trees_of rest.now))) }
-{
-    let tokens = read_pairs(alloc, tokens)?;
-    let keep_locks = keep_locks.ok_or(CommandFault::BadParameters)?;
-    let properties = read_properties(alloc, rest)?;
-    let message = copy_text(alloc, message)?;
+    let (message, rest) = read_string(params).ok_or(BadParameters)?;
+    let (tokens, keep_locks, rest) = read_locks(rest).ok_or(BadParameters)?;
     Ok(MainCommand::Commit(CommitCommand {
-        message,
-        tokens,
+        message: message.clone()?,
+        tokens: read_pairs(alloc, tokens)?,
         keep_locks,
-        properties,
+        properties: read_properties(alloc, rest)?,
     }))
+}
+
+/// `? ( ( path token ) ... ) keep-locks`: what is in the list, whether the locks stay, and what
+/// stands behind them.
+fn read_locks(items: &[Item]) -> Option<(&[Item], bool, &[Item])>
+    ensures { option_map (λ p. (values_of p.0.now, p.1, values_of p.2.now)) result
+        ≡ locks_first (values_of items.now) }
+{
+    let Some((tokens, rest)) = items.split_first() else {
+        return Some((items, true, items));
+    };
+    let (keep_locks, rest) = rest.split_first()?;
+    Some((read_items(tokens)?, read_boolean(keep_locks)?, rest))
 }
 
 /// `? ( ( name value ) ... )`
 fn read_properties(alloc: Global, items: &[Item]) -> Result<Option<Pairs>, CommandFault>
-    ensures { Answers result (ok_or (properties_at_end (trees_of items.now)) BadParameters) }
+    ensures { Reads result (properties_at_end (values_of items.now)) }
 {
     match items {
         [] => Ok(None),
         [Item::List(properties), ..] => Ok(Some(read_pairs(alloc, properties.as_slice())?)),
-        _ => Err(CommandFault::BadParameters),
+        _ => Err(BadParameters),
     }
 }

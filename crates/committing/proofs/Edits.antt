@@ -1,12 +1,11 @@
--- The steps of an edit.
-use Rattle.std.proofs.Common.{◌≡◌, ℕ, List, [], ◌∷◌, ◌++◌, Bool, true, false, Option, Some, None, refl, sym, ap, subst, ◌∙◌, inl, inr}
-use Rattle.std.specs.Prelude.{Result, Ok, Err}
+-- The steps of an edit, and what becomes of their answers.
+use Rattle.std.proofs.Common.{◌≡◌, ℕ, List, [], ◌∷◌, Bool, true, false, Option, Some, None, refl, sym, subst, ◌∙◌, inl, inr}
+use Rattle.std.specs.Prelude.{Result, Ok, Err, IfOk, OnErr}
 use Rattle.dates.specs.Dates.{IsDateText}
 use Rattle.refusals.specs.declared.Refusal.{Refusal}
 use Rattle.refusals.specs.declared.Refusal.TheVariants as refusals
-use Rattle.repo_api.specs.States.{RepoState, TxnState}
+use Rattle.repo_api.specs.States.{TxnState}
 use Rattle.repo_api.specs.Commits.{commit_refusal}
-use Rattle.repo_api.specs.Accepted.{Accepted}
 use Rattle.repo_api.specs.Accepted.Accepted.{Commits}
 use Rattle.repo_api.specs.declared.ask.CommitAsk.{CommitAsk}
 use Rattle.repo_api.specs.declared.fault.ChangeFault.TheVariants as change_faults
@@ -15,179 +14,166 @@ use Rattle.replies.specs.declared.reply.Reply.{Reply}
 use Rattle.replies.specs.declared.reply.Reply.TheVariants as replies
 use Rattle.edit_rules.specs.Edits.{EditState}
 use Rattle.edit_rules.specs.Refusing.{edit_refusal}
-use Rattle.edit_rules.specs.Editor.{Applies}
-use Rattle.machine.specs.Points.{Point, world}
+use Rattle.edit_rules.specs.Editor.{Applies, finished}
+use Rattle.access.specs.Points.{Point, AccessRules, content_of}
 use Rattle.machine.specs.Stages.{Stage}
 use Rattle.replies.specs.Replies.{print}
 use Rattle.replies.specs.Sinks.{WritesPart}
-use Rattle.machine.specs.Machine.{Verdict, Answer, Edits, EditStep, CommitStep, CloseStep, commit_answer, commit_ask, says, gives_up}
-use Rattle.machine.specs.Machine.Verdict.{Went, Failed, Halts}
-use Rattle.machine.specs.Access.{CommitsAt, Happens, Made, Misses}
+use Rattle.machine.specs.Machine.{Answer, MachineEdit, JudgedEdit, EditStep, CommitStep, CloseStep, CommandStep, EditingStep, ending_of, commit_answer, commit_ask, says, gives_up}
+use Rattle.machine.specs.Machine.Verdict.{Written, NotWritten, Unknown}
+use Rattle.access.specs.Changing.{CommitsAt}
+use Rattle.machine.specs.Steps.{EffectAt, StepAt, StepWritten, StepOrNothing, AnswerWritten}
 use Rattle.machine.specs.declared.asked.Asked.{Asked}
 use Rattle.machine.specs.declared.env.Env.{Env}
-use Rattle.machine.specs.declared.phase.Phase.TheVariants.{Serving, Editing, Ended}
+use Rattle.machine.specs.declared.ending.Ending.{Ending}
+use Rattle.machine.specs.declared.ending.Ending.TheVariants.{GivesUp}
+use Rattle.machine.specs.declared.phase.Phase.TheVariants.{Serving, Editing, Skipping, Ended}
 use Rattle.machine.specs.declared.phase.Client.{Client}
 
--- ---- what they answer
+-- ---- a step and its answer
 
-pub edit_goes_on : (env : Env) (c : RepoState) (client : Client) (asked : Asked) (edit after : EditState) (command : EditorCommand)
-    → edit_refusal c edit command ≡ None → Applies c edit command after → EditStep env c client asked edit command (says env (Editing client asked after) [])
-edit_goes_on env c client asked edit after command accepted applies =
-    subst (λ (r : Option Refusal). Edits env c client asked edit command r (says env (Editing client asked after) [])) (sym accepted) (after, applies, refl)
-
-pub edit_ends : (env : Env) (c : RepoState) (client : Client) (asked : Asked) (edit : EditState) (command : EditorCommand) (r : Refusal)
-    → edit_refusal c edit command ≡ Some r → EditStep env c client asked edit command (gives_up env client r)
-edit_ends env c client asked edit command r refused =
-    subst (λ (o : Option Refusal). Edits env c client asked edit command o (gives_up env client r)) (sym refused) refl
-
--- what is asked to be recorded is refused as what the session asks for
-same_refusal : (c : RepoState) (t : TxnState) (ask asks : CommitAsk) (r : Option Refusal)
-    → ask ≡ asks → commit_refusal c ask t ≡ r → commit_refusal c asks t ≡ r
-same_refusal c t ask asks r same is = subst (λ (x : CommitAsk). commit_refusal c x t ≡ r) same is
-
-pub commit_accepted : (halted : Bool) (env : Env) (c : RepoState) (client : Client) (asked : Asked) (t : TxnState) (v : Verdict)
-    (date : List ℕ) (ask : CommitAsk) → ask ≡ commit_ask client asked date → halted ≡ false → commit_refusal c ask t ≡ None → IsDateText env.moment date
-    → CloseStep halted env c client asked (Ok t) (commit_answer env c client asked t date v)
-commit_accepted halted env c client asked t v date ask same going accepted is_date =
-    let now = same_refusal c t ask (commit_ask client asked date) None same accepted in
-    let said = commit_answer env c client asked t date v in
-    let step = subst (λ (o : Option Refusal). CommitStep false env c client asked t date o said) (sym now) (v, refl) in
-    (date, is_date, subst (λ (h : Bool). CommitStep h env c client asked t date (commit_refusal c (commit_ask client asked date) t) said) (sym going) step)
-
-pub commit_refused : (halted : Bool) (env : Env) (c : RepoState) (client : Client) (asked : Asked) (t : TxnState) (r : Refusal)
-    (date : List ℕ) (ask : CommitAsk) → ask ≡ commit_ask client asked date → halted ≡ false → commit_refusal c ask t ≡ Some r → IsDateText env.moment date
-    → CloseStep halted env c client asked (Ok t) (says env (Serving client) (replies.Failure r ∷ []))
-commit_refused halted env c client asked t r date ask same going refused is_date =
-    let now = same_refusal c t ask (commit_ask client asked date) (Some r) same refused in
-    let said = says env (Serving client) (replies.Failure r ∷ []) in
-    let step = subst (λ (o : Option Refusal). CommitStep false env c client asked t date o said) (sym now) refl in
-    (date, is_date, subst (λ (h : Bool). CommitStep h env c client asked t date (commit_refusal c (commit_ask client asked date) t) said) (sym going) step)
-
--- once changes have come to a halt
-pub commit_stopped : (halted : Bool) (env : Env) (c : RepoState) (client : Client) (asked : Asked) (t : TxnState)
-    (date : List ℕ) → halted ≡ true → IsDateText env.moment date
-    → CloseStep halted env c client asked (Ok t) (says env Ended (replies.Failure refusals.StoreFailed ∷ []))
-commit_stopped halted env c client asked t date stopped is_date =
-    let said = says env Ended (replies.Failure refusals.StoreFailed ∷ []) in
-    (date, is_date, subst (λ (h : Bool). CommitStep h env c client asked t date (commit_refusal c (commit_ask client asked date) t) said) (sym stopped) refl)
-
-pub close_refused : (halted : Bool) (env : Env) (c : RepoState) (client : Client) (asked : Asked) (f : Result TxnState Refusal) (r : Refusal)
-    → f ≡ Err r → CloseStep halted env c client asked f (says env (Serving client) (replies.Failure r ∷ []))
-close_refused halted env c client asked f r is =
-    subst (λ (x : Result TxnState Refusal). CloseStep halted env c client asked x (says env (Serving client) (replies.Failure r ∷ []))) (sym is) refl
-
--- a step was made: the session stands there, and this is to be told
-pub record Leads (between : Point → Point → Type 0) (adds : Point → Accepted → Point → Type 0) (step : Point → Answer → Type 0) (p q : Point) (phase : Stage) (told : List Reply) : Type 0 where
+-- a step leads from a point to another, where the session stands there, and is to tell this
+pub record Leads (rules : AccessRules) (step : Point → Answer → Type 0) (p q : Point) (env : Env) (phase : Stage) (told : List Reply) : Type 0 where
   pub answer : Answer
-  pub happens : Happens between adds step p answer q
+  pub happens : StepAt rules step p answer q
   pub phase_is : phase ≡ answer.phase
+  pub env_is : env ≡ answer.env
   pub told_is : told ≡ answer.replies
 
-module _ (between : Point → Point → Type 0) (adds : Point → Accepted → Point → Type 0) (step : Point → Answer → Type 0) (writes : List ℕ → Type 0) where
+module _ {rules : AccessRules} {step : Point → Answer → Type 0} {p q : Point} {env : Env} {phase : Stage} {told : List Reply} where
   -- a step that changes nothing, at the point that was looked at
-  pub made : (p q : Point) (env : Env) (phase : Stage) (told : List Reply)
-      → between p q → step q (says env phase told) → writes (print told) → Made between adds step p q phase writes
-  made p q env phase told later step_is written = record {
+  pub only_says : rules.between p q → step q (says env phase told) → Leads rules step p q env phase told
+  only_says later step_is = record {
     answer = says env phase told;
     happens = record { at = q; later = later; step_is = step_is; moves = (q, refl, refl) };
-    phase_after = refl;
-    written = written;
-  }
-
-  -- such a step, of whose replies a part is written
-  pub made_part : (p q : Point) (env : Env) (phase : Stage) (told : List Reply)
-      → between p q → step q (says env phase told) → WritesPart writes (print told) → Misses between adds step p q writes
-  made_part p q env phase told later step_is part = inr (says env phase told, record { at = q; later = later; step_is = step_is; moves = (q, refl, refl) }, part)
-
-  -- its replies are written
-  pub told : (p q : Point) (phase : Stage) (said : List Reply)
-      → Leads between adds step p q phase said → writes (print said) → Made between adds step p q phase writes
-  told p q phase said leads written = record {
-    answer = leads.answer;
-    happens = leads.happens;
-    phase_after = leads.phase_is;
-    written = subst (λ (rs : List Reply). writes (print rs)) leads.told_is written;
-  }
-
-  -- a part of its replies is written
-  pub told_part : (p q : Point) (phase : Stage) (said : List Reply)
-      → Leads between adds step p q phase said → WritesPart writes (print said) → Misses between adds step p q writes
-  told_part p q phase said leads part = inr (leads.answer, leads.happens, subst (λ (rs : List Reply). WritesPart writes (print rs)) leads.told_is part)
-
-module _ (between : Point → Point → Type 0) (adds : Point → Accepted → Point → Type 0) (env : Env) (client : Client) (asked : Asked) (t : TxnState) (date : List ℕ) (is_date : IsDateText env.moment date)
-    (ask : CommitAsk) (same : ask ≡ commit_ask client asked date) (p q : Point) where
-  -- a commit that is written
-  pub committed : (n : ℕ) → ((at : Point) × between p at × CommitsAt adds ask t at (Ok n) q)
-      → Leads between adds (λ at a. CloseStep at.halted env (world at) client asked (Ok t) a) p q (Serving client) (replies.Success ∷ replies.NoLogin ∷ replies.CommitInfo n date client.user ∷ [])
-  committed n (at, later, (going, accepted, number, added)) = record {
-    answer = commit_answer env (world at) client asked t date Went;
-    happens = record {
-      at = at;
-      later = later;
-      step_is = commit_accepted at.halted env (world at) client asked t Went date ask same going accepted is_date;
-      moves = (q, (q, subst (λ (x : CommitAsk). adds at (Commits x t) q) same added, refl), refl);
-    };
     phase_is = refl;
-    told_is = ap (λ (m : ℕ). replies.Success ∷ replies.NoLogin ∷ replies.CommitInfo m date client.user ∷ []) number;
-  }
-
-  -- one that is refused
-  pub refused : (r : Refusal) → ((at : Point) × between p at × CommitsAt adds ask t at (Err (change_faults.Refused r)) q)
-      → Leads between adds (λ at a. CloseStep at.halted env (world at) client asked (Ok t) a) p q (Serving client) (replies.Failure r ∷ [])
-  refused r (at, later, (going, is_refused, stays)) = record {
-    answer = says env (Serving client) (replies.Failure r ∷ []);
-    happens = record {
-      at = at;
-      later = later;
-      step_is = commit_refused at.halted env (world at) client asked t r date ask same going is_refused is_date;
-      moves = (at, refl, stays);
-    };
-    phase_is = refl;
+    env_is = refl;
     told_is = refl;
   }
 
-  -- one that is not written
-  pub failed : ((at : Point) × between p at × CommitsAt adds ask t at (Err change_faults.StoreFailed) q)
-      → Leads between adds (λ at a. CloseStep at.halted env (world at) client asked (Ok t) a) p q (Serving client) (replies.Failure refusals.StoreFailed ∷ [])
-  failed (at, later, (going, accepted, fails)) = record {
-    answer = commit_answer env (world at) client asked t date Failed;
-    happens = record {
-      at = at;
-      later = later;
-      step_is = commit_accepted at.halted env (world at) client asked t Failed date ask same going accepted is_date;
-      moves = (at, refl, fails);
-    };
+  module _ (leads : Leads rules step p q env phase told) (writes : List ℕ → Type 0) where
+    pub told_all : (phase' : Stage) (env' : Env) → AnswerWritten (says env phase told) phase' env' writes → StepWritten rules step p q phase' env' writes
+    told_all phase' env' written = record {
+      answer = leads.answer;
+      happens = leads.happens;
+      phase_after = written.phase_after ∙ leads.phase_is;
+      env_after = written.env_after ∙ leads.env_is;
+      written = subst (λ (rs : List Reply). writes (print rs)) leads.told_is written.written;
+    }
+
+    told_part : WritesPart writes (print told) → StepOrNothing rules step p q writes
+    told_part part = inr (leads.answer, leads.happens, subst (λ (rs : List Reply). WritesPart writes (print rs)) leads.told_is part)
+
+    -- the step has happened as far as its answer was written
+    pub stepped : {E : Type 0} (r : Result Stage E) (env' : Env)
+        → record { ok : IfOk r (λ phase'. AnswerWritten (says env phase told) phase' env' writes); err : OnErr r (WritesPart writes (print told)) }
+        → record { ok : IfOk r (λ phase'. StepWritten rules step p q phase' env' writes); err : OnErr r (StepOrNothing rules step p q writes) }
+    stepped (Ok phase') env' said = record { ok = told_all phase' env' said.ok; err = tt }
+    stepped (Err e) env' said = record { ok = tt; err = told_part said.err }
+
+-- ---- the steps of an edit
+
+module _ (rules : AccessRules) (env : Env) (edit : MachineEdit) (command : EditorCommand) (p q : Point) (later : rules.between p q) where
+  -- a command is applied
+  pub goes_on : (after : EditState) → edit_refusal (content_of q) edit.editor command ≡ None → Applies (content_of q) edit.editor command after
+      → Leads rules (λ at a. EditStep env (content_of at) edit command a) p q env
+      (Editing (record { client = edit.client; asked = edit.asked; editor = after })) []
+  goes_on after accepted applies =
+      let phase : Stage = Editing (record { client = edit.client; asked = edit.asked; editor = after }) in
+      let judged = subst (λ (r : Option Refusal). JudgedEdit env (content_of q) edit command r (says env phase [])) (sym accepted) (after, applies, refl) in
+      only_says later judged
+
+  -- one that is refused gives the edit up
+  pub ends : (r : Refusal) → edit_refusal (content_of q) edit.editor command ≡ Some r
+      → Leads rules (λ at a. EditStep env (content_of at) edit command a) p q env (Skipping edit.client) (replies.Failure r ∷ [])
+  ends r refused =
+      let judged = subst (λ (o : Option Refusal). JudgedEdit env (content_of q) edit command o (gives_up env edit.client r)) (sym refused) refl in
+      only_says later judged
+
+-- an edit that cannot be committed
+pub closes_by : (rules : AccessRules) (env : Env) (edit : MachineEdit) (p : Point) (r : Refusal) → rules.between p p → finished edit.editor ≡ Err r
+    → Leads rules (λ at a. CloseStep at.halted env (content_of at) edit.client edit.asked (finished edit.editor) a) p p env
+    (Serving edit.client) (replies.Failure r ∷ [])
+closes_by rules env edit p r stays is =
+    let said = says env (Serving edit.client) (replies.Failure r ∷ []) in
+    let step = subst (λ (x : Result TxnState Refusal). CloseStep p.halted env (content_of p) edit.client edit.asked x said) (sym is) refl in
+    only_says stays step
+
+-- an edit that is given up
+pub aborts : (rules : AccessRules) (env : Env) (edit : MachineEdit) (command : EditorCommand) (p : Point) → rules.between p p → ending_of command ≡ Some GivesUp
+    → Leads rules (λ at a. EditingStep at.halted env (content_of at) edit (Ok command) a) p p env (Serving edit.client) (replies.Success ∷ [])
+aborts rules env edit command p stays is =
+    let said = says env (Serving edit.client) (replies.Success ∷ []) in
+    let step = subst (λ (e : Option Ending). CommandStep p.halted env (content_of p) edit command e said) (sym is) refl in
+    only_says stays step
+
+-- what a commit is asked to record, at its moment
+pub record IsAsked (env : Env) (client : Client) (asked : Asked) (date : List ℕ) (ask : CommitAsk) : Type 0 where
+  pub dated : IsDateText env.moment date
+  pub same : ask ≡ commit_ask client asked date
+
+module _ {env : Env} {client : Client} {asked : Asked} {date : List ℕ} {ask : CommitAsk} (is : IsAsked env client asked date ask)
+    (rules : AccessRules) (t : TxnState) (p q : Point) where
+  -- a commit leads there
+  abbrev CommitLeads : Stage → List Reply → Type 0
+  CommitLeads phase told = Leads rules (λ at a. CloseStep at.halted env (content_of at) client asked (Ok t) a) p q env phase told
+
+  -- it is dated, and judged as what is asked to be recorded
+  closes : (at : Point) (h : Bool) (r : Option Refusal) (a : Answer) → at.halted ≡ h → commit_refusal (content_of at) ask t ≡ r
+      → CommitStep h env (content_of at) client asked t date r a → CloseStep at.halted env (content_of at) client asked (Ok t) a
+  closes at h r a halts judged step =
+      let c = content_of at in
+      let now = subst (λ (x : CommitAsk). commit_refusal c x t ≡ r) is.same judged in
+      let here = subst (λ (o : Option Refusal). CommitStep h env c client asked t date o a) (sym now) step in
+      (date, is.dated, subst (λ (b : Bool). CommitStep b env c client asked t date (commit_refusal c (commit_ask client asked date) t) a) (sym halts) here)
+
+  -- one that is written
+  pub committed : (n : ℕ) (author : Option (List ℕ)) → author ≡ client.user → ((at : Point) × rules.between p at × CommitsAt rules ask t at (Ok n) q)
+      → CommitLeads (Serving client) (replies.Success ∷ replies.NoLogin ∷ replies.CommitInfo n date author ∷ [])
+  committed n author author_is (at, later, (going, accepted, number, added)) =
+      let a = commit_answer env (content_of at) client asked t date Written in
+      let adds = subst (λ (x : CommitAsk). rules.adds at (Commits x t) q) is.same added in
+      record {
+        answer = a;
+        happens = record { at = at; later = later; step_is = closes at false None a going accepted (Written, refl); moves = (q, (q, adds, refl), refl) };
+        phase_is = refl;
+        env_is = refl;
+        told_is = cc (number, author_is);
+      }
+
+  -- one that is refused, or not written
+  led : (at : Point) (a : Answer) → env ≡ a.env → rules.between p at → CloseStep at.halted env (content_of at) client asked (Ok t) a
+      → EffectAt rules at a.effect q → CommitLeads a.phase a.replies
+  led at a env_is later step_is moves = record {
+    answer = a;
+    happens = record { at = at; later = later; step_is = step_is; moves = moves };
     phase_is = refl;
+    env_is = env_is;
     told_is = refl;
   }
+
+  pub refused : (r : Refusal) → ((at : Point) × rules.between p at × CommitsAt rules ask t at (Err (change_faults.Refused r)) q)
+      → CommitLeads (Serving client) (replies.Failure r ∷ [])
+  refused r (at, later, (going, is_refused, stays)) = led at (says env (Serving client) (replies.Failure r ∷ [])) refl later
+      (closes at false (Some r) (says env (Serving client) (replies.Failure r ∷ [])) going is_refused refl) (at, refl, stays)
+
+  pub failed : ((at : Point) × rules.between p at × CommitsAt rules ask t at (Err change_faults.StoreFailed) q)
+      → CommitLeads (Serving client) (replies.Failure refusals.StoreFailed ∷ [])
+  failed (at, later, (going, accepted, fails)) =
+      let a = commit_answer env (content_of at) client asked t date NotWritten in
+      led at a refl later (closes at false None a going accepted (NotWritten, refl)) (at, refl, fails)
 
   -- one after a halt, or one of which nobody knows whether it is written
-  pub halted : ((at : Point) × between p at × CommitsAt adds ask t at (Err change_faults.Halted) q)
-      → Leads between adds (λ at a. CloseStep at.halted env (world at) client asked (Ok t) a) p q Ended (replies.Failure refusals.StoreFailed ∷ [])
-  halted (at, later, inl (stopped, stays)) = record {
-    answer = says env Ended (replies.Failure refusals.StoreFailed ∷ []);
-    happens = record {
-      at = at;
-      later = later;
-      step_is = commit_stopped at.halted env (world at) client asked t date stopped is_date;
-      moves = (at, refl, stays);
-    };
-    phase_is = refl;
-    told_is = refl;
-  }
-  halted (at, later, inr (going, accepted, halts)) = record {
-    answer = commit_answer env (world at) client asked t date Halts;
-    happens = record {
-      at = at;
-      later = later;
-      step_is = commit_accepted at.halted env (world at) client asked t Halts date ask same going accepted is_date;
-      moves = (at, refl, halts);
-    };
-    phase_is = refl;
-    told_is = refl;
-  }
+  pub halted : ((at : Point) × rules.between p at × CommitsAt rules ask t at (Err change_faults.Halted) q)
+      → CommitLeads Ended (replies.Failure refusals.StoreFailed ∷ [])
+  halted (at, later, inl (stopped, stays)) =
+      let a = says env Ended (replies.Failure refusals.StoreFailed ∷ []) in
+      led at a refl later (closes at true (commit_refusal (content_of at) ask t) a stopped refl refl) (at, refl, stays)
+  halted (at, later, inr (going, accepted, halts)) =
+      let a = commit_answer env (content_of at) client asked t date Unknown in
+      led at a refl later (closes at false None a going accepted (Unknown, refl)) (at, refl, halts)
 
 -- memory was refused: the commit is not made
-pub not_asked : (between : Point → Point → Type 0) (adds : Point → Accepted → Point → Type 0) (step : Point → Answer → Type 0) (writes : List ℕ → Type 0) (ask : CommitAsk) (t : TxnState) (p q : Point)
-    → ((at : Point) × between p at × CommitsAt adds ask t at (Err change_faults.NoMemory) q) → writes [] → Misses between adds step p q writes
-not_asked between adds step writes ask t p q (at, later, stays) unwritten = inl (subst (λ (x : Point). between p x) (sym stays) later, unwritten)
+pub not_asked : {rules : AccessRules} {step : Point → Answer → Type 0} {writes : List ℕ → Type 0} {p q : Point}
+    → ((at : Point) × rules.between p at × (q ≡ at)) → writes [] → StepOrNothing rules step p q writes
+not_asked {rules = rules} {p = p} (at, later, stays) unwritten = inl (subst (λ (x : Point). rules.between p x) (sym stays) later, unwritten)

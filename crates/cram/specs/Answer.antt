@@ -10,7 +10,8 @@ use Rattle.cram.specs.Line.{is_name}
 
 -- `<nonce.moment@name>`, the numbers in decimal
 abbrev pub challenge_text : ℕ → ℕ → List ℕ → List ℕ
-challenge_text nonce moment name = codes "<" ++ decimal nonce ++ codes "." ++ decimal moment ++ codes "@" ++ name ++ codes ">"
+challenge_text nonce moment name =
+    codes "<" ++ decimal nonce ++ codes "." ++ decimal moment ++ codes "@" ++ name ++ codes ">"
 
 -- `0` to `9`, or `a` to `f`
 abbrev pub is_lower_digit : ℕ → Bool
@@ -52,7 +53,8 @@ pub record IsWrong (challenge : List ℕ) (users : List Login) (answer : List �
 
 -- which fault an answer has
 abbrev pub IsAnswerFault : List ℕ → List Login → List ℕ → CramFault → Type 0
-IsAnswerFault challenge users answer faults.MalformedAnswer = (name digits : List ℕ) → IsAnswer answer name digits → ⊥
+IsAnswerFault challenge users answer faults.MalformedAnswer =
+    (name digits : List ℕ) → IsAnswer answer name digits → ⊥
 IsAnswerFault challenge users answer faults.UnknownUser = IsUnknown users answer
 IsAnswerFault challenge users answer faults.WrongPassword = IsWrong challenge users answer
 IsAnswerFault challenge users answer (faults.BadUsers number) = ⊥

@@ -16,7 +16,8 @@ padded_with pad bytes = map (λ b. bit_xor b pad) bytes
 
 -- the digest of the message behind the inner pad, digested behind the outer pad
 abbrev pub mac_under : List ℕ → List ℕ → List ℕ
-mac_under key message = md5 (padded_with 0x5C (filled key) ++ md5 (padded_with 0x36 (filled key) ++ message))
+mac_under key message =
+    md5 (padded_with 0x5C (filled key) ++ md5 (padded_with 0x36 (filled key) ++ message))
 
 -- the HMAC of the message under the key
 unfoldable pub hmac_of : List ℕ → List ℕ → List ℕ

@@ -22,7 +22,8 @@ without_first_blanks bytes = drop (prefix_len is_blank bytes) bytes
 abbrev pub without_last_blanks : List ℕ → List ℕ
 without_last_blanks bytes = take (length bytes - suffix_len is_blank bytes) bytes
 
--- what stands before and behind the first `=`, without the blanks next to it; where there is no `=`,
+-- what stands before and behind the first `=`, without the blanks next to it; where there is no
+-- `=`,
 -- nothing stands behind it
 unfoldable pub pair_of : List ℕ → Login
 pair_of line = record {
@@ -39,7 +40,8 @@ pub data Line : Type 0 where
 
 -- a pair, if its name and its password may be such
 abbrev pub pair_or_wrong : Login → Line
-pair_or_wrong login = if is_name login.name && has_right_length login.password then pair login else wrong
+pair_or_wrong login =
+    if is_name login.name && has_right_length login.password then pair login else wrong
 
 -- blanks alone, `#` and anything, `[users]`, or `name = password`
 unfoldable pub line_of : List ℕ → Line

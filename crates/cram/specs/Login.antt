@@ -9,4 +9,5 @@ pub record Login : Type 0 where
 -- the password of the user of that name, if there is one
 abbrev pub password_of : List ℕ → List Login → Option (List ℕ)
 password_of name [] = None
-password_of name (login ∷ logins) = if bytes_eq login.name name then Some login.password else password_of name logins
+password_of name (login ∷ logins) =
+    if bytes_eq login.name name then Some login.password else password_of name logins

@@ -32,18 +32,22 @@ logins_in wrong = []
 abbrev pub logins_of : List Line → List Login
 logins_of file = flat_map logins_in file
 
--- Behind these lines this one breaks a rule: it is wrong by itself, a second header, a pair before the
+-- Behind these lines this one breaks a rule: it is wrong by itself, a second header, a pair before
+-- the
 -- header, or a pair whose name has a password already.
 abbrev pub breaks : List Line → Line → Bool
 breaks before blank = false
 breaks before comment = false
 breaks before header = has_header before
-breaks before (pair login) = not (has_header before) || is_some (password_of login.name (logins_of before))
+breaks before (pair login) =
+    not (has_header before) || is_some (password_of login.name (logins_of before))
 breaks before wrong = true
 
 -- no line breaks a rule behind those before it
 abbrev pub AreRight : List Line → Type 0
-AreRight file = (before rest : List Line) (line : Line) → file ≡ before ++ line ∷ rest → breaks before line ≡ false
+AreRight file =
+    (before rest : List Line) (line : Line) → file ≡ before ++ line ∷ rest
+    → breaks before line ≡ false
 
 -- the first line that breaks a rule, counted from 1
 pub record IsFirstWrong (file : List Line) (number : ℕ) : Type 0 where
@@ -71,4 +75,5 @@ pub record IsSaidBy (before : List Line) (headed : Bool) (logins : List Login) :
 -- behind these lines the next is kept, and this is what all of them say; or it breaks a rule
 abbrev pub TakesLine : List Line → Line → Bool → Bool → List Login → Type 0
 TakesLine before line kept headed logins =
-    MatchBool kept ((breaks before line ≡ false) × IsSaidBy (before ++ line ∷ []) headed logins) (breaks before line ≡ true)
+    MatchBool kept ((breaks before line ≡ false)
+    × IsSaidBy (before ++ line ∷ []) headed logins) (breaks before line ≡ true)

@@ -1,14 +1,15 @@
 // The users that may log in.
 use crate::fault::CramFault;
 use crate::line::{ParsedLine, parse_line, split_line};
+use byte_string::ByteString;
 use std::alloc::{AllocError, Global};
 use std::marker::Model;
 
 // A user's name and password. There is no `Debug`: nothing of a password is to be printed.
 #[derive(Drop)]
 struct Account {
-    name: Vec<u8>,
-    password: Vec<u8>,
+    name: ByteString,
+    password: ByteString,
 }
 
 impl Model for Account {
@@ -16,13 +17,13 @@ impl Model for Account {
 
     ghost Value = { Login };
 
-    ghost view = { λ a. record { name = a.name.items; password = a.password.items } };
+    ghost view = { λ a. record { name = a.name; password = a.password } };
 }
 
 /// A user who has logged in, by name.
 #[derive(Debug, Drop)]
 pub struct User {
-    name: Vec<u8>,
+    name: ByteString,
 }
 
 impl Model for User {
@@ -30,7 +31,7 @@ impl Model for User {
 
     ghost Value = { List ℕ };
 
-    ghost view = { λ u. u.name.items };
+    ghost view = { λ u. u.name };
 }
 
 impl User {
@@ -40,7 +41,7 @@ impl User {
         ensures { IfOk result (λ user. user ≡ name.now) }
     {
         Ok(User {
-            name: Vec::from_slice(alloc, name)?,
+            name: ByteString::from_slice(alloc, name)?,
         })
     }
 
@@ -52,8 +53,8 @@ impl User {
     }
 
     /// The bytes of the name, to keep.
-    pub fn into_name(self) -> Vec<u8>
-        ensures { result.items ≡ self }
+    pub fn into_name(self) -> ByteString
+        ensures { result ≡ self }
     {
         self.name
     }
@@ -117,11 +118,12 @@ impl Users {
     }
 
     fn add(&mut self, alloc: Global, name: &[u8], password: &[u8]) -> Result<(), AllocError>
-        ensures { OnOk result (self.new ≡ self.old ++ record { name = name.now; password = password.now } ∷ []) }
+        ensures { OnOk result (self.new ≡ self.old
+            ++ record { name = name.now; password = password.now } ∷ []) }
     {
         let account = Account {
-            name: Vec::from_slice(alloc, name)?,
-            password: Vec::from_slice(alloc, password)?,
+            name: ByteString::from_slice(alloc, name)?,
+            password: ByteString::from_slice(alloc, password)?,
         };
         self.accounts.push(account)?;
         Ok(())

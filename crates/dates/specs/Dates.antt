@@ -3,7 +3,8 @@ use Rattle.std.specs.Prelude.{◌≡◌, ℕ, ◌*◌, pos, List, [], ◌∷◌,
 use Rattle.jiff.specs.Words.{civil_nanos, datetime_text}
 use Rattle.jiff.specs.Types.{DateTime}
 
--- The civil date and time of the moment in UTC, `YYYY-MM-DDThh:mm:ss.uuuuuuZ`. A moment is a count of
+-- The civil date and time of the moment in UTC, `YYYY-MM-DDThh:mm:ss.uuuuuuZ`. A moment is a count
+-- of
 -- microseconds since the beginning of 1970.
 abbrev pub IsDateText : ℕ → List ℕ → Type 0
 IsDateText moment text =

@@ -3,6 +3,7 @@
 
 ghost use Rattle.std.specs.Prelude.{◌≤◌, IfOk, string_bytes};
 ghost use Rattle.dates.specs.Dates.{IsDateText};
+ghost use Rattle.dates.specs.declared.TheConstants.{LAST_MOMENT};
 
 use jiff::Timestamp;
 use jiff::fmt::temporal::DateTimePrinter;
@@ -14,7 +15,7 @@ pub const LAST_MOMENT: u64 = 200_000_000_000_000_000;
 /// The date of a moment, a count of microseconds since the beginning of 1970: 27 bytes
 /// `YYYY-MM-DDThh:mm:ss.uuuuuuZ`.
 pub fn date_text(alloc: Global, moment: u64) -> Result<String, AllocError>
-    requires { moment ≤ 200000000000000000 }
+    requires { moment ≤ LAST_MOMENT }
     ensures { IfOk result (λ text. IsDateText moment (string_bytes text)) }
 {
     let Ok(instant) = Timestamp::from_microsecond(moment as i64) else {

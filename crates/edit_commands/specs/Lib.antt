@@ -1,4 +1,3 @@
 pub mod Editing
 pub mod Places
 pub mod Texts
-pub mod Names

@@ -6,5 +6,6 @@ mod places;
 mod texts;
 
 pub use editing::{
-    AbsentEntry, AddedEntry, DeletedEntry, EditorCommand, OpenedEntry, PropertyChange, ends_edit,
+    AbsentEntry, AddedEntry, CommandName, DeletedEntry, EditorCommand, OpenedEntry, PropertyChange,
+    ends_edit,
 };

@@ -1,85 +1,52 @@
 //! Properties and texts of what is open in an edit.
-ghost use Rattle.std.specs.Prelude.{◌≡◌, option_map, IfOk};
-ghost use Rattle.items.specs.View.{trees_of};
-ghost use Rattle.forms.specs.Answering.{Answers};
-ghost use Rattle.edit_commands.specs.Places.{two, token_first};
-ghost use Rattle.edit_commands.specs.Texts.{property, property_of, string_first, with_checksum, checksum_of, chunk, token_alone};
+ghost use Rattle.items.specs.View.{values_of};
+ghost use Rattle.forms.specs.Answering.{Reads};
+ghost use Rattle.edit_commands.specs.Texts.{property, with_checksum, chunk, token_alone};
 
 use crate::editing::PropertyChange;
-use crate::places::{read_token, read_two};
-use forms::{CommandFault, copy_text, read_optional_string};
-use items::{Item, Text};
-use std::alloc::{AllocError, Global};
+use byte_string::ByteString;
+use forms::CommandFault::{self, BadParameters};
+use forms::{copy_optional, read_list, read_optional_string, read_string};
+use items::Item;
 
 /// `( token name [ value ] )`
-pub fn read_property(alloc: Global, params: &[Item]) -> Result<PropertyChange, CommandFault>
-    ensures { Answers result (property (two (trees_of params.now))) }
+pub fn read_property(params: &[Item]) -> Result<PropertyChange, CommandFault>
+    ensures { Reads result (property (values_of params.now)) }
 {
-    let (token, name, rest) = read_two(params).ok_or(CommandFault::BadParameters)?;
-    let value = read_string(rest).ok_or(CommandFault::BadParameters)?;
+    let (token, rest) = read_string(params).ok_or(BadParameters)?;
+    let (name, rest) = read_string(rest).ok_or(BadParameters)?;
+    let (value, _) = read_list(rest).ok_or(BadParameters)?;
+    let value = read_optional_string(value).ok_or(BadParameters)?;
     Ok(PropertyChange {
-        token: copy_text(alloc, token)?,
-        name: copy_text(alloc, name)?,
-        value: copy_string(alloc, value)?,
+        token: token.clone()?,
+        name: name.clone()?,
+        value: copy_optional(value)?,
     })
 }
 
 /// `( token [ checksum ] )`
-pub fn read_with_checksum(
-    alloc: Global,
-    params: &[Item],
-) -> Result<(Text, Option<Text>), CommandFault>
-    ensures { Answers result (with_checksum (trees_of params.now)) }
+pub fn read_with_checksum(params: &[Item]) -> Result<(ByteString, Option<ByteString>), CommandFault>
+    ensures { Reads result (with_checksum (values_of params.now)) }
 {
-    match params {
-        [Item::Str(token), rest @ ..] => make_with_checksum(alloc, token, rest),
-        _ => Err(CommandFault::BadParameters),
-    }
-}
-
-fn make_with_checksum(
-    alloc: Global,
-    token: &Text,
-    rest: &[Item],
-) -> Result<(Text, Option<Text>), CommandFault>
-    ensures { Answers result (checksum_of token.now (string_first (trees_of rest.now))) }
-{
-    let checksum = read_string(rest).ok_or(CommandFault::BadParameters)?;
-    Ok((copy_text(alloc, token)?, copy_string(alloc, checksum)?))
+    let (token, rest) = read_string(params).ok_or(BadParameters)?;
+    let (checksum, _) = read_list(rest).ok_or(BadParameters)?;
+    let checksum = read_optional_string(checksum).ok_or(BadParameters)?;
+    Ok((token.clone()?, copy_optional(checksum)?))
 }
 
 /// `( token bytes )`
-pub fn read_chunk(alloc: Global, params: &[Item]) -> Result<(Text, Text), CommandFault>
-    ensures { Answers result (chunk (two (trees_of params.now))) }
+pub fn read_chunk(params: &[Item]) -> Result<(ByteString, ByteString), CommandFault>
+    ensures { Reads result (chunk (values_of params.now)) }
 {
-    let (token, bytes, _) = read_two(params).ok_or(CommandFault::BadParameters)?;
-    Ok((copy_text(alloc, token)?, copy_text(alloc, bytes)?))
+    let (token, rest) = read_string(params).ok_or(BadParameters)?;
+    let (bytes, _) = read_string(rest).ok_or(BadParameters)?;
+    Ok((token.clone()?, bytes.clone()?))
 }
 
 /// `( token )`
-pub fn read_token_alone(alloc: Global, params: &[Item]) -> Result<Text, CommandFault>
-    ensures { Answers result (token_alone (token_first (trees_of params.now))) }
+pub fn read_token_alone(params: &[Item]) -> Result<ByteString, CommandFault>
+    ensures { Reads result (token_alone (values_of params.now)) }
 {
-    let token = read_token(params).ok_or(CommandFault::BadParameters)?;
-    let copy = copy_text(alloc, token)?;
-    Ok(copy)
-}
-
-/// `[ string ]`, in front.
-fn read_string(items: &[Item]) -> Option<Option<&Text>>
-    ensures { option_map (option_map (λ text. text.now)) result ≡ string_first (trees_of items.now) }
-{
-    match items {
-        [Item::List(string), ..] => read_optional_string(string.as_slice()),
-        _ => None,
-    }
-}
-
-fn copy_string(alloc: Global, string: Option<&Text>) -> Result<Option<Text>, AllocError>
-    ensures { IfOk result (λ copy. copy ≡ option_map (λ text. text.now) string.entry) }
-{
-    match string {
-        Some(text) => Ok(Some(copy_text(alloc, text)?)),
-        None => Ok(None),
-    }
+    let (token, _) = read_string(params).ok_or(BadParameters)?;
+    Ok(token.clone()?)
 }

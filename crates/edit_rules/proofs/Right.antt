@@ -21,7 +21,7 @@ use Rattle.edit_commands.specs.declared.editing.AddedEntry.{AddedEntry}
 use Rattle.edit_commands.specs.declared.editing.DeletedEntry.{DeletedEntry}
 use Rattle.edit_rules.specs.Tokens.{Tokens, directory_of, is_within, is_placed, path_of, copies_under}
 use Rattle.edit_rules.specs.Edits.{EditState, standing, created, open_in}
-use Rattle.edit_rules.specs.Refusing.{age_refusal, delete_refusal, add_refusal, place_refusal, parent_refusal, room_refusal, source_refusal, adding_refusal, add_entry_refusal, delete_entry_refusal, opened}
+use Rattle.edit_rules.specs.Refusing.{age_refusal, delete_refusal, add_refusal, place_refusal, parent_refusal, room_refusal, source_refusal, adding_refusal, add_entry_refusal, delete_entry_refusal, open_under}
 use Rattle.edit_rules.specs.Editor.{added_edit, copy_edit, property_edit}
 use Rattle.edit_rules.specs.Soundness.{StandsIn, IsSoundIn, IsSoundEdit, IsRightIn}
 use Rattle.edit_rules.specs.declared.opened.Delta.{Delta}
@@ -109,7 +109,7 @@ has_open : (txn : Option TxnState) (tokens : Tokens) (token : List ℕ) (o : Ope
 has_open None tokens token o at = cc
 has_open (Some t) tokens token o at = refl
 
-open_stands : (e : EditState) (token : List ℕ) (o : Opened) (t : TxnState) → e.txn ≡ Some t → IsSoundIn (Some t) e.tokens → opened e token ≡ Some o → StandsIn (tree_of t.tree) o
+open_stands : (e : EditState) (token : List ℕ) (o : Opened) (t : TxnState) → e.txn ≡ Some t → IsSoundIn (Some t) e.tokens → open_under e token ≡ Some o → StandsIn (tree_of t.tree) o
 open_stands e token o t same s at =
     found_under (StandsIn (tree_of t.tree)) e.tokens token o s.1 (subst (λ (x : Option TxnState). open_in x e.tokens token ≡ Some o) same at)
 
@@ -121,13 +121,13 @@ property_right : (trees : ℕ → Tree) (t : Tree) (p : PathValue) (name : List 
 property_right trees t p name None there = there
 property_right trees t p name (Some value) there = there
 
-pub right_property : (c : RepoState) (e : EditState) (token : List ℕ) (o : Opened) (name : List ℕ) (value : Option (List ℕ)) → IsSoundEdit e → opened e token ≡ Some o
+pub right_property : (c : RepoState) (e : EditState) (token : List ℕ) (o : Opened) (name : List ℕ) (value : Option (List ℕ)) → IsSoundEdit e → open_under e token ≡ Some o
     → IsRightIn c e.txn (property_edit (path_of o) name value)
 right_property c e token o name value sound at =
     in_txn c e (property_edit (path_of o) name value) sound (has_open e.txn e.tokens token o at)
     (λ t same s. property_right (trees_in c.revisions) (tree_of t.tree) (path_of o) name value (stands_there (tree_of t.tree) o (open_stands e token o t same s at)))
 
-pub right_text : (c : RepoState) (e : EditState) (token : List ℕ) (p : PathValue) (delta : Delta) (text : List ℕ) → IsSoundEdit e → opened e token ≡ Some (File p delta)
+pub right_text : (c : RepoState) (e : EditState) (token : List ℕ) (p : PathValue) (delta : Delta) (text : List ℕ) → IsSoundEdit e → open_under e token ≡ Some (File p delta)
     → IsRightIn c e.txn (edits.SetText p text)
 right_text c e token p delta text sound at =
     in_txn c e (edits.SetText p text) sound (has_open e.txn e.tokens token (File p delta) at)

@@ -20,12 +20,12 @@ use Rattle.svndiff0.specs.Applying.{fed}
 use Rattle.refusals.specs.declared.Refusal.{Refusal}
 use Rattle.refusals.specs.declared.Refusal.TheVariants as refusals
 use Rattle.repo_api.specs.Trees.{Tree, IsTree, HasDirectory, HasFile, is_directory, is_directory_content}
-use Rattle.repo_api.specs.Edits.{touched, opened, touched_above, new_entry, added, revised, with_text, with_value, without_value, grafted, copy_of, copied, edited, begun}
+use Rattle.repo_api.specs.Edits.{touched, with_open_mark, touched_above, new_entry, added, revised, with_text, with_value, without_value, grafted, copy_of, copied, edited, begun}
 use Rattle.repo_api.specs.EditLaws.{grafted_over}
 use Rattle.repo_api.specs.Marks.{AreMarked, HasSource}
 use Rattle.repo_api.specs.RightEdits.{HasParent}
 use Rattle.repo_api.specs.Transactions.{IsMarkedTxn}
-use Rattle.repo_api.specs.States.{RepoState, TxnState, Fixed, IsBeginning, IsBegun, IsEdited, tree_of, tree_in, tree_at, trees_in, youngest}
+use Rattle.repo_api.specs.States.{RepoState, TxnState, Revision, IsBeginning, IsBegun, IsEdited, tree_of, tree_in, tree_at, trees_in, youngest}
 use Rattle.repo_api.specs.Kinds.{kind_of, kind_at, content_kind}
 use Rattle.repo_api.specs.declared.change.Source.{Source}
 use Rattle.repo_api.specs.declared.entry.Entry.{Entry}
@@ -45,7 +45,8 @@ use Rattle.edit_rules.specs.Tokens.{Tokens, with_token, without_token, with_chan
 use Rattle.edit_rules.specs.Edits.{EditState, standing, created, open_in, file_text}
 use Rattle.edit_rules.specs.Refusing.{first, unless, directory_refusal, add_refusal, age_refusal, file_refusal, delete_refusal, place_refusal, parent_refusal, source_of, room_refusal, source_kind_refusal, depth_refusal, source_refusal, adding_refusal, open_root_refusal, before_root, delete_entry_refusal, add_entry_refusal, open_directory_refusal, open_file_refusal, begin_delta_refusal, edit_refusal, command_refusal}
 use Rattle.edit_rules.specs.Editor.{OpensRoot, Edits, Named, Opens, opened_directory, copy_edit, added_edit, added_opened, tokens_added, Adds, ChangesProperty, property_edit, unread, BeginsDelta, FeedsDelta, EndsDelta, Closes, Applies, RestsIn, RestsOn}
-use Rattle.edit_rules.specs.Soundness.{AreTrees, AreSound, StandsIn, IsSoundIn, IsSoundEdit}
+use Rattle.repo_api.specs.Soundness.{AreTrees, AreSound}
+use Rattle.edit_rules.specs.Soundness.{StandsIn, IsSoundIn, IsSoundEdit}
 use Rattle.edit_rules.specs.declared.opened.OpenedDirectory.{OpenedDirectory}
 use Rattle.edit_rules.specs.declared.opened.Opened.{Opened}
 use Rattle.edit_rules.specs.declared.opened.Opened.TheVariants.{Directory, File}
@@ -210,23 +211,23 @@ new_stands : (t : Tree) (p : PathValue) (content : Content) → StandsAs (is_dir
 new_stands t p content = subst (λ (b : Bool). StandsAs (is_directory_content content) (if b then Some (new_entry content) else touched_above p t p)) (sym (same_path_refl p)) refl
 
 -- an entry that is changed and stays what it was
-stays_revised : (t : Tree) (p : PathValue) (f : Entry → Entry) → ((kind : Bool) → StandsAs kind (t p) → StandsAs kind (option_map (λ e. opened (f e)) (t p))) → (o : Opened) → StandsIn t o → StandsIn (revised t p f) o
+stays_revised : (t : Tree) (p : PathValue) (f : Entry → Entry) → ((kind : Bool) → StandsAs kind (t p) → StandsAs kind (option_map (λ e. with_open_mark (f e)) (t p))) → (o : Opened) → StandsIn t o → StandsIn (revised t p f) o
 stays_revised t p f keeps o h = opened_stands t (revised t p f) o (λ kind. at_path kind (path_of o)) h
   where
     at_path : (kind : Bool) (q : PathValue) → StandsAs kind (t q) → StandsAs kind (revised t p f q)
     at_path kind q s = by (same_path p q) refl
       where
-        by : (b : Bool) → same_path p q ≡ b → StandsAs kind (if b then option_map (λ e. opened (f e)) (t q) else touched_above p t q)
+        by : (b : Bool) → same_path p q ≡ b → StandsAs kind (if b then option_map (λ e. with_open_mark (f e)) (t q) else touched_above p t q)
         by true same =
             let is : p ≡ q = same_path_is p q same in
-            subst (λ (r : PathValue). StandsAs kind (option_map (λ e. opened (f e)) (t r))) is (keeps kind (subst (λ (r : PathValue). StandsAs kind (t r)) (sym is) s))
+            subst (λ (r : PathValue). StandsAs kind (option_map (λ e. with_open_mark (f e)) (t r))) is (keeps kind (subst (λ (r : PathValue). StandsAs kind (t r)) (sym is) s))
         by false same = stays_touched kind (is_at_or_under p q) (t q) s
 
-stays_renewed : (f : Entry → Entry) → ((e : Entry) → (f e).content ≡ e.content) → (kind : Bool) (o : Option Entry) → StandsAs kind o → StandsAs kind (option_map (λ e. opened (f e)) o)
+stays_renewed : (f : Entry → Entry) → ((e : Entry) → (f e).content ≡ e.content) → (kind : Bool) (o : Option Entry) → StandsAs kind o → StandsAs kind (option_map (λ e. with_open_mark (f e)) o)
 stays_renewed f same kind None h = h
 stays_renewed f same kind (Some e) h = ap is_directory_content (same e) ∙ h
 
-stays_written : (text : List ℕ) (kind : Bool) (o : Option Entry) → StandsAs false o → StandsAs kind o → StandsAs kind (option_map (λ e. opened (with_text text e)) o)
+stays_written : (text : List ℕ) (kind : Bool) (o : Option Entry) → StandsAs false o → StandsAs kind o → StandsAs kind (option_map (λ e. with_open_mark (with_text text e)) o)
 stays_written text kind None file h = h
 stays_written text kind (Some e) file h = sym file ∙ h
 
@@ -239,7 +240,7 @@ stays_outside t part p o kept h = opened_stands t (grafted t p part) o (λ kind.
     by kind q false kept s = stays_touched kind (is_at_or_under p q) (t q) s
 
 -- the top of what is copied is what its source is
-stays_opened : (kind : Bool) (o : Option Entry) → StandsAs kind o → StandsAs kind (option_map opened o)
+stays_opened : (kind : Bool) (o : Option Entry) → StandsAs kind o → StandsAs kind (option_map with_open_mark o)
 stays_opened kind None h = h
 stays_opened kind (Some e) h = h
 
@@ -287,7 +288,7 @@ holds true r e = refl
 holds false r e = cc
 
 -- where a directory stands in a revision's tree there is such a revision, and so its tree is a tree
-tree_there : (rs : List Fixed) (n : ℕ) (p : PathValue) → AreTrees rs → directory_refusal (kind_of (get (tree_in (slice_get rs n)) p)) ≡ None → IsTree (tree_of (tree_in (slice_get rs n)))
+tree_there : (rs : List Revision) (n : ℕ) (p : PathValue) → AreTrees rs → directory_refusal (kind_of (get (tree_in (slice_get rs n)) p)) ≡ None → IsTree (tree_of (tree_in (slice_get rs n)))
 tree_there [] n p trees e = cc (ap (λ (o : Option Entry). directory_refusal (kind_of o)) (get-empty path_cmp p))
 tree_there (r ∷ rs) zero p trees e = trees.0
 tree_there (r ∷ rs) (suc n) p trees e = tree_there rs n p trees.1 e
@@ -297,7 +298,7 @@ stands_some kind None h = absurd h
 stands_some kind (Some e) h = refl
 
 -- and so where anything stands
-tree_with : (rs : List Fixed) (n : ℕ) (p : PathValue) → AreTrees rs → IsSome (get (tree_in (slice_get rs n)) p) → IsTree (tree_of (tree_in (slice_get rs n)))
+tree_with : (rs : List Revision) (n : ℕ) (p : PathValue) → AreTrees rs → IsSome (get (tree_in (slice_get rs n)) p) → IsTree (tree_of (tree_in (slice_get rs n)))
 tree_with [] n p trees some = absurd (false≢true (sym (ap is_some (get-empty path_cmp p)) ∙ some))
 tree_with (r ∷ rs) zero p trees some = trees.0
 tree_with (r ∷ rs) (suc n) p trees some = tree_with rs n p trees.1 some
@@ -425,7 +426,7 @@ module _ (begins : (t : Tree) → IsTree t → IsTree (begun t))
     (writes : (trees : ℕ → Tree) (t : Tree) (p : PathValue) (text : List ℕ) → IsTree t → HasFile t p → IsTree (edited trees t (edits.SetText p text)))
     (same : (t u : Tree) → ((p : PathValue) → t p ≡ u p) → IsTree t → IsTree u)
     (begins_marked : (c : RepoState) (t : TxnState) → AreMarked (trees_in c.revisions) → IsTree (trees_in c.revisions (youngest c)) → IsBegun c t → IsMarkedTxn t)
-    (stays_marked : (shown : List Fixed) (old : TxnState) (op : EditOp) (new : TxnState) → AreMarked (trees_in shown) → IsBeginning old.shown shown → HasSource (trees_in shown) op → IsMarkedTxn old → IsEdited shown old op new → IsMarkedTxn new) where
+    (stays_marked : (shown : List Revision) (old : TxnState) (op : EditOp) (new : TxnState) → AreMarked (trees_in shown) → IsBeginning old.shown shown → HasSource (trees_in shown) op → IsMarkedTxn old → IsEdited shown old op new → IsMarkedTxn new) where
   opens_root : (c : RepoState) (old new : EditState) (revision : Option ℕ) (token : List ℕ) → AreSound c.revisions → IsSoundEdit old → open_root_refusal c old ≡ None → OpensRoot c old revision token new → IsSoundEdit new
   opens_root c old new revision token trees sound none o =
       let f = first_none (before_root old) (directory_refusal (kind_at c (youngest c) old.path)) none in
@@ -466,13 +467,13 @@ module _ (begins : (t : Tree) → IsTree t → IsTree (begun t))
       → AreMarked (trees_in c.revisions) → RestsOn old c → IsSoundEdit old → HasParent (tree_of a.before.tree) p → tree_of a.before.tree p ≡ None → IsSoundEdit new
   adds_directory c old new token p a marked rests sound up free =
       let op : EditOp = edits.AddDirectory p in
-      let opened : Opened = Directory (opened_directory p None false) in
-      let tokens : Tokens = with_token old.tokens token opened in
+      let opening : Opened = Directory (opened_directory p None false) in
+      let tokens : Tokens = with_token old.tokens token opening in
       let t : Tree = tree_of a.before.tree in
       let s = before c old new op tokens a sound in
       let is_tree : IsTree (edited (trees_in c.revisions) t op) = subst (λ (q : PathValue). IsTree (edited (trees_in c.revisions) t (edits.AddDirectory q))) (sym up.is) (adds (trees_in c.revisions) t up.directory up.name s.0 up.is_directory) in
       let others : All (OfOpened (StandsIn (edited (trees_in c.revisions) t op))) old.tokens = All-weaker (OfOpened (StandsIn t)) (OfOpened (StandsIn (edited (trees_in c.revisions) t op))) (λ e h. stays_added t p contents.Directory free e.1 h) old.tokens s.1 in
-      after c old new op tokens a marked rests tt s.2 is_tree (all_inserted (StandsIn (edited (trees_in c.revisions) t op)) (slice_cmp nat_cmp) old.tokens token opened (new_stands t p contents.Directory) others)
+      after c old new op tokens a marked rests tt s.2 is_tree (all_inserted (StandsIn (edited (trees_in c.revisions) t op)) (slice_cmp nat_cmp) old.tokens token opening (new_stands t p contents.Directory) others)
 
   adds_file : (c : RepoState) (old new : EditState) (token : List ℕ) (p : PathValue) (a : Edits c old (edits.AddFile p) (with_token old.tokens token (File p Untouched)) new)
       → AreMarked (trees_in c.revisions) → RestsOn old c → IsSoundEdit old → HasParent (tree_of a.before.tree) p → tree_of a.before.tree p ≡ None → IsSoundEdit new
@@ -528,8 +529,8 @@ module _ (begins : (t : Tree) → IsTree t → IsTree (begun t))
       → StandsAs (not is_file) (trees_in c.revisions source.revision source.path) → IsSoundEdit new
   adds_copy is_file kind c old new token p source a sound_c rests sound up is_new stands =
       let op : EditOp = copy_edit kind p source in
-      let opened : Opened = added_opened is_file p (Some source) in
-      let tokens : Tokens = tokens_added old.tokens token opened (Some source) in
+      let opening : Opened = added_opened is_file p (Some source) in
+      let tokens : Tokens = tokens_added old.tokens token opening (Some source) in
       let t : Tree = tree_of a.before.tree in
       let part : Tree = copy_of (trees_in c.revisions source.revision) source.path in
       let u : Tree = edited (trees_in c.revisions) t op in
@@ -538,11 +539,11 @@ module _ (begins : (t : Tree) → IsTree t → IsTree (begun t))
       let source_tree : IsTree (trees_in c.revisions source.revision) = tree_with c.revisions source.revision source.path sound_c.0 some in
       let is : (q : PathValue) → copied (trees_in c.revisions source.revision) source.path t p q ≡ u q = copy_is (trees_in c.revisions) t kind source p in
       let top : StandsAs (not is_file) (u p) = subst (StandsAs (not is_file)) (is p) (copy_stands (trees_in c.revisions source.revision) source.path t p (not is_file) stands) in
-      let here : StandsIn u opened = opened_copy u is_file p source top in
-      let each : All (IsNewOr (StandsIn t) (StandsIn u) (is_at (slice_cmp nat_cmp token))) (with_token old.tokens token opened) = all_with_new (StandsIn t) (StandsIn u) (slice_cmp nat_cmp) old.tokens token opened is_new here s.1 in
+      let here : StandsIn u opening = opened_copy u is_file p source top in
+      let each : All (IsNewOr (StandsIn t) (StandsIn u) (is_at (slice_cmp nat_cmp token))) (with_token old.tokens token opening) = all_with_new (StandsIn t) (StandsIn u) (slice_cmp nat_cmp) old.tokens token opening is_new here s.1 in
       let all : All (OfOpened (StandsIn u)) tokens =
-      all_kept (IsNewOr (StandsIn t) (StandsIn u) (is_at (slice_cmp nat_cmp token))) (OfOpened (StandsIn u)) (λ e. pointwise ◌==◌ token e.0 || not (is_at_or_under (path_of e.1) (path_of opened)))
-      (λ e kept h. stays_beside t u part p token e (path_of opened) (path_of_added is_file p (Some source)) is kept h) (with_token old.tokens token opened) each in
+      all_kept (IsNewOr (StandsIn t) (StandsIn u) (is_at (slice_cmp nat_cmp token))) (OfOpened (StandsIn u)) (λ e. pointwise ◌==◌ token e.0 || not (is_at_or_under (path_of e.1) (path_of opening)))
+      (λ e kept h. stays_beside t u part p token e (path_of opening) (path_of_added is_file p (Some source)) is kept h) (with_token old.tokens token opening) each in
       after c old new op tokens a sound_c.1 rests (copy_source (trees_in c.revisions) kind p source some) s.2 (copy_tree (trees_in c.revisions) t kind source p source_tree s.0 up) all
     where
       stays_beside : (t u part : Tree) (p : PathValue) (token : List ℕ) (e : List ℕ × Opened) (at : PathValue) → at ≡ p → ((q : PathValue) → grafted t p part q ≡ u q)

@@ -36,13 +36,19 @@ abbrev pub opened_directory : PathValue → Option ℕ → Bool → OpenedDirect
 opened_directory p revision in_copy = record { path = p; revision = revision; in_copy = in_copy }
 
 -- a transaction begins at the youngest revision, whichever the client names
-pub record OpensRoot (c : RepoState) (old : EditState) (revision : Option ℕ) (token : List ℕ) (new : EditState) : Type 0 where
+pub record OpensRoot (c : RepoState) (old : EditState) (revision : Option ℕ) (token : List ℕ)
+    (new : EditState) : Type 0 where
   pub txn : TxnState
   pub begun : IsBegun c txn
-  pub is : new ≡ record old { txn = Some txn; tokens = with_token old.tokens token (Directory (opened_directory old.path revision false)) }
+  pub is : new ≡ record old {
+    txn = Some txn;
+    tokens = with_token old.tokens token
+        (Directory (opened_directory old.path revision false));
+  }
 
 -- the transaction is edited, and these are open then
-pub record Edits (c : RepoState) (old : EditState) (op : EditOp) (tokens : Tokens) (new : EditState) : Type 0 where
+pub record Edits (c : RepoState) (old : EditState) (op : EditOp) (tokens : Tokens)
+    (new : EditState) : Type 0 where
   pub before : TxnState
   pub had : old.txn ≡ Some before
   pub after : TxnState
@@ -69,7 +75,8 @@ added_edit is_file kind p None = if is_file then edits.AddFile p else edits.AddD
 added_edit is_file kind p (Some source) = copy_edit kind p source
 
 abbrev pub added_opened : Bool → PathValue → Option Source → Opened
-added_opened is_file p source = if is_file then File p Untouched else Directory (opened_directory p None (is_some source))
+added_opened is_file p source =
+    if is_file then File p Untouched else Directory (opened_directory p None (is_some source))
 
 -- what is open once this is: where a copy takes its place, what was open there is closed
 abbrev pub tokens_added : Tokens → List ℕ → Opened → Option Source → Tokens
@@ -78,7 +85,8 @@ tokens_added tokens token opened (Some source) =
     others_closed_beneath (with_token tokens token opened) (path_of opened) token
 
 -- the entry is added, and opened under its token
-pub record Adds (c : RepoState) (old : EditState) (is_file : Bool) (entry : AddedEntry) (new : EditState) : Type 0 where
+pub record Adds (c : RepoState) (old : EditState) (is_file : Bool) (entry : AddedEntry)
+    (new : EditState) : Type 0 where
   pub path : PathValue
   pub is_path : joined old.path entry.path ≡ Ok path
   pub source : Option Source
@@ -95,7 +103,9 @@ abbrev pub Under : EditState → List ℕ → (Opened → Type 0) → Type 0
 Under e token P = (opened : Opened) × (opened_under e.tokens token ≡ Some opened) × P opened
 
 abbrev pub ChangesProperty : RepoState → EditState → PropertyChange → EditState → Type 0
-ChangesProperty c old change new = Under old change.token (λ o. Edits c old (property_edit (path_of o) change.name change.value) old.tokens new)
+ChangesProperty c old change new =
+    Under old change.token
+    (λ o. Edits c old (property_edit (path_of o) change.name change.value) old.tokens new)
 
 -- a document that nothing has come of, over a base
 abbrev pub unread : List ℕ → Applying
@@ -108,10 +118,17 @@ BeginsDelta old token new = Under old token (λ o.
 
 -- of a file whose delta is being read
 abbrev pub ReadsUnder : EditState → List ℕ → (PathValue → Applying → Type 0) → Type 0
-ReadsUnder e token P = (p : PathValue) × (a : Applying) × (opened_under e.tokens token ≡ Some (File p (Reading a))) × P p a
+ReadsUnder e token P =
+    (p : PathValue) × (a : Applying) × (opened_under e.tokens token ≡ Some (File p (Reading a)))
+    × P p a
 
 abbrev pub FeedsDelta : EditState → List ℕ → List ℕ → EditState → Type 0
-FeedsDelta old token bytes new = ReadsUnder old token (λ p a. new ≡ record old { tokens = with_change old.tokens token (File p (Reading (fed a bytes))) })
+FeedsDelta old token bytes new =
+    ReadsUnder old token
+    (λ p a. new ≡ record old {
+      tokens = with_change old.tokens token
+          (File p (Reading (fed a bytes)));
+    })
 
 -- the document's text is the file's
 abbrev pub EndsDelta : RepoState → EditState → List ℕ → EditState → Type 0
@@ -125,12 +142,17 @@ Closes old token new = new ≡ record old { tokens = without_token old.tokens to
 abbrev pub Applies : RepoState → EditState → EditorCommand → EditState → Type 0
 Applies c old (TargetRevision revision) new = new ≡ old
 Applies c old (OpenRoot revision token) new = OpensRoot c old revision token new
-Applies c old (DeleteEntry entry) new = Named old entry.path (λ p. Edits c old (edits.Delete p) (closed_beneath old.tokens p) new)
+Applies c old (DeleteEntry entry) new =
+    Named old entry.path (λ p. Edits c old (edits.Delete p) (closed_beneath old.tokens p) new)
 Applies c old (AddDirectory entry) new = Adds c old false entry new
 Applies c old (AddFile entry) new = Adds c old true entry new
 Applies c old (OpenDirectory entry) new =
-    Named old entry.path (λ p. Opens old entry.token (Directory (opened_directory p entry.revision (copies_under old.tokens entry.parent))) new)
-Applies c old (OpenFile entry) new = Named old entry.path (λ p. Opens old entry.token (File p Untouched) new)
+    Named old entry.path
+    (λ p. Opens old entry.token
+    (Directory (opened_directory p entry.revision (copies_under old.tokens entry.parent)))
+    new)
+Applies c old (OpenFile entry) new =
+    Named old entry.path (λ p. Opens old entry.token (File p Untouched) new)
 Applies c old (AbsentDirectory entry) new = new ≡ old
 Applies c old (AbsentFile entry) new = new ≡ old
 Applies c old (ChangeDirectoryProperty change) new = ChangesProperty c old change new
@@ -143,9 +165,11 @@ Applies c old (CloseFile token checksum) new = Closes old token new
 Applies c old CloseEdit new = ⊥
 Applies c old AbortEdit new = ⊥
 
--- why nothing was made of a command: it is refused, and the edit is given up, or memory was, and nothing has changed
+-- why nothing was made of a command: it is refused, and the edit is given up, or memory was, and
+-- nothing has changed
 abbrev pub NotApplied : RepoState → EditState → EditorCommand → EditFault → EditState → Type 0
-NotApplied c old command (edit_faults.Refused r) new = (edit_refusal c old command ≡ Some r) × (new ≡ given_up old)
+NotApplied c old command (edit_faults.Refused r) new =
+    (edit_refusal c old command ≡ Some r) × (new ≡ given_up old)
 NotApplied c old command edit_faults.NoMemory new = new ≡ old
 
 -- what is known of a refusal

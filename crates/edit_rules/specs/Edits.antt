@@ -8,7 +8,8 @@ use Rattle.repo_api.specs.declared.entry.NodeKind.TheVariants as kinds
 use Rattle.edit_rules.specs.Tokens.{Tokens, opened_under}
 use Rattle.edit_rules.specs.declared.opened.Opened.{Opened}
 
--- an edit: the path of its root, the repository's name, its transaction once the root is open, what is open, and
+-- an edit: the path of its root, the repository's name, its transaction once the root is open, what
+-- is open, and
 -- whether a command was refused
 pub record EditState : Type 0 where
   pub path : PathValue

@@ -22,11 +22,14 @@ Names (Err fault) wanted = IfRefused fault (λ r. path_fault wanted ≡ Some r)
 
 -- a fault of a path, as an edit's
 abbrev pub fault_of_path : PathFault → EditFault
-fault_of_path path_faults.EmptyComponent = edit_faults.Refused (path_refusal path_faults.EmptyComponent)
-fault_of_path path_faults.ForbiddenComponent = edit_faults.Refused (path_refusal path_faults.ForbiddenComponent)
+fault_of_path path_faults.EmptyComponent =
+    edit_faults.Refused (path_refusal path_faults.EmptyComponent)
+fault_of_path path_faults.ForbiddenComponent =
+    edit_faults.Refused (path_refusal path_faults.ForbiddenComponent)
 fault_of_path path_faults.TooLong = edit_faults.Refused (path_refusal path_faults.TooLong)
 fault_of_path path_faults.TooDeep = edit_faults.Refused (path_refusal path_faults.TooDeep)
-fault_of_path path_faults.NotThisRepository = edit_faults.Refused (path_refusal path_faults.NotThisRepository)
+fault_of_path path_faults.NotThisRepository =
+    edit_faults.Refused (path_refusal path_faults.NotThisRepository)
 fault_of_path path_faults.NoMemory = edit_faults.NoMemory
 
 -- what is known where memory was refused
@@ -34,7 +37,8 @@ abbrev pub IfNoMemory : EditFault → Type 0 → Type 0
 IfNoMemory (edit_faults.Refused r) P = Unit {0}
 IfNoMemory edit_faults.NoMemory P = P
 
--- what a command leaves that ends so: want of memory nothing, and a refusal nothing that the edit keeps
+-- what a command leaves that ends so: want of memory nothing, and a refusal nothing that the edit
+-- keeps
 abbrev pub Leaves : EditState → EditFault → EditState → Type 0
 Leaves old (edit_faults.Refused r) new = given_up new ≡ given_up old
 Leaves old edit_faults.NoMemory new = new ≡ old

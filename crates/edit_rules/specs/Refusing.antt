@@ -3,6 +3,8 @@ use Rattle.std.specs.Prelude.{ℕ, ◌-◌, Bool, true, false, not, ◌&&◌, �
 use Rattle.std.specs.List.{starts_with}
 use Rattle.md5.specs.Md5.{md5}
 use Rattle.hex.specs.Hex.{encode_lower}
+use Rattle.svnpath.specs.declared.component.TheConstants.{DEPTH_LIMIT}
+use Rattle.edit_rules.specs.declared.judging.TheConstants.{PROPERTY_NAME_LIMIT}
 use Rattle.svnpath.specs.Paths.{PathValue}
 use Rattle.svnpath.specs.Texts.{parsed, joined, starts_with_slash}
 use Rattle.svnpath.specs.Urls.{path_of_text}
@@ -83,14 +85,16 @@ delete_refusal kinds.Directory age = age
 
 -- the root is open, the token is new, and the path is one name beneath its parent's directory
 abbrev pub place_refusal : EditState → List ℕ → List ℕ → PathValue → Option Refusal
-place_refusal e parent token p = unless (is_some e.txn && is_placed e.tokens parent token p) refusals.MalformedData
+place_refusal e parent token p =
+    unless (is_some e.txn && is_placed e.tokens parent token p) refusals.MalformedData
 
 -- the root is open, and the path is one name beneath its parent's directory
 abbrev pub parent_refusal : EditState → List ℕ → PathValue → Option Refusal
-parent_refusal e parent p = unless (is_some e.txn && is_within (directory_of e.tokens parent) p) refusals.MalformedData
+parent_refusal e parent p =
+    unless (is_some e.txn && is_within (directory_of e.tokens parent) p) refusals.MalformedData
 
-abbrev pub opened : EditState → List ℕ → Option Opened
-opened e token = open_in e.txn e.tokens token
+abbrev pub open_under : EditState → List ℕ → Option Opened
+open_under e token = open_in e.txn e.tokens token
 
 -- ---- by paths
 
@@ -119,31 +123,31 @@ room_refusal in_copy kind = unless (in_copy || is_absent kind) refusals.OutOfDat
 
 -- what is copied is there, and of the kind that is added
 abbrev pub source_kind_refusal : Bool → NodeKind → Option Refusal
-source_kind_refusal is_file kind = if is_file then file_refusal kind (age_refusal None None) else directory_refusal kind
-
--- a path has at most 64 components
-abbrev pub depth_limit : ℕ
-depth_limit = 64
+source_kind_refusal is_file kind =
+    if is_file then file_refusal kind (age_refusal None None) else directory_refusal kind
 
 -- the copy makes no deeper path
 abbrev pub depth_refusal : RepoState → Source → PathValue → Option Refusal
 depth_refusal c source p =
-    unless (not (has_deeper_at c source.revision source.path (depth_limit - length p))) refusals.NotSupported
+    unless (not (has_deeper_at c source.revision source.path (DEPTH_LIMIT - length p)))
+    refusals.NotSupported
 
 abbrev pub source_refusal : RepoState → Bool → PathValue → Source → Option Refusal
 source_refusal c is_file p source =
     first (unless (nat_le source.revision (youngest c)) refusals.NoSuchRevision)
-    (first (source_kind_refusal is_file (kind_at c source.revision source.path)) (depth_refusal c source p))
+    (first (source_kind_refusal is_file (kind_at c source.revision source.path))
+    (depth_refusal c source p))
 
 -- ---- by properties and texts
 
 -- the names that belong to clients and to this protocol
 abbrev pub is_reserved : List ℕ → Bool
-is_reserved name = starts_with ◌==◌ name (codes "svn:entry:") || starts_with ◌==◌ name (codes "svn:wc:")
+is_reserved name =
+    starts_with ◌==◌ name (codes "svn:entry:") || starts_with ◌==◌ name (codes "svn:wc:")
 
 -- a property's name has 1 to 255 bytes
 abbrev pub is_property_name : List ℕ → Bool
-is_property_name name = nat_lt 0 (length name) && nat_le (length name) 255
+is_property_name name = nat_lt 0 (length name) && nat_le (length name) PROPERTY_NAME_LIMIT
 
 abbrev pub may_be_named : List ℕ → Bool
 may_be_named name = is_property_name name && not (is_reserved name)
@@ -154,7 +158,8 @@ name_refusal name = unless (may_be_named name) refusals.NotSupported
 -- a checksum is the MD5 of a text, as hexadecimal digits
 abbrev pub checksum_refusal : Option (List ℕ) → List ℕ → Option Refusal
 checksum_refusal None text = None
-checksum_refusal (Some digits) text = unless (is_name digits (encode_lower (md5 text))) refusals.ChecksumMismatch
+checksum_refusal (Some digits) text =
+    unless (is_name digits (encode_lower (md5 text))) refusals.ChecksumMismatch
 
 -- the document breaks a rule, whatever comes
 abbrev pub reading_refusal : Reading → Option Refusal
@@ -175,39 +180,49 @@ before_root e = unless (not (is_some e.txn)) refusals.MalformedData
 abbrev pub open_root_refusal : RepoState → EditState → Option Refusal
 open_root_refusal c e = first (before_root e) (directory_refusal (kind_at c (youngest c) e.path))
 
-abbrev pub delete_entry_refusal : EditState → DeletedEntry → Result PathValue PathFault → Option Refusal
+abbrev pub delete_entry_refusal : EditState → DeletedEntry → Result PathValue PathFault
+    → Option Refusal
 delete_entry_refusal e entry (Err fault) = Some (path_refusal fault)
-delete_entry_refusal e entry (Ok p) = first (parent_refusal e entry.parent p) (delete_refusal (standing e.txn p) (age_refusal entry.revision (created e.txn p)))
+delete_entry_refusal e entry (Ok p) =
+    first (parent_refusal e entry.parent p)
+    (delete_refusal (standing e.txn p) (age_refusal entry.revision (created e.txn p)))
 
 -- a new entry goes where nothing stands
-abbrev pub adding_refusal : RepoState → EditState → Bool → AddedEntry → PathValue → Option Source → Option Refusal
+abbrev pub adding_refusal : RepoState → EditState → Bool → AddedEntry → PathValue → Option Source
+    → Option Refusal
 adding_refusal c e is_file entry p None = add_refusal (standing e.txn p)
 adding_refusal c e is_file entry p (Some source) =
-    first (room_refusal (copies_under e.tokens entry.parent) (standing e.txn p)) (source_refusal c is_file p source)
+    first (room_refusal (copies_under e.tokens entry.parent) (standing e.txn p))
+    (source_refusal c is_file p source)
 
 -- a directory or a file, new or a copy
-abbrev pub add_entry_refusal : RepoState → EditState → Bool → AddedEntry → Result PathValue PathFault
+abbrev pub add_entry_refusal : RepoState → EditState → Bool → AddedEntry
+    → Result PathValue PathFault
     → Result (Option Source) PathFault → Option Refusal
 add_entry_refusal c e is_file entry (Err fault) source = Some (path_refusal fault)
 add_entry_refusal c e is_file entry (Ok p) (Err fault) = Some (path_refusal fault)
 add_entry_refusal c e is_file entry (Ok p) (Ok source) =
     first (place_refusal e entry.parent entry.token p) (adding_refusal c e is_file entry p source)
 
-abbrev pub open_directory_refusal : EditState → OpenedEntry → Result PathValue PathFault → Option Refusal
+abbrev pub open_directory_refusal : EditState → OpenedEntry → Result PathValue PathFault
+    → Option Refusal
 open_directory_refusal e entry (Err fault) = Some (path_refusal fault)
-open_directory_refusal e entry (Ok p) = first (place_refusal e entry.parent entry.token p) (directory_refusal (standing e.txn p))
+open_directory_refusal e entry (Ok p) =
+    first (place_refusal e entry.parent entry.token p) (directory_refusal (standing e.txn p))
 
 abbrev pub open_file_refusal : EditState → OpenedEntry → Result PathValue PathFault → Option Refusal
 open_file_refusal e entry (Err fault) = Some (path_refusal fault)
 open_file_refusal e entry (Ok p) =
-    first (place_refusal e entry.parent entry.token p) (file_refusal (standing e.txn p) (age_refusal entry.revision (created e.txn p)))
+    first (place_refusal e entry.parent entry.token p)
+    (file_refusal (standing e.txn p) (age_refusal entry.revision (created e.txn p)))
 
 abbrev pub absent_refusal : EditState → AbsentEntry → Result PathValue PathFault → Option Refusal
 absent_refusal e entry (Err fault) = Some (path_refusal fault)
 absent_refusal e entry (Ok p) = parent_refusal e entry.parent p
 
 abbrev pub directory_property_refusal : Option TxnState → List ℕ → Option Opened → Option Refusal
-directory_property_refusal txn name (Some (Directory d)) = first (name_refusal name) (age_refusal d.revision (created txn d.path))
+directory_property_refusal txn name (Some (Directory d)) =
+    first (name_refusal name) (age_refusal d.revision (created txn d.path))
 directory_property_refusal txn name (Some (File p delta)) = Some refusals.MalformedData
 directory_property_refusal txn name None = Some refusals.MalformedData
 
@@ -218,7 +233,8 @@ file_property_refusal name None = Some refusals.MalformedData
 
 -- a file has one text delta
 abbrev pub begin_delta_refusal : EditState → Option (List ℕ) → Option Opened → Option Refusal
-begin_delta_refusal e checksum (Some (File p deltas.Untouched)) = checksum_refusal checksum (file_text e p)
+begin_delta_refusal e checksum (Some (File p deltas.Untouched)) =
+    checksum_refusal checksum (file_text e p)
 begin_delta_refusal e checksum (Some (File p (deltas.Reading a))) = Some refusals.MalformedData
 begin_delta_refusal e checksum (Some (File p deltas.Made)) = Some refusals.MalformedData
 begin_delta_refusal e checksum (Some (Directory d)) = Some refusals.MalformedData
@@ -262,21 +278,26 @@ command_refusal c e (AddDirectory entry) =
     add_entry_refusal c e false entry (joined e.path entry.path) (source_of e.name entry.source)
 command_refusal c e (AddFile entry) =
     add_entry_refusal c e true entry (joined e.path entry.path) (source_of e.name entry.source)
-command_refusal c e (OpenDirectory entry) = open_directory_refusal e entry (joined e.path entry.path)
+command_refusal c e (OpenDirectory entry) =
+    open_directory_refusal e entry (joined e.path entry.path)
 command_refusal c e (OpenFile entry) = open_file_refusal e entry (joined e.path entry.path)
 command_refusal c e (AbsentDirectory entry) = absent_refusal e entry (joined e.path entry.path)
 command_refusal c e (AbsentFile entry) = absent_refusal e entry (joined e.path entry.path)
-command_refusal c e (ChangeDirectoryProperty change) = directory_property_refusal e.txn change.name (opened e change.token)
-command_refusal c e (ChangeFileProperty change) = file_property_refusal change.name (opened e change.token)
-command_refusal c e (ApplyTextDelta token checksum) = begin_delta_refusal e checksum (opened e token)
-command_refusal c e (TextDeltaChunk token bytes) = chunk_refusal bytes (opened e token)
-command_refusal c e (TextDeltaEnd token) = end_delta_refusal (opened e token)
-command_refusal c e (CloseDirectory token) = close_directory_refusal (opened e token)
-command_refusal c e (CloseFile token checksum) = close_file_refusal e checksum (opened e token)
+command_refusal c e (ChangeDirectoryProperty change) =
+    directory_property_refusal e.txn change.name (open_under e change.token)
+command_refusal c e (ChangeFileProperty change) =
+    file_property_refusal change.name (open_under e change.token)
+command_refusal c e (ApplyTextDelta token checksum) =
+    begin_delta_refusal e checksum (open_under e token)
+command_refusal c e (TextDeltaChunk token bytes) = chunk_refusal bytes (open_under e token)
+command_refusal c e (TextDeltaEnd token) = end_delta_refusal (open_under e token)
+command_refusal c e (CloseDirectory token) = close_directory_refusal (open_under e token)
+command_refusal c e (CloseFile token checksum) = close_file_refusal e checksum (open_under e token)
 -- these end an edit, and are not the editor's
 command_refusal c e CloseEdit = Some refusals.MalformedData
 command_refusal c e AbortEdit = Some refusals.MalformedData
 
 -- why a command is refused, if it is; after a refusal each is
 abbrev pub edit_refusal : RepoState → EditState → EditorCommand → Option Refusal
-edit_refusal c e command = if e.refused then Some refusals.EditAborted else command_refusal c e command
+edit_refusal c e command =
+    if e.refused then Some refusals.EditAborted else command_refusal c e command

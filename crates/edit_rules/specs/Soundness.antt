@@ -1,36 +1,28 @@
 -- An edit whose transaction is a tree.
-use Rattle.std.specs.Prelude.{◌≡◌, List, [], ◌∷◌, Option, Some, None}
+use Rattle.std.specs.Prelude.{◌≡◌, [], Option, Some, None}
 use Rattle.std.specs.List.{All}
 use Rattle.repo_api.specs.Trees.{Tree, IsTree, HasDirectory, HasFile}
-use Rattle.repo_api.specs.Marks.{AreMarked}
 use Rattle.repo_api.specs.Transactions.{IsMarkedTxn}
 use Rattle.repo_api.specs.RightEdits.{IsRightEdit}
-use Rattle.repo_api.specs.States.{RepoState, TxnState, Fixed, tree_of, trees_in}
+use Rattle.repo_api.specs.States.{RepoState, TxnState, tree_of, trees_in}
 use Rattle.repo_api.specs.declared.edit.EditOp.{EditOp}
 use Rattle.edit_rules.specs.Tokens.{Tokens}
 use Rattle.edit_rules.specs.Edits.{EditState}
 use Rattle.edit_rules.specs.declared.opened.Opened.{Opened}
 use Rattle.edit_rules.specs.declared.opened.Opened.TheVariants.{Directory, File}
 
--- each revision's tree is a tree
-abbrev pub AreTrees : List Fixed → Type 0
-AreTrees [] = Unit {0}
-AreTrees (r ∷ rs) = IsTree (tree_of r.tree) × AreTrees rs
-
 -- what is open stands there
 abbrev pub StandsIn : Tree → Opened → Type 0
 StandsIn t (Directory d) = HasDirectory t d.path
 StandsIn t (File p delta) = HasFile t p
 
--- each revision's tree is a tree, and its marks name what they mark
-abbrev pub AreSound : List Fixed → Type 0
-AreSound rs = AreTrees rs × AreMarked (trees_in rs)
-
--- the transaction's tree is a tree, what is open stands in it, and its marks name what they mark; without one
+-- the transaction's tree is a tree, what is open stands in it, and its marks name what they mark;
+-- without one
 -- nothing is open
 abbrev pub IsSoundIn : Option TxnState → Tokens → Type 0
 IsSoundIn None tokens = tokens ≡ []
-IsSoundIn (Some t) tokens = IsTree (tree_of t.tree) × All (λ e. StandsIn (tree_of t.tree) e.1) tokens × IsMarkedTxn t
+IsSoundIn (Some t) tokens =
+    IsTree (tree_of t.tree) × All (λ e. StandsIn (tree_of t.tree) e.1) tokens × IsMarkedTxn t
 
 abbrev pub IsSoundEdit : EditState → Type 0
 IsSoundEdit e = IsSoundIn e.txn e.tokens

@@ -9,7 +9,9 @@ use Rattle.edit_rules.specs.declared.opened.Opened.{Opened}
 use Rattle.edit_rules.specs.declared.opened.Opened.TheVariants.{File}
 use Rattle.edit_rules.specs.declared.opened.Delta.TheVariants.{Reading}
 
--- a file is open whose delta is being read, and the document's text is what the edit makes the file's
+-- a file is open whose delta is being read, and the document's text is what the edit makes the
+-- file's
 abbrev pub SetsText : Option Opened → EditOp → Type 0
 SetsText opened op =
-    (p : PathValue) × (a : Applying) × (opened ≡ Some (File p (Reading a))) × ((text : List ℕ) × (outcome a.reading ≡ Ok text) × (op ≡ SetText p text))
+    (p : PathValue) × (a : Applying) × (opened ≡ Some (File p (Reading a)))
+    × ((text : List ℕ) × (outcome a.reading ≡ Ok text) × (op ≡ SetText p text))

@@ -81,6 +81,8 @@ abbrev pub is_within : Option PathValue → PathValue → Bool
 is_within None p = false
 is_within (Some directory) p = is_at_or_under p directory && (length p == length directory + 1)
 
--- the token is new, and the path is that of the directory open under the parent's token, and one name more
+-- the token is new, and the path is that of the directory open under the parent's token, and one
+-- name more
 abbrev pub is_placed : Tokens → List ℕ → List ℕ → PathValue → Bool
-is_placed tokens parent token p = not (is_some (opened_under tokens token)) && is_within (directory_of tokens parent) p
+is_placed tokens parent token p =
+    not (is_some (opened_under tokens token)) && is_within (directory_of tokens parent) p

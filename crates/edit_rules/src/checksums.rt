@@ -8,20 +8,24 @@ ghost use Rattle.edit_rules.specs.Judging.{Judges};
 
 use crate::fault::EditFault;
 use crate::judging::judge;
-use items::Text;
+use byte_string::ByteString;
 use md5::{Digest, Md5};
 use refusals::Refusal;
 use std::alloc::{AllocError, Global};
 
 /// The text has to have this checksum, if one is named.
-pub fn judge_checksum(alloc: Global, checksum: &Option<Text>, text: &[u8]) -> Result<(), EditFault>
+pub fn judge_checksum(
+    alloc: Global,
+    checksum: &Option<ByteString>,
+    text: &[u8],
+) -> Result<(), EditFault>
     ensures { Judges result (checksum_refusal checksum.now text.now) }
 {
     match checksum {
         None => Ok(()),
         Some(digits) => {
             judge(
-                is_checksum(alloc, digits.as_bytes(), text)?,
+                is_checksum(alloc, digits.as_slice(), text)?,
                 Refusal::ChecksumMismatch,
             )?;
             Ok(())

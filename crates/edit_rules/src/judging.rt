@@ -7,7 +7,7 @@ ghost use Rattle.edit_rules.specs.Refusing.{add_refusal, age_refusal, delete_ref
 ghost use Rattle.edit_rules.specs.Judging.{Judges, Names};
 
 use crate::fault::EditFault;
-use items::Text;
+use byte_string::ByteString;
 use refusals::Refusal;
 use repo_api::{NodeKind, Source};
 use std::alloc::Global;
@@ -109,11 +109,14 @@ fn may_be_named(name: &[u8]) -> bool
     is_property_name(name) && !is_reserved(name)
 }
 
+/// The most bytes of a property's name.
+pub const PROPERTY_NAME_LIMIT: usize = 255;
+
 /// Whether a property may have this name: it has 1 to 255 bytes.
 pub fn is_property_name(name: &[u8]) -> bool
     ensures { result ≡ is_property_name name.now }
 {
-    0 < name.len() && name.len() <= 255
+    0 < name.len() && name.len() <= PROPERTY_NAME_LIMIT
 }
 
 /// Whether the name belongs to clients or to this protocol.
@@ -157,14 +160,14 @@ pub fn judge_source_kind(is_file: bool, kind: NodeKind) -> Result<(), EditFault>
 pub fn source_named(
     alloc: Global,
     name: &str,
-    source: &Option<(Text, u64)>,
+    source: &Option<(ByteString, u64)>,
 ) -> Result<Option<Source>, EditFault>
     ensures { Names result (source_of name.now source.now) }
 {
     match source {
         None => Ok(None),
         Some((text, revision)) => {
-            let path = source_path(alloc, name, text.as_bytes())?;
+            let path = source_path(alloc, name, text.as_slice())?;
             Ok(Some(Source {
                 revision: *revision,
                 path,
@@ -187,10 +190,10 @@ fn source_path(alloc: Global, name: &str, text: &[u8]) -> Result<Path, PathFault
 }
 
 /// The path that a command names.
-pub fn path_named(alloc: Global, root: &Path, text: &Text) -> Result<Path, EditFault>
+pub fn path_named(alloc: Global, root: &Path, text: &ByteString) -> Result<Path, EditFault>
     ensures { Names result (joined root.now text.now) }
 {
-    let path = root.join(alloc, text.as_bytes())?;
+    let path = root.join(alloc, text.as_slice())?;
     Ok(path)
 }
 

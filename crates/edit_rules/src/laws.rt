@@ -8,9 +8,10 @@ ghost use Rattle.edit_commands.specs.declared.editing.DeletedEntry.{DeletedEntry
 ghost use Rattle.repo_api.specs.declared.change.Source.{Source};
 ghost use Rattle.repo_api.specs.declared.edit.EditOp.TheVariants.{Delete, SetText};
 ghost use Rattle.edit_rules.specs.Edits.{EditState, new_edit, standing};
-ghost use Rattle.edit_rules.specs.Refusing.{edit_refusal, add_entry_refusal, delete_entry_refusal, opened};
+ghost use Rattle.edit_rules.specs.Refusing.{edit_refusal, add_entry_refusal, delete_entry_refusal, open_under};
 ghost use Rattle.edit_rules.specs.Editor.{Applies, RestsOn, added_edit, property_edit};
-ghost use Rattle.edit_rules.specs.Soundness.{AreSound, IsSoundEdit, IsRightIn};
+ghost use Rattle.repo_api.specs.Soundness.{AreSound};
+ghost use Rattle.edit_rules.specs.Soundness.{IsSoundEdit, IsRightIn};
 ghost use Rattle.edit_rules.specs.Tokens.{path_of};
 ghost use Rattle.edit_rules.specs.declared.opened.Delta.{Delta};
 ghost use Rattle.edit_rules.specs.declared.opened.Opened.{Opened};
@@ -40,7 +41,7 @@ pub fn edits_are_right()
         → IsSoundEdit e → add_entry_refusal c e is_file entry (Ok p) (Ok source) ≡ None
         → IsRightIn c e.txn (added_edit is_file (standing e.txn p) p source) }
     ensures sets_properties { (c : RepoState) (e : EditState) (token : List ℕ) (o : Opened) (name : List ℕ) (value : Option (List ℕ))
-        → IsSoundEdit e → opened e token ≡ Some o → IsRightIn c e.txn (property_edit (path_of o) name value) }
+        → IsSoundEdit e → open_under e token ≡ Some o → IsRightIn c e.txn (property_edit (path_of o) name value) }
     ensures sets_texts { (c : RepoState) (e : EditState) (token : List ℕ) (p : PathValue) (delta : Delta) (text : List ℕ)
-        → IsSoundEdit e → opened e token ≡ Some (File p delta) → IsRightIn c e.txn (SetText p text) }
+        → IsSoundEdit e → open_under e token ≡ Some (File p delta) → IsRightIn c e.txn (SetText p text) }
 {}

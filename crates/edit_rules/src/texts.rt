@@ -12,17 +12,17 @@ ghost use Rattle.edit_rules.specs.declared.opened.Delta.TheVariants.{Reading};
 
 use crate::fault::EditFault;
 use crate::opened::{Delta, Opened};
+use byte_string::ByteString;
 use refusals::Refusal;
 use repo_api::{EditOp, FileText};
 use std::collections::BTreeMap;
 use svndiff0::DiffFault;
-use svnpath::Bytes;
 
 /// The edit of a text by the delta of the file that is open under the token. The text is shared and not copied, and
 /// what is open stays as it is.
 pub fn text_edit_under(
-    tokens: &mut BTreeMap<Bytes, Opened>,
-    token: &Bytes,
+    tokens: &mut BTreeMap<ByteString, Opened>,
+    token: &ByteString,
 ) -> Result<EditOp, EditFault>
     ensures judged { Judges result (end_delta_refusal (opened_under tokens.old.entries token.now)) }
     ensures op { IfOk result (λ op. SetsText (opened_under tokens.old.entries token.now) op) }
@@ -53,7 +53,8 @@ fn text_edit(opened: &mut Opened) -> Result<EditOp, EditFault>
 /// The text that a delta makes.
 fn shared_text(delta: &mut Delta) -> Result<FileText, EditFault>
     ensures judged { (p : PathValue) → Judges result (end_delta_refusal (Some (File p delta.old))) }
-    ensures text { IfOk result (λ text. (a : Applying) × (delta.old ≡ Reading a) × (outcome a.reading ≡ Ok text)) }
+    ensures text { IfOk result (λ text. (a : Applying) × (delta.old ≡ Reading a)
+        × (outcome a.reading ≡ Ok text)) }
     ensures same { delta.new ≡ delta.old }
 {
     match delta {

@@ -10,13 +10,17 @@ ghost use Rattle.edit_rules.specs.declared.opened.Delta.TheVariants.{Reading};
 
 use crate::fault::EditFault;
 use crate::opened::{Delta, Opened};
+use byte_string::ByteString;
 use refusals::Refusal;
 use std::collections::BTreeMap;
 use svndiff0::DiffFault;
-use svnpath::{Bytes, Path};
+use svnpath::Path;
 
 /// The directory that is open under the token.
-pub fn directory_under<'a>(tokens: &'a BTreeMap<Bytes, Opened>, token: &Bytes) -> Option<&'a Path>
+pub fn directory_under<'a>(
+    tokens: &'a BTreeMap<ByteString, Opened>,
+    token: &ByteString,
+) -> Option<&'a Path>
     ensures { option_copied result ≡ directory_of tokens.now.entries token.now }
 {
     match tokens.get(token) {
@@ -26,7 +30,7 @@ pub fn directory_under<'a>(tokens: &'a BTreeMap<Bytes, Opened>, token: &Bytes) -
 }
 
 /// Whether the directory that is open under the token was added with a copy, or opened beneath such a one.
-pub fn copies_under(tokens: &BTreeMap<Bytes, Opened>, token: &Bytes) -> bool
+pub fn copies_under(tokens: &BTreeMap<ByteString, Opened>, token: &ByteString) -> bool
     ensures { result ≡ copies_under tokens.now.entries token.now }
 {
     match tokens.get(token) {
@@ -36,28 +40,32 @@ pub fn copies_under(tokens: &BTreeMap<Bytes, Opened>, token: &Bytes) -> bool
 }
 
 /// Whether a text delta has not ended.
-pub fn has_unfinished(tokens: &BTreeMap<Bytes, Opened>) -> bool
+pub fn has_unfinished(tokens: &BTreeMap<ByteString, Opened>) -> bool
     ensures { result ≡ has_unfinished tokens.now.entries }
 {
     tokens.values().any(|opened| opened.is_unfinished())
 }
 
 /// Closes what is open at or under the path.
-pub fn close_beneath(tokens: &mut BTreeMap<Bytes, Opened>, path: &Path)
+pub fn close_beneath(tokens: &mut BTreeMap<ByteString, Opened>, path: &Path)
     ensures { tokens.new.entries ≡ closed_beneath tokens.old.entries path.now }
 {
     tokens.retain(|_, opened| !opened.path().is_at_or_under(path));
 }
 
 /// Closes what is open at or under the path, but for what is open under the token.
-pub fn close_others_beneath(tokens: &mut BTreeMap<Bytes, Opened>, path: &Path, token: &Bytes)
+pub fn close_others_beneath(
+    tokens: &mut BTreeMap<ByteString, Opened>,
+    path: &Path,
+    token: &ByteString,
+)
     ensures { tokens.new.entries ≡ others_closed_beneath tokens.old.entries path.now token.now }
 {
     tokens.retain(|key, opened| token == key || !opened.path().is_at_or_under(path));
 }
 
 /// Another delta of the file that is open under the token. It takes no memory.
-pub fn set_delta(tokens: &mut BTreeMap<Bytes, Opened>, token: &Bytes, delta: Delta)
+pub fn set_delta(tokens: &mut BTreeMap<ByteString, Opened>, token: &ByteString, delta: Delta)
     ensures { (p : PathValue) (old : Delta)
         → opened_under tokens.old.entries token.now ≡ Some (File p old)
         → tokens.new.entries ≡ with_change tokens.old.entries token.now (File p delta) }
@@ -78,15 +86,17 @@ fn replace_delta(opened: &mut Opened, delta: Delta)
 
 /// Reads the next bytes of the text delta of the file that is open under the token.
 pub fn feed_under(
-    tokens: &mut BTreeMap<Bytes, Opened>,
-    token: &Bytes,
+    tokens: &mut BTreeMap<ByteString, Opened>,
+    token: &ByteString,
     bytes: &[u8],
 ) -> Result<(), EditFault>
-    ensures judged { Judges result (chunk_refusal bytes.now (opened_under tokens.old.entries token.now)) }
+    ensures judged { Judges result (chunk_refusal bytes.now
+        (opened_under tokens.old.entries token.now)) }
     ensures ok { OnOk result ((p : PathValue) × (a : Applying)
         × (opened_under tokens.old.entries token.now ≡ Some (File p (Reading a)))
         × (tokens.new.entries ≡ with_change tokens.old.entries token.now (File p (Reading (fed a bytes.now))))) }
-    ensures err { IfErr result (λ fault. IfNoMemory fault (tokens.new.entries ≡ tokens.old.entries)) }
+    ensures err { IfErr result (λ fault. IfNoMemory fault
+        (tokens.new.entries ≡ tokens.old.entries)) }
 {
     let mut fed = Err(EditFault::Refused(Refusal::MalformedData));
     if let Some(opened) = tokens.get_mut(token) {
@@ -98,7 +108,8 @@ pub fn feed_under(
 /// Reads the next bytes of a file's text delta.
 fn feed_opened(opened: &mut Opened, bytes: &[u8]) -> Result<(), EditFault>
     ensures judged { Judges result (chunk_refusal bytes.now (Some opened.old)) }
-    ensures ok { OnOk result ((p : PathValue) × (a : Applying) × (opened.old ≡ File p (Reading a)) × (opened.new ≡ File p (Reading (fed a bytes.now)))) }
+    ensures ok { OnOk result ((p : PathValue) × (a : Applying) × (opened.old ≡ File p (Reading a))
+        × (opened.new ≡ File p (Reading (fed a bytes.now)))) }
     ensures err { IfErr result (λ fault. IfNoMemory fault (opened.new ≡ opened.old)) }
 {
     match opened {
@@ -109,8 +120,10 @@ fn feed_opened(opened: &mut Opened, bytes: &[u8]) -> Result<(), EditFault>
 
 /// Reads the next bytes of a text delta.
 fn feed(delta: &mut Delta, bytes: &[u8]) -> Result<(), EditFault>
-    ensures judged { (p : PathValue) → Judges result (chunk_refusal bytes.now (Some (File p delta.old))) }
-    ensures ok { OnOk result ((a : Applying) × (delta.old ≡ Reading a) × (delta.new ≡ Reading (fed a bytes.now))) }
+    ensures judged { (p : PathValue) → Judges result
+        (chunk_refusal bytes.now (Some (File p delta.old))) }
+    ensures ok { OnOk result ((a : Applying) × (delta.old ≡ Reading a)
+        × (delta.new ≡ Reading (fed a bytes.now))) }
     ensures err { IfErr result (λ fault. IfNoMemory fault (delta.new ≡ delta.old)) }
 {
     match delta {

@@ -1,5 +1,5 @@
 -- The steps of a text delta.
-use Rattle.std.proofs.Common.{◌≡◌, ℕ, List, [], Option, Some, None, Ok, sym, ap, subst, ◌∙◌}
+use Rattle.std.proofs.Common.{◌≡◌, ℕ, List, [], Option, Some, None, Ok, ap, subst, ◌∙◌}
 use Rattle.svnpath.specs.Paths.{PathValue}
 use Rattle.svndiff0.specs.Applying.{Applying}
 use Rattle.svndiff0.specs.Document.{read, outcome}
@@ -11,7 +11,7 @@ use Rattle.edit_rules.specs.declared.opened.Opened.TheVariants.{File}
 use Rattle.edit_rules.specs.declared.opened.Delta.TheVariants.{Untouched, Reading, Made}
 use Rattle.edit_rules.specs.Tokens.{Tokens, opened_under, with_change}
 use Rattle.edit_rules.specs.Edits.{EditState, file_text, open_in}
-use Rattle.edit_rules.specs.Refusing.{opened}
+use Rattle.edit_rules.specs.Refusing.{open_under}
 use Rattle.edit_rules.specs.Editor.{Edits, BeginsDelta, EndsDelta, unread}
 use Rattle.editor.proofs.Steps.{reopened}
 
@@ -25,30 +25,30 @@ is_unread a text is_base is_read =
     let is_reading : a.reading ≡ read text [] = is_read ∙ ap (λ (b : List ℕ). read b []) is_base in
     λ i. record { base = is_base i; reading = is_reading i }
 
-pub begins : (now old : EditState) (token key : List ℕ) (p : PathValue) (a : Applying) (tokens : Tokens) → now ≡ old → key ≡ token → opened old key ≡ Some (File p Untouched)
-    → (opened_under now.tokens key ≡ Some (File p Untouched) → tokens ≡ with_change now.tokens key (File p (Reading a))) → a ≡ unread (file_text old p)
+pub begins : (now old : EditState) (token : List ℕ) (p : PathValue) (a : Applying) (tokens : Tokens) → now ≡ old → open_under old token ≡ Some (File p Untouched)
+    → (opened_under now.tokens token ≡ Some (File p Untouched) → tokens ≡ with_change now.tokens token (File p (Reading a))) → a ≡ unread (file_text old p)
     → BeginsDelta old token (record now { tokens = tokens })
-begins now old token key p a tokens same is_key is change is_new =
-    subst (λ (o : EditState). opened o key ≡ Some (File p Untouched) → a ≡ unread (file_text o p) → BeginsDelta o token (record now { tokens = tokens })) same here is is_new
+begins now old token p a tokens same is change is_new =
+    subst (λ (o : EditState). open_under o token ≡ Some (File p Untouched) → a ≡ unread (file_text o p) → BeginsDelta o token (record now { tokens = tokens })) same here is is_new
   where
-    here : opened now key ≡ Some (File p Untouched) → a ≡ unread (file_text now p) → BeginsDelta now token (record now { tokens = tokens })
+    here : open_under now token ≡ Some (File p Untouched) → a ≡ unread (file_text now p) → BeginsDelta now token (record now { tokens = tokens })
     here stands fresh =
-        let is_under = under now.txn now.tokens key (File p Untouched) stands in (
+        let is_under = under now.txn now.tokens token (File p Untouched) stands in (
           File p Untouched,
-          ap (λ (k : List ℕ). opened_under now.tokens k) (sym is_key) ∙ is_under,
-          ap (λ (ts : Tokens). record now { tokens = ts }) (change is_under ∙ (λ i. with_change now.tokens (is_key i) (File p (Reading (fresh i))))),
+          is_under,
+          ap (λ (ts : Tokens). record now { tokens = ts }) (change is_under ∙ (λ i. with_change now.tokens token (File p (Reading (fresh i))))),
         )
 
-pub ends : (c : RepoState) (old mid now : EditState) (op : EditOp) (token key : List ℕ) (p : PathValue) (a : Applying) (text : List ℕ) (tokens : Tokens) → key ≡ token → opened old key ≡ Some (File p (Reading a))
+pub ends : (c : RepoState) (old mid now : EditState) (op : EditOp) (token : List ℕ) (p : PathValue) (a : Applying) (text : List ℕ) (tokens : Tokens) → open_under old token ≡ Some (File p (Reading a))
     → outcome a.reading ≡ Ok text → op ≡ edits.SetText p text → Edits c old op old.tokens mid → now ≡ mid
-    → (opened_under now.tokens key ≡ Some (File p (Reading a)) → tokens ≡ with_change now.tokens key (File p Made))
+    → (opened_under now.tokens token ≡ Some (File p (Reading a)) → tokens ≡ with_change now.tokens token (File p Made))
     → EndsDelta c old token (record now { tokens = tokens })
-ends c old mid now op token key p a text tokens is_key is has_text is_op h same change =
-    let is_under = under old.txn old.tokens key (File p (Reading a)) is in
+ends c old mid now op token p a text tokens is has_text is_op h same change =
+    let is_under = under old.txn old.tokens token (File p (Reading a)) is in
     let is_tokens : now.tokens ≡ old.tokens = ap (λ (e : EditState). e.tokens) (same ∙ h.is) in
-    let changed = change (ap (λ (ts : Tokens). opened_under ts key) is_tokens ∙ is_under) in (
+    let changed = change (ap (λ (ts : Tokens). opened_under ts token) is_tokens ∙ is_under) in (
       p,
       a,
-      ap (λ (k : List ℕ). opened_under old.tokens k) (sym is_key) ∙ is_under,
-      (text, has_text, reopened c old mid now op (edits.SetText p text) old.tokens tokens (with_change old.tokens token (File p Made)) h same is_op (changed ∙ (λ i. with_change (is_tokens i) (is_key i) (File p Made)))),
+      is_under,
+      (text, has_text, reopened c old mid now op (edits.SetText p text) old.tokens tokens (with_change old.tokens token (File p Made)) h same is_op (changed ∙ (λ i. with_change (is_tokens i) token (File p Made)))),
     )

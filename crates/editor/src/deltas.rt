@@ -3,7 +3,7 @@ ghost use Rattle.std.specs.Prelude.{◌≡◌, Some, OnOk, OnErr, IfOk, IfErr, O
 ghost use Rattle.std.specs.Arc.{arc_value};
 ghost use Rattle.svnpath.specs.Paths.{PathValue};
 ghost use Rattle.edit_rules.specs.Edits.{file_text};
-ghost use Rattle.edit_rules.specs.Refusing.{begin_delta_refusal, checksum_refusal, chunk_refusal, end_delta_refusal, close_file_refusal, closed_text_refusal, opened};
+ghost use Rattle.edit_rules.specs.Refusing.{begin_delta_refusal, checksum_refusal, chunk_refusal, end_delta_refusal, close_file_refusal, closed_text_refusal, open_under};
 ghost use Rattle.edit_rules.specs.Texts.{SetsText};
 ghost use Rattle.edit_rules.specs.Tokens.{opened_under, with_change, path_of};
 ghost use Rattle.edit_rules.specs.Editor.{BeginsDelta, FeedsDelta, EndsDelta, Closes, ReadsUnder, Under, unread, RestsOn};
@@ -13,35 +13,35 @@ ghost use Rattle.edit_rules.specs.declared.opened.Opened.TheVariants.{File};
 ghost use Rattle.edit_rules.specs.declared.opened.Delta.TheVariants as deltas;
 
 use crate::editor::CommitEditor;
+use byte_string::ByteString;
 use edit_rules::{
     Delta, EditFault, Opened, edits_are_right, feed_under, judge_checksum, set_delta,
     text_edit_under,
 };
-use items::Text;
 use refusals::Refusal;
 use repo_api::{EditOp, Repository};
 use std::sync::Arc;
 use svndiff0::Applier;
-use svnpath::{Bytes, Path};
+use svnpath::Path;
 
 impl<R: Repository> CommitEditor<R> {
     /// Begins a text delta over a file's text.
     pub(crate) fn begin_delta(
         &mut self,
-        token: &Text,
-        checksum: &Option<Text>,
+        token: &ByteString,
+        checksum: &Option<ByteString>,
         repository: &R,
     ) -> Result<(), EditFault>
         requires { RestsOn self.old (R.content repository.now) }
-        ensures judged { Judges result (begin_delta_refusal self.old checksum.now (opened self.old token.now)) }
+        ensures judged { Judges result (begin_delta_refusal self.old checksum.now
+            (open_under self.old token.now)) }
         ensures ok { OnOk result (BeginsDelta self.old token.now self.new) }
         ensures err { OnErr result (self.new ≡ self.old) }
     {
-        let token = self.copied(token)?;
-        let base = self.base_under(&token, checksum, repository)?;
+        let base = self.base_under(token, checksum, repository)?;
         set_delta(
             &mut self.tokens,
-            &token,
+            token,
             Delta::Reading(Applier::new(self.alloc, base)),
         );
         Ok(())
@@ -50,13 +50,14 @@ impl<R: Repository> CommitEditor<R> {
     /// The text over which a delta may begin, which is not copied.
     fn base_under(
         &self,
-        token: &Bytes,
-        checksum: &Option<Text>,
+        token: &ByteString,
+        checksum: &Option<ByteString>,
         repository: &R,
     ) -> Result<Arc<Vec<u8>>, EditFault>
         requires { RestsOn self.now (R.content repository.now) }
-        ensures judged { Judges result (begin_delta_refusal self.now checksum.now (opened self.now token.now)) }
-        ensures base { IfOk result (λ base. (p : PathValue) × (opened self.now token.now ≡ Some (File p deltas.Untouched))
+        ensures judged { Judges result (begin_delta_refusal self.now checksum.now
+            (open_under self.now token.now)) }
+        ensures base { IfOk result (λ base. (p : PathValue) × (open_under self.now token.now ≡ Some (File p deltas.Untouched))
             × ((arc_value base).items ≡ file_text self.now p)) }
     {
         match self.open_under(token) {
@@ -75,38 +76,41 @@ impl<R: Repository> CommitEditor<R> {
     }
 
     /// Reads the next bytes of a text delta.
-    pub(crate) fn feed_delta(&mut self, token: &Text, bytes: &Text) -> Result<(), EditFault>
-        ensures judged { Judges result (chunk_refusal bytes.now (opened self.old token.now)) }
+    pub(crate) fn feed_delta(
+        &mut self,
+        token: &ByteString,
+        bytes: &ByteString,
+    ) -> Result<(), EditFault>
+        ensures judged { Judges result (chunk_refusal bytes.now (open_under self.old token.now)) }
         ensures ok { OnOk result (FeedsDelta self.old token.now bytes.now self.new) }
         ensures err { IfErr result (λ fault. Leaves self.old fault self.new) }
     {
-        let token = self.copied(token)?;
         if self.txn.is_none() {
             return Err(EditFault::Refused(Refusal::MalformedData));
         }
-        feed_under(&mut self.tokens, &token, bytes.as_bytes())
+        feed_under(&mut self.tokens, token, bytes.as_slice())
     }
 
     /// Ends a text delta: its text is the file's.
-    pub(crate) fn end_delta(&mut self, token: &Text, repository: &R) -> Result<(), EditFault>
+    pub(crate) fn end_delta(&mut self, token: &ByteString, repository: &R) -> Result<(), EditFault>
         requires rests { RestsOn self.old (R.content repository.now) }
         requires sound { IsSoundEdit self.old }
-        ensures judged { Judges result (end_delta_refusal (opened self.old token.now)) }
-        ensures ok { OnOk result (EndsDelta (R.content repository.now) self.old token.now self.new) }
+        ensures judged { Judges result (end_delta_refusal (open_under self.old token.now)) }
+        ensures ok { OnOk result (EndsDelta
+            (R.content repository.now) self.old token.now self.new) }
         ensures err { OnErr result (self.new ≡ self.old) }
     {
-        let token = self.copied(token)?;
-        let op = self.text_edit(&token)?;
+        let op = self.text_edit(token)?;
         edits_are_right();
         self.edit(op, repository)?;
-        set_delta(&mut self.tokens, &token, Delta::Made);
+        set_delta(&mut self.tokens, token, Delta::Made);
         Ok(())
     }
 
     /// The edit of a text by the delta that is being read under the token. The text is not copied.
-    fn text_edit(&mut self, token: &Bytes) -> Result<EditOp, EditFault>
-        ensures judged { Judges result (end_delta_refusal (opened self.old token.now)) }
-        ensures op { IfOk result (λ op. SetsText (opened self.old token.now) op) }
+    fn text_edit(&mut self, token: &ByteString) -> Result<EditOp, EditFault>
+        ensures judged { Judges result (end_delta_refusal (open_under self.old token.now)) }
+        ensures op { IfOk result (λ op. SetsText (open_under self.old token.now) op) }
         ensures same { self.new ≡ self.old }
     {
         if self.txn.is_none() {
@@ -118,29 +122,30 @@ impl<R: Repository> CommitEditor<R> {
     /// Closes a file.
     pub(crate) fn close_file(
         &mut self,
-        token: &Text,
-        checksum: &Option<Text>,
+        token: &ByteString,
+        checksum: &Option<ByteString>,
         repository: &R,
     ) -> Result<(), EditFault>
         requires { RestsOn self.old (R.content repository.now) }
-        ensures judged { Judges result (close_file_refusal self.old checksum.now (opened self.old token.now)) }
+        ensures judged { Judges result (close_file_refusal self.old checksum.now
+            (open_under self.old token.now)) }
         ensures ok { OnOk result (Closes self.old token.now self.new) }
         ensures err { OnErr result (self.new ≡ self.old) }
     {
-        let token = self.copied(token)?;
-        self.judge_file_token(&token, checksum, repository)?;
-        self.tokens.remove(&token);
+        self.judge_file_token(token, checksum, repository)?;
+        self.tokens.remove(token);
         Ok(())
     }
 
     fn judge_file_token(
         &self,
-        token: &Bytes,
-        checksum: &Option<Text>,
+        token: &ByteString,
+        checksum: &Option<ByteString>,
         repository: &R,
     ) -> Result<(), EditFault>
         requires { RestsOn self.now (R.content repository.now) }
-        ensures { Judges result (close_file_refusal self.now checksum.now (opened self.now token.now)) }
+        ensures { Judges result (close_file_refusal self.now checksum.now
+            (open_under self.now token.now)) }
     {
         match self.open_under(token) {
             Some(Opened::File(path, delta)) => {
@@ -156,7 +161,7 @@ impl<R: Repository> CommitEditor<R> {
         &self,
         path: &Path,
         delta: &Delta,
-        checksum: &Option<Text>,
+        checksum: &Option<ByteString>,
         repository: &R,
     ) -> Result<(), EditFault>
         requires { RestsOn self.now (R.content repository.now) }
@@ -173,7 +178,7 @@ impl<R: Repository> CommitEditor<R> {
     fn judge_text_at(
         &self,
         path: &Path,
-        checksum: &Option<Text>,
+        checksum: &Option<ByteString>,
         repository: &R,
     ) -> Result<(), EditFault>
         requires { RestsOn self.now (R.content repository.now) }

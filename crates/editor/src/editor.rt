@@ -8,16 +8,16 @@ ghost use Rattle.edit_rules.specs.Judging.{Judges, Leaves};
 ghost use Rattle.edit_rules.specs.Soundness.{IsSoundEdit};
 ghost use Rattle.edit_rules.specs.declared.fault.EditFault.TheVariants.{Refused};
 
+use byte_string::ByteString;
 use edit_commands::EditorCommand;
 use edit_rules::{EditFault, Opened, has_unfinished, judge};
-use items::Text;
 use refusals::Refusal;
 use repo_api::{FileText, NodeKind, Repository};
 use std::alloc::{AllocError, Global};
 use std::collections::BTreeMap;
 use std::marker::Model;
 use std::sync::Arc;
-use svnpath::{Bytes, Path};
+use svnpath::Path;
 
 /// An edit on its way to a commit.
 #[derive(Drop)]
@@ -26,7 +26,7 @@ pub struct CommitEditor<R: Repository> {
     pub(crate) path: Path,
     pub(crate) name: String,
     pub(crate) txn: Option<R::Txn>,
-    pub(crate) tokens: BTreeMap<Bytes, Opened>,
+    pub(crate) tokens: BTreeMap<ByteString, Opened>,
     pub(crate) refused: bool,
 }
 
@@ -72,7 +72,8 @@ impl<R: Repository> CommitEditor<R> {
         requires sound { IsSoundEdit self.old }
         ensures ok { OnOk result ((edit_refusal (R.content repository.now) self.old command.now ≡ None)
             × Applies (R.content repository.now) self.old command.now self.new) }
-        ensures err { IfErr result (λ fault. NotApplied (R.content repository.now) self.old command.now fault self.new) }
+        ensures err { IfErr result (λ fault. NotApplied
+            (R.content repository.now) self.old command.now fault self.new) }
     {
         match self.carry_out(command, repository) {
             Ok(()) => Ok(()),
@@ -96,8 +97,10 @@ impl<R: Repository> CommitEditor<R> {
     fn carry_out(&mut self, command: &EditorCommand, repository: &R) -> Result<(), EditFault>
         requires rests { RestsOn self.old (R.content repository.now) }
         requires sound { IsSoundEdit self.old }
-        ensures judged { Judges result (edit_refusal (R.content repository.now) self.old command.now) }
-        ensures ok { OnOk result (Applies (R.content repository.now) self.old command.now self.new) }
+        ensures judged { Judges result (edit_refusal
+            (R.content repository.now) self.old command.now) }
+        ensures ok { OnOk result (Applies
+            (R.content repository.now) self.old command.now self.new) }
         ensures err { IfErr result (λ fault. Leaves self.old fault self.new) }
     {
         if self.refused {
@@ -183,17 +186,10 @@ impl<R: Repository> CommitEditor<R> {
         }
     }
 
-    /// The token, as the key of what is open.
-    pub(crate) fn copied(&self, token: &Text) -> Result<Bytes, AllocError>
-        ensures { IfOk result (λ key. key ≡ token.now) }
-    {
-        let items = Vec::from_slice(self.alloc, token.as_bytes())?;
-        Ok(Bytes::new(items))
-    }
-
     /// The transaction that is to be committed.
     pub fn finish(self) -> Result<R::Txn, Refusal>
-        ensures { MatchResult result (λ txn. finished self ≡ Ok (R.txn_state txn)) (λ r. finished self ≡ Err r) }
+        ensures { MatchResult result (λ txn. finished self ≡ Ok (R.txn_state txn))
+            (λ r. finished self ≡ Err r) }
     {
         let unfinished = has_unfinished(&self.tokens);
         let CommitEditor { txn, refused, .. } = self;

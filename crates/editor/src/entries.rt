@@ -4,7 +4,7 @@ ghost use Rattle.svnpath.specs.Texts.{joined};
 ghost use Rattle.repo_api.specs.declared.edit.EditOp.TheVariants as edits;
 ghost use Rattle.edit_rules.specs.Tokens.{opened_under, directory_of, copies_under, with_token, closed_beneath, is_placed, is_within};
 ghost use Rattle.edit_rules.specs.Edits.{standing};
-ghost use Rattle.edit_rules.specs.Refusing.{first, source_of, source_refusal, add_refusal, open_root_refusal, delete_entry_refusal, add_entry_refusal, open_directory_refusal, open_file_refusal, absent_refusal, place_refusal, parent_refusal, close_directory_refusal, opened};
+ghost use Rattle.edit_rules.specs.Refusing.{first, source_of, source_refusal, add_refusal, open_root_refusal, delete_entry_refusal, add_entry_refusal, open_directory_refusal, open_file_refusal, absent_refusal, place_refusal, parent_refusal, close_directory_refusal, open_under};
 ghost use Rattle.edit_rules.specs.Editor.{OpensRoot, Edits, Named, Opens, Adds, opened_directory, copy_edit, added_edit, added_opened, tokens_added, Closes, RestsOn};
 ghost use Rattle.edit_rules.specs.Judging.{Judges, Leaves};
 ghost use Rattle.edit_rules.specs.Soundness.{IsSoundEdit, IsRightIn};
@@ -12,17 +12,17 @@ ghost use Rattle.edit_rules.specs.declared.opened.Opened.TheVariants.{Directory,
 ghost use Rattle.edit_rules.specs.declared.opened.Delta.TheVariants.{Untouched};
 
 use crate::editor::CommitEditor;
+use byte_string::ByteString;
 use edit_commands::{AbsentEntry, AddedEntry, DeletedEntry, OpenedEntry};
 use edit_rules::{
     Delta, EditFault, Opened, OpenedDirectory, close_beneath, close_others_beneath, copies_under,
     directory_under, edits_are_right, is_within, judge, judge_absence, judge_directory, judge_file,
     judge_presence, judge_room, judge_source_kind, path_named, source_named,
 };
-use items::Text;
 use refusals::Refusal;
 use repo_api::{EditOp, NodeKind, Repository, Source};
 use std::alloc::AllocError;
-use svnpath::{Bytes, DEPTH_LIMIT, Path};
+use svnpath::{DEPTH_LIMIT, Path};
 
 /// A directory that is open.
 fn opened_directory(path: Path, revision: Option<u64>, in_copy: bool) -> Opened
@@ -37,7 +37,8 @@ fn opened_directory(path: Path, revision: Option<u64>, in_copy: bool) -> Opened
 
 /// What is open once it is added, new or a copy.
 fn added_opened(is_file: bool, path: Path, in_copy: bool) -> Opened
-    ensures { result ≡ (if is_file then File path Untouched else Directory (opened_directory path None in_copy)) }
+    ensures { result ≡ (if is_file then File path Untouched
+        else Directory (opened_directory path None in_copy)) }
 {
     if is_file {
         Opened::File(path, Delta::Untouched)
@@ -87,7 +88,8 @@ fn judge_source<R: Repository>(
     source: &Source,
     repository: &R,
 ) -> Result<(), EditFault>
-    ensures { Judges result (source_refusal (R.content repository.now) is_file path.now source.now) }
+    ensures { Judges result (source_refusal
+        (R.content repository.now) is_file path.now source.now) }
 {
     judge(
         source.revision <= repository.youngest(),
@@ -106,15 +108,16 @@ impl<R: Repository> CommitEditor<R> {
     pub(crate) fn open_root(
         &mut self,
         revision: Option<u64>,
-        token: &Text,
+        token: &ByteString,
         repository: &R,
     ) -> Result<(), EditFault>
         ensures judged { Judges result (open_root_refusal (R.content repository.now) self.old) }
-        ensures ok { OnOk result (OpensRoot (R.content repository.now) self.old revision token.now self.new) }
+        ensures ok { OnOk result (OpensRoot
+            (R.content repository.now) self.old revision token.now self.new) }
         ensures err { OnErr result (self.new ≡ self.old) }
     {
         self.judge_root(repository)?;
-        let token = self.copied(token)?;
+        let token = token.clone()?;
         let path = self.path.clone()?;
         let txn = repository.begin()?;
         self.tokens
@@ -143,7 +146,8 @@ impl<R: Repository> CommitEditor<R> {
         ensures judged { Judges result (add_entry_refusal
             (R.content repository.now) self.old is_file entry.now
             (joined self.old.path entry.now.path) (source_of self.old.name entry.now.source)) }
-        ensures ok { OnOk result (Adds (R.content repository.now) self.old is_file entry.now self.new) }
+        ensures ok { OnOk result (Adds
+            (R.content repository.now) self.old is_file entry.now self.new) }
         ensures err { OnErr result (self.new ≡ self.old) }
     {
         let path = path_named(self.alloc, &self.path, &entry.path)?;
@@ -162,7 +166,9 @@ impl<R: Repository> CommitEditor<R> {
     ) -> Result<(), EditFault>
         requires rests { RestsOn self.old (R.content repository.now) }
         requires sound { IsSoundEdit self.old }
-        ensures judged { Judges result (add_entry_refusal (R.content repository.now) self.old is_file entry.now (Ok path.now) (Ok source.now)) }
+        ensures judged { Judges result (add_entry_refusal
+            (R.content repository.now) self.old is_file entry.now (Ok path.now)
+            (Ok source.now)) }
         ensures ok { OnOk result (Edits (R.content repository.now) self.old
             (added_edit is_file (standing self.old.txn path.now) path.now source.now)
             (tokens_added self.old.tokens entry.now.token (added_opened is_file path.now source.now) source.now) self.new) }
@@ -184,7 +190,8 @@ impl<R: Repository> CommitEditor<R> {
     ) -> Result<(), EditFault>
         requires rests { RestsOn self.old (R.content repository.now) }
         requires sound { IsSoundEdit self.old }
-        ensures judged { Judges result (add_entry_refusal (R.content repository.now) self.old is_file entry.now (Ok path.now) (Ok None)) }
+        ensures judged { Judges result (add_entry_refusal
+            (R.content repository.now) self.old is_file entry.now (Ok path.now) (Ok None)) }
         ensures ok { OnOk result (Edits (R.content repository.now) self.old
             (added_edit is_file (standing self.old.txn path.now) path.now None)
             (with_token self.old.tokens entry.now.token (added_opened is_file path.now None)) self.new) }
@@ -192,7 +199,7 @@ impl<R: Repository> CommitEditor<R> {
     {
         self.judge_new(entry, path, repository)?;
         edits_are_right();
-        let token = self.copied(&entry.token)?;
+        let token = entry.token.clone()?;
         let opened = path.clone()?;
         let added = path.clone()?;
         self.put_new(
@@ -207,7 +214,9 @@ impl<R: Repository> CommitEditor<R> {
     /// Nothing may stand where something new is added.
     fn judge_new(&self, entry: &AddedEntry, path: &Path, repository: &R) -> Result<(), EditFault>
         requires { RestsOn self.now (R.content repository.now) }
-        ensures { Judges result (first (place_refusal self.now entry.now.parent entry.now.token path.now) (add_refusal (standing self.now.txn path.now))) }
+        ensures { Judges result (first
+            (place_refusal self.now entry.now.parent entry.now.token path.now)
+            (add_refusal (standing self.now.txn path.now))) }
     {
         self.judge_place(&entry.parent, &entry.token, path)?;
         judge_absence(self.standing(path, repository))?;
@@ -225,7 +234,9 @@ impl<R: Repository> CommitEditor<R> {
     ) -> Result<(), EditFault>
         requires rests { RestsOn self.old (R.content repository.now) }
         requires sound { IsSoundEdit self.old }
-        ensures judged { Judges result (add_entry_refusal (R.content repository.now) self.old is_file entry.now (Ok path.now) (Ok (Some source.now))) }
+        ensures judged { Judges result (add_entry_refusal
+            (R.content repository.now) self.old is_file entry.now (Ok path.now)
+            (Ok (Some source.now))) }
         ensures ok { OnOk result (Edits (R.content repository.now) self.old
             (copy_edit (standing self.old.txn path.now) path.now source.now)
             (tokens_added self.old.tokens entry.now.token (added_opened is_file path.now (Some source.now)) (Some source.now)) self.new) }
@@ -233,12 +244,11 @@ impl<R: Repository> CommitEditor<R> {
     {
         self.judge_copy(is_file, entry, path, source, repository)?;
         edits_are_right();
-        let token = self.copied(&entry.token)?;
-        let key = self.copied(&entry.token)?;
+        let token = entry.token.clone()?;
         let opened = path.clone()?;
         let op = copy_edit(self.standing(path, repository), path, source)?;
-        self.put_new(key, added_opened(is_file, opened, true), op, repository)?;
-        close_others_beneath(&mut self.tokens, path, &token);
+        self.put_new(token, added_opened(is_file, opened, true), op, repository)?;
+        close_others_beneath(&mut self.tokens, path, &entry.token);
         Ok(())
     }
 
@@ -252,12 +262,13 @@ impl<R: Repository> CommitEditor<R> {
         repository: &R,
     ) -> Result<(), EditFault>
         requires { RestsOn self.now (R.content repository.now) }
-        ensures { Judges result (add_entry_refusal (R.content repository.now) self.now is_file entry.now (Ok path.now) (Ok (Some source.now))) }
+        ensures { Judges result (add_entry_refusal
+            (R.content repository.now) self.now is_file entry.now (Ok path.now)
+            (Ok (Some source.now))) }
     {
         self.judge_place(&entry.parent, &entry.token, path)?;
-        let parent = self.copied(&entry.parent)?;
         judge_room(
-            copies_under(&self.tokens, &parent),
+            copies_under(&self.tokens, &entry.parent),
             self.standing(path, repository),
         )?;
         judge_source(is_file, path, source, repository)?;
@@ -267,7 +278,7 @@ impl<R: Repository> CommitEditor<R> {
     /// Opens an entry under a new token, makes the edit that adds it, and closes it again where memory is refused.
     fn put_new(
         &mut self,
-        token: Bytes,
+        token: ByteString,
         opened: Opened,
         op: EditOp,
         repository: &R,
@@ -275,7 +286,8 @@ impl<R: Repository> CommitEditor<R> {
         requires rests { RestsOn self.old (R.content repository.now) }
         requires is_new { opened_under self.old.tokens token ≡ None }
         requires right { IsRightIn (R.content repository.now) self.old.txn op }
-        ensures ok { OnOk result (Edits (R.content repository.now) self.old op (with_token self.old.tokens token opened) self.new) }
+        ensures ok { OnOk result (Edits (R.content repository.now) self.old op
+            (with_token self.old.tokens token opened) self.new) }
         ensures err { OnErr result (self.new ≡ self.old) }
     {
         let token = self.open_new(token, opened)?;
@@ -289,7 +301,7 @@ impl<R: Repository> CommitEditor<R> {
     }
 
     /// Opens an entry under a new token, and answers the token.
-    fn open_new(&mut self, token: Bytes, opened: Opened) -> Result<Bytes, AllocError>
+    fn open_new(&mut self, token: ByteString, opened: Opened) -> Result<ByteString, AllocError>
         ensures ok { OnOk result (Opens self.old token opened self.new) }
         ensures token { IfOk result (λ key. key ≡ token) }
         ensures err { OnErr result (self.new ≡ self.old) }
@@ -300,7 +312,7 @@ impl<R: Repository> CommitEditor<R> {
     }
 
     /// Closes what is open under a token.
-    fn close(&mut self, token: &Bytes)
+    fn close(&mut self, token: &ByteString)
         ensures { Closes self.old token.now self.new }
     {
         self.tokens.remove(token);
@@ -310,7 +322,8 @@ impl<R: Repository> CommitEditor<R> {
     pub(crate) fn edit(&mut self, op: EditOp, repository: &R) -> Result<(), AllocError>
         requires rests { RestsOn self.old (R.content repository.now) }
         requires right { IsRightIn (R.content repository.now) self.old.txn op }
-        ensures ok { OnOk result (Edits (R.content repository.now) self.old op self.old.tokens self.new) }
+        ensures ok { OnOk result (Edits
+            (R.content repository.now) self.old op self.old.tokens self.new) }
         ensures err { OnErr result (self.new ≡ self.old) }
     {
         let Some(txn) = &mut self.txn else {
@@ -327,7 +340,8 @@ impl<R: Repository> CommitEditor<R> {
     ) -> Result<(), EditFault>
         requires rests { RestsOn self.old (R.content repository.now) }
         requires sound { IsSoundEdit self.old }
-        ensures judged { Judges result (delete_entry_refusal self.old entry.now (joined self.old.path entry.now.path)) }
+        ensures judged { Judges result (delete_entry_refusal self.old entry.now
+            (joined self.old.path entry.now.path)) }
         ensures ok { OnOk result (Named self.old entry.now.path (λ p. Edits
             (R.content repository.now) self.old (edits.Delete p)
             (closed_beneath self.old.tokens p) self.new)) }
@@ -347,7 +361,8 @@ impl<R: Repository> CommitEditor<R> {
         requires rests { RestsOn self.old (R.content repository.now) }
         requires sound { IsSoundEdit self.old }
         ensures judged { Judges result (delete_entry_refusal self.old entry.now (Ok path.now)) }
-        ensures ok { OnOk result (Edits (R.content repository.now) self.old (edits.Delete path.now) (closed_beneath self.old.tokens path.now) self.new) }
+        ensures ok { OnOk result (Edits (R.content repository.now) self.old (edits.Delete path.now)
+            (closed_beneath self.old.tokens path.now) self.new) }
         ensures err { OnErr result (self.new ≡ self.old) }
     {
         self.judge_delete(entry, path, repository)?;
@@ -383,7 +398,8 @@ impl<R: Repository> CommitEditor<R> {
         repository: &R,
     ) -> Result<(), EditFault>
         requires { RestsOn self.old (R.content repository.now) }
-        ensures judged { Judges result (open_directory_refusal self.old entry.now (joined self.old.path entry.now.path)) }
+        ensures judged { Judges result (open_directory_refusal self.old entry.now
+            (joined self.old.path entry.now.path)) }
         ensures ok { OnOk result (Named self.old entry.now.path (λ p. Opens self.old entry.now.token
             (Directory (opened_directory p entry.now.revision (copies_under self.old.tokens entry.now.parent)))
             self.new)) }
@@ -391,9 +407,8 @@ impl<R: Repository> CommitEditor<R> {
     {
         let path = path_named(self.alloc, &self.path, &entry.path)?;
         self.judge_open_directory(entry, &path, repository)?;
-        let parent = self.copied(&entry.parent)?;
-        let token = self.copied(&entry.token)?;
-        let in_copy = copies_under(&self.tokens, &parent);
+        let token = entry.token.clone()?;
+        let in_copy = copies_under(&self.tokens, &entry.parent);
         self.tokens
             .insert(token, opened_directory(path, entry.revision, in_copy))?;
         Ok(())
@@ -416,13 +431,15 @@ impl<R: Repository> CommitEditor<R> {
     /// Opens a file.
     pub(crate) fn open_file(&mut self, entry: &OpenedEntry, repository: &R) -> Result<(), EditFault>
         requires { RestsOn self.old (R.content repository.now) }
-        ensures judged { Judges result (open_file_refusal self.old entry.now (joined self.old.path entry.now.path)) }
-        ensures ok { OnOk result (Named self.old entry.now.path (λ p. Opens self.old entry.now.token (File p Untouched) self.new)) }
+        ensures judged { Judges result (open_file_refusal self.old entry.now
+            (joined self.old.path entry.now.path)) }
+        ensures ok { OnOk result (Named self.old entry.now.path
+            (λ p. Opens self.old entry.now.token (File p Untouched) self.new)) }
         ensures err { OnErr result (self.new ≡ self.old) }
     {
         let path = path_named(self.alloc, &self.path, &entry.path)?;
         self.judge_open_file(entry, &path, repository)?;
-        let token = self.copied(&entry.token)?;
+        let token = entry.token.clone()?;
         self.tokens
             .insert(token, Opened::File(path, Delta::Untouched))?;
         Ok(())
@@ -448,7 +465,8 @@ impl<R: Repository> CommitEditor<R> {
 
     /// Judges an entry that the client must not see, and changes nothing.
     pub(crate) fn pass_absent(&self, entry: &AbsentEntry) -> Result<(), EditFault>
-        ensures { Judges result (absent_refusal self.now entry.now (joined self.now.path entry.now.path)) }
+        ensures { Judges result (absent_refusal self.now entry.now
+            (joined self.now.path entry.now.path)) }
     {
         let path = path_named(self.alloc, &self.path, &entry.path)?;
         self.judge_parent(&entry.parent, &path)?;
@@ -456,19 +474,18 @@ impl<R: Repository> CommitEditor<R> {
     }
 
     /// Closes a directory.
-    pub(crate) fn close_directory(&mut self, token: &Text) -> Result<(), EditFault>
-        ensures judged { Judges result (close_directory_refusal (opened self.old token.now)) }
+    pub(crate) fn close_directory(&mut self, token: &ByteString) -> Result<(), EditFault>
+        ensures judged { Judges result (close_directory_refusal (open_under self.old token.now)) }
         ensures ok { OnOk result (Closes self.old token.now self.new) }
         ensures err { OnErr result (self.new ≡ self.old) }
     {
-        let token = self.copied(token)?;
-        self.judge_directory_token(&token)?;
-        self.tokens.remove(&token);
+        self.judge_directory_token(token)?;
+        self.tokens.remove(token);
         Ok(())
     }
 
-    fn judge_directory_token(&self, token: &Bytes) -> Result<(), EditFault>
-        ensures { Judges result (close_directory_refusal (opened self.now token.now)) }
+    fn judge_directory_token(&self, token: &ByteString) -> Result<(), EditFault>
+        ensures { Judges result (close_directory_refusal (open_under self.now token.now)) }
     {
         match self.open_under(token) {
             Some(Opened::Directory(_)) => Ok(()),
@@ -478,8 +495,8 @@ impl<R: Repository> CommitEditor<R> {
     }
 
     /// What is open under the token, nothing before the root is.
-    pub(crate) fn open_under(&self, token: &Bytes) -> Option<&Opened>
-        ensures { option_copied result ≡ opened self.now token.now }
+    pub(crate) fn open_under(&self, token: &ByteString) -> Option<&Opened>
+        ensures { option_copied result ≡ open_under self.now token.now }
     {
         match &self.txn {
             None => None,
@@ -487,27 +504,27 @@ impl<R: Repository> CommitEditor<R> {
         }
     }
 
-    fn judge_place(&self, parent: &Text, token: &Text, path: &Path) -> Result<(), EditFault>
+    fn judge_place(
+        &self,
+        parent: &ByteString,
+        token: &ByteString,
+        path: &Path,
+    ) -> Result<(), EditFault>
         ensures { Judges result (place_refusal self.now parent.now token.now path.now) }
     {
-        let parent = self.copied(parent)?;
-        let token = self.copied(token)?;
-        let placed = self.txn.is_some() && self.is_placed(&parent, &token, path);
-        judge(placed, Refusal::MalformedData)?;
-        Ok(())
+        let placed = self.txn.is_some() && self.is_placed(parent, token, path);
+        judge(placed, Refusal::MalformedData)
     }
 
-    fn judge_parent(&self, parent: &Text, path: &Path) -> Result<(), EditFault>
+    fn judge_parent(&self, parent: &ByteString, path: &Path) -> Result<(), EditFault>
         ensures { Judges result (parent_refusal self.now parent.now path.now) }
     {
-        let parent = self.copied(parent)?;
-        let placed = self.txn.is_some() && is_within(directory_under(&self.tokens, &parent), path);
-        judge(placed, Refusal::MalformedData)?;
-        Ok(())
+        let placed = self.txn.is_some() && is_within(directory_under(&self.tokens, parent), path);
+        judge(placed, Refusal::MalformedData)
     }
 
     /// Whether the token is new, and the path is one name beneath the directory open under the parent's token.
-    fn is_placed(&self, parent: &Bytes, token: &Bytes, path: &Path) -> bool
+    fn is_placed(&self, parent: &ByteString, token: &ByteString, path: &Path) -> bool
         ensures { result ≡ is_placed self.now.tokens parent.now token.now path.now }
     {
         !self.tokens.contains_key(token) && is_within(directory_under(&self.tokens, parent), path)

@@ -1,18 +1,19 @@
 //! Properties of entries.
 ghost use Rattle.std.specs.Prelude.{◌≡◌, Some, OnOk, OnErr, IfOk, option_copied};
-ghost use Rattle.edit_rules.specs.Refusing.{directory_property_refusal, file_property_refusal, opened};
+ghost use Rattle.edit_rules.specs.Refusing.{directory_property_refusal, file_property_refusal, open_under};
 ghost use Rattle.edit_rules.specs.Tokens.{path_of};
 ghost use Rattle.edit_rules.specs.Editor.{ChangesProperty, property_edit, RestsOn};
 ghost use Rattle.edit_rules.specs.Judging.{Judges};
 ghost use Rattle.edit_rules.specs.Soundness.{IsSoundEdit};
 
 use crate::editor::CommitEditor;
+use byte_string::ByteString;
 use edit_commands::PropertyChange;
 use edit_rules::{EditFault, Opened, edits_are_right, judge_age, judge_name};
 use refusals::Refusal;
 use repo_api::{EditOp, Repository};
 use std::alloc::AllocError;
-use svnpath::{Bytes, Path};
+use svnpath::Path;
 
 impl<R: Repository> CommitEditor<R> {
     /// Changes a property of a directory.
@@ -23,12 +24,13 @@ impl<R: Repository> CommitEditor<R> {
     ) -> Result<(), EditFault>
         requires rests { RestsOn self.old (R.content repository.now) }
         requires sound { IsSoundEdit self.old }
-        ensures judged { Judges result (directory_property_refusal self.old.txn change.now.name (opened self.old change.now.token)) }
-        ensures ok { OnOk result (ChangesProperty (R.content repository.now) self.old change.now self.new) }
+        ensures judged { Judges result (directory_property_refusal self.old.txn change.now.name
+            (open_under self.old change.now.token)) }
+        ensures ok { OnOk result (ChangesProperty
+            (R.content repository.now) self.old change.now self.new) }
         ensures err { OnErr result (self.new ≡ self.old) }
     {
-        let token = self.copied(&change.token)?;
-        let op = self.directory_property(&token, change, repository)?;
+        let op = self.directory_property(&change.token, change, repository)?;
         edits_are_right();
         self.edit(op, repository)?;
         Ok(())
@@ -37,18 +39,19 @@ impl<R: Repository> CommitEditor<R> {
     /// The edit of a property of the directory that is open under the token.
     fn directory_property(
         &self,
-        token: &Bytes,
+        token: &ByteString,
         change: &PropertyChange,
         repository: &R,
     ) -> Result<EditOp, EditFault>
         requires { RestsOn self.now (R.content repository.now) }
-        ensures judged { Judges result (directory_property_refusal self.now.txn change.now.name (opened self.now token.now)) }
-        ensures op { IfOk result (λ op. (o : Opened) × (opened self.now token.now ≡ Some o)
+        ensures judged { Judges result (directory_property_refusal self.now.txn change.now.name
+            (open_under self.now token.now)) }
+        ensures op { IfOk result (λ op. (o : Opened) × (open_under self.now token.now ≡ Some o)
             × (op ≡ property_edit (path_of o) change.now.name change.now.value)) }
     {
         match self.open_under(token) {
             Some(Opened::Directory(directory)) => {
-                judge_name(change.name.as_bytes())?;
+                judge_name(change.name.as_slice())?;
                 judge_age(
                     directory.revision,
                     self.created(&directory.path, repository),
@@ -69,26 +72,32 @@ impl<R: Repository> CommitEditor<R> {
     ) -> Result<(), EditFault>
         requires rests { RestsOn self.old (R.content repository.now) }
         requires sound { IsSoundEdit self.old }
-        ensures judged { Judges result (file_property_refusal change.now.name (opened self.old change.now.token)) }
-        ensures ok { OnOk result (ChangesProperty (R.content repository.now) self.old change.now self.new) }
+        ensures judged { Judges result (file_property_refusal change.now.name
+            (open_under self.old change.now.token)) }
+        ensures ok { OnOk result (ChangesProperty
+            (R.content repository.now) self.old change.now self.new) }
         ensures err { OnErr result (self.new ≡ self.old) }
     {
-        let token = self.copied(&change.token)?;
-        let op = self.file_property(&token, change)?;
+        let op = self.file_property(&change.token, change)?;
         edits_are_right();
         self.edit(op, repository)?;
         Ok(())
     }
 
     /// The edit of a property of the file that is open under the token.
-    fn file_property(&self, token: &Bytes, change: &PropertyChange) -> Result<EditOp, EditFault>
-        ensures judged { Judges result (file_property_refusal change.now.name (opened self.now token.now)) }
-        ensures op { IfOk result (λ op. (o : Opened) × (opened self.now token.now ≡ Some o)
+    fn file_property(
+        &self,
+        token: &ByteString,
+        change: &PropertyChange,
+    ) -> Result<EditOp, EditFault>
+        ensures judged { Judges result (file_property_refusal change.now.name
+            (open_under self.now token.now)) }
+        ensures op { IfOk result (λ op. (o : Opened) × (open_under self.now token.now ≡ Some o)
             × (op ≡ property_edit (path_of o) change.now.name change.now.value)) }
     {
         match self.open_under(token) {
             Some(Opened::File(path, _)) => {
-                judge_name(change.name.as_bytes())?;
+                judge_name(change.name.as_slice())?;
                 let op = self.property_edit(path, change)?;
                 Ok(op)
             }
@@ -102,10 +111,10 @@ impl<R: Repository> CommitEditor<R> {
         ensures { IfOk result (λ op. op ≡ property_edit path.now change.now.name change.now.value) }
     {
         let path = path.clone()?;
-        let name = self.copied(&change.name)?;
+        let name = change.name.clone()?;
         match &change.value {
             None => Ok(EditOp::RemoveProperty(path, name)),
-            Some(value) => Ok(EditOp::SetProperty(path, name, self.copied(value)?)),
+            Some(value) => Ok(EditOp::SetProperty(path, name, value.clone()?)),
         }
     }
 }

@@ -1,10 +1,1 @@
-pub mod Retained
-pub mod Seen
-pub mod Anys
-pub mod Rules
-pub mod Places
-pub mod Edits
-pub mod Parts
-pub mod Copied
-pub mod Merged
 pub mod Limits

@@ -1,49 +1,48 @@
 //! The repository and its transactions.
-ghost use Rattle.std.specs.Prelude.{◌≡◌, ◌≤◌, ◌<◌, List, ℕ, length, IfOk, OnOk, OnErr, option_copied, option_map, None};
+ghost use Rattle.std.specs.Prelude.{◌≡◌, ◌≤◌, ◌<◌, ◌++◌, ◌∷◌, [], List, ℕ, length, IfOk, OnOk, OnErr};
 ghost use Rattle.std.specs.FinMap.{get};
 ghost use Rattle.dates.specs.Dates.{IsDateText};
+ghost use Rattle.dates.specs.declared.TheConstants.{LAST_MOMENT};
 ghost use Rattle.svnpath.specs.Paths.{PathValue};
-ghost use Rattle.repo_api.specs.Changes.{changes_after, after_add, after_property, noted, noted_copy, noted_delete};
-ghost use Rattle.repo_api.specs.Commits.{revision_limit, commit_refusal, committed};
-ghost use Rattle.repo_api.specs.Edits.{edited, added, revised, begun};
-ghost use Rattle.repo_api.specs.Opening.{opened};
-ghost use Rattle.repo_api.specs.declared.entry.Entry.{Entry};
-ghost use Rattle.flatrepo.specs.Found.{empty_content, with_properties};
-ghost use Rattle.repo_api.specs.Kinds.{kind_of, has_deeper, created_of, text_of};
+ghost use Rattle.repo_api.specs.Changes.{changes_after, noted_copy, noted_delete};
+ghost use Rattle.repo_api.specs.declared.limits.TheConstants.{REVISION_LIMIT};
+ghost use Rattle.repo_api.specs.Commits.{commit_refusal, committed, revision_properties};
+ghost use Rattle.repo_api.specs.Edits.{edited, copied, deleted};
+ghost use Rattle.repo_api.specs.Opening.{new_repository};
 ghost use Rattle.repo_api.specs.MergedMaps.{has_conflict, merged_map};
 ghost use Rattle.repo_api.specs.declared.ask.CommitAsk.{CommitAsk};
-ghost use Rattle.repo_api.specs.States.{tree_of, tree_at, trees_in, changes_of, youngest};
-ghost use Rattle.flatrepo.specs.Whole.{content_of, repo_content, txn_state_of, revisions_of, map_of};
+ghost use Rattle.repo_api.specs.States.{IsEdited, tree_of, tree_at, trees_in, changes_of, youngest};
+ghost use Rattle.flat_trees.specs.Contents.{fixed_of, content_of, revisions_of, properties_of};
+ghost use Rattle.flatrepo.specs.Whole.{repo_content, txn_state_of};
 
-use crate::flat_changes::FlatChanges;
-use crate::flat_tree::{FlatTree, entry_at};
-use crate::held::{Held, Kept};
-use crate::revision::revision_properties;
+use byte_string::ByteString;
 use dates::date_text;
+use flat_parts::{empty_file, revision_properties};
+use flat_trees::{
+    FlatChanges, FlatContent, FlatRevision, FlatTree, add, begun_tree, created, delete, has_deeper,
+    kind_at, remove_property, set_property, set_text, take_copy, take_replacement, text,
+};
 use refusals::Refusal;
 use repo_api::{
-    ChangeFault, CommitAsk, Content, EditOp, Entry, FileText, Mark, NodeKind, Properties,
+    ChangeFault, CommitAsk, Content, EditOp, FileText, NodeKind, Properties, REVISION_LIMIT,
     Repository, Source,
 };
 use std::alloc::{AllocError, Global};
 use std::sync::Arc;
-use svnpath::{Bytes, Path};
-
-/// A repository has revisions 0 to 262,143.
-const REVISION_LIMIT: u64 = 262_144;
+use svnpath::Path;
 
 /// A repository in memory. A commit makes a new list of revisions, so that what was shared before stays
 /// as it was.
 #[derive(Drop)]
 pub struct FlatRepo {
     alloc: Global,
-    held: Arc<Held>,
+    content: Arc<FlatContent>,
 }
 
 /// An open transaction.
 #[derive(Drop)]
 pub struct FlatTxn {
-    shown: Arc<Held>,
+    shown: Arc<FlatContent>,
     base: u64,
     tree: FlatTree,
     changes: FlatChanges,
@@ -53,14 +52,15 @@ impl FlatRepo {
     /// An empty repository: revision 0, whose date is the moment's, a count of microseconds since the
     /// beginning of 1970.
     pub fn new(alloc: Global, uuid: u128, moment: u64) -> Result<Self, AllocError>
-        requires { moment ≤ 200000000000000000 }
-        ensures { IfOk result (λ r. (date : List ℕ) × IsDateText moment date × (repo_content r ≡ opened uuid date)) }
+        requires { moment ≤ LAST_MOMENT }
+        ensures { IfOk result (λ r. (date : List ℕ) × IsDateText moment date
+            × (repo_content r ≡ new_repository uuid date)) }
     {
         let date = date_of(alloc, moment)?;
-        let held = Held::opened(alloc, uuid, date)?;
+        let content = FlatContent::opened(alloc, uuid, date)?;
         Ok(FlatRepo {
             alloc,
-            held: Arc::new(alloc, held)?,
+            content: Arc::new(alloc, content)?,
         })
     }
 }
@@ -77,28 +77,28 @@ impl Repository for FlatRepo {
     fn share(&self) -> Result<Self, AllocError> {
         Ok(FlatRepo {
             alloc: self.alloc,
-            held: Arc::try_clone(&self.held)?,
+            content: Arc::try_clone(&self.content)?,
         })
     }
 
     fn uuid(&self) -> u128 {
-        self.held.uuid
+        self.content.uuid
     }
 
     fn youngest(&self) -> u64 {
-        self.held.youngest()
+        self.content.youngest()
     }
 
     fn kind(&self, revision: u64, path: &Path) -> NodeKind {
-        kind_at(self.held.tree(revision), path)
+        kind_at(self.content.tree(revision), path)
     }
 
     fn has_deeper(&self, revision: u64, path: &Path, names: usize) -> bool {
-        has_deeper(self.held.tree(revision), path, names)
+        has_deeper(self.content.tree(revision), path, names)
     }
 
     fn revision_properties(&self, revision: u64) -> Option<&Properties> {
-        self.held.properties(revision)
+        self.content.properties(revision)
     }
 
     fn kind_in(&self, txn: &FlatTxn, path: &Path) -> NodeKind {
@@ -114,239 +114,145 @@ impl Repository for FlatRepo {
     }
 
     fn begin(&self) -> Result<FlatTxn, AllocError> {
-        let base = self.held.youngest();
+        let base = self.content.youngest();
         Ok(FlatTxn {
-            shown: Arc::try_clone(&self.held)?,
+            shown: Arc::try_clone(&self.content)?,
             base,
-            tree: begun_tree(self.alloc, self.held.tree(base))?,
+            tree: begun_tree(self.alloc, self.content.tree(base))?,
             changes: FlatChanges::new(self.alloc),
         })
     }
 
     fn edit(&self, txn: &mut FlatTxn, op: EditOp) -> Result<(), AllocError> {
-        let shown = Arc::try_clone(&self.held)?;
-        edit_parts(self.alloc, &self.held, &mut txn.tree, &mut txn.changes, &op)?;
-        txn.shown = shown;
-        Ok(())
+        edit_txn(self.alloc, &self.content, txn, &op)
     }
 
     fn commit(&mut self, ask: CommitAsk, txn: FlatTxn) -> Result<u64, ChangeFault> {
-        if let Some(refusal) = refusal_of(&self.held, &txn) {
+        if let Some(refusal) = refusal_of(&self.content, &txn) {
             return Err(ChangeFault::Refused(refusal));
         }
-        let number = self.held.count();
-        self.held = with_commit(self.alloc, &self.held, ask, txn)?;
+        let number = self.content.count();
+        self.content = with_commit(self.alloc, &self.content, ask, txn)?;
         Ok(number)
     }
 }
 
 /// The date of the moment.
-fn date_of(alloc: Global, moment: u64) -> Result<Bytes, AllocError>
-    requires { moment ≤ 200000000000000000 }
+fn date_of(alloc: Global, moment: u64) -> Result<ByteString, AllocError>
+    requires { moment ≤ LAST_MOMENT }
     ensures { IfOk result (λ date. IsDateText moment date) }
 {
-    Ok(Bytes::new(date_text(alloc, moment)?.into_bytes()))
+    Ok(ByteString::new(date_text(alloc, moment)?.into_bytes()))
 }
 
-/// What stands at the path of the tree.
-fn kind_at(tree: Option<&FlatTree>, path: &Path) -> NodeKind
-    ensures { result ≡ kind_of (get (map_of (option_copied tree.entry)) path.now) }
+/// Makes the edit in the transaction, and shows it this content.
+fn edit_txn(
+    alloc: Global,
+    content: &Arc<FlatContent>,
+    txn: &mut FlatTxn,
+    op: &EditOp,
+) -> Result<(), AllocError>
+    ensures ok { OnOk result (IsEdited (revisions_of content.now.value)
+        (txn_state_of txn.old) op.now (txn_state_of txn.new)) }
+    ensures err { OnErr result (txn_state_of txn.new ≡ txn_state_of txn.old) }
 {
-    match entry_at(tree, path) {
-        Some(entry) => entry.kind(),
-        None => NodeKind::Absent,
-    }
-}
-
-/// Whether something stands more than so many names beneath the path of the tree.
-fn has_deeper(tree: Option<&FlatTree>, path: &Path, names: usize) -> bool
-    ensures { result ≡ has_deeper (map_of (option_copied tree.entry)) path.now names }
-{
-    match tree {
-        Some(tree) => tree.has_deeper(path, names),
-        None => false,
-    }
-}
-
-/// The revision that last changed the entry, at or under its path.
-fn created(entry: Option<&Entry>) -> Option<u64>
-    ensures { result ≡ created_of (option_copied entry.entry) }
-{
-    match entry {
-        None => None,
-        Some(entry) => match entry.last {
-            Mark::Open => None,
-            Mark::Made(revision, _) => Some(revision as u64),
-        },
-    }
-}
-
-/// The text of the entry, if it is a file.
-fn text(entry: Option<&Entry>) -> Option<&FileText>
-    ensures { option_copied result ≡ text_of (option_copied entry.entry) }
-{
-    match entry {
-        None => None,
-        Some(entry) => match &entry.content {
-            Content::Directory => None,
-            Content::File(text) => Some(text),
-        },
-    }
-}
-
-/// The tree of a transaction that begins from this one.
-fn begun_tree(alloc: Global, tree: Option<&FlatTree>) -> Result<FlatTree, AllocError>
-    ensures { IfOk result (λ t. (q : PathValue) → get t q ≡ begun (tree_of (map_of (option_copied tree.entry))) q) }
-{
-    match tree {
-        Some(tree) => tree.begun(alloc),
-        None => Ok(FlatTree::new(alloc)),
-    }
+    let shown = Arc::try_clone(content)?;
+    edit_parts(alloc, content, &mut txn.tree, &mut txn.changes, op)?;
+    txn.shown = shown;
+    Ok(())
 }
 
 /// Makes the edit in the tree and the changes of a transaction.
 fn edit_parts(
     alloc: Global,
-    held: &Held,
+    content: &FlatContent,
     tree: &mut FlatTree,
     changes: &mut FlatChanges,
     op: &EditOp,
 ) -> Result<(), AllocError>
-    ensures tree { OnOk result ((q : PathValue) → get tree.new q ≡ edited (trees_in (revisions_of held.now)) (tree_of tree.old) op.now q) }
-    ensures changes { OnOk result ((q : PathValue) → get changes.new q ≡ changes_after (changes_of changes.old) op.now q) }
+    ensures tree { OnOk result ((q : PathValue) → get tree.new q
+        ≡ edited (trees_in (revisions_of content.now)) (tree_of tree.old) op.now q) }
+    ensures changes { OnOk result ((q : PathValue)
+        → get changes.new q ≡ changes_after (changes_of changes.old) op.now q) }
     ensures tree_stays { OnErr result (tree.new ≡ tree.old) }
     ensures changes_stay { OnErr result (changes.new ≡ changes.old) }
 {
     match op {
-        EditOp::AddDirectory(path) => add(alloc, tree, changes, path, false),
-        EditOp::AddFile(path) => add(alloc, tree, changes, path, true),
-        EditOp::Copy(source, path) => {
-            let copied = tree.with_copy(alloc, held.tree(source.revision), &source.path, path)?;
-            take_copy(tree, changes, copied, path, source)
-        }
-        EditOp::Replace(source, path) => {
-            let copied = tree.with_copy(alloc, held.tree(source.revision), &source.path, path)?;
-            take_replacement(tree, changes, copied, path, source)
-        }
-        EditOp::Delete(path) => {
-            changes.note_delete(path)?;
-            tree.delete(path);
-            Ok(())
-        }
-        EditOp::SetProperty(path, name, value) => {
-            let properties = tree.properties_with(path, name, value)?;
-            revise_properties(tree, changes, path, properties)
-        }
-        EditOp::RemoveProperty(path, name) => {
-            let properties = tree.properties_without(path, name)?;
-            revise_properties(tree, changes, path, properties)
-        }
-        EditOp::SetText(path, text) => {
-            let text = text.clone()?;
-            changes.note_text(path)?;
-            tree.set_text(path, text);
-            Ok(())
-        }
+        EditOp::AddDirectory(path) => add(alloc, tree, changes, path, Content::Directory),
+        EditOp::AddFile(path) => add(alloc, tree, changes, path, empty_file()),
+        EditOp::Copy(source, path) => copy(alloc, content, tree, changes, source, path),
+        EditOp::Replace(source, path) => replace(alloc, content, tree, changes, source, path),
+        EditOp::Delete(path) => delete(tree, changes, path),
+        EditOp::SetProperty(path, name, value) => set_property(
+            alloc, tree, changes, path, name, value,
+        ),
+        EditOp::RemoveProperty(path, name) => remove_property(alloc, tree, changes, path, name),
+        EditOp::SetText(path, text) => set_text(alloc, tree, changes, path, text),
     }
 }
 
-/// Notes the copy, and then makes this the tree.
-fn take_copy(
-    tree: &mut FlatTree,
-    changes: &mut FlatChanges,
-    copied: FlatTree,
-    path: &Path,
-    source: &Source,
-) -> Result<(), AllocError>
-    ensures tree { OnOk result (tree.new ≡ copied) }
-    ensures changes { OnOk result ((q : PathValue) → get changes.new q ≡ noted_copy source.now (changes_of changes.old) path.now q) }
-    ensures tree_stays { OnErr result (tree.new ≡ tree.old) }
-    ensures changes_stay { OnErr result (changes.new ≡ changes.old) }
-{
-    changes.note_copy(path, source)?;
-    *tree = copied;
-    Ok(())
-}
-
-/// Notes the delete and the copy, and then makes this the tree.
-fn take_replacement(
-    tree: &mut FlatTree,
-    changes: &mut FlatChanges,
-    copied: FlatTree,
-    path: &Path,
-    source: &Source,
-) -> Result<(), AllocError>
-    ensures tree { OnOk result (tree.new ≡ copied) }
-    ensures changes { OnOk result ((q : PathValue) → get changes.new q ≡ noted_copy source.now (noted_delete (changes_of changes.old) path.now) path.now q) }
-    ensures tree_stays { OnErr result (tree.new ≡ tree.old) }
-    ensures changes_stay { OnErr result (changes.new ≡ changes.old) }
-{
-    changes.note_replace(path, source)?;
-    *tree = copied;
-    Ok(())
-}
-
-/// Gives the entry at the path these properties, if there is one. What takes memory comes first.
-fn revise_properties(
-    tree: &mut FlatTree,
-    changes: &mut FlatChanges,
-    path: &Path,
-    properties: Option<Properties>,
-) -> Result<(), AllocError>
-    ensures tree { OnOk result ((f : Entry → Entry)
-        → properties ≡ option_map (λ e. (f e).properties) (get tree.old path.now)
-        → ((e : Entry) → f e ≡ with_properties (f e).properties e) → (q : PathValue)
-        → get tree.new q ≡ revised (tree_of tree.old) path.now f q) }
-    ensures changes { OnOk result ((q : PathValue)
-        → get changes.new q ≡ noted (changes_of changes.old) path.now (after_property (get changes.old path.now)) q) }
-    ensures tree_stays { OnErr result (tree.new ≡ tree.old) }
-    ensures changes_stay { OnErr result (changes.new ≡ changes.old) }
-{
-    changes.note_property(path)?;
-    match properties {
-        Some(properties) => tree.set_properties(path, properties),
-        None => tree.touch(path),
-    }
-    Ok(())
-}
-
-/// Adds a directory, or an empty file. What takes memory comes first, and is taken back where the rest of it
-/// is refused.
-fn add(
+/// Puts a copy of the source at the path, where nothing stands.
+fn copy(
     alloc: Global,
+    content: &FlatContent,
     tree: &mut FlatTree,
     changes: &mut FlatChanges,
+    source: &Source,
     path: &Path,
-    is_file: bool,
 ) -> Result<(), AllocError>
-    ensures tree { OnOk result ((q : PathValue) → get tree.new q ≡ added (tree_of tree.old) path.now (empty_content is_file) q) }
+    ensures tree { OnOk result ((q : PathValue)
+        → get tree.new q ≡ copied (trees_in (revisions_of content.now) source.now.revision) source.now.path (tree_of tree.old) path.now q) }
     ensures changes { OnOk result ((q : PathValue)
-        → get changes.new q ≡ noted (changes_of changes.old) path.now (after_add None (get changes.old path.now)) q) }
+        → get changes.new q ≡ noted_copy source.now (changes_of changes.old) path.now q) }
     ensures tree_stays { OnErr result (tree.new ≡ tree.old) }
     ensures changes_stay { OnErr result (changes.new ≡ changes.old) }
 {
-    let made = tree.make_room(alloc, path, is_file)?;
-    match changes.note_add(path) {
-        Ok(()) => {
-            tree.renew(alloc, path, is_file);
-            Ok(())
-        }
-        Err(error) => {
-            if made {
-                tree.remove(path);
-            }
-            Err(error)
-        }
-    }
+    let copied = copied_tree(alloc, content, tree, source, path)?;
+    take_copy(tree, changes, copied, path, source)
+}
+
+/// Puts a copy of the source at the path, in the place of what stands there.
+fn replace(
+    alloc: Global,
+    content: &FlatContent,
+    tree: &mut FlatTree,
+    changes: &mut FlatChanges,
+    source: &Source,
+    path: &Path,
+) -> Result<(), AllocError>
+    ensures tree { OnOk result ((q : PathValue)
+        → get tree.new q ≡ copied (trees_in (revisions_of content.now) source.now.revision) source.now.path (tree_of tree.old) path.now q) }
+    ensures changes { OnOk result ((q : PathValue)
+        → get changes.new q ≡ noted_copy source.now (noted_delete (changes_of changes.old) path.now) path.now q) }
+    ensures tree_stays { OnErr result (tree.new ≡ tree.old) }
+    ensures changes_stay { OnErr result (changes.new ≡ changes.old) }
+{
+    let copied = copied_tree(alloc, content, tree, source, path)?;
+    take_replacement(tree, changes, copied, path, source)
+}
+
+/// The tree after a copy of the source to the path.
+fn copied_tree(
+    alloc: Global,
+    content: &FlatContent,
+    tree: &FlatTree,
+    source: &Source,
+    path: &Path,
+) -> Result<FlatTree, AllocError>
+    ensures { IfOk result (λ t. (q : PathValue)
+        → get t q ≡ copied (trees_in (revisions_of content.now) source.now.revision) source.now.path (tree_of tree.now) path.now q) }
+{
+    tree.with_copy(alloc, content.tree(source.revision), &source.path, path)
 }
 
 /// Why the commit is refused, if it is.
-fn refusal_of(held: &Held, txn: &FlatTxn) -> Option<Refusal>
-    ensures { (ask : CommitAsk) → result ≡ commit_refusal (content_of held.now) ask (txn_state_of txn.now) }
+fn refusal_of(content: &FlatContent, txn: &FlatTxn) -> Option<Refusal>
+    ensures { (ask : CommitAsk)
+        → result ≡ commit_refusal (content_of content.now) ask (txn_state_of txn.now) }
 {
-    if has_conflict(held, txn.base, &txn.tree) {
+    if has_conflict(content, txn.base, &txn.tree) {
         Some(Refusal::Conflict)
-    } else if held.count() >= REVISION_LIMIT {
+    } else if content.count() >= REVISION_LIMIT {
         Some(Refusal::NotSupported)
     } else {
         None
@@ -354,44 +260,83 @@ fn refusal_of(held: &Held, txn: &FlatTxn) -> Option<Refusal>
 }
 
 /// Whether the tree of a transaction from this base is in conflict with the youngest revision's.
-fn has_conflict(held: &Held, base: u64, tree: &FlatTree) -> bool
-    ensures { result ≡ has_conflict (tree_at (content_of held.now) base) tree.now (tree_at (content_of held.now) (youngest (content_of held.now))) }
+fn has_conflict(content: &FlatContent, base: u64, tree: &FlatTree) -> bool
+    ensures { result ≡ has_conflict (tree_at (content_of content.now) base) tree.now
+        (tree_at (content_of content.now) (youngest (content_of content.now))) }
 {
-    tree.has_conflict(held.tree(base), held.tree(held.youngest()))
+    tree.has_conflict(content.tree(base), content.tree(content.youngest()))
 }
 
 /// The tree of the revision that a commit of this tree, from this base, adds.
-fn next_tree(alloc: Global, held: &Held, base: u64, tree: &FlatTree) -> Result<FlatTree, AllocError>
-    requires { length (revisions_of held.now) < revision_limit }
-    ensures { IfOk result (λ t. t ≡ merged_map (length (revisions_of held.now))
-        (tree_at (content_of held.now) base) tree.now (tree_at (content_of held.now) (youngest (content_of held.now)))) }
+fn next_tree(
+    alloc: Global,
+    content: &FlatContent,
+    base: u64,
+    tree: &FlatTree,
+) -> Result<FlatTree, AllocError>
+    requires { length (revisions_of content.now) < REVISION_LIMIT }
+    ensures { IfOk result (λ t. t ≡ merged_map (length (revisions_of content.now))
+        (tree_at (content_of content.now) base) tree.now (tree_at (content_of content.now) (youngest (content_of content.now)))) }
 {
-    let revision = held.count() as u32;
-    tree.merged(alloc, revision, held.tree(base), held.tree(held.youngest()))
+    let revision = content.count() as u32;
+    let youngest = content.tree(content.youngest());
+    tree.merged(alloc, revision, content.tree(base), youngest)
 }
 
 /// What is held after the commit.
 fn with_commit(
     alloc: Global,
-    held: &Held,
+    content: &FlatContent,
     ask: CommitAsk,
     txn: FlatTxn,
-) -> Result<Arc<Held>, AllocError>
-    requires { length (revisions_of held.now) < revision_limit }
-    ensures { IfOk result (λ h. content_of h.value ≡ committed (content_of held.now) ask (txn_state_of txn)) }
+) -> Result<Arc<FlatContent>, AllocError>
+    requires { length (revisions_of content.now) < REVISION_LIMIT }
+    ensures { IfOk result (λ c. content_of c.value
+        ≡ committed (content_of content.now) ask (txn_state_of txn)) }
 {
-    let FlatTxn {
-        shown,
-        base,
-        tree,
-        changes,
-    } = txn;
-    drop(shown);
-    let properties = revision_properties(alloc, ask)?;
-    let kept = Kept {
-        tree: next_tree(alloc, held, base, &tree)?,
-        changes,
-    };
-    let held = held.with_revision(alloc, kept, properties)?;
-    Ok(Arc::new(alloc, held)?)
+    let tree = next_tree(alloc, content, txn.base, &txn.tree)?;
+    with_revision(alloc, content, ask, tree, txn.changes)
+}
+
+/// What is held after a revision with this tree and these changes, and with the properties that are asked for.
+fn with_revision(
+    alloc: Global,
+    content: &FlatContent,
+    ask: CommitAsk,
+    tree: FlatTree,
+    changes: FlatChanges,
+) -> Result<Arc<FlatContent>, AllocError>
+    ensures revisions { IfOk result (λ c. revisions_of c.value ≡ revisions_of content.now
+        ++ record { tree = tree; changes = changes } ∷ []) }
+    ensures properties { IfOk result (λ c. properties_of c.value ≡ properties_of content.now
+        ++ revision_properties ask ∷ []) }
+    ensures uuid { IfOk result (λ c. c.value.uuid ≡ content.now.uuid) }
+{
+    let revision = Arc::new(alloc, FlatRevision { tree, changes })?;
+    let properties = next_properties(alloc, ask)?;
+    with_one_more(alloc, content, &revision, &properties)
+}
+
+/// What is held after one revision more, which is shared.
+fn with_one_more(
+    alloc: Global,
+    content: &FlatContent,
+    revision: &Arc<FlatRevision>,
+    properties: &Arc<Properties>,
+) -> Result<Arc<FlatContent>, AllocError>
+    ensures revisions { IfOk result (λ c. revisions_of c.value ≡ revisions_of content.now
+        ++ fixed_of revision.now.value ∷ []) }
+    ensures properties { IfOk result (λ c. properties_of c.value ≡ properties_of content.now
+        ++ properties.now.value ∷ []) }
+    ensures uuid { IfOk result (λ c. c.value.uuid ≡ content.now.uuid) }
+{
+    let next = content.with_revision(alloc, revision, properties)?;
+    Ok(Arc::new(alloc, next)?)
+}
+
+/// The properties of the revision that is asked for.
+fn next_properties(alloc: Global, ask: CommitAsk) -> Result<Arc<Properties>, AllocError>
+    ensures { IfOk result (λ ps. ps.value ≡ revision_properties ask) }
+{
+    Ok(Arc::new(alloc, revision_properties(alloc, ask)?)?)
 }

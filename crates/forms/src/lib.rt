@@ -1,4 +1,5 @@
-//! The forms of commands: a name and its parameters, what a parameter may be, and why an item is no command.
+//! The forms of commands: a name and its parameters, what a parameter may be, and why an item is no
+//! command.
 #![tactic(auto)]
 
 mod fault;
@@ -6,5 +7,8 @@ mod form;
 mod pairs;
 
 pub use fault::CommandFault;
-pub use form::{copy_text, read_boolean, read_form, read_optional_number, read_optional_string};
+pub use form::{
+    copy_optional, read_boolean, read_form, read_items, read_list, read_number,
+    read_optional_number, read_optional_string, read_string, read_word,
+};
 pub use pairs::{Pairs, read_pairs};

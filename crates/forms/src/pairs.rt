@@ -1,21 +1,20 @@
 //! Pairs of strings.
 ghost use Rattle.std.specs.Prelude.{◌≡◌, ◌∷◌, ◌++◌, [], OnOk, OnErr, option_map};
-ghost use Rattle.std.specs.Option.{ok_or};
-ghost use Rattle.items.specs.View.{tree_of, trees_of};
-ghost use Rattle.forms.specs.Answering.{Answers};
-ghost use Rattle.forms.specs.Forms.{pair, first_of_pair, second_of_pair, pairs};
-ghost use Rattle.forms.specs.declared.fault.CommandFault.TheVariants.{BadParameters};
+ghost use Rattle.items.specs.View.{value_of, values_of};
+ghost use Rattle.forms.specs.Answering.{Reads};
+ghost use Rattle.forms.specs.Forms.{pair, pairs};
 
 use crate::fault::CommandFault;
-use crate::form::copy_text;
-use items::{Item, Text};
+use crate::form::{read_items, read_string};
+use byte_string::ByteString;
+use items::Item;
 use std::alloc::{AllocError, Global};
 use std::marker::Model;
 
 /// Pairs of strings: paths with tokens, or names with values.
 #[derive(Drop)]
 pub struct Pairs {
-    pairs: Vec<(Text, Text)>,
+    pairs: Vec<(ByteString, ByteString)>,
 }
 
 impl Model for Pairs {
@@ -37,7 +36,7 @@ impl Pairs {
     }
 
     /// Puts a pair at the end.
-    pub fn push(&mut self, first: Text, second: Text) -> Result<(), AllocError>
+    pub fn push(&mut self, first: ByteString, second: ByteString) -> Result<(), AllocError>
         ensures ok { OnOk result (self.new ≡ self.old ++ (first, second) ∷ []) }
         ensures err { OnErr result (self.new ≡ self.old) }
     {
@@ -45,7 +44,7 @@ impl Pairs {
     }
 
     /// The pairs in their order.
-    pub fn as_slice(&self) -> &[(Text, Text)]
+    pub fn as_slice(&self) -> &[(ByteString, ByteString)]
         ensures { result.now ≡ self.now }
     {
         self.pairs.as_slice()
@@ -54,40 +53,21 @@ impl Pairs {
 
 /// `( string string ) ...`
 pub fn read_pairs(alloc: Global, items: &[Item]) -> Result<Pairs, CommandFault>
-    ensures { Answers result (ok_or (pairs (trees_of items.now)) BadParameters) }
+    ensures { Reads result (pairs (values_of items.now)) }
 {
     let mut pairs = Pairs::new(alloc);
     for item in items {
         let (first, second) = read_pair(item).ok_or(CommandFault::BadParameters)?;
-        pairs.push(copy_text(alloc, first)?, copy_text(alloc, second)?)?;
+        pairs.push(first.clone()?, second.clone()?)?;
     }
     Ok(pairs)
 }
 
 /// `( string string )`
-fn read_pair(item: &Item) -> Option<(&Text, &Text)>
-    ensures { option_map (λ p. (p.0.now, p.1.now)) result ≡ pair (tree_of item.now) }
+fn read_pair(item: &Item) -> Option<(&ByteString, &ByteString)>
+    ensures { option_map (λ p. (p.0.now, p.1.now)) result ≡ pair (value_of item.now) }
 {
-    match item {
-        Item::List(items) => read_first(items.as_slice()),
-        _ => None,
-    }
-}
-
-fn read_first(items: &[Item]) -> Option<(&Text, &Text)>
-    ensures { option_map (λ p. (p.0.now, p.1.now)) result ≡ first_of_pair (trees_of items.now) }
-{
-    match items {
-        [Item::Str(first), rest @ ..] => read_second(first, rest),
-        _ => None,
-    }
-}
-
-fn read_second<'a>(first: &'a Text, items: &'a [Item]) -> Option<(&'a Text, &'a Text)>
-    ensures { option_map (λ p. (p.0.now, p.1.now)) result ≡ second_of_pair first.now (trees_of items.now) }
-{
-    match items {
-        [Item::Str(second), ..] => Some((first, second)),
-        _ => None,
-    }
+    let (first, rest) = read_string(read_items(item)?)?;
+    let (second, _) = read_string(rest)?;
+    Some((first, second))
 }

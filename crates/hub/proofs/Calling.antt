@@ -1,11 +1,11 @@
 -- What calls keep.
-use Rattle.std.proofs.Common.{◌≡◌, ℕ, ◌+◌, List, [], ◌∷◌, ◌++◌, take, drop, take-append-drop, Some, refl, sym, ap, subst}
+use Rattle.std.proofs.Common.{◌≡◌, ℕ, ◌+◌, List, [], ◌∷◌, ◌++◌, take, drop, take-append-drop, Some, refl, sym, ap, subst, arith}
 use Rattle.repo_api.specs.States.{RepoState, IsBeginning}
 use Rattle.replies.specs.declared.reply.Reply.{Reply}
 use Rattle.machine.specs.Stages.{SessionState}
 use Rattle.machine.specs.declared.env.Env.{Env}
 use Rattle.hub.specs.State.{HubState, HasTrees, session_of, updated}
-use Rattle.hub.specs.Runs.{Event, HubStep, HubRun, heard}
+use Rattle.hub.specs.Runs.{Event, HubStep, HubRun, with_rest}
 use Rattle.hub.specs.Runs.Event.{Connects, Drops}
 use Rattle.hub.specs.Calls.{CallStep, CallRun, BeginsCalls}
 use Rattle.hub.specs.Laws.{KeepsConstants, KeepsProperties, OverwritesNothing, KeepsAll}
@@ -14,7 +14,7 @@ use Rattle.hub.specs.declared.calls.Call.{Call}
 use Rattle.hub.specs.declared.calls.Call.TheVariants.{Connect, Feed, Disconnect}
 use Rattle.hub.specs.declared.calls.Outcome.{Outcome}
 use Rattle.hub.specs.declared.calls.Outcome.TheVariants.{Connected, Wrote, Dropped, Failed}
-use Rattle.hub.proofs.Everywhere.{HasTrees-heard}
+use Rattle.hub.proofs.Everywhere.{HasTrees-with_rest}
 use Rattle.hub.proofs.Staying.{KeepsRevisions, same_revisions, keeps_on, run_keeps, same_properties, properties_on, run_keeps_properties, OnlyCommits, no_commits, commits_on, run_commits, same_constants, constants_on, run_constants}
 use Rattle.hub.proofs.Failing.{AreCounted, none_counted, counted_on, run_counted, StaysHalted, none_halted, halted_on, run_halted}
 
@@ -32,7 +32,7 @@ record Makes (old new : HubState) : Type 0 where
   run : HubRun (with_sessions old sessions) env events told new after
 
 some_words : Env
-some_words = record { moment = 0; token = 0; nonce = 0 }
+some_words = record { moment = 0; token = 0; nonce = 0; dated = omega arith }
 
 makes_nothing : (old new : HubState) → new ≡ old → Makes old new
 makes_nothing old new is = record {
@@ -59,10 +59,10 @@ makes_one old new e told step = record {
 
 makes_heard : (old : HubState) (n : ℕ) (s : SessionState) (rest : List ℕ)
     (env after : Env) (events : List Event) (told : List Reply) (new : HubState)
-    → session_of old.sessions n ≡ Some s → HubRun (heard old n s rest) env events told new after → Makes old new
+    → session_of old.sessions n ≡ Some s → HubRun (with_rest old n s rest) env events told new after → Makes old new
 makes_heard old n s rest env after events told new found run = record {
   sessions = updated old.sessions n (record { rest = rest; phase = s.phase });
-  trees = HasTrees-heard old n s rest found;
+  trees = HasTrees-with_rest old n s rest found;
   env = env;
   after = after;
   events = events;

@@ -4,24 +4,24 @@ use Rattle.std.proofs.Common.{◌≡◌, ℕ, List, [], ◌∷◌, ◌++◌, map
 use Rattle.repo_api.specs.States.{RepoState}
 use Rattle.repo_api.specs.Accepted.{Accepted, changed, changed_all}
 use Rattle.replies.specs.declared.reply.Reply.{Reply}
-use Rattle.machine.specs.Points.{Point, world}
+use Rattle.access.specs.Points.{Point, AccessRules, content_of}
 use Rattle.machine.specs.Settings.{Settings}
 use Rattle.machine.specs.Hearing.{Input}
 use Rattle.machine.specs.Stages.{Stage, SessionState, is_open}
 use Rattle.machine.specs.Machine.{Verdict, Effect, Answer, InputStep, Counts, no_effect, is_halt, says, content_after, halted_after}
-use Rattle.machine.specs.Machine.Verdict.{Went, Failed, Halts}
-use Rattle.machine.specs.Access.{Serves, AddsAll, Stores, Moves, SessionRun}
+use Rattle.machine.specs.Machine.Verdict.{Written, NotWritten, Unknown}
+use Rattle.machine.specs.Steps.{AddsAll, Stores, EffectAt, StepAt, SessionRun, input_step}
 use Rattle.machine.specs.declared.env.Env.{Env}
 use Rattle.machine.specs.declared.phase.Phase.TheVariants.{Greeted, LoggingIn, Serving, Editing, Skipping, Ended}
 use Rattle.hub.specs.State.{HubState, hub_at, session_of, updated, without, kept}
 use Rattle.hub.specs.Runs.{Event, InputHappens, HubStep, HubRun, InputsAre, answered}
-use Rattle.hub.specs.Runs.Event.{Gets}
+use Rattle.hub.specs.Runs.Event.{Hears}
 use Rattle.hub.specs.SessionLaws.{session_of-updated, session_of-without}
 use Rattle.hub.proofs.Failing.{or_false, or_true}
 use Rattle.hub.proofs.Places.{updated_same, without_none, kept_kept, kept_ended, without-kept}
 
 abbrev pub events_of : ℕ → List Input → List Event
-events_of n inputs = map (Gets n) inputs
+events_of n inputs = map (Hears n) inputs
 
 pub inputs_are : (n : ℕ) (inputs : List Input) → InputsAre n inputs (events_of n inputs)
 inputs_are n [] = tt
@@ -47,7 +47,7 @@ ended_is : (phase : Stage) → is_open phase ≡ false → phase ≡ Ended
 ended_is Greeted e = cc
 ended_is (LoggingIn client) e = cc
 ended_is (Serving client) e = cc
-ended_is (Editing client asked edit) e = cc
+ended_is (Editing edit) e = cc
 ended_is (Skipping client) e = cc
 ended_is Ended e = refl
 
@@ -72,33 +72,40 @@ same_state xs n r phase h =
     elim (is_open phase) as (λ b. session_of xs n ≡ (if b then Some t else None) → (if b then updated xs n t else without xs n) ≡ xs)
     [ true ↦ λ e. updated_same xs n t e | false ↦ λ e. without_none xs n e ] h
 
-module _ (between : Point → Point → Type 0) (adds : Point → Accepted → Point → Type 0) (s : Settings)
-    (alone : (p q : Point) → between p q → (world p ≡ world q) × (p.halted ≡ q.halted) × (p.failures ≡ q.failures))
-    (counts : (p : Point) (e : Accepted) (q : Point) → adds p e q → (world q ≡ changed (world p) e) × (q.halted ≡ p.halted) × (q.failures ≡ p.failures)) where
+-- others change nothing
+abbrev pub StandsAlone : AccessRules → Type 0
+StandsAlone rules = (p q : Point) → rules.between p q → (content_of p ≡ content_of q) × (p.halted ≡ q.halted) × (p.failures ≡ q.failures)
+
+-- a change is the one that was asked for
+abbrev pub AddsOwn : AccessRules → Type 0
+AddsOwn rules = (p : Point) (e : Accepted) (q : Point) → rules.adds p e q
+    → (content_of q ≡ changed (content_of p) e) × (q.halted ≡ p.halted) × (q.failures ≡ p.failures)
+
+module _ (rules : AccessRules) (s : Settings) (alone : StandsAlone rules) (counts : AddsOwn rules) where
   -- what an effect makes of a point
   record Moved (p : Point) (e : Effect) (q : Point) : Type 0 where
-    content : world q ≡ content_after (world p) e
+    content : content_of q ≡ content_after (content_of p) e
     halted : q.halted ≡ halted_after p.halted e
     counted : Counts e.store p.failures q.failures
 
   record Added (p : Point) (es : List Accepted) (q : Point) : Type 0 where
-    content : world q ≡ changed_all (world p) es
+    content : content_of q ≡ changed_all (content_of p) es
     halted : q.halted ≡ p.halted
     failures : q.failures ≡ p.failures
 
-  added : (p : Point) (es : List Accepted) (q : Point) → AddsAll adds p es q → Added p es q
-  added p [] q is = record { content = ap world is; halted = ap (λ (x : Point). x.halted) is; failures = ap (λ (x : Point). x.failures) is }
+  added : (p : Point) (es : List Accepted) (q : Point) → AddsAll rules p es q → Added p es q
+  added p [] q is = record { content = ap content_of is; halted = ap (λ (x : Point). x.halted) is; failures = ap (λ (x : Point). x.failures) is }
   added p (e ∷ es) q (mid, first, rest) =
       let one = counts p e mid first in
       let more = added mid es q rest in
       record { content = more.content ∙ ap (λ (c : RepoState). changed_all c es) one.0; halted = more.halted ∙ one.1; failures = more.failures ∙ one.2 }
 
-  stored : (v : Verdict) (p q : Point) → Stores v p q → (world q ≡ world p) × (q.halted ≡ (p.halted || is_halt v)) × Counts v p.failures q.failures
-  stored Went p q is = (ap world is, ap (λ (x : Point). x.halted) is ∙ sym (or_false p.halted), ap (λ (x : Point). x.failures) is)
-  stored Failed p q failed = (failed.same, failed.halted ∙ sym (or_false p.halted), failed.risen)
-  stored Halts p q halt = (halt.same, halt.halted ∙ sym (or_true p.halted), halt.risen)
+  stored : (v : Verdict) (p q : Point) → Stores v p q → (content_of q ≡ content_of p) × (q.halted ≡ (p.halted || is_halt v)) × Counts v p.failures q.failures
+  stored Written p q is = (ap content_of is, ap (λ (x : Point). x.halted) is ∙ sym (or_false p.halted), ap (λ (x : Point). x.failures) is)
+  stored NotWritten p q failed = (failed.same, failed.halted ∙ sym (or_false p.halted), failed.risen)
+  stored Unknown p q halt = (halt.same, halt.halted ∙ sym (or_true p.halted), halt.risen)
 
-  moved : (p : Point) (e : Effect) (q : Point) → Moves adds p e q → Moved p e q
+  moved : (p : Point) (e : Effect) (q : Point) → EffectAt rules p e q → Moved p e q
   moved p e q (mid, adding, storing) =
       let all = added p e.changes mid adding in
       let last = stored e.store mid q storing in
@@ -109,7 +116,7 @@ module _ (between : Point → Point → Type 0) (adds : Point → Accepted → P
       }
 
   -- an input's effect leads to the next point
-  served : (env : Env) (p : Point) (phase : Stage) (input : Input) (a : Answer) (q : Point) → Serves between adds s env p phase input a q → Moved p a.effect q
+  served : (env : Env) (p : Point) (phase : Stage) (input : Input) (a : Answer) (q : Point) → StepAt rules (input_step s env phase input) p a q → Moved p a.effect q
   served env p phase input a q serves =
       let same = alone p serves.at serves.later in
       let on = moved serves.at a.effect q serves.moves in
@@ -120,19 +127,19 @@ module _ (between : Point → Point → Type 0) (adds : Point → Accepted → P
       }
 
   -- the input's answer stands at the point where the hub is
-  step_here : (env : Env) (p : Point) (phase : Stage) (input : Input) (a : Answer) (q : Point) → Serves between adds s env p phase input a q
-      → InputStep p.halted s env (world p) phase input a
+  step_here : (env : Env) (p : Point) (phase : Stage) (input : Input) (a : Answer) (q : Point) → StepAt rules (input_step s env phase input) p a q
+      → InputStep p.halted s env (content_of p) phase input a
   step_here env p phase input a q serves =
       let same = alone p serves.at serves.later in
       subst (λ (w : RepoState). InputStep p.halted s env w phase input a) (sym same.0)
-      (subst (λ (b : Bool). InputStep b s env (world serves.at) phase input a) (sym same.1) serves.step_is)
+      (subst (λ (b : Bool). InputStep b s env (content_of serves.at) phase input a) (sym same.1) serves.step_is)
 
   answered_at : (env : Env) (p : Point) (r : List ℕ) (phase : Stage) (input : Input) (a : Answer) (q : Point) (xs : List (ℕ × SessionState)) (used n : ℕ)
-      → Serves between adds s env p phase input a q
+      → StepAt rules (input_step s env phase input) p a q
       → hub_at s q (kept xs n (record { rest = r; phase = a.phase })) used ≡ answered (hub_at s p xs used) n (record { rest = r; phase = phase }) a q.failures
   answered_at env p r phase input a q xs used n serves =
       let on = served env p phase input a q serves in
-      let content : world q ≡ content_after (world p) a.effect = on.content in
+      let content : content_of q ≡ content_after (content_of p) a.effect = on.content in
       let halted : q.halted ≡ halted_after p.halted a.effect = on.halted in
       λ i. record {
         settings = s;
@@ -145,7 +152,7 @@ module _ (between : Point → Point → Type 0) (adds : Point → Accepted → P
 
   -- a session that has ended does nothing more
   record Quiet (env : Env) (p : Point) (told : List Reply) (env' : Env) (p' : Point) (phase' : Stage) : Type 0 where
-    world_is : world p' ≡ world p
+    content_is : content_of p' ≡ content_of p
     halted_is : p'.halted ≡ p.halted
     failures_is : p'.failures ≡ p.failures
     silent : told ≡ []
@@ -153,19 +160,19 @@ module _ (between : Point → Point → Type 0) (adds : Point → Accepted → P
     ended : phase' ≡ Ended
 
   quiet : (env : Env) (p : Point) (inputs : List Input) (told : List Reply) (env' : Env) (p' : Point) (phase' : Stage)
-      → SessionRun between adds s env p Ended inputs told env' p' phase' → Quiet env p told env' p' phase'
+      → SessionRun rules s env p Ended inputs told env' p' phase' → Quiet env p told env' p' phase'
   quiet env p [] told env' p' phase' run =
       let same = alone p p' run.0 in
-      record { world_is = sym same.0; halted_is = sym same.1; failures_is = sym same.2; silent = run.1; words = run.2; ended = run.3 }
+      record { content_is = sym same.0; halted_is = sym same.1; failures_is = sym same.2; silent = run.1; words = run.2; ended = run.3 }
   quiet env p (input ∷ inputs) told env' p' phase' (a, q, more, serves, run, is_told) =
       let is : a ≡ says env Ended [] = serves.step_is in
-      let run' : SessionRun between adds s env q Ended inputs more env' p' phase' = subst (λ (b : Answer). SessionRun between adds s b.env q b.phase inputs more env' p' phase') is run in
-      let moves : Moves adds serves.at no_effect q = subst (λ (b : Answer). Moves adds serves.at b.effect q) is serves.moves in
+      let run' : SessionRun rules s env q Ended inputs more env' p' phase' = subst (λ (b : Answer). SessionRun rules s b.env q b.phase inputs more env' p' phase') is run in
+      let moves : EffectAt rules serves.at no_effect q = subst (λ (b : Answer). EffectAt rules serves.at b.effect q) is serves.moves in
       let stays : q ≡ serves.at = moves.2 ∙ moves.1 in
       let same = alone p serves.at serves.later in
       let rest = quiet env q inputs more env' p' phase' run' in
       record {
-        world_is = rest.world_is ∙ ap world stays ∙ sym same.0;
+        content_is = rest.content_is ∙ ap content_of stays ∙ sym same.0;
         halted_is = rest.halted_is ∙ ap (λ (x : Point). x.halted) stays ∙ sym same.1;
         failures_is = rest.failures_is ∙ ap (λ (x : Point). x.failures) stays ∙ sym same.2;
         silent = is_told ∙ ap (λ (b : Answer). b.replies ++ more) is ∙ rest.silent;
@@ -181,7 +188,7 @@ module _ (between : Point → Point → Type 0) (adds : Point → Accepted → P
 
   -- the last state of the session alone counts
   finals : (xs : List (ℕ × SessionState)) (n : ℕ) (r : List ℕ) (env : Env) (p : Point) (phase : Stage) (inputs : List Input) (told : List Reply) (env' : Env) (p' : Point) (phase' : Stage)
-      → SessionRun between adds s env p phase inputs told env' p' phase'
+      → SessionRun rules s env p phase inputs told env' p' phase'
       → kept (kept xs n (record { rest = r; phase = phase })) n (record { rest = r; phase = phase' }) ≡ kept xs n (record { rest = r; phase = phase' })
   finals xs n r env p phase inputs told env' p' phase' run =
       let t : SessionState = record { rest = r; phase = phase } in
@@ -189,20 +196,20 @@ module _ (between : Point → Point → Type 0) (adds : Point → Accepted → P
       elim (is_open phase) as (λ b. is_open phase ≡ b → kept (kept xs n t) n t' ≡ kept xs n t') [
         | true ↦ λ e. kept_kept xs n t t' e
         | false ↦ λ e.
-            let k = quiet env p inputs told env' p' phase' (subst (λ (x : Stage). SessionRun between adds s env p x inputs told env' p' phase') (ended_is phase e) run) in
+            let k = quiet env p inputs told env' p' phase' (subst (λ (x : Stage). SessionRun rules s env p x inputs told env' p' phase') (ended_is phase e) run) in
             let e' : is_open phase' ≡ false = ap is_open k.ended in
             kept_ended (kept xs n t) n t' e' ∙ without-kept xs n t ∙ sym (kept_ended xs n t' e')
       ] refl
 
   nothing : (xs : List (ℕ × SessionState)) (used n : ℕ) (r : List ℕ) (p p' : Point) (phase phase' : Stage) → Holds xs n r phase
-      → world p' ≡ world p → p'.halted ≡ p.halted → p'.failures ≡ p.failures → phase' ≡ phase
+      → content_of p' ≡ content_of p → p'.halted ≡ p.halted → p'.failures ≡ p.failures → phase' ≡ phase
       → hub_at s p' (kept xs n (record { rest = r; phase = phase' })) used ≡ hub_at s p xs used
   nothing xs used n r p p' phase phase' h w e k f =
       let sessions : kept xs n (record { rest = r; phase = phase' }) ≡ xs = ap (λ (x : Stage). kept xs n (record { rest = r; phase = x })) f ∙ same_state xs n r phase h in
       λ i. record { settings = s; content = w i; halted = e i; failures = k i; sessions = sessions i; used = used }
 
   one_more : (xs : List (ℕ × SessionState)) (used n : ℕ) (r : List ℕ) (env : Env) (p : Point) (phase : Stage) (input : Input) (inputs : List Input) (told : List Reply) (env' : Env) (p' : Point) (phase' : Stage)
-      (a : Answer) (q : Point) (more : List Reply) (serves : Serves between adds s env p phase input a q) (run : SessionRun between adds s a.env q a.phase inputs more env' p' phase')
+      (a : Answer) (q : Point) (more : List Reply) (serves : StepAt rules (input_step s env phase input) p a q) (run : SessionRun rules s a.env q a.phase inputs more env' p' phase')
       → told ≡ a.replies ++ more → session_of xs n ≡ Some (record { rest = r; phase = phase })
       → HubRun (hub_at s q (kept xs n (record { rest = r; phase = a.phase })) used) a.env (events_of n inputs) more
       (hub_at s p' (kept (kept xs n (record { rest = r; phase = a.phase })) n (record { rest = r; phase = phase' })) used) env'
@@ -222,18 +229,18 @@ module _ (between : Point → Point → Type 0) (adds : Point → Accepted → P
 
   -- after the end nothing more happens
   ended_run : (xs : List (ℕ × SessionState)) (used n : ℕ) (r : List ℕ) (env : Env) (p : Point) (inputs : List Input) (told : List Reply) (env' : Env) (p' : Point) (phase' : Stage)
-      → session_of xs n ≡ None → SessionRun between adds s env p Ended inputs told env' p' phase'
+      → session_of xs n ≡ None → SessionRun rules s env p Ended inputs told env' p' phase'
       → HubRun (hub_at s p xs used) env (events_of n inputs) told (hub_at s p' (kept xs n (record { rest = r; phase = phase' })) used) env'
   ended_run xs used n r env p inputs told env' p' phase' h run =
       let k = quiet env p inputs told env' p' phase' run in
       let new = hub_at s p' (kept xs n (record { rest = r; phase = phase' })) used in
-      let same : hub_at s p xs used ≡ new = sym (nothing xs used n r p p' Ended phase' h k.world_is k.halted_is k.failures_is k.ended) in
+      let same : hub_at s p xs used ≡ new = sym (nothing xs used n r p p' Ended phase' h k.content_is k.halted_is k.failures_is k.ended) in
       subst (λ (x : List Reply). HubRun (hub_at s p xs used) env (events_of n inputs) x new env') (sym k.silent)
       (subst (λ (x : Env). HubRun (hub_at s p xs used) env (events_of n inputs) [] new x) (sym k.words)
       (subst (λ (x : HubState). HubRun (hub_at s p xs used) env (events_of n inputs) [] x env) same (dropped (hub_at s p xs used) env n inputs h)))
 
   pub composed : (xs : List (ℕ × SessionState)) (used n : ℕ) (r : List ℕ) (env : Env) (p : Point) (phase : Stage) (inputs : List Input) (told : List Reply) (env' : Env) (p' : Point) (phase' : Stage)
-      → Holds xs n r phase → SessionRun between adds s env p phase inputs told env' p' phase'
+      → Holds xs n r phase → SessionRun rules s env p phase inputs told env' p' phase'
       → HubRun (hub_at s p xs used) env (events_of n inputs) told (hub_at s p' (kept xs n (record { rest = r; phase = phase' })) used) env'
   composed xs used n r env p phase [] told env' p' phase' h run =
       let same = alone p p' run.0 in
@@ -247,7 +254,7 @@ module _ (between : Point → Point → Type 0) (adds : Point → Accepted → P
             (composed (kept xs n (record { rest = r; phase = run.0.phase })) used n r run.0.env run.1 run.0.phase inputs run.2 env' p' phase' (holds_kept xs n r _ run.0.phase found) run.4)
         | false ↦ λ e.
             ended_run xs used n r env p (input ∷ inputs) told env' p' phase' (none_ended xs n r phase e h)
-            (subst (λ (x : Stage). SessionRun between adds s env p x (input ∷ inputs) told env' p' phase') (ended_is phase e) run)
+            (subst (λ (x : Stage). SessionRun rules s env p x (input ∷ inputs) told env' p' phase') (ended_is phase e) run)
       ] refl
 
 -- one event more

@@ -21,7 +21,6 @@ use Rattle.commands.specs.declared.login.ClientGreeting.{ClientGreeting}
 use Rattle.commands.specs.declared.login.AuthResponse.{AuthResponse}
 use Rattle.edit_commands.specs.Editing.{editor_command, ends_edit}
 use Rattle.edit_commands.specs.declared.editing.EditorCommand.{EditorCommand}
-use Rattle.edit_rules.specs.Edits.{EditState}
 use Rattle.edit_rules.specs.Refusing.{edit_refusal}
 use Rattle.edit_rules.specs.Editor.{finished}
 use Rattle.replies.specs.declared.reply.Reply.TheVariants.{Success, NoLogin, CommitInfo}
@@ -29,8 +28,8 @@ use Rattle.machine.specs.Settings.{Settings}
 use Rattle.machine.specs.Stages.{Stage}
 use Rattle.machine.specs.Hearing.{Input}
 use Rattle.machine.specs.Hearing.Input.{Whole, Broken}
-use Rattle.machine.specs.Machine.{Verdict, Answer, InputStep, Edits, CommitStep, CloseStep, CommandStep, EditingStep, ending_of, says, speaks, url_answer, greeting_answer, login_answer, command_answer, asked_by, lock_tokens, commit_begins, commit_ask, commit_answer, skipping_answer}
-use Rattle.machine.specs.Machine.Verdict.{Went, Failed, Halts}
+use Rattle.machine.specs.Machine.{Verdict, Answer, InputStep, MachineEdit, JudgedEdit, CommitStep, CloseStep, CommandStep, EditingStep, ending_of, says, speaks, url_answer, greeting_answer, login_answer, command_answer, own_answer, asked_by, lock_tokens, commit_begins, commit_ask, commit_answer, skipping_answer}
+use Rattle.machine.specs.Machine.Verdict.{Written, NotWritten, Unknown}
 use Rattle.machine.specs.declared.asked.Asked.{Asked}
 use Rattle.machine.specs.declared.env.Env.{Env}
 use Rattle.machine.specs.declared.ending.Ending.{Ending}
@@ -82,12 +81,15 @@ quiet_begins : (s : Settings) (env : Env) (client : Client) (r : Result Asked Re
 quiet_begins s env client (Ok asked) = refl
 quiet_begins s env client (Err r) = refl
 
+quiet_own : (c : RepoState) (s : Settings) (env : Env) (client : Client) (command : MainCommand) → Quiet (own_answer s env c client command)
+quiet_own c s env client GetLatestRev = refl
+quiet_own c s env client (CheckPath path revision) = refl
+quiet_own c s env client (RevProplist n) = refl
+quiet_own c s env client (commands.Commit command) = quiet_begins s env client (asked_by command (lock_tokens client.path command.tokens))
+quiet_own c s env client AbortEdit = refl
+
 quiet_command : (c : RepoState) (s : Settings) (env : Env) (client : Client) (r : Result MainCommand CommandFault) → Quiet (command_answer s env c client r)
-quiet_command c s env client (Ok GetLatestRev) = refl
-quiet_command c s env client (Ok (CheckPath path revision)) = refl
-quiet_command c s env client (Ok (RevProplist n)) = refl
-quiet_command c s env client (Ok (commands.Commit command)) = quiet_begins s env client (asked_by command (lock_tokens client.path command.tokens))
-quiet_command c s env client (Ok AbortEdit) = refl
+quiet_command c s env client (Ok command) = quiet_own c s env client command
 quiet_command c s env client (Err UnknownName) = refl
 quiet_command c s env client (Err BadParameters) = refl
 quiet_command c s env client (Err NoMemory) = refl
@@ -99,14 +101,14 @@ quiet_skipping env client (Some false) = refl
 
 -- ---- the steps of an edit
 
-does_edits : (halted : Bool) (env : Env) (c : RepoState) (client : Client) (asked : Asked) (edit : EditState) (command : EditorCommand) (r : Option Refusal) (a : Answer)
-    → Edits env c client asked edit command r a → Does halted c a
-does_edits halted env c client asked edit command None a (after, applies, is) = is_quiet halted c a _ is refl
-does_edits halted env c client asked edit command (Some r) a is = is_quiet halted c a _ is refl
+does_edit : (halted : Bool) (env : Env) (c : RepoState) (edit : MachineEdit) (command : EditorCommand) (r : Option Refusal) (a : Answer)
+    → JudgedEdit env c edit command r a → Does halted c a
+does_edit halted env c edit command None a (after, applies, is) = is_quiet halted c a _ is refl
+does_edit halted env c edit command (Some r) a is = is_quiet halted c a _ is refl
 
 does_committed : (env : Env) (c : RepoState) (client : Client) (asked : Asked) (t : TxnState) (date : List ℕ) (v : Verdict) (a : Answer)
     → commit_refusal c (commit_ask client asked date) t ≡ None → a ≡ commit_answer env c client asked t date v → Does false c a
-does_committed env c client asked t date Went a judged is =
+does_committed env c client asked t date Written a judged is =
     inr (record {
       running = refl;
       ask = commit_ask client asked date;
@@ -115,8 +117,8 @@ does_committed env c client asked t date Went a judged is =
       changes = ap (λ (x : Answer). x.effect.changes) is;
       replies = ap (λ (x : Answer). x.replies) is;
     })
-does_committed env c client asked t date Failed a judged is = is_quiet false c a _ is refl
-does_committed env c client asked t date Halts a judged is = is_quiet false c a _ is refl
+does_committed env c client asked t date NotWritten a judged is = is_quiet false c a _ is refl
+does_committed env c client asked t date Unknown a judged is = is_quiet false c a _ is refl
 
 does_commit : (halted : Bool) (env : Env) (c : RepoState) (client : Client) (asked : Asked) (t : TxnState) (date : List ℕ) (r : Option Refusal) (a : Answer)
     → commit_refusal c (commit_ask client asked date) t ≡ r → CommitStep halted env c client asked t date r a → Does halted c a
@@ -130,18 +132,18 @@ does_close halted env c client asked (Ok t) a (date, is_date, step) =
     does_commit halted env c client asked t date (commit_refusal c (commit_ask client asked date) t) a refl step
 does_close halted env c client asked (Err r) a is = is_quiet halted c a _ is refl
 
-does_told : (halted : Bool) (env : Env) (c : RepoState) (client : Client) (asked : Asked) (edit : EditState) (command : EditorCommand) (ending : Option Ending) (a : Answer)
-    → CommandStep halted env c client asked edit command ending a → Does halted c a
-does_told halted env c client asked edit command None a step = does_edits halted env c client asked edit command (edit_refusal c edit command) a step
-does_told halted env c client asked edit command (Some ToCommit) a step = does_close halted env c client asked (finished edit) a step
-does_told halted env c client asked edit command (Some GivesUp) a is = is_quiet halted c a _ is refl
+does_command : (halted : Bool) (env : Env) (c : RepoState) (edit : MachineEdit) (command : EditorCommand) (ending : Option Ending) (a : Answer)
+    → CommandStep halted env c edit command ending a → Does halted c a
+does_command halted env c edit command None a step = does_edit halted env c edit command (edit_refusal c edit.editor command) a step
+does_command halted env c edit command (Some ToCommit) a step = does_close halted env c edit.client edit.asked (finished edit.editor) a step
+does_command halted env c edit command (Some GivesUp) a is = is_quiet halted c a _ is refl
 
-does_editing : (halted : Bool) (env : Env) (c : RepoState) (client : Client) (asked : Asked) (edit : EditState) (r : Result EditorCommand CommandFault) (a : Answer)
-    → EditingStep halted env c client asked edit r a → Does halted c a
-does_editing halted env c client asked edit (Ok command) a step = does_told halted env c client asked edit command (ending_of command) a step
-does_editing halted env c client asked edit (Err UnknownName) a is = is_quiet halted c a _ is refl
-does_editing halted env c client asked edit (Err BadParameters) a is = is_quiet halted c a _ is refl
-does_editing halted env c client asked edit (Err NoMemory) a is = is_quiet halted c a _ is refl
+does_editing : (halted : Bool) (env : Env) (c : RepoState) (edit : MachineEdit) (r : Result EditorCommand CommandFault) (a : Answer)
+    → EditingStep halted env c edit r a → Does halted c a
+does_editing halted env c edit (Ok command) a step = does_command halted env c edit command (ending_of command) a step
+does_editing halted env c edit (Err UnknownName) a is = is_quiet halted c a _ is refl
+does_editing halted env c edit (Err BadParameters) a is = is_quiet halted c a _ is refl
+does_editing halted env c edit (Err NoMemory) a is = is_quiet halted c a _ is refl
 
 -- ---- an input
 
@@ -149,11 +151,11 @@ pub does : (halted : Bool) (s : Settings) (env : Env) (c : RepoState) (phase : S
 does halted s env c Greeted (Whole t) a is = is_quiet halted c a _ is (quiet_greeting s env (client_greeting t))
 does halted s env c (LoggingIn client) (Whole t) a is = is_quiet halted c a _ is (quiet_login c env client (auth_response t))
 does halted s env c (Serving client) (Whole t) a is = is_quiet halted c a _ is (quiet_command c s env client (main_command t))
-does halted s env c (Editing client asked edit) (Whole t) a step = does_editing halted env c client asked edit (editor_command t) a step
+does halted s env c (Editing edit) (Whole t) a step = does_editing halted env c edit (editor_command t) a step
 does halted s env c (Skipping client) (Whole t) a is = is_quiet halted c a _ is (quiet_skipping env client (ends_edit t))
 does halted s env c Greeted Broken a is = is_quiet halted c a _ is refl
 does halted s env c (LoggingIn client) Broken a is = is_quiet halted c a _ is refl
 does halted s env c (Serving client) Broken a is = is_quiet halted c a _ is refl
-does halted s env c (Editing client asked edit) Broken a is = is_quiet halted c a _ is refl
+does halted s env c (Editing edit) Broken a is = is_quiet halted c a _ is refl
 does halted s env c (Skipping client) Broken a is = is_quiet halted c a _ is refl
 does halted s env c Ended input a is = is_quiet halted c a _ is refl

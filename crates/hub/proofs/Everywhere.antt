@@ -6,7 +6,7 @@ use Rattle.edit_rules.specs.Editor.{RestsIn}
 use Rattle.machine.specs.Stages.{Stage, SessionState, is_open, EditRests, EditIsSound, RestsOn}
 use Rattle.machine.specs.declared.phase.Phase.TheVariants.{Greeted, LoggingIn, Serving, Editing, Skipping, Ended}
 use Rattle.hub.specs.State.{HubState, session_of, updated, without, kept, AllOpen, AllRest, AllSound, HasTrees}
-use Rattle.hub.specs.Runs.{new_session, heard}
+use Rattle.hub.specs.Runs.{new_session, with_rest}
 use Rattle.hub.proofs.Staying.{joins}
 
 -- `Every xs` says `P` of each session of the list
@@ -86,7 +86,7 @@ rests-later : (phase : Stage) (c d : RepoState) → IsBeginning c.revisions d.re
 rests-later Greeted c d b r = tt
 rests-later (LoggingIn client) c d b r = tt
 rests-later (Serving client) c d b r = tt
-rests-later (Editing client asked edit) c d b r = txn-later edit.txn c d b r
+rests-later (Editing edit) c d b r = txn-later edit.editor.txn c d b r
 rests-later (Skipping client) c d b r = tt
 rests-later Ended c d b r = tt
 
@@ -138,9 +138,9 @@ HasTrees-without h n trees = record {
 }
 
 -- what has come of a stream changes no tree
-pub HasTrees-heard : (h : HubState) (n : ℕ) (s : SessionState) (rest : List ℕ)
-    → session_of h.sessions n ≡ Some s → HasTrees h → HasTrees (heard h n s rest)
-HasTrees-heard h n s rest found trees =
+pub HasTrees-with_rest : (h : HubState) (n : ℕ) (s : SessionState) (rest : List ℕ)
+    → session_of h.sessions n ≡ Some s → HasTrees h → HasTrees (with_rest h n s rest)
+HasTrees-with_rest h n s rest found trees =
     let s' : SessionState = record { rest = rest; phase = s.phase } in
     record {
       revisions = trees.revisions;

@@ -1,15 +1,15 @@
 -- The store's failures, and what comes to a halt.
 use Rattle.std.proofs.Common.{◌≡◌, ◌⊎◌, inl, inr, ℕ, ◌+◌, ◌<◌, ◌≤◌, ◌||◌, List, Option, Some, None, Bool, true, false, refl, sym, ap, subst, ◌∙◌, arith}
 use Rattle.replies.specs.declared.reply.Reply.{Reply}
-use Rattle.machine.specs.Points.{last_count, HasRisen}
+use Rattle.access.specs.Points.{last_count, HasRisen}
 use Rattle.machine.specs.Hearing.{Input}
 use Rattle.machine.specs.Stages.{SessionState}
 use Rattle.machine.specs.Machine.{Verdict, Counts, is_halt}
-use Rattle.machine.specs.Machine.Verdict.{Went, Failed, Halts}
+use Rattle.machine.specs.Machine.Verdict.{Written, NotWritten, Unknown}
 use Rattle.machine.specs.declared.env.Env.{Env}
 use Rattle.hub.specs.State.{HubState, session_of}
 use Rattle.hub.specs.Runs.{Event, InputHappens, HubStep, HubRun}
-use Rattle.hub.specs.Runs.Event.{Connects, Gets, Drops}
+use Rattle.hub.specs.Runs.Event.{Connects, Hears, Drops}
 use Rattle.hub.proofs.Running.{through_run}
 use Rattle.hub.proofs.Staying.{Next, after_event}
 
@@ -41,11 +41,11 @@ risen_above m before after l le (inl lt) = omega (arith, lt)
 risen_above m before after l le (inr e) = subst (λ (x : ℕ). m < x) (sym e) l
 
 stored : (v : Verdict) (old new : HubState) → Counts v old.failures new.failures → new.halted ≡ (old.halted || is_halt v) → AreCounted old new
-stored Went old new counts halted =
+stored Written old new counts halted =
     (λ m l le. subst (λ (x : ℕ). m ≤ x) (sym counts) le, λ m l le. inl (halted ∙ or_false old.halted))
-stored Failed old new counts halted =
+stored NotWritten old new counts halted =
     (λ m l le. risen_keeps m old.failures new.failures l le counts, λ m l le. inl (halted ∙ or_false old.halted))
-stored Halts old new counts halted =
+stored Unknown old new counts halted =
     (λ m l le. risen_keeps m old.failures new.failures l le counts, λ m l le. inr (risen_above m old.failures new.failures l le counts))
 
 same_counted : (old new : HubState) → new.failures ≡ old.failures → new.halted ≡ old.halted → AreCounted old new
@@ -59,7 +59,7 @@ input_counted old env n (Some s) input told new after (a, step, is_told, left, f
 
 pub event_counted : (old new : HubState) (env after : Env) (e : Event) (told : List Reply) → HubStep old env e told new after → AreCounted old new
 event_counted old new env after (Connects n) told h = same_counted old new (ap (λ (x : HubState). x.failures) h.3) (ap (λ (x : HubState). x.halted) h.3)
-event_counted old new env after (Gets n input) told h = input_counted old env n (session_of old.sessions n) input told new after h
+event_counted old new env after (Hears n input) told h = input_counted old env n (session_of old.sessions n) input told new after h
 event_counted old new env after (Drops n) told h = same_counted old new (ap (λ (x : HubState). x.failures) h.2) (ap (λ (x : HubState). x.halted) h.2)
 
 pub none_counted : (h : HubState) → AreCounted h h
@@ -110,7 +110,7 @@ input_halted old env n (Some s) input told new after (a, step, is_told, left, fa
 
 event_halted : (old new : HubState) (env after : Env) (e : Event) (told : List Reply) → HubStep old env e told new after → old.halted ≡ true → new.halted ≡ true
 event_halted old new env after (Connects n) told h halted = ap (λ (x : HubState). x.halted) h.3 ∙ halted
-event_halted old new env after (Gets n input) told h halted = input_halted old env n (session_of old.sessions n) input told new after h halted
+event_halted old new env after (Hears n input) told h halted = input_halted old env n (session_of old.sessions n) input told new after h halted
 event_halted old new env after (Drops n) told h halted = ap (λ (x : HubState). x.halted) h.2 ∙ halted
 
 unchanged : (old : HubState) (told : List Reply) (new : HubState) → old.halted ≡ true → Next old told new → new.content ≡ old.content

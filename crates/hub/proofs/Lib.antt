@@ -8,5 +8,4 @@ pub mod Feeding
 pub mod Everywhere
 pub mod Trees
 pub mod Calling
-pub mod InMemory
 pub mod Sinks

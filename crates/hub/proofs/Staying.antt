@@ -2,7 +2,7 @@
 use Rattle.std.proofs.Common.{◌≡◌, ◌⊎◌, inl, inr, ℕ, zero, suc, ◌+◌, ◌≤◌, List, [], ◌∷◌, ◌++◌, length, Contains, Option, Some, None, false, refl, sym, ap, subst, ◌∙◌, append-nil, append_assoc, arith, length-append}
 use Rattle.refusals.specs.declared.Refusal.{Refusal}
 use Rattle.repo_api.specs.Properties.{PropertyList}
-use Rattle.repo_api.specs.States.{RepoState, TxnState, Fixed, IsBeginning}
+use Rattle.repo_api.specs.States.{RepoState, TxnState, Revision, IsBeginning}
 use Rattle.repo_api.specs.Commits.{committed, revision_properties}
 use Rattle.repo_api.specs.Accepted.{Accepted, AreAccepted, changed, changed_all}
 use Rattle.repo_api.specs.Accepted.Accepted.{Commits}
@@ -14,17 +14,17 @@ use Rattle.machine.specs.Stages.{SessionState}
 use Rattle.machine.specs.Machine.{Answer, content_after}
 use Rattle.machine.specs.declared.env.Env.{Env}
 use Rattle.hub.specs.State.{HubState, session_of}
-use Rattle.hub.specs.Runs.{Event, InputHappens, HubStep, HubRun, heard, Feeds, Breaks}
-use Rattle.hub.specs.Runs.Event.{Connects, Gets, Drops}
+use Rattle.hub.specs.Runs.{Event, InputHappens, HubStep, HubRun, with_rest, Feeds, Breaks}
+use Rattle.hub.specs.Runs.Event.{Connects, Hears, Drops}
 use Rattle.hub.specs.Laws.{TellsFailure, IsCommit, IsToldCommit, KeepsConstants, KeepsProperties}
 use Rattle.hub.proofs.Effects.{Does, does}
 use Rattle.hub.proofs.Running.{through_run}
 
-pub begins : (c : List Fixed) → IsBeginning c c
+pub begins : (c : List Revision) → IsBeginning c c
 begins c = record { more = []; is = sym (append-nil c) }
 
-pub joins : (a b c : List Fixed) → IsBeginning a b → IsBeginning b c → IsBeginning a c
-joins a b c x y = record { more = x.more ++ y.more; is = y.is ∙ ap (λ (z : List Fixed). z ++ y.more) x.is ∙ append_assoc a x.more y.more }
+pub joins : (a b c : List Revision) → IsBeginning a b → IsBeginning b c → IsBeginning a c
+joins a b c x y = record { more = x.more ++ y.more; is = y.is ∙ ap (λ (z : List Revision). z ++ y.more) x.is ∙ append_assoc a x.more y.more }
 
 -- ---- what an event does to the repository
 
@@ -56,7 +56,7 @@ after_input old env n (Some s) input told new after (a, step, is_told, left, fai
 
 pub after_event : (old new : HubState) (env after : Env) (e : Event) (told : List Reply) → HubStep old env e told new after → Next old told new
 after_event old new env after (Connects n) told h = inl (ap (λ (x : HubState). x.content) h.3)
-after_event old new env after (Gets n input) told h = after_input old env n (session_of old.sessions n) input told new after h
+after_event old new env after (Hears n input) told h = after_input old env n (session_of old.sessions n) input told new after h
 after_event old new env after (Drops n) told h = inl (ap (λ (x : HubState). x.content) h.2)
 
 -- ---- what is told
@@ -118,10 +118,10 @@ pub run_keeps : (old new : HubState) (env after : Env) (events : List Event) (to
 run_keeps = run_by_commits KeepsRevisions same_revisions commit_keeps keeps_on
 
 pub feeds_keep : (old : HubState) (env : Env) (n : ℕ) (piece out : List ℕ) (new : HubState) → Feeds old env n piece out new → IsBeginning old.content.revisions new.content.revisions
-feeds_keep old env n piece out new f = run_keeps (heard old n f.session f.rest) new env f.env_after f.events f.told f.run
+feeds_keep old env n piece out new f = run_keeps (with_rest old n f.session f.rest) new env f.env_after f.events f.told f.run
 
 pub breaks_keep : (old : HubState) (env : Env) (n : ℕ) (piece : List ℕ) (new : HubState) → Breaks old env n piece new → IsBeginning old.content.revisions new.content.revisions
-breaks_keep old env n piece new f = run_keeps (heard old n f.session f.rest) new env f.env_after (f.events ++ Drops n ∷ []) f.told f.run
+breaks_keep old env n piece new f = run_keeps (with_rest old n f.session f.rest) new env f.env_after (f.events ++ Drops n ∷ []) f.told f.run
 
 change_keeps : (c : RepoState) (e : Accepted) → IsBeginning c.revisions (changed c e).revisions
 change_keeps c (Commits ask t) = record { more = _; is = refl }
@@ -131,7 +131,7 @@ changes_keep c [] = begins c.revisions
 changes_keep c (e ∷ es) = joins c.revisions (changed c e).revisions (changed_all (changed c e) es).revisions (change_keeps c e) (changes_keep (changed c e) es)
 
 one_more : (c : RepoState) (ask : CommitAsk) (t : TxnState) → length (committed c ask t).revisions ≤ length c.revisions + 1
-one_more c ask t = omega (arith, length-append {A = Fixed})
+one_more c ask t = omega (arith, length-append {A = Revision})
 
 pub event_counts : (old new : HubState) (env after : Env) (e : Event) (told : List Reply) → HubStep old env e told new after → length new.content.revisions ≤ length old.content.revisions + 1
 event_counts =
@@ -197,7 +197,7 @@ input_settings old env n (Some s) input told new after (a, step, is_told, left, 
 
 event_settings : (old new : HubState) (env after : Env) (e : Event) (told : List Reply) → HubStep old env e told new after → new.settings ≡ old.settings
 event_settings old new env after (Connects n) told h = ap (λ (x : HubState). x.settings) h.3
-event_settings old new env after (Gets n input) told h = input_settings old env n (session_of old.sessions n) input told new after h
+event_settings old new env after (Hears n input) told h = input_settings old env n (session_of old.sessions n) input told new after h
 event_settings old new env after (Drops n) told h = ap (λ (x : HubState). x.settings) h.2
 
 pub event_constants : (old new : HubState) (env after : Env) (e : Event) (told : List Reply) → HubStep old env e told new after → KeepsConstants old new

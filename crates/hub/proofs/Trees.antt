@@ -9,9 +9,9 @@ use Rattle.repo_api.specs.Commits.{next_tree}
 use Rattle.repo_api.specs.Accepted.{Accepted, changed_all}
 use Rattle.repo_api.specs.Accepted.Accepted.{Commits}
 use Rattle.repo_api.specs.States.{RepoState, TxnState, ChangeMap, tree_of, tree_at, trees_in, youngest}
-use Rattle.repo_api.specs.Opening.{opening_tree, opened}
+use Rattle.repo_api.specs.Opening.{opening_tree, new_repository}
 use Rattle.replies.specs.declared.reply.Reply.{Reply}
-use Rattle.edit_rules.specs.Soundness.{AreSound}
+use Rattle.repo_api.specs.Soundness.{AreSound}
 use Rattle.machine.specs.Settings.{Settings}
 use Rattle.machine.specs.Hearing.{Input}
 use Rattle.machine.specs.Stages.{Stage, SessionState, RestsOn}
@@ -20,7 +20,7 @@ use Rattle.machine.specs.Machine.{Answer, InputStep, content_after}
 use Rattle.machine.specs.declared.env.Env.{Env}
 use Rattle.hub.specs.State.{HubState, HasTrees, session_of}
 use Rattle.hub.specs.Runs.{Event, InputHappens, HubStep, HubRun, answered}
-use Rattle.hub.specs.Runs.Event.{Connects, Gets, Drops}
+use Rattle.hub.specs.Runs.Event.{Connects, Hears, Drops}
 use Rattle.hub.specs.Laws.{OverwritesNothing}
 use Rattle.hub.proofs.Everywhere.{HasTrees-at, HasTrees-kept, HasTrees-push, HasTrees-without}
 use Rattle.hub.proofs.Effects.{Does, does}
@@ -40,7 +40,7 @@ module _ (step_keeps : (halted : Bool) (s : Settings) (env : Env) (c : RepoState
 
   event_keeps : (old new : HubState) (env after : Env) (e : Event) (told : List Reply) → HasTrees old → HubStep old env e told new after → HasTrees new
   event_keeps old new env after (Connects n) told trees h = subst HasTrees (sym h.3) (HasTrees-push old n trees)
-  event_keeps old new env after (Gets n input) told trees h = input_keeps old env n (session_of old.sessions n) input told new after refl trees h
+  event_keeps old new env after (Hears n input) told trees h = input_keeps old env n (session_of old.sessions n) input told new after refl trees h
   event_keeps old new env after (Drops n) told trees h = subst HasTrees (sym h.2) (HasTrees-without old n trees)
 
   pub trees_stay : (old new : HubState) (env after : Env) (events : List Event) (told : List Reply) → HasTrees old → HubRun old env events told new after → HasTrees new
@@ -67,9 +67,9 @@ module _ (step_keeps : (halted : Bool) (s : Settings) (env : Env) (c : RepoState
 
     pub overwrites_nothing : (old new : HubState) (env after : Env) (e : Event) (told : List Reply) → HasTrees old → HubStep old env e told new after → OverwritesNothing old.content new.content
     overwrites_nothing old new env after (Connects n) told trees h = inl (ap (λ (x : HubState). x.content) h.3)
-    overwrites_nothing old new env after (Gets n input) told trees h = input_overwrites old env n (session_of old.sessions n) input told new after refl trees h
+    overwrites_nothing old new env after (Hears n input) told trees h = input_overwrites old env n (session_of old.sessions n) input told new after refl trees h
     overwrites_nothing old new env after (Drops n) told trees h = inl (ap (λ (x : HubState). x.content) h.2)
 
 pub opening_sound : IsTree (tree_of opening_tree) → ((changes : ChangeMap) → AreMarked (trees_in (record { tree = opening_tree; changes = changes } ∷ [])))
-    → (c : RepoState) (uuid : ℕ) (date : List ℕ) → c ≡ opened uuid date → AreSound c.revisions
+    → (c : RepoState) (uuid : ℕ) (date : List ℕ) → c ≡ new_repository uuid date → AreSound c.revisions
 opening_sound opening marked c uuid date is = subst (λ (x : RepoState). AreSound x.revisions) (sym is) ((opening, tt), marked empty)

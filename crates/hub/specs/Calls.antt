@@ -3,6 +3,7 @@ use Rattle.std.specs.Prelude.{◌≡◌, ◌⊎◌, ℕ, ◌+◌, ◌<◌, ◌�
 use Rattle.replies.specs.declared.reply.Reply.{Reply}
 use Rattle.replies.specs.Replies.{print}
 use Rattle.machine.specs.declared.env.Env.{Env}
+use Rattle.hub.specs.declared.hub.TheConstants.{MAX_SESSIONS}
 use Rattle.hub.specs.declared.hub.HubFault.{HubFault}
 use Rattle.hub.specs.declared.hub.HubFault.TheVariants.{NoSession, NoMemory, Halted, Full}
 use Rattle.hub.specs.declared.calls.Call.{Call}
@@ -16,26 +17,32 @@ use Rattle.hub.specs.Runs.Event.{Connects, Drops}
 -- there was room for a new session, which is greeted so
 pub record ConnectsAs (old : HubState) (n : ℕ) (out : List ℕ) (new : HubState) : Type 0 where
   pub running : old.halted ≡ false
-  pub room : length old.sessions < 16
+  pub room : length old.sessions < MAX_SESSIONS
   pub told : List Reply
   pub step : (env : Env) → HubStep old env (Connects n) told new env
   pub written : out ≡ print told
+
+-- as many sessions are open as may be, or all numbers are used
+abbrev pub IsFull : HubState → Type 0
+IsFull h = (MAX_SESSIONS ≤ length h.sessions) ⊎ (2 ^ 64 ≤ h.used + 1)
 
 -- why there is no new session
 abbrev pub ConnectFails : HubState → HubFault → HubState → Type 0
 ConnectFails old NoSession new = ⊥
 ConnectFails old NoMemory new = (old.halted ≡ false) × (new ≡ old)
 ConnectFails old Halted new = (old.halted ≡ true) × (new ≡ old)
-ConnectFails old Full new = (old.halted ≡ false) × ((16 ≤ length old.sessions) ⊎ (2 ^ 64 ≤ old.used + 1)) × (new ≡ old)
+ConnectFails old Full new = (old.halted ≡ false) × IsFull old × (new ≡ old)
 
 -- a piece was heard, and this is written
-pub record FeedsAs (old : HubState) (env : Env) (n : ℕ) (piece out : List ℕ) (new : HubState) : Type 0 where
+pub record FeedsAs (old : HubState) (env : Env) (n : ℕ) (piece out : List ℕ)
+    (new : HubState) : Type 0 where
   pub running : old.halted ≡ false
   pub feeds : Feeds old env n piece out new
 
 -- why nothing is written
 abbrev pub FeedFails : HubState → Env → ℕ → List ℕ → HubFault → HubState → Type 0
-FeedFails old env n piece NoSession new = (old.halted ≡ false) × (session_of old.sessions n ≡ None) × (new ≡ old)
+FeedFails old env n piece NoSession new =
+    (old.halted ≡ false) × (session_of old.sessions n ≡ None) × (new ≡ old)
 FeedFails old env n piece NoMemory new = (old.halted ≡ false) × Breaks old env n piece new
 FeedFails old env n piece Halted new = (old.halted ≡ true) × (new ≡ old)
 FeedFails old env n piece Full new = ⊥
@@ -45,9 +52,12 @@ abbrev pub FeedsTo : HubState → Env → ℕ → List ℕ → HubState → (Lis
 FeedsTo old env n piece new writes = (out : List ℕ) × FeedsAs old env n piece out new × writes out
 
 -- why no more was written than a part of what the inputs that were served draw
-abbrev pub FeedBreaks : HubState → Env → ℕ → List ℕ → HubFault → HubState → (List ℕ → Type 0) → Type 0
-FeedBreaks old env n piece NoSession new writes = FeedFails old env n piece NoSession new × writes []
-FeedBreaks old env n piece NoMemory new writes = (old.halted ≡ false) × BreaksOff old env n piece new writes
+abbrev pub FeedBreaks : HubState → Env → ℕ → List ℕ → HubFault → HubState → (List ℕ → Type 0)
+    → Type 0
+FeedBreaks old env n piece NoSession new writes =
+    FeedFails old env n piece NoSession new × writes []
+FeedBreaks old env n piece NoMemory new writes =
+    (old.halted ≡ false) × BreaksOff old env n piece new writes
 FeedBreaks old env n piece Halted new writes = FeedFails old env n piece Halted new × writes []
 FeedBreaks old env n piece Full new writes = ⊥
 
@@ -68,7 +78,8 @@ CallStep old (Disconnect n) (Wrote out) new = ⊥
 -- one call after another, whatever sessions they are of
 abbrev pub CallRun : HubState → List Call → List Outcome → HubState → Type 0
 CallRun old [] [] new = new ≡ old
-CallRun old (call ∷ calls) (outcome ∷ outcomes) new = (mid : HubState) × CallStep old call outcome mid × CallRun mid calls outcomes new
+CallRun old (call ∷ calls) (outcome ∷ outcomes) new =
+    (mid : HubState) × CallStep old call outcome mid × CallRun mid calls outcomes new
 CallRun old [] (outcome ∷ outcomes) new = ⊥
 CallRun old (call ∷ calls) [] new = ⊥
 
@@ -79,9 +90,3 @@ pub record BeginsCalls (old : HubState) (calls : List Call) (new : HubState) : T
   pub are_all : calls ≡ made ++ others
   pub outcomes : List Outcome
   pub run : CallRun old made outcomes new
-
--- the moment that a call hands in is one that has a date
-abbrev pub IsTimely : Call → Type 0
-IsTimely Connect = Unit {0}
-IsTimely (Feed n piece env) = env.moment ≤ 200000000000000000
-IsTimely (Disconnect n) = Unit {0}

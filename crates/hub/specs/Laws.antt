@@ -8,7 +8,7 @@ use Rattle.repo_api.specs.Commits.{commit_refusal, next_tree, committed}
 use Rattle.repo_api.specs.Properties.{PropertyList}
 use Rattle.repo_api.specs.declared.ask.CommitAsk.{CommitAsk}
 use Rattle.repo_api.specs.States.{RepoState, TxnState, tree_at, youngest}
-use Rattle.repo_api.specs.Opening.{opened}
+use Rattle.repo_api.specs.Opening.{new_repository}
 use Rattle.refusals.specs.declared.Refusal.{Refusal}
 use Rattle.replies.specs.declared.reply.Reply.{Reply}
 use Rattle.replies.specs.declared.reply.Reply.TheVariants.{CommitInfo, Failure}
@@ -21,7 +21,7 @@ use Rattle.machine.specs.Hearing.Input.{Whole, Broken}
 abbrev pub new_hub : Settings → ℕ → List ℕ → HubState
 new_hub settings uuid date = record {
   settings = settings;
-  content = opened uuid date;
+  content = new_repository uuid date;
   halted = false;
   failures = 0;
   sessions = [];
@@ -60,15 +60,21 @@ IsUnbroken [] = Unit {0}
 IsUnbroken (Whole t ∷ inputs) = IsUnbroken inputs
 IsUnbroken (Broken ∷ inputs) = ⊥
 
--- what was changed since the transaction's base, by others or by the transaction, is in the next tree as they left it
+-- what was changed since the transaction's base, by others or by the transaction, is in the next
+-- tree as they left it
 pub record KeepsBothSides (c : RepoState) (t : TxnState) : Type 0 where
-  pub theirs : (p : PathValue) → is_changed (get (tree_at c t.base) p) (get (tree_at c (youngest c)) p) ≡ true
-      → (shown (get (next_tree c t) p) ≡ shown (get (tree_at c (youngest c)) p)) × (own_of (get (next_tree c t) p) ≡ own_of (get (tree_at c (youngest c)) p))
-  pub ours : (p : PathValue) → is_changed (get (tree_at c t.base) p) (get t.tree p) ≡ true → shown (get (next_tree c t) p) ≡ shown (get t.tree p)
+  pub theirs : (p : PathValue) → is_changed (get (tree_at c t.base) p)
+      (get (tree_at c (youngest c)) p) ≡ true
+      → (shown (get (next_tree c t) p) ≡ shown (get (tree_at c (youngest c)) p))
+      × (own_of (get (next_tree c t) p) ≡ own_of (get (tree_at c (youngest c)) p))
+  pub ours : (p : PathValue) → is_changed (get (tree_at c t.base) p) (get t.tree p) ≡ true
+      → shown (get (next_tree c t) p) ≡ shown (get t.tree p)
 
 -- nothing has happened, or a commit that keeps what was changed on either side
 abbrev pub OverwritesNothing : RepoState → RepoState → Type 0
-OverwritesNothing old new = (new ≡ old) ⊎ ((ask : CommitAsk) × (t : TxnState) × (new ≡ committed old ask t) × KeepsBothSides old t)
+OverwritesNothing old new =
+    (new ≡ old) ⊎ ((ask : CommitAsk) × (t : TxnState) × (new ≡ committed old ask t)
+    × KeepsBothSides old t)
 
 -- one state after another, and at none of these steps was anything overwritten
 abbrev pub KeepsAll : RepoState → List RepoState → RepoState → Type 0

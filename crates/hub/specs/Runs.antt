@@ -2,7 +2,7 @@
 use Rattle.std.specs.Prelude.{◌≡◌, ℕ, ◌+◌, List, [], ◌∷◌, ◌++◌, Option, Some, None}
 use Rattle.replies.specs.declared.reply.Reply.{Reply}
 use Rattle.replies.specs.declared.reply.Reply.TheVariants.{Greeting}
-use Rattle.machine.specs.Hearing.{Input, Comes, IsSettled}
+use Rattle.machine.specs.Hearing.{Input, Yields, HasNoMore}
 use Rattle.machine.specs.Stages.{SessionState}
 use Rattle.replies.specs.Replies.{print}
 use Rattle.replies.specs.Sinks.{WritesPart}
@@ -14,7 +14,7 @@ use Rattle.hub.specs.State.{HubState, session_of, updated, without, kept}
 pub data Event : Type 0 where
   Connects : ℕ → Event
   -- a session's stream brings this
-  Gets : ℕ → Input → Event
+  Hears : ℕ → Input → Event
   Drops : ℕ → Event
 
 -- the hub after an answer to a session, when the store has failed so often
@@ -27,11 +27,14 @@ answered h n s a failures = record h {
 }
 
 -- an input of an open session, or of one that has ended, which is dropped
-abbrev pub InputHappens : HubState → Env → ℕ → Option SessionState → Input → List Reply → HubState → Env → Type 0
+abbrev pub InputHappens : HubState → Env → ℕ → Option SessionState → Input → List Reply → HubState
+    → Env → Type 0
 InputHappens old env n None input told new env' = (told ≡ []) × (new ≡ old) × (env' ≡ env)
 InputHappens old env n (Some s) input told new env' =
-    (a : Answer) × InputStep old.halted old.settings env old.content s.phase input a × (told ≡ a.replies) × (env' ≡ a.env)
-    × (failures : ℕ) × Counts a.effect.store old.failures failures × (new ≡ answered old n s a failures)
+    (a : Answer) × InputStep old.halted old.settings env old.content s.phase input a
+    × (told ≡ a.replies) × (env' ≡ a.env)
+    × (failures : ℕ) × Counts a.effect.store old.failures failures
+    × (new ≡ answered old n s a failures)
 
 -- a session that has heard nothing
 abbrev pub new_session : SessionState
@@ -42,63 +45,71 @@ abbrev pub HubStep : HubState → Env → Event → List Reply → HubState → 
 HubStep old env (Connects n) told new env' =
     (n ≡ old.used + 1) × (told ≡ Greeting ∷ []) × (env' ≡ env)
     × (new ≡ record old { sessions = old.sessions ++ (n, new_session) ∷ []; used = n })
-HubStep old env (Gets n input) told new env' = InputHappens old env n (session_of old.sessions n) input told new env'
-HubStep old env (Drops n) told new env' = (told ≡ []) × (env' ≡ env) × (new ≡ record old { sessions = without old.sessions n })
+HubStep old env (Hears n input) told new env' =
+    InputHappens old env n (session_of old.sessions n) input told new env'
+HubStep old env (Drops n) told new env' =
+    (told ≡ []) × (env' ≡ env) × (new ≡ record old { sessions = without old.sessions n })
 
 -- one event after another
 abbrev pub HubRun : HubState → Env → List Event → List Reply → HubState → Env → Type 0
 HubRun old env [] told new env' = (told ≡ []) × (new ≡ old) × (env' ≡ env)
 HubRun old env (e ∷ es) told new env' =
-    (first : List Reply) × (mid : HubState) × (env'' : Env) × (more : List Reply) × HubStep old env e first mid env''
+    (first : List Reply) × (mid : HubState) × (env'' : Env) × (more : List Reply)
+    × HubStep old env e first mid env''
     × HubRun mid env'' es more new env' × (told ≡ first ++ more)
 
 -- these are the events of a session's inputs, in their order
 abbrev pub InputsAre : ℕ → List Input → List Event → Type 0
 InputsAre n [] [] = Unit {0}
-InputsAre n (input ∷ inputs) (Gets m heard ∷ events) = (m ≡ n) × (heard ≡ input) × InputsAre n inputs events
+InputsAre n (input ∷ inputs) (Hears m came ∷ events) =
+    (m ≡ n) × (came ≡ input) × InputsAre n inputs events
 InputsAre n [] (event ∷ events) = ⊥
 InputsAre n (input ∷ inputs) [] = ⊥
 InputsAre n (input ∷ inputs) (Connects m ∷ events) = ⊥
 InputsAre n (input ∷ inputs) (Drops m ∷ events) = ⊥
 
 -- the stream of a session has come so far that this is left of it
-abbrev pub heard : HubState → ℕ → SessionState → List ℕ → HubState
-heard old n s rest = record old { sessions = updated old.sessions n (record { rest = rest; phase = s.phase }) }
+abbrev pub with_rest : HubState → ℕ → SessionState → List ℕ → HubState
+with_rest old n s rest =
+    record old { sessions = updated old.sessions n (record { rest = rest; phase = s.phase }) }
 
 -- where the session is still open, its stream has brought all that it does so far
 abbrev pub IfOpen : Option SessionState → List ℕ → Type 0
 IfOpen None rest = Unit {0}
-IfOpen (Some s) rest = IsSettled rest
+IfOpen (Some s) rest = HasNoMore rest
 
 -- a piece of a session's stream, whose inputs draw this output
-pub record Feeds (old : HubState) (env : Env) (n : ℕ) (piece out : List ℕ) (new : HubState) : Type 0 where
+pub record Feeds (old : HubState) (env : Env) (n : ℕ) (piece out : List ℕ)
+    (new : HubState) : Type 0 where
   pub session : SessionState
   pub is_session : session_of old.sessions n ≡ Some session
   pub inputs : List Input
   pub rest : List ℕ
-  pub comes : Comes (session.rest ++ piece) inputs rest
+  pub yields : Yields (session.rest ++ piece) inputs rest
   pub settled : IfOpen (session_of new.sessions n) rest
   pub events : List Event
   pub events_are : InputsAre n inputs events
   pub told : List Reply
   pub env_after : Env
-  pub run : HubRun (heard old n session rest) env events told new env_after
+  pub run : HubRun (with_rest old n session rest) env events told new env_after
   pub written : out ≡ print told
 
 -- for want of memory some of the piece's inputs happened in order, and then the session was dropped
-pub record Breaks (old : HubState) (env : Env) (n : ℕ) (piece : List ℕ) (new : HubState) : Type 0 where
+pub record Breaks (old : HubState) (env : Env) (n : ℕ) (piece : List ℕ)
+    (new : HubState) : Type 0 where
   pub session : SessionState
   pub is_session : session_of old.sessions n ≡ Some session
   pub inputs : List Input
   pub rest : List ℕ
-  pub comes : Comes (session.rest ++ piece) inputs rest
+  pub yields : Yields (session.rest ++ piece) inputs rest
   pub events : List Event
   pub events_are : InputsAre n inputs events
   pub told : List Reply
   pub env_after : Env
-  pub run : HubRun (heard old n session rest) env (events ++ Drops n ∷ []) told new env_after
+  pub run : HubRun (with_rest old n session rest) env (events ++ Drops n ∷ []) told new env_after
 
 -- so it was, and a part of what the inputs draw was written
-pub record BreaksOff (old : HubState) (env : Env) (n : ℕ) (piece : List ℕ) (new : HubState) (writes : List ℕ → Type 0) : Type 0 where
+pub record BreaksOff (old : HubState) (env : Env) (n : ℕ) (piece : List ℕ) (new : HubState)
+    (writes : List ℕ → Type 0) : Type 0 where
   pub breaks : Breaks old env n piece new
   pub written : WritesPart writes (print breaks.told)

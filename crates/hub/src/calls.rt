@@ -1,10 +1,11 @@
 //! Any calls of any sessions.
-ghost use Rattle.std.specs.Prelude.{IfOk, OnErr};
-ghost use Rattle.std.specs.List.{All};
-ghost use Rattle.hub.specs.Calls.{CallStep, CallRun, BeginsCalls, IsTimely};
+ghost use Rattle.std.specs.Prelude.{◌≡◌, ◌++◌, [], ◌∷◌, IfOk, OnOk, OnErr};
+ghost use Rattle.hub.specs.declared.calls.Outcome.{Outcome};
+ghost use Rattle.hub.specs.Calls.{CallStep, CallRun, BeginsCalls};
 
 use crate::hub::{Hub, HubFault, SessionId};
-use machine::{Env, SoleAccess};
+use access::SoleAccess;
+use machine::Env;
 use std::alloc::{AllocError, Global};
 
 /// A call of a hub.
@@ -26,7 +27,6 @@ pub enum Outcome {
 
 /// Makes one call.
 pub fn make_call<A: SoleAccess>(hub: &mut Hub<A>, call: &Call) -> Outcome
-    requires { IsTimely call.now }
     ensures { CallStep hub.old call.now result hub.new }
 {
     match call {
@@ -45,6 +45,22 @@ pub fn make_call<A: SoleAccess>(hub: &mut Hub<A>, call: &Call) -> Outcome
     }
 }
 
+/// Makes one call, and adds what it answers, where there is memory for that.
+fn add_call<A: SoleAccess>(
+    hub: &mut Hub<A>,
+    call: &Call,
+    outcomes: &mut Vec<Outcome>,
+) -> Result<(), AllocError>
+    ensures ok { OnOk result ((outcome : Outcome) × CallStep hub.old call.now outcome hub.new
+        × (outcomes.new.items ≡ outcomes.old.items ++ outcome ∷ [])) }
+    ensures err { OnErr result ((outcome : Outcome) × CallStep hub.old call.now outcome hub.new) }
+{
+    match outcomes.push(make_call(hub, call)) {
+        Ok(()) => Ok(()),
+        Err(_) => Err(AllocError),
+    }
+}
+
 /// Makes calls in order. Whatever bytes the sessions send, cut and interleaved however, what is written and
 /// what is left are those of one run of the machine. Where memory is refused, some of the calls were made, from the
 /// first on.
@@ -53,13 +69,12 @@ pub fn make_calls<A: SoleAccess>(
     hub: &mut Hub<A>,
     calls: &[Call],
 ) -> Result<Vec<Outcome>, AllocError>
-    requires { All IsTimely calls.now }
     ensures ok { IfOk result (λ outcomes. CallRun hub.old calls.now outcomes.items hub.new) }
     ensures err { OnErr result (BeginsCalls hub.old calls.now hub.new) }
 {
     let mut outcomes = Vec::new(alloc);
     for call in calls {
-        outcomes.push(make_call(hub, call))?;
+        add_call(hub, call, &mut outcomes)?;
     }
     Ok(outcomes)
 }

@@ -1,20 +1,21 @@
 //! Many sessions over one repository.
-ghost use Rattle.std.specs.Prelude.{◌≡◌, if◌then◌else◌, ◌+◌, ◌<◌, ◌≤◌, ◌++◌, [], ◌∷◌, ℕ, List, Bool, true, false, not, ◌&&◌, length, MatchOption, IfOk, IfErr, OnOk, OnErr, None, is_some};
-ghost use Rattle.repo_api.specs.Opening.{opened};
-ghost use Rattle.edit_rules.specs.Soundness.{AreSound};
-ghost use Rattle.machine.specs.Points.{world};
+ghost use Rattle.std.specs.Prelude.{◌≡◌, if◌then◌else◌, ◌+◌, ◌<◌, ◌≤◌, ◌++◌, [], ◌∷◌, ℕ, List, Bool, true, false, not, ◌&&◌};
+ghost use Rattle.std.specs.Prelude.{length, MatchOption, IfOk, IfErr, OnOk, OnErr, None, is_some};
+ghost use Rattle.repo_api.specs.Opening.{new_repository};
+ghost use Rattle.repo_api.specs.Soundness.{AreSound};
+ghost use Rattle.access.specs.Points.{content_of};
 ghost use Rattle.replies.specs.Replies.{print};
-ghost use Rattle.machine.specs.declared.env.Env.{Env};
 ghost use Rattle.replies.specs.declared.reply.Reply.TheVariants.{Greeting};
+ghost use Rattle.hub.specs.declared.hub.TheConstants.{MAX_SESSIONS};
 ghost use Rattle.hub.specs.State.{hub_at, session_of, without, Finds};
-ghost use Rattle.hub.specs.Alone.{point_at};
+ghost use Rattle.access.specs.Sole.{point_at};
 ghost use Rattle.hub.specs.Runs.{HubStep, Feeds, BreaksOff, new_session};
 ghost use Rattle.hub.specs.Runs.Event.{Drops};
-ghost use Rattle.hub.specs.Calls.{ConnectsAs, ConnectFails, FeedsAs, FeedFails, FeedsTo, FeedBreaks};
+ghost use Rattle.hub.specs.Calls.{IsFull, ConnectsAs, ConnectFails, FeedsAs, FeedFails, FeedsTo, FeedBreaks};
 
-use crate::direct::Direct;
 use crate::laws::new_repositories_are_sound;
-use machine::{Env, Options, SoleAccess};
+use access::{SoleAccess, SoleRepository};
+use machine::{Env, Options, Turn};
 use replies::{MemorySink, Reply, ReplySink};
 use repo_api::Repository;
 use session::Session;
@@ -24,6 +25,9 @@ use thiserror::Error;
 
 /// The number of a session. Each is used once, from 1 on.
 pub type SessionId = u64;
+
+/// How many sessions are open at once at most.
+pub const MAX_SESSIONS: usize = 16;
 
 /// Why a hub did not do what it was asked for.
 #[derive(Clone, Copy, Debug, PartialEq, Eq, Error)]
@@ -37,14 +41,15 @@ pub enum HubFault {
     /// The store failed badly, and nothing is served any more.
     #[error("halted")]
     Halted,
-    /// 16 sessions are open, or all numbers are used.
+    /// As many sessions are open as may be, or all numbers are used.
     #[error("full")]
     Full,
 }
 
 /// The place of a session.
 fn place<R: Repository>(sessions: &[(SessionId, Session<R>)], number: SessionId) -> Option<usize>
-    ensures { MatchOption result (session_of sessions.now number ≡ None) (λ i. Finds sessions.now number i) }
+    ensures { MatchOption result (session_of sessions.now number ≡ None)
+        (λ i. Finds sessions.now number i) }
 {
     for (i, entry) in sessions.iter().enumerate() {
         if entry.0 == number {
@@ -67,7 +72,8 @@ fn drop_unless<R: Repository>(
     sessions: &mut Vec<(SessionId, Session<R>)>,
     number: SessionId,
 )
-    ensures { sessions.new.items ≡ (if is_open then sessions.old.items else without sessions.old.items number) }
+    ensures { sessions.new.items ≡ (if is_open then sessions.old.items
+        else without sessions.old.items number) }
 {
     if !is_open {
         drop_session(sessions, number);
@@ -80,7 +86,8 @@ fn add_session<R: Repository>(
     sessions: &mut Vec<(SessionId, Session<R>)>,
     number: SessionId,
 ) -> Result<(), AllocError>
-    ensures ok { OnOk result (sessions.new.items ≡ sessions.old.items ++ (number, new_session) ∷ []) }
+    ensures ok { OnOk result (sessions.new.items ≡ sessions.old.items ++ (number, new_session)
+        ∷ []) }
     ensures err { OnErr result (sessions.new.items ≡ sessions.old.items) }
 {
     sessions.push((number, Session::new(alloc)))?;
@@ -117,23 +124,27 @@ impl<A: SoleAccess> Model for Hub<A> {
 
     ghost view = { λ h. hub_at h.options (A.point h.access) h.sessions.items h.used };
 
-    ghost invariant = { λ h. AllOpen h.sessions.items × HasTrees (hub_at h.options (A.point h.access) h.sessions.items h.used) };
+    ghost invariant = { λ h. AllOpen h.sessions.items
+        × HasTrees (hub_at h.options (A.point h.access) h.sessions.items h.used) };
 }
 
-impl<R: Repository> Hub<Direct<R>> {
+impl<R: Repository> Hub<SoleRepository<R>> {
     /// A hub without sessions over a repository in memory that nobody else has, whose trees are sound.
     pub fn over(alloc: Global, repository: R, options: Options) -> Result<Self, HubFault>
         requires { AreSound (R.content repository).revisions }
-        ensures ok { IfOk result (λ hub. hub ≡ hub_at options (point_at (R.content repository)) [] 0) }
+        ensures ok { IfOk result (λ hub. hub
+            ≡ hub_at options (point_at (R.content repository)) [] 0) }
         ensures err { IfErr result (λ fault. fault ≡ HubFault.NoMemory) }
     {
-        Ok(Hub::with_access(alloc, Direct::new(repository), options))
+        Ok(Hub::with_access(alloc, SoleRepository::new(repository), options))
     }
 
     /// A hub without sessions over a new repository in memory that nobody else has.
     pub fn over_new(alloc: Global, repository: R, options: Options) -> Result<Self, HubFault>
-        requires { (uuid : ℕ) × (date : List ℕ) × (R.content repository ≡ opened uuid date) }
-        ensures ok { IfOk result (λ hub. hub ≡ hub_at options (point_at (R.content repository)) [] 0) }
+        requires { (uuid : ℕ) × (date : List ℕ)
+            × (R.content repository ≡ new_repository uuid date) }
+        ensures ok { IfOk result (λ hub. hub
+            ≡ hub_at options (point_at (R.content repository)) [] 0) }
         ensures err { IfErr result (λ fault. fault ≡ HubFault.NoMemory) }
     {
         new_repositories_are_sound();
@@ -144,7 +155,7 @@ impl<R: Repository> Hub<Direct<R>> {
 impl<A: SoleAccess> Hub<A> {
     /// A hub without sessions over what an access reaches, whose trees are sound.
     pub fn with_access(alloc: Global, access: A, options: Options) -> Self
-        requires { AreSound (world (A.point access)).revisions }
+        requires { AreSound (content_of (A.point access)).revisions }
         ensures { result ≡ hub_at options (A.point access) [] 0 }
     {
         Hub {
@@ -158,11 +169,22 @@ impl<A: SoleAccess> Hub<A> {
 
     /// How the repository is reached.
     pub fn access(&self) -> &A
-        ensures content { world (A.point result.now) ≡ self.now.content }
+        ensures content { content_of (A.point result.now) ≡ self.now.content }
         ensures halted { (A.point result.now).halted ≡ self.now.halted }
         ensures failures { (A.point result.now).failures ≡ self.now.failures }
     {
         &self.access
+    }
+
+    /// The number of the next session: none where as many are open as may be, or all numbers are used.
+    fn next_number(&self) -> Option<SessionId>
+        ensures { MatchOption result (IsFull self.now)
+            (λ n. (n ≡ self.now.used + 1) × (length self.now.sessions < MAX_SESSIONS)) }
+    {
+        if self.sessions.len() >= MAX_SESSIONS || self.used == u64::MAX {
+            return None;
+        }
+        Some(self.used + 1)
     }
 
     /// A new session: its number and the greeting that is written to its client.
@@ -173,10 +195,9 @@ impl<A: SoleAccess> Hub<A> {
         if self.access.is_halted() {
             return Err(HubFault::Halted);
         }
-        if self.sessions.len() >= 16 || self.used == u64::MAX {
+        let Some(number) = self.next_number() else {
             return Err(HubFault::Full);
-        }
-        let number = self.used + 1;
+        };
         let Ok(out) = greeting(self.alloc) else {
             return Err(HubFault::NoMemory);
         };
@@ -195,16 +216,17 @@ impl<A: SoleAccess> Hub<A> {
         number: SessionId,
         i: usize,
         piece: &[u8],
-        env: Env,
-        out: &mut S,
+        turn: &mut Turn<S>,
     ) -> Result<(), AllocError>
-        requires found { Finds self.old.sessions number i }
-        requires moment { env.moment ≤ 200000000000000000 }
-        ensures ok { OnOk result ((told : List ℕ) × Feeds self.old env number piece.now told self.new × S.writes out.old out.new told) }
-        ensures err { OnErr result (BreaksOff self.old env number piece.now self.new (S.writes out.old out.new)) }
+        requires { Finds self.old.sessions number i }
+        ensures ok { OnOk result ((told : List ℕ)
+            × Feeds self.old turn.old.env number piece.now told self.new
+            × S.writes turn.old.out turn.new.out told) }
+        ensures err { OnErr result (BreaksOff self.old turn.old.env number piece.now self.new
+            (S.writes turn.old.out turn.new.out)) }
     {
         let entry = &mut self.sessions[i];
-        let fed = entry.1.feed(self.alloc, &self.options, piece, &mut self.access, env, out);
+        let fed = entry.1.feed(&self.options, piece, &mut self.access, turn);
         let is_open = entry.1.is_open();
         drop_unless(is_open, &mut self.sessions, number);
         match fed {
@@ -215,13 +237,17 @@ impl<A: SoleAccess> Hub<A> {
 
     /// Feeds a piece of what a client sends to its session, and answers what is written to it.
     pub fn feed(&mut self, number: SessionId, piece: &[u8], env: Env) -> Result<Vec<u8>, HubFault>
-        requires { env.moment ≤ 200000000000000000 }
         ensures ok { IfOk result (λ out. FeedsAs self.old env number piece.now out.items self.new) }
         ensures err { IfErr result (λ e. FeedFails self.old env number piece.now e self.new) }
     {
-        let mut sink = MemorySink::new(self.alloc);
-        match self.feed_to(number, piece, env, &mut sink) {
-            Ok(()) => Ok(sink.into_bytes()),
+        let alloc = self.alloc;
+        let mut turn = Turn {
+            alloc,
+            env,
+            out: MemorySink::new(alloc),
+        };
+        match self.feed_to(number, piece, &mut turn) {
+            Ok(()) => Ok(turn.out.into_bytes()),
             Err(fault) => Err(fault),
         }
     }
@@ -232,12 +258,12 @@ impl<A: SoleAccess> Hub<A> {
         &mut self,
         number: SessionId,
         piece: &[u8],
-        env: Env,
-        out: &mut S,
+        turn: &mut Turn<S>,
     ) -> Result<(), HubFault>
-        requires { env.moment ≤ 200000000000000000 }
-        ensures ok { OnOk result (FeedsTo self.old env number piece.now self.new (S.writes out.old out.new)) }
-        ensures err { IfErr result (λ e. FeedBreaks self.old env number piece.now e self.new (S.writes out.old out.new)) }
+        ensures ok { OnOk result (FeedsTo self.old turn.old.env number piece.now self.new
+            (S.writes turn.old.out turn.new.out)) }
+        ensures err { IfErr result (λ e. FeedBreaks self.old turn.old.env number piece.now e self.new
+            (S.writes turn.old.out turn.new.out)) }
     {
         if self.access.is_halted() {
             return Err(HubFault::Halted);
@@ -245,7 +271,7 @@ impl<A: SoleAccess> Hub<A> {
         let Some(i) = place(&self.sessions, number) else {
             return Err(HubFault::NoSession);
         };
-        match self.feed_open(number, i, piece, env, out) {
+        match self.feed_open(number, i, piece, turn) {
             Ok(()) => Ok(()),
             Err(_) => Err(HubFault::NoMemory),
         }

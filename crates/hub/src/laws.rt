@@ -3,11 +3,11 @@ ghost use Rattle.std.specs.Prelude.{◌<◌, ◌≤◌, ◌+◌, ◌≡◌, ◌�
 ghost use Rattle.repo_api.specs.States.{RepoState, IsBeginning, trees_in};
 ghost use Rattle.repo_api.specs.Accepted.{Accepted, AreAccepted, changed_all};
 ghost use Rattle.repo_api.specs.Marks.{AreMarked};
-ghost use Rattle.repo_api.specs.Opening.{opened};
-ghost use Rattle.edit_rules.specs.Soundness.{AreTrees, AreSound};
+ghost use Rattle.repo_api.specs.Opening.{new_repository};
+ghost use Rattle.repo_api.specs.Soundness.{AreTrees, AreSound};
 ghost use Rattle.replies.specs.declared.reply.Reply.{Reply};
-ghost use Rattle.machine.specs.Points.{last_count};
-ghost use Rattle.machine.specs.Hearing.{Input, Comes};
+ghost use Rattle.access.specs.Points.{last_count};
+ghost use Rattle.machine.specs.Hearing.{Input, Yields};
 ghost use Rattle.machine.specs.Settings.{Settings};
 ghost use Rattle.hub.specs.Laws.{TellsFailure, IsToldCommit, KeepsConstants, KeepsProperties, IsUnbroken, new_hub, OverwritesNothing, KeepsAll};
 ghost use Rattle.machine.specs.declared.env.Env.{Env};
@@ -106,8 +106,8 @@ pub fn a_halt_stays()
 /// what its rest and the second part bring.
 pub fn cut_anywhere()
     ensures { (first second : List ℕ) (inputs more : List Input) (rest end : List ℕ)
-        → IsUnbroken inputs → Comes first inputs rest → Comes (rest ++ second) more end
-        → Comes (first ++ second) (inputs ++ more) end }
+        → IsUnbroken inputs → Yields first inputs rest → Yields (rest ++ second) more end
+        → Yields (first ++ second) (inputs ++ more) end }
 {}
 
 /// Every tree is a tree, those of the revisions and those of the open edits: where it is so, it stays so, whatever
@@ -133,7 +133,8 @@ pub fn nothing_is_overwritten()
 
 /// The trees of a new repository are sound: a hub may be made over it.
 pub fn new_repositories_are_sound()
-    ensures { (c : RepoState) (uuid : ℕ) (date : List ℕ) → c ≡ opened uuid date → AreSound c.revisions }
+    ensures { (c : RepoState) (uuid : ℕ) (date : List ℕ) → c ≡ new_repository uuid date
+        → AreSound c.revisions }
 {
     repo_api::opening_is_a_tree();
     repo_api::opening_is_marked();
@@ -141,7 +142,8 @@ pub fn new_repositories_are_sound()
 
 /// In a hub that is new over a new repository every tree is a tree.
 pub fn new_trees_are_trees()
-    ensures { (settings : Settings) (uuid : ℕ) (date : List ℕ) → HasTrees (new_hub settings uuid date) }
+    ensures { (settings : Settings) (uuid : ℕ) (date : List ℕ)
+        → HasTrees (new_hub settings uuid date) }
 {
     new_repositories_are_sound();
 }

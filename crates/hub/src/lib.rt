@@ -2,13 +2,12 @@
 #![tactic(auto)]
 
 mod calls;
-mod direct;
 mod hub;
 mod laws;
 
+pub use access::SoleRepository;
 pub use calls::{Call, Outcome, make_call, make_calls};
-pub use direct::Direct;
-pub use hub::{Hub, HubFault, SessionId};
+pub use hub::{Hub, HubFault, MAX_SESSIONS, SessionId};
 pub use laws::{
     a_halt_stays, calls_keep_history, commits_overwrite_nothing, constants_stay, cut_anywhere,
     failures_never_fall, halts_are_counted, marks_name_what_they_mark, new_repositories_are_sound,

@@ -3,12 +3,12 @@ use Rattle.std.proofs.Common.{◌≡◌, ℕ, zero, suc, ◌≤◌, ◌⊎◌, L
 use Rattle.items.specs.declared.scan.Lex.{Lex}
 use Rattle.items.specs.declared.scan.Lex.TheVariants as lexes
 use Rattle.items.specs.Word.{EachPasses, IsSpace, IsDigit, is_word_byte}
-use Rattle.items.specs.Tree.{Tree, Trees, none, more, Limits, IsWithin, AreWithin}
+use Rattle.items.specs.Values.{ItemValue, ItemValues, none, more, Limits, IsWithin, AreWithin}
 use Rattle.items.specs.Spelling.{value_behind, Spaced, IsBody, AreSpelled}
 
 -- the other items of a list, its end, and then P
 pub record Inside (P : List ℕ → Type 0) (l : Limits) (d : ℕ) (bytes : List ℕ) : Type 0 where
-  pub items : Trees
+  pub items : ItemValues
   pub inner : List ℕ
   pub gap : List ℕ
   pub last : ℕ
@@ -27,7 +27,7 @@ After Q l (suc d) bytes = Inside (After Q l d) l (suc d) bytes
 
 -- an item, and then Q
 pub record First (Q : List ℕ → Type 0) (l : Limits) (bytes : List ℕ) : Type 0 where
-  pub item : Tree
+  pub item : ItemValue
   pub front : List ℕ
   pub rest : List ℕ
   pub spelled : Spaced (λ body. IsBody item body) front
@@ -98,7 +98,7 @@ Goes Q l d (lexes.Tail k) bytes = Strings Q l d k bytes
 spaced-space : (Body : List ℕ → Type 0) (b : ℕ) (bytes : List ℕ) → IsSpace b → Spaced Body bytes → Spaced Body (b ∷ bytes)
 spaced-space Body b bytes h p = record { gap = b ∷ p.gap; body = p.body; last = p.last; spaces = (h, p.spaces); middle = p.middle; ends = p.ends; whole = ap (λ x. b ∷ x) p.whole }
 
-inside-space : (P : List ℕ → Type 0) (l : Limits) (d b : ℕ) (bytes : List ℕ) (items : Trees) (inner gap : List ℕ) (last : ℕ) (rest : List ℕ)
+inside-space : (P : List ℕ → Type 0) (l : Limits) (d b : ℕ) (bytes : List ℕ) (items : ItemValues) (inner gap : List ℕ) (last : ℕ) (rest : List ℕ)
     → AreSpelled items inner → AreWithin l d items → EachPasses IsSpace gap → IsSpace last → P rest → bytes ≡ inner ++ (gap ++ (41 ∷ last ∷ rest)) → IsSpace b → Inside P l d (b ∷ bytes)
 inside-space P l d b bytes none inner gap last rest spelled within spaces ends goes whole h =
     record { items = none; inner = []; gap = b ∷ gap; last = last; rest = rest; spelled = refl; within = within; spaces = (h, spaces); ends = ends; goes = goes; whole = ap (λ x. b ∷ x) (whole ∙ ap (λ x. x ++ (gap ++ (41 ∷ last ∷ rest))) spelled) }
@@ -111,14 +111,14 @@ gap-space Q l zero b bytes h p =
     record { item = p.item; front = b ∷ p.front; rest = p.rest; spelled = spaced-space (λ body. IsBody p.item body) b p.front h p.spelled; within = p.within; goes = p.goes; whole = ap (λ x. b ∷ x) p.whole }
 gap-space Q l (suc d) b bytes h p = inside-space (After Q l d) l (suc d) b bytes p.items p.inner p.gap p.last p.rest p.spelled p.within p.spaces p.ends p.goes p.whole h
 
-next : (Q : List ℕ → Type 0) (l : Limits) (d : ℕ) (t : Tree) (front rest : List ℕ) → Spaced (λ body. IsBody t body) front → IsWithin l d t → After Q l d rest → Gaps Q l d (front ++ rest)
+next : (Q : List ℕ → Type 0) (l : Limits) (d : ℕ) (t : ItemValue) (front rest : List ℕ) → Spaced (λ body. IsBody t body) front → IsWithin l d t → After Q l d rest → Gaps Q l d (front ++ rest)
 next Q l zero t front rest p w a = record { item = t; front = front; rest = rest; spelled = p; within = w; goes = a; whole = refl }
 next Q l (suc d) t front rest p w a =
     let joined : AreSpelled (more t a.items) (front ++ a.inner) = record { front = front; rest = a.inner; first = p; others = a.spelled; whole = refl } in
     record { items = more t a.items; inner = front ++ a.inner; gap = a.gap; last = a.last; rest = a.rest; spelled = joined; within = (w, a.within); spaces = a.spaces; ends = a.ends; goes = a.goes; whole = ap (λ x. front ++ x) a.whole ∙ sym (append_assoc front a.inner (a.gap ++ (41 ∷ a.last ∷ a.rest))) }
 
 -- a body, and what lies behind it
-pub next-body : (Q : List ℕ → Type 0) (l : Limits) (d : ℕ) (t : Tree) (body tail bytes : List ℕ) → IsBody t body → IsWithin l d t → Ends Q l d tail → bytes ≡ body ++ tail → Gaps Q l d bytes
+pub next-body : (Q : List ℕ → Type 0) (l : Limits) (d : ℕ) (t : ItemValue) (body tail bytes : List ℕ) → IsBody t body → IsWithin l d t → Ends Q l d tail → bytes ≡ body ++ tail → Gaps Q l d bytes
 next-body Q l d t body tail bytes b w e h =
     let front : List ℕ = body ++ (e.last ∷ []) in
     let spaced : Spaced (λ x. IsBody t x) front = record { gap = []; body = body; last = e.last; spaces = tt; middle = b; ends = e.ends; whole = refl } in

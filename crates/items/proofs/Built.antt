@@ -2,7 +2,7 @@
 use Rattle.std.proofs.Common.{◌≡◌, ℕ, zero, suc, ◌+◌, ◌-◌, ◌*◌, ◌≤◌, ◌<◌, min, List, [], ◌∷◌, ◌++◌, length, take, drop, true, false, ◌==◌, IsTrue, refl, sym, ap, ap₂, ◌∙◌, subst, append_assoc, length-append, le_trans, le_of_eq, arith}
 use Rattle.std.specs.Char.{is_ascii_digit, is_ascii_alphabetic}
 use Rattle.items.specs.Word.{EachPasses, IsSpace, IsDigit, IsWord, is_space, is_word_byte}
-use Rattle.items.specs.Tree.{Tree, word, number, string, list, Trees, none, more, limits, IsWithin, AreWithin}
+use Rattle.items.specs.Values.{ItemValue, word, number, string, list, ItemValues, none, more, limits, IsWithin, AreWithin}
 use Rattle.items.specs.Spelling.{value_behind, IsNumeral, Spaced, IsBody, AreSpelled}
 use Rattle.items.specs.Build.{behind_spaces, word_len, numeral_at, behind_numeral, listed, read_with, with_item, row_turn, row_with, read, row_reader}
 use Rattle.items.proofs.Classes.{space-no_word, space-no_digit, space-no_colon, digit-no_space, digit-no_opening, digit-no_closing, letter-no_space, letter-no_opening, letter-no_closing, letter-no_digit, value-grows}
@@ -37,7 +37,7 @@ unfolding word_len
 letters-len [] last rest h s = rw (space-no_word last s)
 letters-len (b ∷ bs) last rest h s = let e : is_word_byte b ≡ true = h.0 in rw e (ap suc (letters-len bs last rest h.1 s))
 
-read-word : (row : List ℕ → Trees × List ℕ) (w : List ℕ) (last : ℕ) (rest : List ℕ) → IsWord w → IsSpace last → read_with row (w ++ (last ∷ rest)) ≡ (word w, rest)
+read-word : (row : List ℕ → ItemValues × List ℕ) (w : List ℕ) (last : ℕ) (rest : List ℕ) → IsWord w → IsSpace last → read_with row (w ++ (last ∷ rest)) ≡ (word w, rest)
 unfolding read_with
 read-word row [] last rest h s = absurd h
 read-word row (b ∷ bs) last rest h s =
@@ -65,7 +65,7 @@ numeral-read (d ∷ ds) n c tail h le s =
     let same : value_behind 0 (d ∷ ds) ≡ n = ap (λ k. value_behind k ds) zero_first ∙ h.2 in
     numeral-is 0 (d ∷ ds) c tail (h.0, h.1) s (le_trans (le_of_eq same) le) ∙ ap (λ k. (k, c ∷ tail)) same
 
-read-digits : (row : List ℕ → Trees × List ℕ) (ds : List ℕ) (n c : ℕ) (tail : List ℕ) → IsNumeral ds n → n ≤ 18446744073709551615 → is_ascii_digit c ≡ false → read_with row (ds ++ (c ∷ tail)) ≡ behind_numeral n (c ∷ tail)
+read-digits : (row : List ℕ → ItemValues × List ℕ) (ds : List ℕ) (n c : ℕ) (tail : List ℕ) → IsNumeral ds n → n ≤ 18446744073709551615 → is_ascii_digit c ≡ false → read_with row (ds ++ (c ∷ tail)) ≡ behind_numeral n (c ∷ tail)
 unfolding read_with
 read-digits row [] n c tail h le s = absurd h
 read-digits row (d ∷ ds) n c tail h le s =
@@ -80,7 +80,7 @@ string-behind : (x : List ℕ) (last : ℕ) (rest : List ℕ) → behind_numeral
 unfolding behind_numeral
 string-behind x last rest = ap₂ (λ a b. (string a, b)) (take-front x (last ∷ rest)) (drop-front x last rest)
 
-read-opening : (row : List ℕ → Trees × List ℕ) (opening : ℕ) (bytes : List ℕ) → read_with row (40 ∷ opening ∷ bytes) ≡ listed (row bytes)
+read-opening : (row : List ℕ → ItemValues × List ℕ) (opening : ℕ) (bytes : List ℕ) → read_with row (40 ∷ opening ∷ bytes) ≡ listed (row bytes)
 unfolding read_with
 read-opening row opening bytes = refl
 
@@ -100,7 +100,7 @@ word-starts : (w : List ℕ) → IsWord w → Starts w
 word-starts [] h = absurd h
 word-starts (b ∷ bs) h = record { first = b; rest = bs; whole = refl; no_space = letter-no_space b h.0; no_closing = letter-no_closing b h.0 }
 
-body-starts : (t : Tree) (body : List ℕ) → IsBody t body → Starts body
+body-starts : (t : ItemValue) (body : List ℕ) → IsBody t body → Starts body
 body-starts (word w) body b = subst Starts (sym b.1) (word-starts w b.0)
 body-starts (number n) body b = numeral-starts body n b
 body-starts (string x) body b =
@@ -109,21 +109,21 @@ body-starts (string x) body b =
 body-starts (list ts) body b = record { first = 40; rest = b.opening ∷ (b.inner ++ (b.gap ++ (41 ∷ []))); whole = b.whole; no_space = refl; no_closing = refl }
 
 -- what is behind the spaces of an item
-spaced-behind : (t : Tree) (bytes rest : List ℕ) (p : Spaced (λ body. IsBody t body) bytes) → behind_spaces (bytes ++ rest) ≡ p.body ++ (p.last ∷ rest)
+spaced-behind : (t : ItemValue) (bytes rest : List ℕ) (p : Spaced (λ body. IsBody t body) bytes) → behind_spaces (bytes ++ rest) ≡ p.body ++ (p.last ∷ rest)
 spaced-behind t bytes rest p =
     let s : Starts p.body = body-starts t p.body p.middle in
     let split : bytes ++ rest ≡ p.gap ++ (p.body ++ (p.last ∷ rest)) = ap (λ x. x ++ rest) p.whole ∙ simp append_assoc in
     let starts : p.body ++ (p.last ∷ rest) ≡ s.first ∷ (s.rest ++ (p.last ∷ rest)) = ap (λ x. x ++ (p.last ∷ rest)) s.whole in
     ap behind_spaces split ∙ spaces-behind p.gap (p.body ++ (p.last ∷ rest)) p.spaces ∙ ap behind_spaces starts ∙ no_spaces s.first (s.rest ++ (p.last ∷ rest)) s.no_space ∙ sym starts
 
-row-ends : (read : List ℕ → Tree × List ℕ) (n : ℕ) (gap : List ℕ) (last : ℕ) (rest : List ℕ) → EachPasses IsSpace gap → row_with read (suc n) (gap ++ (41 ∷ last ∷ rest)) ≡ (none, rest)
+row-ends : (read : List ℕ → ItemValue × List ℕ) (n : ℕ) (gap : List ℕ) (last : ℕ) (rest : List ℕ) → EachPasses IsSpace gap → row_with read (suc n) (gap ++ (41 ∷ last ∷ rest)) ≡ (none, rest)
 unfolding row_with
 row-ends read n gap last rest h = ap (row_turn read (row_with read n)) (spaces-behind gap (41 ∷ last ∷ rest) h ∙ no_spaces 41 (last ∷ rest) refl)
 
-turn-more : (read : List ℕ → Tree × List ℕ) (go : List ℕ → Trees × List ℕ) (b : ℕ) (bs : List ℕ) → (b == 41) ≡ false → row_turn read go (b ∷ bs) ≡ with_item (read (b ∷ bs)) go
+turn-more : (read : List ℕ → ItemValue × List ℕ) (go : List ℕ → ItemValues × List ℕ) (b : ℕ) (bs : List ℕ) → (b == 41) ≡ false → row_turn read go (b ∷ bs) ≡ with_item (read (b ∷ bs)) go
 turn-more read go b bs h = rw h
 
-row-more : (read : List ℕ → Tree × List ℕ) (n : ℕ) (t : Tree) (front rest : List ℕ) (p : Spaced (λ body. IsBody t body) front) → read (p.body ++ (p.last ∷ rest)) ≡ (t, rest) → row_with read (suc n) (front ++ rest) ≡ with_item (t, rest) (row_with read n)
+row-more : (read : List ℕ → ItemValue × List ℕ) (n : ℕ) (t : ItemValue) (front rest : List ℕ) (p : Spaced (λ body. IsBody t body) front) → read (p.body ++ (p.last ∷ rest)) ≡ (t, rest) → row_with read (suc n) (front ++ rest) ≡ with_item (t, rest) (row_with read n)
 unfolding row_with
 row-more read n t front rest p e =
     let s : Starts p.body = body-starts t p.body p.middle in
@@ -133,7 +133,7 @@ row-more read n t front rest p e =
     ∙ ap (λ x. with_item (read x) (row_with read n)) (sym starts)
     ∙ ap (λ x. with_item x (row_with read n)) e
 
-abbrev unspaced : (t : Tree) (body : List ℕ) (last : ℕ) → IsBody t body → IsSpace last → Spaced (λ x. IsBody t x) (body ++ (last ∷ []))
+abbrev unspaced : (t : ItemValue) (body : List ℕ) (last : ℕ) → IsBody t body → IsSpace last → Spaced (λ x. IsBody t x) (body ++ (last ∷ []))
 unspaced t body last b s = record { gap = []; body = body; last = last; spaces = tt; middle = b; ends = s; whole = refl }
 
 spaced-length : (Body : List ℕ → Type 0) (bytes : List ℕ) → Spaced Body bytes → 0 < length bytes
@@ -143,7 +143,7 @@ spaced-length Body bytes p =
 
 -- so many lists are open, and so many more may be
 mutual
-  read-body : (o d : ℕ) (t : Tree) (body : List ℕ) (last : ℕ) (rest : List ℕ) → o + d ≡ 64 → IsBody t body → IsWithin limits o t → IsSpace last → read_with (row_reader d) (body ++ (last ∷ rest)) ≡ (t, rest)
+  read-body : (o d : ℕ) (t : ItemValue) (body : List ℕ) (last : ℕ) (rest : List ℕ) → o + d ≡ 64 → IsBody t body → IsWithin limits o t → IsSpace last → read_with (row_reader d) (body ++ (last ∷ rest)) ≡ (t, rest)
   read-body o d (word w) body last rest e b h s = ap (λ x. read_with (row_reader d) (x ++ (last ∷ rest))) b.1 ∙ read-word (row_reader d) w last rest b.0 s
   read-body o d (number n) body last rest e b h s = read-digits (row_reader d) body n last rest b h (space-no_digit last s) ∙ number-behind n last rest s
   read-body o d (string x) body last rest e b h s =
@@ -160,7 +160,7 @@ mutual
       ∙ read-opening (row_reader (suc d)) b.opening inside
       ∙ ap listed (read-row (suc o) d ts (length inside) b.inner b.gap last rest (omega arith) b.middle h.1 b.spaces long)
 
-  read-row : (o d : ℕ) (ts : Trees) (n : ℕ) (inner gap : List ℕ) (last : ℕ) (rest : List ℕ) → o + d ≡ 64 → AreSpelled ts inner → AreWithin limits o ts → EachPasses IsSpace gap → length inner < n
+  read-row : (o d : ℕ) (ts : ItemValues) (n : ℕ) (inner gap : List ℕ) (last : ℕ) (rest : List ℕ) → o + d ≡ 64 → AreSpelled ts inner → AreWithin limits o ts → EachPasses IsSpace gap → length inner < n
       → row_with (read d) n (inner ++ (gap ++ (41 ∷ last ∷ rest))) ≡ (ts, rest)
   read-row o d none zero inner gap last rest e p h s long = let never : ⊥ = omega arith in absurd never
   read-row o d none (suc n) inner gap last rest e p h s long =
@@ -181,6 +181,6 @@ mutual
       ∙ ap (λ q. (more t q.0, q.1)) (read-row o d ts n p.rest gap last rest e p.others h.1 s short)
 
 -- the item is read, and no further
-pub read-item : (t : Tree) (bytes rest : List ℕ) → Spaced (λ body. IsBody t body) bytes → IsWithin limits 0 t → read 64 (bytes ++ rest) ≡ (t, rest)
+pub read-item : (t : ItemValue) (bytes rest : List ℕ) → Spaced (λ body. IsBody t body) bytes → IsWithin limits 0 t → read 64 (bytes ++ rest) ≡ (t, rest)
 read-item t bytes rest p h =
     read-is 64 (bytes ++ rest) ∙ ap (read_with (row_reader 64)) (spaced-behind t bytes rest p) ∙ read-body 0 64 t p.body p.last rest refl p.middle h p.ends

@@ -6,7 +6,7 @@ use Rattle.std.specs.Char.{is_ascii_digit, is_ascii_alphabetic}
 use Rattle.items.specs.declared.scan.Lex.TheVariants as lexes
 use Rattle.items.specs.declared.scan.Step.TheVariants as steps
 use Rattle.items.specs.Word.{EachPasses, IsSpace, IsDigit, IsWord, is_space, is_word_byte}
-use Rattle.items.specs.Tree.{Tree, word, number, string, list, Trees, none, more, Limits, IsWithin, AreWithin}
+use Rattle.items.specs.Values.{ItemValue, word, number, string, list, ItemValues, none, more, Limits, IsWithin, AreWithin}
 use Rattle.items.specs.Spelling.{value_behind, IsNumeral, Spaced, IsBody, AreSpelled}
 use Rattle.items.specs.Scan.{at, on, step_in, gap_step, number_step, after_step}
 use Rattle.items.specs.Run.{Outcome, whole, outcome_of, run}
@@ -99,7 +99,7 @@ run-spaced Body l d bytes rest go p =
     ∙ go p.body p.last p.middle p.ends
 
 mutual
-  run-body : (l : Limits) (d : ℕ) (t : Tree) (body : List ℕ) (last : ℕ) (rest : List ℕ) → IsBody t body → IsWithin l d t → IsSpace last → run l (body ++ (last ∷ rest)) (at d lexes.Gap) ≡ onward l d rest
+  run-body : (l : Limits) (d : ℕ) (t : ItemValue) (body : List ℕ) (last : ℕ) (rest : List ℕ) → IsBody t body → IsWithin l d t → IsSpace last → run l (body ++ (last ∷ rest)) (at d lexes.Gap) ≡ onward l d rest
   run-body l d (word w) body last rest b h s = ap (λ x. run l (x ++ (last ∷ rest)) (at d lexes.Gap)) b.1 ∙ run-word l d w last rest b.0 s
   run-body l d (number n) body last rest b h s = run-numeral l d n body (last ∷ rest) b h ∙ run-number l d n last rest s
   run-body l d (string x) body last rest b h s =
@@ -116,7 +116,7 @@ mutual
       ∙ run-spaces l (suc d) b.gap (41 ∷ last ∷ rest) b.spaces
       ∙ run-closing l d last rest s
 
-  run-row : (l : Limits) (d : ℕ) (ts : Trees) (inner rest : List ℕ) → AreSpelled ts inner → AreWithin l (suc d) ts → run l (inner ++ rest) (at (suc d) lexes.Gap) ≡ run l rest (at (suc d) lexes.Gap)
+  run-row : (l : Limits) (d : ℕ) (ts : ItemValues) (inner rest : List ℕ) → AreSpelled ts inner → AreWithin l (suc d) ts → run l (inner ++ rest) (at (suc d) lexes.Gap) ≡ run l rest (at (suc d) lexes.Gap)
   run-row l d none inner rest e h = ap (λ x. run l (x ++ rest) (at (suc d) lexes.Gap)) e
   run-row l d (more t ts) inner rest j h =
       ap (λ x. run l (x ++ rest) (at (suc d) lexes.Gap)) j.whole
@@ -126,5 +126,5 @@ mutual
       ∙ run-row l d ts j.rest rest j.others h.1
 
 -- the item is whole just there, whatever follows
-pub run-item : (l : Limits) (t : Tree) (bytes rest : List ℕ) → Spaced (λ body. IsBody t body) bytes → IsWithin l 0 t → run l (bytes ++ rest) (at 0 lexes.Gap) ≡ whole rest
+pub run-item : (l : Limits) (t : ItemValue) (bytes rest : List ℕ) → Spaced (λ body. IsBody t body) bytes → IsWithin l 0 t → run l (bytes ++ rest) (at 0 lexes.Gap) ≡ whole rest
 run-item l t bytes rest p h = run-spaced (λ body. IsBody t body) l 0 bytes rest (λ body last b s. run-body l 0 t body last rest b h s) p

@@ -5,7 +5,7 @@ use Rattle.items.specs.declared.scan.Lex.TheVariants as lexes
 use Rattle.items.specs.declared.scan.Step.{Step}
 use Rattle.items.specs.declared.scan.Step.TheVariants as steps
 use Rattle.items.specs.declared.scan.Scan.{Scan}
-use Rattle.items.specs.Tree.{Limits}
+use Rattle.items.specs.Values.{Limits}
 use Rattle.items.specs.Scan.{at, step, step_in}
 use Rattle.items.specs.Run.{unfinished, whole, outcome_of, run}
 use Rattle.items.proofs.Complete.{onward, onward-suc, run-letters, run-number, run-string, run-closing, run-word}

@@ -6,7 +6,7 @@ use Rattle.items.specs.declared.scan.Defect.TheVariants as defects
 use Rattle.items.specs.declared.scan.Scan.{Scan}
 use Rattle.items.specs.declared.scan.Step.{Step}
 use Rattle.items.specs.declared.scan.Step.TheVariants as steps
-use Rattle.items.specs.Tree.{Limits, limits}
+use Rattle.items.specs.Values.{Limits, limits}
 use Rattle.items.specs.Stream.{Begins, IsFaulty, IsDefect}
 use Rattle.items.specs.Scan.{step, step_in}
 use Rattle.items.specs.Run.{start}

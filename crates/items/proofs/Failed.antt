@@ -6,9 +6,9 @@ use Rattle.items.specs.declared.scan.Defect.TheVariants as defects
 use Rattle.items.specs.declared.reader.ItemFault.{ItemFault}
 use Rattle.items.specs.declared.reader.ItemFault.TheVariants as faults
 use Rattle.items.specs.declared.item.Item.{Item}
-use Rattle.items.specs.Tree.{Trees, limits}
+use Rattle.items.specs.Values.{ItemValues, limits}
 use Rattle.items.specs.Stream.{IsRow}
-use Rattle.items.specs.View.{trees_of}
+use Rattle.items.specs.View.{values_of}
 use Rattle.items.specs.Run.{start}
 use Rattle.items.specs.Unread.{Unread}
 use Rattle.items.specs.Reading.{counted, IsWrongAt, IsFaultOf}
@@ -24,7 +24,7 @@ take-behind n (x ∷ xs) b =
     let e : suc (length xs) + n ≡ suc (length xs + n) = omega arith in
     ap (λ k. take k (x ∷ (xs ++ b))) e ∙ ap (λ r. x ∷ r) (take-behind n xs b)
 
-stops_behind : (ts : Trees) (front rest : List ℕ) (n : ℕ) (d : Defect) → IsRow limits ts front → Stops n rest d → Stops (length front + n) (front ++ rest) d
+stops_behind : (ts : ItemValues) (front rest : List ℕ) (n : ℕ) (d : Defect) → IsRow limits ts front → Stops n rest d → Stops (length front + n) (front ++ rest) d
 stops_behind ts front rest n d r s =
     let up : length front + n + 1 ≡ length front + (n + 1) = add_assoc (length front) n 1 in
     record {
@@ -35,7 +35,7 @@ stops_behind ts front rest n d r s =
       wrong = s.wrong;
     }
 
-wrong_behind : (ts : Trees) (front : List ℕ) (left : Unread) (d : Defect) (place : ℕ) → IsRow limits ts front → left.place ≡ counted (length front) → IsWrongAt d left place → IsWrongStream d (front ++ left.rest) place
+wrong_behind : (ts : ItemValues) (front : List ℕ) (left : Unread) (d : Defect) (place : ℕ) → IsRow limits ts front → left.place ≡ counted (length front) → IsWrongAt d left place → IsWrongStream d (front ++ left.rest) place
 wrong_behind ts front left d place r p w =
     let s = stops w.count left.rest w.faulty in
     let same : d ≡ s.0 = one_defect w.count left.rest s.0 d s.1 w.kind in
@@ -48,7 +48,7 @@ wrong_behind ts front left d place r p w =
       is_place = w.is_place ∙ ap (λ n. counted (n + w.count)) p ∙ counted_twice (length front) w.count;
     }
 
-fault_behind : (ts : Trees) (front : List ℕ) (left : Unread) (e : ItemFault) → IsRow limits ts front → left.place ≡ counted (length front) → IsFaultOf left e → IsFaultOfStream (front ++ left.rest) e
+fault_behind : (ts : ItemValues) (front : List ℕ) (left : Unread) (e : ItemFault) → IsRow limits ts front → left.place ≡ counted (length front) → IsFaultOf left e → IsFaultOfStream (front ++ left.rest) e
 fault_behind ts front left (faults.Malformed place) r p h = wrong_behind ts front left defects.Malformed place r p h
 fault_behind ts front left (faults.TooDeep place) r p h = wrong_behind ts front left defects.TooDeep place r p h
 fault_behind ts front left (faults.StringTooLong place) r p h = wrong_behind ts front left defects.StringTooLong place r p h
@@ -75,7 +75,7 @@ fault_of_stream so_far piece later stream before old fed e d f x s =
     let seen : so_far ++ piece ≡ front ++ x.left.rest =
     ap (λ y. y ++ piece) d.whole ∙ append_assoc d.front old.rest piece ∙ ap (λ y. d.front ++ y) rest ∙ sym (append_assoc d.front x.takes.front x.left.rest) in
     let place : x.left.place ≡ counted (length front) = x.takes.place (length d.front) (ap (λ u. u.place) f ∙ d.place) ∙ ap counted (sym (length-append d.front x.takes.front)) in
-    let here : IsFaultOfStream (front ++ x.left.rest) e = fault_behind (trees_of x.after) front x.left e (x.takes.row d.front d.row) place x.fault in
+    let here : IsFaultOfStream (front ++ x.left.rest) e = fault_behind (values_of x.after) front x.left e (x.takes.row d.front d.row) place x.fault in
     let P : List ℕ → Type 0 = λ y. IsFaultOfStream y e in
     subst P (sym (s ∙ sym (append_assoc so_far piece later))) (fault_before (so_far ++ piece) later e (subst P (sym seen) here))
 

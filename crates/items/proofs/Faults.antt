@@ -8,7 +8,7 @@ use Rattle.items.specs.declared.scan.Step.{Step}
 use Rattle.items.specs.declared.scan.Step.TheVariants as steps
 use Rattle.items.specs.declared.reader.ItemFault.{ItemFault}
 use Rattle.items.specs.declared.reader.ItemFault.TheVariants as faults
-use Rattle.items.specs.Tree.{Tree, Limits, limits}
+use Rattle.items.specs.Values.{ItemValue, Limits, limits}
 use Rattle.items.specs.Stream.{IsRow, HasNoItem, Begins, IsFaulty, IsDefect}
 use Rattle.items.specs.Scan.{step}
 use Rattle.items.specs.Run.{Outcome, unfinished, whole, bad, outcome_of, run, start}
@@ -133,7 +133,7 @@ one_answer old e f h k = go (says old e h) (says old f k)
         let place : p ≡ q = v.is_place ∙ ap (λ n. counted (old.place + n)) at ∙ sym w.is_place in
         inl (x ∙ ap₂ fault_of kind place ∙ sym y)
 
-pub no_item_there : (old new : Unread) (t : Tree) (e : ItemFault) → Takes old t new → IsFaultOf old e → e ≡ faults.NoMemory
+pub no_item_there : (old new : Unread) (t : ItemValue) (e : ItemFault) → Takes old t new → IsFaultOf old e → e ≡ faults.NoMemory
 no_item_there old new t e i h = go (says old e h)
   where
     go : Says old e → e ≡ faults.NoMemory

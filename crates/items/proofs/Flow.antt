@@ -4,7 +4,7 @@ use Rattle.items.specs.declared.scan.Defect.{Defect}
 use Rattle.items.specs.declared.scan.Scan.{Scan}
 use Rattle.items.specs.declared.scan.Step.{Step}
 use Rattle.items.specs.declared.scan.Step.TheVariants as steps
-use Rattle.items.specs.Tree.{Tree, Trees, none, more, Limits, IsWithin, AreWithin}
+use Rattle.items.specs.Values.{ItemValue, ItemValues, none, more, Limits, IsWithin, AreWithin}
 use Rattle.items.specs.Spelling.{Spaced, IsBody, AreSpelled}
 use Rattle.items.specs.Stream.{IsRow, Begins}
 use Rattle.items.specs.Scan.{step}
@@ -64,12 +64,12 @@ flow-front l (x ∷ xs) b s t h = go (λ u e. flow-front l xs b u t e) (step l s
     go again steps.Whole h = again start h
     go again (steps.Bad e) h = let never : ⊥ = cc in absurd never
 
-flow-item : (l : Limits) (t : Tree) (bytes rest : List ℕ) → Spaced (λ body. IsBody t body) bytes → IsWithin l 0 t → flow l (bytes ++ rest) start ≡ flow l rest start
+flow-item : (l : Limits) (t : ItemValue) (bytes rest : List ℕ) → Spaced (λ body. IsBody t body) bytes → IsWithin l 0 t → flow l (bytes ++ rest) start ≡ flow l rest start
 flow-item l t bytes rest p w =
     let e : run l (bytes ++ rest) start ≡ whole rest = run-item l t bytes rest p w in
     subst (Tells l (flow l (bytes ++ rest) start)) e (told l (bytes ++ rest) start)
 
-pub flow-row : (l : Limits) (ts : Trees) (bytes : List ℕ) → AreSpelled ts bytes → AreWithin l 0 ts → flow l bytes start ≡ going start
+pub flow-row : (l : Limits) (ts : ItemValues) (bytes : List ℕ) → AreSpelled ts bytes → AreWithin l 0 ts → flow l bytes start ≡ going start
 unfolding flow
 flow-row l none bytes e w = ap (λ x. flow l x start) e
 flow-row l (more t ts) bytes j w = ap (λ x. flow l x start) j.whole ∙ flow-item l t j.front j.rest j.first w.0 ∙ flow-row l ts j.rest j.others w.1
@@ -78,10 +78,10 @@ flow-row l (more t ts) bytes j w = ap (λ x. flow l x start) j.whole ∙ flow-it
 pub begins-flow : (l : Limits) (bytes : List ℕ) → Begins l bytes → (s : Scan) × (flow l bytes start ≡ going s)
 begins-flow l bytes b = flow-front l bytes b.rest start start (flow-row l b.items (bytes ++ b.rest) b.row.spelled b.row.within)
 
-row_of_one : (l : Limits) (t : Tree) (bytes : List ℕ) → Spaced (λ body. IsBody t body) bytes → IsWithin l 0 t → IsRow l (more t none) bytes
+row_of_one : (l : Limits) (t : ItemValue) (bytes : List ℕ) → Spaced (λ body. IsBody t body) bytes → IsWithin l 0 t → IsRow l (more t none) bytes
 row_of_one l t bytes p w = record { spelled = record { front = bytes; rest = []; first = p; others = refl; whole = sym (append-nil bytes) }; within = (w, tt) }
 
-row_more : (l : Limits) (t : Tree) (ts : Trees) (front rest : List ℕ) → Spaced (λ body. IsBody t body) front → IsWithin l 0 t → IsRow l ts rest → IsRow l (more t ts) (front ++ rest)
+row_more : (l : Limits) (t : ItemValue) (ts : ItemValues) (front rest : List ℕ) → Spaced (λ body. IsBody t body) front → IsWithin l 0 t → IsRow l ts rest → IsRow l (more t ts) (front ++ rest)
 row_more l t ts front rest p w r = record { spelled = record { front = front; rest = rest; first = p; others = r.spelled; whole = refl }; within = (w, r.within) }
 
 pub unfinished-begins : (l : Limits) → 9 ≤ l.number → (bytes : List ℕ) (t : Scan) → run l bytes start ≡ unfinished t → Begins l bytes

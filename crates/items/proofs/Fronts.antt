@@ -3,7 +3,7 @@ use Rattle.std.proofs.Common.{◌≡◌, ◌≢◌, ℕ, zero, suc, ◌+◌, ◌
 use Rattle.std.proofs.lemmas.Bool.Decides.{nat_tests}
 use Rattle.std.specs.Char.{is_ascii_digit, is_ascii_alphabetic}
 use Rattle.items.specs.Word.{EachPasses, IsWord, is_word_byte}
-use Rattle.items.specs.Tree.{Tree, word, number, string, list, Trees, limits}
+use Rattle.items.specs.Values.{ItemValue, word, number, string, list, ItemValues, limits}
 use Rattle.items.specs.Stream.{IsItem}
 use Rattle.items.specs.Build.{behind_spaces, word_len, numeral_at, behind_numeral, listed, word_at, read_with, read, row_reader, StartsWord}
 use Rattle.items.proofs.Classes.{letter-no_opening, letter-no_digit}
@@ -12,10 +12,10 @@ use Rattle.items.proofs.Built.{read-is, read-item}
 pub all_dropped : (n : ℕ) (l : List ℕ) → take (length l - n) (drop n l) ≡ drop n l
 all_dropped n l = take_all (length l - n) (drop n l) (omega (arith, length-drop n l))
 
-at_first : (row : List ℕ → Trees × List ℕ) (d : ℕ) (bytes skipped : List ℕ) → skipped ≡ behind_spaces bytes → read_with (row_reader d) skipped ≡ read d bytes
+at_first : (row : List ℕ → ItemValues × List ℕ) (d : ℕ) (bytes skipped : List ℕ) → skipped ≡ behind_spaces bytes → read_with (row_reader d) skipped ≡ read d bytes
 at_first row d bytes skipped e = ap (read_with (row_reader d)) e ∙ sym (read-is d bytes)
 
-with_nothing : (row : List ℕ → Trees × List ℕ) (skipped : List ℕ) → length skipped ≡ 0 → (number 0, skipped) ≡ read_with row skipped
+with_nothing : (row : List ℕ → ItemValues × List ℕ) (skipped : List ℕ) → length skipped ≡ 0 → (number 0, skipped) ≡ read_with row skipped
 unfolding read_with
 with_nothing row [] h = refl
 with_nothing row (b ∷ bs) h = let never : ⊥ = omega arith in absurd never
@@ -23,15 +23,15 @@ with_nothing row (b ∷ bs) h = let never : ⊥ = omega arith in absurd never
 pub read_nothing : (d : ℕ) (bytes skipped : List ℕ) → skipped ≡ behind_spaces bytes → length skipped ≡ 0 → (number 0, skipped) ≡ read d bytes
 read_nothing d bytes skipped e h = with_nothing (row_reader d) skipped h ∙ at_first (row_reader d) d bytes skipped e
 
-with_list : (row : List ℕ → Trees × List ℕ) (skipped : List ℕ) → 0 < length skipped → get_or skipped 0 0 ≡ 40 → listed (row (drop 1 (drop 1 skipped))) ≡ read_with row skipped
+with_list : (row : List ℕ → ItemValues × List ℕ) (skipped : List ℕ) → 0 < length skipped → get_or skipped 0 0 ≡ 40 → listed (row (drop 1 (drop 1 skipped))) ≡ read_with row skipped
 unfolding read_with
 with_list row [] h e = let never : ⊥ = omega arith in absurd never
 with_list row (b ∷ bs) h e = let opens : (b == 40) ≡ true = grind (arith, nat_tests) in rw opens
 
-pub read_list : (d : ℕ) (bytes skipped : List ℕ) (ts : Trees) (behind : List ℕ) → skipped ≡ behind_spaces bytes → 0 < length skipped → get_or skipped 0 0 ≡ 40 → (ts, behind) ≡ row_reader d (drop 1 (drop 1 skipped)) → (list ts, behind) ≡ read d bytes
+pub read_list : (d : ℕ) (bytes skipped : List ℕ) (ts : ItemValues) (behind : List ℕ) → skipped ≡ behind_spaces bytes → 0 < length skipped → get_or skipped 0 0 ≡ 40 → (ts, behind) ≡ row_reader d (drop 1 (drop 1 skipped)) → (list ts, behind) ≡ read d bytes
 read_list d bytes skipped ts behind e h b r = ap listed r ∙ with_list (row_reader d) skipped h b ∙ at_first (row_reader d) d bytes skipped e
 
-with_number : (row : List ℕ → Trees × List ℕ) (skipped : List ℕ) → 0 < length skipped → get_or skipped 0 0 ≢ 40 → is_ascii_digit (get_or skipped 0 0) ≡ true
+with_number : (row : List ℕ → ItemValues × List ℕ) (skipped : List ℕ) → 0 < length skipped → get_or skipped 0 0 ≢ 40 → is_ascii_digit (get_or skipped 0 0) ≡ true
     → (let n = numeral_at 0 skipped in behind_numeral n.0 n.1) ≡ read_with row skipped
 unfolding read_with
 with_number row [] h o e = let never : ⊥ = omega arith in absurd never
@@ -40,20 +40,20 @@ with_number row (b ∷ bs) h o e =
     let digit : is_ascii_digit b ≡ true = e in
     rw (shut, digit)
 
-pub read_number : (d : ℕ) (bytes skipped : List ℕ) (p : Tree × List ℕ) → skipped ≡ behind_spaces bytes → 0 < length skipped → get_or skipped 0 0 ≢ 40 → is_ascii_digit (get_or skipped 0 0) ≡ true
+pub read_number : (d : ℕ) (bytes skipped : List ℕ) (p : ItemValue × List ℕ) → skipped ≡ behind_spaces bytes → 0 < length skipped → get_or skipped 0 0 ≢ 40 → is_ascii_digit (get_or skipped 0 0) ≡ true
     → p ≡ (let n = numeral_at 0 skipped in behind_numeral n.0 n.1) → p ≡ read d bytes
 read_number d bytes skipped p e h o b r = r ∙ with_number (row_reader d) skipped h o b ∙ at_first (row_reader d) d bytes skipped e
 
-with_word : (row : List ℕ → Trees × List ℕ) (b : ℕ) (bs : List ℕ) → is_ascii_alphabetic b ≡ true → word_at b bs ≡ read_with row (b ∷ bs)
+with_word : (row : List ℕ → ItemValues × List ℕ) (b : ℕ) (bs : List ℕ) → is_ascii_alphabetic b ≡ true → word_at b bs ≡ read_with row (b ∷ bs)
 unfolding read_with
 with_word row b bs h = rw (letter-no_opening b h, letter-no_digit b h, h)
 
-pub read_letters : (d : ℕ) (bytes skipped : List ℕ) (b : ℕ) (bs : List ℕ) (p : Tree × List ℕ) → skipped ≡ behind_spaces bytes → skipped ≡ b ∷ bs → is_ascii_alphabetic (get_or skipped 0 0) ≡ true → p ≡ word_at b bs → p ≡ read d bytes
+pub read_letters : (d : ℕ) (bytes skipped : List ℕ) (b : ℕ) (bs : List ℕ) (p : ItemValue × List ℕ) → skipped ≡ behind_spaces bytes → skipped ≡ b ∷ bs → is_ascii_alphabetic (get_or skipped 0 0) ≡ true → p ≡ word_at b bs → p ≡ read d bytes
 read_letters d bytes skipped b bs p e s h r =
     let letter : is_ascii_alphabetic b ≡ true = ap (λ x. is_ascii_alphabetic (get_or x 0 0)) (sym s) ∙ h in
     r ∙ with_word (row_reader d) b bs letter ∙ ap (read_with (row_reader d)) (sym s) ∙ at_first (row_reader d) d bytes skipped e
 
-with_other : (row : List ℕ → Trees × List ℕ) (skipped : List ℕ) → 0 < length skipped → get_or skipped 0 0 ≢ 40 → is_ascii_digit (get_or skipped 0 0) ≡ false → is_ascii_alphabetic (get_or skipped 0 0) ≡ false → (number 0, drop 1 skipped) ≡ read_with row skipped
+with_other : (row : List ℕ → ItemValues × List ℕ) (skipped : List ℕ) → 0 < length skipped → get_or skipped 0 0 ≢ 40 → is_ascii_digit (get_or skipped 0 0) ≡ false → is_ascii_alphabetic (get_or skipped 0 0) ≡ false → (number 0, drop 1 skipped) ≡ read_with row skipped
 unfolding read_with
 with_other row [] h o n a = let never : ⊥ = omega arith in absurd never
 with_other row (b ∷ bs) h o n a =
@@ -135,9 +135,9 @@ word_read (b ∷ bs) rest items behind n h t e i d =
     (b, bs, refl, ap₂ (λ x y. (word x, y)) front back)
 
 -- the very item is built
-pub built : (bytes : List ℕ) (t u : Tree) (behind : List ℕ) → IsItem limits t bytes → (u, behind) ≡ read 64 bytes → IsItem limits u bytes
+pub built : (bytes : List ℕ) (t u : ItemValue) (behind : List ℕ) → IsItem limits t bytes → (u, behind) ≡ read 64 bytes → IsItem limits u bytes
 built bytes t u behind i e =
     let same = sym (read-item t bytes [] i.spelled i.within) ∙ ap (read 64) (append-nil bytes) ∙ sym e in
     let is : t ≡ u = ap (λ p. p.0) same in
-    let P : Tree → Type 0 = λ x. IsItem limits x bytes in
+    let P : ItemValue → Type 0 = λ x. IsItem limits x bytes in
     subst P is i

@@ -1,16 +1,16 @@
 -- Rows that grow by an item.
 use Rattle.std.proofs.Common.{◌≡◌, ℕ, ◌+◌, List, [], ◌∷◌, ◌++◌, map, refl, sym, ap, ◌∙◌, subst, length, append_assoc, append-nil, add-zero, add_assoc, length-append, arith}
 use Rattle.items.specs.declared.item.Item.{Item}
-use Rattle.items.specs.Tree.{Tree, none, more, limits, AreWithin}
+use Rattle.items.specs.Values.{ItemValue, none, more, limits, AreWithin}
 use Rattle.items.specs.Spelling.{AreSpelled}
 use Rattle.items.specs.Stream.{IsItem, IsRow, HasNoItem}
-use Rattle.items.specs.View.{row_of, tree_of, trees_of}
+use Rattle.items.specs.View.{row_of, value_of, values_of}
 use Rattle.items.specs.Unread.{Unread}
 use Rattle.items.specs.Reading.{counted, Takes}
 use Rattle.items.proofs.Scanned.{no_item_in_none}
 use Rattle.items.specs.Decoding.{TakesSome, TakesAll, DecodedSoFar}
 
-row-snoc : (ts : List Tree) (t : Tree) (a b : List ℕ) → IsRow limits (row_of ts) a → IsItem limits t b → IsRow limits (row_of (ts ++ (t ∷ []))) (a ++ b)
+row-snoc : (ts : List ItemValue) (t : ItemValue) (a b : List ℕ) → IsRow limits (row_of ts) a → IsItem limits t b → IsRow limits (row_of (ts ++ (t ∷ []))) (a ++ b)
 row-snoc [] t a b r i =
     let P : List ℕ → Type 0 = λ x. IsRow limits (more t none) x in
     let one : IsRow limits (more t none) b = record { spelled = record { front = b; rest = []; first = i.spelled; others = refl; whole = sym (append-nil b) }; within = (i.within, tt) } in
@@ -21,29 +21,29 @@ row-snoc (u ∷ us) t a b r i =
     let rest : IsRow limits (row_of (us ++ (t ∷ []))) (j.rest ++ b) = row-snoc us t j.rest b (record { spelled = j.others; within = w.1 }) i in
     record { spelled = record { front = j.front; rest = j.rest ++ b; first = j.first; others = rest.spelled; whole = ap (λ x. x ++ b) j.whole ∙ append_assoc j.front j.rest b }; within = (w.0, rest.within) }
 
-map-snoc : (items : List Item) (i : Item) → map tree_of (items ++ (i ∷ [])) ≡ map tree_of items ++ (tree_of i ∷ [])
+map-snoc : (items : List Item) (i : Item) → map value_of (items ++ (i ∷ [])) ≡ map value_of items ++ (value_of i ∷ [])
 map-snoc [] i = refl
-map-snoc (x ∷ xs) i = ap (λ r. tree_of x ∷ r) (map-snoc xs i)
+map-snoc (x ∷ xs) i = ap (λ r. value_of x ∷ r) (map-snoc xs i)
 
-row-more : (items : List Item) (i : Item) (a b : List ℕ) → IsRow limits (trees_of items) a → IsItem limits (tree_of i) b → IsRow limits (trees_of (items ++ (i ∷ []))) (a ++ b)
+row-more : (items : List Item) (i : Item) (a b : List ℕ) → IsRow limits (values_of items) a → IsItem limits (value_of i) b → IsRow limits (values_of (items ++ (i ∷ []))) (a ++ b)
 row-more items i a b r h =
-    let P : List Tree → Type 0 = λ x. IsRow limits (row_of x) (a ++ b) in
-    subst P (sym (map-snoc items i)) (row-snoc (map tree_of items) (tree_of i) a b r h)
+    let P : List ItemValue → Type 0 = λ x. IsRow limits (row_of x) (a ++ b) in
+    subst P (sym (map-snoc items i)) (row-snoc (map value_of items) (value_of i) a b r h)
 
 pub takes_none : (old : Unread) (items : List Item) → TakesSome old items items old
 takes_none old items =
-    record { front = []; whole = refl; row = λ base r. (let P : List ℕ → Type 0 = λ x. IsRow limits (trees_of items) x in subst P (sym (append-nil base)) r); place = λ base e. e ∙ ap counted (sym (add-zero base)) }
+    record { front = []; whole = refl; row = λ base r. (let P : List ℕ → Type 0 = λ x. IsRow limits (values_of items) x in subst P (sym (append-nil base)) r); place = λ base e. e ∙ ap counted (sym (add-zero base)) }
 
 pub counted_twice : (a b : ℕ) → counted (counted a + b) ≡ counted (a + b)
 counted_twice a b = omega arith
 
-pub takes_item : (old mid new : Unread) (before between after : List Item) (i : Item) → TakesSome old before between mid → Takes mid (tree_of i) new → after ≡ between ++ (i ∷ []) → TakesSome old before after new
+pub takes_item : (old mid new : Unread) (before between after : List Item) (i : Item) → TakesSome old before between mid → Takes mid (value_of i) new → after ≡ between ++ (i ∷ []) → TakesSome old before after new
 takes_item old mid new before between after i s t e =
     let P : List Item → Type 0 = λ x. TakesSome old before x new in
     subst P (sym e) (record {
       front = s.front ++ t.front;
       whole = s.whole ∙ ap (λ x. s.front ++ x) t.whole ∙ sym (append_assoc s.front t.front new.rest);
-      row = λ base r. (let Q : List ℕ → Type 0 = λ x. IsRow limits (trees_of (between ++ (i ∷ []))) x in
+      row = λ base r. (let Q : List ℕ → Type 0 = λ x. IsRow limits (values_of (between ++ (i ∷ []))) x in
           subst Q (append_assoc base s.front t.front) (row-more between i (base ++ s.front) t.front (s.row base r) t.is_item));
       place = λ base h. t.place ∙ ap (λ n. counted (n + length t.front)) (s.place base h) ∙ counted_twice (base + length s.front) (length t.front)
           ∙ ap counted (add_assoc base (length s.front) (length t.front) ∙ ap (λ n. base + n) (sym (length-append s.front t.front)));
@@ -52,9 +52,9 @@ takes_item old mid new before between after i s t e =
 pub decoded_none : (items : List Item) (left : Unread) → items ≡ [] → left ≡ record { place = 0; rest = [] } → DecodedSoFar [] items left
 decoded_none items left empty new =
     let nothing : left.rest ≡ [] = ap (λ u. u.rest) new in
-    let P : List Item → Type 0 = λ x. IsRow limits (trees_of x) [] in
+    let P : List Item → Type 0 = λ x. IsRow limits (values_of x) [] in
     let Q : List ℕ → Type 0 = λ x. HasNoItem x in
-    let row : IsRow limits (trees_of []) [] = record { spelled = refl; within = tt } in
+    let row : IsRow limits (values_of []) [] = record { spelled = refl; within = tt } in
     record { front = []; whole = sym nothing; row = subst P (sym empty) row; no_item = subst Q (sym nothing) no_item_in_none; place = ap (λ u. u.place) new }
 
 -- a further piece, and the items that it completes

@@ -7,7 +7,7 @@ use Rattle.items.specs.declared.scan.Defect.{Defect}
 use Rattle.items.specs.declared.scan.Defect.TheVariants as defects
 use Rattle.items.specs.declared.scan.Scan.{Scan}
 use Rattle.items.specs.declared.scan.Step.TheVariants as steps
-use Rattle.items.specs.Tree.{Tree, limits}
+use Rattle.items.specs.Values.{ItemValue, limits}
 use Rattle.items.specs.Stream.{IsItem, HasNoItem}
 use Rattle.items.specs.Scan.{at, step, step_in}
 use Rattle.items.specs.Run.{unfinished, whole, bad, outcome_of, run, start, IsScanned, Skips}
@@ -82,7 +82,7 @@ none_yet old n s i all =
     record { no_item = no_item old.rest (λ rest w. let never : ⊥ = cc (e, w) in never); begins = unfinished-begins limits nine_fits old.rest s e }
 
 -- an item is whole with the byte that comes next
-pub item_there : (bytes : List ℕ) (n : ℕ) (s : Scan) → IsScanned bytes n s → n < length bytes → step limits s (slice_index bytes n) ≡ steps.Whole → (t : Tree) × IsItem limits t (take (n + 1) bytes)
+pub item_there : (bytes : List ℕ) (n : ℕ) (s : Scan) → IsScanned bytes n s → n < length bytes → step limits s (slice_index bytes n) ≡ steps.Whole → (t : ItemValue) × IsItem limits t (take (n + 1) bytes)
 item_there bytes n s i h e =
     let b : ℕ = slice_index bytes n in
     let ends : run limits (take (n + 1) bytes) start ≡ whole [] =

@@ -8,7 +8,7 @@ use Rattle.items.specs.declared.scan.Scan.{Scan}
 use Rattle.items.specs.declared.scan.Step.{Step}
 use Rattle.items.specs.declared.scan.Step.TheVariants as steps
 use Rattle.items.specs.Word.{is_space, is_word_byte}
-use Rattle.items.specs.Tree.{Limits}
+use Rattle.items.specs.Values.{Limits}
 use Rattle.items.specs.Scan.{at, step_in, gap_step, number_step, after_step}
 
 pub data Shape (f : Limits → Step) : Type 0 where

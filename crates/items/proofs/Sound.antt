@@ -6,7 +6,7 @@ use Rattle.items.specs.declared.scan.Lex.TheVariants as lexes
 use Rattle.items.specs.declared.scan.Step.{Step}
 use Rattle.items.specs.declared.scan.Step.TheVariants as steps
 use Rattle.items.specs.Word.{IsDigit, is_space, is_word_byte}
-use Rattle.items.specs.Tree.{word, number, string, list, none, Limits}
+use Rattle.items.specs.Values.{word, number, string, list, none, Limits}
 use Rattle.items.specs.Spelling.{value_behind, Bracketed, Counted, AreSpelled}
 use Rattle.items.specs.Scan.{at, on, step_in, gap_step, number_step, after_step}
 use Rattle.items.specs.Run.{whole, outcome_of, run}

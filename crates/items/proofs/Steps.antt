@@ -7,7 +7,7 @@ use Rattle.items.specs.declared.scan.Defect.TheVariants as defects
 use Rattle.items.specs.declared.scan.Step.{Step}
 use Rattle.items.specs.declared.scan.Step.TheVariants as steps
 use Rattle.items.specs.Word.{IsSpace, IsDigit, is_space}
-use Rattle.items.specs.Tree.{Limits}
+use Rattle.items.specs.Values.{Limits}
 use Rattle.items.specs.Scan.{on, gap_step, number_step, after_step}
 
 pub split : (P : Step → Type 0) {x y : Step} (v : Bool) → (v ≡ true → P x) → (v ≡ false → P y) → P (cond v x y)

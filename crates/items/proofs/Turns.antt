@@ -3,8 +3,8 @@ use Rattle.std.proofs.Common.{◌≡◌, ◌≢◌, ℕ, zero, suc, ◌+◌, ◌
 use Rattle.std.specs.Char.{is_ascii_digit}
 use Rattle.items.specs.declared.item.Item.{Item}
 use Rattle.items.specs.Word.{is_space, is_word_byte}
-use Rattle.items.specs.Tree.{Tree, Trees, none, more}
-use Rattle.items.specs.View.{row_of, tree_of, trees_of}
+use Rattle.items.specs.Values.{ItemValue, ItemValues, none, more}
+use Rattle.items.specs.View.{row_of, value_of, values_of}
 use Rattle.items.specs.Build.{read, behind_spaces, word_len, numeral_at, with_item, row_turn, row_with, row_reader}
 
 drop-at : (bytes : List ℕ) (i : ℕ) → i < length bytes → drop i bytes ≡ get_or bytes i 0 ∷ drop (i + 1) bytes
@@ -80,36 +80,36 @@ pub digits_end : (bytes : List ℕ) (n : ℕ) → numeral_at n (drop (length byt
 digits_end bytes n = ap (numeral_at n) (drop-end bytes) ∙ digits-empty n ∙ ap (λ x. (n, x)) (sym (drop-end bytes))
 
 -- these items stand before the others
-abbrev pub joined : List Tree → Trees → Trees
+abbrev pub joined : List ItemValue → ItemValues → ItemValues
 joined [] r = r
 joined (t ∷ ts) r = more t (joined ts r)
 
-abbrev pub before : List Item → Trees × List ℕ → Trees × List ℕ
-before items q = (joined (map tree_of items) q.0, q.1)
+abbrev pub before : List Item → ItemValues × List ℕ → ItemValues × List ℕ
+before items q = (joined (map value_of items) q.0, q.1)
 
-joined-snoc : (items : List Item) (i : Item) (r : Trees) → joined (map tree_of (items ++ (i ∷ []))) r ≡ joined (map tree_of items) (more (tree_of i) r)
+joined-snoc : (items : List Item) (i : Item) (r : ItemValues) → joined (map value_of (items ++ (i ∷ []))) r ≡ joined (map value_of items) (more (value_of i) r)
 joined-snoc [] i r = refl
-joined-snoc (x ∷ xs) i r = ap (more (tree_of x)) (joined-snoc xs i r)
+joined-snoc (x ∷ xs) i r = ap (more (value_of x)) (joined-snoc xs i r)
 
-joined-none : (ts : List Tree) → joined ts none ≡ row_of ts
+joined-none : (ts : List ItemValue) → joined ts none ≡ row_of ts
 joined-none [] = refl
 joined-none (t ∷ ts) = ap (more t) (joined-none ts)
 
 -- an item more
-turned : (read : List ℕ → Tree × List ℕ) (n : ℕ) (bytes : List ℕ) → row_with read (suc n) bytes ≡ row_turn read (row_with read n) (behind_spaces bytes)
+turned : (read : List ℕ → ItemValue × List ℕ) (n : ℕ) (bytes : List ℕ) → row_with read (suc n) bytes ≡ row_turn read (row_with read n) (behind_spaces bytes)
 unfolding row_with
 turned read n bytes = refl
 
-turn-more : (read : List ℕ → Tree × List ℕ) (go : List ℕ → Trees × List ℕ) (bytes : List ℕ) → 0 < length bytes → (get_or bytes 0 0 == 41) ≡ false → row_turn read go bytes ≡ with_item (read bytes) go
+turn-more : (read : List ℕ → ItemValue × List ℕ) (go : List ℕ → ItemValues × List ℕ) (bytes : List ℕ) → 0 < length bytes → (get_or bytes 0 0 == 41) ≡ false → row_turn read go bytes ≡ with_item (read bytes) go
 turn-more read go [] h e = let never : ⊥ = omega arith in absurd never
 turn-more read go (b ∷ bs) h e = rw e
 
-turn-last : (read : List ℕ → Tree × List ℕ) (go : List ℕ → Trees × List ℕ) (bytes : List ℕ) → 0 < length bytes → (get_or bytes 0 0 == 41) ≡ true → row_turn read go bytes ≡ (none, drop 1 (drop 1 bytes))
+turn-last : (read : List ℕ → ItemValue × List ℕ) (go : List ℕ → ItemValues × List ℕ) (bytes : List ℕ) → 0 < length bytes → (get_or bytes 0 0 == 41) ≡ true → row_turn read go bytes ≡ (none, drop 1 (drop 1 bytes))
 turn-last read go [] h e = let never : ⊥ = omega arith in absurd never
 turn-last read go (b ∷ bs) h e = rw e
 
-pub row_on : (read : List ℕ → Tree × List ℕ) (n m : ℕ) (items after : List Item) (rest skipped behind : List ℕ) (i : Item) (whole : Trees × List ℕ)
-    → n ≡ suc m → whole ≡ before items (row_with read n rest) → skipped ≡ behind_spaces rest → 0 < length skipped → (get_or skipped 0 0 == 41) ≡ false → (tree_of i, behind) ≡ read skipped → after ≡ items ++ (i ∷ []) → whole ≡ before after (row_with read m behind)
+pub row_on : (read : List ℕ → ItemValue × List ℕ) (n m : ℕ) (items after : List Item) (rest skipped behind : List ℕ) (i : Item) (whole : ItemValues × List ℕ)
+    → n ≡ suc m → whole ≡ before items (row_with read n rest) → skipped ≡ behind_spaces rest → 0 < length skipped → (get_or skipped 0 0 == 41) ≡ false → (value_of i, behind) ≡ read skipped → after ≡ items ++ (i ∷ []) → whole ≡ before after (row_with read m behind)
 row_on read n m items after rest skipped behind i whole e h s some opens r a =
     h
     ∙ ap (λ k. before items (row_with read k rest)) e
@@ -118,36 +118,36 @@ row_on read n m items after rest skipped behind i whole e h s some opens r a =
     ∙ ap (λ x. before x (row_with read m behind)) (sym a)
 
 -- the list ends
-pub row_closes : (read : List ℕ → Tree × List ℕ) (n m : ℕ) (items : List Item) (rest skipped : List ℕ) (whole : Trees × List ℕ)
-    → n ≡ suc m → whole ≡ before items (row_with read n rest) → skipped ≡ behind_spaces rest → 0 < length skipped → (get_or skipped 0 0 == 41) ≡ true → (trees_of items, drop 1 (drop 1 skipped)) ≡ whole
+pub row_closes : (read : List ℕ → ItemValue × List ℕ) (n m : ℕ) (items : List Item) (rest skipped : List ℕ) (whole : ItemValues × List ℕ)
+    → n ≡ suc m → whole ≡ before items (row_with read n rest) → skipped ≡ behind_spaces rest → 0 < length skipped → (get_or skipped 0 0 == 41) ≡ true → (values_of items, drop 1 (drop 1 skipped)) ≡ whole
 row_closes read n m items rest skipped whole e h s some closes =
     sym (h
     ∙ ap (λ k. before items (row_with read k rest)) e
     ∙ ap (before items) (turned read m rest ∙ ap (row_turn read (row_with read m)) (sym s) ∙ turn-last read (row_with read m) skipped some closes)
-    ∙ ap (λ x. (x, drop 1 (drop 1 skipped))) (joined-none (map tree_of items)))
+    ∙ ap (λ x. (x, drop 1 (drop 1 skipped))) (joined-none (map value_of items)))
 
 no_bytes : (bytes : List ℕ) → length bytes ≡ 0 → bytes ≡ []
 no_bytes [] h = refl
 no_bytes (b ∷ bs) h = let never : ⊥ = omega arith in absurd never
 
 -- the bytes end
-pub row_stops : (read : List ℕ → Tree × List ℕ) (n m : ℕ) (items : List Item) (rest skipped : List ℕ) (whole : Trees × List ℕ)
-    → n ≡ suc m → whole ≡ before items (row_with read n rest) → skipped ≡ behind_spaces rest → length skipped ≡ 0 → (trees_of items, skipped) ≡ whole
+pub row_stops : (read : List ℕ → ItemValue × List ℕ) (n m : ℕ) (items : List Item) (rest skipped : List ℕ) (whole : ItemValues × List ℕ)
+    → n ≡ suc m → whole ≡ before items (row_with read n rest) → skipped ≡ behind_spaces rest → length skipped ≡ 0 → (values_of items, skipped) ≡ whole
 row_stops read n m items rest skipped whole e h s empty =
     let nothing = no_bytes skipped empty in
     sym (h
     ∙ ap (λ k. before items (row_with read k rest)) e
     ∙ ap (before items) (turned read m rest ∙ ap (row_turn read (row_with read m)) (sym s ∙ nothing))
-    ∙ ap₂ (λ x y. (x, y)) (joined-none (map tree_of items)) (sym nothing))
+    ∙ ap₂ (λ x y. (x, y)) (joined-none (map value_of items)) (sym nothing))
 
-row-none : (read : List ℕ → Tree × List ℕ) (bytes : List ℕ) → row_with read 0 bytes ≡ (none, [])
+row-none : (read : List ℕ → ItemValue × List ℕ) (bytes : List ℕ) → row_with read 0 bytes ≡ (none, [])
 unfolding row_with
 row-none read bytes = refl
 
 -- the turns end
-pub row_ends : (read : List ℕ → Tree × List ℕ) (n : ℕ) (items : List Item) (rest : List ℕ) (whole : Trees × List ℕ) → n ≡ 0 → whole ≡ before items (row_with read n rest) → (trees_of items, []) ≡ whole
+pub row_ends : (read : List ℕ → ItemValue × List ℕ) (n : ℕ) (items : List Item) (rest : List ℕ) (whole : ItemValues × List ℕ) → n ≡ 0 → whole ≡ before items (row_with read n rest) → (values_of items, []) ≡ whole
 row_ends read n items rest whole e h =
-    sym (h ∙ ap (λ k. before items (row_with read k rest)) e ∙ ap (before items) (row-none read rest) ∙ ap (λ x. (x, [])) (joined-none (map tree_of items)))
+    sym (h ∙ ap (λ k. before items (row_with read k rest)) e ∙ ap (before items) (row-none read rest) ∙ ap (λ x. (x, [])) (joined-none (map value_of items)))
 
 -- where a list may open, its reader takes turns
 pub row_reads : (d : ℕ) (bytes : List ℕ) → d ≢ 0 → row_with (read (d - 1)) (length bytes) bytes ≡ row_reader d bytes

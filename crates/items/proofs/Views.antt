@@ -2,18 +2,18 @@
 use Rattle.std.proofs.Common.{◌≡◌, ℕ, Vec, Global, rules}
 use Rattle.items.specs.declared.item.Item.{Item, Word, Number, Str, List as Listed, the_lemmas}
 use Rattle.items.specs.declared.item.Name.{Name}
-use Rattle.items.specs.declared.item.Text.{Text}
-use Rattle.items.specs.Tree.{word, number, string, list}
-use Rattle.items.specs.View.{tree_of, trees_of}
+use Rattle.byte_string.specs.declared.ByteString.{ByteString}
+use Rattle.items.specs.Values.{word, number, string, list}
+use Rattle.items.specs.View.{value_of, values_of}
 
-pub view-Word : (w : Name) → tree_of (Word w) ≡ word w
+pub view-Word : (w : Name) → value_of (Word w) ≡ word w
 view-Word w = search (rules, the_lemmas)
 
-pub view-Number : (n : ℕ) → tree_of (Number n) ≡ number n
+pub view-Number : (n : ℕ) → value_of (Number n) ≡ number n
 view-Number n = search (rules, the_lemmas)
 
-pub view-Str : (s : Text) → tree_of (Str s) ≡ string s
+pub view-Str : (s : ByteString) → value_of (Str s) ≡ string s
 view-Str s = search (rules, the_lemmas)
 
-pub view-List : (v : Vec Item Global) → tree_of (Listed v) ≡ list (trees_of v.items)
+pub view-List : (v : Vec Item Global) → value_of (Listed v) ≡ list (values_of v.items)
 view-List v = search (rules, the_lemmas)

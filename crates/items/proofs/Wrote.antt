@@ -5,10 +5,10 @@ use Rattle.std.proofs.lemmas.Bool.Decides.{nat_tests}
 use Rattle.std.specs.Char.{is_ascii_digit}
 use Rattle.items.specs.declared.item.Item.{Item}
 use Rattle.items.specs.Word.{EachPasses, IsDigit}
-use Rattle.items.specs.Tree.{Tree, word, number, string, list, Trees, none, more, limits, IsWithin, AreWithin}
+use Rattle.items.specs.Values.{ItemValue, word, number, string, list, ItemValues, none, more, limits, IsWithin, AreWithin}
 use Rattle.items.specs.Spelling.{value_behind, IsNumeral, Spaced, IsBody, AreSpelled}
 use Rattle.items.specs.Stream.{IsItem}
-use Rattle.items.specs.View.{tree_of, trees_of}
+use Rattle.items.specs.View.{value_of, values_of}
 use Rattle.items.specs.Print.{printed, row_printed}
 use Rattle.items.specs.Written.{HasWords, HaveWords}
 
@@ -38,7 +38,7 @@ numeral : (n : ℕ) → n ≤ 18446744073709551615 → IsNumeral (decimal n) n
 numeral n h = decimal_by_steps (λ n ds. IsNumeral ds n) numeral-one numeral-more n (lt_of_le_of_lt h (lit< tt))
 
 mutual
-  spelled-printed : (o : ℕ) (t : Tree) → HasWords t → IsWithin limits o t → Spaced (λ body. IsBody t body) (printed t)
+  spelled-printed : (o : ℕ) (t : ItemValue) → HasWords t → IsWithin limits o t → Spaced (λ body. IsBody t body) (printed t)
   spelled-printed o (word w) h i = record { gap = []; body = w; last = 32; spaces = tt; middle = (h, refl); ends = refl; whole = refl }
   spelled-printed o (number n) h i = record { gap = []; body = decimal n; last = 32; spaces = tt; middle = numeral n i; ends = refl; whole = refl }
   spelled-printed o (string s) h i =
@@ -54,14 +54,14 @@ mutual
         whole = ap (λ x. 40 ∷ 32 ∷ x) (sym (append_assoc (row_printed ts) (41 ∷ []) (32 ∷ [])));
       }
 
-  spelled-row : (o : ℕ) (ts : Trees) → HaveWords ts → AreWithin limits o ts → AreSpelled ts (row_printed ts)
+  spelled-row : (o : ℕ) (ts : ItemValues) → HaveWords ts → AreWithin limits o ts → AreSpelled ts (row_printed ts)
   spelled-row o none h i = refl
   spelled-row o (more t ts) h i = record { front = printed t; rest = row_printed ts; first = spelled-printed o t h.0 i.0; others = spelled-row o ts h.1 i.1; whole = refl }
 
-pub written : (t : Tree) → HasWords t → IsWithin limits 0 t → IsItem limits t (printed t)
+pub written : (t : ItemValue) → HasWords t → IsWithin limits 0 t → IsItem limits t (printed t)
 written t h i = record { spelled = spelled-printed 0 t h i; within = i }
 
 -- the words of one item more
-pub words-snoc : (items : List Item) (i : Item) → HaveWords (trees_of items) → HasWords (tree_of i) → HaveWords (trees_of (items ++ (i ∷ [])))
+pub words-snoc : (items : List Item) (i : Item) → HaveWords (values_of items) → HasWords (value_of i) → HaveWords (values_of (items ++ (i ∷ [])))
 words-snoc [] i h w = (w, tt)
 words-snoc (x ∷ xs) i h w = (h.0, words-snoc xs i h.1 w)

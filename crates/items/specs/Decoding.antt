@@ -1,9 +1,9 @@
 -- Items taken one after another.
 use Rattle.std.specs.Prelude.{◌≡◌, ℕ, ◌+◌, List, ◌++◌, length}
 use Rattle.items.specs.declared.item.Item.{Item}
-use Rattle.items.specs.Tree.{limits}
+use Rattle.items.specs.Values.{limits}
 use Rattle.items.specs.Stream.{IsRow, HasNoItem, IsFaulty, IsDefect}
-use Rattle.items.specs.View.{trees_of}
+use Rattle.items.specs.View.{values_of}
 use Rattle.items.specs.Unread.{Unread}
 use Rattle.items.specs.Reading.{counted, IsFaultOf}
 use Rattle.items.specs.declared.scan.Defect.{Defect}
@@ -15,7 +15,8 @@ use Rattle.items.specs.declared.reader.ItemFault.TheVariants as faults
 pub record TakesSome (old : Unread) (before after : List Item) (new : Unread) : Type 0 where
   pub front : List ℕ
   pub whole : old.rest ≡ front ++ new.rest
-  pub row : (base : List ℕ) → IsRow limits (trees_of before) base → IsRow limits (trees_of after) (base ++ front)
+  pub row : (base : List ℕ) → IsRow limits (values_of before) base
+      → IsRow limits (values_of after) (base ++ front)
   pub place : (base : ℕ) → old.place ≡ counted base → new.place ≡ counted (base + length front)
 
 -- and none is left
@@ -34,7 +35,7 @@ pub record Fails (old : Unread) (before : List Item) (e : ItemFault) : Type 0 wh
 pub record DecodedSoFar (stream : List ℕ) (items : List Item) (left : Unread) : Type 0 where
   pub front : List ℕ
   pub whole : stream ≡ front ++ left.rest
-  pub row : IsRow limits (trees_of items) front
+  pub row : IsRow limits (values_of items) front
   pub no_item : HasNoItem left.rest
   pub place : left.place ≡ counted (length front)
 
@@ -48,6 +49,8 @@ pub record IsWrongStream (d : Defect) (stream : List ℕ) (place : ℕ) : Type 0
 abbrev pub IsFaultOfStream : List ℕ → ItemFault → Type 0
 IsFaultOfStream stream (faults.Malformed place) = IsWrongStream defects.Malformed stream place
 IsFaultOfStream stream (faults.TooDeep place) = IsWrongStream defects.TooDeep stream place
-IsFaultOfStream stream (faults.StringTooLong place) = IsWrongStream defects.StringTooLong stream place
-IsFaultOfStream stream (faults.NumberTooLarge place) = IsWrongStream defects.NumberTooLarge stream place
+IsFaultOfStream stream (faults.StringTooLong place) =
+    IsWrongStream defects.StringTooLong stream place
+IsFaultOfStream stream (faults.NumberTooLarge place) =
+    IsWrongStream defects.NumberTooLarge stream place
 IsFaultOfStream stream faults.NoMemory = Unit {0}

@@ -7,7 +7,7 @@ pub mod Run
 pub mod Scan
 pub mod Spelling
 pub mod Stream
-pub mod Tree
+pub mod Values
 pub mod Unread
 pub mod View
 pub mod Word

@@ -4,7 +4,7 @@ use Rattle.items.specs.declared.scan.Defect.{Defect}
 use Rattle.items.specs.declared.scan.Defect.TheVariants as defects
 use Rattle.items.specs.declared.reader.ItemFault.{ItemFault}
 use Rattle.items.specs.declared.reader.ItemFault.TheVariants as faults
-use Rattle.items.specs.Tree.{Tree, limits}
+use Rattle.items.specs.Values.{ItemValue, limits}
 use Rattle.items.specs.Stream.{IsItem, HasNoItem, Begins, IsFaulty, IsDefect}
 use Rattle.items.specs.Unread.{Unread}
 
@@ -13,7 +13,7 @@ abbrev pub counted : ℕ → ℕ
 counted n = min n (2 ^ 64 - 1)
 
 -- the item is taken from the front
-pub record Takes (old : Unread) (t : Tree) (new : Unread) : Type 0 where
+pub record Takes (old : Unread) (t : ItemValue) (new : Unread) : Type 0 where
   pub front : List ℕ
   pub is_item : IsItem limits t front
   pub whole : old.rest ≡ front ++ new.rest

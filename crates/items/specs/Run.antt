@@ -8,9 +8,11 @@ use Rattle.items.specs.declared.scan.Scan.{Scan}
 use Rattle.items.specs.declared.scan.Step.{Step}
 use Rattle.items.specs.declared.scan.Step.TheVariants as steps
 use Rattle.items.specs.Scan.{at, step}
-use Rattle.items.specs.Tree.{Limits, limits}
+use Rattle.items.specs.Values.{Limits, limits}
+use Rattle.items.specs.declared.scan.TheConstants.{MAX_DEPTH}
 
--- the bytes end before the item does; or the item ends, and these come after it; or these begin with a byte that is wrong
+-- the bytes end before the item does; or the item ends, and these come after it; or these begin
+-- with a byte that is wrong
 pub data Outcome : Type 0 where
   unfinished : Scan → Outcome
   whole : List ℕ → Outcome
@@ -31,14 +33,16 @@ start = at 0 lexes.Gap
 -- the first n bytes are scanned, up to state s
 pub record IsScanned (bytes : List ℕ) (n : ℕ) (s : Scan) : Type 0 where
   pub within : n ≤ length bytes
-  pub shallow : s.depth ≤ 64
+  pub shallow : s.depth ≤ MAX_DEPTH
   pub reached : run limits (take n bytes) start ≡ unfinished s
 
 -- and what comes there
 abbrev pub EndsSo : List ℕ → ℕ → Scan → End → Type 0
 EndsSo bytes n s ends.More = n ≡ length bytes
-EndsSo bytes n s ends.Whole = (n < length bytes) × (step limits s (slice_index bytes n) ≡ steps.Whole)
-EndsSo bytes n s (ends.Bad d) = (n < length bytes) × (step limits s (slice_index bytes n) ≡ steps.Bad d)
+EndsSo bytes n s ends.Whole =
+    (n < length bytes) × (step limits s (slice_index bytes n) ≡ steps.Whole)
+EndsSo bytes n s (ends.Bad d) =
+    (n < length bytes) × (step limits s (slice_index bytes n) ≡ steps.Bad d)
 
 -- k bytes of a string are passed over
 pub record Skips (s t : Scan) (k room : ℕ) : Type 0 where

@@ -1,7 +1,7 @@
 -- Which bytes spell an item.
 use Rattle.std.specs.Prelude.{◌≡◌, ℕ, ◌+◌, ◌-◌, ◌*◌, List, [], ◌∷◌, ◌++◌, length}
 pub use Rattle.items.specs.Word.{EachPasses, IsSpace, IsDigit, IsWord}
-use Rattle.items.specs.Tree.{Tree, word, number, string, list, Trees, none, more}
+use Rattle.items.specs.Values.{ItemValue, word, number, string, list, ItemValues, none, more}
 
 -- the number that digits stand for, behind those of the number n
 abbrev pub value_behind : ℕ → List ℕ → ℕ
@@ -48,17 +48,17 @@ pub record Counted (s bytes : List ℕ) : Type 0 where
   pub whole : bytes ≡ count ++ (58 ∷ s)
 
 abbrev mutual
-  pub IsBody : Tree → List ℕ → Type 0
+  pub IsBody : ItemValue → List ℕ → Type 0
   IsBody (word w) bytes = IsWord w × (bytes ≡ w)
   IsBody (number n) bytes = IsNumeral bytes n
   IsBody (string s) bytes = Counted s bytes
   IsBody (list ts) bytes = Bracketed (λ inner. AreSpelled ts inner) bytes
 
   -- these bytes are spellings of these items, one after another
-  pub AreSpelled : Trees → List ℕ → Type 0
+  pub AreSpelled : ItemValues → List ℕ → Type 0
   AreSpelled none bytes = bytes ≡ []
   AreSpelled (more t ts) bytes = Joined (Spaced (λ body. IsBody t body)) (λ rest. AreSpelled ts rest) bytes
 
 -- these bytes spell the item
-abbrev pub IsSpelled : Tree → List ℕ → Type 0
+abbrev pub IsSpelled : ItemValue → List ℕ → Type 0
 IsSpelled t bytes = Spaced (IsBody t) bytes

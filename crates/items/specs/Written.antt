@@ -1,16 +1,16 @@
 -- Items whose words are words.
 use Rattle.items.specs.Word.{IsWord}
-use Rattle.items.specs.Tree as tree
-use Rattle.items.specs.Tree.{Tree, word, number, string, list, Trees}
+use Rattle.items.specs.Values as tree
+use Rattle.items.specs.Values.{ItemValue, word, number, string, list, ItemValues}
 
 -- each word is one
 abbrev mutual
-  pub HasWords : Tree → Type 0
+  pub HasWords : ItemValue → Type 0
   HasWords (word w) = IsWord w
   HasWords (number n) = Unit {0}
   HasWords (string s) = Unit {0}
   HasWords (list ts) = HaveWords ts
 
-  pub HaveWords : Trees → Type 0
+  pub HaveWords : ItemValues → Type 0
   HaveWords tree.none = Unit {0}
   HaveWords (tree.more t ts) = HasWords t × HaveWords ts

@@ -1,18 +1,19 @@
 // The item that bytes spell, built in one pass once they are all there.
 ghost use Rattle.std.specs.Prelude.{◌≡◌, ◌≤◌, ◌∷◌, ℕ, List, IfOk, length, take, drop};
-ghost use Rattle.items.specs.Tree.{Tree, limits};
+ghost use Rattle.items.specs.Values.{ItemValue, limits};
 ghost use Rattle.items.specs.Stream.{IsItem};
-ghost use Rattle.items.specs.View.{tree_of, trees_of};
+ghost use Rattle.items.specs.View.{value_of, values_of};
 ghost use Rattle.items.specs.Build.{read, row_reader, behind_spaces, word_len, numeral_at, behind_numeral, word_at, StartsWord};
 
-use crate::item::{Item, Name, Text};
+use crate::item::{Item, Name};
 use crate::scan::{MAX_DEPTH, is_space, is_word_byte};
+use byte_string::ByteString;
 use std::alloc::{AllocError, Global};
 
 /// The item that the bytes spell.
 pub fn build(alloc: Global, bytes: &[u8]) -> Result<Item, AllocError>
-    requires { (t : Tree) × IsItem limits t bytes.now }
-    ensures { IfOk result (λ item. IsItem limits (tree_of item) bytes.now) }
+    requires { (t : ItemValue) × IsItem limits t bytes.now }
+    ensures { IfOk result (λ item. IsItem limits (value_of item) bytes.now) }
 {
     let (item, _) = read_item(alloc, bytes, MAX_DEPTH)?;
     Ok(item)
@@ -21,7 +22,7 @@ pub fn build(alloc: Global, bytes: &[u8]) -> Result<Item, AllocError>
 // The item at the front and what lies behind it, where there is one.
 #[cycle(build)]
 fn read_item(alloc: Global, bytes: &[u8], depth: u64) -> Result<(Item, &[u8]), AllocError>
-    ensures { IfOk result (λ x. (tree_of x.0, x.1.now) ≡ read depth bytes.now) }
+    ensures { IfOk result (λ x. (value_of x.0, x.1.now) ≡ read depth bytes.now) }
 {
     let bytes = skip_spaces(bytes);
     if bytes.is_empty() {
@@ -44,7 +45,7 @@ fn read_item(alloc: Global, bytes: &[u8], depth: u64) -> Result<(Item, &[u8]), A
 // The items up to the `)`, and what lies behind it.
 #[cycle(build)]
 fn read_row(alloc: Global, bytes: &[u8], depth: u64) -> Result<(Vec<Item>, &[u8]), AllocError>
-    ensures { IfOk result (λ x. (trees_of x.0.items, x.1.now) ≡ row_reader depth bytes.now) }
+    ensures { IfOk result (λ x. (values_of x.0.items, x.1.now) ≡ row_reader depth bytes.now) }
 {
     let mut items = Vec::new(alloc);
     if depth == 0 {
@@ -68,7 +69,7 @@ fn read_row(alloc: Global, bytes: &[u8], depth: u64) -> Result<(Vec<Item>, &[u8]
 
 // A number, or a string of so many bytes.
 fn read_counted(alloc: Global, bytes: &[u8]) -> Result<(Item, &[u8]), AllocError>
-    ensures { IfOk result (λ x. (tree_of x.0, x.1.now)
+    ensures { IfOk result (λ x. (value_of x.0, x.1.now)
         ≡ (let n = numeral_at 0 bytes.now in behind_numeral n.0 n.1)) }
 {
     let (n, rest) = digits(bytes);
@@ -77,18 +78,15 @@ fn read_counted(alloc: Global, bytes: &[u8]) -> Result<(Item, &[u8]), AllocError
     }
     let text = &rest[1..];
     let len = n.min(text.len() as u64) as usize;
-    let string = Vec::from_slice(alloc, &text[..len])?;
-    Ok((
-        Item::Str(Text::from_vec(string)),
-        behind_space(&text[len..]),
-    ))
+    let string = ByteString::from_slice(alloc, &text[..len])?;
+    Ok((Item::Str(string), behind_space(&text[len..])))
 }
 
 // The word at the front.
 fn read_word(alloc: Global, bytes: &[u8]) -> Result<(Item, &[u8]), AllocError>
     requires { StartsWord bytes.now }
     ensures { IfOk result (λ x. (b : ℕ) × (bs : List ℕ) × (bytes.now ≡ b ∷ bs)
-        × ((tree_of x.0, x.1.now) ≡ word_at b bs)) }
+        × ((value_of x.0, x.1.now) ≡ word_at b bs)) }
 {
     let rest = &bytes[1..];
     let len = count_word(rest);

@@ -2,6 +2,7 @@
 ghost use Rattle.std.specs.Prelude.{◌≡◌};
 ghost use Rattle.items.specs.Word.{IsWord};
 
+use byte_string::ByteString;
 use std::marker::Model;
 
 /// A word: a letter, then letters, digits and dashes.
@@ -39,44 +40,6 @@ impl Name {
     }
 }
 
-/// The bytes of a string, which may be any.
-#[derive(Drop)]
-pub struct Text {
-    bytes: Vec<u8>,
-}
-
-impl Model for Text {
-    ghost use Rattle.std.specs.Prelude.{List, ℕ};
-
-    ghost Value = { List ℕ };
-
-    ghost view = { λ t. t.bytes.items };
-}
-
-impl Text {
-    /// The string of these bytes. An item with more than 16,777,216 of them is not read again.
-    pub fn from_vec(bytes: Vec<u8>) -> Text
-        ensures { result ≡ bytes.items }
-    {
-        Text { bytes }
-    }
-
-    /// The bytes themselves: none is copied.
-    pub fn into_vec(self) -> Vec<u8>
-        ensures { result.items ≡ self }
-    {
-        let Text { bytes } = self;
-        bytes
-    }
-
-    /// The bytes of the string.
-    pub fn as_bytes(&self) -> &[u8]
-        ensures { result.now ≡ self.now }
-    {
-        self.bytes.as_slice()
-    }
-}
-
 /// An item of the stream. On the wire whitespace, a space or a line feed, ends each.
 #[derive(Drop)]
 pub enum Item {
@@ -84,8 +47,9 @@ pub enum Item {
     Word(Name),
     /// `22`, in decimal
     Number(u64),
-    /// `6:string`, a count of bytes and the bytes
-    Str(Text),
+    /// `6:string`, a count of bytes and the bytes, which may be any. One with more than 16,777,216 of
+    /// them is not read again.
+    Str(ByteString),
     /// `( word 22 6:string ( ) )`
     List(Vec<Item>),
 }

@@ -1,6 +1,6 @@
 // Laws of the definitions, each on a function that does nothing.
 ghost use Rattle.std.specs.Prelude.{◌≡◌, ◌⊎◌, ◌++◌, List, ℕ};
-ghost use Rattle.items.specs.Tree.{Tree, limits, IsWithin};
+ghost use Rattle.items.specs.Values.{ItemValue, limits, IsWithin};
 ghost use Rattle.items.specs.Stream.{IsItem, IsFaulty, IsDefect};
 ghost use Rattle.items.specs.Print.{printed};
 ghost use Rattle.items.specs.Written.{HasWords};
@@ -12,13 +12,13 @@ ghost use Rattle.items.specs.declared.reader.ItemFault.TheVariants.{NoMemory};
 
 /// No spelling begins another, and none spells two items.
 pub fn one_reading()
-    ensures { (t u : Tree) (a b x y : List ℕ) → IsItem limits t a → IsItem limits u b
+    ensures { (t u : ItemValue) (a b x y : List ℕ) → IsItem limits t a → IsItem limits u b
         → a ++ x ≡ b ++ y → (t ≡ u) × (x ≡ y) }
 {}
 
 /// What is written for an item within the limits is its spelling.
 pub fn written_is_spelled()
-    ensures { (t : Tree) → HasWords t → IsWithin limits 0 t → IsItem limits t (printed t) }
+    ensures { (t : ItemValue) → HasWords t → IsWithin limits 0 t → IsItem limits t (printed t) }
 {}
 
 /// A stream is faulty at one place at most, and wrong in one way there.
@@ -43,7 +43,7 @@ pub fn fault_is_answered_again()
         → IsFaultOf (record old { rest = old.rest ++ added }) e }
     ensures one { (old : Unread) (e f : ItemFault) → IsFaultOf old e → IsFaultOf old f
         → (e ≡ f) ⊎ (e ≡ NoMemory) ⊎ (f ≡ NoMemory) }
-    ensures no_item { (old new : Unread) (t : Tree) (e : ItemFault) → Takes old t new
+    ensures no_item { (old new : Unread) (t : ItemValue) (e : ItemFault) → Takes old t new
         → IsFaultOf old e → e ≡ NoMemory }
     ensures not_none { (old : Unread) (e : ItemFault) → HasNone old → IsFaultOf old e
         → e ≡ NoMemory }

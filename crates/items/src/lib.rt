@@ -11,7 +11,7 @@ mod scan;
 mod stream;
 mod write;
 
-pub use item::{Item, Name, Text};
+pub use item::{Item, Name};
 pub use laws::{fault_is_answered_again, fault_stays, one_fault, one_reading, written_is_spelled};
 pub use reader::{ItemFault, ItemReader};
 pub use stream::decode;

@@ -85,7 +85,7 @@ const START: Progress = Progress {
 
 impl ItemReader {
     ghost use Rattle.items.specs.Reading.{Takes, IsFaultOf, HasNone};
-    ghost use Rattle.items.specs.View.{tree_of};
+    ghost use Rattle.items.specs.View.{value_of};
 
     /// A reader of a stream from its beginning.
     pub fn new(alloc: Global) -> ItemReader
@@ -102,7 +102,10 @@ impl ItemReader {
     /// Takes the next piece of the stream, which may be cut anywhere. It fails for want of memory
     /// only, and an `Err` changes nothing.
     pub fn feed(&mut self, piece: &[u8]) -> Result<(), ItemFault>
-        ensures ok { OnOk result (self.new ≡ record self.old { rest = self.old.rest ++ piece.now }) }
+        ensures ok { OnOk result (self.new ≡ record self.old {
+          rest = self.old.rest
+              ++ piece.now;
+        }) }
         ensures memory { IfErr result (λ e. e ≡ ItemFault.NoMemory) }
         ensures err { OnErr result (self.new ≡ self.old) }
     {
@@ -114,8 +117,10 @@ impl ItemReader {
     /// the stream, each as soon as the whitespace behind it is there. Without an item nothing
     /// changes, so a fault is answered again, and after want of memory the same call may succeed.
     pub fn next(&mut self) -> Result<Option<Item>, ItemFault>
-        ensures item { IfOk result (λ found. IfSome found (λ i. Takes self.old (tree_of i) self.new)) }
-        ensures none { IfOk result (λ found. IfNone found (HasNone self.old × (self.new ≡ self.old))) }
+        ensures item { IfOk result (λ found. IfSome found
+            (λ i. Takes self.old (value_of i) self.new)) }
+        ensures none { IfOk result (λ found. IfNone found (HasNone self.old
+            × (self.new ≡ self.old))) }
         ensures fault { IfErr result (λ e. IsFaultOf self.old e) }
         ensures err { OnErr result (self.new ≡ self.old) }
     {

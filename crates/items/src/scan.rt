@@ -1,12 +1,13 @@
 // The scanner: it goes over the bytes once, up to the end of an item or to a byte that is wrong.
 ghost use Rattle.std.specs.Prelude.{◌≡◌, ◌≤◌, IfSome, IfNone, length};
-ghost use Rattle.items.specs.Tree.{limits};
+ghost use Rattle.items.specs.Values.{limits};
 ghost use Rattle.items.specs.Scan.{step, after_step, gap_step, step_in, number_step, is_space, is_word_byte, StaysShallow};
 ghost use Rattle.items.specs.Run.{IsScanned, EndsSo, Skips};
+ghost use Rattle.items.specs.declared.scan.TheConstants.{MAX_DEPTH};
 
 pub const MAX_DEPTH: u64 = 64;
 
-const MAX_STRING: u64 = 16_777_216;
+pub const MAX_STRING: u64 = 16_777_216;
 
 /// Where in an item a byte comes: between items, behind a `(`, in a word, in a number of this value
 /// so far, or in a string that lacks so many bytes. Behind a `)` a string lacks none.
@@ -105,7 +106,7 @@ fn skip_string(scan: Scan, room: usize) -> Option<(Scan, usize)>
 
 #[tactic(auto, unfolding(crate::specs::Scan::step_in))]
 pub fn take_byte(scan: Scan, byte: u8) -> Step
-    requires { scan.depth ≤ 64 }
+    requires { scan.depth ≤ MAX_DEPTH }
     ensures step { result ≡ step limits scan byte }
     ensures shallow { StaysShallow result }
 {
@@ -139,7 +140,7 @@ fn on(depth: u64, lex: Lex) -> Step
 
 #[tactic(auto, unfolding(crate::specs::Scan::after_step))]
 fn behind_body(depth: u64, byte: u8) -> Step
-    requires { depth ≤ 64 }
+    requires { depth ≤ MAX_DEPTH }
     ensures step { result ≡ after_step depth byte }
     ensures shallow { StaysShallow result }
 {
@@ -155,7 +156,7 @@ fn behind_body(depth: u64, byte: u8) -> Step
 
 #[tactic(auto, unfolding(crate::specs::Scan::gap_step))]
 fn in_gap(depth: u64, byte: u8) -> Step
-    requires { depth ≤ 64 }
+    requires { depth ≤ MAX_DEPTH }
     ensures step { result ≡ gap_step limits depth byte }
     ensures shallow { StaysShallow result }
 {
@@ -184,7 +185,7 @@ fn in_gap(depth: u64, byte: u8) -> Step
 
 #[tactic(auto, unfolding(crate::specs::Scan::step_in))]
 fn behind_opening(depth: u64, byte: u8) -> Step
-    requires { depth ≤ 64 }
+    requires { depth ≤ MAX_DEPTH }
     ensures step { result ≡ step_in limits depth Lex.Open byte }
     ensures shallow { StaysShallow result }
 {
@@ -197,7 +198,7 @@ fn behind_opening(depth: u64, byte: u8) -> Step
 
 #[tactic(auto, unfolding(crate::specs::Scan::step_in))]
 fn in_word(depth: u64, byte: u8) -> Step
-    requires { depth ≤ 64 }
+    requires { depth ≤ MAX_DEPTH }
     ensures step { result ≡ step_in limits depth Lex.Word byte }
     ensures shallow { StaysShallow result }
 {
@@ -210,7 +211,7 @@ fn in_word(depth: u64, byte: u8) -> Step
 
 #[tactic(auto, unfolding(crate::specs::Scan::number_step))]
 fn in_number(depth: u64, n: u64, byte: u8) -> Step
-    requires { depth ≤ 64 }
+    requires { depth ≤ MAX_DEPTH }
     ensures step { result ≡ number_step limits depth n byte }
     ensures shallow { StaysShallow result }
 {
@@ -234,7 +235,7 @@ fn in_number(depth: u64, n: u64, byte: u8) -> Step
 
 #[tactic(auto, unfolding(crate::specs::Scan::step_in))]
 fn in_tail(depth: u64, left: u64, byte: u8) -> Step
-    requires { depth ≤ 64 }
+    requires { depth ≤ MAX_DEPTH }
     ensures step { result ≡ step_in limits depth (Lex.Tail left) byte }
     ensures shallow { StaysShallow result }
 {

@@ -2,8 +2,8 @@
 ghost use Rattle.std.specs.Prelude.{◌≡◌, ◌++◌, List, ℕ, IfOk, IfErr, OnOk};
 ghost use Rattle.std.specs.List.{flat_map};
 ghost use Rattle.items.specs.Stream.{Splits};
-ghost use Rattle.items.specs.Tree.{Trees};
-ghost use Rattle.items.specs.View.{trees_of};
+ghost use Rattle.items.specs.Values.{ItemValues};
+ghost use Rattle.items.specs.View.{values_of};
 ghost use Rattle.items.specs.Decoding.{TakesAll, Fails, IsFaultOfStream};
 
 use crate::item::Item;
@@ -28,11 +28,11 @@ fn take_all(reader: &mut ItemReader, items: &mut Vec<Item>) -> Result<(), ItemFa
 pub fn decode(alloc: Global, pieces: &[Vec<u8>]) -> Result<Vec<Item>, ItemFault>
     // Up to a rest that no item begins, the stream is these items.
     ensures split { IfOk result (λ out. (rest : List ℕ)
-        × Splits (flat_map (λ piece. piece.items) pieces.now) (trees_of out.items) rest) }
+        × Splits (flat_map (λ piece. piece.items) pieces.now) (values_of out.items) rest) }
     // No other items are, so it doesn't matter how the stream was cut into pieces.
-    ensures only { IfOk result (λ out. (others : Trees) (rest : List ℕ)
+    ensures only { IfOk result (λ out. (others : ItemValues) (rest : List ℕ)
         → Splits (flat_map (λ piece. piece.items) pieces.now) others rest
-        → trees_of out.items ≡ others) }
+        → values_of out.items ≡ others) }
     // A fault is the stream's, whatever comes behind it.
     ensures fault { IfErr result
         (λ e. IsFaultOfStream (flat_map (λ piece. piece.items) pieces.now) e) }

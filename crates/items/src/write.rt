@@ -1,8 +1,8 @@
 // An item as bytes.
 ghost use Rattle.std.specs.Prelude.{◌≡◌, ◌++◌, ◌∷◌, [], List, ℕ, length, OnOk, OnErr};
 ghost use Rattle.std.specs.Fmt.{decimal};
-ghost use Rattle.items.specs.View.{tree_of, trees_of};
-ghost use Rattle.items.specs.Tree.{limits, IsWithin};
+ghost use Rattle.items.specs.View.{value_of, values_of};
+ghost use Rattle.items.specs.Values.{limits, IsWithin};
 ghost use Rattle.items.specs.Stream.{IsItem};
 ghost use Rattle.items.specs.Written.{HasWords, HaveWords};
 ghost use Rattle.items.specs.Print.{printed, list_printed, Grows};
@@ -13,10 +13,10 @@ use std::alloc::{AllocError, Global};
 /// Writes the item at the end: each token, `(` and `)` with one space behind it, numbers without
 /// leading zeros. An `Err` changes nothing.
 pub fn write_item(item: &Item, out: &mut Vec<u8>) -> Result<(), AllocError>
-    ensures ok { OnOk result (out.new.items ≡ out.old.items ++ printed (tree_of item.now)) }
+    ensures ok { OnOk result (out.new.items ≡ out.old.items ++ printed (value_of item.now)) }
     // So it is read again, whatever follows.
-    ensures spelled { OnOk result (IsWithin limits 0 (tree_of item.now)
-        → IsItem limits (tree_of item.now) (printed (tree_of item.now))) }
+    ensures spelled { OnOk result (IsWithin limits 0 (value_of item.now)
+        → IsItem limits (value_of item.now) (printed (value_of item.now))) }
     ensures err { OnErr result (out.new.items ≡ out.old.items) }
 {
     let len = out.len();
@@ -30,22 +30,22 @@ pub fn write_item(item: &Item, out: &mut Vec<u8>) -> Result<(), AllocError>
 // An `Err` leaves a part of the bytes behind the old ones.
 #[cycle(write)]
 fn append_item(item: &Item, out: &mut Vec<u8>) -> Result<(), AllocError>
-    ensures ok { OnOk result (out.new.items ≡ out.old.items ++ printed (tree_of item.now)) }
-    ensures words { OnOk result (HasWords (tree_of item.now)) }
+    ensures ok { OnOk result (out.new.items ≡ out.old.items ++ printed (value_of item.now)) }
+    ensures words { OnOk result (HasWords (value_of item.now)) }
     ensures grows { Grows out.old.items out.new.items }
 {
     match item {
         Item::Word(name) => append_word(name.as_bytes(), out),
         Item::Number(n) => append_number(*n, out),
-        Item::Str(text) => append_string(text.as_bytes(), out),
+        Item::Str(text) => append_string(text.as_slice(), out),
         Item::List(items) => append_list(items.as_slice(), out),
     }
 }
 
 #[cycle(write)]
 fn append_list(items: &[Item], out: &mut Vec<u8>) -> Result<(), AllocError>
-    ensures ok { OnOk result (out.new.items ≡ out.old.items ++ list_printed (trees_of items.now)) }
-    ensures words { OnOk result (HaveWords (trees_of items.now)) }
+    ensures ok { OnOk result (out.new.items ≡ out.old.items ++ list_printed (values_of items.now)) }
+    ensures words { OnOk result (HaveWords (values_of items.now)) }
     ensures grows { Grows out.old.items out.new.items }
 {
     out.extend_from_slice(b"( ")?;

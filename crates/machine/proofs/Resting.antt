@@ -5,7 +5,7 @@ use Rattle.svnpath.specs.Paths.{PathValue}
 use Rattle.svnpath.specs.Urls.{path_of_text, root_of_text}
 use Rattle.svnpath.specs.declared.fault.PathFault.{PathFault}
 use Rattle.refusals.specs.declared.Refusal.{Refusal}
-use Rattle.repo_api.specs.States.{RepoState, TxnState, Fixed, IsBeginning}
+use Rattle.repo_api.specs.States.{RepoState, TxnState, Revision, IsBeginning}
 use Rattle.repo_api.specs.Commits.{commit_refusal}
 use Rattle.repo_api.specs.Accepted.{Accepted, changed, changed_all}
 use Rattle.repo_api.specs.Accepted.Accepted.{Commits}
@@ -27,16 +27,16 @@ use Rattle.edit_rules.specs.Tokens.{Tokens}
 use Rattle.edit_rules.specs.Edits.{EditState}
 use Rattle.edit_rules.specs.Refusing.{edit_refusal}
 use Rattle.edit_rules.specs.Editor.{RestsIn, RestsOn as EditRestsOn, Edits as EditsTxn, Applies, finished}
-use Rattle.edit_rules.specs.Soundness.{AreSound}
-use Rattle.machine.specs.Points.{Point, world}
+use Rattle.repo_api.specs.Soundness.{AreSound}
+use Rattle.access.specs.Points.{Point, AccessRules, content_of}
 use Rattle.machine.specs.Settings.{Settings}
 use Rattle.machine.specs.Stages.{Stage, EditRests, RestsOn}
 use Rattle.machine.specs.Soundness.{MeetBy}
 use Rattle.machine.specs.Hearing.{Input}
 use Rattle.machine.specs.Hearing.Input.{Whole, Broken}
-use Rattle.machine.specs.Machine.{Verdict, Effect, Answer, InputStep, Edits, CommitStep, CloseStep, CommandStep, EditingStep, ending_of, content_after, says, speaks, url_answer, greeting_answer, login_answer, command_answer, asked_by, lock_tokens, commit_begins, commit_ask, commit_answer, skipping_answer}
-use Rattle.machine.specs.Machine.Verdict.{Went, Failed, Halts}
-use Rattle.machine.specs.Access.{Serves, Served, Fails, AddsAll, Stores, Moves}
+use Rattle.machine.specs.Machine.{Verdict, Effect, Answer, InputStep, MachineEdit, JudgedEdit, CommitStep, CloseStep, CommandStep, EditingStep, ending_of, content_after, says, speaks, url_answer, greeting_answer, login_answer, command_answer, asked_by, lock_tokens, commit_begins, commit_ask, commit_answer, skipping_answer}
+use Rattle.machine.specs.Machine.Verdict.{Written, NotWritten, Unknown}
+use Rattle.machine.specs.Steps.{input_step, StepAt, StepWritten, StepOrNothing, AddsAll, Stores, EffectAt}
 use Rattle.machine.specs.declared.asked.Asked.{Asked}
 use Rattle.machine.specs.declared.env.Env.{Env}
 use Rattle.machine.specs.declared.ending.Ending.{Ending}
@@ -46,10 +46,10 @@ use Rattle.machine.specs.declared.phase.Client.{Client}
 
 -- ---- beginnings
 
-begins : (xs : List Fixed) → IsBeginning xs xs
+begins : (xs : List Revision) → IsBeginning xs xs
 begins xs = record { more = []; is = sym (append-nil xs) }
 
-pub beginning_trans : (a b c : List Fixed) → IsBeginning a b → IsBeginning b c → IsBeginning a c
+pub beginning_trans : (a b c : List Revision) → IsBeginning a b → IsBeginning b c → IsBeginning a c
 beginning_trans a b c x y = record { more = x.more ++ y.more; is = y.is ∙ ap (λ z. z ++ y.more) x.is ∙ append_assoc a x.more y.more }
 
 rests_in_trans : (o : Option TxnState) (c d : RepoState) → RestsIn o c → IsBeginning c.revisions d.revisions → RestsIn o d
@@ -63,7 +63,7 @@ rests_trans : (phase : Stage) (c d : RepoState) → EditRests phase c → IsBegi
 rests_trans Greeted c d r b = tt
 rests_trans (LoggingIn client) c d r b = tt
 rests_trans (Serving client) c d r b = tt
-rests_trans (Editing client asked edit) c d r b = edit_rests edit c d r b
+rests_trans (Editing edit) c d r b = edit_rests edit.editor c d r b
 rests_trans (Skipping client) c d r b = tt
 rests_trans Ended c d r b = tt
 
@@ -152,15 +152,15 @@ rests_applied c old new (CloseFile token checksum) r is = rests_opened c old new
 rests_applied c old new CloseEdit r h = absurd h
 rests_applied c old new AbortEdit r h = absurd h
 
-rests_edits : (env : Env) (c : RepoState) (client : Client) (asked : Asked) (edit : EditState) (command : EditorCommand) (r : Option Refusal) (a : Answer)
-    → EditRestsOn edit c → Edits env c client asked edit command r a → EditRests a.phase c
-rests_edits env c client asked edit command None a rests (after, applies, is) = rests_is c a _ is (rests_applied c edit after command rests applies)
-rests_edits env c client asked edit command (Some r) a rests is = rests_is c a _ is tt
+rests_edits : (env : Env) (c : RepoState) (edit : MachineEdit) (command : EditorCommand) (r : Option Refusal) (a : Answer)
+    → EditRestsOn edit.editor c → JudgedEdit env c edit command r a → EditRests a.phase c
+rests_edits env c edit command None a rests (after, applies, is) = rests_is c a _ is (rests_applied c edit.editor after command rests applies)
+rests_edits env c edit command (Some r) a rests is = rests_is c a _ is tt
 
 rests_committed : (env : Env) (c : RepoState) (client : Client) (asked : Asked) (t : TxnState) (date : List ℕ) (v : Verdict) → EditRests (commit_answer env c client asked t date v).phase c
-rests_committed env c client asked t date Went = tt
-rests_committed env c client asked t date Failed = tt
-rests_committed env c client asked t date Halts = tt
+rests_committed env c client asked t date Written = tt
+rests_committed env c client asked t date NotWritten = tt
+rests_committed env c client asked t date Unknown = tt
 
 rests_commit : (halted : Bool) (env : Env) (c : RepoState) (client : Client) (asked : Asked) (t : TxnState)
     (date : List ℕ) (r : Option Refusal) (a : Answer) → CommitStep halted env c client asked t date r a → EditRests a.phase c
@@ -174,18 +174,18 @@ rests_close halted env c client asked (Ok t) a (date, is_date, step) =
     rests_commit halted env c client asked t date (commit_refusal c (commit_ask client asked date) t) a step
 rests_close halted env c client asked (Err r) a is = rests_is c a _ is tt
 
-rests_told : (halted : Bool) (env : Env) (c : RepoState) (client : Client) (asked : Asked) (edit : EditState) (command : EditorCommand) (ending : Option Ending) (a : Answer)
-    → EditRestsOn edit c → CommandStep halted env c client asked edit command ending a → EditRests a.phase c
-rests_told halted env c client asked edit command None a rests step = rests_edits env c client asked edit command (edit_refusal c edit command) a rests step
-rests_told halted env c client asked edit command (Some ToCommit) a rests step = rests_close halted env c client asked (finished edit) a step
-rests_told halted env c client asked edit command (Some GivesUp) a rests is = rests_is c a _ is tt
+rests_told : (halted : Bool) (env : Env) (c : RepoState) (edit : MachineEdit) (command : EditorCommand) (ending : Option Ending) (a : Answer)
+    → EditRestsOn edit.editor c → CommandStep halted env c edit command ending a → EditRests a.phase c
+rests_told halted env c edit command None a rests step = rests_edits env c edit command (edit_refusal c edit.editor command) a rests step
+rests_told halted env c edit command (Some ToCommit) a rests step = rests_close halted env c edit.client edit.asked (finished edit.editor) a step
+rests_told halted env c edit command (Some GivesUp) a rests is = rests_is c a _ is tt
 
-rests_editing : (halted : Bool) (env : Env) (c : RepoState) (client : Client) (asked : Asked) (edit : EditState) (r : Result EditorCommand CommandFault) (a : Answer)
-    → EditRestsOn edit c → EditingStep halted env c client asked edit r a → EditRests a.phase c
-rests_editing halted env c client asked edit (Ok command) a rests step = rests_told halted env c client asked edit command (ending_of command) a rests step
-rests_editing halted env c client asked edit (Err UnknownName) a rests is = rests_is c a _ is tt
-rests_editing halted env c client asked edit (Err BadParameters) a rests is = rests_is c a _ is tt
-rests_editing halted env c client asked edit (Err NoMemory) a rests is = rests_is c a _ is tt
+rests_editing : (halted : Bool) (env : Env) (c : RepoState) (edit : MachineEdit) (r : Result EditorCommand CommandFault) (a : Answer)
+    → EditRestsOn edit.editor c → EditingStep halted env c edit r a → EditRests a.phase c
+rests_editing halted env c edit (Ok command) a rests step = rests_told halted env c edit command (ending_of command) a rests step
+rests_editing halted env c edit (Err UnknownName) a rests is = rests_is c a _ is tt
+rests_editing halted env c edit (Err BadParameters) a rests is = rests_is c a _ is tt
+rests_editing halted env c edit (Err NoMemory) a rests is = rests_is c a _ is tt
 
 -- ---- an input
 
@@ -193,12 +193,12 @@ rests_step : (halted : Bool) (s : Settings) (env : Env) (c : RepoState) (phase :
 rests_step halted s env c Greeted (Whole t) a rests is = rests_is c a _ is (rests_greeting c s env (client_greeting t))
 rests_step halted s env c (LoggingIn client) (Whole t) a rests is = rests_is c a _ is (rests_login c env client (auth_response t))
 rests_step halted s env c (Serving client) (Whole t) a rests is = rests_is c a _ is (rests_command c s env client (main_command t))
-rests_step halted s env c (Editing client asked edit) (Whole t) a rests step = rests_editing halted env c client asked edit (editor_command t) a rests step
+rests_step halted s env c (Editing edit) (Whole t) a rests step = rests_editing halted env c edit (editor_command t) a rests step
 rests_step halted s env c (Skipping client) (Whole t) a rests is = rests_is c a _ is (rests_skipping c env client (ends_edit t))
 rests_step halted s env c Greeted Broken a rests is = rests_is c a _ is tt
 rests_step halted s env c (LoggingIn client) Broken a rests is = rests_is c a _ is tt
 rests_step halted s env c (Serving client) Broken a rests is = rests_is c a _ is tt
-rests_step halted s env c (Editing client asked edit) Broken a rests is = rests_is c a _ is tt
+rests_step halted s env c (Editing edit) Broken a rests is = rests_is c a _ is tt
 rests_step halted s env c (Skipping client) Broken a rests is = rests_is c a _ is tt
 rests_step halted s env c Ended input a rests is = rests_is c a _ is tt
 
@@ -212,50 +212,50 @@ changes_keep c (e ∷ es) = beginning_trans c.revisions (changed c e).revisions 
 pub rests_on : (halted : Bool) (s : Settings) (env : Env) (c : RepoState) (phase : Stage) (input : Input) (a : Answer) → EditRests phase c → InputStep halted s env c phase input a → EditRests a.phase (content_after c a.effect)
 rests_on halted s env c phase input a rests step = rests_trans a.phase c (content_after c a.effect) (rests_step halted s env c phase input a rests step) (changes_keep c a.effect.changes)
 
-module _ (between : Point → Point → Type 0) (adds : Point → Accepted → Point → Type 0)
-    (keeps : (p q : Point) → between p q → IsBeginning (world p).revisions (world q).revisions)
-    (counts : (p : Point) (e : Accepted) (q : Point) → adds p e q → (world q ≡ changed (world p) e) × (q.halted ≡ p.halted) × (q.failures ≡ p.failures)) where
-  added : (p : Point) (es : List Accepted) (q : Point) → AddsAll adds p es q → world q ≡ changed_all (world p) es
-  added p [] q is = ap world is
+module _ (rules : AccessRules)
+    (keeps : (p q : Point) → rules.between p q → IsBeginning (content_of p).revisions (content_of q).revisions)
+    (counts : (p : Point) (e : Accepted) (q : Point) → rules.adds p e q → (content_of q ≡ changed (content_of p) e) × (q.halted ≡ p.halted) × (q.failures ≡ p.failures)) where
+  added : (p : Point) (es : List Accepted) (q : Point) → AddsAll rules p es q → content_of q ≡ changed_all (content_of p) es
+  added p [] q is = ap content_of is
   added p (e ∷ es) q (mid, first, rest) = added mid es q rest ∙ ap (λ (c : RepoState). changed_all c es) (counts p e mid first).0
 
-  stored : (v : Verdict) (p q : Point) → Stores v p q → world q ≡ world p
-  stored Went p q is = ap world is
-  stored Failed p q failed = failed.same
-  stored Halts p q halt = halt.same
+  stored : (v : Verdict) (p q : Point) → Stores v p q → content_of q ≡ content_of p
+  stored Written p q is = ap content_of is
+  stored NotWritten p q failed = failed.same
+  stored Unknown p q halt = halt.same
 
-  pub moved : (p : Point) (e : Effect) (q : Point) → Moves adds p e q → world q ≡ content_after (world p) e
+  pub moved : (p : Point) (e : Effect) (q : Point) → EffectAt rules p e q → content_of q ≡ content_after (content_of p) e
   moved p e q (mid, adds, stores) = stored e.store mid q stores ∙ added p e.changes mid adds
 
   -- a session goes on to rest on what is there, as others go on too
-  module _ (sound : (p q : Point) → between p q → AreSound (world p).revisions → AreSound (world q).revisions)
+  module _ (sound : (p q : Point) → rules.between p q → AreSound (content_of p).revisions → AreSound (content_of q).revisions)
       (step_keeps : (halted : Bool) (s : Settings) (env : Env) (c : RepoState) (phase : Stage) (input : Input) (a : Answer)
       → RestsOn phase c → InputStep halted s env c phase input a → RestsOn a.phase (content_after c a.effect) × MeetBy c a.effect.changes) where
-    rests_later : (phase : Stage) (p q : Point) → between p q → RestsOn phase (world p) → RestsOn phase (world q)
+    rests_later : (phase : Stage) (p q : Point) → rules.between p q → RestsOn phase (content_of p) → RestsOn phase (content_of q)
     rests_later phase p q later h = record {
       trees = sound p q later h.trees;
-      rests = rests_trans phase (world p) (world q) h.rests (keeps p q later);
+      rests = rests_trans phase (content_of p) (content_of q) h.rests (keeps p q later);
       sound = h.sound;
     }
 
     rests_after : (s : Settings) (env : Env) (p q : Point) (phase : Stage) (input : Input) (a : Answer)
-        → Serves between adds s env p phase input a q → RestsOn phase (world p) → RestsOn a.phase (world q)
+        → StepAt rules (input_step s env phase input) p a q → RestsOn phase (content_of p) → RestsOn a.phase (content_of q)
     rests_after s env p q phase input a h rests =
         let before = rests_later phase p h.at h.later rests in
-        let here = (step_keeps h.at.halted s env (world h.at) phase input a before h.step_is).0 in
+        let here = (step_keeps h.at.halted s env (content_of h.at) phase input a before h.step_is).0 in
         subst (λ (c : RepoState). RestsOn a.phase c) (sym (moved h.at a.effect q h.moves)) here
 
     pub rests_served : (s : Settings) (env env' : Env) (p q : Point) (phase after : Stage) (input : Input) (writes : List ℕ → Type 0)
-        → Served between adds s env p phase input env' q after writes → RestsOn phase (world p) → RestsOn after (world q)
+        → StepWritten rules (input_step s env phase input) p q after env' writes → RestsOn phase (content_of p) → RestsOn after (content_of q)
     rests_served s env env' p q phase after input writes h rests =
-        subst (λ (x : Stage). RestsOn x (world q)) (sym h.phase_after) (rests_after s env p q phase input h.answer h.serves rests)
+        subst (λ (x : Stage). RestsOn x (content_of q)) (sym h.phase_after) (rests_after s env p q phase input h.answer h.happens rests)
 
     -- for want of memory the session has ended, and the repository is sound
     pub trees_failed : (s : Settings) (env : Env) (p q : Point) (phase : Stage) (input : Input) (writes : List ℕ → Type 0)
-        → Fails between adds s env p phase input q writes → RestsOn phase (world p) → AreSound (world q).revisions
+        → StepOrNothing rules (input_step s env phase input) p q writes → RestsOn phase (content_of p) → AreSound (content_of q).revisions
     trees_failed s env p q phase input writes (inl (later, unwritten)) rests = sound p q later rests.trees
     trees_failed s env p q phase input writes (inr (a, serves, part)) rests = (rests_after s env p q phase input a serves rests).trees
 
-pub edit_rests_later : (between : Point → Point → Type 0) → ((p q : Point) → between p q → IsBeginning (world p).revisions (world q).revisions)
-    → (e : EditState) (p q : Point) → EditRestsOn e (world p) → between p q → EditRestsOn e (world q)
-edit_rests_later between keeps e p q rests later = edit_rests e (world p) (world q) rests (keeps p q later)
+pub edit_rests_later : (rules : AccessRules) → ((p q : Point) → rules.between p q → IsBeginning (content_of p).revisions (content_of q).revisions)
+    → (e : EditState) (p q : Point) → EditRestsOn e (content_of p) → rules.between p q → EditRestsOn e (content_of q)
+edit_rests_later rules keeps e p q rests later = edit_rests e (content_of p) (content_of q) rests (keeps p q later)

@@ -12,7 +12,7 @@ use Rattle.repo_api.specs.Marks.{AreMarked, MeetWell}
 use Rattle.repo_api.specs.Transactions.{IsMarkedTxn}
 use Rattle.repo_api.specs.declared.entry.Entry.{Entry}
 use Rattle.repo_api.specs.declared.ask.CommitAsk.{CommitAsk}
-use Rattle.repo_api.specs.States.{RepoState, TxnState, Fixed, IsBeginning, tree_of, tree_in, trees_in, youngest}
+use Rattle.repo_api.specs.States.{RepoState, TxnState, Revision, IsBeginning, tree_of, tree_in, trees_in, youngest}
 use Rattle.repo_api.specs.Commits.{commit_refusal, next_tree, committed}
 use Rattle.forms.specs.Forms.{is_name}
 use Rattle.commands.specs.Commands.{main_command}
@@ -30,14 +30,15 @@ use Rattle.edit_rules.specs.Tokens.{Tokens, has_unfinished}
 use Rattle.edit_rules.specs.Edits.{EditState, new_edit}
 use Rattle.edit_rules.specs.Refusing.{edit_refusal}
 use Rattle.edit_rules.specs.Editor.{Applies, finished, finished_txn, RestsIn, RestsOn}
-use Rattle.edit_rules.specs.Soundness.{AreTrees, AreSound, IsSoundEdit, IsSoundIn}
+use Rattle.repo_api.specs.Soundness.{AreTrees, AreSound}
+use Rattle.edit_rules.specs.Soundness.{IsSoundEdit, IsSoundIn}
 use Rattle.machine.specs.Settings.{Settings}
 use Rattle.machine.specs.Stages.{Stage, EditRests, EditIsSound, RestsOn as SessionRestsOn}
 use Rattle.machine.specs.Soundness.{MeetBy}
 use Rattle.machine.specs.Hearing.{Input}
 use Rattle.machine.specs.Hearing.Input.{Whole, Broken}
-use Rattle.machine.specs.Machine.{Verdict, Answer, InputStep, Edits, CommitStep, CloseStep, CommandStep, EditingStep, ending_of, content_after, says, speaks, url_answer, greeting_answer, login_answer, command_answer, asked_by, lock_tokens, commit_begins, commit_ask, commit_answer, skipping_answer}
-use Rattle.machine.specs.Machine.Verdict.{Went, Failed, Halts}
+use Rattle.machine.specs.Machine.{Verdict, Answer, InputStep, MachineEdit, JudgedEdit, CommitStep, CloseStep, CommandStep, EditingStep, ending_of, content_after, says, speaks, url_answer, greeting_answer, login_answer, command_answer, asked_by, lock_tokens, commit_begins, commit_ask, commit_answer, skipping_answer}
+use Rattle.machine.specs.Machine.Verdict.{Written, NotWritten, Unknown}
 use Rattle.machine.specs.declared.asked.Asked.{Asked}
 use Rattle.machine.specs.declared.env.Env.{Env}
 use Rattle.machine.specs.declared.ending.Ending.{Ending}
@@ -46,7 +47,7 @@ use Rattle.machine.specs.declared.phase.Phase.TheVariants.{Greeted, LoggingIn, S
 use Rattle.machine.specs.declared.phase.Client.{Client}
 use Rattle.machine.proofs.Resting.{rests_on}
 
-trees_more : (rs : List Fixed) (r : Fixed) → AreTrees rs → IsTree (tree_of r.tree) → AreTrees (rs ++ r ∷ [])
+trees_more : (rs : List Revision) (r : Revision) → AreTrees rs → IsTree (tree_of r.tree) → AreTrees (rs ++ r ∷ [])
 trees_more [] r trees one = (one, tt)
 trees_more (x ∷ rs) r trees one = (trees.0, trees_more rs r trees.1 one)
 
@@ -61,7 +62,7 @@ finished_is true o tokens t is = cc
 finished_is false None tokens t is = cc
 finished_is false (Some u) tokens t is = ap (λ (x : TxnState). Some x) (finished_is_it (has_unfinished tokens) u t is)
 
-tree_within : (rs : List Fixed) (n : ℕ) → AreTrees rs → n < length rs → IsTree (trees_in rs n)
+tree_within : (rs : List Revision) (n : ℕ) → AreTrees rs → n < length rs → IsTree (trees_in rs n)
 tree_within [] n trees lt = absurd (omega (arith, lt))
 tree_within (r ∷ rs) zero trees lt = trees.0
 tree_within (r ∷ rs) (suc n) trees lt = tree_within rs n trees.1 (omega (arith, lt))
@@ -69,7 +70,7 @@ tree_within (r ∷ rs) (suc n) trees lt = tree_within rs n trees.1 (omega (arith
 no_directory : (o : Option Entry) → o ≡ None → IsSomeAnd o (λ e. IsTrue (is_directory e)) → ⊥
 no_directory o none dir = subst (λ (x : Option Entry). IsSomeAnd x (λ e. IsTrue (is_directory e))) none dir
 
-within_some : (rs : List Fixed) (n : ℕ) → IsTree (trees_in rs n) → n < length rs
+within_some : (rs : List Revision) (n : ℕ) → IsTree (trees_in rs n) → n < length rs
 within_some [] n is = absurd (no_directory (get (tree_in None) []) (get-empty path_cmp []) is.root)
 within_some (r ∷ rs) zero is = omega arith
 within_some (r ∷ rs) (suc n) is = let lt : n < length rs = within_some rs n is in omega (arith, lt)
@@ -134,16 +135,16 @@ module _ (begins : (path : PathValue) (name : List ℕ) → IsSoundEdit (new_edi
   leaves_command c s env client (Err BadParameters) trees = (trees, tt, tt)
   leaves_command c s env client (Err NoMemory) trees = (trees, tt, tt)
 
-  leaves_edits : (env : Env) (c : RepoState) (client : Client) (asked : Asked) (edit : EditState) (command : EditorCommand) (r : Option Refusal) (a : Answer)
-      → AreSound c.revisions → RestsOn edit c → IsSoundEdit edit → edit_refusal c edit command ≡ r → Edits env c client asked edit command r a → LeavesTrees c a
-  leaves_edits env c client asked edit command None a trees rests sound judged (after, applies, is) = leaves_is c a _ is (trees, goes_on c edit after command trees rests sound judged applies, tt)
-  leaves_edits env c client asked edit command (Some r) a trees rests sound judged is = leaves_is c a _ is (trees, tt, tt)
+  leaves_edits : (env : Env) (c : RepoState) (edit : MachineEdit) (command : EditorCommand) (r : Option Refusal) (a : Answer)
+      → AreSound c.revisions → RestsOn edit.editor c → IsSoundEdit edit.editor → edit_refusal c edit.editor command ≡ r → JudgedEdit env c edit command r a → LeavesTrees c a
+  leaves_edits env c edit command None a trees rests sound judged (after, applies, is) = leaves_is c a _ is (trees, goes_on c edit.editor after command trees rests sound judged applies, tt)
+  leaves_edits env c edit command (Some r) a trees rests sound judged is = leaves_is c a _ is (trees, tt, tt)
 
   leaves_committed : (env : Env) (c : RepoState) (client : Client) (asked : Asked) (t : TxnState) (date : List ℕ) (v : Verdict)
       → AreSound c.revisions → MeetWell (trees_in c.revisions) t.base (tree_of t.tree) (youngest c) → LeavesTrees c (commit_answer env c client asked t date v)
-  leaves_committed env c client asked t date Went trees w = ((trees_more c.revisions _ trees.0 (makes_tree c t w), makes_marks c (commit_ask client asked date) t w), tt, (w, tt))
-  leaves_committed env c client asked t date Failed trees w = (trees, tt, tt)
-  leaves_committed env c client asked t date Halts trees w = (trees, tt, tt)
+  leaves_committed env c client asked t date Written trees w = ((trees_more c.revisions _ trees.0 (makes_tree c t w), makes_marks c (commit_ask client asked date) t w), tt, (w, tt))
+  leaves_committed env c client asked t date NotWritten trees w = (trees, tt, tt)
+  leaves_committed env c client asked t date Unknown trees w = (trees, tt, tt)
 
   leaves_commit : (halted : Bool) (env : Env) (c : RepoState) (client : Client) (asked : Asked) (t : TxnState)
       (date : List ℕ) (r : Option Refusal) (a : Answer)
@@ -165,30 +166,30 @@ module _ (begins : (path : PathValue) (name : List ℕ) → IsSoundEdit (new_edi
       leaves_commit halted env c client asked t date (commit_refusal c (commit_ask client asked date) t) a trees b s.2 s.0 refl step
   leaves_close halted env c client asked edit (Err r) a trees rests sound is step = leaves_is c a _ step (trees, tt, tt)
 
-  leaves_told : (halted : Bool) (env : Env) (c : RepoState) (client : Client) (asked : Asked) (edit : EditState) (command : EditorCommand) (ending : Option Ending) (a : Answer)
-      → AreSound c.revisions → RestsOn edit c → IsSoundEdit edit → CommandStep halted env c client asked edit command ending a → LeavesTrees c a
-  leaves_told halted env c client asked edit command None a trees rests sound step = leaves_edits env c client asked edit command (edit_refusal c edit command) a trees rests sound refl step
-  leaves_told halted env c client asked edit command (Some Commits) a trees rests sound step = leaves_close halted env c client asked edit (finished edit) a trees rests sound refl step
-  leaves_told halted env c client asked edit command (Some GivesUp) a trees rests sound is = leaves_is c a _ is (trees, tt, tt)
+  leaves_told : (halted : Bool) (env : Env) (c : RepoState) (edit : MachineEdit) (command : EditorCommand) (ending : Option Ending) (a : Answer)
+      → AreSound c.revisions → RestsOn edit.editor c → IsSoundEdit edit.editor → CommandStep halted env c edit command ending a → LeavesTrees c a
+  leaves_told halted env c edit command None a trees rests sound step = leaves_edits env c edit command (edit_refusal c edit.editor command) a trees rests sound refl step
+  leaves_told halted env c edit command (Some Commits) a trees rests sound step = leaves_close halted env c edit.client edit.asked edit.editor (finished edit.editor) a trees rests sound refl step
+  leaves_told halted env c edit command (Some GivesUp) a trees rests sound is = leaves_is c a _ is (trees, tt, tt)
 
-  leaves_editing : (halted : Bool) (env : Env) (c : RepoState) (client : Client) (asked : Asked) (edit : EditState) (r : Result EditorCommand CommandFault) (a : Answer)
-      → AreSound c.revisions → RestsOn edit c → IsSoundEdit edit → EditingStep halted env c client asked edit r a → LeavesTrees c a
-  leaves_editing halted env c client asked edit (Ok command) a trees rests sound step = leaves_told halted env c client asked edit command (ending_of command) a trees rests sound step
-  leaves_editing halted env c client asked edit (Err UnknownName) a trees rests sound is = leaves_is c a _ is (trees, tt, tt)
-  leaves_editing halted env c client asked edit (Err BadParameters) a trees rests sound is = leaves_is c a _ is (trees, tt, tt)
-  leaves_editing halted env c client asked edit (Err NoMemory) a trees rests sound is = leaves_is c a _ is (trees, tt, tt)
+  leaves_editing : (halted : Bool) (env : Env) (c : RepoState) (edit : MachineEdit) (r : Result EditorCommand CommandFault) (a : Answer)
+      → AreSound c.revisions → RestsOn edit.editor c → IsSoundEdit edit.editor → EditingStep halted env c edit r a → LeavesTrees c a
+  leaves_editing halted env c edit (Ok command) a trees rests sound step = leaves_told halted env c edit command (ending_of command) a trees rests sound step
+  leaves_editing halted env c edit (Err UnknownName) a trees rests sound is = leaves_is c a _ is (trees, tt, tt)
+  leaves_editing halted env c edit (Err BadParameters) a trees rests sound is = leaves_is c a _ is (trees, tt, tt)
+  leaves_editing halted env c edit (Err NoMemory) a trees rests sound is = leaves_is c a _ is (trees, tt, tt)
 
   leaves_trees : (halted : Bool) (s : Settings) (env : Env) (c : RepoState) (phase : Stage) (input : Input) (a : Answer)
       → AreSound c.revisions → EditRests phase c → EditIsSound phase → InputStep halted s env c phase input a → LeavesTrees c a
   leaves_trees halted s env c Greeted (Whole t) a trees rests sound is = leaves_is c a _ is (leaves_greeting c s env (client_greeting t) trees)
   leaves_trees halted s env c (LoggingIn client) (Whole t) a trees rests sound is = leaves_is c a _ is (leaves_login c env client (auth_response t) trees)
   leaves_trees halted s env c (Serving client) (Whole t) a trees rests sound is = leaves_is c a _ is (leaves_command c s env client (main_command t) trees)
-  leaves_trees halted s env c (Editing client asked edit) (Whole t) a trees rests sound step = leaves_editing halted env c client asked edit (editor_command t) a trees rests sound step
+  leaves_trees halted s env c (Editing edit) (Whole t) a trees rests sound step = leaves_editing halted env c edit (editor_command t) a trees rests sound step
   leaves_trees halted s env c (Skipping client) (Whole t) a trees rests sound is = leaves_is c a _ is (leaves_skipping c env client (ends_edit t) trees)
   leaves_trees halted s env c Greeted Broken a trees rests sound is = leaves_is c a _ is (trees, tt, tt)
   leaves_trees halted s env c (LoggingIn client) Broken a trees rests sound is = leaves_is c a _ is (trees, tt, tt)
   leaves_trees halted s env c (Serving client) Broken a trees rests sound is = leaves_is c a _ is (trees, tt, tt)
-  leaves_trees halted s env c (Editing client asked edit) Broken a trees rests sound is = leaves_is c a _ is (trees, tt, tt)
+  leaves_trees halted s env c (Editing edit) Broken a trees rests sound is = leaves_is c a _ is (trees, tt, tt)
   leaves_trees halted s env c (Skipping client) Broken a trees rests sound is = leaves_is c a _ is (trees, tt, tt)
   leaves_trees halted s env c Ended input a trees rests sound is = leaves_is c a _ is (trees, tt, tt)
 

@@ -1,11 +1,11 @@
 -- What a stream of bytes brings.
 use Rattle.std.specs.Prelude.{◌≡◌, ℕ, List, [], ◌∷◌, ◌++◌}
-use Rattle.items.specs.Tree.{Tree, limits}
+use Rattle.items.specs.Values.{ItemValue, limits}
 use Rattle.items.specs.Stream.{IsItem, HasNoItem, Begins, IsFaulty}
 
 -- an item, or a byte that goes on to none
 pub data Input : Type 0 where
-  Whole : Tree → Input
+  Whole : ItemValue → Input
   Broken : Input
 
 -- no item stands at the front of the stream, and some byte of it goes on to none
@@ -15,17 +15,19 @@ pub record IsBroken (stream : List ℕ) : Type 0 where
   pub faulty : IsFaulty count stream
 
 -- the stream brings this first, and then goes on so
-abbrev pub Brings : List ℕ → Input → List ℕ → Type 0
-Brings stream (Whole t) after = (front : List ℕ) × IsItem limits t front × (stream ≡ front ++ after)
-Brings stream Broken after = IsBroken stream × (after ≡ stream)
+abbrev pub YieldsFirst : List ℕ → Input → List ℕ → Type 0
+YieldsFirst stream (Whole t) after =
+    (front : List ℕ) × IsItem limits t front × (stream ≡ front ++ after)
+YieldsFirst stream Broken after = IsBroken stream × (after ≡ stream)
 
 -- the stream brings these one after another, and then goes on so
-abbrev pub Comes : List ℕ → List Input → List ℕ → Type 0
-Comes stream [] rest = rest ≡ stream
-Comes stream (input ∷ inputs) rest = (after : List ℕ) × Brings stream input after × Comes after inputs rest
+abbrev pub Yields : List ℕ → List Input → List ℕ → Type 0
+Yields stream [] rest = rest ≡ stream
+Yields stream (input ∷ inputs) rest =
+    (after : List ℕ) × YieldsFirst stream input after × Yields after inputs rest
 
 -- the stream has brought all that it does so far: what is there may become an item, and is none yet
-pub record IsSettled (stream : List ℕ) : Type 0 where
+pub record HasNoMore (stream : List ℕ) : Type 0 where
   pub no_item : HasNoItem stream
   pub begins : Begins limits stream
 

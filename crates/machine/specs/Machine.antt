@@ -35,7 +35,7 @@ use Rattle.replies.specs.declared.reply.Reply.TheVariants as replies
 use Rattle.edit_rules.specs.Edits.{EditState, new_edit}
 use Rattle.edit_rules.specs.Refusing.{is_property_name, edit_refusal}
 use Rattle.edit_rules.specs.Editor.{Applies, finished}
-use Rattle.machine.specs.Points.{HasRisen}
+use Rattle.access.specs.Points.{HasRisen}
 use Rattle.machine.specs.Settings.{Settings}
 use Rattle.machine.specs.Hearing.{Input}
 use Rattle.machine.specs.Hearing.Input.{Whole, Broken}
@@ -44,6 +44,7 @@ use Rattle.machine.specs.declared.env.Env.{Env}
 use Rattle.machine.specs.declared.asked.Asked.{Asked}
 use Rattle.machine.specs.declared.ending.Ending.{Ending}
 use Rattle.machine.specs.declared.ending.Ending.TheVariants.{Commits, GivesUp}
+use Rattle.machine.specs.declared.phase.OpenEdit.{OpenEdit}
 use Rattle.machine.specs.declared.phase.Phase.TheVariants.{Greeted, LoggingIn, Serving, Editing, Skipping, Ended}
 use Rattle.machine.specs.declared.phase.Client.{Client}
 
@@ -51,29 +52,31 @@ use Rattle.machine.specs.declared.phase.Client.{Client}
 abbrev pub LockTokens : Type 0
 LockTokens = List (PathValue × List ℕ)
 
--- what the store did with a change: it wrote it, it failed and nothing is written, or it failed so that nobody knows,
+-- what the store did with a change: it wrote it, it failed and nothing is written, or it failed so
+-- that nobody knows,
 -- and no change is made any more
 pub data Verdict : Type 0 where
-  Went : Verdict
-  Failed : Verdict
-  Halts : Verdict
+  Written : Verdict
+  NotWritten : Verdict
+  Unknown : Verdict
 
--- what an input does to the repository: the changes that are accepted, one after another, and what the store did
+-- what an input does to the repository: the changes that are accepted, one after another, and what
+-- the store did
 pub record Effect : Type 0 where
   pub changes : List Accepted
   pub store : Verdict
 
 abbrev pub no_effect : Effect
-no_effect = record { changes = []; store = Went }
+no_effect = record { changes = []; store = Written }
 
 -- the repository after an effect
 abbrev pub content_after : RepoState → Effect → RepoState
 content_after c effect = changed_all c effect.changes
 
 abbrev pub is_halt : Verdict → Bool
-is_halt Went = false
-is_halt Failed = false
-is_halt Halts = true
+is_halt Written = false
+is_halt NotWritten = false
+is_halt Unknown = true
 
 -- whether changes have come to a halt, after an effect
 abbrev pub halted_after : Bool → Effect → Bool
@@ -81,11 +84,12 @@ halted_after halted effect = halted || is_halt effect.store
 
 -- the store's count of failures before and after: it rises where the store fails
 abbrev pub Counts : Verdict → ℕ → ℕ → Type 0
-Counts Went before after = after ≡ before
-Counts Failed before after = HasRisen before after
-Counts Halts before after = HasRisen before after
+Counts Written before after = after ≡ before
+Counts NotWritten before after = HasRisen before after
+Counts Unknown before after = HasRisen before after
 
--- what an input does: the replies, where the session stands then, the words that are left, and the effect
+-- what an input does: the replies, where the session stands then, the words that are left, and the
+-- effect
 pub record Answer : Type 0 where
   pub replies : List Reply
   pub phase : Stage
@@ -102,8 +106,11 @@ malformed env = says env Ended (replies.Failure refusals.MalformedData ∷ [])
 
 -- ---- the answer to the greeting
 
-abbrev pub url_answer : Settings → Env → Result PathValue PathFault → Result (List ℕ) PathFault → Answer
-url_answer s env (Ok path) (Ok root) = says env (LoggingIn (record { path = path; root = root; user = None })) (replies.Login s.name ∷ [])
+abbrev pub url_answer : Settings → Env → Result PathValue PathFault → Result (List ℕ) PathFault
+    → Answer
+url_answer s env (Ok path) (Ok root) =
+    says env (LoggingIn (record { path = path; root = root; user = None }))
+    (replies.Login s.name ∷ [])
 url_answer s env (Ok path) (Err fault) = says env Ended (replies.Failure (path_refusal fault) ∷ [])
 url_answer s env (Err fault) root = says env Ended (replies.Failure (path_refusal fault) ∷ [])
 
@@ -113,7 +120,8 @@ speaks g = (g.version == 2) && g.edit_pipeline
 
 abbrev pub greeting_answer : Settings → Env → Result ClientGreeting CommandFault → Answer
 greeting_answer s env (Ok g) =
-    if speaks g then url_answer s env (path_of_text g.url s.name) (root_of_text g.url s.name) else says env Ended []
+    if speaks g then url_answer s env (path_of_text g.url s.name) (root_of_text g.url s.name)
+    else says env Ended []
 greeting_answer s env (Err fault) = malformed env
 
 -- ---- the login
@@ -131,10 +139,12 @@ login_answer env c client (Err fault) = malformed env
 -- the youngest revision where none is named; one above it is refused
 abbrev pub at_revision : RepoState → Option ℕ → (ℕ → Reply) → Reply
 at_revision c None f = f (youngest c)
-at_revision c (Some n) f = if nat_lt (youngest c) n then replies.Failure refusals.NoSuchRevision else f n
+at_revision c (Some n) f =
+    if nat_lt (youngest c) n then replies.Failure refusals.NoSuchRevision else f n
 
 abbrev pub check_path_reply : RepoState → Option ℕ → Result PathValue PathFault → Reply
-check_path_reply c revision (Ok path) = at_revision c revision (λ n. replies.Kind (kind_at c n path))
+check_path_reply c revision (Ok path) =
+    at_revision c revision (λ n. replies.Kind (kind_at c n path))
 check_path_reply c revision (Err fault) = replies.Failure (path_refusal fault)
 
 abbrev pub rev_proplist_reply : RepoState → ℕ → Reply
@@ -147,7 +157,8 @@ serves env client reply = says env (Serving client) (reply ∷ [])
 -- ---- the beginning of a commit
 
 -- a lock's path and token in front of others, or the first fault of a path
-abbrev pub token_before : List ℕ → Result PathValue PathFault → Result LockTokens PathFault → Result LockTokens PathFault
+abbrev pub token_before : List ℕ → Result PathValue PathFault → Result LockTokens PathFault
+    → Result LockTokens PathFault
 token_before token (Err fault) rest = Err fault
 token_before token (Ok path) (Err fault) = Err fault
 token_before token (Ok path) (Ok tokens) = Ok ((path, token) ∷ tokens)
@@ -176,7 +187,8 @@ asked_by command (Ok tokens) =
 
 -- an edit begins, or is refused in its place
 abbrev pub commit_begins : Settings → Env → Client → Result Asked Refusal → Answer
-commit_begins s env client (Ok asked) = says env (Editing client asked (new_edit client.path s.name)) (replies.Success ∷ [])
+commit_begins s env client (Ok asked) =
+    says env (Editing (record { client = client; asked = asked; editor = new_edit client.path s.name })) (replies.Success ∷ [])
 commit_begins s env client (Err r) = serves env client (replies.Failure r)
 
 -- ---- a command
@@ -184,12 +196,15 @@ commit_begins s env client (Err r) = serves env client (replies.Failure r)
 -- a command's own answer
 abbrev pub own_answer : Settings → Env → RepoState → Client → MainCommand → Answer
 own_answer s env c client GetLatestRev = serves env client (replies.Revision (youngest c))
-own_answer s env c client (CheckPath path revision) = serves env client (check_path_reply c revision (joined client.path path))
+own_answer s env c client (CheckPath path revision) =
+    serves env client (check_path_reply c revision (joined client.path path))
 own_answer s env c client (RevProplist n) = serves env client (rev_proplist_reply c n)
-own_answer s env c client (Commit command) = commit_begins s env client (asked_by command (lock_tokens client.path command.tokens))
+own_answer s env c client (Commit command) =
+    commit_begins s env client (asked_by command (lock_tokens client.path command.tokens))
 own_answer s env c client AbortEdit = says env (Serving client) []
 
--- what is told before it: a login request, which asks for nothing; an edit that is given up outside one draws no reply
+-- what is told before it: a login request, which asks for nothing; an edit that is given up outside
+-- one draws no reply
 abbrev pub login_request : MainCommand → List Reply
 login_request GetLatestRev = replies.NoLogin ∷ []
 login_request (CheckPath path revision) = replies.NoLogin ∷ []
@@ -201,9 +216,12 @@ login_request AbortEdit = []
 abbrev pub behind : List Reply → Answer → Answer
 behind told a = record a { replies = told ++ a.replies }
 
-abbrev pub command_answer : Settings → Env → RepoState → Client → Result MainCommand CommandFault → Answer
-command_answer s env c client (Ok command) = behind (login_request command) (own_answer s env c client command)
-command_answer s env c client (Err UnknownName) = says env (Serving client) (replies.Failure refusals.UnknownCommand ∷ [])
+abbrev pub command_answer : Settings → Env → RepoState → Client → Result MainCommand CommandFault
+    → Answer
+command_answer s env c client (Ok command) =
+    behind (login_request command) (own_answer s env c client command)
+command_answer s env c client (Err UnknownName) =
+    says env (Serving client) (replies.Failure refusals.UnknownCommand ∷ [])
 command_answer s env c client (Err BadParameters) = malformed env
 command_answer s env c client (Err NoMemory) = malformed env
 
@@ -213,13 +231,20 @@ command_answer s env c client (Err NoMemory) = malformed env
 abbrev pub gives_up : Env → Client → Refusal → Answer
 gives_up env client r = says env (Skipping client) (replies.Failure r ∷ [])
 
--- a command of an edit that was judged so
-abbrev pub Edits : Env → RepoState → Client → Asked → EditState → EditorCommand → Option Refusal → Answer → Type 0
-Edits env c client asked edit command None a = (after : EditState) × Applies c edit command after × (a ≡ says env (Editing client asked after) [])
-Edits env c client asked edit command (Some r) a = a ≡ gives_up env client r
+-- an edit, as the machine has it
+abbrev pub MachineEdit : Type 0
+MachineEdit = OpenEdit EditState
 
-abbrev pub EditStep : Env → RepoState → Client → Asked → EditState → EditorCommand → Answer → Type 0
-EditStep env c client asked edit command a = Edits env c client asked edit command (edit_refusal c edit command) a
+-- a command of an edit that was judged so
+abbrev pub JudgedEdit : Env → RepoState → MachineEdit → EditorCommand → Option Refusal → Answer
+    → Type 0
+JudgedEdit env c edit command None a =
+    (after : EditState) × Applies c edit.editor command after
+    × (a ≡ says env (Editing (record { client = edit.client; asked = edit.asked; editor = after })) [])
+JudgedEdit env c edit command (Some r) a = a ≡ gives_up env edit.client r
+
+abbrev pub EditStep : Env → RepoState → MachineEdit → EditorCommand → Answer → Type 0
+EditStep env c edit command a = JudgedEdit env c edit command (edit_refusal c edit.editor command) a
 
 -- ---- the end of an edit
 
@@ -235,37 +260,45 @@ commit_ask client asked date = record {
 
 -- a commit that is accepted, by what the store says
 abbrev pub commit_answer : Env → RepoState → Client → Asked → TxnState → List ℕ → Verdict → Answer
-commit_answer env c client asked t date Went = record {
+commit_answer env c client asked t date Written = record {
   replies = replies.Success ∷ replies.NoLogin ∷ replies.CommitInfo (length c.revisions) date client.user ∷ [];
   phase = Serving client;
   env = env;
-  effect = record { changes = Commits (commit_ask client asked date) t ∷ []; store = Went };
+  effect = record { changes = Commits (commit_ask client asked date) t ∷ []; store = Written };
 }
-commit_answer env c client asked t date Failed = record {
+commit_answer env c client asked t date NotWritten = record {
   replies = replies.Failure refusals.StoreFailed ∷ [];
   phase = Serving client;
   env = env;
-  effect = record { changes = []; store = Failed };
+  effect = record { changes = []; store = NotWritten };
 }
-commit_answer env c client asked t date Halts = record {
+commit_answer env c client asked t date Unknown = record {
   replies = replies.Failure refusals.StoreFailed ∷ [];
   phase = Ended;
   env = env;
-  effect = record { changes = []; store = Halts };
+  effect = record { changes = []; store = Unknown };
 }
 
--- a commit of this date that was judged so: a refused one changes nothing, and once changes have come to a halt none
+-- a commit of this date that was judged so: a refused one changes nothing, and once changes have
+-- come to a halt none
 -- is made, whatever the rules say of it
-abbrev pub CommitStep : Bool → Env → RepoState → Client → Asked → TxnState → List ℕ → Option Refusal → Answer → Type 0
-CommitStep true env c client asked t date r a = a ≡ says env Ended (replies.Failure refusals.StoreFailed ∷ [])
-CommitStep false env c client asked t date (Some r) a = a ≡ says env (Serving client) (replies.Failure r ∷ [])
-CommitStep false env c client asked t date None a = (v : Verdict) × (a ≡ commit_answer env c client asked t date v)
+abbrev pub CommitStep : Bool → Env → RepoState → Client → Asked → TxnState → List ℕ → Option Refusal
+    → Answer → Type 0
+CommitStep true env c client asked t date r a =
+    a ≡ says env Ended (replies.Failure refusals.StoreFailed ∷ [])
+CommitStep false env c client asked t date (Some r) a =
+    a ≡ says env (Serving client) (replies.Failure r ∷ [])
+CommitStep false env c client asked t date None a =
+    (v : Verdict) × (a ≡ commit_answer env c client asked t date v)
 
 -- the edit's transaction is committed, if it has one: dated by the moment, and then judged
-abbrev pub CloseStep : Bool → Env → RepoState → Client → Asked → Result TxnState Refusal → Answer → Type 0
+abbrev pub CloseStep : Bool → Env → RepoState → Client → Asked → Result TxnState Refusal → Answer
+    → Type 0
 CloseStep halted env c client asked (Ok t) a = (date : List ℕ) × IsDateText env.moment date
-    × CommitStep halted env c client asked t date (commit_refusal c (commit_ask client asked date) t) a
-CloseStep halted env c client asked (Err r) a = a ≡ says env (Serving client) (replies.Failure r ∷ [])
+    × CommitStep halted env c client asked t date
+    (commit_refusal c (commit_ask client asked date) t) a
+CloseStep halted env c client asked (Err r) a =
+    a ≡ says env (Serving client) (replies.Failure r ∷ [])
 
 -- ---- a command within an edit
 
@@ -290,16 +323,22 @@ ending_of (CloseFile token checksum) = None
 ending_of CloseEdit = Some Commits
 ending_of edits.AbortEdit = Some GivesUp
 
-abbrev pub CommandStep : Bool → Env → RepoState → Client → Asked → EditState → EditorCommand → Option Ending → Answer → Type 0
-CommandStep halted env c client asked edit command None a = EditStep env c client asked edit command a
-CommandStep halted env c client asked edit command (Some Commits) a = CloseStep halted env c client asked (finished edit) a
-CommandStep halted env c client asked edit command (Some GivesUp) a = a ≡ says env (Serving client) (replies.Success ∷ [])
+abbrev pub CommandStep : Bool → Env → RepoState → MachineEdit → EditorCommand → Option Ending
+    → Answer → Type 0
+CommandStep halted env c edit command None a = EditStep env c edit command a
+CommandStep halted env c edit command (Some Commits) a =
+    CloseStep halted env c edit.client edit.asked (finished edit.editor) a
+CommandStep halted env c edit command (Some GivesUp) a =
+    a ≡ says env (Serving edit.client) (replies.Success ∷ [])
 
-abbrev pub EditingStep : Bool → Env → RepoState → Client → Asked → EditState → Result EditorCommand CommandFault → Answer → Type 0
-EditingStep halted env c client asked edit (Ok command) a = CommandStep halted env c client asked edit command (ending_of command) a
-EditingStep halted env c client asked edit (Err UnknownName) a = a ≡ gives_up env client refusals.UnknownCommand
-EditingStep halted env c client asked edit (Err BadParameters) a = a ≡ malformed env
-EditingStep halted env c client asked edit (Err NoMemory) a = a ≡ malformed env
+abbrev pub EditingStep : Bool → Env → RepoState → MachineEdit → Result EditorCommand CommandFault
+    → Answer → Type 0
+EditingStep halted env c edit (Ok command) a =
+    CommandStep halted env c edit command (ending_of command) a
+EditingStep halted env c edit (Err UnknownName) a =
+    a ≡ gives_up env edit.client refusals.UnknownCommand
+EditingStep halted env c edit (Err BadParameters) a = a ≡ malformed env
+EditingStep halted env c edit (Err NoMemory) a = a ≡ malformed env
 
 -- a command of an edit that was given up is read by its name alone, and draws no reply
 abbrev pub skipping_answer : Env → Client → Option Bool → Answer
@@ -309,18 +348,23 @@ skipping_answer env client (Some false) = says env (Skipping client) []
 
 -- ---- an input
 
--- What an input does in a state of the repository, where changes have come to a halt or not. (A relation where the
+-- What an input does in a state of the repository, where changes have come to a halt or not. (A
+-- relation where the
 -- program or the store may choose.)
 abbrev pub InputStep : Bool → Settings → Env → RepoState → Stage → Input → Answer → Type 0
 InputStep halted s env c Greeted (Whole t) a = a ≡ greeting_answer s env (client_greeting t)
-InputStep halted s env c (LoggingIn client) (Whole t) a = a ≡ login_answer env c client (auth_response t)
-InputStep halted s env c (Serving client) (Whole t) a = a ≡ command_answer s env c client (main_command t)
-InputStep halted s env c (Editing client asked edit) (Whole t) a = EditingStep halted env c client asked edit (editor_command t) a
-InputStep halted s env c (Skipping client) (Whole t) a = a ≡ skipping_answer env client (ends_edit t)
+InputStep halted s env c (LoggingIn client) (Whole t) a =
+    a ≡ login_answer env c client (auth_response t)
+InputStep halted s env c (Serving client) (Whole t) a =
+    a ≡ command_answer s env c client (main_command t)
+InputStep halted s env c (Editing edit) (Whole t) a =
+    EditingStep halted env c edit (editor_command t) a
+InputStep halted s env c (Skipping client) (Whole t) a =
+    a ≡ skipping_answer env client (ends_edit t)
 InputStep halted s env c Greeted Broken a = a ≡ malformed env
 InputStep halted s env c (LoggingIn client) Broken a = a ≡ malformed env
 InputStep halted s env c (Serving client) Broken a = a ≡ malformed env
-InputStep halted s env c (Editing client asked edit) Broken a = a ≡ malformed env
+InputStep halted s env c (Editing edit) Broken a = a ≡ malformed env
 InputStep halted s env c (Skipping client) Broken a = a ≡ malformed env
 -- what comes after the end is dropped
 InputStep halted s env c Ended input a = a ≡ says env Ended []

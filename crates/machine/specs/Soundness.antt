@@ -10,4 +10,5 @@ use Rattle.repo_api.specs.States.{RepoState, tree_of, trees_in, youngest}
 abbrev pub MeetBy : RepoState → List Accepted → Type 0
 MeetBy c [] = Unit {0}
 MeetBy c (Commits ask t ∷ es) =
-    MeetWell (trees_in c.revisions) t.base (tree_of t.tree) (youngest c) × MeetBy (committed c ask t) es
+    MeetWell (trees_in c.revisions) t.base (tree_of t.tree) (youngest c)
+    × MeetBy (committed c ask t) es

@@ -3,7 +3,8 @@ use Rattle.std.specs.Prelude.{ℕ, Bool, true, false, List}
 use Rattle.repo_api.specs.States.{RepoState}
 use Rattle.edit_rules.specs.Edits.{EditState}
 use Rattle.edit_rules.specs.Editor.{RestsOn as EditRestsOn}
-use Rattle.edit_rules.specs.Soundness.{AreSound, IsSoundEdit}
+use Rattle.repo_api.specs.Soundness.{AreSound}
+use Rattle.edit_rules.specs.Soundness.{IsSoundEdit}
 use Rattle.machine.specs.declared.phase.Phase.{Phase}
 use Rattle.machine.specs.declared.phase.Phase.TheVariants.{Greeted, LoggingIn, Serving, Editing, Skipping, Ended}
 
@@ -11,11 +12,12 @@ use Rattle.machine.specs.declared.phase.Phase.TheVariants.{Greeted, LoggingIn, S
 abbrev pub Stage : Type 0
 Stage = Phase EditState
 
-abbrev pub is_open : Stage → Bool
+-- whether the session hears what comes
+abbrev pub is_open : {E : Type 0} → Phase E → Bool
 is_open Greeted = true
 is_open (LoggingIn client) = true
 is_open (Serving client) = true
-is_open (Editing client asked edit) = true
+is_open (Editing edit) = true
 is_open (Skipping client) = true
 is_open Ended = false
 
@@ -24,7 +26,7 @@ abbrev pub EditRests : Stage → RepoState → Type 0
 EditRests Greeted c = Unit {0}
 EditRests (LoggingIn client) c = Unit {0}
 EditRests (Serving client) c = Unit {0}
-EditRests (Editing client asked edit) c = EditRestsOn edit c
+EditRests (Editing edit) c = EditRestsOn edit.editor c
 EditRests (Skipping client) c = Unit {0}
 EditRests Ended c = Unit {0}
 
@@ -33,11 +35,12 @@ abbrev pub EditIsSound : Stage → Type 0
 EditIsSound Greeted = Unit {0}
 EditIsSound (LoggingIn client) = Unit {0}
 EditIsSound (Serving client) = Unit {0}
-EditIsSound (Editing client asked edit) = IsSoundEdit edit
+EditIsSound (Editing edit) = IsSoundEdit edit.editor
 EditIsSound (Skipping client) = Unit {0}
 EditIsSound Ended = Unit {0}
 
--- what a session stands on: the repository's trees are sound, and so is the session's edit, if it has one, which has
+-- what a session stands on: the repository's trees are sound, and so is the session's edit, if it
+-- has one, which has
 -- seen revisions that begin the repository's
 pub record RestsOn (phase : Stage) (c : RepoState) : Type 0 where
   pub trees : AreSound c.revisions

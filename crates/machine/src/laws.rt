@@ -6,17 +6,17 @@ ghost use Rattle.machine.specs.Stages.{Stage, EditRests, RestsOn};
 ghost use Rattle.machine.specs.Soundness.{MeetBy};
 ghost use Rattle.machine.specs.Machine.{Answer, InputStep, content_after};
 ghost use Rattle.machine.specs.declared.env.Env.{Env};
-ghost use Rattle.machine.specs.Hearing.{Input, Comes, IsSettled, EndsBroken};
+ghost use Rattle.machine.specs.Hearing.{Input, Yields, HasNoMore, EndsBroken};
 
 /// A stream that has brought all that it does so far has brought these inputs and no others, and this is left
 /// of it; and so up to the byte that goes on to no item, where it has one. A stream that has one never comes to rest.
 pub fn one_hearing()
-    ensures settled { (stream : List ℕ) (xs ys : List Input) (rest end : List ℕ) → Comes stream xs rest
-        → Comes stream ys end → IsSettled rest → IsSettled end → (xs ≡ ys) × (rest ≡ end) }
-    ensures broken { (stream : List ℕ) (xs ys : List Input) (rest end : List ℕ) → Comes stream xs rest
-        → Comes stream ys end → EndsBroken xs → EndsBroken ys → (xs ≡ ys) × (rest ≡ end) }
-    ensures never_both { (stream : List ℕ) (xs ys : List Input) (rest end : List ℕ) → Comes stream xs rest
-        → EndsBroken xs → Comes stream ys end → IsSettled end → ⊥ }
+    ensures settled { (stream : List ℕ) (xs ys : List Input) (rest end : List ℕ) → Yields stream xs rest
+        → Yields stream ys end → HasNoMore rest → HasNoMore end → (xs ≡ ys) × (rest ≡ end) }
+    ensures broken { (stream : List ℕ) (xs ys : List Input) (rest end : List ℕ) → Yields stream xs rest
+        → Yields stream ys end → EndsBroken xs → EndsBroken ys → (xs ≡ ys) × (rest ≡ end) }
+    ensures never_both { (stream : List ℕ) (xs ys : List Input) (rest end : List ℕ) → Yields stream xs rest
+        → EndsBroken xs → Yields stream ys end → HasNoMore end → ⊥ }
 {
     items::one_reading();
     items::one_fault();

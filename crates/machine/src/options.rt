@@ -6,6 +6,9 @@ ghost use Rattle.machine.specs.Settings.{is_repository_name, has_name_length, is
 use std::alloc::{AllocError, Global};
 use std::marker::Model;
 
+/// The most bytes of a repository's name.
+pub const NAME_LIMIT: usize = 64;
+
 /// What a server is started with: the repository's name.
 #[derive(Drop)]
 pub struct Options {
@@ -25,7 +28,8 @@ impl Options {
     /// The options of a repository of this name, which `is_repository_name` accepts.
     pub fn new(alloc: Global, name: &str) -> Result<Options, AllocError>
         requires { IsTrue (is_repository_name name.now) }
-        ensures { IfOk result (λ o. o ≡ record { name = name.now; users = None; revprops = false }) }
+        ensures { IfOk result (λ o. o
+            ≡ record { name = name.now; users = None; revprops = false }) }
     {
         Ok(Options {
             name: String::from_str(alloc, name)?,
@@ -52,7 +56,7 @@ pub fn is_repository_name(name: &str) -> bool
 fn has_name_length(name: &[u8]) -> bool
     ensures { result ≡ has_name_length name.now }
 {
-    0 < name.len() && name.len() <= 64
+    0 < name.len() && name.len() <= NAME_LIMIT
 }
 
 fn are_name_bytes(name: &[u8]) -> bool

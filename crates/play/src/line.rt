@@ -1,5 +1,6 @@
 //! The lines of a script.
-ghost use Rattle.std.specs.Prelude.{◌≤◌, IfOk};
+ghost use Rattle.std.specs.Prelude.{◌≤◌};
+ghost use Rattle.dates.specs.declared.TheConstants.{LAST_MOMENT};
 
 use crate::fault::LineFault;
 use crate::words::{parse_bytes, parse_moment, parse_number, parse_uuid, parse_wide_number};
@@ -13,7 +14,7 @@ pub struct NewHub {
     pub options: Options,
     pub uuid: u128,
     pub moment: u64,
-    ghost timely: { moment ≤ 200000000000000000 },
+    ghost dated: { moment ≤ LAST_MOMENT },
 }
 
 /// A piece for a session.
@@ -22,7 +23,6 @@ pub struct Piece {
     pub session: SessionId,
     pub bytes: Vec<u8>,
     pub env: Env,
-    ghost timely: { env.moment ≤ 200000000000000000 },
 }
 
 /// A line of a script.
@@ -81,9 +81,7 @@ fn parse_session(word: &str) -> Result<SessionId, LineFault> {
 }
 
 /// What a call hands in from outside.
-fn parse_env(moment: &str, token: &str, nonce: &str) -> Result<Env, LineFault>
-    ensures { IfOk result (λ env. env.moment ≤ 200000000000000000) }
-{
+fn parse_env(moment: &str, token: &str, nonce: &str) -> Result<Env, LineFault> {
     let moment = parse_moment(moment).ok_or(LineFault::Unknown)?;
     let token = parse_wide_number(token).ok_or(LineFault::Unknown)?;
     let nonce = parse_number(nonce).ok_or(LineFault::Unknown)?;

@@ -2,23 +2,24 @@
 ghost use Rattle.std.specs.Prelude.{◌≡◌, ℕ, List, IfOk};
 ghost use Rattle.dates.specs.Dates.{IsDateText};
 ghost use Rattle.hub.specs.Laws.{new_hub};
-ghost use Rattle.hub.specs.Calls.{CallStep, IsTimely};
+ghost use Rattle.hub.specs.Calls.{CallStep};
 ghost use Rattle.hub.specs.declared.calls.Outcome.{Outcome};
 
 use crate::answer::answer_line;
 use crate::fault::LineFault;
 use crate::line::{Line, NewHub, Piece};
+use access::{SoleAccess, SoleRepository};
 use flatrepo::FlatRepo;
-use hub::{Call, Direct, Hub, SessionId, make_call};
-use machine::SoleAccess;
+use hub::{Call, Hub, SessionId, make_call};
 use std::alloc::{AllocError, Global};
 
 /// A hub over a repository in memory.
-type MemoryHub = Hub<Direct<FlatRepo>>;
+type MemoryHub = Hub<SoleRepository<FlatRepo>>;
 
 /// A hub without sessions over an empty repository.
 fn make_hub(alloc: Global, asked: NewHub) -> Result<MemoryHub, LineFault>
-    ensures { IfOk result (λ hub. (date : List ℕ) × IsDateText asked.moment date × (hub ≡ new_hub asked.options asked.uuid date)) }
+    ensures { IfOk result (λ hub. (date : List ℕ) × IsDateText asked.moment date
+        × (hub ≡ new_hub asked.options asked.uuid date)) }
 {
     let repository = FlatRepo::new(alloc, asked.uuid, asked.moment)?;
     match Hub::over_new(alloc, repository, asked.options) {
@@ -33,7 +34,6 @@ fn answer_call<A: SoleAccess>(
     hub: &mut Hub<A>,
     call: &Call,
 ) -> Result<String, AllocError>
-    requires { IsTimely call.now }
     ensures { (outcome : Outcome) × CallStep hub.old call.now outcome hub.new }
 {
     let outcome = make_call(hub, call);
@@ -76,9 +76,7 @@ impl Player {
     }
 
     /// Makes a call.
-    fn call(&mut self, call: &Call) -> Result<Option<String>, LineFault>
-        requires { IsTimely call.now }
-    {
+    fn call(&mut self, call: &Call) -> Result<Option<String>, LineFault> {
         match &mut self.hub {
             Some(hub) => Ok(Some(answer_call(self.alloc, hub, call)?)),
             None => Err(LineFault::NoHub),

@@ -1,13 +1,12 @@
 //! The words of a line.
 ghost use Rattle.std.specs.Prelude.{◌≤◌, IfSome};
+ghost use Rattle.dates.specs.declared.TheConstants.{LAST_MOMENT};
 
 use crate::fault::LineFault;
+use dates::LAST_MOMENT;
 use hex::FromHexError;
 use std::alloc::Global;
 use uuid::Uuid;
-
-/// The last moment that has a date, in microseconds since the beginning of 1970.
-const LAST_MOMENT: u64 = 200_000_000_000_000_000;
 
 fn is_decimal(word: &str) -> bool {
     word.bytes().all(|b| b.is_ascii_digit())
@@ -36,7 +35,7 @@ pub fn parse_wide_number(word: &str) -> Option<u128> {
 
 /// A moment that has a date.
 pub fn parse_moment(word: &str) -> Option<u64>
-    ensures { IfSome result (λ moment. moment ≤ 200000000000000000) }
+    ensures { IfSome result (λ moment. moment ≤ LAST_MOMENT) }
 {
     let moment = parse_number(word)?;
     if LAST_MOMENT < moment {

@@ -4,7 +4,7 @@
 mod refusing;
 
 ghost use Rattle.std.specs.Prelude.{◌≡◌};
-ghost use Rattle.refusals.specs.Table.{number_of, text_of};
+ghost use Rattle.refusals.specs.Table.{refusal_number, refusal_text};
 
 pub use refusing::path_refusal;
 
@@ -66,7 +66,7 @@ pub enum Refusal {
 impl Refusal {
     /// The number that the client is told, as Subversion numbers its errors.
     pub fn number(self) -> u64
-        ensures { result ≡ number_of self }
+        ensures { result ≡ refusal_number self }
     {
         match self {
             Refusal::StoreFailed => 160000,
@@ -99,7 +99,7 @@ impl Refusal {
 
     /// The text that the client is told, in ASCII.
     pub fn text(self) -> &'static [u8]
-        ensures { result.now ≡ text_of self }
+        ensures { result.now ≡ refusal_text self }
     {
         match self {
             Refusal::StoreFailed => b"store failed",

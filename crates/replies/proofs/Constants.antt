@@ -3,18 +3,18 @@ use Rattle.std.specs.Prelude.{Result, Ok, Err, is_ok, OnOk, if◌then◌else◌}
 use Rattle.std.proofs.Common.{◌≡◌, ℕ, List, ◌++◌, ◌∙◌, ap, sym, codes, refl}
 use Rattle.std.specs.Fmt.{digits}
 use Rattle.items.specs.Print.{printed}
-use Rattle.replies.specs.Replies.{reply_tree}
+use Rattle.replies.specs.Replies.{reply_item}
 use Rattle.replies.specs.declared.reply.Reply.TheVariants.{Greeting, NoLogin, MechanismNotOffered}
 
-pub printed-greeting : printed (reply_tree Greeting) ≡ codes "( success ( 2 2 ( ) ( edit-pipeline absent-entries commit-revprops ) ) ) "
+pub printed-greeting : printed (reply_item Greeting) ≡ codes "( success ( 2 2 ( ) ( edit-pipeline absent-entries commit-revprops ) ) ) "
 unfolding digits
 printed-greeting = refl
 
-pub printed-no_login : printed (reply_tree NoLogin) ≡ codes "( success ( ( ) 0: ) ) "
+pub printed-no_login : printed (reply_item NoLogin) ≡ codes "( success ( ( ) 0: ) ) "
 unfolding digits
 printed-no_login = refl
 
-pub printed-not_offered : printed (reply_tree MechanismNotOffered) ≡ codes "( failure ( 21:mechanism not offered ) ) "
+pub printed-not_offered : printed (reply_item MechanismNotOffered) ≡ codes "( failure ( 21:mechanism not offered ) ) "
 unfolding digits
 printed-not_offered = refl
 

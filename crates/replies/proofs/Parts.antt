@@ -2,13 +2,13 @@
 use Rattle.std.proofs.Common.{◌≡◌, ℕ, List, [], ◌∷◌, ◌++◌, refl, sym, ap, subst, ◌∙◌, append-nil, append_assoc}
 use Rattle.items.specs.Print.{printed}
 use Rattle.std.specs.Prelude.{Result, Ok, Err, OnOk, OnErr}
-use Rattle.replies.specs.Replies.{reply_tree, print}
+use Rattle.replies.specs.Replies.{reply_item, print}
 use Rattle.replies.specs.Sinks.{WritesPart}
 use Rattle.replies.specs.declared.reply.Reply.{Reply}
 
 pub print-append : (xs ys : List Reply) → print (xs ++ ys) ≡ print xs ++ print ys
 print-append [] ys = refl
-print-append (x ∷ xs) ys = ap (λ t. printed (reply_tree x) ++ t) (print-append xs ys) ∙ sym (append_assoc (printed (reply_tree x)) (print xs) (print ys))
+print-append (x ∷ xs) ys = ap (λ t. printed (reply_item x) ++ t) (print-append xs ys) ∙ sym (append_assoc (printed (reply_item x)) (print xs) (print ys))
 
 -- what is known of a failure
 pub if_failed : {T E : Type 0} (r : Result T E) (P Q : Type 0) → (P → Q) → OnErr r P → OnErr r Q

@@ -1,12 +1,12 @@
 -- The items of properties.
 use Rattle.std.proofs.Common.{◌≡◌, ℕ, List, [], ◌∷◌, map, ap, refl}
 use Rattle.repo_api.specs.Properties.{PropertyList}
-use Rattle.items.specs.Tree.{Tree, string, list, more}
+use Rattle.items.specs.Values.{ItemValue, string, list, more}
 use Rattle.items.specs.View.{row_of}
 use Rattle.replies.specs.Replies.{both, property_trees}
 
 -- `( name value )`
-abbrev pub property_tree : List ℕ × List ℕ → Tree
+abbrev pub property_tree : List ℕ × List ℕ → ItemValue
 property_tree p = list (both (string p.0) (string p.1))
 
 pub row_of-properties : (ps : PropertyList) → row_of (map property_tree ps) ≡ property_trees ps

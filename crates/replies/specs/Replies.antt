@@ -4,8 +4,8 @@ use Rattle.std.specs.Int.{to_be_bytes, w128}
 use Rattle.std.specs.List.{flat_map}
 use Rattle.uuid.specs.Text.{hyphenated_text, lower}
 use Rattle.items.specs.Print.{printed}
-use Rattle.items.specs.Tree.{Tree, word, number, string, list, Trees, none, more}
-use Rattle.refusals.specs.Table.{number_of, text_of}
+use Rattle.items.specs.Values.{ItemValue, word, number, string, list, ItemValues, none, more}
+use Rattle.refusals.specs.Table.{refusal_number, refusal_text}
 use Rattle.repo_api.specs.Properties.{PropertyList}
 use Rattle.repo_api.specs.declared.entry.NodeKind.{NodeKind}
 use Rattle.repo_api.specs.declared.entry.NodeKind.TheVariants as kinds
@@ -17,19 +17,19 @@ abbrev pub uuid_text : ℕ → List ℕ
 uuid_text n = hyphenated_text lower (to_be_bytes w128 n)
 
 -- a list of one item
-abbrev pub only : Tree → Trees
+abbrev pub only : ItemValue → ItemValues
 only t = more t none
 
 -- a list of two items
-abbrev pub both : Tree → Tree → Trees
+abbrev pub both : ItemValue → ItemValue → ItemValues
 both t u = more t (only u)
 
 -- `( success ( params ) )`
-abbrev pub success : Trees → Tree
+abbrev pub success : ItemValues → ItemValue
 success params = list (both (word (codes "success")) (list params))
 
 -- `( failure ( params ) )`
-abbrev pub failure : Trees → Tree
+abbrev pub failure : ItemValues → ItemValue
 failure params = list (both (word (codes "failure")) (list params))
 
 -- the word of a kind
@@ -39,38 +39,45 @@ kind_word kinds.File = codes "file"
 kind_word kinds.Directory = codes "dir"
 
 -- `( name value ) ...`
-abbrev pub property_trees : PropertyList → Trees
+abbrev pub property_trees : PropertyList → ItemValues
 property_trees [] = none
 property_trees (p ∷ ps) = more (list (both (string p.0) (string p.1))) (property_trees ps)
 
 -- `[ string ]`
-abbrev pub optional_string_trees : Option (List ℕ) → Trees
+abbrev pub optional_string_trees : Option (List ℕ) → ItemValues
 optional_string_trees None = none
 optional_string_trees (Some s) = only (string s)
 
 -- `( rev [ date ] [ author ] [ post-commit-err ] )`: what a client is told of its commit
-abbrev pub commit_info : ℕ → List ℕ → Option (List ℕ) → Tree
+abbrev pub commit_info : ℕ → List ℕ → Option (List ℕ) → ItemValue
 commit_info revision date author =
-    list (more (number revision) (more (list (only (string date))) (both (list (optional_string_trees author)) (list none))))
+    list (more (number revision) (more (list (only (string date)))
+    (both (list (optional_string_trees author)) (list none))))
 
 -- what the server can do
-abbrev pub capabilities : Trees
-capabilities = more (word (codes "edit-pipeline")) (both (word (codes "absent-entries")) (word (codes "commit-revprops")))
+abbrev pub capabilities : ItemValues
+capabilities =
+    more (word (codes "edit-pipeline"))
+    (both (word (codes "absent-entries")) (word (codes "commit-revprops")))
 
 -- the item of each reply
-abbrev pub reply_tree : Reply → Tree
-reply_tree Greeting = success (more (number 2) (more (number 2) (both (list none) (list capabilities))))
-reply_tree NoLogin = success (both (list none) (string []))
-reply_tree (Login realm) = success (both (list (only (word (codes "ANONYMOUS")))) (string realm))
-reply_tree MechanismNotOffered = failure (only (string (codes "mechanism not offered")))
-reply_tree Success = success none
-reply_tree (ReposInfo uuid root) = success (more (string (uuid_text uuid)) (both (string root) (list none)))
-reply_tree (Revision n) = success (only (number n))
-reply_tree (Kind kind) = success (only (word (kind_word kind)))
-reply_tree (Properties ps) = success (only (list (property_trees ps)))
-reply_tree (CommitInfo revision date author) = commit_info revision date author
-reply_tree (Failure refusal) = failure (only (list (more (number (number_of refusal)) (more (string (text_of refusal)) (both (string []) (number 0))))))
+abbrev pub reply_item : Reply → ItemValue
+reply_item Greeting =
+    success (more (number 2) (more (number 2) (both (list none) (list capabilities))))
+reply_item NoLogin = success (both (list none) (string []))
+reply_item (Login realm) = success (both (list (only (word (codes "ANONYMOUS")))) (string realm))
+reply_item MechanismNotOffered = failure (only (string (codes "mechanism not offered")))
+reply_item Success = success none
+reply_item (ReposInfo uuid root) =
+    success (more (string (uuid_text uuid)) (both (string root) (list none)))
+reply_item (Revision n) = success (only (number n))
+reply_item (Kind kind) = success (only (word (kind_word kind)))
+reply_item (Properties ps) = success (only (list (property_trees ps)))
+reply_item (CommitInfo revision date author) = commit_info revision date author
+reply_item (Failure refusal) =
+    failure (only (list (more (number (refusal_number refusal))
+    (more (string (refusal_text refusal)) (both (string []) (number 0))))))
 
 -- the bytes of replies
 abbrev pub print : List Reply → List ℕ
-print rs = flat_map (λ r. printed (reply_tree r)) rs
+print rs = flat_map (λ r. printed (reply_item r)) rs

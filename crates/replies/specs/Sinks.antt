@@ -14,5 +14,7 @@ pub record WritesPart (writes : List ℕ → Type 0) (bytes : List ℕ) : Type 0
 pub appends_nothing : (s : List ℕ) → s ≡ s ++ []
 appends_nothing s = sym (append-nil s)
 
-pub appends_more : (s t u first second : List ℕ) → t ≡ s ++ first → u ≡ t ++ second → u ≡ s ++ (first ++ second)
-appends_more s t u first second x y = y ∙ ap (λ (z : List ℕ). z ++ second) x ∙ append_assoc s first second
+pub appends_more : (s t u first second : List ℕ) → t ≡ s ++ first → u ≡ t ++ second
+    → u ≡ s ++ (first ++ second)
+appends_more s t u first second x y =
+    y ∙ ap (λ (z : List ℕ). z ++ second) x ∙ append_assoc s first second

@@ -1,12 +1,13 @@
 //! Replies, as items and as bytes.
 ghost use Rattle.std.specs.Prelude.{◌≡◌, ◌++◌, IfOk, OnOk, OnErr, codes};
-ghost use Rattle.items.specs.View.{tree_of, trees_of};
-ghost use Rattle.items.specs.Tree.{word, string, list, none, more};
+ghost use Rattle.items.specs.View.{value_of, values_of};
+ghost use Rattle.items.specs.Values.{word, string, list, none, more};
 ghost use Rattle.items.specs.Print.{printed, Grows};
-ghost use Rattle.replies.specs.Replies.{reply_tree, success, failure, only, both, property_trees, capabilities, uuid_text, commit_info, optional_string_trees};
+ghost use Rattle.replies.specs.Replies.{reply_item, success, failure, only, both, property_trees, capabilities, uuid_text, commit_info, optional_string_trees};
 
 use crate::build::{list_item, number_item, string_item, word_item};
-use items::{Item, Text, write_item};
+use byte_string::ByteString;
+use items::{Item, write_item};
 use refusals::Refusal;
 use repo_api::{NodeKind, Properties};
 use std::alloc::{AllocError, Global};
@@ -20,13 +21,13 @@ pub enum Reply {
     /// No login is wanted.
     NoLogin,
     /// A login by `ANONYMOUS` is wanted, to this realm.
-    Login(Text),
+    Login(ByteString),
     /// The mechanism is none of those that were offered.
     MechanismNotOffered,
     /// It is done.
     Success,
     /// The repository's name among all repositories, and the URL of its root.
-    ReposInfo(u128, Text),
+    ReposInfo(u128, ByteString),
     /// The number of a revision.
     Revision(u64),
     /// What stands at a path.
@@ -34,45 +35,15 @@ pub enum Reply {
     /// The properties of a revision.
     Properties(Properties),
     /// The number of the revision that a commit has made, its date, and its author if it has one.
-    CommitInfo(u64, Text, Option<Text>),
+    CommitInfo(u64, ByteString, Option<ByteString>),
     /// The command is refused.
     Failure(Refusal),
 }
 
 impl Reply {
-    /// The item that the reply is sent as.
-    pub fn to_item(&self, alloc: Global) -> Result<Item, AllocError>
-        ensures { IfOk result (λ item. tree_of item ≡ reply_tree self.now) }
-    {
-        match self {
-            Reply::Greeting => greeting_item(alloc),
-            Reply::NoLogin => no_login_item(alloc),
-            Reply::Login(realm) => login_item(alloc, realm.as_bytes()),
-            Reply::MechanismNotOffered => failure_item(
-                alloc,
-                string_item(alloc, b"mechanism not offered")?,
-            ),
-            Reply::Success => success_item(alloc, []),
-            Reply::ReposInfo(uuid, root) => repos_info_item(alloc, *uuid, root.as_bytes()),
-            Reply::Revision(n) => success_item(alloc, [number_item(*n)]),
-            Reply::Kind(kind) => kind_item(alloc, *kind),
-            Reply::Properties(properties) => success_item(
-                alloc,
-                [properties_item(alloc, properties)?],
-            ),
-            Reply::CommitInfo(revision, date, author) => commit_info_item(
-                alloc,
-                *revision,
-                date.as_bytes(),
-                author,
-            ),
-            Reply::Failure(refusal) => refusal_item(alloc, *refusal),
-        }
-    }
-
     /// Writes the reply at the end. An `Err` changes nothing.
     pub fn write(&self, alloc: Global, out: &mut Vec<u8>) -> Result<(), AllocError>
-        ensures ok { OnOk result (out.new.items ≡ out.old.items ++ printed (reply_tree self.now)) }
+        ensures ok { OnOk result (out.new.items ≡ out.old.items ++ printed (reply_item self.now)) }
         ensures err { OnErr result (out.new.items ≡ out.old.items) }
     {
         match self {
@@ -80,24 +51,34 @@ impl Reply {
                 b"( success ( 2 2 ( ) ( edit-pipeline absent-entries commit-revprops ) ) ) ",
             ),
             Reply::NoLogin => out.extend_from_slice(b"( success ( ( ) 0: ) ) "),
+            Reply::Login(realm) => write_item(&login_item(alloc, realm.as_slice())?, out),
             Reply::MechanismNotOffered => out.extend_from_slice(
                 b"( failure ( 21:mechanism not offered ) ) ",
             ),
             Reply::Success => out.extend_from_slice(b"( success ( ) ) "),
+            Reply::ReposInfo(uuid, root) => write_item(
+                &repos_info_item(alloc, *uuid, root.as_slice())?,
+                out,
+            ),
             Reply::Revision(n) => write_revision(*n, out),
             Reply::Kind(kind) => write_kind(*kind, out),
-            Reply::Login(_)
-            | Reply::ReposInfo(..)
-            | Reply::Properties(_)
-            | Reply::CommitInfo(..)
-            | Reply::Failure(_) => write_item(&self.to_item(alloc)?, out),
+            Reply::Properties(properties) => write_item(
+                &success_item(alloc, [properties_item(alloc, properties)?])?,
+                out,
+            ),
+            Reply::CommitInfo(revision, date, author) => write_item(
+                &commit_info_item(alloc, *revision, date.as_slice(), author)?,
+                out,
+            ),
+            Reply::Failure(refusal) => write_item(&refusal_item(alloc, *refusal)?, out),
         }
     }
 }
 
 /// Writes the number of a revision at the end. An `Err` changes nothing.
 fn write_revision(n: u64, out: &mut Vec<u8>) -> Result<(), AllocError>
-    ensures ok { OnOk result (out.new.items ≡ out.old.items ++ printed (reply_tree (Reply.Revision n))) }
+    ensures ok { OnOk result (out.new.items ≡ out.old.items
+        ++ printed (reply_item (Reply.Revision n))) }
     ensures err { OnErr result (out.new.items ≡ out.old.items) }
 {
     let len = out.len();
@@ -110,7 +91,8 @@ fn write_revision(n: u64, out: &mut Vec<u8>) -> Result<(), AllocError>
 
 // An `Err` leaves a part of the bytes behind the old ones.
 fn append_revision(n: u64, out: &mut Vec<u8>) -> Result<(), AllocError>
-    ensures ok { OnOk result (out.new.items ≡ out.old.items ++ printed (reply_tree (Reply.Revision n))) }
+    ensures ok { OnOk result (out.new.items ≡ out.old.items
+        ++ printed (reply_item (Reply.Revision n))) }
     ensures grows { Grows out.old.items out.new.items }
 {
     let mut buffer = itoa::Buffer::new();
@@ -121,7 +103,8 @@ fn append_revision(n: u64, out: &mut Vec<u8>) -> Result<(), AllocError>
 
 /// Writes what stands at a path at the end. An `Err` changes nothing.
 fn write_kind(kind: NodeKind, out: &mut Vec<u8>) -> Result<(), AllocError>
-    ensures ok { OnOk result (out.new.items ≡ out.old.items ++ printed (reply_tree (Reply.Kind kind))) }
+    ensures ok { OnOk result (out.new.items ≡ out.old.items
+        ++ printed (reply_item (Reply.Kind kind))) }
     ensures err { OnErr result (out.new.items ≡ out.old.items) }
 {
     match kind {
@@ -133,7 +116,7 @@ fn write_kind(kind: NodeKind, out: &mut Vec<u8>) -> Result<(), AllocError>
 
 /// `( success ( params ) )`
 fn success_item<const N: usize>(alloc: Global, params: [Item; N]) -> Result<Item, AllocError>
-    ensures { IfOk result (λ item. tree_of item ≡ success (trees_of params.entry)) }
+    ensures { IfOk result (λ item. value_of item ≡ success (values_of params.entry)) }
 {
     let word = word_item(alloc, b"success")?;
     let params = list_item(alloc, params)?;
@@ -142,44 +125,16 @@ fn success_item<const N: usize>(alloc: Global, params: [Item; N]) -> Result<Item
 
 /// `( failure ( param ) )`
 fn failure_item(alloc: Global, param: Item) -> Result<Item, AllocError>
-    ensures { IfOk result (λ item. tree_of item ≡ failure (only (tree_of param))) }
+    ensures { IfOk result (λ item. value_of item ≡ failure (only (value_of param))) }
 {
     let word = word_item(alloc, b"failure")?;
     let params = list_item(alloc, [param])?;
     list_item(alloc, [word, params])
 }
 
-fn greeting_item(alloc: Global) -> Result<Item, AllocError>
-    ensures { IfOk result (λ item. tree_of item ≡ reply_tree Reply.Greeting) }
-{
-    let mechanisms = list_item(alloc, [])?;
-    let capabilities = capabilities_item(alloc)?;
-    success_item(
-        alloc,
-        [number_item(2), number_item(2), mechanisms, capabilities],
-    )
-}
-
-/// What the server can do.
-fn capabilities_item(alloc: Global) -> Result<Item, AllocError>
-    ensures { IfOk result (λ item. tree_of item ≡ list capabilities) }
-{
-    let pipeline = word_item(alloc, b"edit-pipeline")?;
-    let absent = word_item(alloc, b"absent-entries")?;
-    let properties = word_item(alloc, b"commit-revprops")?;
-    list_item(alloc, [pipeline, absent, properties])
-}
-
-fn no_login_item(alloc: Global) -> Result<Item, AllocError>
-    ensures { IfOk result (λ item. tree_of item ≡ reply_tree Reply.NoLogin) }
-{
-    let mechanisms = list_item(alloc, [])?;
-    let realm = string_item(alloc, b"")?;
-    success_item(alloc, [mechanisms, realm])
-}
-
 fn login_item(alloc: Global, realm: &[u8]) -> Result<Item, AllocError>
-    ensures { IfOk result (λ item. tree_of item ≡ success (both (list (only (word (codes "ANONYMOUS")))) (string realm.now))) }
+    ensures { IfOk result (λ item. value_of item
+        ≡ success (both (list (only (word (codes "ANONYMOUS")))) (string realm.now))) }
 {
     let mechanism = word_item(alloc, b"ANONYMOUS")?;
     let mechanisms = list_item(alloc, [mechanism])?;
@@ -188,7 +143,8 @@ fn login_item(alloc: Global, realm: &[u8]) -> Result<Item, AllocError>
 }
 
 fn repos_info_item(alloc: Global, uuid: u128, root: &[u8]) -> Result<Item, AllocError>
-    ensures { IfOk result (λ item. tree_of item ≡ success (more (string (uuid_text uuid)) (both (string root.now) (list none)))) }
+    ensures { IfOk result (λ item. value_of item
+        ≡ success (more (string (uuid_text uuid)) (both (string root.now) (list none)))) }
 {
     let uuid = uuid_item(alloc, uuid)?;
     let root = string_item(alloc, root)?;
@@ -197,27 +153,16 @@ fn repos_info_item(alloc: Global, uuid: u128, root: &[u8]) -> Result<Item, Alloc
 }
 
 fn uuid_item(alloc: Global, uuid: u128) -> Result<Item, AllocError>
-    ensures { IfOk result (λ item. tree_of item ≡ string (uuid_text uuid)) }
+    ensures { IfOk result (λ item. value_of item ≡ string (uuid_text uuid)) }
 {
     let mut buffer = Uuid::encode_buffer();
     let text = Uuid::from_u128(uuid).hyphenated().encode_lower(&mut buffer);
     string_item(alloc, text.as_bytes())
 }
 
-fn kind_item(alloc: Global, kind: NodeKind) -> Result<Item, AllocError>
-    ensures { IfOk result (λ item. tree_of item ≡ reply_tree (Reply.Kind kind)) }
-{
-    let word = match kind {
-        NodeKind::Absent => word_item(alloc, b"none")?,
-        NodeKind::File => word_item(alloc, b"file")?,
-        NodeKind::Directory => word_item(alloc, b"dir")?,
-    };
-    success_item(alloc, [word])
-}
-
 /// `( ( name value ) ... )`
 fn properties_item(alloc: Global, properties: &Properties) -> Result<Item, AllocError>
-    ensures { IfOk result (λ item. tree_of item ≡ list (property_trees properties.now)) }
+    ensures { IfOk result (λ item. value_of item ≡ list (property_trees properties.now)) }
 {
     let mut items = Vec::new(alloc);
     for (name, value) in properties.iter() {
@@ -234,9 +179,9 @@ fn commit_info_item(
     alloc: Global,
     revision: u64,
     date: &[u8],
-    author: &Option<Text>,
+    author: &Option<ByteString>,
 ) -> Result<Item, AllocError>
-    ensures { IfOk result (λ item. tree_of item ≡ commit_info revision date.now author.now) }
+    ensures { IfOk result (λ item. value_of item ≡ commit_info revision date.now author.now) }
 {
     let date = string_item(alloc, date)?;
     let date = list_item(alloc, [date])?;
@@ -246,17 +191,17 @@ fn commit_info_item(
 }
 
 /// `[ string ]`
-fn optional_string_item(alloc: Global, text: &Option<Text>) -> Result<Item, AllocError>
-    ensures { IfOk result (λ item. tree_of item ≡ list (optional_string_trees text.now)) }
+fn optional_string_item(alloc: Global, text: &Option<ByteString>) -> Result<Item, AllocError>
+    ensures { IfOk result (λ item. value_of item ≡ list (optional_string_trees text.now)) }
 {
     match text {
-        Some(text) => list_item(alloc, [string_item(alloc, text.as_bytes())?]),
+        Some(text) => list_item(alloc, [string_item(alloc, text.as_slice())?]),
         None => list_item(alloc, []),
     }
 }
 
 fn refusal_item(alloc: Global, refusal: Refusal) -> Result<Item, AllocError>
-    ensures { IfOk result (λ item. tree_of item ≡ reply_tree (Reply.Failure refusal)) }
+    ensures { IfOk result (λ item. value_of item ≡ reply_item (Reply.Failure refusal)) }
 {
     let text = string_item(alloc, refusal.text())?;
     let place = string_item(alloc, b"")?;

@@ -7,7 +7,7 @@ use Rattle.std.specs.Prelude.{if◌then◌else◌, IsSome, Contains}
 use Rattle.svnpath.specs.Paths.{PathValue, Component, is_at_or_under}
 use Rattle.svnpath.specs.PathLaws.{under_is, under_append, rest_append}
 use Rattle.repo_api.specs.Trees.{Tree, IsTree, HasDirectory}
-use Rattle.repo_api.specs.Edits.{opened, touched_above, grafted, deleted, copy_of, copied}
+use Rattle.repo_api.specs.Edits.{with_open_mark, touched_above, grafted, deleted, copy_of, copied}
 use Rattle.repo_api.proofs.Keeping.{IsDirectoryAt, renewed_directory, some_renewed, touched_directory, some_touched, root_outside, parent_outside, same_parent, deleted_tree}
 use Rattle.repo_api.proofs.Under.{not_true, under_by, head_or, tail_of}
 
@@ -106,11 +106,11 @@ contains_mapped f ps p there = (there.0, subst (λ (n : ℕ). there.0 < n) (sym 
 -- ---- what is copied
 
 copy_parents : (source : Tree) (from d : PathValue) (e : Component) → IsTree source → IsSome (copy_of source from (d ++ e ∷ [])) → IsDirectoryAt (copy_of source from d)
-copy_parents source from [] e is some = renewed_directory opened (λ x. refl) (source from) (is.parents from e some)
+copy_parents source from [] e is some = renewed_directory with_open_mark (λ x. refl) (source from) (is.parents from e some)
 copy_parents source from (c ∷ d) e is some = is.parents (from ++ c ∷ d) e (subst IsSome (ap source (sym (append_assoc from (c ∷ d) (e ∷ [])))) some)
 
 copy_some : (source : Tree) (from d : PathValue) → IsSome (copy_of source from d) → IsSome (source (from ++ d))
-copy_some source from [] some = subst IsSome (ap source (sym (append-nil from))) (some_renewed opened (source from) some)
+copy_some source from [] some = subst IsSome (ap source (sym (append-nil from))) (some_renewed with_open_mark (source from) some)
 copy_some source from (c ∷ d) some = some
 
 pub copied_tree : (source : Tree) (from : PathValue) (t : Tree) (p : PathValue) (c : Component) → IsTree source → IsTree t → HasDirectory t p → IsTree (copied source from t (p ++ c ∷ []))

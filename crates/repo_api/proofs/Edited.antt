@@ -5,7 +5,7 @@ use Rattle.std.specs.Prelude.{if◌then◌else◌, IsSome, not}
 use Rattle.svnpath.specs.Paths.{PathValue, same_path, is_at_or_under}
 use Rattle.svnpath.specs.PathLaws.{under_is, under_append, rest_append}
 use Rattle.repo_api.specs.Trees.{Tree, is_open}
-use Rattle.repo_api.specs.Edits.{touched, opened, touched_above, new_entry, added, revised, grafted, deleted, copy_of, copied, begun}
+use Rattle.repo_api.specs.Edits.{touched, with_open_mark, touched_above, new_entry, added, revised, grafted, deleted, copy_of, copied, begun}
 use Rattle.repo_api.specs.Merge.{is_changed, has_open_last}
 use Rattle.repo_api.specs.Marks.{shown, own_of, last_of, has_open_own, MarksName, IsClosed, IsTransactionOf}
 use Rattle.repo_api.specs.declared.entry.Entry.{Entry}
@@ -179,13 +179,13 @@ pub added_transaction : (trees : ℕ → Tree) (base t : Tree) (p : PathValue) (
 added_transaction trees base t p content is = renewed_transaction trees base t p (λ _. Some (new_entry content)) (λ _. (refl, refl)) (λ _ some. refl) is
 
 pub revised_transaction : (trees : ℕ → Tree) (base t : Tree) (p : PathValue) (f : Entry → Entry) → IsTransactionOf trees base t → IsTransactionOf trees base (revised t p f)
-revised_transaction trees base t p f is = renewed_transaction trees base t p (option_map (λ e. opened (f e))) new keeps is
+revised_transaction trees base t p f is = renewed_transaction trees base t p (option_map (λ e. with_open_mark (f e))) new keeps is
   where
-    new : (o : Option Entry) → IsNew (option_map (λ e. opened (f e)) o)
+    new : (o : Option Entry) → IsNew (option_map (λ e. with_open_mark (f e)) o)
     new None = tt
     new (Some e) = (refl, refl)
 
-    keeps : (o : Option Entry) → IsSome o → IsSome (option_map (λ e. opened (f e)) o)
+    keeps : (o : Option Entry) → IsSome o → IsSome (option_map (λ e. with_open_mark (f e)) o)
     keeps None some = some
     keeps (Some e) some = refl
 
@@ -273,28 +273,28 @@ deleted_transaction trees base t p is =
 
 -- ---- a copy
 
-opened_is_new : (o : Option Entry) → IsNew (option_map opened o)
+opened_is_new : (o : Option Entry) → IsNew (option_map with_open_mark o)
 opened_is_new None = tt
 opened_is_new (Some e) = (refl, refl)
 
-opened_some : (o : Option Entry) → IsSome o → IsSome (option_map opened o)
+opened_some : (o : Option Entry) → IsSome o → IsSome (option_map with_open_mark o)
 opened_some None some = some
 opened_some (Some e) some = refl
 
 module _ (trees : ℕ → Tree) (source : Tree) (from : PathValue) (named : MarksName trees source) (closed : IsClosed source) where
   copy_last : (d : PathValue) (n : ℕ) (at : PathValue) → last_of (copy_of source from d) ≡ Some (Made n at) → (rest : PathValue) → copy_of source from (d ++ rest) ≡ trees n (at ++ rest)
-  copy_last [] n at l rest = absurd (new_last (option_map opened (source from)) n at (opened_is_new (source from)) l)
+  copy_last [] n at l rest = absurd (new_last (option_map with_open_mark (source from)) n at (opened_is_new (source from)) l)
   copy_last (c ∷ d) n at l rest = ap source (sym (append_assoc from (c ∷ d) rest)) ∙ named.by_last (from ++ c ∷ d) n at l rest
 
   copy_own : (d : PathValue) (n : ℕ) (at : PathValue) → own_of (copy_of source from d) ≡ Some (Made n at) → shown (copy_of source from d) ≡ shown (trees n at)
-  copy_own [] n at o = absurd (new_own (option_map opened (source from)) n at (opened_is_new (source from)) o)
+  copy_own [] n at o = absurd (new_own (option_map with_open_mark (source from)) n at (opened_is_new (source from)) o)
   copy_own (c ∷ d) n at o = named.by_own (from ++ c ∷ d) n at o
 
   copy_opens : (d : PathValue) → has_open_own (copy_of source from d) ≡ true → has_open_last (copy_of source from d) ≡ true
-  copy_opens [] = new_opens (option_map opened (source from)) (opened_is_new (source from))
+  copy_opens [] = new_opens (option_map with_open_mark (source from)) (opened_is_new (source from))
   copy_opens (c ∷ d) = λ h. absurd (false≢true (sym (closed (from ++ c ∷ d)).0 ∙ h))
 
   pub copied_transaction : (base t : Tree) (p : PathValue) → IsSome (source from) → IsTransactionOf trees base t → IsTransactionOf trees base (copied source from t p)
   copied_transaction base t p there is =
       grafted_transaction trees base t p (copy_of source from) (record { by_last = copy_last; by_own = copy_own }) copy_opens
-      (λ d some. new_is_open (option_map opened (source from)) (opened_is_new (source from)) (opened_some (source from) there)) is
+      (λ d some. new_is_open (option_map with_open_mark (source from)) (opened_is_new (source from)) (opened_some (source from) there)) is

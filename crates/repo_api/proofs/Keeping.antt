@@ -8,7 +8,7 @@ use Rattle.svnpath.specs.Paths.{PathValue, Component, same_path, is_at_or_under}
 use Rattle.svnpath.specs.PathLaws.{same_path_is, under_is, under_append, parent_child}
 use Rattle.svnpath.specs.Texts.{parent}
 use Rattle.repo_api.specs.Trees.{Tree, IsTree, HasDirectory, HasFile, is_directory, is_directory_content}
-use Rattle.repo_api.specs.Edits.{touched, opened, touched_above, new_entry, added, revised, with_text, deleted}
+use Rattle.repo_api.specs.Edits.{touched, with_open_mark, touched_above, new_entry, added, revised, with_text, deleted}
 use Rattle.repo_api.specs.declared.entry.Entry.{Entry}
 use Rattle.repo_api.specs.declared.entry.Content.{Content}
 use Rattle.repo_api.specs.declared.entry.Content.TheVariants.{Directory, File}
@@ -88,21 +88,21 @@ pub file_tree : (t : Tree) (p : PathValue) (c : Component) → IsTree t → HasD
 file_tree t p c is has none = added_tree t p c (File []) (λ h. absurd (subst IsDirectoryAt none h)) is has
 
 -- a directory stays one where an entry is changed that goes on to be one if it was
-revised_directory : (t : Tree) (p q : PathValue) (f : Entry → Entry) → (HasDirectory t p → IsDirectoryAt (option_map (λ e. opened (f e)) (t p))) → HasDirectory t q → HasDirectory (revised t p f) q
+revised_directory : (t : Tree) (p q : PathValue) (f : Entry → Entry) → (HasDirectory t p → IsDirectoryAt (option_map (λ e. with_open_mark (f e)) (t p))) → HasDirectory t q → HasDirectory (revised t p f) q
 revised_directory t p q f keeps h = by (same_path p q) refl
   where
-    by : (b : Bool) → same_path p q ≡ b → IsDirectoryAt (if b then option_map (λ e. opened (f e)) (t q) else touched_above p t q)
-    by true same = subst (λ r. IsDirectoryAt (option_map (λ e. opened (f e)) (t r))) (same_path_is p q same) (keeps (subst (HasDirectory t) (sym (same_path_is p q same)) h))
+    by : (b : Bool) → same_path p q ≡ b → IsDirectoryAt (if b then option_map (λ e. with_open_mark (f e)) (t q) else touched_above p t q)
+    by true same = subst (λ r. IsDirectoryAt (option_map (λ e. with_open_mark (f e)) (t r))) (same_path_is p q same) (keeps (subst (HasDirectory t) (sym (same_path_is p q same)) h))
     by false same = touched_directory (is_at_or_under p q) (t q) h
 
 some_revised : (t : Tree) (p q : PathValue) (f : Entry → Entry) → IsSome (revised t p f q) → IsSome (t q)
 some_revised t p q f = by (same_path p q)
   where
-    by : (b : Bool) → IsSome (if b then option_map (λ e. opened (f e)) (t q) else touched_above p t q) → IsSome (t q)
-    by true some = some_renewed (λ e. opened (f e)) (t q) some
+    by : (b : Bool) → IsSome (if b then option_map (λ e. with_open_mark (f e)) (t q) else touched_above p t q) → IsSome (t q)
+    by true some = some_renewed (λ e. with_open_mark (f e)) (t q) some
     by false some = some_touched (is_at_or_under p q) (t q) some
 
-revised_tree : (t : Tree) (p : PathValue) (f : Entry → Entry) → (HasDirectory t p → IsDirectoryAt (option_map (λ e. opened (f e)) (t p))) → IsTree t → IsTree (revised t p f)
+revised_tree : (t : Tree) (p : PathValue) (f : Entry → Entry) → (HasDirectory t p → IsDirectoryAt (option_map (λ e. with_open_mark (f e)) (t p))) → IsTree t → IsTree (revised t p f)
 revised_tree t p f keeps is = record {
   root = revised_directory t p [] f keeps is.root;
   parents = λ q d some. revised_directory t p q f keeps (is.parents q d (some_revised t p (q ++ d ∷ []) f some));
@@ -111,7 +111,7 @@ revised_tree t p f keeps is = record {
 
 -- a property of an entry
 pub property_tree : (t : Tree) (p : PathValue) (f : Entry → Entry) → ((e : Entry) → (f e).content ≡ e.content) → IsTree t → IsTree (revised t p f)
-property_tree t p f same = revised_tree t p f (renewed_directory (λ e. opened (f e)) same (t p))
+property_tree t p f same = revised_tree t p f (renewed_directory (λ e. with_open_mark (f e)) same (t p))
 
 no_directory : (o : Option Entry) → IsSomeAnd o (λ e. is_directory e ≡ false) → IsDirectoryAt o → ⊥
 no_directory None file h = file

@@ -14,7 +14,7 @@ use Rattle.repo_api.specs.MergedMaps.{has_conflict}
 use Rattle.repo_api.specs.MergeLaws.{get_merged_map, no_conflict_anywhere}
 use Rattle.repo_api.specs.Marks.{shown, own_of, last_of, has_open_own, MarksName, IsClosed, AreMarked, IsTransactionOf, MeetWell, KeepsTrees, IsFree, with_tree, HasSource}
 use Rattle.repo_api.specs.Transactions.{IsMarkedTxn}
-use Rattle.repo_api.specs.States.{Fixed, ChangeMap, RepoState, TxnState, IsBeginning, IsBegun, IsEdited, tree_of, tree_in, tree_at, trees_in, youngest}
+use Rattle.repo_api.specs.States.{Revision, ChangeMap, RepoState, TxnState, IsBeginning, IsBegun, IsEdited, tree_of, tree_in, tree_at, trees_in, youngest}
 use Rattle.repo_api.specs.Commits.{commit_refusal, next_tree, committed}
 use Rattle.repo_api.specs.Opening.{opening_root, opening_tree}
 use Rattle.repo_api.specs.StateLaws.{get_path}
@@ -29,16 +29,16 @@ use Rattle.repo_api.proofs.Marking.{merge_marks, marked_more, transaction_later,
 
 -- ---- lists of revisions
 
-got_before : (rs more : List Fixed) (k : ℕ) (r : Fixed) → slice_get rs k ≡ Some r → slice_get (rs ++ more) k ≡ Some r
+got_before : (rs more : List Revision) (k : ℕ) (r : Revision) → slice_get rs k ≡ Some r → slice_get (rs ++ more) k ≡ Some r
 got_before [] more k r h = absurd (false≢true (ap is_some h))
 got_before (x ∷ rs) more zero r h = h
 got_before (x ∷ rs) more (suc k) r h = got_before rs more k r h
 
-got_last : (rs : List Fixed) (r : Fixed) → slice_get (rs ++ r ∷ []) (length rs) ≡ Some r
+got_last : (rs : List Revision) (r : Revision) → slice_get (rs ++ r ∷ []) (length rs) ≡ Some r
 got_last [] r = refl
 got_last (x ∷ rs) r = got_last rs r
 
-ended : (rs : List Fixed) (k : ℕ) → slice_get rs k ≡ None → length rs ≤ k
+ended : (rs : List Revision) (k : ℕ) → slice_get rs k ≡ None → length rs ≤ k
 ended [] k h = omega arith
 ended (x ∷ rs) zero h = absurd (false≢true (sym (ap is_some h)))
 ended (x ∷ rs) (suc k) h = let le : length rs ≤ k = ended rs k h in omega arith
@@ -49,24 +49,24 @@ no_tree p = get-empty path_cmp p
 none_there : (p : PathValue) → IsSome (tree_of (tree_in None) p) → ⊥
 none_there p some = false≢true (sym (ap is_some (no_tree p)) ∙ some)
 
-pub free_past : (rs : List Fixed) (k : ℕ) → length rs ≤ k → IsFree (trees_in rs) k
-free_past rs k past p = ap (λ (o : Option Fixed). tree_of (tree_in o) p) (slice_get_past rs k past) ∙ no_tree p
+pub free_past : (rs : List Revision) (k : ℕ) → length rs ≤ k → IsFree (trees_in rs) k
+free_past rs k past p = ap (λ (o : Option Revision). tree_of (tree_in o) p) (slice_get_past rs k past) ∙ no_tree p
 
 -- the revisions that are there stay
-pub beginning_keeps : (old new : List Fixed) → IsBeginning old new → KeepsTrees (trees_in old) (trees_in new)
+pub beginning_keeps : (old new : List Revision) → IsBeginning old new → KeepsTrees (trees_in old) (trees_in new)
 beginning_keeps old new b k p some q = by (slice_get old k) refl
   where
-    by : (o : Option Fixed) → slice_get old k ≡ o → trees_in new k q ≡ trees_in old k q
-    by None e = absurd (none_there p (subst (λ (o : Option Fixed). IsSome (tree_of (tree_in o) p)) e some))
-    by (Some r) e = ap (λ (o : Option Fixed). tree_of (tree_in o) q) (ap (λ (rs : List Fixed). slice_get rs k) b.is ∙ got_before old b.more k r e ∙ sym e)
+    by : (o : Option Revision) → slice_get old k ≡ o → trees_in new k q ≡ trees_in old k q
+    by None e = absurd (none_there p (subst (λ (o : Option Revision). IsSome (tree_of (tree_in o) p)) e some))
+    by (Some r) e = ap (λ (o : Option Revision). tree_of (tree_in o) q) (ap (λ (rs : List Revision). slice_get rs k) b.is ∙ got_before old b.more k r e ∙ sym e)
 
 -- one revision more
-pub trees_more : (rs : List Fixed) (r : Fixed) (k : ℕ) (q : PathValue) → with_tree (trees_in rs) (length rs) (tree_of r.tree) k q ≡ trees_in (rs ++ r ∷ []) k q
+pub trees_more : (rs : List Revision) (r : Revision) (k : ℕ) (q : PathValue) → with_tree (trees_in rs) (length rs) (tree_of r.tree) k q ≡ trees_in (rs ++ r ∷ []) k q
 trees_more rs r k q = by (k == length rs) refl (slice_get rs k) refl
   where
-    by : (b : Bool) → (k == length rs) ≡ b → (o : Option Fixed) → slice_get rs k ≡ o → (if b then tree_of r.tree else trees_in rs k) q ≡ trees_in (rs ++ r ∷ []) k q
-    by true e o h = sym (ap (λ (n : ℕ). trees_in (rs ++ r ∷ []) n q) (eqb-true k (length rs) e) ∙ ap (λ (x : Option Fixed). tree_of (tree_in x) q) (got_last rs r))
-    by false e (Some x) h = ap (λ (y : Option Fixed). tree_of (tree_in y) q) (h ∙ sym (got_before rs (r ∷ []) k x h))
+    by : (b : Bool) → (k == length rs) ≡ b → (o : Option Revision) → slice_get rs k ≡ o → (if b then tree_of r.tree else trees_in rs k) q ≡ trees_in (rs ++ r ∷ []) k q
+    by true e o h = sym (ap (λ (n : ℕ). trees_in (rs ++ r ∷ []) n q) (eqb-true k (length rs) e) ∙ ap (λ (x : Option Revision). tree_of (tree_in x) q) (got_last rs r))
+    by false e (Some x) h = ap (λ (y : Option Revision). tree_of (tree_in y) q) (h ∙ sym (got_before rs (r ∷ []) k x h))
     by false e None h = free_past rs k le q ∙ sym (free_past (rs ++ r ∷ []) k more q)
       where
         differs : k ≢ length rs
@@ -76,7 +76,7 @@ trees_more rs r k q = by (k == length rs) refl (slice_get rs k) refl
         le = ended rs k h
 
         more : length (rs ++ r ∷ []) ≤ k
-        more = omega (arith, differs, le, length-append {A = Fixed})
+        more = omega (arith, differs, le, length-append {A = Revision})
 
 marked_same : (x y : ℕ → Tree) → ((k : ℕ) (q : PathValue) → x k q ≡ y k q) → AreMarked x → AreMarked y
 marked_same x y same is = subst AreMarked (λ i k q. same k q i) is
@@ -129,7 +129,7 @@ abbrev IsMarkedAt : (ℕ → Tree) → ℕ → Tree → Type 0
 IsMarkedAt trees base t = IsTree (trees base) × IsTransactionOf trees (trees base) t
 
 -- among revisions of which more are there
-shown_more : (t : TxnState) (shown : List Fixed) → IsBeginning t.shown shown → IsMarkedTxn t → IsMarkedAt (trees_in shown) t.base (tree_of t.tree)
+shown_more : (t : TxnState) (shown : List Revision) → IsBeginning t.shown shown → IsMarkedTxn t → IsMarkedAt (trees_in shown) t.base (tree_of t.tree)
 shown_more t shown b m =
     let keeps = beginning_keeps t.shown shown b in (
       tree_by_paths (trees_in t.shown t.base) (trees_in shown t.base) (λ p. sym (keeps t.base [] (some_root (trees_in t.shown t.base []) m.base_tree.root) p)) m.base_tree,
@@ -140,11 +140,11 @@ shown_more t shown b m =
     some_root None dir = absurd dir
     some_root (Some e) dir = refl
 
-marked_at : (t : TxnState) (shown : List Fixed) (base : ℕ) (tree : Tree) → t.shown ≡ shown → t.base ≡ base → ((p : PathValue) → get t.tree p ≡ tree p) → IsMarkedAt (trees_in shown) base tree → IsMarkedTxn t
+marked_at : (t : TxnState) (shown : List Revision) (base : ℕ) (tree : Tree) → t.shown ≡ shown → t.base ≡ base → ((p : PathValue) → get t.tree p ≡ tree p) → IsMarkedAt (trees_in shown) base tree → IsMarkedTxn t
 marked_at t shown base tree shown_is base_is tree_is m =
     let a : IsMarkedAt (trees_in shown) base (tree_of t.tree) = subst (IsMarkedAt (trees_in shown) base) (λ i p. sym (tree_is p) i) m in
     let b : IsMarkedAt (trees_in shown) t.base (tree_of t.tree) = subst (λ (n : ℕ). IsMarkedAt (trees_in shown) n (tree_of t.tree)) (sym base_is) a in
-    let d : IsMarkedAt (trees_in t.shown) t.base (tree_of t.tree) = subst (λ (rs : List Fixed). IsMarkedAt (trees_in rs) t.base (tree_of t.tree)) (sym shown_is) b in
+    let d : IsMarkedAt (trees_in t.shown) t.base (tree_of t.tree) = subst (λ (rs : List Revision). IsMarkedAt (trees_in rs) t.base (tree_of t.tree)) (sym shown_is) b in
     record { base_tree = d.0; is_of = d.1 }
 
 pub begun_marked : (c : RepoState) (t : TxnState) → AreMarked (trees_in c.revisions) → IsTree (trees_in c.revisions (youngest c)) → IsBegun c t → IsMarkedTxn t
@@ -152,7 +152,7 @@ begun_marked c t marked tree b =
     marked_at t c.revisions (youngest c) (begun (trees_in c.revisions (youngest c))) b.shown b.base b.tree
     (tree, begun_transaction (trees_in c.revisions) (trees_in c.revisions (youngest c)) (marked.named (youngest c)) (marked.closed (youngest c)))
 
-pub edited_marked : (shown : List Fixed) (old : TxnState) (op : EditOp) (new : TxnState) → AreMarked (trees_in shown) → IsBeginning old.shown shown → HasSource (trees_in shown) op → IsMarkedTxn old → IsEdited shown old op new → IsMarkedTxn new
+pub edited_marked : (shown : List Revision) (old : TxnState) (op : EditOp) (new : TxnState) → AreMarked (trees_in shown) → IsBeginning old.shown shown → HasSource (trees_in shown) op → IsMarkedTxn old → IsEdited shown old op new → IsMarkedTxn new
 edited_marked shown old op new marked b source m e =
     let before = shown_more old shown b m in
     marked_at new shown old.base (edited (trees_in shown) (tree_of old.tree) op) e.shown_now e.base e.tree
@@ -188,7 +188,7 @@ next_is c t = get_merged_map (length c.revisions) (tree_at c t.base) t.tree (tre
 pub committed_marked : (c : RepoState) (ask : CommitAsk) (t : TxnState) → Meets c t → AreMarked (trees_in (committed c ask t).revisions)
 committed_marked c ask t w =
     let n : ℕ = length c.revisions in
-    let added : Fixed = record { tree = next_tree c t; changes = t.changes } in
+    let added : Revision = record { tree = next_tree c t; changes = t.changes } in
     let same : ◌≡◌ {A = Tree} (merge_of c t) (tree_of (next_tree c t)) = λ i p. sym (next_is c t p) i in
     marked_same (with_tree (trees_in c.revisions) n (tree_of (next_tree c t))) (trees_in (c.revisions ++ added ∷ [])) (trees_more c.revisions added)
     (subst (λ (u : Tree). AreMarked (with_tree (trees_in c.revisions) n u)) same (merge_marks (trees_in c.revisions) n t.base (youngest c) (tree_of t.tree) (free_past c.revisions n (omega arith)) w))

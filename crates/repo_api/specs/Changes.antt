@@ -12,7 +12,8 @@ abbrev pub Changes : Type 0
 Changes = PathValue → Option Change
 
 abbrev pub plain_change : Action → Option Source → Change
-plain_change action source = record { action = action; text = false; properties = false; source = source }
+plain_change action source =
+    record { action = action; text = false; properties = false; source = source }
 
 -- added where nothing was changed yet, replaced where something was deleted
 abbrev pub after_add : Option Source → Option Change → Change

@@ -5,18 +5,16 @@ use Rattle.refusals.specs.declared.Refusal.TheVariants as refusals
 use Rattle.repo_api.specs.Properties.{PropertyList, with_property, without_property}
 use Rattle.repo_api.specs.States.{TreeMap, RepoState, TxnState, tree_at, youngest}
 use Rattle.repo_api.specs.MergedMaps.{has_conflict, merged_map}
+use Rattle.repo_api.specs.declared.limits.TheConstants.{REVISION_LIMIT}
 use Rattle.repo_api.specs.declared.ask.CommitAsk.{CommitAsk}
 
--- a repository has revisions 0 to 262,143
-abbrev pub revision_limit : ℕ
-revision_limit = 262144
-
--- why a commit that asks for this is refused, if it is: it conflicts with what others have changed since it began, or
+-- why a commit that asks for this is refused, if it is: it conflicts with what others have changed
+-- since it began, or
 -- there is no number left
 abbrev pub commit_refusal : RepoState → CommitAsk → TxnState → Option Refusal
 commit_refusal c ask t =
     if has_conflict (tree_at c t.base) t.tree (tree_at c (youngest c)) then Some refusals.Conflict
-    else (if nat_le revision_limit (length c.revisions) then Some refusals.NotSupported else None)
+    else (if nat_le REVISION_LIMIT (length c.revisions) then Some refusals.NotSupported else None)
 
 -- the tree of the revision that a commit adds
 abbrev pub next_tree : RepoState → TxnState → TreeMap
@@ -34,7 +32,8 @@ with_author (Some user) ps = with_property ps (codes "svn:author") user
 -- the properties of the new revision
 abbrev pub revision_properties : CommitAsk → PropertyList
 revision_properties ask =
-    with_author ask.author (with_property (asked_properties ask.properties ask.message) (codes "svn:date") ask.date)
+    with_author ask.author (with_property (asked_properties ask.properties ask.message)
+    (codes "svn:date") ask.date)
 
 -- the repository after an accepted commit
 abbrev pub committed : RepoState → CommitAsk → TxnState → RepoState

@@ -7,14 +7,16 @@ use Rattle.repo_api.specs.Trees.{Tree}
 use Rattle.repo_api.specs.declared.entry.Entry.{Entry}
 
 touched_twice : (above : Bool) (o : Option Entry)
-    → (if above then option_map touched (if above then option_map touched o else o) else (if above then option_map touched o else o))
+    → (if above then option_map touched (if above then option_map touched o else o)
+    else (if above then option_map touched o else o))
     ≡ (if above then option_map touched o else o)
 touched_twice true None = refl
 touched_twice true (Some e) = refl
 touched_twice false o = refl
 
 -- what is put at a path takes the place of what stood there, deleted before or not
-pub grafted_over : (t part : Tree) (p q : PathValue) → grafted (deleted t p) p part q ≡ grafted t p part q
+pub grafted_over : (t part : Tree) (p q : PathValue)
+    → grafted (deleted t p) p part q ≡ grafted t p part q
 grafted_over t part p q = by (is_at_or_under q p)
   where
     beside : Option Entry

@@ -14,8 +14,8 @@ use Rattle.repo_api.specs.declared.edit.EditOp.TheVariants.{AddDirectory, AddFil
 abbrev pub touched : Entry → Entry
 touched e = record e { last = Open }
 
-abbrev pub opened : Entry → Entry
-opened e = record e { own = Open; last = Open }
+abbrev pub with_open_mark : Entry → Entry
+with_open_mark e = record e { own = Open; last = Open }
 
 abbrev pub new_entry : Content → Entry
 new_entry content = record { content = content; properties = []; own = Open; last = Open }
@@ -30,7 +30,8 @@ added t p content q = if same_path p q then Some (new_entry content) else touche
 
 -- the entry at p changed by f
 abbrev pub revised : Tree → PathValue → (Entry → Entry) → Tree
-revised t p f q = if same_path p q then option_map (λ e. opened (f e)) (t q) else touched_above p t q
+revised t p f q =
+    if same_path p q then option_map (λ e. with_open_mark (f e)) (t q) else touched_above p t q
 
 abbrev pub with_value : List ℕ → List ℕ → Entry → Entry
 with_value name value e = record e { properties = with_property e.properties name value }
@@ -49,9 +50,9 @@ grafted t p part q = if is_at_or_under q p then part (drop (length p) q) else to
 abbrev pub deleted : Tree → PathValue → Tree
 deleted t p = grafted t p (λ _. None)
 
--- what stands at `from` and under it, its top opened by the copy and all else as it was
+-- what stands at `from` and under it, its top with_open_mark by the copy and all else as it was
 abbrev pub copy_of : Tree → PathValue → Tree
-copy_of source from [] = option_map opened (source from)
+copy_of source from [] = option_map with_open_mark (source from)
 copy_of source from (c ∷ rest) = source (from ++ c ∷ rest)
 
 abbrev pub copied : Tree → PathValue → Tree → PathValue → Tree

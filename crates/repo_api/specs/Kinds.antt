@@ -26,7 +26,8 @@ kind_at c n p = kind_of (get (tree_at c n) p)
 
 -- something stands more than so many names beneath the path
 abbrev pub has_deeper : TreeMap → PathValue → ℕ → Bool
-has_deeper m p names = list_any (λ q. is_at_or_under q p && nat_lt (length p + names) (length q)) (keys m)
+has_deeper m p names =
+    list_any (λ q. is_at_or_under q p && nat_lt (length p + names) (length q)) (keys m)
 
 abbrev pub has_deeper_at : RepoState → ℕ → PathValue → ℕ → Bool
 has_deeper_at c n p names = has_deeper (tree_at c n) p names
@@ -39,7 +40,8 @@ abbrev pub created_of : Option Entry → Option ℕ
 created_of None = None
 created_of (Some e) = revision_of e.last
 
--- the revision that last changed what stands at a path of a transaction, none where the transaction has
+-- the revision that last changed what stands at a path of a transaction, none where the transaction
+-- has
 abbrev pub created_in : TxnState → PathValue → Option ℕ
 created_in t p = created_of (get t.tree p)
 

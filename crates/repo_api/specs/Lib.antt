@@ -16,3 +16,4 @@ pub mod Kinds
 pub mod Opening
 pub mod StateLaws
 pub mod EditLaws
+pub mod Soundness

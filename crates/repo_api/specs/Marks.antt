@@ -27,12 +27,14 @@ abbrev pub has_open_own : Option Entry → Bool
 has_open_own None = false
 has_open_own (Some e) = is_open e.own
 
--- each closed mark of the tree names what stands at its path of its revision's tree: a `last` all that is at and
+-- each closed mark of the tree names what stands at its path of its revision's tree: a `last` all
+-- that is at and
 -- under it, an `own` the kind, the properties and the text
 pub record MarksName (trees : ℕ → Tree) (t : Tree) : Type 0 where
   pub by_last : (p : PathValue) (n : ℕ) (q : PathValue) → last_of (t p) ≡ Some (Made n q)
       → (rest : PathValue) → t (p ++ rest) ≡ trees n (q ++ rest)
-  pub by_own : (p : PathValue) (n : ℕ) (q : PathValue) → own_of (t p) ≡ Some (Made n q) → shown (t p) ≡ shown (trees n q)
+  pub by_own : (p : PathValue) (n : ℕ) (q : PathValue) → own_of (t p) ≡ Some (Made n q)
+      → shown (t p) ≡ shown (trees n q)
 
 -- no mark is open
 abbrev pub IsClosed : Tree → Type 0
@@ -43,15 +45,18 @@ pub record AreMarked (trees : ℕ → Tree) : Type 0 where
   pub closed : (n : ℕ) → IsClosed (trees n)
   pub named : (n : ℕ) → MarksName trees (trees n)
 
--- the tree of a transaction that began at the base: its closed marks name what they mark, an open `own` comes with
+-- the tree of a transaction that began at the base: its closed marks name what they mark, an open
+-- `own` comes with
 -- an open `last`, and what came closed from elsewhere lies under something whose `own` is open
 pub record IsTransactionOf (trees : ℕ → Tree) (base txn : Tree) : Type 0 where
   pub named : MarksName trees txn
   pub own_opens_last : (p : PathValue) → has_open_own (txn p) ≡ true → has_open_last (txn p) ≡ true
-  pub copied_beneath : (p : PathValue) (n : ℕ) (q : PathValue) → last_of (txn p) ≡ Some (Made n q) → is_changed (base p) (txn p) ≡ true
+  pub copied_beneath : (p : PathValue) (n : ℕ) (q : PathValue) → last_of (txn p) ≡ Some (Made n q)
+      → is_changed (base p) (txn p) ≡ true
       → (above : PathValue) × (is_at_or_under p above ≡ true) × (has_open_own (txn above) ≡ true)
 
--- a transaction that may be merged with the youngest revision: all are trees, marks name what they mark, and
+-- a transaction that may be merged with the youngest revision: all are trees, marks name what they
+-- mark, and
 -- nothing conflicts
 pub record MeetWell (trees : ℕ → Tree) (base : ℕ) (txn : Tree) (youngest : ℕ) : Type 0 where
   pub marked : AreMarked trees
@@ -63,7 +68,8 @@ pub record MeetWell (trees : ℕ → Tree) (base : ℕ) (txn : Tree) (youngest :
 
 -- the revisions that are there stay
 abbrev pub KeepsTrees : (ℕ → Tree) → (ℕ → Tree) → Type 0
-KeepsTrees old new = (n : ℕ) (p : PathValue) → IsSome (old n p) → (q : PathValue) → new n q ≡ old n q
+KeepsTrees old new =
+    (n : ℕ) (p : PathValue) → IsSome (old n p) → (q : PathValue) → new n q ≡ old n q
 
 -- no revision has this number yet
 abbrev pub IsFree : (ℕ → Tree) → ℕ → Type 0

@@ -16,7 +16,8 @@ is_changed (Some a) (Some s) = not (same_mark a.last s.last)
 -- directories all three, with one `own`
 abbrev pub is_one_directory : Option Entry → Option Entry → Option Entry → Bool
 is_one_directory (Some a) (Some s) (Some t) =
-    (is_directory a && is_directory s && is_directory t) && (same_mark a.own s.own && same_mark a.own t.own)
+    (is_directory a && is_directory s && is_directory t)
+    && (same_mark a.own s.own && same_mark a.own t.own)
 is_one_directory (Some a) (Some s) None = false
 is_one_directory (Some a) None t = false
 is_one_directory None s t = false
@@ -27,14 +28,16 @@ is_in_conflict a s t = (is_changed a s && is_changed a t) && not (is_one_directo
 
 -- a base, a transaction and a youngest tree meet in no conflict
 abbrev pub HasNoConflict : Tree → Tree → Tree → Type 0
-HasNoConflict base txn youngest = (p : PathValue) → is_in_conflict (base p) (txn p) (youngest p) ≡ false
+HasNoConflict base txn youngest =
+    (p : PathValue) → is_in_conflict (base p) (txn p) (youngest p) ≡ false
 
 -- the transaction changed nothing of the entry itself, nor took it from elsewhere
 abbrev pub is_untouched : Option Entry → Option Entry → Bool
 is_untouched None None = true
 is_untouched None (Some s) = false
 is_untouched (Some a) None = false
-is_untouched (Some a) (Some s) = same_mark a.own s.own && (same_mark a.last s.last || is_open s.last)
+is_untouched (Some a) (Some s) =
+    same_mark a.own s.own && (same_mark a.last s.last || is_open s.last)
 
 -- the mark of revision n at p in an open mark's place
 abbrev pub closed : ℕ → PathValue → Mark → Mark
@@ -55,7 +58,8 @@ joined n p s t = if has_open_last s then record t { last = Made n p } else t
 
 -- the youngest entry where the transaction left it alone, else the transaction's
 abbrev pub merged_entry : ℕ → PathValue → Option Entry → Option Entry → Option Entry → Option Entry
-merged_entry n p a s t = if is_untouched a s then option_map (joined n p s) t else option_map (sealed n p) s
+merged_entry n p a s t =
+    if is_untouched a s then option_map (joined n p s) t else option_map (sealed n p) s
 
 -- the tree of revision n
 abbrev pub merged : ℕ → Tree → Tree → Tree → Tree

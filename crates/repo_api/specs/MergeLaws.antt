@@ -18,7 +18,8 @@ use Rattle.repo_api.specs.States.{TreeMap, tree_of}
 use Rattle.repo_api.specs.declared.entry.Entry.{Entry}
 
 get-with_entry : (m : TreeMap) (t : Tree) (p q : PathValue) (rest : Bool) (o : Option Entry) (b : Bool) → t p ≡ o → eq_by_cmp path_cmp q p ≡ b
-    → get m q ≡ (if rest then t q else None) → get (with_entry m p o) q ≡ (if b || rest then t q else None)
+    → get m q ≡ (if rest then t q else None)
+    → get (with_entry m p o) q ≡ (if b || rest then t q else None)
 get-with_entry m t p q rest None true is same ih = ih ∙ by rest
   where
     none : t q ≡ None
@@ -29,16 +30,20 @@ get-with_entry m t p q rest None true is same ih = ih ∙ by rest
     by false = sym none
 get-with_entry m t p q rest None false is same ih = ih
 get-with_entry m t p q rest (Some e) true is same ih =
-    get-insert path_cmp_total m p e q ∙ ap (λ b. cond b (Some e) (get m q)) same ∙ sym is ∙ ap t (sym (at_is q p same))
+    get-insert path_cmp_total m p e q ∙ ap (λ b. cond b (Some e) (get m q)) same ∙ sym is ∙ ap t
+    (sym (at_is q p same))
 get-with_entry m t p q rest (Some e) false is same ih =
     get-insert path_cmp_total m p e q ∙ ap (λ b. cond b (Some e) (get m q)) same ∙ ih
 
 get-map_of : (ps : List PathValue) (t : Tree) (q : PathValue) → get (map_of ps t) q ≡ (if list_any (eq_by_cmp path_cmp q) ps then t q else None)
 get-map_of [] t q = get-empty path_cmp q
-get-map_of (p ∷ ps) t q = get-with_entry (map_of ps t) t p q (list_any (eq_by_cmp path_cmp q) ps) (t p) (eq_by_cmp path_cmp q p) refl refl (get-map_of ps t q)
+get-map_of (p ∷ ps) t q =
+    get-with_entry (map_of ps t) t p q (list_any (eq_by_cmp path_cmp q) ps) (t p)
+    (eq_by_cmp path_cmp q p) refl refl (get-map_of ps t q)
 
 -- the tree itself, where the paths are all at which it has something
-pub map_of_is : (ps : List PathValue) (t : Tree) → ((p : PathValue) → IsSome (t p) → Contains ps p) → (q : PathValue) → get (map_of ps t) q ≡ t q
+pub map_of_is : (ps : List PathValue) (t : Tree) → ((p : PathValue) → IsSome (t p) → Contains ps p)
+    → (q : PathValue) → get (map_of ps t) q ≡ t q
 map_of_is ps t all q = get-map_of ps t q ∙ by (t q) refl (list_any (eq_by_cmp path_cmp q) ps) refl
   where
     by : (o : Option Entry) → t q ≡ o → (b : Bool) → list_any (eq_by_cmp path_cmp q) ps ≡ b → (if b then t q else None) ≡ t q
@@ -64,9 +69,11 @@ merged_some n p a s t = by (is_untouched a s)
 
 -- the merged map has at each path what the merge has
 pub get_merged_map : (n : ℕ) (base txn youngest : TreeMap) (p : PathValue)
-    → get (merged_map n base txn youngest) p ≡ merged n (tree_of base) (tree_of txn) (tree_of youngest) p
+    → get (merged_map n base txn youngest) p
+    ≡ merged n (tree_of base) (tree_of txn) (tree_of youngest) p
 get_merged_map n base txn youngest =
-    map_of_is (keys txn ++ keys youngest) (merged n (tree_of base) (tree_of txn) (tree_of youngest)) (λ p some.
+    map_of_is (keys txn ++ keys youngest) (merged n (tree_of base) (tree_of txn) (tree_of youngest))
+    (λ p some.
     ⊎_elim (λ s. Contains-append_left (keys txn) (keys youngest) p (key_there txn p s))
     (λ t. Contains-append_right (keys txn) (keys youngest) p (key_there youngest p t))
     (merged_some n p (get base p) (get txn p) (get youngest p) some))
@@ -82,7 +89,8 @@ any_there f ps p there h = list_any_at f ps there.0 p there.1 (ap f there.2 ∙ 
 -- no path at all is in conflict where no key is
 pub no_conflict_anywhere : (base txn youngest : TreeMap) → has_conflict base txn youngest ≡ false
     → HasNoConflict (tree_of base) (tree_of txn) (tree_of youngest)
-no_conflict_anywhere base txn youngest none p = by (is_in_conflict (get base p) (get txn p) (get youngest p)) refl
+no_conflict_anywhere base txn youngest none p =
+    by (is_in_conflict (get base p) (get txn p) (get youngest p)) refl
   where
     abbreviated : is_in_conflict (get base p) (get txn p) (get youngest p) ≡ true → Contains (keys base ++ keys txn) p
     abbreviated h = ⊎_elim
@@ -99,12 +107,17 @@ any_none : (f : PathValue → Bool) (ps : List PathValue) → ((p : PathValue) �
 any_none f [] none = refl
 any_none f (p ∷ ps) none = ap (λ b. b || list_any f ps) (none p) ∙ any_none f ps none
 
-pub no_conflict_is : (base txn youngest : TreeMap) → HasNoConflict (tree_of base) (tree_of txn) (tree_of youngest) → has_conflict base txn youngest ≡ false
-no_conflict_is base txn youngest none = any_none (λ q. is_in_conflict (get base q) (get txn q) (get youngest q)) (keys base ++ keys txn) none
+pub no_conflict_is : (base txn youngest : TreeMap)
+    → HasNoConflict (tree_of base) (tree_of txn) (tree_of youngest)
+    → has_conflict base txn youngest ≡ false
+no_conflict_is base txn youngest none =
+    any_none (λ q. is_in_conflict (get base q) (get txn q) (get youngest q))
+    (keys base ++ keys txn) none
 
 -- a path in conflict is found
 pub conflict_is : (base txn youngest : TreeMap) (p : PathValue)
-    → is_in_conflict (get base p) (get txn p) (get youngest p) ≡ true → has_conflict base txn youngest ≡ true
+    → is_in_conflict (get base p) (get txn p) (get youngest p) ≡ true
+    → has_conflict base txn youngest ≡ true
 conflict_is base txn youngest p h = by (has_conflict base txn youngest) refl
   where
     by : (b : Bool) → has_conflict base txn youngest ≡ b → b ≡ true

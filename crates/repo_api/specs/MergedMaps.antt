@@ -10,7 +10,8 @@ use Rattle.repo_api.specs.declared.entry.Entry.{Entry}
 
 -- some path is in conflict: one of the base or of the transaction
 abbrev pub has_conflict : TreeMap → TreeMap → TreeMap → Bool
-has_conflict base txn youngest = list_any (λ p. is_in_conflict (get base p) (get txn p) (get youngest p)) (keys base ++ keys txn)
+has_conflict base txn youngest =
+    list_any (λ p. is_in_conflict (get base p) (get txn p) (get youngest p)) (keys base ++ keys txn)
 
 abbrev pub with_entry : TreeMap → PathValue → Option Entry → TreeMap
 with_entry m p None = m
@@ -23,4 +24,5 @@ map_of (p ∷ ps) t = with_entry (map_of ps t) p (t p)
 
 -- the tree of revision n: what stands in it stood in the transaction or in the youngest revision
 abbrev pub merged_map : ℕ → TreeMap → TreeMap → TreeMap → TreeMap
-merged_map n base txn youngest = map_of (keys txn ++ keys youngest) (merged n (tree_of base) (tree_of txn) (tree_of youngest))
+merged_map n base txn youngest =
+    map_of (keys txn ++ keys youngest) (merged n (tree_of base) (tree_of txn) (tree_of youngest))

@@ -14,8 +14,8 @@ abbrev pub opening_tree : TreeMap
 opening_tree = from_entries (([], opening_root) ∷ [])
 
 -- an empty repository: revision 0 with its date, and no locks
-abbrev pub opened : ℕ → List ℕ → RepoState
-opened uuid date = record {
+abbrev pub new_repository : ℕ → List ℕ → RepoState
+new_repository uuid date = record {
   uuid = uuid;
   revisions = record { tree = opening_tree; changes = empty } ∷ [];
   properties = ((codes "svn:date", date) ∷ []) ∷ [];

@@ -21,7 +21,8 @@ IsVacant t p = (rest : PathValue) → t (p ++ rest) ≡ None
 abbrev pub IsThere : (ℕ → Tree) → Source → Type 0
 IsThere trees source = IsSome (trees source.revision source.path)
 
--- what is added goes into a directory, to where nothing stands; a copy is of something that is there; and what is
+-- what is added goes into a directory, to where nothing stands; a copy is of something that is
+-- there; and what is
 -- replaced, deleted or set is there: a text at a file, and neither of the first two at the root
 abbrev pub IsRightEdit : (ℕ → Tree) → Tree → EditOp → Type 0
 IsRightEdit trees t (AddDirectory p) = HasParent t p × IsVacant t p

@@ -18,8 +18,10 @@ find_path [] p = refl
 find_path (e ∷ es) p = ap (cond (is_at (path_cmp p) e.0) (Some e.1)) (find_path es p)
 
 -- a map has at each path what its entries have
-pub get_path : {X : Type 0} (es : List (PathValue × X)) (p : PathValue) → get (from_entries {R = path_cmp} es) p ≡ lookup (is_at (path_cmp p)) es
+pub get_path : {X : Type 0} (es : List (PathValue × X)) (p : PathValue) → get (from_entries {R =
+    path_cmp} es) p ≡ lookup (is_at (path_cmp p)) es
 get_path es p = get-from_entries path_cmp_total es p ∙ find_path es p
 
-pub get_entries : {X : Type 0} (m : FinMap path_cmp X) (p : PathValue) → get m p ≡ lookup (is_at (path_cmp p)) (entries m)
+pub get_entries : {X : Type 0} (m : FinMap path_cmp X) (p : PathValue)
+    → get m p ≡ lookup (is_at (path_cmp p)) (entries m)
 get_entries m p = get-entries m p ∙ find_path (entries m) p

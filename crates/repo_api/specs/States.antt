@@ -29,21 +29,22 @@ abbrev pub changes_of : ChangeMap → Changes
 changes_of m p = get m p
 
 -- what never changes of a revision
-pub record Fixed : Type 0 where
+pub record Revision : Type 0 where
   pub tree : TreeMap
   pub changes : ChangeMap
 
--- a repository: its name among all repositories, its revisions from 0 on, the properties of each, its locks
+-- a repository: its name among all repositories, its revisions from 0 on, the properties of each,
+-- its locks
 pub record RepoState : Type 0 where
   pub uuid : ℕ
-  pub revisions : List Fixed
+  pub revisions : List Revision
   pub properties : List PropertyList
   pub locks : LockMap
 
 -- an open transaction
 pub record TxnState : Type 0 where
   -- the revisions that it was last shown
-  pub shown : List Fixed
+  pub shown : List Revision
   -- the revision that it began from
   pub base : ℕ
   pub tree : TreeMap
@@ -53,12 +54,12 @@ pub record TxnState : Type 0 where
 abbrev pub youngest : RepoState → ℕ
 youngest c = length c.revisions - 1
 
-abbrev pub tree_in : Option Fixed → TreeMap
+abbrev pub tree_in : Option Revision → TreeMap
 tree_in None = empty
 tree_in (Some r) = r.tree
 
 -- the tree of each revision; a number that is none has no entries
-abbrev pub trees_in : List Fixed → ℕ → Tree
+abbrev pub trees_in : List Revision → ℕ → Tree
 trees_in revisions n = tree_of (tree_in (slice_get revisions n))
 
 -- the tree of a revision; a number that is none has no entries
@@ -66,8 +67,8 @@ abbrev pub tree_at : RepoState → ℕ → TreeMap
 tree_at c n = tree_in (slice_get c.revisions n)
 
 -- the old list begins the new one
-pub record IsBeginning (old new : List Fixed) : Type 0 where
-  pub more : List Fixed
+pub record IsBeginning (old new : List Revision) : Type 0 where
+  pub more : List Revision
   pub is : new ≡ old ++ more
 
 -- a transaction that begins at the youngest revision
@@ -78,7 +79,8 @@ pub record IsBegun (c : RepoState) (t : TxnState) : Type 0 where
   pub changes : (p : PathValue) → get t.changes p ≡ None
 
 -- the transaction after an edit, over the revisions shown: by what stands at each path
-pub record IsEdited (shown : List Fixed) (old : TxnState) (op : EditOp) (new : TxnState) : Type 0 where
+pub record IsEdited (shown : List Revision) (old : TxnState) (op : EditOp)
+    (new : TxnState) : Type 0 where
   pub shown_now : new.shown ≡ shown
   pub base : new.base ≡ old.base
   pub tree : (p : PathValue) → get new.tree p ≡ edited (trees_in shown) (tree_of old.tree) op p

@@ -3,7 +3,8 @@ use Rattle.repo_api.specs.Trees.{IsTree}
 use Rattle.repo_api.specs.Marks.{IsTransactionOf}
 use Rattle.repo_api.specs.States.{TxnState, tree_of, trees_in}
 
--- among the revisions that it was last shown: its base is one of them, and its marks name what they mark
+-- among the revisions that it was last shown: its base is one of them, and its marks name what they
+-- mark
 pub record IsMarkedTxn (t : TxnState) : Type 0 where
   pub base_tree : IsTree (trees_in t.shown t.base)
   pub is_of : IsTransactionOf (trees_in t.shown) (trees_in t.shown t.base) (tree_of t.tree)

@@ -1,7 +1,8 @@
 //! The edits of a transaction.
 use crate::change::Source;
 use crate::file_text::FileText;
-use svnpath::{Bytes, Path};
+use byte_string::ByteString;
+use svnpath::Path;
 
 /// One edit of a transaction's tree.
 #[derive(Debug, Drop)]
@@ -17,9 +18,9 @@ pub enum EditOp {
     /// Takes out what stands at the path and under it.
     Delete(Path),
     /// Sets the property of this name at the path to the value.
-    SetProperty(Path, Bytes, Bytes),
+    SetProperty(Path, ByteString, ByteString),
     /// Takes out the property of this name at the path.
-    RemoveProperty(Path, Bytes),
+    RemoveProperty(Path, ByteString),
     /// Makes this the text of the file at the path.
     SetText(Path, FileText),
 }

@@ -3,7 +3,7 @@ ghost use Rattle.std.specs.Prelude.{◌≡◌, ℕ, true, List, ◌++◌, ◌∷
 ghost use Rattle.svnpath.specs.Paths.{PathValue, Component};
 ghost use Rattle.repo_api.specs.Trees.{Tree, IsTree, HasDirectory, HasFile};
 ghost use Rattle.repo_api.specs.Edits.{edited, begun};
-ghost use Rattle.repo_api.specs.States.{ChangeMap, Fixed, RepoState, TxnState, IsBeginning, IsBegun, IsEdited, tree_of, tree_at, trees_in, youngest};
+ghost use Rattle.repo_api.specs.States.{ChangeMap, Revision, RepoState, TxnState, IsBeginning, IsBegun, IsEdited, tree_of, tree_at, trees_in, youngest};
 ghost use Rattle.repo_api.specs.Commits.{commit_refusal, next_tree, committed};
 ghost use Rattle.repo_api.specs.Transactions.{IsMarkedTxn};
 ghost use Rattle.repo_api.specs.declared.ask.CommitAsk.{CommitAsk};
@@ -35,17 +35,20 @@ pub fn edits_keep_trees()
     ensures adds_files { (trees : ℕ → Tree) (t : Tree) (p : PathValue) (c : Component) → IsTree t
         → HasDirectory t p → t (p ++ c ∷ []) ≡ None
         → IsTree (edited trees t (AddFile (p ++ c ∷ []))) }
-    ensures deletes { (trees : ℕ → Tree) (t : Tree) (p : PathValue) (c : Component) → IsTree t → IsTree (edited trees t (Delete (p ++ c ∷ []))) }
+    ensures deletes { (trees : ℕ → Tree) (t : Tree) (p : PathValue) (c : Component) → IsTree t
+        → IsTree (edited trees t (Delete (p ++ c ∷ []))) }
     ensures sets_properties { (trees : ℕ → Tree) (t : Tree) (p : PathValue) (name value : List ℕ)
         → IsTree t → IsTree (edited trees t (SetProperty p name value)) }
-    ensures removes_properties { (trees : ℕ → Tree) (t : Tree) (p : PathValue) (name : List ℕ) → IsTree t → IsTree (edited trees t (RemoveProperty p name)) }
+    ensures removes_properties { (trees : ℕ → Tree) (t : Tree) (p : PathValue) (name : List ℕ)
+        → IsTree t → IsTree (edited trees t (RemoveProperty p name)) }
     ensures copies { (trees : ℕ → Tree) (t : Tree) (source : Source) (p : PathValue) (c : Component)
         → IsTree (trees source.revision) → IsTree t → HasDirectory t p
         → IsTree (edited trees t (Copy source (p ++ c ∷ []))) }
     ensures replaces { (trees : ℕ → Tree) (t : Tree) (source : Source) (p : PathValue) (c : Component)
         → IsTree (trees source.revision) → IsTree t → HasDirectory t p
         → IsTree (edited trees t (Replace source (p ++ c ∷ []))) }
-    ensures sets_texts { (trees : ℕ → Tree) (t : Tree) (p : PathValue) (text : List ℕ) → IsTree t → HasFile t p → IsTree (edited trees t (SetText p text)) }
+    ensures sets_texts { (trees : ℕ → Tree) (t : Tree) (p : PathValue) (text : List ℕ) → IsTree t
+        → HasFile t p → IsTree (edited trees t (SetText p text)) }
 {}
 
 /// What has the same entries is the same tree.
@@ -55,12 +58,14 @@ pub fn same_entries_make_a_tree()
 
 /// The marks of a new repository name what they mark.
 pub fn opening_is_marked()
-    ensures { (changes : ChangeMap) → AreMarked (trees_in (record { tree = opening_tree; changes = changes } ∷ [])) }
+    ensures { (changes : ChangeMap)
+        → AreMarked (trees_in (record { tree = opening_tree; changes = changes } ∷ [])) }
 {}
 
 /// In a transaction that begins at a revision, marks name what they mark.
 pub fn beginnings_are_marked()
-    ensures { (trees : ℕ → Tree) (n : ℕ) → AreMarked trees → IsTransactionOf trees (trees n) (begun (trees n)) }
+    ensures { (trees : ℕ → Tree) (n : ℕ) → AreMarked trees
+        → IsTransactionOf trees (trees n) (begun (trees n)) }
 {}
 
 /// Whatever edit is made, what is copied being there, marks name what they mark.
@@ -85,7 +90,8 @@ pub fn merges_keep_marks()
 
 /// A merge makes a tree.
 pub fn merges_are_trees()
-    ensures { (trees : ℕ → Tree) (n base youngest : ℕ) (txn : Tree) → MeetWell trees base txn youngest → IsTree (merged n (trees base) txn (trees youngest)) }
+    ensures { (trees : ℕ → Tree) (n base youngest : ℕ) (txn : Tree)
+        → MeetWell trees base txn youngest → IsTree (merged n (trees base) txn (trees youngest)) }
 {}
 
 /// A commit never overwrites what was changed since its base: each path that others changed stays as they left
@@ -123,12 +129,13 @@ pub fn marks_name_one_thing()
 
 /// A transaction begins among the revisions with its marks in order.
 pub fn transactions_begin_marked()
-    ensures { (c : RepoState) (t : TxnState) → AreMarked (trees_in c.revisions) → IsTree (trees_in c.revisions (youngest c)) → IsBegun c t → IsMarkedTxn t }
+    ensures { (c : RepoState) (t : TxnState) → AreMarked (trees_in c.revisions)
+        → IsTree (trees_in c.revisions (youngest c)) → IsBegun c t → IsMarkedTxn t }
 {}
 
 /// An edit over revisions that go on from those last shown keeps a transaction's marks in order.
 pub fn transactions_stay_marked()
-    ensures { (shown : List Fixed) (old : TxnState) (op : EditOp) (new : TxnState)
+    ensures { (shown : List Revision) (old : TxnState) (op : EditOp) (new : TxnState)
         → AreMarked (trees_in shown) → IsBeginning old.shown shown → HasSource (trees_in shown) op
         → IsMarkedTxn old → IsEdited shown old op new → IsMarkedTxn new }
 {}
@@ -144,7 +151,9 @@ pub fn accepted_commits_meet_well()
 /// What an accepted commit adds is a tree, marks go on naming what they mark, and nothing that was changed on
 /// either side since the base is lost.
 pub fn commits_keep_both_sides()
-    ensures tree { (c : RepoState) (t : TxnState) → MeetWell (trees_in c.revisions) t.base (tree_of t.tree) (youngest c) → IsTree (tree_of (next_tree c t)) }
+    ensures tree { (c : RepoState) (t : TxnState)
+        → MeetWell (trees_in c.revisions) t.base (tree_of t.tree) (youngest c)
+        → IsTree (tree_of (next_tree c t)) }
     ensures marks { (c : RepoState) (ask : CommitAsk) (t : TxnState)
         → MeetWell (trees_in c.revisions) t.base (tree_of t.tree) (youngest c)
         → AreMarked (trees_in (committed c ask t).revisions) }

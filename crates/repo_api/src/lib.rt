@@ -9,6 +9,7 @@ mod entry;
 mod fault;
 mod file_text;
 mod laws;
+mod limits;
 mod lock;
 mod properties;
 mod repository;
@@ -26,6 +27,7 @@ pub use laws::{
     new_revisions_keep_transactions, opening_is_a_tree, opening_is_marked,
     same_entries_make_a_tree, transactions_begin_marked, transactions_stay_marked,
 };
+pub use limits::REVISION_LIMIT;
 pub use lock::{Lock, LockTokens};
 pub use properties::Properties;
 pub use repository::Repository;

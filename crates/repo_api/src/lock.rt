@@ -1,23 +1,24 @@
 //! Locks of paths.
 ghost use Rattle.std.specs.Prelude.{◌≡◌, ◌++◌, ◌∷◌, [], OnOk, OnErr};
 
+use byte_string::ByteString;
 use std::alloc::{AllocError, Global};
 use std::marker::Model;
-use svnpath::{Bytes, Path};
+use svnpath::Path;
 
 /// A lock: its token, its owner, the owner's comment if any, and the date at which it was made.
 #[derive(Debug, Drop)]
 pub struct Lock {
-    pub token: Bytes,
-    pub owner: Bytes,
-    pub comment: Option<Bytes>,
-    pub created: Bytes,
+    pub token: ByteString,
+    pub owner: ByteString,
+    pub comment: Option<ByteString>,
+    pub created: ByteString,
 }
 
 /// Paths with the tokens of the locks that stand there, as a commit hands them in.
 #[derive(Debug, Drop)]
 pub struct LockTokens {
-    tokens: Vec<(Path, Bytes)>,
+    tokens: Vec<(Path, ByteString)>,
 }
 
 impl Model for LockTokens {
@@ -40,7 +41,7 @@ impl LockTokens {
     }
 
     /// Puts a token at the end.
-    pub fn push(&mut self, path: Path, token: Bytes) -> Result<(), AllocError>
+    pub fn push(&mut self, path: Path, token: ByteString) -> Result<(), AllocError>
         ensures ok { OnOk result (self.new ≡ self.old ++ (path, token) ∷ []) }
         ensures err { OnErr result (self.new ≡ self.old) }
     {

@@ -2,15 +2,15 @@
 ghost use Rattle.std.specs.Prelude.{◌≡◌, [], OnOk, OnErr};
 ghost use Rattle.repo_api.specs.Properties.{PropertyList, with_property, without_property};
 
+use byte_string::ByteString;
 use std::alloc::{AllocError, Global};
 use std::collections::BTreeMap;
 use std::collections::btree_map::Iter;
 use std::marker::Model;
-use svnpath::Bytes;
 
 #[derive(Debug, Drop)]
 pub struct Properties {
-    values: BTreeMap<Bytes, Bytes>,
+    values: BTreeMap<ByteString, ByteString>,
 }
 
 impl Model for Properties {
@@ -29,13 +29,13 @@ impl Properties {
     }
 
     /// The names with their values, by the names' bytes.
-    pub fn iter(&self) -> Iter<'_, Bytes, Bytes>
+    pub fn iter(&self) -> Iter<'_, ByteString, ByteString>
         ensures { result ≡ self.now }
     {
         self.values.iter()
     }
 
-    pub fn set(&mut self, name: Bytes, value: Bytes) -> Result<(), AllocError>
+    pub fn set(&mut self, name: ByteString, value: ByteString) -> Result<(), AllocError>
         ensures ok { OnOk result (self.new ≡ with_property self.old name value) }
         ensures err { OnErr result (self.new ≡ self.old) }
     {
@@ -43,7 +43,7 @@ impl Properties {
         Ok(())
     }
 
-    pub fn remove(&mut self, name: &Bytes)
+    pub fn remove(&mut self, name: &ByteString)
         ensures { self.new ≡ without_property self.old name.now }
     {
         self.values.remove(name);

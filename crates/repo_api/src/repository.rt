@@ -75,18 +75,23 @@ pub trait Repository: Drop {
     /// a directory where nothing stands, and what it copies, replaces, deletes or sets is there.
     fn edit(&self, txn: &mut Self::Txn, op: EditOp) -> Result<(), AllocError>
         requires rests { IsBeginning (txn_state txn.old).shown (content self.now).revisions }
-        requires right { IsRightEdit (trees_in (content self.now).revisions) (tree_of (txn_state txn.old).tree) op }
-        ensures ok { OnOk result (IsEdited (content self.now).revisions (txn_state txn.old) op (txn_state txn.new)) }
+        requires right { IsRightEdit (trees_in (content self.now).revisions)
+            (tree_of (txn_state txn.old).tree) op }
+        ensures ok { OnOk result (IsEdited (content self.now).revisions (txn_state txn.old) op
+            (txn_state txn.new)) }
         ensures err { OnErr result (txn_state txn.new ≡ txn_state txn.old) };
 
     /// Makes the transaction the next revision, and answers its number. The transaction was last shown a
     /// repository whose revisions begin this one's.
     fn commit(&mut self, ask: CommitAsk, txn: Self::Txn) -> Result<u64, ChangeFault>
         requires { IsBeginning (txn_state txn).shown (content self.old).revisions }
-        ensures accepted { OnOk result (commit_refusal (content self.old) ask (txn_state txn) ≡ None) }
+        ensures accepted { OnOk result (commit_refusal (content self.old) ask (txn_state txn)
+            ≡ None) }
         ensures number { IfOk result (λ n. n ≡ length (content self.old).revisions) }
-        ensures ok { OnOk result (content self.new ≡ committed (content self.old) ask (txn_state txn)) }
-        ensures refused { IfRefused result (λ r. commit_refusal (content self.old) ask (txn_state txn) ≡ Some r) }
+        ensures ok { OnOk result (content self.new
+            ≡ committed (content self.old) ask (txn_state txn)) }
+        ensures refused { IfRefused result (λ r. commit_refusal (content self.old) ask
+            (txn_state txn) ≡ Some r) }
         ensures memory { IsOfMemory result }
         ensures err { OnErr result (content self.new ≡ content self.old) };
 }

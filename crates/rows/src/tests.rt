@@ -1,15 +1,14 @@
 //! Calls of a hub over a repository in memory.
-ghost use Rattle.std.specs.Prelude.{IfOk};
-ghost use Rattle.hub.specs.Calls.{IsTimely};
 
+use access::RepoAccess;
 use flatrepo::FlatRepo;
-use hub::{Call, Direct, Env, Hub, Options, Outcome, make_call, make_calls};
-use machine::RepoAccess;
-use serving::OutputSink;
+use hub::{Call, Env, Hub, Options, Outcome, SoleRepository, make_call, make_calls};
+use machine::Turn;
 use std::alloc::{AllocError, Global};
 use std::io;
 use std::io::{ErrorKind, Write};
 use std::test::Fail;
+use streams::OutputSink;
 
 const UUID: u128 = 0x0000_0000_0000_4000_8000_0000_0000_0000;
 
@@ -26,18 +25,17 @@ const CLIENT: &[u8] =
 const GREETING: &[u8] =
     b"( success ( 2 2 ( ) ( edit-pipeline absent-entries commit-revprops ) ) ) ";
 
-const ANSWER: &[u8] =
-    b"( success ( ( ANONYMOUS ) 1:r ) ) ( success ( ) ) ( success ( 36:00000000-0000-4000-8000-000000000000 9:svn://h/r ( ) ) ) ( success ( ( ) 0: ) ) ( success ( 0 ) ) ";
+const ANSWER: &[u8] = b"( success ( ( ANONYMOUS ) 1:r ) ) ( success ( ) ) \
+      ( success ( 36:00000000-0000-4000-8000-000000000000 9:svn://h/r ( ) ) ) \
+      ( success ( ( ) 0: ) ) ( success ( 0 ) ) ";
 
-fn new_hub(alloc: Global) -> Result<Hub<Direct<FlatRepo>>, Fail> {
+fn new_hub(alloc: Global) -> Result<Hub<SoleRepository<FlatRepo>>, Fail> {
     let repository = FlatRepo::new(alloc, UUID, 0)?;
     let options = Options::new(alloc, "r")?;
     Ok(Hub::over_new(alloc, repository, options)?)
 }
 
-fn feed_call(alloc: Global) -> Result<Call, AllocError>
-    ensures { IfOk result IsTimely }
-{
+fn feed_call(alloc: Global) -> Result<Call, AllocError> {
     Ok(Call::Feed(1, Vec::from_slice(alloc, CLIENT)?, ENV))
 }
 
@@ -125,15 +123,20 @@ fn repeated(alloc: Global, bytes: &[u8], times: usize) -> Result<Vec<u8>, AllocE
 
 /// Feeds a piece whose replies go to the output.
 fn feed_through(
-    hub: &mut Hub<Direct<FlatRepo>>,
+    hub: &mut Hub<SoleRepository<FlatRepo>>,
     number: u64,
     piece: &[u8],
     output: &mut Noting,
 ) -> Result<(), Fail> {
-    let mut sink = OutputSink::new(hub.alloc(), output);
-    let fed = hub.feed_to(number, piece, ENV, &mut sink);
-    let finished = sink.finish();
-    drop(sink);
+    let alloc = hub.alloc();
+    let mut turn = Turn {
+        alloc,
+        env: ENV,
+        out: OutputSink::new(alloc, output),
+    };
+    let fed = hub.feed_to(number, piece, &mut turn);
+    let finished = turn.out.finish();
+    drop(turn);
     fed?;
     finished?;
     Ok(())

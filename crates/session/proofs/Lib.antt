@@ -1,3 +1,2 @@
-pub mod Editing
 pub mod Quiet
 pub mod Runs

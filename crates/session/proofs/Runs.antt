@@ -1,59 +1,58 @@
 -- How far a run has come.
 use Rattle.std.proofs.Common.{◌≡◌, ℕ, List, [], ◌∷◌, ◌++◌, true, refl, sym, subst, inl, inr, append-nil, append_assoc}
-use Rattle.repo_api.specs.Accepted.{Accepted}
 use Rattle.replies.specs.Replies.{print}
 use Rattle.replies.proofs.Parts.{both_written, part_none, part_all, part_first, part_behind}
 use Rattle.replies.specs.declared.reply.Reply.{Reply}
-use Rattle.machine.specs.Points.{Point}
+use Rattle.access.specs.Points.{Point, AccessRules}
 use Rattle.machine.specs.Settings.{Settings}
-use Rattle.machine.specs.Hearing.{Input, Brings, Comes, IsSettled}
-use Rattle.machine.specs.Access.{Served, SessionRun, Fails, Fed, Lost}
+use Rattle.machine.specs.Hearing.{Input, YieldsFirst, Yields, HasNoMore}
+use Rattle.machine.specs.Steps.{input_step, SessionRun, StepWritten, StepOrNothing, FeedWritten, FeedLost}
 use Rattle.machine.specs.declared.env.Env.{Env}
 use Rattle.machine.specs.Stages.{Stage, is_open}
 
 -- from (env0, p0, phase0) over the inputs done to (env, p, phase); what is told is written
-pub record Progress (between : Point → Point → Type 0) (adds : Point → Accepted → Point → Type 0) (s : Settings) (env0 : Env) (p0 : Point) (phase0 : Stage) (stream : List ℕ) (env : Env) (p : Point) (phase : Stage) (rest : List ℕ) (writes : List ℕ → Type 0) : Type 0 where
+pub record Progress (rules : AccessRules) (s : Settings) (env0 : Env) (p0 : Point) (phase0 : Stage) (stream : List ℕ) (env : Env) (p : Point) (phase : Stage) (rest : List ℕ) (writes : List ℕ → Type 0) : Type 0 where
   pub done : List Input
   pub told : List Reply
-  pub came : (more : List Input) (end : List ℕ) → Comes rest more end → Comes stream (done ++ more) end
+  pub came : (more : List Input) (end : List ℕ) → Yields rest more end → Yields stream (done ++ more) end
   pub written : writes (print told)
   pub goes : (inputs : List Input) (replies : List Reply) (env' : Env) (p' : Point) (phase' : Stage)
-      → SessionRun between adds s env p phase inputs replies env' p' phase' → SessionRun between adds s env0 p0 phase0 (done ++ inputs) (told ++ replies) env' p' phase'
+      → SessionRun rules s env p phase inputs replies env' p' phase' → SessionRun rules s env0 p0 phase0 (done ++ inputs) (told ++ replies) env' p' phase'
 
 module _ {S : Type 0} (writes : S → S → List ℕ → Type 0) (nothing : (o : S) → writes o o [])
     (further : (o o' o'' : S) (first second : List ℕ) → writes o o' first → writes o' o'' second → writes o o'' (first ++ second))
-    (between : Point → Point → Type 0) (adds : Point → Accepted → Point → Type 0) (s : Settings) (stays : (p : Point) → between p p) (env0 : Env) (p0 : Point) (phase0 : Stage) (stream : List ℕ) (out0 : S) where
-  pub start : Progress between adds s env0 p0 phase0 stream env0 p0 phase0 stream (writes out0 out0)
+    (rules : AccessRules) (s : Settings) (stays : (p : Point) → rules.between p p) (env0 : Env) (p0 : Point) (phase0 : Stage) (stream : List ℕ) (out0 : S) where
+  pub start : Progress rules s env0 p0 phase0 stream env0 p0 phase0 stream (writes out0 out0)
   start = record { done = []; told = []; came = λ more end comes. comes; written = nothing out0; goes = λ inputs replies env' p' phase' run. run }
 
   pub more : (env env' : Env) (p q : Point) (phase phase' : Stage) (rest rest' : List ℕ) (out out' : S) (input : Input)
-      → Progress between adds s env0 p0 phase0 stream env p phase rest (writes out0 out)
-      → Brings rest input rest'
-      → Served between adds s env p phase input env' q phase' (writes out out')
-      → Progress between adds s env0 p0 phase0 stream env' q phase' rest' (writes out0 out')
+      → Progress rules s env0 p0 phase0 stream env p phase rest (writes out0 out)
+      → YieldsFirst rest input rest'
+      → StepWritten rules (input_step s env phase input) p q phase' env' (writes out out')
+      → Progress rules s env0 p0 phase0 stream env' q phase' rest' (writes out0 out')
   more env env' p q phase phase' rest rest' out out' input h brings served =
       let a = served.answer in
       record {
         done = h.done ++ input ∷ [];
         told = h.told ++ a.replies;
-        came = λ more end comes. subst (λ (x : List Input). Comes stream x end) (sym (append_assoc h.done (input ∷ []) more)) (h.came (input ∷ more) end (rest', brings, comes));
+        came = λ more end comes. subst (λ (x : List Input). Yields stream x end) (sym (append_assoc h.done (input ∷ []) more)) (h.came (input ∷ more) end (rest', brings, comes));
         written = both_written writes further out0 out out' h.told a.replies h.written served.written;
         goes = λ inputs replies env'' p'' phase'' run.
-            let run' : SessionRun between adds s a.env q a.phase inputs replies env'' p'' phase'' =
-            subst (λ (x : Env). SessionRun between adds s x q a.phase inputs replies env'' p'' phase'') served.env_after
-            (subst (λ (x : Stage). SessionRun between adds s env' q x inputs replies env'' p'' phase'') served.phase_after run) in
-            let whole = h.goes (input ∷ inputs) (a.replies ++ replies) env'' p'' phase'' (a, q, replies, served.serves, run', refl) in
-            subst (λ (x : List Input). SessionRun between adds s env0 p0 phase0 x ((h.told ++ a.replies) ++ replies) env'' p'' phase'') (sym (append_assoc h.done (input ∷ []) inputs))
-            (subst (λ (x : List Reply). SessionRun between adds s env0 p0 phase0 (h.done ++ input ∷ inputs) x env'' p'' phase'') (sym (append_assoc h.told a.replies replies)) whole);
+            let run' : SessionRun rules s a.env q a.phase inputs replies env'' p'' phase'' =
+            subst (λ (x : Env). SessionRun rules s x q a.phase inputs replies env'' p'' phase'') served.env_after
+            (subst (λ (x : Stage). SessionRun rules s env' q x inputs replies env'' p'' phase'') served.phase_after run) in
+            let whole = h.goes (input ∷ inputs) (a.replies ++ replies) env'' p'' phase'' (a, q, replies, served.happens, run', refl) in
+            subst (λ (x : List Input). SessionRun rules s env0 p0 phase0 x ((h.told ++ a.replies) ++ replies) env'' p'' phase'') (sym (append_assoc h.done (input ∷ []) inputs))
+            (subst (λ (x : List Reply). SessionRun rules s env0 p0 phase0 (h.done ++ input ∷ inputs) x env'' p'' phase'') (sym (append_assoc h.told a.replies replies)) whole);
       }
 
-  pub finish : (env : Env) (p : Point) (phase : Stage) (rest : List ℕ) (out : S) → Progress between adds s env0 p0 phase0 stream env p phase rest (writes out0 out)
-      → (is_open phase ≡ true → IsSettled rest)
-      → Fed between adds s env0 p0 phase0 stream rest p phase (writes out0 out)
+  pub finish : (env : Env) (p : Point) (phase : Stage) (rest : List ℕ) (out : S) → Progress rules s env0 p0 phase0 stream env p phase rest (writes out0 out)
+      → (is_open phase ≡ true → HasNoMore rest)
+      → FeedWritten rules s env0 p0 phase0 stream rest p phase (writes out0 out)
   finish env p phase rest out h settled =
       record {
         inputs = h.done ++ [];
-        comes = h.came [] rest refl;
+        yields = h.came [] rest refl;
         settled = settled;
         told = h.told ++ [];
         env_after = env;
@@ -61,13 +60,13 @@ module _ {S : Type 0} (writes : S → S → List ℕ → Type 0) (nothing : (o :
         written = subst (λ (rs : List Reply). writes out0 out (print rs)) (sym (append-nil h.told)) h.written;
       }
 
-  pub stop : (env : Env) (p q : Point) (phase : Stage) (rest rest' : List ℕ) (out out' : S) (input : Input) → Progress between adds s env0 p0 phase0 stream env p phase rest (writes out0 out)
-      → Brings rest input rest' → Fails between adds s env p phase input q (writes out out') → Lost between adds s env0 p0 phase0 stream q (writes out0 out')
+  pub stop : (env : Env) (p q : Point) (phase : Stage) (rest rest' : List ℕ) (out out' : S) (input : Input) → Progress rules s env0 p0 phase0 stream env p phase rest (writes out0 out)
+      → YieldsFirst rest input rest' → StepOrNothing rules (input_step s env phase input) p q (writes out out') → FeedLost rules s env0 p0 phase0 stream q (writes out0 out')
   stop env p q phase rest rest' out out' input h brings (inl (later, unwritten)) =
       record {
         inputs = h.done ++ [];
         rest = rest;
-        comes = h.came [] rest refl;
+        yields = h.came [] rest refl;
         told = h.told ++ [];
         env_after = env;
         phase_after = phase;
@@ -78,7 +77,7 @@ module _ {S : Type 0} (writes : S → S → List ℕ → Type 0) (nothing : (o :
       record {
         inputs = h.done ++ input ∷ [];
         rest = rest';
-        comes = h.came (input ∷ []) rest' (rest', brings, refl);
+        yields = h.came (input ∷ []) rest' (rest', brings, refl);
         told = h.told ++ (a.replies ++ []);
         env_after = a.env;
         phase_after = a.phase;
@@ -87,13 +86,13 @@ module _ {S : Type 0} (writes : S → S → List ℕ → Type 0) (nothing : (o :
       }
 
   -- without another input
-  pub halt : (env : Env) (p : Point) (phase : Stage) (rest : List ℕ) (out : S) → Progress between adds s env0 p0 phase0 stream env p phase rest (writes out0 out)
-      → Lost between adds s env0 p0 phase0 stream p (writes out0 out)
+  pub halt : (env : Env) (p : Point) (phase : Stage) (rest : List ℕ) (out : S) → Progress rules s env0 p0 phase0 stream env p phase rest (writes out0 out)
+      → FeedLost rules s env0 p0 phase0 stream p (writes out0 out)
   halt env p phase rest out h =
       record {
         inputs = h.done ++ [];
         rest = rest;
-        comes = h.came [] rest refl;
+        yields = h.came [] rest refl;
         told = h.told ++ [];
         env_after = env;
         phase_after = phase;
@@ -102,5 +101,5 @@ module _ {S : Type 0} (writes : S → S → List ℕ → Type 0) (nothing : (o :
       }
 
   -- before any input
-  pub lost_all : Lost between adds s env0 p0 phase0 stream p0 (writes out0 out0)
-  lost_all = record { inputs = []; rest = stream; comes = refl; told = []; env_after = env0; phase_after = phase0; run = (stays p0, refl, refl, refl); written = part_none (writes out0 out0) [] (nothing out0) }
+  pub lost_all : FeedLost rules s env0 p0 phase0 stream p0 (writes out0 out0)
+  lost_all = record { inputs = []; rest = stream; yields = refl; told = []; env_after = env0; phase_after = phase0; run = (stays p0, refl, refl, refl); written = part_none (writes out0 out0) [] (nothing out0) }

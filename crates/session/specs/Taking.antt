@@ -1,6 +1,6 @@
 -- What is taken from a stream.
 use Rattle.std.specs.Prelude.{ℕ, ◌<◌, List, length}
-use Rattle.items.specs.View.{tree_of}
+use Rattle.items.specs.View.{value_of}
 use Rattle.items.specs.declared.reader.ItemFault.{ItemFault}
 use Rattle.items.specs.declared.reader.ItemFault.TheVariants as faults
 use Rattle.machine.specs.Hearing.{Input}
@@ -10,7 +10,7 @@ use Rattle.session.specs.declared.incoming.Incoming.TheVariants as incoming
 
 -- the input that was taken
 abbrev pub input_of : Incoming → Input
-input_of (incoming.Whole item) = Whole (tree_of item)
+input_of (incoming.Whole item) = Whole (value_of item)
 input_of incoming.Broken = Broken
 
 -- an item leaves less of the stream than there was

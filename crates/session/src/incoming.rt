@@ -1,6 +1,6 @@
 //! What a stream of bytes brings.
 ghost use Rattle.std.specs.Prelude.{◌≡◌, ◌<◌, length, IfOk, OnErr, MatchOption, Some};
-ghost use Rattle.machine.specs.Hearing.{Brings, IsSettled};
+ghost use Rattle.machine.specs.Hearing.{YieldsFirst, HasNoMore};
 ghost use Rattle.session.specs.Taking.{input_of, Shortens, IsBrokenFault};
 
 use items::{Item, ItemFault, ItemReader};
@@ -15,7 +15,10 @@ pub enum Incoming {
 
 /// Takes what the stream brings next, if it is there.
 pub fn take_incoming(reader: &mut ItemReader) -> Result<Option<Incoming>, AllocError>
-    ensures taken { IfOk result (λ found. MatchOption found (IsSettled reader.old.rest × (reader.new ≡ reader.old)) (λ i. Brings reader.old.rest (input_of i) reader.new.rest × Shortens i reader.old.rest reader.new.rest)) }
+    ensures taken { IfOk result (λ found. MatchOption found
+        (HasNoMore reader.old.rest × (reader.new ≡ reader.old))
+        (λ i. YieldsFirst reader.old.rest (input_of i) reader.new.rest
+        × Shortens i reader.old.rest reader.new.rest)) }
     ensures err { OnErr result (reader.new ≡ reader.old) }
 {
     match reader.next() {

@@ -2,7 +2,11 @@
 //! repository, alone or among others.
 #![tactic(auto)]
 
+mod answering;
 mod incoming;
+mod login;
+mod reading;
+mod saying;
 mod serve;
 mod session;
 

@@ -1,20 +1,22 @@
 //! A session with one client.
-ghost use Rattle.std.specs.Prelude.{◌≡◌, ◌++◌, ◌≤◌, [], true, false, IfOk, OnOk, OnErr, IfErr, IsErrOf};
-ghost use Rattle.edit_rules.specs.Soundness.{AreSound};
-ghost use Rattle.machine.specs.Points.{world};
+ghost use Rattle.std.specs.Prelude.{◌≡◌, ◌++◌, [], true, false, IfOk, OnOk, OnErr, IfErr, IsErrOf};
+ghost use Rattle.repo_api.specs.Soundness.{AreSound};
+ghost use Rattle.access.specs.Points.{content_of};
 ghost use Rattle.machine.specs.Stages.{is_open, RestsOn};
-ghost use Rattle.machine.specs.Access.{Fed, Lost};
-ghost use Rattle.machine.specs.declared.phase.Phase.TheVariants.{Greeted};
+ghost use Rattle.machine.specs.Steps.{FeedWritten, FeedLost};
+ghost use Rattle.machine.specs.declared.phase.Phase.TheVariants.{Greeted, Ended};
 
-use crate::incoming::{Incoming, take_incoming};
+use crate::incoming::take_incoming;
 use crate::serve::serve;
+use access::RepoAccess;
+use committing::SessionPhase;
 use items::ItemReader;
-use machine::{Env, Options, Phase, RepoAccess, SessionPhase, is_open, steps_keep_trees};
+use machine::{Options, Phase, Turn, steps_keep_trees};
 use replies::ReplySink;
 use repo_api::Repository;
 use std::alloc::{AllocError, Global};
 use std::marker::Model;
-use std::mem;
+use std::mem::{self, drop};
 use thiserror::Error;
 
 /// Why a session was not served.
@@ -28,46 +30,42 @@ pub enum SessionFault {
     Ended,
 }
 
-/// What was served is not wanted any more.
-fn discard(_incoming: Incoming) {}
-
 /// Serves what the reader holds, up to the end of the session or of the items.
 fn serve_all<R: Repository, A: RepoAccess<View = R>, S: ReplySink>(
-    alloc: Global,
     options: &Options,
     reader: &mut ItemReader,
     phase: SessionPhase<R>,
     access: &mut A,
-    env: Env,
-    out: &mut S,
+    turn: &mut Turn<S>,
 ) -> Result<SessionPhase<R>, AllocError>
-    requires rests { RestsOn phase (world (A.point access.old)) }
-    requires moment { env.moment ≤ 200000000000000000 }
-    ensures ok { IfOk result (λ after. Fed A.between A.adds options.now env (A.point access.old) phase reader.old.rest reader.new.rest (A.point access.new) after (S.writes out.old out.new)) }
-    ensures err { OnErr result (Lost A.between A.adds options.now env (A.point access.old) phase reader.old.rest (A.point access.new) (S.writes out.old out.new)) }
-    ensures rests { IfOk result (λ after. RestsOn after (world (A.point access.new))) }
-    ensures trees { OnErr result (AreSound (world (A.point access.new)).revisions) }
+    requires rests { RestsOn phase (content_of (A.point access.old)) }
+    ensures ok { IfOk result (λ after. FeedWritten A.rules options.now turn.old.env
+        (A.point access.old) phase reader.old.rest reader.new.rest
+        (A.point access.new) after (S.writes turn.old.out turn.new.out)) }
+    ensures err { OnErr result (FeedLost A.rules options.now turn.old.env
+        (A.point access.old) phase reader.old.rest
+        (A.point access.new) (S.writes turn.old.out turn.new.out)) }
+    ensures rests { IfOk result (λ after. RestsOn after (content_of (A.point access.new))) }
+    ensures trees { OnErr result (AreSound (content_of (A.point access.new)).revisions) }
 {
     steps_keep_trees();
     let mut phase = phase;
-    let mut env = env;
     'inputs: loop {
-        match take_incoming(reader)? {
-            None => return Ok(phase),
-            Some(incoming) => {
-                let served = serve(alloc, options, phase, &incoming, access, &mut env, out);
-                discard(incoming);
-                phase = served?;
-                if !is_open(&phase) {
+        match take_incoming(reader) {
+            Ok(Some(incoming)) => {
+                phase = serve(options, phase, incoming, access, turn)?;
+                if !phase.is_open() {
                     return Ok(phase);
                 }
+            }
+            Ok(None) => return Ok(phase),
+            Err(error) => {
+                drop(phase);
+                return Err(error);
             }
         }
     }
 }
-
-/// Where a session stood is not wanted any more.
-fn retire<R: Repository>(_phase: SessionPhase<R>) {}
 
 /// A session with one client.
 #[derive(Drop)]
@@ -103,41 +101,60 @@ impl<R: Repository> Session<R> {
     pub fn is_open(&self) -> bool
         ensures { result ≡ is_open self.now.phase }
     {
-        is_open(&self.phase)
+        self.phase.is_open()
     }
 
-    /// Takes the next piece of what the client sends, and writes what it is answered as it is made. After an
-    /// `Err` the session has ended, and a part of the replies to what was served was written.
+    /// Takes a piece of what the client sends, and where the session stands: until that is put
+    /// back, it has ended.
+    fn take_piece(&mut self, piece: &[u8]) -> Result<SessionPhase<R>, AllocError>
+        ensures rest { OnOk result (self.new.rest ≡ self.old.rest ++ piece.now) }
+        ensures phase { IfOk result (λ phase. phase ≡ self.old.phase) }
+        ensures ended { self.new.phase ≡ Ended }
+    {
+        let phase = mem::replace(&mut self.phase, Phase::Ended);
+        match self.reader.feed(piece) {
+            Ok(()) => Ok(phase),
+            Err(_) => {
+                drop(phase);
+                Err(AllocError)
+            }
+        }
+    }
+
+    /// Takes the next piece of what the client sends, and writes what it is answered as it is made.
+    /// After an `Err` the session has ended, and a part of the replies to what was served was
+    /// written.
     pub fn feed<A: RepoAccess<View = R>, S: ReplySink>(
         &mut self,
-        alloc: Global,
         options: &Options,
         piece: &[u8],
         access: &mut A,
-        env: Env,
-        out: &mut S,
+        turn: &mut Turn<S>,
     ) -> Result<(), SessionFault>
-        requires rests { RestsOn self.old.phase (world (A.point access.old)) }
-        requires moment { env.moment ≤ 200000000000000000 }
-        ensures ok { OnOk result (Fed A.between A.adds options.now env (A.point access.old) self.old.phase (self.old.rest ++ piece.now) self.new.rest (A.point access.new) self.new.phase (S.writes out.old out.new)) }
+        requires rests { RestsOn self.old.phase (content_of (A.point access.old)) }
+        ensures ok { OnOk result (FeedWritten A.rules options.now turn.old.env
+            (A.point access.old) self.old.phase (self.old.rest ++ piece.now) self.new.rest
+            (A.point access.new) self.new.phase (S.writes turn.old.out turn.new.out)) }
         ensures was_open { OnOk result (is_open self.old.phase ≡ true) }
         ensures ended { IsErrOf result SessionFault.Ended → is_open self.old.phase ≡ false }
-        ensures silent { OnErr result (is_open self.old.phase ≡ false → S.writes out.old out.new []) }
-        ensures lost { OnErr result (is_open self.old.phase ≡ true → Lost A.between A.adds options.now env (A.point access.old) self.old.phase (self.old.rest ++ piece.now) (A.point access.new) (S.writes out.old out.new)) }
+        ensures silent { OnErr result (is_open self.old.phase ≡ false
+            → S.writes turn.old.out turn.new.out []) }
+        ensures lost { OnErr result (is_open self.old.phase ≡ true
+            → FeedLost A.rules options.now turn.old.env
+            (A.point access.old) self.old.phase (self.old.rest ++ piece.now)
+            (A.point access.new) (S.writes turn.old.out turn.new.out)) }
         ensures err { OnErr result (is_open self.new.phase ≡ false) }
-        ensures rests { RestsOn self.new.phase (world (A.point access.new)) }
+        ensures rests { RestsOn self.new.phase (content_of (A.point access.new)) }
     {
         if !self.is_open() {
             return Err(SessionFault::Ended);
         }
-        let phase = mem::replace(&mut self.phase, Phase::Ended);
-        if self.reader.feed(piece).is_err() {
-            retire(phase);
+        let Ok(phase) = self.take_piece(piece) else {
             return Err(SessionFault::NoMemory);
-        }
-        match serve_all(alloc, options, &mut self.reader, phase, access, env, out) {
+        };
+        match serve_all(options, &mut self.reader, phase, access, turn) {
             Ok(phase) => {
-                retire(mem::replace(&mut self.phase, phase));
+                drop(mem::replace(&mut self.phase, phase));
                 Ok(())
             }
             Err(_) => Err(SessionFault::NoMemory),

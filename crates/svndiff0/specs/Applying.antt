@@ -35,21 +35,29 @@ IsSound (opening bytes) = Unit {0}
 IsSound (going text bytes) = Unit {0}
 IsSound (broken f) = ⊥
 
--- What a feed answers: want of memory changes nothing, and any other fault is the rule that is broken now.
+-- What a feed answers: want of memory changes nothing, and any other fault is the rule that is
+-- broken now.
 abbrev pub Feeds : Applying → List ℕ → Result Unit DiffFault → Applying → Type 0
 Feeds old piece (Ok x) new = (new ≡ fed old piece) × IsSound new.reading
 Feeds old piece (Err NoMemory) new = new ≡ old
 Feeds old piece (Err f) new = (new ≡ fed old piece) × (new.reading ≡ broken f)
 
--- What applying the window at the front of the bytes gives: nothing yet; or its target view behind the text, and the
+-- What applying the window at the front of the bytes gives: nothing yet; or its target view behind
+-- the text, and the
 -- bytes behind it; or the rule that it breaks, unless memory ran out.
-abbrev pub Applies : {X : Type 0} → (X → List ℕ) → List ℕ → List ℕ → List ℕ → Result (Option X) DiffFault → List ℕ → Type 0
+abbrev pub Applies : {X : Type 0} → (X → List ℕ) → List ℕ → List ℕ → List ℕ
+    → Result (Option X) DiffFault → List ℕ → Type 0
 Applies view base text bytes (Err f) new = f ≢ NoMemory → window_at base (length text) bytes ≡ Err f
-Applies view base text bytes (Ok None) new = (window_at base (length text) bytes ≡ Ok None) × (new ≡ text)
+Applies view base text bytes (Ok None) new =
+    (window_at base (length text) bytes ≡ Ok None) × (new ≡ text)
 Applies view base text bytes (Ok (Some x)) new =
-    (target : List ℕ) × (window_at base (length text) bytes ≡ Ok (Some (target, view x))) × (new ≡ text ++ target)
+    (target : List ℕ) × (window_at base (length text) bytes ≡ Ok (Some (target, view x)))
+    × (new ≡ text ++ target)
 
 -- the same of all windows that are whole
-abbrev pub AppliesAll : {X : Type 0} → (X → List ℕ) → List ℕ → List ℕ → List ℕ → Result X DiffFault → List ℕ → Type 0
+abbrev pub AppliesAll : {X : Type 0} → (X → List ℕ) → List ℕ → List ℕ → List ℕ → Result X DiffFault
+    → List ℕ → Type 0
 AppliesAll view base text bytes (Err f) new = f ≢ NoMemory → windows_of base text bytes ≡ broken f
-AppliesAll view base text bytes (Ok x) new = (windows_of base text bytes ≡ going new (view x)) × ((front : List ℕ) × (bytes ≡ front ++ view x))
+AppliesAll view base text bytes (Ok x) new =
+    (windows_of base text bytes ≡ going new (view x))
+    × ((front : List ℕ) × (bytes ≡ front ++ view x))

@@ -18,7 +18,8 @@ behind (w ∷ ws) (b ∷ bs) = if b == w then behind ws bs else Err BadHeader
 unfoldable pub header_at : List ℕ → Result (Option (List ℕ)) DiffFault
 header_at bytes = behind header bytes
 
--- What is known of a document of which the beginning has come: less than a header; or the text of the whole windows,
+-- What is known of a document of which the beginning has come: less than a header; or the text of
+-- the whole windows,
 -- and the bytes of the next one; or the rule that is broken, whatever comes.
 pub data Reading : Type 0 where
   opening : List ℕ → Reading
@@ -34,7 +35,9 @@ with_windows text bytes (Ok (Some x)) others = others (text ++ x.0) x.1
 -- the windows of at most so many bytes
 abbrev pub windows_within : ℕ → List ℕ → List ℕ → List ℕ → Reading
 windows_within zero base text bytes = going text bytes
-windows_within (suc n) base text bytes = with_windows text bytes (window_at base (length text) bytes) (λ t rest. windows_within n base t rest)
+windows_within (suc n) base text bytes =
+    with_windows text bytes (window_at base (length text) bytes)
+    (λ t rest. windows_within n base t rest)
 
 -- the windows behind a text
 unfoldable pub windows_of : List ℕ → List ℕ → List ℕ → Reading

@@ -53,7 +53,8 @@ pub record Joined (First Rest : List ℕ → Type 0) (bytes : List ℕ) : Type 0
 
 abbrev pub AreInstructions : ℕ → List Instruction → List ℕ → Type 0
 AreInstructions view [] bytes = bytes ≡ []
-AreInstructions view (i ∷ is) bytes = Joined (IsInstruction view i) (λ rest. AreInstructions view is rest) bytes
+AreInstructions view (i ∷ is) bytes =
+    Joined (IsInstruction view i) (λ rest. AreInstructions view is rest) bytes
 
 -- five integers
 pub record AreIntegers (offset view target section fresh : ℕ) (bytes : List ℕ) : Type 0 where
@@ -92,7 +93,8 @@ pub record IsWindow (base : List ℕ) (before : ℕ) (target bytes : List ℕ) :
 -- windows with these target views
 abbrev pub AreWindows : List ℕ → ℕ → List (List ℕ) → List ℕ → Type 0
 AreWindows base before [] bytes = bytes ≡ []
-AreWindows base before (t ∷ ts) bytes = Joined (IsWindow base before t) (λ rest. AreWindows base (before + length t) ts rest) bytes
+AreWindows base before (t ∷ ts) bytes =
+    Joined (IsWindow base before t) (λ rest. AreWindows base (before + length t) ts rest) bytes
 
 -- the header and windows, whose target views are the text
 pub record IsDocument (base document text : List ℕ) : Type 0 where

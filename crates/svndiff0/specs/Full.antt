@@ -16,7 +16,8 @@ new_data_of n = if nat_lt n 64 then (128 + n) ∷ [] else 128 ∷ integer_of n
 
 -- a window with no source view, of one instruction that takes all its data
 unfoldable pub full_window : List ℕ → List ℕ
-full_window text = 0 ∷ 0 ∷ (integer_of (length text) ++ (integer_of (length (new_data_of (length text)))
+full_window text =
+    0 ∷ 0 ∷ (integer_of (length text) ++ (integer_of (length (new_data_of (length text)))
     ++ (integer_of (length text) ++ (new_data_of (length text) ++ text))))
 
 -- so many windows of 65,536 bytes, the last shorter where the text ends

@@ -7,9 +7,12 @@ use Rattle.svndiff0.specs.declared.instruction.Instruction.TheVariants.{SourceCo
 use Rattle.svndiff0.specs.Read.{Read, ◌>>=◌}
 use Rattle.svndiff0.specs.Integer.{integer_at}
 
--- the length is the low six bits, or where these are zero the integer that follows, which isn't zero
+-- the length is the low six bits, or where these are zero the integer that follows, which isn't
+-- zero
 unfoldable pub length_at : ℕ → List ℕ → Read ℕ
-length_at low bytes = if low == 0 then (integer_at bytes >>= λ n. if n.0 == 0 then Err BadInstruction else Ok (Some n)) else Ok (Some (low, bytes))
+length_at low bytes =
+    if low == 0 then (integer_at bytes >>= λ n. if n.0 == 0 then Err BadInstruction else Ok
+    (Some n)) else Ok (Some (low, bytes))
 
 -- a copy from the source view: a length, and an offset in the view
 unfoldable pub copy_at : ℕ → ℕ → List ℕ → Read Instruction
@@ -34,12 +37,15 @@ instruction_at view (b ∷ bs) =
     else Err BadInstruction
 
 -- an instruction in front of others
-abbrev pub before : Instruction → Result (List Instruction) DiffFault → Result (List Instruction) DiffFault
+abbrev pub before : Instruction → Result (List Instruction) DiffFault
+    → Result (List Instruction) DiffFault
 before i (Ok is) = Ok (i ∷ is)
 before i (Err f) = Err f
 
--- an instruction that was read, and the others; one that is cut is malformed, as the section ends there
-abbrev pub with_others : Read Instruction → (List ℕ → Result (List Instruction) DiffFault) → Result (List Instruction) DiffFault
+-- an instruction that was read, and the others; one that is cut is malformed, as the section ends
+-- there
+abbrev pub with_others : Read Instruction → (List ℕ → Result (List Instruction) DiffFault)
+    → Result (List Instruction) DiffFault
 with_others (Err f) others = Err f
 with_others (Ok None) others = Err BadInstruction
 with_others (Ok (Some x)) others = before x.0 (others x.1)
@@ -48,7 +54,8 @@ with_others (Ok (Some x)) others = before x.0 (others x.1)
 abbrev pub instructions_within : ℕ → ℕ → List ℕ → Result (List Instruction) DiffFault
 instructions_within n view [] = Ok []
 instructions_within zero view (b ∷ bs) = Ok []
-instructions_within (suc n) view (b ∷ bs) = with_others (instruction_at view (b ∷ bs)) (λ rest. instructions_within n view rest)
+instructions_within (suc n) view (b ∷ bs) =
+    with_others (instruction_at view (b ∷ bs)) (λ rest. instructions_within n view rest)
 
 -- the instructions of a section, over a source view of this length
 unfoldable pub instructions_of : ℕ → List ℕ → Result (List Instruction) DiffFault

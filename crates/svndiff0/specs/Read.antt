@@ -1,4 +1,5 @@
--- Reading from the front of bytes that may go on: a fault, or nothing until more has come, or a value and the bytes behind it.
+-- Reading from the front of bytes that may go on: a fault, or nothing until more has come, or a
+-- value and the bytes behind it.
 use Rattle.std.specs.Prelude.{◌≡◌, ℕ, List, Option, Some, None, Result, Ok, Err}
 use Rattle.svndiff0.specs.declared.fault.DiffFault.{DiffFault}
 
@@ -13,7 +14,8 @@ abbrev pub ◌>>=◌ : {A B : Type 0} → Read A → (A × List ℕ → Read B) 
 (Ok (Some x)) >>= next = next x
 
 -- what a function returned, seen by view, is what reading gives
-abbrev pub Gives : {X Y : Type 0} → (X → Y) → Result (Option X) DiffFault → Result (Option Y) DiffFault → Type 0
+abbrev pub Gives : {X Y : Type 0} → (X → Y) → Result (Option X) DiffFault
+    → Result (Option Y) DiffFault → Type 0
 Gives view (Err f) read = read ≡ Err f
 Gives view (Ok None) read = read ≡ Ok None
 Gives view (Ok (Some x)) read = read ≡ Ok (Some (view x))

@@ -18,9 +18,12 @@ HasTextOf Header text = text ≡ []
 HasTextOf Windows text = Unit {0}
 HasTextOf (Broken f) text = Unit {0}
 
--- What reading on from the bytes gives: a stage and the bytes that are left, or the rule that is broken, unless memory ran out.
-abbrev pub ReadsOn : {X : Type 0} → (X → List ℕ) → List ℕ → Reading → Result (Stage × X) DiffFault → List ℕ → List ℕ → Type 0
+-- What reading on from the bytes gives: a stage and the bytes that are left, or the rule that is
+-- broken, unless memory ran out.
+abbrev pub ReadsOn : {X : Type 0} → (X → List ℕ) → List ℕ → Reading → Result (Stage × X) DiffFault
+    → List ℕ → List ℕ → Type 0
 ReadsOn view base reading (Err f) bytes new = f ≢ NoMemory → go_on base reading ≡ broken f
 ReadsOn view base reading (Ok x) bytes new =
-    (go_on base reading ≡ reading_of x.0 new (view x.1)) × IsSound (reading_of x.0 new (view x.1)) × HasTextOf x.0 new
+    (go_on base reading ≡ reading_of x.0 new (view x.1)) × IsSound (reading_of x.0 new (view x.1))
+    × HasTextOf x.0 new
     × ((front : List ℕ) × (bytes ≡ front ++ view x.1))

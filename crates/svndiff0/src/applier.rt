@@ -65,7 +65,8 @@ impl Applier {
         // What it holds then, and what it answers.
         ensures feeds { Feeds self.old piece.now result self.new }
         // All that was fed counts as one document, however it was cut into pieces.
-        ensures pieces { (document : List ℕ) → HasRead self.old document → HasRead (fed self.old piece.now) (document ++ piece.now) }
+        ensures pieces { (document : List ℕ) → HasRead self.old document
+            → HasRead (fed self.old piece.now) (document ++ piece.now) }
     {
         if let Stage::Broken(fault) = self.stage {
             return Err(fault);
@@ -99,7 +100,8 @@ impl Applier {
     ///
     /// The rule that the document breaks; `Truncated` where it ends within its header or a window.
     pub fn text(&self) -> Result<&[u8], DiffFault>
-        ensures outcome { MatchResult result (λ text. outcome self.now.reading ≡ Ok text.now) (λ f. outcome self.now.reading ≡ Err f) }
+        ensures outcome { MatchResult result (λ text. outcome self.now.reading ≡ Ok text.now)
+            (λ f. outcome self.now.reading ≡ Err f) }
         ensures text { (document : List ℕ) → HasRead self.now document
             → MatchResult result (λ text. text_of self.now.base document ≡ Ok text.now) (λ f. text_of self.now.base document ≡ Err f) }
     {

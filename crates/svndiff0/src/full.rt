@@ -77,7 +77,8 @@ fn put_window(document: &mut Vec<u8>, text: &[u8]) -> Result<(), AllocError>
 /// last shorter. A text of more than 16,777,216 bytes gives one that no applier takes.
 pub fn encode_full(alloc: Global, text: &[u8]) -> Result<Vec<u8>, AllocError>
     ensures spelled { IfOk result (λ v. v.items ≡ full_document text.now) }
-    ensures text { length text.now ≤ limit → IfOk result (λ v. (base : List ℕ) → text_of base v.items ≡ Ok text.now) }
+    ensures text { length text.now ≤ limit → IfOk result (λ v. (base : List ℕ)
+        → text_of base v.items ≡ Ok text.now) }
 {
     let mut document = Vec::from_slice(alloc, &HEADER)?;
     let mut rest = text;

@@ -40,7 +40,8 @@ pub fn read_on<'a>(
     bytes: &'a [u8],
 ) -> Result<(Stage, &'a [u8]), DiffFault>
     requires { HasTextOf stage text.old.items }
-    ensures reads { ReadsOn (λ x. x.now) base.now (reading_of stage text.old.items bytes.now) result bytes.now text.new.items }
+    ensures reads { ReadsOn (λ x. x.now) base.now
+        (reading_of stage text.old.items bytes.now) result bytes.now text.new.items }
     ensures grows { Grows text.old.items text.new.items }
 {
     let windows = match stage {

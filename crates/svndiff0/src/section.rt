@@ -20,7 +20,8 @@ pub struct Sums {
 /// The first instruction of a section over a view of this length, and the bytes behind it.
 fn first_instruction(view: usize, section: &[u8]) -> Result<(Instruction, &[u8]), DiffFault>
     requires { 0 < length section.now }
-    ensures { MatchResult result (λ x. Starts view section.now x.0 x.1.now) (λ f. instructions_of view section.now ≡ Err f) }
+    ensures { MatchResult result (λ x. Starts view section.now x.0 x.1.now)
+        (λ f. instructions_of view section.now ≡ Err f) }
 {
     match read_instruction(view, section)? {
         Some(found) => Ok(found),
@@ -53,8 +54,10 @@ fn carry_out_one<'a>(
 ) -> Result<&'a [u8], AllocError>
     requires within { IsWithin (length view.now) instruction }
     requires enough { new_size instruction ≤ length new_data.now }
-    ensures left { MatchResult result (λ left. left.now ≡ drop (new_size instruction) new_data.now) (λ _. text.new.items ≡ text.old.items) }
-    ensures given { OnOk result (text.new.items ≡ text.old.items ++ given view.now new_data.now instruction) }
+    ensures left { MatchResult result (λ left. left.now ≡ drop (new_size instruction) new_data.now)
+        (λ _. text.new.items ≡ text.old.items) }
+    ensures given { OnOk result (text.new.items ≡ text.old.items
+        ++ given view.now new_data.now instruction) }
 {
     match instruction {
         Instruction::SourceCopy(offset, length) => {

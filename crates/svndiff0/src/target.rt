@@ -41,7 +41,9 @@ impl Target {
         bytes: &'a [u8],
     ) -> Result<(Stage, &'a [u8]), DiffFault>
         requires { HasTextOf stage (target_bytes self.old) }
-        ensures reads { ReadsOn (λ x. x.now) base.now (reading_of stage (target_bytes self.old) bytes.now) result bytes.now (target_bytes self.new) }
+        ensures reads { ReadsOn (λ x. x.now) base.now
+            (reading_of stage (target_bytes self.old) bytes.now) result bytes.now
+            (target_bytes self.new) }
         ensures err { OnErr result (target_bytes self.new ≡ target_bytes self.old) }
     {
         match self {
@@ -98,7 +100,8 @@ fn grow<'a>(
     bytes: &'a [u8],
 ) -> Result<(Stage, &'a [u8]), DiffFault>
     requires { HasTextOf stage text.old.items }
-    ensures reads { ReadsOn (λ x. x.now) base.now (reading_of stage text.old.items bytes.now) result bytes.now text.new.items }
+    ensures reads { ReadsOn (λ x. x.now) base.now
+        (reading_of stage text.old.items bytes.now) result bytes.now text.new.items }
     ensures err { OnErr result (text.new.items ≡ text.old.items) }
 {
     let written = text.len();

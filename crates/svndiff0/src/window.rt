@@ -98,7 +98,8 @@ pub fn apply_windows<'a>(
     text: &mut Vec<u8>,
     bytes: &'a [u8],
 ) -> Result<&'a [u8], DiffFault>
-    ensures applies { AppliesAll (λ x. x.now) base.now text.old.items bytes.now result text.new.items }
+    ensures applies { AppliesAll (λ x. x.now) base.now text.old.items bytes.now result
+        text.new.items }
     ensures grows { Grows text.old.items text.new.items }
 {
     let mut rest = bytes;

@@ -23,9 +23,12 @@ pub text_cmp_total : IsTotalOrder text_cmp
 text_cmp_total = on_texts path_text
 
 -- a listing has the same entries
-pub listing_permutation : {V : Type 0} (entries : List (PathValue × V)) → IsPermutation entries (listing entries)
+pub listing_permutation : {V : Type 0} (entries : List (PathValue × V))
+    → IsPermutation entries (listing entries)
 listing_permutation = sorted_by_permutation (λ e f. is_lt (text_cmp e.0 f.0))
 
 -- and is in the order of the texts
-pub listing_sorted : {V : Type 0} (entries : List (PathValue × V)) → IsSortedByKey (λ e. e.0) text_cmp (listing entries)
-listing_sorted = sorted_by_sorted (λ e f. is_lt (text_cmp e.0 f.0)) (ranks_by text_cmp_total (λ e. e.0))
+pub listing_sorted : {V : Type 0} (entries : List (PathValue × V))
+    → IsSortedByKey (λ e. e.0) text_cmp (listing entries)
+listing_sorted =
+    sorted_by_sorted (λ e f. is_lt (text_cmp e.0 f.0)) (ranks_by text_cmp_total (λ e. e.0))

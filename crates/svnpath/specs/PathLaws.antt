@@ -30,7 +30,8 @@ same_component_refl c = (bytes_decides c c).1 refl
 -- paths under one path are equal where what is left of them is
 pub same_path-append : (p r s : PathValue) → same_path (p ++ r) (p ++ s) ≡ same_path r s
 same_path-append [] r s = refl
-same_path-append (c ∷ p) r s = ap (λ b. b && same_path (p ++ r) (p ++ s)) (same_component_refl c) ∙ same_path-append p r s
+same_path-append (c ∷ p) r s =
+    ap (λ b. b && same_path (p ++ r) (p ++ s)) (same_component_refl c) ∙ same_path-append p r s
 
 -- what is at or under p is p with a rest
 pub under_is : (q p : PathValue) → is_at_or_under q p ≡ true → q ≡ p ++ drop (length p) q
@@ -50,4 +51,6 @@ under_itself p = ap (λ q. is_at_or_under q p) (sym (append-nil p)) ∙ under_ap
 -- the path of an entry lies under its directory, which is its parent
 pub parent_child : (p : PathValue) (c : Component) → parent (p ++ c ∷ []) ≡ Some p
 parent_child [] c = refl
-parent_child (d ∷ p) c = ap (λ above. Some above) (take_at (d ∷ p) (c ∷ []) (length (p ++ c ∷ [])) (sym (length_push p c ∙ add-one (length p))))
+parent_child (d ∷ p) c =
+    ap (λ above. Some above) (take_at (d ∷ p) (c ∷ []) (length (p ++ c ∷ []))
+    (sym (length_push p c ∙ add-one (length p))))

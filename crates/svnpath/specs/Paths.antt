@@ -36,7 +36,8 @@ path_ties = lists_ties (slice_cmp nat_cmp) texts_ties
 
 -- so a path may be the key of a finite map
 pub path_cmp-IsAntisymmetric : IsAntisymmetric path_cmp
-path_cmp-IsAntisymmetric = slice_cmp-IsAntisymmetric (slice_cmp-IsAntisymmetric nat_cmp-IsAntisymmetric)
+path_cmp-IsAntisymmetric =
+    slice_cmp-IsAntisymmetric (slice_cmp-IsAntisymmetric nat_cmp-IsAntisymmetric)
 
 -- and a part of what a struct is seen as
 abbrev pub coded_path : Coded PathValue

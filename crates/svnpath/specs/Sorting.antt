@@ -205,6 +205,7 @@ module _ {X : Type 0} (lt : X → X → Bool) (order : IsStrictWeakOrder lt) whe
       λ i. first i ∷ same_by_ties ys zs up.1 to.1 rest i
 
   -- what a stable sort leaves is the list sorted so
-  pub stable_is_sorted_by : (xs ys : List X) → IsSortedBy lt ys → IsStableBy lt xs ys → ys ≡ sorted_by lt xs
+  pub stable_is_sorted_by : (xs ys : List X) → IsSortedBy lt ys → IsStableBy lt xs ys
+      → ys ≡ sorted_by lt xs
   stable_is_sorted_by xs ys up stable =
       same_by_ties ys (sorted_by lt xs) (rises_from ys (sorted_far lt order ys up)) (rises_sorted xs) (λ t. stable t ∙ sym (sorted_by_stable xs t))

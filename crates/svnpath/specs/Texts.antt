@@ -17,7 +17,8 @@ abbrev pub without_first_slash : List ℕ → List ℕ
 without_first_slash text = if starts_with_slash text then drop 1 text else text
 
 abbrev pub without_last_slash : List ℕ → List ℕ
-without_last_slash text = if ends_with ◌==◌ text (47 ∷ []) then take (length text - 1) text else text
+without_last_slash text =
+    if ends_with ◌==◌ text (47 ∷ []) then take (length text - 1) text else text
 
 -- what stands between the slashes; the empty text has no components
 abbrev pub components_of : List ℕ → List Component
@@ -26,7 +27,9 @@ components_of (b ∷ text) = slice_split is_slash (b ∷ text)
 
 -- an absolute text: `/` is the root, and a slash stands before each component
 abbrev pub parsed : List ℕ → Result PathValue PathFault
-parsed text = if starts_with_slash text then beneath [] (components_of (drop 1 text)) else Err ForbiddenComponent
+parsed text =
+    if starts_with_slash text then beneath [] (components_of (drop 1 text))
+    else Err ForbiddenComponent
 
 -- a relative text, whose first and last slash may be dropped
 abbrev pub joined : PathValue → List ℕ → Result PathValue PathFault

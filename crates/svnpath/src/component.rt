@@ -8,8 +8,8 @@ ghost use Rattle.svnpath.specs.Texts.{is_slash};
 ghost use Rattle.svnpath.specs.Spelled.{read_part};
 ghost use Rattle.svnpath.specs.declared.fault.PathFault.TheVariants.{NoMemory};
 
-use crate::bytes::Bytes;
 use crate::fault::PathFault;
+use byte_string::ByteString;
 use percent_encoding::percent_decode;
 use std::alloc::{AllocError, Global};
 
@@ -66,7 +66,7 @@ fn judge(component: &[u8]) -> Result<(), PathFault>
 }
 
 /// Puts a component beneath the others, unless it is refused there.
-fn push_component(components: &mut Vec<Bytes>, component: Vec<u8>) -> Result<(), PathFault>
+fn push_component(components: &mut Vec<ByteString>, component: Vec<u8>) -> Result<(), PathFault>
     ensures ok { OnOk result (components.new.items ≡ components.old.items ++ component.items ∷ []) }
     ensures right { OnOk result
         (option_or (component_fault component.items) (depth_fault (length components.old.items)) ≡ None) }
@@ -78,7 +78,7 @@ fn push_component(components: &mut Vec<Bytes>, component: Vec<u8>) -> Result<(),
     if components.len() >= DEPTH_LIMIT {
         return Err(PathFault::TooDeep);
     }
-    components.push(Bytes::new(component))?;
+    components.push(ByteString::new(component))?;
     Ok(())
 }
 
@@ -103,14 +103,15 @@ pub(crate) fn read_part(
 /// The components above, and beneath them those between the slashes of the text.
 pub(crate) fn append_parts(
     alloc: Global,
-    above: Vec<Bytes>,
+    above: Vec<ByteString>,
     spelling: Spelling,
     text: &[u8],
-) -> Result<Vec<Bytes>, PathFault>
+) -> Result<Vec<ByteString>, PathFault>
     ensures value { MatchResult result
         (λ components. beneath above.items (map (read_part spelling) (slice_split is_slash text.now)) ≡ Ok components.items)
         (λ fault. (beneath above.items (map (read_part spelling) (slice_split is_slash text.now)) ≡ Err fault) ⊎ (fault ≡ NoMemory)) }
-    ensures right { IsRightPath above.items → IfOk result (λ components. IsRightPath components.items) }
+    ensures right { IsRightPath above.items
+        → IfOk result (λ components. IsRightPath components.items) }
 {
     let mut components = above;
     for part in text.split(|byte| *byte == b'/') {

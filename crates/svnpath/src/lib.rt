@@ -5,14 +5,12 @@
 //! by the definitions `beneath` and `path_of_url`.
 #![tactic(auto)]
 
-mod bytes;
 mod component;
 mod fault;
 mod listings;
 mod path;
 mod repository_url;
 
-pub use bytes::Bytes;
 pub use component::{COMPONENT_LIMIT, DEPTH_LIMIT};
 pub use fault::PathFault;
 pub use listings::{by_text, pairs_by_text, sort_by_text};

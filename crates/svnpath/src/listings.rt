@@ -8,8 +8,8 @@ ghost use Rattle.svnpath.specs.Components.{IsRightPath};
 ghost use Rattle.svnpath.specs.Listings.{text_cmp, listing};
 ghost use Rattle.svnpath.specs.Texts.{path_text, text_from};
 
-use crate::bytes::Bytes;
 use crate::path::Path;
+use byte_string::ByteString;
 use std::alloc::{AllocError, Global};
 use std::cmp::Ordering;
 use std::collections::BTreeMap;
@@ -28,7 +28,7 @@ impl Path {
     }
 
     /// What the path's text begins with, and the components whose texts follow.
-    fn text_front(&self) -> (&[u8], &[Bytes])
+    fn text_front(&self) -> (&[u8], &[ByteString])
         ensures { path_text self.now ≡ text_from result.0.now result.1.now }
     {
         if self.is_root() {
@@ -41,7 +41,10 @@ impl Path {
 
 /// The first byte of a text that begins with this and goes on with the texts of these components;
 /// and how it goes on.
-fn split_text<'a>(front: &'a [u8], others: &'a [Bytes]) -> Option<(u8, &'a [u8], &'a [Bytes])>
+fn split_text<'a>(
+    front: &'a [u8],
+    others: &'a [ByteString],
+) -> Option<(u8, &'a [u8], &'a [ByteString])>
     ensures { MatchOption result (text_from front.now others.now ≡ [])
         (λ split. text_from front.now others.now ≡ split.0 ∷ text_from split.1.now split.2.now) }
 {
@@ -57,9 +60,9 @@ fn split_text<'a>(front: &'a [u8], others: &'a [Bytes]) -> Option<(u8, &'a [u8],
 /// Compares two texts, each of which begins so and goes on with the texts of these components.
 fn compare_texts(
     mine: &[u8],
-    my_others: &[Bytes],
+    my_others: &[ByteString],
     theirs: &[u8],
-    their_others: &[Bytes],
+    their_others: &[ByteString],
 ) -> Ordering
     ensures { result
         ≡ slice_cmp nat_cmp (text_from mine.now my_others.now) (text_from theirs.now their_others.now) }

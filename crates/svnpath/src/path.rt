@@ -9,10 +9,10 @@ ghost use Rattle.svnpath.specs.Texts.{parsed, joined, parent, path_text, compone
 ghost use Rattle.svnpath.specs.Urls.{path_of_text, NamesPath};
 ghost use Rattle.svnpath.specs.declared.fault.PathFault.TheVariants.{NoMemory};
 
-use crate::bytes::Bytes;
 use crate::component::{Spelling, append_parts};
 use crate::fault::PathFault;
 use crate::repository_url::{path_of_url, read_url};
+use byte_string::ByteString;
 use std::alloc::{AllocError, Global};
 use std::cmp::Ordering;
 use std::marker::Model;
@@ -23,7 +23,7 @@ use std::marker::Model;
 /// components and of any depth, as the trees above need them.
 #[derive(Debug, Drop)]
 pub struct Path {
-    components: Vec<Bytes>,
+    components: Vec<ByteString>,
 }
 
 impl Model for Path {
@@ -42,7 +42,7 @@ impl Path {
         }
     }
 
-    pub(crate) fn from_components(components: Vec<Bytes>) -> Self
+    pub(crate) fn from_components(components: Vec<ByteString>) -> Self
         ensures { result ≡ components.items }
     {
         Path { components }
@@ -58,7 +58,8 @@ impl Path {
         ensures value { Answers result (parsed text.now) }
         ensures right { IfOk result IsRightPath }
         ensures text { IfOk result (λ path. text.now ≡ path_text path) }
-        ensures refuses { (path : PathValue) → IsRightPath path → text.now ≡ path_text path → IfErr result (λ fault. fault ≡ NoMemory) }
+        ensures refuses { (path : PathValue) → IsRightPath path → text.now ≡ path_text path
+            → IfErr result (λ fault. fault ≡ NoMemory) }
     {
         match text.strip_prefix(b"/".as_slice()) {
             Some(rest) => Path::root(alloc).extended(alloc, rest),
@@ -91,7 +92,8 @@ impl Path {
     pub fn from_url(alloc: Global, url: &[u8], name: &str) -> Result<Self, PathFault>
         ensures value { Answers result (path_of_text url.now name.now) }
         ensures names { IfOk result (NamesPath url.now name.now) }
-        ensures refuses { (path : PathValue) → NamesPath url.now name.now path → IfErr result (λ fault. fault ≡ NoMemory) }
+        ensures refuses { (path : PathValue) → NamesPath url.now name.now path
+            → IfErr result (λ fault. fault ≡ NoMemory) }
     {
         path_of_url(alloc, &read_url(alloc, url)?, name)
     }
@@ -109,14 +111,14 @@ impl Path {
         Ok(Path { components })
     }
 
-    fn copied(&self) -> Result<Vec<Bytes>, AllocError>
+    fn copied(&self) -> Result<Vec<ByteString>, AllocError>
         ensures { IfOk result (λ components. components.items ≡ self.now) }
     {
         self.components.clone()
     }
 
     /// The path of an entry of this directory.
-    pub fn child(&self, alloc: Global, name: Bytes) -> Result<Self, AllocError>
+    pub fn child(&self, alloc: Global, name: ByteString) -> Result<Self, AllocError>
         ensures { IfOk result (λ p. p ≡ self.now ++ name ∷ []) }
     {
         let mut components = Vec::new(alloc);
@@ -151,7 +153,7 @@ impl Path {
     }
 
     /// The components, from the root down.
-    pub fn components(&self) -> &[Bytes]
+    pub fn components(&self) -> &[ByteString]
         ensures { result.now ≡ self.now }
     {
         self.components.as_slice()
@@ -207,7 +209,7 @@ pub(crate) fn without_last_slash(text: &[u8]) -> &[u8]
     text.strip_suffix(b"/".as_slice()).unwrap_or(text)
 }
 
-fn append_all(to: &mut Vec<Bytes>, items: &[Bytes]) -> Result<(), AllocError>
+fn append_all(to: &mut Vec<ByteString>, items: &[ByteString]) -> Result<(), AllocError>
     ensures { IfOk result (λ _. to.new.items ≡ to.old.items ++ items.now) }
 {
     for item in items {
@@ -217,8 +219,9 @@ fn append_all(to: &mut Vec<Bytes>, items: &[Bytes]) -> Result<(), AllocError>
 }
 
 /// Appends a slash and the component, for each of them.
-fn append_texts(components: &[Bytes], out: &mut Vec<u8>) -> Result<(), AllocError>
-    ensures ok { OnOk result (out.new.items ≡ out.old.items ++ flat_map (λ component. 47 ∷ component) components.now) }
+fn append_texts(components: &[ByteString], out: &mut Vec<u8>) -> Result<(), AllocError>
+    ensures ok { OnOk result (out.new.items ≡ out.old.items
+        ++ flat_map (λ component. 47 ∷ component) components.now) }
     ensures err { OnErr result (take (length out.old.items) out.new.items ≡ out.old.items) }
 {
     for component in components {

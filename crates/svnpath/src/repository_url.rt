@@ -1,24 +1,24 @@
 //! URLs of the repository.
 ghost use Rattle.std.specs.Prelude.{◌≡◌, ◌⊎◌, [], ◌∷◌, ◌++◌, map, List, Ok, Err, IfOk, MatchResult, MatchOption};
-ghost use Rattle.std.specs.List.{slice_split, position};
+ghost use Rattle.std.specs.List.{slice_split, position, list_all};
 ghost use Rattle.percent_encoding.specs.Percent.{percent_decode};
 ghost use Rattle.svnpath.specs.Components.{Answers, IsRightPath};
 ghost use Rattle.svnpath.specs.Texts.{is_slash};
-ghost use Rattle.svnpath.specs.Urls.{read_url, path_of_text, root_of_text, path_of_url, path_of_segments, root_of_url, NamesPath};
+ghost use Rattle.svnpath.specs.Urls.{read_url, path_of_text, root_of_text, path_of_url, path_of_segments, root_of_url, until_slash, is_before_query, is_root, names_root, root_of, NamesPath};
 ghost use Rattle.svnpath.specs.declared.fault.PathFault.TheVariants.{NoMemory};
 
-use crate::bytes::Bytes;
 use crate::component::{Spelling, append_parts, read_part};
 use crate::fault::PathFault;
 use crate::path::{Path, without_last_slash};
+use byte_string::ByteString;
 use std::alloc::{AllocError, Global};
 use url::{ParseError, Position, Url};
 
 /// What a URL of the repository names.
 #[derive(Debug, Drop)]
 pub struct RepositoryUrl {
-    /// The repository's root URL: the URL up to its path, and the repository's name.
-    pub root: Bytes,
+    /// The repository's root URL, as `root_url` gives it.
+    pub root: ByteString,
     pub path: Path,
 }
 
@@ -34,24 +34,89 @@ impl RepositoryUrl {
         ensures root { IfOk result (λ named. root_of_text url.now name.now ≡ Ok named.root) }
         ensures names { IfOk result (λ named. NamesPath url.now name.now named.path) }
     {
-        let url = read_url(alloc, url)?;
-        let path = path_of_url(alloc, &url, name)?;
-        let root = root_of_url(alloc, &url, name)?;
+        let parsed = read_url(alloc, url)?;
+        let path = path_of_url(alloc, &parsed, name)?;
+        let root = root_of(alloc, url, &parsed, name)?;
         Ok(RepositoryUrl { root, path })
     }
 }
 
-/// The root URL of the repository of this name, by the URL of something in it: the URL up to its
-/// path, as `url` reads it, then `/` and the name.
+/// The root URL of the repository of this name, by the URL of something in it. A client wants it in
+/// the bytes that it sent: it is the text up to its fourth `/`, or all of it, where that names the
+/// root by itself, as in `svn://host:03690/r/x`. Otherwise it is the URL up to its path, as `url`
+/// spells it, then `/` and the name.
 ///
 /// # Errors
 ///
 /// `NotThisRepository` for a text that is no URL; `NoMemory`. Whether the URL is one of this
 /// repository is the test of `Path::from_url`.
-pub fn root_url(alloc: Global, url: &[u8], name: &str) -> Result<Bytes, PathFault>
+pub fn root_url(alloc: Global, url: &[u8], name: &str) -> Result<ByteString, PathFault>
     ensures { Answers result (root_of_text url.now name.now) }
 {
-    Ok(root_of_url(alloc, &read_url(alloc, url)?, name)?)
+    let parsed = read_url(alloc, url)?;
+    Ok(root_of(alloc, url, &parsed, name)?)
+}
+
+/// The root URL, by the text of a URL and what it was read as.
+fn root_of(alloc: Global, text: &[u8], url: &Url, name: &str) -> Result<ByteString, AllocError>
+    ensures { IfOk result (λ root. root ≡ root_of text.now name.now url.now) }
+{
+    let front = until_slash(text, 3);
+    if names_root(alloc, front, name)? {
+        ByteString::from_slice(alloc, front)
+    } else {
+        root_of_url(alloc, url, name)
+    }
+}
+
+/// The text up to the slash that so many others stand before, or all of it.
+fn until_slash(text: &[u8], others: u64) -> &[u8]
+    ensures { result.now ≡ until_slash others text.now }
+{
+    let mut left = others;
+    for (i, byte) in text.iter().enumerate() {
+        if *byte == b'/' {
+            if left == 0 {
+                return &text[..i];
+            }
+            left -= 1;
+        }
+    }
+    text
+}
+
+/// Whether the text is a URL of the repository's root, without a query and a fragment.
+fn names_root(alloc: Global, text: &[u8], name: &str) -> Result<bool, AllocError>
+    ensures { IfOk result (λ answer. answer ≡ names_root text.now name.now) }
+{
+    if are_before_query(text) {
+        is_root(alloc, text, name)
+    } else {
+        Ok(false)
+    }
+}
+
+/// Whether the text is a URL of the repository's root.
+fn is_root(alloc: Global, text: &[u8], name: &str) -> Result<bool, AllocError>
+    ensures { IfOk result (λ answer. answer ≡ is_root (path_of_text text.now name.now)) }
+{
+    match Path::from_url(alloc, text, name) {
+        Ok(path) => Ok(path.is_root()),
+        Err(PathFault::NoMemory) => Err(AllocError),
+        Err(_) => Ok(false),
+    }
+}
+
+fn are_before_query(text: &[u8]) -> bool
+    ensures { result ≡ list_all is_before_query text.now }
+{
+    text.iter().all(|b| is_before_query(*b))
+}
+
+fn is_before_query(b: u8) -> bool
+    ensures { result ≡ is_before_query b }
+{
+    !(b == b'?' || b == b'#')
 }
 
 pub(crate) fn read_url(alloc: Global, text: &[u8]) -> Result<Url, PathFault>
@@ -82,7 +147,8 @@ pub(crate) fn path_of_url(alloc: Global, url: &Url, name: &str) -> Result<Path, 
 
 /// The path whose components follow the repository's name.
 fn path_of_segments(alloc: Global, text: &[u8], name: &str) -> Result<Path, PathFault>
-    ensures value { Answers result (path_of_segments name.now (map percent_decode (slice_split is_slash text.now))) }
+    ensures value { Answers result (path_of_segments name.now
+        (map percent_decode (slice_split is_slash text.now))) }
     ensures right { IfOk result IsRightPath }
 {
     let (first, others) = split_first_part(text);
@@ -116,12 +182,12 @@ fn split_first_part(text: &[u8]) -> (&[u8], Option<&[u8]>)
     }
 }
 
-fn root_of_url(alloc: Global, url: &Url, name: &str) -> Result<Bytes, AllocError>
+fn root_of_url(alloc: Global, url: &Url, name: &str) -> Result<ByteString, AllocError>
     ensures { IfOk result (λ root. root ≡ root_of_url name.now url.now) }
 {
     let before_path = url.slice(Position::BeforeScheme, Position::BeforePath);
     let mut root = Vec::from_slice(alloc, before_path.as_bytes())?;
     root.push(b'/')?;
     root.extend_from_slice(name.as_bytes())?;
-    Ok(Bytes::new(root))
+    Ok(ByteString::new(root))
 }

@@ -1,9 +1,9 @@
 //! Why the program ends before its time.
 
 use hub::HubFault;
-use serving::ServeFault;
 use std::alloc::{AllocError, AllocFailed};
 use std::{fmt, io};
+use streams::ServeFault;
 
 /// Why the program ends before its time.
 #[derive(Debug, Drop)]
@@ -16,16 +16,6 @@ pub enum ProgramFault {
     Io,
     /// The hub failed, or memory was refused.
     Hub(HubFault),
-}
-
-/// The fault's number.
-fn number_of(fault: HubFault) -> &'static str {
-    match fault {
-        HubFault::NoSession => "H1",
-        HubFault::NoMemory => "H2",
-        HubFault::Halted => "H3",
-        HubFault::Full => "H4",
-    }
 }
 
 impl ProgramFault {
@@ -47,7 +37,7 @@ impl fmt::Display for ProgramFault {
                 "error: a name is 1 to 64 of A-Z, a-z, 0-9, `-`, `_` and `.`, and not `.` or `..`"
             ),
             ProgramFault::Io => writeln!(f, "svnserved: io"),
-            ProgramFault::Hub(fault) => writeln!(f, "svnserved: {}", number_of(*fault)),
+            ProgramFault::Hub(fault) => writeln!(f, "svnserved: {fault}"),
         }
     }
 }

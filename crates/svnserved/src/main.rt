@@ -10,12 +10,12 @@ use command_line::{CommandLineFault, Order, read_command_line};
 use envs::SystemEnvs;
 use fault::ProgramFault;
 use flatrepo::FlatRepo;
-use hub::{Direct, Hub, HubFault, Options, is_repository_name};
-use serving::run_stdio;
+use hub::{Hub, HubFault, Options, SoleRepository, is_repository_name};
 use std::alloc::Global;
 use std::env;
 use std::io::ErrorKind;
 use std::process::ExitCode;
+use streams::run_stdio;
 
 /// The UUID of an empty repository in memory.
 const EMPTY_UUID: u128 = 0x0000_0000_0000_4000_8000_0000_0000_0000;
@@ -48,7 +48,7 @@ fn order(rt: &HostRuntime) -> Result<Option<Order>, ProgramFault> {
 }
 
 /// A hub over an empty repository in memory of this name.
-fn empty_hub(alloc: Global, name: &str) -> Result<Hub<Direct<FlatRepo>>, ProgramFault> {
+fn empty_hub(alloc: Global, name: &str) -> Result<Hub<SoleRepository<FlatRepo>>, ProgramFault> {
     if !is_repository_name(name) {
         return Err(ProgramFault::Name);
     }

@@ -2,23 +2,28 @@
 ghost use Rattle.std.specs.Prelude.{◌≡◌};
 
 use super::*;
-use serving::{Env, EnvSource, ServeFault};
 use std::io;
 use std::io::{Read, Write};
 use std::test::Fail;
+use streams::{Env, EnvSource, ServeFault};
 
 const INPUT: &[u8] =
-    b"( 2 ( edit-pipeline ) 15:svn://h/r/trunk ) ( ANONYMOUS ( 0: ) ) ( get-latest-rev ( ) ) ( check-path ( 0: ( ) ) ) ( rev-proplist ( 0 ) ) ";
+    b"( 2 ( edit-pipeline ) 15:svn://h/r/trunk ) ( ANONYMOUS ( 0: ) ) ( get-latest-rev ( ) ) \
+      ( check-path ( 0: ( ) ) ) ( rev-proplist ( 0 ) ) ";
 
-const OUTPUT: &[u8] =
-    b"( success ( 2 2 ( ) ( edit-pipeline absent-entries commit-revprops ) ) ) ( success ( ( ANONYMOUS ) 1:r ) ) ( success ( ) ) ( success ( 36:00000000-0000-4000-8000-000000000000 9:svn://h/r ( ) ) ) ( success ( ( ) 0: ) ) ( success ( 0 ) ) ( success ( ( ) 0: ) ) ( success ( none ) ) ( success ( ( ) 0: ) ) ( success ( ( ( 8:svn:date 27:1970-01-01T00:00:00.000000Z ) ) ) ) ";
+const OUTPUT: &[u8] = b"( success ( 2 2 ( ) ( edit-pipeline absent-entries commit-revprops ) ) ) \
+      ( success ( ( ANONYMOUS ) 1:r ) ) ( success ( ) ) \
+      ( success ( 36:00000000-0000-4000-8000-000000000000 9:svn://h/r ( ) ) ) \
+      ( success ( ( ) 0: ) ) ( success ( 0 ) ) ( success ( ( ) 0: ) ) ( success ( none ) ) \
+      ( success ( ( ) 0: ) ) ( success ( ( ( 8:svn:date 27:1970-01-01T00:00:00.000000Z ) ) ) ) ";
 
 /// A client's beginning, up to the first byte of a command.
 const BEGINNING: &[u8] = b"( 2 ( edit-pipeline ) 15:svn://h/r/trunk ) ( ANONYMOUS ( 0: ) ) (";
 
 /// What it draws.
-const ANSWERS: &[u8] =
-    b"( success ( 2 2 ( ) ( edit-pipeline absent-entries commit-revprops ) ) ) ( success ( ( ANONYMOUS ) 1:r ) ) ( success ( ) ) ( success ( 36:00000000-0000-4000-8000-000000000000 9:svn://h/r ( ) ) ) ";
+const ANSWERS: &[u8] = b"( success ( 2 2 ( ) ( edit-pipeline absent-entries commit-revprops ) ) ) \
+      ( success ( ( ANONYMOUS ) 1:r ) ) ( success ( ) ) \
+      ( success ( 36:00000000-0000-4000-8000-000000000000 9:svn://h/r ( ) ) ) ";
 
 /// What a client is greeted with.
 const GREETING: &[u8] =
@@ -29,7 +34,7 @@ const GREETING: &[u8] =
 struct Still;
 
 impl EnvSource for Still {
-    ghost gives = { λ _ env _. env ≡ record { moment = 0; token = 0; nonce = 0 } };
+    ghost gives = { λ _ env _. (env.moment ≡ 0) × (env.token ≡ 0) × (env.nonce ≡ 0) };
 
     fn next_env(&mut self) -> Env {
         Env {

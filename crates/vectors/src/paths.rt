@@ -1,9 +1,9 @@
+use byte_string::ByteString;
 use std::alloc::{AllocError, Global};
 use std::cmp::Ordering;
 use std::collections::BTreeMap;
 use svnpath::{
-    Bytes, DEPTH_LIMIT, Path, PathFault, RepositoryUrl, by_text, pairs_by_text, root_url,
-    sort_by_text,
+    DEPTH_LIMIT, Path, PathFault, RepositoryUrl, by_text, pairs_by_text, root_url, sort_by_text,
 };
 
 /// Whether the answer is the path of this text, or this fault.
@@ -73,6 +73,11 @@ fn tells_root_urls(rt: HostRuntime) -> Result<(), PathFault> {
         ("svn://h/r/trunk", "svn://h/r"),
         ("svn://h/r/", "svn://h/r"),
         ("svn+ssh://alice@h:22/r/a%20b?q", "svn+ssh://alice@h:22/r"),
+        ("svn://host:03690/r/x", "svn://host:03690/r"),
+        ("SVN://h/%72", "SVN://h/%72"),
+        ("SVN://h/%72/c//..", "SVN://h/%72"),
+        ("SVN://h:022/q/../r/a", "svn://h:22/r"),
+        ("svn://h/./r/a", "svn://h/r"),
     ] {
         let root = root_url(alloc, url.as_bytes(), "r")?;
         assert!(rt; root.as_slice() == wanted.as_bytes(), "{url}");
@@ -156,7 +161,7 @@ fn keeps_the_limits(rt: HostRuntime) -> Result<(), PathFault> {
 fn serves_trees(rt: HostRuntime) -> Result<(), PathFault> {
     let alloc = rt.alloc();
     let root = Path::root(alloc);
-    let name = Bytes::new(Vec::from_slice(alloc, b"a")?);
+    let name = ByteString::from_slice(alloc, b"a")?;
     let a = root.child(alloc, name.clone()?)?;
     let below = a.join(alloc, b"b")?;
     assert!(rt; root.is_root() && !a.is_root());

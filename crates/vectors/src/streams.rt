@@ -1,7 +1,8 @@
 // Rows of the protocol, read whole and in pieces, and written.
 ghost use Rattle.std.specs.Prelude.{◌<◌};
 
-use items::{Item, ItemFault, ItemReader, Name, Text, decode, write_item};
+use byte_string::ByteString;
+use items::{Item, ItemFault, ItemReader, Name, decode, write_item};
 use std::alloc::Global;
 use std::test::Fail;
 
@@ -97,7 +98,7 @@ fn decodes_what_it_writes(rt: HostRuntime) -> Result<(), Fail> {
     let alloc = rt.alloc();
     let mut params = Vec::new(alloc);
     params.push(Item::Number(7))?;
-    params.push(Item::Str(Text::from_vec(Vec::from_slice(alloc, b"a b")?)))?;
+    params.push(Item::Str(ByteString::from_slice(alloc, b"a b")?))?;
     let mut parts = Vec::new(alloc);
     parts.push(Item::Word(Name::from_vec(Vec::from_slice(alloc, b"check-path")?)))?;
     parts.push(Item::List(params))?;
@@ -127,7 +128,7 @@ fn takes_a_long_string_byte_by_byte(rt: HostRuntime) -> Result<(), Fail> {
     let Some(Item::Str(text)) = reader.next()? else {
         return Err(Fail::from(ItemFault::NoMemory));
     };
-    assert_eq!(rt; text.as_bytes().len(), 1_000_000);
+    assert_eq!(rt; text.as_slice().len(), 1_000_000);
     assert_eq!(rt; text.into_vec().len(), 1_000_000);
     Ok(())
 }

@@ -11,15 +11,17 @@ loop-call-preserved g c =
     let i = c.loop-call.call-index in
     let front : take (i + 1) calls ≡ take i calls ++ call ∷ [] =
     take_more calls i call c.loop-call-test.true ∙ ap (λ (x : Call). take i calls ++ x ∷ []) (sym c.call-item.is) in
-    calls_next c.args.hub.now (take i calls) (take (i + 1) calls) c.loop-call.outcomes.items c.push.new.self.items c.loop-call.hub call c.make_call.result c.make_call.new.hub
-    front c.in_ok-push.ensures.items c.loop-call.invariant c.make_call.ensures
+    let made = c.in_ok-add_call.ensures.ok in
+    calls_next c.args.hub.now (take i calls) (take (i + 1) calls) c.loop-call.outcomes.items c.add_call.new.outcomes.items c.loop-call.hub call made.0 c.add_call.new.hub
+    front made.2 c.loop-call.invariant made.1
 
-pub returns-in_err-push-clause-err : goal.returns-in_err-push-clause-err
-returns-in_err-push-clause-err g c =
+pub returns-in_err-add_call-clause-err : goal.returns-in_err-add_call-clause-err
+returns-in_err-add_call-clause-err g c =
     let calls = c.args.calls.now in
     let call = c.call-item.result in
     let i = c.loop-call.call-index in
     let front : take (i + 1) calls ≡ take i calls ++ call ∷ [] =
     take_more calls i call c.loop-call-test.true ∙ ap (λ (x : Call). take i calls ++ x ∷ []) (sym c.call-item.is) in
-    let stops = calls_stop c.args.hub.now calls i c.loop-call.outcomes.items c.loop-call.hub call c.make_call.result c.make_call.new.hub front c.loop-call.invariant c.make_call.ensures in
+    let made = c.in_err-add_call.ensures.err in
+    let stops = calls_stop c.args.hub.now calls i c.loop-call.outcomes.items c.loop-call.hub call made.0 c.add_call.new.hub front c.loop-call.invariant made.1 in
     search rules

@@ -1,10 +1,10 @@
 use Rattle.std.proofs.Common.{refl}
-use Rattle.repo_api.specs.Opening.{opened}
+use Rattle.repo_api.specs.Opening.{new_repository}
 use Rattle.hub.proofs.laws.new_trees_are_trees.Goals as goal
 
 pub returns : goal.returns
 returns c = λ settings uuid date. record {
-  revisions = c.new_repositories_are_sound.ensures (opened uuid date) uuid date refl;
+  revisions = c.new_repositories_are_sound.ensures (new_repository uuid date) uuid date refl;
   edits = tt;
   rests = tt;
 }

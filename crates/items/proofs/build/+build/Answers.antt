@@ -2,7 +2,7 @@
 use Rattle.std.proofs.Common.{◌≡◌, ◌+◌, ◌-◌, ◌<◌, suc, [], ◌∷◌, ◌++◌, length, get_or, drop, true, false, ◌==◌, sym, ap, ap₂, ◌∙◌, arith, rules}
 use Rattle.std.proofs.lemmas.Result.{IfOk-weaker}
 use Rattle.std.proofs.lemmas.Bool.Decides.{nat_tests}
-use Rattle.items.specs.View.{tree_of, trees_of}
+use Rattle.items.specs.View.{value_of, values_of}
 use Rattle.items.specs.Build.{read, row_reader}
 use Rattle.items.proofs.Views.{view-Number, view-List}
 use Rattle.items.proofs.Fronts.{all_dropped, read_nothing, read_list, read_number, read_letters, read_other}
@@ -22,21 +22,21 @@ read_item-returns-in_ok-items t c =
     let opening : get_or skipped 0 0 ≡ 40 = grind (arith, nat_tests) in
     let behind = c.behind_space.ensures ∙ ap (λ x. drop 1 x) (all_dropped 1 skipped) in
     ap (λ x. (x, c.in_ok-items.behind.now)) (view-List c.in_ok-items.items)
-    ∙ read_list c.args.depth c.args.bytes.now skipped (trees_of c.in_ok-items.items.items) c.in_ok-items.behind.now c.skip_spaces-bytes.ensures some opening (c.in_ok-items.ensures ∙ ap (row_reader c.args.depth) behind)
+    ∙ read_list c.args.depth c.args.bytes.now skipped (values_of c.in_ok-items.items.items) c.in_ok-items.behind.now c.skip_spaces-bytes.ensures some opening (c.in_ok-items.ensures ∙ ap (row_reader c.args.depth) behind)
 
 pub read_item-returns-then-is_ascii_digit : goal.read_item-returns-then-is_ascii_digit
 read_item-returns-then-is_ascii_digit t c =
     let skipped = c.skip_spaces-bytes.result.now in
     let some : 0 < length skipped = grind (arith, nat_tests) in
     IfOk-weaker c.read_counted.result _ _
-    (λ x h. read_number c.args.depth c.args.bytes.now skipped (tree_of x.0, x.1.now) c.skip_spaces-bytes.ensures some c.if-first-eq40.false (sym c.is_ascii_digit.ensures.value ∙ c.if-is_ascii_digit.true) h)
+    (λ x h. read_number c.args.depth c.args.bytes.now skipped (value_of x.0, x.1.now) c.skip_spaces-bytes.ensures some c.if-first-eq40.false (sym c.is_ascii_digit.ensures.value ∙ c.if-is_ascii_digit.true) h)
     c.read_counted.ensures
 
 pub read_item-returns-then-is_ascii_alphabetic : goal.read_item-returns-then-is_ascii_alphabetic
 read_item-returns-then-is_ascii_alphabetic t c =
     let skipped = c.skip_spaces-bytes.result.now in
     IfOk-weaker c.read_word.result _ _
-    (λ x h. read_letters c.args.depth c.args.bytes.now skipped h.0 h.1 (tree_of x.0, x.1.now) c.skip_spaces-bytes.ensures h.2 (sym c.is_ascii_alphabetic.ensures.value ∙ c.if-is_ascii_alphabetic.true) h.3)
+    (λ x h. read_letters c.args.depth c.args.bytes.now skipped h.0 h.1 (value_of x.0, x.1.now) c.skip_spaces-bytes.ensures h.2 (sym c.is_ascii_alphabetic.ensures.value ∙ c.if-is_ascii_alphabetic.true) h.3)
     c.read_word.ensures
 
 pub read_item-returns-else-is_ascii_alphabetic : goal.read_item-returns-else-is_ascii_alphabetic
@@ -62,7 +62,7 @@ read_row-returns-then-rest-eq41 t c =
     let turn : n ≡ suc (n - 1) = omega arith in
     let some : 0 < length skipped = grind (arith, nat_tests) in
     let closes : (get_or skipped 0 0 == 41) ≡ true = grind (arith, nat_tests) in
-    ap (λ x. (trees_of c.loop-turn.items.items, x)) (c.behind_space.ensures ∙ ap (λ x. drop 1 x) (all_dropped 1 skipped))
+    ap (λ x. (values_of c.loop-turn.items.items, x)) (c.behind_space.ensures ∙ ap (λ x. drop 1 x) (all_dropped 1 skipped))
     ∙ row_closes (read (c.args.depth - 1)) n (n - 1) c.loop-turn.items.items c.loop-turn.rest.now skipped _ turn c.loop-turn.invariant c.skip_spaces-rest.ensures some closes
     ∙ row_reads c.args.depth c.args.bytes.now c.if-depth-eq0.false
 

@@ -1,7 +1,7 @@
 -- Digits, and what lies behind them.
 use Rattle.std.proofs.Common.{◌≡◌, ◌≢◌, ◌⊎◌, inl, inr, ◌<◌, ◌-◌, length, get_or, take, drop, ap, ap₂, ◌∙◌, arith}
 use Rattle.std.proofs.lemmas.Bool.Decides.{nat_tests}
-use Rattle.items.specs.Tree.{string}
+use Rattle.items.specs.Values.{string}
 use Rattle.items.proofs.Views.{view-Number, view-Str}
 use Rattle.items.proofs.Fronts.{all_dropped, counted_number, counted_string}
 use Rattle.items.proofs.build.read_counted.Goals as goal
@@ -28,5 +28,5 @@ returns c =
     let len = c.min-len.result in
     let behind = ap (λ x. drop 1 x) (all_dropped len text) in
     let some : 0 < length rest = grind (arith, nat_tests) in
-    ap₂ (λ t r. (t, r)) (view-Str c.from_vec.result ∙ ap string (c.from_vec.ensures ∙ c.in_ok-string.ensures.items)) (c.behind_space-2.ensures ∙ behind)
+    ap₂ (λ t r. (t, r)) (view-Str c.in_ok-string.string ∙ ap string c.in_ok-string.ensures) (c.behind_space-2.ensures ∙ behind)
     ∙ counted_string bytes n rest text len c.digits-n.ensures some (grind (arith, nat_tests)) (all_dropped 1 rest) c.min-len.ensures

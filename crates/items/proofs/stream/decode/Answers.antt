@@ -3,7 +3,7 @@ use Rattle.std.proofs.Common.{◌≡◌, ◌+◌, ◌++◌, take, drop, take_all
 use Rattle.std.proofs.lemmas.Result.{err_from_is_err_and}
 use Rattle.std.specs.List.{flat_map}
 use Rattle.items.specs.Stream.{Splits}
-use Rattle.items.specs.View.{trees_of}
+use Rattle.items.specs.View.{values_of}
 use Rattle.items.proofs.Rows.{decoded_none, decoded_more}
 use Rattle.items.proofs.Failed.{fault_of_stream, flat-more, flat-split}
 use Rattle.items.proofs.Unique.{one_split}
@@ -18,9 +18,9 @@ returns-clause-only c others rest s =
     let d = c.loop-piece.invariant in
     let all : take c.loop-piece.piece-index pieces ≡ pieces = take_all c.loop-piece.piece-index pieces (omega arith) in
     let stream = flat_map (λ piece. piece.items) pieces in
-    let mine : Splits stream (trees_of c.loop-piece.items.items) c.loop-piece.reader.rest =
+    let mine : Splits stream (values_of c.loop-piece.items.items) c.loop-piece.reader.rest =
     record { front = d.front; whole = ap (λ x. flat_map (λ piece. piece.items) x) (sym all) ∙ d.whole; row = d.row; partial = d.no_item } in
-    one_split stream (trees_of c.loop-piece.items.items) others c.loop-piece.reader.rest rest mine s
+    one_split stream (values_of c.loop-piece.items.items) others c.loop-piece.reader.rest rest mine s
 
 pub loop-piece-preserved : goal.loop-piece-preserved
 loop-piece-preserved c =

@@ -1,7 +1,7 @@
 -- One item more is written.
 use Rattle.std.proofs.Common.{◌≡◌, ◌+◌, ◌++◌, ◌∷◌, [], List, take, sym, ap, ◌∙◌, subst, append_assoc}
 use Rattle.std.proofs.lemmas.List.{take_more}
-use Rattle.items.specs.View.{tree_of, trees_of}
+use Rattle.items.specs.View.{value_of, values_of}
 use Rattle.items.specs.Print.{printed, row_printed}
 use Rattle.items.specs.declared.item.Item.{Item}
 use Rattle.items.specs.Written.{HaveWords}
@@ -17,9 +17,9 @@ append_list-loop-item-preserved t c =
     let front = c.args.out.now.items ++ (40 ∷ 32 ∷ []) in
     let taken : take (i + 1) items ≡ take i items ++ (item ∷ []) = take_more items i item c.loop-item-test.true ∙ ap (λ x. take i items ++ (x ∷ [])) (sym c.item-item.is) in
     let wrote = c.in_ok-append_item.ensures.ok
-    ∙ ap (λ x. x ++ printed (tree_of item)) c.loop-item.invariant.0
-    ∙ append_assoc front (row_printed (trees_of (take i items))) (printed (tree_of item))
+    ∙ ap (λ x. x ++ printed (value_of item)) c.loop-item.invariant.0
+    ∙ append_assoc front (row_printed (values_of (take i items))) (printed (value_of item))
     ∙ ap (λ x. front ++ x) (sym (row_printed-snoc (take i items) item))
-    ∙ ap (λ x. front ++ row_printed (trees_of x)) (sym taken) in
-    let W : List Item → Type 0 = λ x. HaveWords (trees_of x) in
+    ∙ ap (λ x. front ++ row_printed (values_of x)) (sym taken) in
+    let W : List Item → Type 0 = λ x. HaveWords (values_of x) in
     (wrote, subst W (sym taken) (words-snoc (take i items) item c.loop-item.invariant.1 c.in_ok-append_item.ensures.words))

@@ -1,14 +1,13 @@
-use Rattle.std.proofs.Common.{◌≤◌, length}
-use Rattle.machine.specs.Points.{world}
+use Rattle.std.proofs.Common.{length}
+use Rattle.access.specs.Points.{content_of}
 use Rattle.machine.specs.Stages.{RestsOn}
 use Rattle.session.proofs.Runs.{Progress}
 use Rattle.session.proofs.session.serve_all.Given as goal
 
 abbrev pub invariant-inputs : goal.invariant-inputs
 invariant-inputs g l =
-    RestsOn l.phase (world (g.A.RepoAccess.point l.access))
-    × (l.env.moment ≤ 200000000000000000)
-    × Progress g.A.RepoAccess.between g.A.RepoAccess.adds l.fn.options l.fn.env (g.A.RepoAccess.point l.fn.access) l.fn.phase l.fn.reader.rest l.env (g.A.RepoAccess.point l.access) l.phase l.reader.rest (g.S.ReplySink.writes l.fn.out l.out)
+    RestsOn l.phase (content_of (g.A.RepoAccess.point l.access))
+    × Progress g.A.RepoAccess.rules l.fn.options l.fn.turn.env (g.A.RepoAccess.point l.fn.access) l.fn.phase l.fn.reader.rest l.turn.env (g.A.RepoAccess.point l.access) l.phase l.reader.rest (g.S.ReplySink.writes l.fn.turn.out l.turn.out)
 
 abbrev pub decreases-inputs : goal.decreases-inputs
 decreases-inputs g l = length l.reader.rest

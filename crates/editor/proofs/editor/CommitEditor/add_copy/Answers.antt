@@ -17,8 +17,8 @@ returns-clause-ok g c =
     let opened : c.added_opened.result ≡ added_opened c.args.is_file p (Some c.args.source.now) = c.added_opened.ensures ∙ ap (λ (q : PathValue). added_opened c.args.is_file q (Some c.args.source.now)) c.in_ok-opened.ensures.cases in
     reopened (g.R.Repository.content c.args.repository.now) old c.put_new.new.self _ _ (copy_edit (standing old.txn p) p c.args.source.now) _ _ _ h c.self.view_is
     (c.in_ok-op.ensures ∙ ap (λ (kind : NodeKind). copy_edit kind p c.args.source.now) c.standing.ensures)
-    (c.close_others_beneath.ensures ∙ ap (λ (e : EditState). others_closed_beneath e.tokens p c.in_ok-token.token) (c.self.view_is ∙ h.is)
-    ∙ (λ i. others_closed_beneath (with_token old.tokens (c.in_ok-key.ensures i) (opened i)) (sym (path_of_added c.args.is_file p c.args.source.now) i) (c.in_ok-token.ensures i)))
+    (c.close_others_beneath.ensures ∙ ap (λ (e : EditState). others_closed_beneath e.tokens p c.args.entry.now.token) (c.self.view_is ∙ h.is)
+    ∙ (λ i. others_closed_beneath (with_token old.tokens (c.in_ok-token.ensures.cases i) (opened i)) (sym (path_of_added c.args.is_file p c.args.source.now) i) c.args.entry.now.token))
 
 pub put_new-requires-clause-right : goal.put_new-requires-clause-right
 put_new-requires-clause-right g c =

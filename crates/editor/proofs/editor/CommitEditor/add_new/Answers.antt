@@ -12,7 +12,7 @@ use Rattle.editor.proofs.editor.CommitEditor.add_new.Goals as goal
 pub put_new-requires-clause-is_new : goal.put_new-requires-clause-is_new
 put_new-requires-clause-is_new g c =
     let place = placed_first c.args.self.now c.args.entry.now.parent c.args.entry.now.token c.args.path.now (add_refusal (standing c.args.self.now.txn c.args.path.now)) c.in_ok-judge_new.ensures in
-    ap (λ (token : List ℕ). opened_under c.args.self.now.tokens token) c.in_ok-token.ensures ∙ place.is_new
+    ap (λ (token : List ℕ). opened_under c.args.self.now.tokens token) c.in_ok-token.ensures.cases ∙ place.is_new
 
 pub put_new-requires-clause-right : goal.put_new-requires-clause-right
 put_new-requires-clause-right g c =

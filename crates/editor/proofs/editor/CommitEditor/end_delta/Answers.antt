@@ -5,5 +5,5 @@ use Rattle.editor.proofs.editor.CommitEditor.end_delta.Goals as goal
 pub returns-clause-ok : goal.returns-clause-ok
 returns-clause-ok g c =
     let o = c.in_ok-op.ensures.op in
-    ends (g.R.Repository.content c.args.repository.now) c.args.self.now c.edit.new.self _ c.in_ok-op.op c.args.token.now _ o.0 o.1 o.3.0 _ c.in_ok-token.ensures o.2 o.3.1 o.3.2
+    ends (g.R.Repository.content c.args.repository.now) c.args.self.now c.edit.new.self _ c.in_ok-op.op c.args.token.now o.0 o.1 o.3.0 _ o.2 o.3.1 o.3.2
     (rw c.in_ok-op.ensures.same at c.in_ok-edit.ensures.ok) c.self.view_is (c.set_delta.ensures o.0 (Reading o.1))

@@ -7,5 +7,5 @@ use Rattle.editor.proofs.editor.CommitEditor.open_root.Goals as goal
 pub returns-clause-ok : goal.returns-clause-ok
 returns-clause-ok g c =
     opens (g.R.Repository.content c.args.repository.now) _ c.args.self.now c.args.revision c.args.token.now _ _ _ _ c.self.view_is
-    c.in_ok-token.ensures c.in_ok-path.ensures.cases c.in_ok-txn.ensures
+    c.in_ok-token.ensures.cases c.in_ok-path.ensures.cases c.in_ok-txn.ensures
     (c.in_ok-insert.ensures.entries ∙ ap (λ (opened : Opened). with_token c.self.inside.tokens.entries c.in_ok-token.token opened) c.opened_directory.ensures)

@@ -1,6 +1,8 @@
 use Rattle.std.proofs.Common.{◌<◌, length, sym, ap, subst, ◌∙◌}
-use Rattle.repo_api.specs.Commits.{revision_limit, commit_refusal}
-use Rattle.flatrepo.specs.Whole.{content_of, revisions_of, txn_state_of}
+use Rattle.repo_api.specs.Commits.{commit_refusal}
+use Rattle.repo_api.specs.declared.limits.TheConstants.{REVISION_LIMIT}
+use Rattle.flat_trees.specs.Contents.{content_of, revisions_of}
+use Rattle.flatrepo.specs.Whole.{txn_state_of}
 use Rattle.flatrepo.proofs.Limits.{under_limit}
 use Rattle.flatrepo.proofs.repository.FlatRepoRepository.commit.Goals as goal
 
@@ -10,7 +12,7 @@ returns-in-Some-clause-refused c =
 
 pub with_commit-requires : goal.with_commit-requires
 with_commit-requires c =
-    subst (λ h. length (revisions_of h) < revision_limit) (c.deref.ensures ∙ sym c.deref-3.ensures)
+    subst (λ h. length (revisions_of h) < REVISION_LIMIT) (c.deref.ensures ∙ sym c.deref-3.ensures)
     (under_limit (content_of c.deref.result.now) c.args.ask (txn_state_of c.args.txn) (sym (c.refusal_of.ensures c.args.ask) ∙ c.in_default.is))
 
 pub returns-clause-accepted : goal.returns-clause-accepted

@@ -2,7 +2,7 @@
 use Rattle.std.proofs.Common.{◌≡◌, ◌+◌, ◌<◌, ℕ, List, length, take, slice_index, sym, ap, ◌∙◌, subst}
 use Rattle.items.specs.declared.scan.End.{End}
 use Rattle.items.specs.declared.scan.Step.TheVariants as steps
-use Rattle.items.specs.Tree.{Tree, limits}
+use Rattle.items.specs.Values.{ItemValue, limits}
 use Rattle.items.specs.Stream.{IsItem}
 use Rattle.items.specs.Scan.{step}
 use Rattle.items.specs.Run.{IsScanned, EndsSo}
@@ -19,7 +19,7 @@ build-requires c =
     let bytes = c.as_slice.result.now in
     let E : End → Type 0 = λ e. EndsSo bytes n s e in
     let ends = subst E c.in-Whole.is c.proceed-end.ensures.ends in
-    let P : List ℕ → Type 0 = λ b. (t : Tree) × IsItem limits t (take (n + 1) b) in
+    let P : List ℕ → Type 0 = λ b. (t : ItemValue) × IsItem limits t (take (n + 1) b) in
     subst P (c.as_slice.ensures ∙ sym c.as_slice-in-Whole.ensures) (item_there bytes n s c.proceed-end.ensures.scanned ends.0 ends.1)
 
 pub invariant_of-self-in-Whole : goal.invariant_of-self-in-Whole

@@ -1,0 +1,69 @@
+//! A repository as a session reaches it.
+ghost use Rattle.std.specs.Prelude.{◌≡◌, ◌≤◌, true, IfOk};
+ghost use Rattle.repo_api.specs.States.{IsBeginning};
+ghost use Rattle.repo_api.specs.Accepted.{Accepted, changed};
+ghost use Rattle.repo_api.specs.Soundness.{AreSound};
+ghost use Rattle.access.specs.Points.{Point, AccessRules, content_of};
+ghost use Rattle.access.specs.Changing.{CommitsAt};
+
+use repo_api::{ChangeFault, CommitAsk, Repository};
+use std::alloc::AllocError;
+
+/// A repository as a session reaches it: others may change it between two of the session's inputs.
+pub trait RepoAccess {
+    /// The repository at one moment.
+    type View: Repository;
+
+    /// The last moment that was shown.
+    ghost point: { Self → Point };
+
+    /// What leads from one moment to another.
+    ghost rules: { AccessRules };
+
+    /// The repository as it is now.
+    fn look(&mut self) -> Result<Self::View, AllocError>
+        ensures view { IfOk result (λ view. Self.View.content view ≡ content_of (point self.new)) }
+        ensures later { rules.between (point self.old) (point self.new) };
+
+    /// Whether no change is made any more.
+    fn is_halted(&self) -> bool
+        ensures { result ≡ (point self.now).halted };
+
+    /// Makes the transaction the next revision, and answers its number. The transaction was last shown
+    /// revisions that this access has shown.
+    fn commit(
+        &mut self,
+        ask: CommitAsk,
+        txn: <Self::View as Repository>::Txn,
+    ) -> Result<u64, ChangeFault>
+        requires { IsBeginning (Self.View.txn_state txn).shown
+            (content_of (point self.old)).revisions }
+        ensures { (at : Point) × rules.between (point self.old) at
+            × CommitsAt rules ask (Self.View.txn_state txn) at result (point self.new) };
+
+    ghost stays: { (p : Point) → rules.between p p };
+
+    ghost goes_on: { (p q r : Point) → rules.between p q → rules.between q r → rules.between p r };
+
+    /// What is shown never goes back.
+    ghost keeps: { (p q : Point) → rules.between p q
+        → IsBeginning (content_of p).revisions (content_of q).revisions };
+
+    /// Others leave the trees of the repository sound.
+    ghost sound: { (p q : Point) → rules.between p q
+        → AreSound (content_of p).revisions → AreSound (content_of q).revisions };
+
+    /// Changes that have come to a halt are not made again, and the count of failures never falls.
+    ghost lasts: { (p q : Point) → rules.between p q
+        → (p.halted ≡ true → q.halted ≡ true) × (p.failures ≤ q.failures) };
+
+    /// An own change is the one that was asked for.
+    ghost counts: { (p : Point) (e : Accepted) (q : Point) → rules.adds p e q
+        → (content_of q ≡ changed (content_of p) e) × (q.halted ≡ p.halted) × (q.failures ≡ p.failures) };
+}
+
+/// An access that nobody shares: nothing changes between two calls.
+pub trait SoleAccess: RepoAccess {
+    ghost alone: { (p q : Point) → Self.rules.between p q
+        → (content_of p ≡ content_of q) × (p.halted ≡ q.halted) × (p.failures ≡ q.failures) };
+}

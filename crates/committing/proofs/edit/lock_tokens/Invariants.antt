@@ -1,7 +1,0 @@
-use Rattle.std.proofs.Common.{◌≡◌, drop}
-use Rattle.machine.specs.Machine.{lock_tokens}
-use Rattle.committing.proofs.Asking.{in_front}
-use Rattle.committing.proofs.edit.lock_tokens.Given as goal
-
-abbrev pub invariant-loop-pair : goal.invariant-loop-pair
-invariant-loop-pair l = lock_tokens l.base l.pairs ≡ in_front l.tokens (lock_tokens l.base (drop l.pair-index l.pairs))

@@ -1,0 +1,102 @@
+//! The entries of a tree: new ones, and changes in their places.
+ghost use Rattle.std.specs.Prelude.{◌≡◌, ◌+◌, ◌&&◌, [], nat_lt, length, IfOk};
+ghost use Rattle.svnpath.specs.Paths.{PathValue, is_at_or_under};
+ghost use Rattle.repo_api.specs.Edits.{new_entry, with_text};
+ghost use Rattle.repo_api.specs.Opening.{opening_root};
+ghost use Rattle.repo_api.specs.declared.entry.Content.TheVariants.{File};
+ghost use Rattle.flat_parts.specs.Found.{found, part_at, with_properties};
+
+use repo_api::{Content, Entry, FileText, Mark, Properties};
+use std::alloc::{AllocError, Global};
+use std::collections::BTreeMap;
+use svnpath::Path;
+
+/// The root of revision 0.
+pub fn opening_root(alloc: Global) -> Entry
+    ensures { result ≡ opening_root }
+{
+    Entry {
+        content: Content::Directory,
+        properties: Properties::new(alloc),
+        own: Mark::Made(0, Path::root(alloc)),
+        last: Mark::Made(0, Path::root(alloc)),
+    }
+}
+
+/// An entry that is added, with this content.
+pub fn new_entry(alloc: Global, content: Content) -> Entry
+    ensures { result ≡ new_entry content }
+{
+    Entry {
+        content,
+        properties: Properties::new(alloc),
+        own: Mark::Open,
+        last: Mark::Open,
+    }
+}
+
+/// What a file that is added has: no text yet.
+pub fn empty_file() -> Content
+    ensures { result ≡ File [] }
+{
+    Content::File(FileText::empty())
+}
+
+/// A copy of the entry with these marks.
+pub(crate) fn with_marks(entry: &Entry, own: Mark, last: Mark) -> Result<Entry, AllocError>
+    ensures { IfOk result (λ e. e ≡ record entry.now { own = own; last = last }) }
+{
+    Ok(Entry {
+        content: entry.content.clone()?,
+        properties: entry.properties.clone()?,
+        own,
+        last,
+    })
+}
+
+/// Makes the entry at the path a new one with this content.
+pub fn put_new_entry(
+    entries: &mut BTreeMap<Path, Entry>,
+    alloc: Global,
+    path: &Path,
+    content: Content,
+)
+    ensures { (q : PathValue) → found entries.new.entries q
+        ≡ part_at path.now (λ e. new_entry content) q (found entries.old.entries q) }
+{
+    if let Some(entry) = entries.get_mut(path) {
+        *entry = new_entry(alloc, content);
+    }
+}
+
+/// Gives the entry at the path these properties, and opens its marks.
+pub fn put_properties(entries: &mut BTreeMap<Path, Entry>, path: &Path, properties: Properties)
+    ensures { (q : PathValue) → found entries.new.entries q
+        ≡ part_at path.now (with_properties properties) q (found entries.old.entries q) }
+{
+    if let Some(entry) = entries.get_mut(path) {
+        entry.properties = properties;
+        entry.own = Mark::Open;
+        entry.last = Mark::Open;
+    }
+}
+
+/// Gives the entry at the path this text, and opens its marks.
+pub fn put_text(entries: &mut BTreeMap<Path, Entry>, path: &Path, text: FileText)
+    ensures { (q : PathValue) → found entries.new.entries q
+        ≡ part_at path.now (with_text text) q (found entries.old.entries q) }
+{
+    if let Some(entry) = entries.get_mut(path) {
+        entry.content = Content::File(text);
+        entry.own = Mark::Open;
+        entry.last = Mark::Open;
+    }
+}
+
+/// Whether the key lies more than so many names beneath the path.
+pub fn is_deeper(key: &Path, path: &Path, names: usize) -> bool
+    ensures { result ≡ is_at_or_under key.now path.now
+        && nat_lt (length path.now + names) (length key.now) }
+{
+    key.is_at_or_under(path) && key.len() - path.len() > names
+}

@@ -1,0 +1,4 @@
+pub mod Adding
+pub mod Contents
+pub mod Merging
+pub mod Perhaps

@@ -1,0 +1,157 @@
+//! What a repository holds.
+ghost use Rattle.std.specs.Prelude.{◌≡◌, ◌∷◌, [], ◌++◌, ◌-◌, length, IfOk, OnOk, slice_get, option_copied, option_map};
+ghost use Rattle.std.specs.FinMap.{empty};
+ghost use Rattle.repo_api.specs.Opening.{new_repository, opening_tree};
+ghost use Rattle.flat_trees.specs.Contents.{fixed_of, values, revisions_of, properties_of, content_of};
+
+use crate::flat_changes::FlatChanges;
+use crate::flat_tree::FlatTree;
+use byte_string::ByteString;
+use flat_parts::opening_properties;
+use repo_api::Properties;
+use std::alloc::{AllocError, Global};
+use std::sync::Arc;
+
+/// What never changes of a revision.
+#[derive(Drop)]
+pub struct FlatRevision {
+    pub tree: FlatTree,
+    pub changes: FlatChanges,
+}
+
+impl FlatRevision {
+    /// Revision 0: the root alone, and no changes.
+    fn opening(alloc: Global) -> Result<Self, AllocError>
+        ensures tree { IfOk result (λ r. r.tree ≡ opening_tree) }
+        ensures changes { IfOk result (λ r. r.changes ≡ empty) }
+    {
+        Ok(FlatRevision {
+            tree: FlatTree::opening(alloc)?,
+            changes: FlatChanges::new(alloc),
+        })
+    }
+}
+
+/// The repository's name, its revisions from 0 on, and the properties of each.
+#[derive(Drop)]
+pub struct FlatContent {
+    pub uuid: u128,
+    revisions: Vec<Arc<FlatRevision>>,
+    properties: Vec<Arc<Properties>>,
+}
+
+impl FlatContent {
+    /// Revision 0 alone, with its date.
+    pub fn opened(alloc: Global, uuid: u128, date: ByteString) -> Result<Self, AllocError>
+        ensures { IfOk result (λ c. content_of c ≡ new_repository uuid date) }
+    {
+        Ok(FlatContent {
+            uuid,
+            revisions: one(alloc, FlatRevision::opening(alloc)?)?,
+            properties: one(alloc, opening_properties(alloc, date)?)?,
+        })
+    }
+
+    /// How many revisions there are.
+    pub fn count(&self) -> u64
+        ensures { result ≡ length (revisions_of self.now) }
+    {
+        self.revisions.len() as u64
+    }
+
+    /// The number of the youngest revision.
+    pub fn youngest(&self) -> u64
+        ensures { result ≡ length (revisions_of self.now) - 1 }
+    {
+        self.count().saturating_sub(1)
+    }
+
+    /// The tree of the revision, none for a number that is no revision.
+    pub fn tree(&self, revision: u64) -> Option<&FlatTree>
+        ensures { option_copied result ≡ option_map (λ r. r.tree)
+            (slice_get (revisions_of self.now) revision) }
+    {
+        match at(&self.revisions, revision) {
+            Some(revision) => Some(&revision.tree),
+            None => None,
+        }
+    }
+
+    /// The properties of the revision, none for a number that is no revision.
+    pub fn properties(&self, revision: u64) -> Option<&Properties>
+        ensures { option_copied result ≡ slice_get (properties_of self.now) revision }
+    {
+        at(&self.properties, revision)
+    }
+
+    /// The same with one revision more.
+    pub fn with_revision(
+        &self,
+        alloc: Global,
+        revision: &Arc<FlatRevision>,
+        properties: &Arc<Properties>,
+    ) -> Result<Self, AllocError>
+        ensures revisions { IfOk result (λ c. revisions_of c ≡ revisions_of self.now
+            ++ fixed_of revision.now.value ∷ []) }
+        ensures properties { IfOk result (λ c. properties_of c ≡ properties_of self.now
+            ++ properties.now.value ∷ []) }
+        ensures uuid { IfOk result (λ c. c.uuid ≡ self.now.uuid) }
+    {
+        Ok(FlatContent {
+            uuid: self.uuid,
+            revisions: with_one_more(alloc, &self.revisions, revision)?,
+            properties: with_one_more(alloc, &self.properties, properties)?,
+        })
+    }
+}
+
+/// The value at the number, if there is one.
+fn at<T>(items: &[Arc<T>], number: u64) -> Option<&T>
+    ensures { option_copied result ≡ slice_get (values items.now) number }
+{
+    match items.get(number as usize) {
+        Some(value) => Some(value),
+        None => None,
+    }
+}
+
+/// A list of one value.
+fn one<T: Drop>(alloc: Global, value: T) -> Result<Vec<Arc<T>>, AllocError>
+    ensures { IfOk result (λ v. values v.items ≡ value ∷ []) }
+{
+    let mut list = Vec::new(alloc);
+    list.push(Arc::new(alloc, value)?)?;
+    Ok(list)
+}
+
+/// The values, which are shared, and one more.
+fn with_one_more<T: Drop>(
+    alloc: Global,
+    items: &[Arc<T>],
+    more: &Arc<T>,
+) -> Result<Vec<Arc<T>>, AllocError>
+    ensures { IfOk result (λ v. values v.items ≡ values items.now ++ more.now.value ∷ []) }
+{
+    let mut list = shared(alloc, items)?;
+    put_shared(&mut list, more)?;
+    Ok(list)
+}
+
+/// The same values, shared.
+fn shared<T: Drop>(alloc: Global, items: &[Arc<T>]) -> Result<Vec<Arc<T>>, AllocError>
+    ensures { IfOk result (λ v. values v.items ≡ values items.now) }
+{
+    let mut list = Vec::new(alloc);
+    for item in items {
+        put_shared(&mut list, item)?;
+    }
+    Ok(list)
+}
+
+/// Puts the value, which is shared, at the end of the list.
+fn put_shared<T: Drop>(list: &mut Vec<Arc<T>>, more: &Arc<T>) -> Result<(), AllocError>
+    ensures { OnOk result (values list.new.items ≡ values list.old.items ++ more.now.value ∷ []) }
+{
+    list.push(Arc::try_clone(more)?)?;
+    Ok(())
+}

@@ -1,0 +1,107 @@
+-- What becomes of a session's steps: each happens at one point of the repository, and its replies
+-- are written, or a
+-- part of them where memory or the sink fails.
+use Rattle.std.specs.Prelude.{◌≡◌, ◌⊎◌, ℕ, true, List, [], ◌∷◌, ◌++◌}
+use Rattle.repo_api.specs.Accepted.{Accepted}
+use Rattle.replies.specs.declared.reply.Reply.{Reply}
+use Rattle.replies.specs.Replies.{print}
+use Rattle.replies.specs.Sinks.{WritesPart}
+use Rattle.access.specs.Points.{Point, AccessRules, content_of}
+use Rattle.access.specs.Changing.{IsHalt, IsFailure}
+use Rattle.machine.specs.declared.env.Env.{Env}
+use Rattle.machine.specs.Stages.{Stage, is_open}
+use Rattle.machine.specs.Settings.{Settings}
+use Rattle.machine.specs.Hearing.{Input, Yields, HasNoMore}
+use Rattle.machine.specs.Machine.{Verdict, Effect, Answer, InputStep}
+use Rattle.machine.specs.Machine.Verdict.{Written, NotWritten, Unknown}
+
+-- ---- at a point of the repository
+
+-- the session's own changes, one after another
+abbrev pub AddsAll : AccessRules → Point → List Accepted → Point → Type 0
+AddsAll rules p [] q = q ≡ p
+AddsAll rules p (e ∷ es) q = (mid : Point) × rules.adds p e mid × AddsAll rules mid es q
+
+-- what the store did last
+abbrev pub Stores : Verdict → Point → Point → Type 0
+Stores Written p q = q ≡ p
+Stores NotWritten p q = IsFailure p q
+Stores Unknown p q = IsHalt p q
+
+-- from a point on to the next by an effect
+abbrev pub EffectAt : AccessRules → Point → Effect → Point → Type 0
+EffectAt rules p effect q =
+    (mid : Point) × AddsAll rules p effect.changes mid × Stores effect.store mid q
+
+-- a step happens at one point: what others did before it, the answer there, and the answer's effect
+pub record StepAt (rules : AccessRules) (step : Point → Answer
+    → Type 0) (p : Point) (a : Answer) (q : Point) : Type 0 where
+  pub at : Point
+  pub later : rules.between p at
+  pub step_is : step at a
+  pub moves : EffectAt rules at a.effect q
+
+-- what an input does at a point
+abbrev pub input_step : Settings → Env → Stage → Input → Point → Answer → Type 0
+input_step s env phase input at a = InputStep at.halted s env (content_of at) phase input a
+
+-- one input after another
+abbrev pub SessionRun : AccessRules → Settings → Env → Point → Stage → List Input → List Reply → Env
+    → Point → Stage → Type 0
+SessionRun rules s env p phase [] told env' p' phase' =
+    rules.between p p' × (told ≡ []) × (env' ≡ env) × (phase' ≡ phase)
+SessionRun rules s env p phase (input ∷ inputs) told env' p' phase' =
+    (a : Answer) × (q : Point) × (more : List Reply)
+    × StepAt rules (input_step s env phase input) p a q
+    × SessionRun rules s a.env q a.phase inputs more env' p' phase' × (told ≡ a.replies ++ more)
+
+-- ---- and written
+
+-- an answer's replies are written: the session stands where it says, and these words are left
+pub record AnswerWritten (a : Answer) (phase' : Stage) (env' : Env) (writes : List ℕ
+    → Type 0) : Type 0 where
+  pub phase_after : phase' ≡ a.phase
+  pub env_after : env' ≡ a.env
+  pub written : writes (print a.replies)
+
+-- a step has happened, and its replies are written
+pub record StepWritten (rules : AccessRules) (step : Point → Answer → Type 0) (p q : Point)
+    (phase' : Stage) (env' : Env) (writes : List ℕ → Type 0) : Type 0 where
+  pub answer : Answer
+  pub happens : StepAt rules step p answer q
+  pub phase_after : phase' ≡ answer.phase
+  pub env_after : env' ≡ answer.env
+  pub written : writes (print answer.replies)
+
+-- for want of memory or of the sink a step has not happened, and nothing was written; or it has,
+-- and a part of its
+-- replies was written
+abbrev pub StepOrNothing : AccessRules → (Point → Answer → Type 0) → Point → Point
+    → (List ℕ → Type 0) → Type 0
+StepOrNothing rules step p q writes =
+    (rules.between p q × writes []) ⊎ ((a : Answer) × StepAt rules step p a q
+    × WritesPart writes (print a.replies))
+
+-- the stream's inputs have happened, and their replies are written; a session that is still open
+-- leaves none
+pub record FeedWritten (rules : AccessRules) (s : Settings) (env : Env) (p : Point) (phase : Stage)
+    (stream rest : List ℕ) (q : Point) (phase' : Stage) (writes : List ℕ → Type 0) : Type 0 where
+  pub inputs : List Input
+  pub yields : Yields stream inputs rest
+  pub settled : is_open phase' ≡ true → HasNoMore rest
+  pub told : List Reply
+  pub env_after : Env
+  pub run : SessionRun rules s env p phase inputs told env_after q phase'
+  pub written : writes (print told)
+
+-- some of the stream's inputs have happened in order, and a part of their replies was written
+pub record FeedLost (rules : AccessRules) (s : Settings) (env : Env) (p : Point) (phase : Stage)
+    (stream : List ℕ) (q : Point) (writes : List ℕ → Type 0) : Type 0 where
+  pub inputs : List Input
+  pub rest : List ℕ
+  pub yields : Yields stream inputs rest
+  pub told : List Reply
+  pub env_after : Env
+  pub phase_after : Stage
+  pub run : SessionRun rules s env p phase inputs told env_after q phase_after
+  pub written : WritesPart writes (print told)

@@ -1,0 +1,4 @@
+//! How much a repository can hold.
+
+/// The most revisions of a repository, which are 0 to 262,143.
+pub const REVISION_LIMIT: u64 = 262_144;

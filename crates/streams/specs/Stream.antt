@@ -1,0 +1,176 @@
+-- What it is to serve one session over a stream.
+use Rattle.std.specs.Prelude.{◌≡◌, ◌⊎◌, ◌<◌, ◌≤◌, ℕ, Bool, true, ◌&&◌, not, is_some, List, [], ◌∷◌, ◌++◌, length, Option, Some, Result, Ok, Err}
+use Rattle.std.specs.List.{flat_map}
+use Rattle.std.specs.Io.KnownBytes.{Consumes, Appends, IsAtEnd}
+use Rattle.replies.specs.declared.reply.Reply.{Reply}
+use Rattle.machine.specs.Hearing.{Input, Yields}
+use Rattle.machine.specs.Stages.{SessionState}
+use Rattle.replies.specs.Replies.{print}
+use Rattle.machine.specs.declared.env.Env.{Env}
+use Rattle.hub.specs.declared.hub.HubFault.{HubFault}
+use Rattle.hub.specs.State.{HubState, session_of}
+use Rattle.hub.specs.Runs.{Event, HubRun, InputsAre, IfOpen, with_rest}
+use Rattle.hub.specs.Calls.{ConnectsAs, ConnectFails, FeedBreaks}
+use Rattle.streams.specs.declared.sink.TheConstants.{PIECE}
+use Rattle.streams.specs.declared.fault.ServeFault.{ServeFault}
+use Rattle.streams.specs.declared.fault.ServeFault.TheVariants.{Read, Write, Hub}
+
+-- What was read at once: what the source handed in for it, its bytes, and the inputs that they
+-- complete.
+pub record Piece : Type 0 where
+  pub env : Env
+  pub bytes : List ℕ
+  pub inputs : List Input
+
+-- the bytes of all pieces, in a row
+abbrev pub bytes_of : List Piece → List ℕ
+bytes_of pieces = flat_map (λ (piece : Piece). piece.bytes) pieces
+
+-- the inputs of all pieces, in a row
+abbrev pub inputs_of : List Piece → List Input
+inputs_of pieces = flat_map (λ (piece : Piece). piece.inputs) pieces
+
+-- a source hands in what the pieces have, one after another
+abbrev pub GivesAll : {E : Type 0} → (E → Env → E → Type 0) → E → List Piece → E → Type 0
+GivesAll gives source [] source' = source' ≡ source
+GivesAll {E} gives source (piece ∷ pieces) source' =
+    (next : E) × gives source piece.env next × GivesAll gives next pieces source'
+
+-- a stream, of which this had come, goes on by these pieces of 1 to 65,536 bytes each, which
+-- complete their inputs
+abbrev pub ComesInPieces : List ℕ → List Piece → List ℕ → Type 0
+ComesInPieces stream [] rest = rest ≡ stream
+ComesInPieces stream (piece ∷ pieces) rest =
+    (0 < length piece.bytes) × (length piece.bytes ≤ PIECE)
+    × (after : List ℕ) × Yields (stream ++ piece.bytes) piece.inputs after
+    × ComesInPieces after pieces rest
+
+-- the inputs happen in order, those of each piece with what was handed in for it
+abbrev pub PiecesRun : HubState → ℕ → List Piece → List Reply → HubState → Type 0
+PiecesRun old n [] told new = (told ≡ []) × (new ≡ old)
+PiecesRun old n (piece ∷ pieces) told new =
+    (events : List Event) × (first : List Reply) × (mid : HubState) × (after : Env)
+    × (more : List Reply)
+    × InputsAre n piece.inputs events × HubRun old piece.env events first mid after
+    × PiecesRun mid n pieces more new × (told ≡ first ++ more)
+
+-- A session was sent these pieces: all that their bytes bring, with what had come of its stream
+-- before, happened in
+-- order and drew this output. (However the pieces are cut, the inputs are those of the whole
+-- stream.)
+pub record StreamRun (old : HubState) (n : ℕ) (pieces : List Piece) (out : List ℕ)
+    (new : HubState) : Type 0 where
+  pub session : SessionState
+  pub is_session : session_of old.sessions n ≡ Some session
+  pub rest : List ℕ
+  pub yields : Yields (session.rest ++ bytes_of pieces) (inputs_of pieces) rest
+  pub cut : ComesInPieces session.rest pieces rest
+  pub settled : IfOpen (session_of new.sessions n) rest
+  pub told : List Reply
+  pub run : PiecesRun (with_rest old n session rest) n pieces told new
+  pub written : out ≡ print told
+
+-- what the pieces that were read draw, nothing where there are none
+abbrev pub Draws : HubState → ℕ → List Piece → List ℕ → HubState → Type 0
+Draws old n [] out new = (out ≡ []) × (new ≡ old)
+Draws old n (piece ∷ pieces) out new = StreamRun old n (piece ∷ pieces) out new
+
+-- What a session is served with, at one moment: the hub, the bytes that the reader has left and
+-- those that the writer
+-- holds, where they are known, and the source of what is handed in.
+pub record Scene (E : Type 0) : Type 0 where
+  pub hub : HubState
+  pub input : Option (List ℕ)
+  pub output : Option (List ℕ)
+  pub envs : E
+
+abbrev pub scene : {E : Type 0} → HubState → Option (List ℕ) → Option (List ℕ) → E → Scene E
+scene hub input output envs = record { hub = hub; input = input; output = output; envs = envs }
+
+-- Pieces of the input were sent to a session, and what they drew was written.
+pub record HearsPieces {E : Type 0} (gives : E → Env → E
+    → Type 0) (n : ℕ) (old new : Scene E) : Type 0 where
+  pub pieces : List Piece
+  pub answers : List ℕ
+  pub given : GivesAll gives old.envs pieces new.envs
+  pub run : Draws old.hub n pieces answers new.hub
+  pub read : Consumes old.input new.input (bytes_of pieces)
+  pub written : Appends old.output new.output answers
+
+-- the session of this number hears what comes
+abbrev pub is_hearing : HubState → ℕ → Bool
+is_hearing h n = is_some (session_of h.sessions n) && not h.halted
+
+-- the session hears nothing any more, or all of its input was read
+abbrev pub IsServed : {E : Type 0} → ℕ → Scene E → Type 0
+IsServed n new = is_hearing new.hub n ≡ true → IsAtEnd new.input
+
+-- A piece was read for a session that hears what comes, and the hub failed at it. What was written
+-- then is a part of
+-- what the inputs draw that were served.
+pub record Stops {E : Type 0} (gives : E → Env → E
+    → Type 0) (n : ℕ) (fault : HubFault) (old new : Scene E) : Type 0 where
+  pub hearing : is_hearing old.hub n ≡ true
+  pub env : Env
+  pub given : gives old.envs env new.envs
+  pub bytes : List ℕ
+  pub read : Consumes old.input new.input bytes
+  pub fails : FeedBreaks old.hub env n bytes fault new.hub (Appends old.output new.output)
+
+-- pieces were answered, and at the next one the hub failed
+abbrev pub HearsUntil : {E : Type 0} → (E → Env → E → Type 0) → ℕ → HubFault → Scene E → Scene E
+    → Type 0
+HearsUntil {E} gives n fault old new =
+    (before : Scene E) × HearsPieces gives n old before × Stops gives n fault before new
+
+-- A session was connected, and pieces of the input were sent to it. What was written is the
+-- greeting and what the
+-- pieces draw, and nothing else.
+pub record Answered {E : Type 0} (gives : E → Env → E
+    → Type 0) (n : ℕ) (old new : Scene E) : Type 0 where
+  pub greeting : List ℕ
+  pub connected : HubState
+  pub connects : ConnectsAs old.hub n greeting connected
+  pub pieces : List Piece
+  pub answers : List ℕ
+  pub given : GivesAll gives old.envs pieces new.envs
+  pub run : Draws connected n pieces answers new.hub
+  pub read : Consumes old.input new.input (bytes_of pieces)
+  pub written : Appends old.output new.output (greeting ++ answers)
+
+-- A session was connected and greeted, and all of the input that was read is answered.
+abbrev pub Answers : {E : Type 0} → (E → Env → E → Type 0) → Scene E → Scene E → Type 0
+Answers gives old new = (n : ℕ) × Answered gives n old new
+
+-- So it was, and the input was read to its end, or as far as it was heard.
+abbrev pub ServesStreams : {E : Type 0} → (E → Env → E → Type 0) → Scene E → Scene E → Type 0
+ServesStreams gives old new = (n : ℕ) × Answered gives n old new × IsServed n new
+
+-- there was no session to be had, and nothing was read or written
+abbrev pub IsTurnedAway : {E : Type 0} → HubFault → Scene E → Scene E → Type 0
+IsTurnedAway fault old new =
+    ConnectFails old.hub fault new.hub × (new ≡ record old { hub = new.hub })
+
+-- a session was connected and greeted, pieces were answered, and at the next one the hub failed
+abbrev pub AnswersUntil : {E : Type 0} → (E → Env → E → Type 0) → HubFault → Scene E → Scene E
+    → Type 0
+AnswersUntil {E} gives fault old new =
+    (n : ℕ) × (before : Scene E) × Answered gives n old before × Stops gives n fault before new
+
+-- why serving ends by a hub's fault
+abbrev pub HubFails : {E : Type 0} → (E → Env → E → Type 0) → HubFault → Scene E → Scene E → Type 0
+HubFails gives fault old new = IsTurnedAway fault old new ⊎ AnswersUntil gives fault old new
+
+-- what is known where a read failed
+abbrev pub IfRead : {T : Type 0} → Result T ServeFault → Type 0 → Type 0
+IfRead (Ok x) P = Unit {0}
+IfRead (Err (Read error)) P = P
+IfRead (Err (Write error)) P = Unit {0}
+IfRead (Err (Hub fault)) P = Unit {0}
+
+-- what is known of a hub's fault
+abbrev pub IfHub : {T : Type 0} → Result T ServeFault → (HubFault → Type 0) → Type 0
+IfHub (Ok x) P = Unit {0}
+IfHub (Err (Read error)) P = Unit {0}
+IfHub (Err (Write error)) P = Unit {0}
+IfHub (Err (Hub fault)) P = P fault
