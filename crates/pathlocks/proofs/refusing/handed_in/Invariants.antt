@@ -1,0 +1,7 @@
+use Rattle.std.proofs.Common.{◌≡◌, ℕ, List, take}
+use Rattle.pathlocks.specs.Handed.{is_among}
+use Rattle.pathlocks.specs.Locking.{is_handed_in}
+use Rattle.pathlocks.proofs.refusing.handed_in.Given as goal
+
+abbrev pub invariant-loop-pair : goal.invariant-loop-pair
+invariant-loop-pair l = (token : List ℕ) → is_among l.set.keys token ≡ is_handed_in (take l.pair-index l.tokens) token

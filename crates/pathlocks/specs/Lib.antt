@@ -1,0 +1,3 @@
+pub mod Locking
+pub mod Tops
+pub mod Handed

@@ -1,0 +1,33 @@
+//! What holds of locks. The functions do nothing: their contracts are the laws.
+ghost use Rattle.std.specs.Prelude.{◌≡◌, ℕ, Bool, true, false, IsTrue, List, Option, Some, None};
+ghost use Rattle.std.specs.FinMap.{get, empty, insert, remove};
+ghost use Rattle.std.specs.List.{list_any};
+ghost use Rattle.svnpath.specs.Paths.{PathValue, same_path};
+ghost use Rattle.repo_api.specs.States.{ChangeMap, LockMap};
+ghost use Rattle.repo_api.specs.declared.lock.Lock.{Lock};
+ghost use Rattle.pathlocks.specs.Locking.{Tokens, is_in_the_way, is_handed_in, check_refusal, released, after_release};
+
+/// Where no lock refuses a commit, each lock in its way is its user's, and its token was handed in.
+pub fn locks_in_the_way_are_held()
+    ensures { (locks : LockMap) (changes : ChangeMap) (user : Option (List ℕ)) (tokens : Tokens)
+        → check_refusal locks changes user tokens ≡ None → (p : PathValue) (l : Lock)
+        → get locks p ≡ Some l → is_in_the_way changes p ≡ true
+        → (user ≡ Some l.owner) × IsTrue (is_handed_in tokens l.token) }
+{}
+
+/// A lock, an unlock and a release leave the locks at paths that they do not name as they were.
+pub fn other_locks_stay()
+    ensures locks { (locks : LockMap) (p q : PathValue) (l : Lock) → same_path p q ≡ false
+        → get (insert locks p l) q ≡ get locks q }
+    ensures unlocks { (locks : LockMap) (p q : PathValue) → same_path p q ≡ false
+        → get (remove locks p) q ≡ get locks q }
+    ensures releases { (locks : LockMap) (user : Option (List ℕ)) (tokens : Tokens) (q : PathValue)
+        → list_any (λ t. same_path t.0 q) tokens ≡ false
+        → get (after_release user tokens locks) q ≡ get locks q }
+{}
+
+/// A release that takes no lock changes nothing.
+pub fn a_release_of_none_changes_nothing()
+    ensures { (locks : LockMap) (user : Option (List ℕ)) (tokens : Tokens)
+        → released user tokens locks ≡ empty → after_release user tokens locks ≡ locks }
+{}

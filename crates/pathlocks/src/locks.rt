@@ -1,0 +1,218 @@
+//! The locks of a repository.
+ghost use Rattle.std.specs.Prelude.{◌≡◌, ◌+◌, length, IfOk, IfErr, OnOk, OnErr, Some, None, map, option_copied, option_map};
+ghost use Rattle.std.specs.FinMap.{get, empty, len, insert, remove, from_entries};
+ghost use Rattle.std.specs.Map.Iter.{deref_pair};
+ghost use Rattle.svnpath.specs.Listings.{listing};
+ghost use Rattle.repo_api.specs.Accepted.{IfRefused, IsOfMemory};
+ghost use Rattle.pathlocks.specs.Locking.{in_the_way, at_or_under, check_refusal, unlock_refusal, lock_refusal, released, after_release};
+
+use crate::finding::{append_in_the_way, append_under};
+use crate::refusing::{first_refusal, handed_in, is_held, lock_refusal, unlock_refusal};
+use byte_string::ByteString;
+use refusals::Refusal;
+use repo_api::{Change, ChangeFault, Lock};
+use std::alloc::{AllocError, Global};
+use std::collections::BTreeMap;
+use std::marker::Model;
+use svnpath::{Path, sort_by_text};
+
+/// The locks of a repository, by their paths. A call that is refused, or that lacks memory, changes
+/// nothing.
+#[derive(Drop)]
+pub struct Locks {
+    locks: BTreeMap<Path, Lock>,
+}
+
+impl Model for Locks {
+    ghost use Rattle.std.specs.Coded.{codes};
+    ghost use Rattle.std.specs.FinMap.{from_entries, code as map_code};
+    ghost use Rattle.repo_api.specs.States.{LockMap};
+
+    ghost Value = { LockMap };
+
+    ghost coded = { Prim.hlevel (map_code, codes) };
+
+    ghost view = { λ l. from_entries l.locks.entries };
+}
+
+impl Locks {
+    /// No locks.
+    pub fn new(alloc: Global) -> Self
+        ensures { result ≡ empty }
+    {
+        Locks {
+            locks: BTreeMap::new(alloc),
+        }
+    }
+
+    /// The lock at the path.
+    #[tactic(auto, using(repo_api::specs::StateLaws::get_path))]
+    pub fn get(&self, path: &Path) -> Option<&Lock>
+        ensures { option_copied result ≡ get self.now path.now }
+    {
+        self.locks.get(path)
+    }
+
+    /// The locks at the path and under it, by the bytes of their paths.
+    pub fn at_or_under(&self, alloc: Global, path: &Path) -> Result<Vec<(&Path, &Lock)>, AllocError>
+        ensures { IfOk result (λ found. map deref_pair found.items
+            ≡ at_or_under self.now path.now) }
+    {
+        let mut found = Vec::new(alloc);
+        append_under(&self.locks, path, &mut found)?;
+        listed(found)
+    }
+
+    /// The locks in the way of the changes, by the bytes of their paths: each that stands at a changed
+    /// path, or beneath one that was added, deleted or replaced. It takes the longer the more changes
+    /// there are and the more locks are found, whatever other locks stand.
+    pub fn in_the_way(
+        &self,
+        alloc: Global,
+        changes: &BTreeMap<Path, Change>,
+    ) -> Result<Vec<(&Path, &Lock)>, AllocError>
+        ensures { IfOk result (λ found. map deref_pair found.items
+            ≡ in_the_way self.now (from_entries changes.now.entries)) }
+    {
+        let mut found = Vec::new(alloc);
+        append_in_the_way(&self.locks, changes, &mut found)?;
+        listed(found)
+    }
+
+    /// Whether the locks let a commit of the changes pass, by this user and with these paths and tokens
+    /// handed in. Each lock in the way has to be the user's, and its token handed in, under any path.
+    ///
+    /// # Errors
+    ///
+    /// What the first lock in the way that refuses, by the bytes of its path, says: `NoUser`,
+    /// `NotTheLockOwner` or `BadLockToken`; `NoMemory`.
+    pub fn check(
+        &self,
+        alloc: Global,
+        changes: &BTreeMap<Path, Change>,
+        user: Option<&ByteString>,
+        tokens: &[(Path, ByteString)],
+    ) -> Result<(), ChangeFault>
+        ensures accepted { OnOk result (check_refusal self.now (from_entries changes.now.entries)
+            (option_copied user.entry) tokens.now ≡ None) }
+        ensures refused { IfRefused result (λ r. check_refusal self.now (from_entries changes.now.entries)
+            (option_copied user.entry) tokens.now ≡ Some r) }
+        ensures memory { IsOfMemory result }
+    {
+        let found = self.in_the_way(alloc, changes)?;
+        let handed_in = handed_in(alloc, tokens)?;
+        match first_refusal(found.as_slice(), user, &handed_in) {
+            Some(refusal) => Err(ChangeFault::Refused(refusal)),
+            None => Ok(()),
+        }
+    }
+
+    /// Locks the path, in place of the lock that stands there if that may be stolen. Whether the path
+    /// may be locked at all, as a file of the youngest revision, is for the caller to see to.
+    ///
+    /// # Errors
+    ///
+    /// `AlreadyLocked` where a lock stands that may not be stolen, and else `NotSupported` where none
+    /// stands and `LOCK_LIMIT` others do; `NoMemory`.
+    pub fn lock(&mut self, path: Path, lock: Lock, steals: bool) -> Result<(), ChangeFault>
+        ensures accepted { OnOk result (lock_refusal steals (get self.old path) (len self.old)
+            ≡ None) }
+        ensures ok { OnOk result (self.new ≡ insert self.old path lock) }
+        ensures refused { IfRefused result (λ r.
+            lock_refusal steals (get self.old path) (len self.old) ≡ Some r) }
+        ensures memory { IsOfMemory result }
+        ensures err { OnErr result (self.new ≡ self.old) }
+    {
+        if let Some(refusal) = lock_refusal(steals, self.get(&path), self.count()) {
+            return Err(ChangeFault::Refused(refusal));
+        }
+        self.put(path, lock)?;
+        Ok(())
+    }
+
+    /// Takes the lock at the path away. Who breaks it need not hold it. It takes no memory.
+    ///
+    /// # Errors
+    ///
+    /// `NoSuchLock`; then, unless it is broken, `NoUser`, `NotTheLockOwner` or `BadLockToken`.
+    pub fn unlock(
+        &mut self,
+        path: &Path,
+        user: Option<&ByteString>,
+        token: Option<&ByteString>,
+        breaks: bool,
+    ) -> Result<(), Refusal>
+        ensures accepted { OnOk result (unlock_refusal (option_copied user.entry)
+            (option_copied token.entry) breaks (get self.old path.now) ≡ None) }
+        ensures ok { OnOk result (self.new ≡ remove self.old path.now) }
+        ensures refused { IfErr result (λ r. unlock_refusal (option_copied user.entry)
+            (option_copied token.entry) breaks (get self.old path.now) ≡ Some r) }
+        ensures err { OnErr result (self.new ≡ self.old) }
+    {
+        if let Some(refusal) = unlock_refusal(user, token, breaks, self.get(path)) {
+            return Err(refusal);
+        }
+        self.take(path);
+        Ok(())
+    }
+
+    /// Releases the locks that are the user's and were handed in, each by its path and its token, and
+    /// answers them with their paths. A lock that was stolen since then stays. It takes what memory it
+    /// needs before it releases any.
+    pub fn release(
+        &mut self,
+        alloc: Global,
+        user: Option<&ByteString>,
+        tokens: &[(Path, ByteString)],
+    ) -> Result<Vec<(Path, Lock)>, AllocError>
+        ensures which { IfOk result (λ locks.
+            from_entries locks.items ≡ released (option_copied user.entry) tokens.now self.old) }
+        ensures ok { OnOk result
+            (self.new ≡ after_release (option_copied user.entry) tokens.now self.old) }
+        ensures count { IfOk result (λ locks. length locks.items + len self.new ≡ len self.old) }
+        ensures err { OnErr result (self.new ≡ self.old) }
+    {
+        let mut taken = Vec::with_capacity(alloc, tokens.len())?;
+        for pair in tokens {
+            if is_held(user, &pair.1, self.get(&pair.0)) {
+                if let Some(entry) = self.take(&pair.0) {
+                    taken.push(entry)?;
+                }
+            }
+        }
+        Ok(taken)
+    }
+
+    /// How many locks stand.
+    fn count(&self) -> usize
+        ensures { result ≡ len self.now }
+    {
+        self.locks.len()
+    }
+
+    /// Puts the lock at the path, over what stood there.
+    fn put(&mut self, path: Path, lock: Lock) -> Result<(), AllocError>
+        ensures ok { OnOk result (self.new ≡ insert self.old path lock) }
+        ensures err { OnErr result (self.new ≡ self.old) }
+    {
+        self.locks.insert(path, lock)?;
+        Ok(())
+    }
+
+    /// Takes out the lock at the path, and answers it with its path.
+    fn take(&mut self, path: &Path) -> Option<(Path, Lock)>
+        ensures taken { result ≡ option_map (λ l. (path.now, l)) (get self.old path.now) }
+        ensures left { self.new ≡ remove self.old path.now }
+    {
+        self.locks.remove_entry(path)
+    }
+}
+
+/// The locks by the bytes of their paths.
+fn listed<'a>(mut found: Vec<(&'a Path, &'a Lock)>) -> Result<Vec<(&'a Path, &'a Lock)>, AllocError>
+    ensures { IfOk result (λ locks. map deref_pair locks.items
+        ≡ listing (map deref_pair found.entry.items)) }
+{
+    sort_by_text(&mut found)?;
+    Ok(found)
+}
