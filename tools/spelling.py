@@ -3,6 +3,7 @@
 The other programs of this folder are written in these words.
 """
 
+import hmac
 from datetime import datetime, timedelta
 from hashlib import md5
 
@@ -29,6 +30,8 @@ TEXTS = {
 GREETING = b"( success ( 2 2 ( ) ( edit-pipeline absent-entries commit-revprops ) ) ) "
 NO_LOGIN = b"( success ( ( ) 0: ) ) "
 EMPTY = b"( success ( ) ) "
+NOT_OFFERED = b"( failure ( 21:mechanism not offered ) ) "
+LOGIN_FAILED = b"( failure ( 12:login failed ) ) "
 
 
 def string(content):
@@ -48,9 +51,34 @@ def date(moment):
     return (datetime(1970, 1, 1) + timedelta(microseconds=moment)).strftime("%Y-%m-%dT%H:%M:%S.%fZ")
 
 
-def login_wanted(name):
+def login_wanted(name, mechanisms=b"ANONYMOUS "):
     """What a client of a repository of this name is told once its answer to the greeting is accepted."""
-    return b"( success ( ( ANONYMOUS ) " + string(name) + b") ) "
+    return b"( success ( ( " + mechanisms + b") " + string(name) + b") ) "
+
+
+def login_offered(name):
+    """The same, where the repository has a users file."""
+    return login_wanted(name, b"ANONYMOUS CRAM-MD5 ")
+
+
+def login_demanded(name):
+    """What a client without a name is told there for a command that writes, in place of `NO_LOGIN`."""
+    return login_wanted(name, b"CRAM-MD5 ")
+
+
+def challenge(nonce, moment, name):
+    """The text that is sent to a client which is to prove that it knows a password."""
+    return f"<{nonce}.{moment}@{name}>"
+
+
+def step(text):
+    """What a client is told that chooses CRAM-MD5: the challenge."""
+    return b"( step ( " + string(text) + b") ) "
+
+
+def proof(user, password, text):
+    """A client's answer to a challenge: the user, and the challenge's keyed digest under the password."""
+    return string(user.encode() + b" " + hmac.digest(password, text.encode(), "md5").hex().encode())
 
 
 def repository_told(root, uuid=UUID):
@@ -79,9 +107,9 @@ def revision_properties(properties):
     return answered(b"( " + pairs + b") ")
 
 
-def committed(revision, moment=MOMENT):
-    """What a client without a name is told of a commit that is accepted."""
-    return EMPTY + NO_LOGIN + b"( %d ( %s) ( ) ( ) ) " % (revision, string(date(moment)))
+def committed(revision, moment=MOMENT, author=None):
+    """What a client is told of a commit that is accepted, by a user or without a name."""
+    return EMPTY + NO_LOGIN + b"( %d ( %s) %s( ) ) " % (revision, string(date(moment)), optional(author))
 
 
 def greeting_answer(url, version=2, capabilities=b"edit-pipeline ", rest=b""):
@@ -235,6 +263,7 @@ def document(text):
 CLOSE_EDIT = b"( close-edit ( ) ) "
 ABORT_EDIT = b"( abort-edit ( ) ) "
 ANONYMOUS = b"( ANONYMOUS ( 0: ) ) "
+CRAM_MD5 = b"( CRAM-MD5 ( ) ) "
 LATEST = b"( get-latest-rev ( ) ) "
 
 EDITING = NO_LOGIN + EMPTY

@@ -1,6 +1,6 @@
 -- What a client sends before its first command.
 use Rattle.std.specs.Prelude.{ℕ, Bool, true, false, ◌||◌, List, Option, Some, None, ok_or, Result, codes, if◌then◌else◌}
-use Rattle.items.specs.Values.{ItemValue, word, ItemValues, none, more}
+use Rattle.items.specs.Values.{ItemValue, word, number, string, list, ItemValues, none, more}
 use Rattle.forms.specs.Forms.{◌>>=◌, is_name, items_in, word_first, number_first, string_first, list_first, optional_string}
 use Rattle.commands.specs.declared.login.ClientGreeting.{ClientGreeting}
 use Rattle.commands.specs.declared.login.AuthResponse.{AuthResponse}
@@ -56,3 +56,10 @@ response item = do
 -- the choice of a mechanism that an item is, or why it is none
 abbrev pub auth_response : ItemValue → Result AuthResponse CommandFault
 auth_response item = ok_or (response item) BadParameters
+
+-- the answer to a challenge that an item is: a string
+abbrev pub challenge_answer : ItemValue → Option (List ℕ)
+challenge_answer (word w) = None
+challenge_answer (number n) = None
+challenge_answer (string s) = Some s
+challenge_answer (list items) = None

@@ -5,4 +5,4 @@ mod command;
 mod login;
 
 pub use command::{CommitCommand, MainCommand};
-pub use login::{AuthResponse, ClientGreeting};
+pub use login::{AuthResponse, ClientGreeting, challenge_answer};

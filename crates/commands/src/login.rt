@@ -2,7 +2,7 @@
 ghost use Rattle.std.specs.Prelude.{◌≡◌, option_map};
 ghost use Rattle.items.specs.View.{value_of, values_of};
 ghost use Rattle.forms.specs.Answering.{Answers};
-ghost use Rattle.commands.specs.Logins.{client_greeting, auth_response, are_words, has_word, optional_client};
+ghost use Rattle.commands.specs.Logins.{client_greeting, auth_response, challenge_answer, are_words, has_word, optional_client};
 
 use byte_string::ByteString;
 use forms::CommandFault::{self, BadParameters};
@@ -103,5 +103,15 @@ impl AuthResponse {
             mechanism: ByteString::from_slice(alloc, mechanism)?,
             token: copy_optional(token)?,
         })
+    }
+}
+
+/// The answer to a challenge that an item is: a string.
+pub fn challenge_answer(item: &Item) -> Option<&ByteString>
+    ensures { option_map (λ text. text.now) result ≡ challenge_answer (value_of item.now) }
+{
+    match item {
+        Item::Str(text) => Some(text),
+        _ => None,
     }
 }

@@ -19,8 +19,9 @@ use Rattle.access.specs.Points.{Point, AccessRules, content_of}
 use Rattle.machine.specs.Stages.{Stage}
 use Rattle.replies.specs.Replies.{print}
 use Rattle.replies.specs.Sinks.{WritesPart}
-use Rattle.machine.specs.Machine.{Answer, MachineEdit, JudgedEdit, EditStep, CommitStep, CloseStep, CommandStep, EditingStep, ending_of, commit_answer, commit_ask, says, gives_up}
-use Rattle.machine.specs.Machine.Verdict.{Written, NotWritten, Unknown}
+use Rattle.machine.specs.Answers.{Answer, says}
+use Rattle.machine.specs.Machine.{MachineEdit, JudgedEdit, EditStep, CommitStep, CloseStep, CommandStep, EditingStep, ending_of, commit_answer, commit_ask, gives_up}
+use Rattle.machine.specs.Answers.Verdict.{Written, NotWritten, Unknown}
 use Rattle.access.specs.Changing.{CommitsAt}
 use Rattle.machine.specs.Steps.{EffectAt, StepAt, StepWritten, StepOrNothing, AnswerWritten}
 use Rattle.machine.specs.declared.asked.Asked.{Asked}

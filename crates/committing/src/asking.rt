@@ -4,7 +4,7 @@ ghost use Rattle.std.specs.List.{list_all};
 ghost use Rattle.svnpath.specs.Components.{Answers};
 ghost use Rattle.edit_rules.specs.Editor.{IfRefused};
 ghost use Rattle.edit_rules.specs.Refusing.{is_property_name};
-ghost use Rattle.machine.specs.Machine.{lock_tokens, are_named, set_all, asked_by};
+ghost use Rattle.machine.specs.Commands.{lock_tokens, are_named, set_all, asked_by};
 
 use byte_string::ByteString;
 use commands::CommitCommand;

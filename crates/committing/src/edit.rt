@@ -12,7 +12,9 @@ ghost use Rattle.edit_rules.specs.Refusing.{edit_refusal};
 ghost use Rattle.replies.specs.Replies.{print};
 ghost use Rattle.replies.specs.Sinks.{WritesPart};
 ghost use Rattle.access.specs.Points.{content_of};
-ghost use Rattle.machine.specs.Machine.{lock_tokens, asked_by, commit_ask, commit_begins, skipping_answer, says, CloseStep, EditStep, EditingStep};
+ghost use Rattle.machine.specs.Answers.{says};
+ghost use Rattle.machine.specs.Commands.{lock_tokens, asked_by, commit_begins};
+ghost use Rattle.machine.specs.Machine.{commit_ask, skipping_answer, CloseStep, EditStep, EditingStep};
 ghost use Rattle.machine.specs.Steps.{AnswerWritten, StepWritten, StepOrNothing};
 
 use crate::asking::asked_by;

@@ -2,7 +2,8 @@
 ghost use Rattle.std.specs.Prelude.{◌≡◌, ◌∷◌, [], IfOk, OnOk, OnErr};
 ghost use Rattle.replies.specs.Replies.{print};
 ghost use Rattle.replies.specs.Sinks.{WritesPart};
-ghost use Rattle.machine.specs.Machine.{malformed, serves, gives_up};
+ghost use Rattle.machine.specs.Answers.{malformed, serves};
+ghost use Rattle.machine.specs.Machine.{gives_up};
 ghost use Rattle.machine.specs.Steps.{AnswerWritten};
 ghost use Rattle.machine.specs.declared.phase.Phase.TheVariants.{Skipping};
 

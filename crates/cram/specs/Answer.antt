@@ -1,5 +1,5 @@
 -- A challenge, and which answers to it are right (RFC 2195).
-use Rattle.std.specs.Prelude.{◌≡◌, ◌≢◌, ℕ, nat_le, Bool, true, ◌&&◌, ◌||◌, List, ◌∷◌, ◌++◌, length, codes, decimal, Some, None}
+use Rattle.std.specs.Prelude.{◌≡◌, ◌≢◌, ℕ, nat_le, Bool, true, ◌&&◌, ◌||◌, List, ◌∷◌, ◌++◌, length, codes, decimal, Option, Some, None}
 use Rattle.std.specs.List.{list_all}
 use Rattle.hex.specs.Hex.{encode_lower}
 use Rattle.cram.specs.declared.fault.CramFault.{CramFault}
@@ -34,6 +34,12 @@ pub record IsRight (challenge : List ℕ) (users : List Login) (answer name : Li
   pub known : password_of name users ≡ Some password
   pub named : is_name name ≡ true
   pub whole : answer ≡ name ++ 32 ∷ digits_under password challenge
+
+-- whose right answer it is: this user's, or nobody's
+abbrev pub IsAnswerOf : List ℕ → List Login → List ℕ → Option (List ℕ) → Type 0
+IsAnswerOf challenge users answer (Some name) = IsRight challenge users answer name
+IsAnswerOf challenge users answer None =
+    (name : List ℕ) → IsRight challenge users answer name → ⊥
 
 -- no user has the name
 pub record IsUnknown (users : List Login) (answer : List ℕ) : Type 0 where

@@ -8,11 +8,12 @@ use Rattle.access.specs.Points.{Point, AccessRules, content_of}
 use Rattle.machine.specs.Settings.{Settings}
 use Rattle.machine.specs.Hearing.{Input}
 use Rattle.machine.specs.Stages.{Stage, SessionState, is_open}
-use Rattle.machine.specs.Machine.{Verdict, Effect, Answer, InputStep, Counts, no_effect, is_halt, says, content_after, halted_after}
-use Rattle.machine.specs.Machine.Verdict.{Written, NotWritten, Unknown}
+use Rattle.machine.specs.Answers.{Verdict, Effect, Answer, Counts, no_effect, is_halt, says, content_after, halted_after}
+use Rattle.machine.specs.Machine.{InputStep}
+use Rattle.machine.specs.Answers.Verdict.{Written, NotWritten, Unknown}
 use Rattle.machine.specs.Steps.{AddsAll, Stores, EffectAt, StepAt, SessionRun, input_step}
 use Rattle.machine.specs.declared.env.Env.{Env}
-use Rattle.machine.specs.declared.phase.Phase.TheVariants.{Greeted, LoggingIn, Serving, Editing, Skipping, Ended}
+use Rattle.machine.specs.declared.phase.Phase.TheVariants.{Greeted, LoggingIn, Challenged, Serving, Editing, Skipping, Ended}
 use Rattle.hub.specs.State.{HubState, hub_at, session_of, updated, without, kept}
 use Rattle.hub.specs.Runs.{Event, InputHappens, HubStep, HubRun, InputsAre, answered}
 use Rattle.hub.specs.Runs.Event.{Hears}
@@ -45,7 +46,8 @@ if_false true x y e = cc
 
 ended_is : (phase : Stage) → is_open phase ≡ false → phase ≡ Ended
 ended_is Greeted e = cc
-ended_is (LoggingIn client) e = cc
+ended_is (LoggingIn login) e = cc
+ended_is (Challenged pending) e = cc
 ended_is (Serving client) e = cc
 ended_is (Editing edit) e = cc
 ended_is (Skipping client) e = cc

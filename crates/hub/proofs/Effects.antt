@@ -1,24 +1,15 @@
 -- What an input does to the repository: nothing, or one commit.
 use Rattle.std.proofs.Common.{◌≡◌, ◌⊎◌, inl, inr, ℕ, List, [], ◌∷◌, Bool, true, false, Option, Some, None, refl, ap, ◌∙◌, length}
-use Rattle.std.specs.Prelude.{Result, Ok, Err, if◌then◌else◌, codes}
-use Rattle.svnpath.specs.Paths.{PathValue}
-use Rattle.svnpath.specs.Urls.{path_of_text, root_of_text}
-use Rattle.svnpath.specs.declared.fault.PathFault.{PathFault}
+use Rattle.std.specs.Prelude.{Result, Ok, Err}
 use Rattle.refusals.specs.declared.Refusal.{Refusal}
 use Rattle.repo_api.specs.States.{RepoState, TxnState}
 use Rattle.repo_api.specs.Commits.{commit_refusal}
 use Rattle.repo_api.specs.Accepted.Accepted.{Commits}
 use Rattle.repo_api.specs.declared.ask.CommitAsk.{CommitAsk}
-use Rattle.forms.specs.Forms.{is_name}
 use Rattle.forms.specs.declared.fault.CommandFault.{CommandFault}
 use Rattle.forms.specs.declared.fault.CommandFault.TheVariants.{UnknownName, BadParameters, NoMemory}
 use Rattle.commands.specs.Commands.{main_command}
-use Rattle.commands.specs.Logins.{client_greeting, auth_response}
-use Rattle.commands.specs.declared.command.MainCommand.{MainCommand}
-use Rattle.commands.specs.declared.command.MainCommand.TheVariants.{GetLatestRev, CheckPath, RevProplist, AbortEdit}
-use Rattle.commands.specs.declared.command.MainCommand.TheVariants as commands
-use Rattle.commands.specs.declared.login.ClientGreeting.{ClientGreeting}
-use Rattle.commands.specs.declared.login.AuthResponse.{AuthResponse}
+use Rattle.commands.specs.Logins.{client_greeting, auth_response, challenge_answer}
 use Rattle.edit_commands.specs.Editing.{editor_command, ends_edit}
 use Rattle.edit_commands.specs.declared.editing.EditorCommand.{EditorCommand}
 use Rattle.edit_rules.specs.Refusing.{edit_refusal}
@@ -28,14 +19,18 @@ use Rattle.machine.specs.Settings.{Settings}
 use Rattle.machine.specs.Stages.{Stage}
 use Rattle.machine.specs.Hearing.{Input}
 use Rattle.machine.specs.Hearing.Input.{Whole, Broken}
-use Rattle.machine.specs.Machine.{Verdict, Answer, InputStep, MachineEdit, JudgedEdit, CommitStep, CloseStep, CommandStep, EditingStep, ending_of, says, speaks, url_answer, greeting_answer, login_answer, command_answer, own_answer, asked_by, lock_tokens, commit_begins, commit_ask, commit_answer, skipping_answer}
-use Rattle.machine.specs.Machine.Verdict.{Written, NotWritten, Unknown}
+use Rattle.machine.specs.Answers.{Verdict, Effect, Answer}
+use Rattle.machine.specs.Logins.{ChallengeStep}
+use Rattle.machine.specs.Machine.{InputStep, MachineEdit, JudgedEdit, CommitStep, CloseStep, CommandStep, EditingStep, ending_of, commit_ask, commit_answer}
+use Rattle.machine.specs.Answers.Verdict.{Written, NotWritten, Unknown}
 use Rattle.machine.specs.declared.asked.Asked.{Asked}
 use Rattle.machine.specs.declared.env.Env.{Env}
 use Rattle.machine.specs.declared.ending.Ending.{Ending}
 use Rattle.machine.specs.declared.ending.Ending.TheVariants.{Commits as ToCommit, GivesUp}
-use Rattle.machine.specs.declared.phase.Phase.TheVariants.{Greeted, LoggingIn, Serving, Editing, Skipping, Ended}
+use Rattle.machine.specs.declared.phase.Phase.TheVariants.{Greeted, LoggingIn, Challenged, Serving, Editing, Skipping, Ended}
 use Rattle.machine.specs.declared.phase.Client.{Client}
+use Rattle.machine.specs.declared.login.OpenChallenge.{OpenChallenge}
+use Rattle.machine.proofs.Quiet.{IsQuiet, quiet_greeting, quiet_login, quiet_outcome, quiet_command, quiet_skipping}
 
 -- a commit that the rules accept is the one change, and it is told
 pub record CommitsBy (halted : Bool) (c : RepoState) (a : Answer) : Type 0 where
@@ -57,47 +52,13 @@ Does halted c a = Quiet a ⊎ CommitsBy halted c a
 is_quiet : (halted : Bool) (c : RepoState) (a b : Answer) → a ≡ b → Quiet b → Does halted c a
 is_quiet halted c a b e q = inl (ap (λ (x : Answer). x.effect.changes) e ∙ q)
 
-quiet_if : (b : Bool) (x y : Answer) → Quiet x → Quiet y → Quiet (if b then x else y)
-quiet_if true x y p q = p
-quiet_if false x y p q = q
+does_nothing : (halted : Bool) (c : RepoState) (s : Settings) (a b : Answer) → a ≡ b → IsQuiet s b → Does halted c a
+does_nothing halted c s a b e q = is_quiet halted c a b e (ap (λ (x : Effect). x.changes) q.nothing)
 
-quiet_url : (s : Settings) (env : Env) (path : Result PathValue PathFault) (root : Result (List ℕ) PathFault) → Quiet (url_answer s env path root)
-quiet_url s env (Ok path) (Ok root) = refl
-quiet_url s env (Ok path) (Err fault) = refl
-quiet_url s env (Err fault) root = refl
-
-quiet_greeting : (s : Settings) (env : Env) (r : Result ClientGreeting CommandFault) → Quiet (greeting_answer s env r)
-quiet_greeting s env (Ok g) =
-    let path = path_of_text g.url s.name in
-    let root = root_of_text g.url s.name in
-    quiet_if (speaks g) (url_answer s env path root) (says env Ended []) (quiet_url s env path root) refl
-quiet_greeting s env (Err fault) = refl
-
-quiet_login : (c : RepoState) (env : Env) (client : Client) (r : Result AuthResponse CommandFault) → Quiet (login_answer env c client r)
-quiet_login c env client (Ok r) = quiet_if (is_name r.mechanism (codes "ANONYMOUS")) (says env (Serving client) _) (says env (LoggingIn client) _) refl refl
-quiet_login c env client (Err fault) = refl
-
-quiet_begins : (s : Settings) (env : Env) (client : Client) (r : Result Asked Refusal) → Quiet (commit_begins s env client r)
-quiet_begins s env client (Ok asked) = refl
-quiet_begins s env client (Err r) = refl
-
-quiet_own : (c : RepoState) (s : Settings) (env : Env) (client : Client) (command : MainCommand) → Quiet (own_answer s env c client command)
-quiet_own c s env client GetLatestRev = refl
-quiet_own c s env client (CheckPath path revision) = refl
-quiet_own c s env client (RevProplist n) = refl
-quiet_own c s env client (commands.Commit command) = quiet_begins s env client (asked_by command (lock_tokens client.path command.tokens))
-quiet_own c s env client AbortEdit = refl
-
-quiet_command : (c : RepoState) (s : Settings) (env : Env) (client : Client) (r : Result MainCommand CommandFault) → Quiet (command_answer s env c client r)
-quiet_command c s env client (Ok command) = quiet_own c s env client command
-quiet_command c s env client (Err UnknownName) = refl
-quiet_command c s env client (Err BadParameters) = refl
-quiet_command c s env client (Err NoMemory) = refl
-
-quiet_skipping : (env : Env) (client : Client) (ends : Option Bool) → Quiet (skipping_answer env client ends)
-quiet_skipping env client None = refl
-quiet_skipping env client (Some true) = refl
-quiet_skipping env client (Some false) = refl
+does_challenge : (halted : Bool) (s : Settings) (env : Env) (c : RepoState) (pending : OpenChallenge) (text : Option (List ℕ)) (a : Answer)
+    → ChallengeStep s env c pending text a → Does halted c a
+does_challenge halted s env c pending None a is = is_quiet halted c a _ is refl
+does_challenge halted s env c pending (Some text) a (user, whose, is) = does_nothing halted c s a _ is (quiet_outcome s env c pending.login user)
 
 -- ---- the steps of an edit
 
@@ -148,13 +109,15 @@ does_editing halted env c edit (Err NoMemory) a is = is_quiet halted c a _ is re
 -- ---- an input
 
 pub does : (halted : Bool) (s : Settings) (env : Env) (c : RepoState) (phase : Stage) (input : Input) (a : Answer) → InputStep halted s env c phase input a → Does halted c a
-does halted s env c Greeted (Whole t) a is = is_quiet halted c a _ is (quiet_greeting s env (client_greeting t))
-does halted s env c (LoggingIn client) (Whole t) a is = is_quiet halted c a _ is (quiet_login c env client (auth_response t))
-does halted s env c (Serving client) (Whole t) a is = is_quiet halted c a _ is (quiet_command c s env client (main_command t))
+does halted s env c Greeted (Whole t) a is = does_nothing halted c s a _ is (quiet_greeting s env (client_greeting t))
+does halted s env c (LoggingIn login) (Whole t) a is = does_nothing halted c s a _ is (quiet_login s env c login (auth_response t))
+does halted s env c (Challenged pending) (Whole t) a step = does_challenge halted s env c pending (challenge_answer t) a step
+does halted s env c (Serving client) (Whole t) a is = does_nothing halted c s a _ is (quiet_command s env c client (main_command t))
 does halted s env c (Editing edit) (Whole t) a step = does_editing halted env c edit (editor_command t) a step
-does halted s env c (Skipping client) (Whole t) a is = is_quiet halted c a _ is (quiet_skipping env client (ends_edit t))
+does halted s env c (Skipping client) (Whole t) a is = does_nothing halted c s a _ is (quiet_skipping s env client (ends_edit t))
 does halted s env c Greeted Broken a is = is_quiet halted c a _ is refl
-does halted s env c (LoggingIn client) Broken a is = is_quiet halted c a _ is refl
+does halted s env c (LoggingIn login) Broken a is = is_quiet halted c a _ is refl
+does halted s env c (Challenged pending) Broken a is = is_quiet halted c a _ is refl
 does halted s env c (Serving client) Broken a is = is_quiet halted c a _ is refl
 does halted s env c (Editing edit) Broken a is = is_quiet halted c a _ is refl
 does halted s env c (Skipping client) Broken a is = is_quiet halted c a _ is refl

@@ -4,8 +4,8 @@ use Rattle.replies.specs.declared.reply.Reply.{Reply}
 use Rattle.access.specs.Points.{last_count, HasRisen}
 use Rattle.machine.specs.Hearing.{Input}
 use Rattle.machine.specs.Stages.{SessionState}
-use Rattle.machine.specs.Machine.{Verdict, Counts, is_halt}
-use Rattle.machine.specs.Machine.Verdict.{Written, NotWritten, Unknown}
+use Rattle.machine.specs.Answers.{Verdict, Counts, is_halt}
+use Rattle.machine.specs.Answers.Verdict.{Written, NotWritten, Unknown}
 use Rattle.machine.specs.declared.env.Env.{Env}
 use Rattle.hub.specs.State.{HubState, session_of}
 use Rattle.hub.specs.Runs.{Event, InputHappens, HubStep, HubRun}

@@ -16,7 +16,8 @@ use Rattle.machine.specs.Settings.{Settings}
 use Rattle.machine.specs.Hearing.{Input}
 use Rattle.machine.specs.Stages.{Stage, SessionState, RestsOn}
 use Rattle.machine.specs.Soundness.{MeetBy}
-use Rattle.machine.specs.Machine.{Answer, InputStep, content_after}
+use Rattle.machine.specs.Answers.{Answer, content_after}
+use Rattle.machine.specs.Machine.{InputStep}
 use Rattle.machine.specs.declared.env.Env.{Env}
 use Rattle.hub.specs.State.{HubState, HasTrees, session_of}
 use Rattle.hub.specs.Runs.{Event, InputHappens, HubStep, HubRun, answered}

@@ -1,4 +1,5 @@
 pub mod Once
+pub mod Quiet
 pub mod Refusing
 pub mod Resting
 pub mod Sound

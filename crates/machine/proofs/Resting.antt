@@ -1,26 +1,17 @@
 -- An edit rests on revisions that stay.
 use Rattle.std.proofs.Common.{◌≡◌, inl, inr, ℕ, List, [], ◌∷◌, ◌++◌, Bool, true, false, Option, Some, None, refl, sym, ap, subst, ◌∙◌, append-nil, append_assoc}
-use Rattle.std.specs.Prelude.{Result, Ok, Err, if◌then◌else◌, codes}
-use Rattle.svnpath.specs.Paths.{PathValue}
-use Rattle.svnpath.specs.Urls.{path_of_text, root_of_text}
-use Rattle.svnpath.specs.declared.fault.PathFault.{PathFault}
+use Rattle.std.specs.Prelude.{Result, Ok, Err}
 use Rattle.refusals.specs.declared.Refusal.{Refusal}
 use Rattle.repo_api.specs.States.{RepoState, TxnState, Revision, IsBeginning}
 use Rattle.repo_api.specs.Commits.{commit_refusal}
 use Rattle.repo_api.specs.Accepted.{Accepted, changed, changed_all}
 use Rattle.repo_api.specs.Accepted.Accepted.{Commits}
 use Rattle.repo_api.specs.declared.edit.EditOp.{EditOp}
-use Rattle.forms.specs.Forms.{is_name}
 use Rattle.commands.specs.Commands.{main_command}
-use Rattle.commands.specs.Logins.{client_greeting, auth_response}
+use Rattle.commands.specs.Logins.{client_greeting, auth_response, challenge_answer}
 use Rattle.edit_commands.specs.Editing.{editor_command, ends_edit}
-use Rattle.commands.specs.declared.command.MainCommand.{MainCommand}
-use Rattle.commands.specs.declared.command.MainCommand.TheVariants.{GetLatestRev, CheckPath, RevProplist, Commit}
-use Rattle.commands.specs.declared.command.MainCommand.TheVariants as commands
 use Rattle.edit_commands.specs.declared.editing.EditorCommand.{EditorCommand}
 use Rattle.edit_commands.specs.declared.editing.EditorCommand.TheVariants.{TargetRevision, OpenRoot, DeleteEntry, AddDirectory, AddFile, OpenDirectory, OpenFile, AbsentDirectory, AbsentFile, ChangeDirectoryProperty, ChangeFileProperty, ApplyTextDelta, TextDeltaChunk, TextDeltaEnd, CloseDirectory, CloseFile, CloseEdit, AbortEdit}
-use Rattle.commands.specs.declared.login.ClientGreeting.{ClientGreeting}
-use Rattle.commands.specs.declared.login.AuthResponse.{AuthResponse}
 use Rattle.forms.specs.declared.fault.CommandFault.{CommandFault}
 use Rattle.forms.specs.declared.fault.CommandFault.TheVariants.{UnknownName, BadParameters, NoMemory}
 use Rattle.edit_rules.specs.Tokens.{Tokens}
@@ -34,15 +25,19 @@ use Rattle.machine.specs.Stages.{Stage, EditRests, RestsOn}
 use Rattle.machine.specs.Soundness.{MeetBy}
 use Rattle.machine.specs.Hearing.{Input}
 use Rattle.machine.specs.Hearing.Input.{Whole, Broken}
-use Rattle.machine.specs.Machine.{Verdict, Effect, Answer, InputStep, MachineEdit, JudgedEdit, CommitStep, CloseStep, CommandStep, EditingStep, ending_of, content_after, says, speaks, url_answer, greeting_answer, login_answer, command_answer, asked_by, lock_tokens, commit_begins, commit_ask, commit_answer, skipping_answer}
-use Rattle.machine.specs.Machine.Verdict.{Written, NotWritten, Unknown}
+use Rattle.machine.specs.Answers.{Verdict, Effect, Answer, content_after}
+use Rattle.machine.specs.Logins.{ChallengeStep}
+use Rattle.machine.specs.Machine.{InputStep, MachineEdit, JudgedEdit, CommitStep, CloseStep, CommandStep, EditingStep, ending_of, commit_ask, commit_answer}
+use Rattle.machine.specs.Answers.Verdict.{Written, NotWritten, Unknown}
 use Rattle.machine.specs.Steps.{input_step, StepAt, StepWritten, StepOrNothing, AddsAll, Stores, EffectAt}
 use Rattle.machine.specs.declared.asked.Asked.{Asked}
 use Rattle.machine.specs.declared.env.Env.{Env}
 use Rattle.machine.specs.declared.ending.Ending.{Ending}
 use Rattle.machine.specs.declared.ending.Ending.TheVariants.{Commits as ToCommit, GivesUp}
-use Rattle.machine.specs.declared.phase.Phase.TheVariants.{Greeted, LoggingIn, Serving, Editing, Skipping, Ended}
+use Rattle.machine.specs.declared.phase.Phase.TheVariants.{Greeted, LoggingIn, Challenged, Serving, Editing, Skipping, Ended}
 use Rattle.machine.specs.declared.phase.Client.{Client}
+use Rattle.machine.specs.declared.login.OpenChallenge.{OpenChallenge}
+use Rattle.machine.proofs.Quiet.{HasNewEdit, IsQuiet, quiet_greeting, quiet_login, quiet_outcome, quiet_command, quiet_skipping}
 
 -- ---- beginnings
 
@@ -61,7 +56,8 @@ edit_rests e c d r b = rests_in_trans e.txn c d r b
 
 rests_trans : (phase : Stage) (c d : RepoState) → EditRests phase c → IsBeginning c.revisions d.revisions → EditRests phase d
 rests_trans Greeted c d r b = tt
-rests_trans (LoggingIn client) c d r b = tt
+rests_trans (LoggingIn login) c d r b = tt
+rests_trans (Challenged pending) c d r b = tt
 rests_trans (Serving client) c d r b = tt
 rests_trans (Editing edit) c d r b = edit_rests edit.editor c d r b
 rests_trans (Skipping client) c d r b = tt
@@ -72,44 +68,23 @@ rests_trans Ended c d r b = tt
 rests_is : (c : RepoState) (a b : Answer) → a ≡ b → EditRests b.phase c → EditRests a.phase c
 rests_is c a b e r = subst (λ (x : Answer). EditRests x.phase c) (sym e) r
 
-rests_if : (c : RepoState) (b : Bool) (x y : Answer) → EditRests x.phase c → EditRests y.phase c → EditRests (if b then x else y).phase c
-rests_if c true x y p q = p
-rests_if c false x y p q = q
+-- an edit of which nothing has been made has seen nothing yet
+rests_new : (s : Settings) (phase : Stage) (c : RepoState) → HasNewEdit s phase → EditRests phase c
+rests_new s Greeted c new = tt
+rests_new s (LoggingIn login) c new = tt
+rests_new s (Challenged pending) c new = tt
+rests_new s (Serving client) c new = tt
+rests_new s (Editing edit) c new = subst (λ (e : EditState). EditRestsOn e c) (sym new) tt
+rests_new s (Skipping client) c new = tt
+rests_new s Ended c new = tt
 
-rests_url : (c : RepoState) (s : Settings) (env : Env) (path : Result PathValue PathFault) (root : Result (List ℕ) PathFault) → EditRests (url_answer s env path root).phase c
-rests_url c s env (Ok path) (Ok root) = tt
-rests_url c s env (Ok path) (Err fault) = tt
-rests_url c s env (Err fault) root = tt
+rests_quiet : (c : RepoState) (s : Settings) (a b : Answer) → a ≡ b → IsQuiet s b → EditRests a.phase c
+rests_quiet c s a b is quiet = rests_is c a b is (rests_new s b.phase c quiet.new)
 
-rests_greeting : (c : RepoState) (s : Settings) (env : Env) (r : Result ClientGreeting CommandFault) → EditRests (greeting_answer s env r).phase c
-rests_greeting c s env (Ok g) =
-    let path = path_of_text g.url s.name in
-    let root = root_of_text g.url s.name in
-    rests_if c (speaks g) (url_answer s env path root) (says env Ended []) (rests_url c s env path root) tt
-rests_greeting c s env (Err fault) = tt
-
-rests_login : (c : RepoState) (env : Env) (client : Client) (r : Result AuthResponse CommandFault) → EditRests (login_answer env c client r).phase c
-rests_login c env client (Ok r) = rests_if c (is_name r.mechanism (codes "ANONYMOUS")) (says env (Serving client) _) (says env (LoggingIn client) _) tt tt
-rests_login c env client (Err fault) = tt
-
-rests_begins : (c : RepoState) (s : Settings) (env : Env) (client : Client) (r : Result Asked Refusal) → EditRests (commit_begins s env client r).phase c
-rests_begins c s env client (Ok asked) = tt
-rests_begins c s env client (Err r) = tt
-
-rests_command : (c : RepoState) (s : Settings) (env : Env) (client : Client) (r : Result MainCommand CommandFault) → EditRests (command_answer s env c client r).phase c
-rests_command c s env client (Ok GetLatestRev) = tt
-rests_command c s env client (Ok (CheckPath path revision)) = tt
-rests_command c s env client (Ok (RevProplist n)) = tt
-rests_command c s env client (Ok (Commit command)) = rests_begins c s env client (asked_by command (lock_tokens client.path command.tokens))
-rests_command c s env client (Ok commands.AbortEdit) = tt
-rests_command c s env client (Err UnknownName) = tt
-rests_command c s env client (Err BadParameters) = tt
-rests_command c s env client (Err NoMemory) = tt
-
-rests_skipping : (c : RepoState) (env : Env) (client : Client) (ends : Option Bool) → EditRests (skipping_answer env client ends).phase c
-rests_skipping c env client None = tt
-rests_skipping c env client (Some true) = tt
-rests_skipping c env client (Some false) = tt
+rests_challenge : (s : Settings) (env : Env) (c : RepoState) (pending : OpenChallenge) (text : Option (List ℕ)) (a : Answer)
+    → ChallengeStep s env c pending text a → EditRests a.phase c
+rests_challenge s env c pending None a is = rests_is c a _ is tt
+rests_challenge s env c pending (Some text) a (user, whose, is) = rests_quiet c s a _ is (quiet_outcome s env c pending.login user)
 
 -- ---- the steps of an edit
 
@@ -190,13 +165,15 @@ rests_editing halted env c edit (Err NoMemory) a rests is = rests_is c a _ is tt
 -- ---- an input
 
 rests_step : (halted : Bool) (s : Settings) (env : Env) (c : RepoState) (phase : Stage) (input : Input) (a : Answer) → EditRests phase c → InputStep halted s env c phase input a → EditRests a.phase c
-rests_step halted s env c Greeted (Whole t) a rests is = rests_is c a _ is (rests_greeting c s env (client_greeting t))
-rests_step halted s env c (LoggingIn client) (Whole t) a rests is = rests_is c a _ is (rests_login c env client (auth_response t))
-rests_step halted s env c (Serving client) (Whole t) a rests is = rests_is c a _ is (rests_command c s env client (main_command t))
+rests_step halted s env c Greeted (Whole t) a rests is = rests_quiet c s a _ is (quiet_greeting s env (client_greeting t))
+rests_step halted s env c (LoggingIn login) (Whole t) a rests is = rests_quiet c s a _ is (quiet_login s env c login (auth_response t))
+rests_step halted s env c (Challenged pending) (Whole t) a rests step = rests_challenge s env c pending (challenge_answer t) a step
+rests_step halted s env c (Serving client) (Whole t) a rests is = rests_quiet c s a _ is (quiet_command s env c client (main_command t))
 rests_step halted s env c (Editing edit) (Whole t) a rests step = rests_editing halted env c edit (editor_command t) a rests step
-rests_step halted s env c (Skipping client) (Whole t) a rests is = rests_is c a _ is (rests_skipping c env client (ends_edit t))
+rests_step halted s env c (Skipping client) (Whole t) a rests is = rests_quiet c s a _ is (quiet_skipping s env client (ends_edit t))
 rests_step halted s env c Greeted Broken a rests is = rests_is c a _ is tt
-rests_step halted s env c (LoggingIn client) Broken a rests is = rests_is c a _ is tt
+rests_step halted s env c (LoggingIn login) Broken a rests is = rests_is c a _ is tt
+rests_step halted s env c (Challenged pending) Broken a rests is = rests_is c a _ is tt
 rests_step halted s env c (Serving client) Broken a rests is = rests_is c a _ is tt
 rests_step halted s env c (Editing edit) Broken a rests is = rests_is c a _ is tt
 rests_step halted s env c (Skipping client) Broken a rests is = rests_is c a _ is tt

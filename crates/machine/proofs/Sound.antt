@@ -1,10 +1,8 @@
 -- A session's edit stays sound, and the repository's trees stay trees.
 use Rattle.std.proofs.Common.{◌≡◌, ◌<◌, ◌+◌, ℕ, zero, suc, List, [], ◌∷◌, ◌++◌, length, Bool, true, false, Option, Some, None, refl, sym, ap, subst, arith, length-append, ◌∙◌}
-use Rattle.std.specs.Prelude.{Result, Ok, Err, if◌then◌else◌, codes, IsSomeAnd, IsTrue}
+use Rattle.std.specs.Prelude.{Result, Ok, Err, if◌then◌else◌, IsSomeAnd, IsTrue}
 use Rattle.std.specs.FinMap.{get, get-empty}
 use Rattle.svnpath.specs.Paths.{PathValue, path_cmp}
-use Rattle.svnpath.specs.Urls.{path_of_text, root_of_text}
-use Rattle.svnpath.specs.declared.fault.PathFault.{PathFault}
 use Rattle.refusals.specs.declared.Refusal.{Refusal}
 use Rattle.refusals.specs.declared.Refusal.TheVariants as refusals
 use Rattle.repo_api.specs.Trees.{IsTree, is_directory}
@@ -14,16 +12,10 @@ use Rattle.repo_api.specs.declared.entry.Entry.{Entry}
 use Rattle.repo_api.specs.declared.ask.CommitAsk.{CommitAsk}
 use Rattle.repo_api.specs.States.{RepoState, TxnState, Revision, IsBeginning, tree_of, tree_in, trees_in, youngest}
 use Rattle.repo_api.specs.Commits.{commit_refusal, next_tree, committed}
-use Rattle.forms.specs.Forms.{is_name}
 use Rattle.commands.specs.Commands.{main_command}
-use Rattle.commands.specs.Logins.{client_greeting, auth_response}
+use Rattle.commands.specs.Logins.{client_greeting, auth_response, challenge_answer}
 use Rattle.edit_commands.specs.Editing.{editor_command, ends_edit}
-use Rattle.commands.specs.declared.command.MainCommand.{MainCommand}
-use Rattle.commands.specs.declared.command.MainCommand.TheVariants.{GetLatestRev, CheckPath, RevProplist, Commit}
-use Rattle.commands.specs.declared.command.MainCommand.TheVariants as commands
 use Rattle.edit_commands.specs.declared.editing.EditorCommand.{EditorCommand}
-use Rattle.commands.specs.declared.login.ClientGreeting.{ClientGreeting}
-use Rattle.commands.specs.declared.login.AuthResponse.{AuthResponse}
 use Rattle.forms.specs.declared.fault.CommandFault.{CommandFault}
 use Rattle.forms.specs.declared.fault.CommandFault.TheVariants.{UnknownName, BadParameters, NoMemory}
 use Rattle.edit_rules.specs.Tokens.{Tokens, has_unfinished}
@@ -37,14 +29,18 @@ use Rattle.machine.specs.Stages.{Stage, EditRests, EditIsSound, RestsOn as Sessi
 use Rattle.machine.specs.Soundness.{MeetBy}
 use Rattle.machine.specs.Hearing.{Input}
 use Rattle.machine.specs.Hearing.Input.{Whole, Broken}
-use Rattle.machine.specs.Machine.{Verdict, Answer, InputStep, MachineEdit, JudgedEdit, CommitStep, CloseStep, CommandStep, EditingStep, ending_of, content_after, says, speaks, url_answer, greeting_answer, login_answer, command_answer, asked_by, lock_tokens, commit_begins, commit_ask, commit_answer, skipping_answer}
-use Rattle.machine.specs.Machine.Verdict.{Written, NotWritten, Unknown}
+use Rattle.machine.specs.Answers.{Verdict, Effect, Answer, content_after}
+use Rattle.machine.specs.Logins.{ChallengeStep}
+use Rattle.machine.specs.Machine.{InputStep, MachineEdit, JudgedEdit, CommitStep, CloseStep, CommandStep, EditingStep, ending_of, commit_ask, commit_answer}
+use Rattle.machine.specs.Answers.Verdict.{Written, NotWritten, Unknown}
 use Rattle.machine.specs.declared.asked.Asked.{Asked}
 use Rattle.machine.specs.declared.env.Env.{Env}
 use Rattle.machine.specs.declared.ending.Ending.{Ending}
 use Rattle.machine.specs.declared.ending.Ending.TheVariants.{Commits, GivesUp}
-use Rattle.machine.specs.declared.phase.Phase.TheVariants.{Greeted, LoggingIn, Serving, Editing, Skipping, Ended}
+use Rattle.machine.specs.declared.phase.Phase.TheVariants.{Greeted, LoggingIn, Challenged, Serving, Editing, Skipping, Ended}
 use Rattle.machine.specs.declared.phase.Client.{Client}
+use Rattle.machine.specs.declared.login.OpenChallenge.{OpenChallenge}
+use Rattle.machine.proofs.Quiet.{HasNewEdit, IsQuiet, quiet_greeting, quiet_login, quiet_outcome, quiet_command, quiet_skipping}
 use Rattle.machine.proofs.Resting.{rests_on}
 
 trees_more : (rs : List Revision) (r : Revision) → AreTrees rs → IsTree (tree_of r.tree) → AreTrees (rs ++ r ∷ [])
@@ -89,31 +85,6 @@ LeavesTrees c a = AreSound (content_after c a.effect).revisions × EditIsSound a
 leaves_is : (c : RepoState) (a b : Answer) → a ≡ b → LeavesTrees c b → LeavesTrees c a
 leaves_is c a b e r = subst (λ (x : Answer). LeavesTrees c x) (sym e) r
 
-leaves_if : (c : RepoState) (b : Bool) (x y : Answer) → LeavesTrees c x → LeavesTrees c y → LeavesTrees c (if b then x else y)
-leaves_if c true x y p q = p
-leaves_if c false x y p q = q
-
-leaves_url : (c : RepoState) (s : Settings) (env : Env) (path : Result PathValue PathFault) (root : Result (List ℕ) PathFault) → AreSound c.revisions → LeavesTrees c (url_answer s env path root)
-leaves_url c s env (Ok path) (Ok root) trees = (trees, tt, tt)
-leaves_url c s env (Ok path) (Err fault) trees = (trees, tt, tt)
-leaves_url c s env (Err fault) root trees = (trees, tt, tt)
-
-leaves_greeting : (c : RepoState) (s : Settings) (env : Env) (r : Result ClientGreeting CommandFault) → AreSound c.revisions → LeavesTrees c (greeting_answer s env r)
-leaves_greeting c s env (Ok g) trees =
-    let path = path_of_text g.url s.name in
-    let root = root_of_text g.url s.name in
-    leaves_if c (speaks g) (url_answer s env path root) (says env Ended []) (leaves_url c s env path root trees) (trees, tt, tt)
-leaves_greeting c s env (Err fault) trees = (trees, tt, tt)
-
-leaves_login : (c : RepoState) (env : Env) (client : Client) (r : Result AuthResponse CommandFault) → AreSound c.revisions → LeavesTrees c (login_answer env c client r)
-leaves_login c env client (Ok r) trees = leaves_if c (is_name r.mechanism (codes "ANONYMOUS")) (says env (Serving client) _) (says env (LoggingIn client) _) (trees, tt, tt) (trees, tt, tt)
-leaves_login c env client (Err fault) trees = (trees, tt, tt)
-
-leaves_skipping : (c : RepoState) (env : Env) (client : Client) (ends : Option Bool) → AreSound c.revisions → LeavesTrees c (skipping_answer env client ends)
-leaves_skipping c env client None trees = (trees, tt, tt)
-leaves_skipping c env client (Some true) trees = (trees, tt, tt)
-leaves_skipping c env client (Some false) trees = (trees, tt, tt)
-
 module _ (begins : (path : PathValue) (name : List ℕ) → IsSoundEdit (new_edit path name))
     (goes_on : (c : RepoState) (old new : EditState) (command : EditorCommand) → AreSound c.revisions → RestsOn old c → IsSoundEdit old → edit_refusal c old command ≡ None → Applies c old command new → IsSoundEdit new)
     (meets : (c : RepoState) (ask : CommitAsk) (t : TxnState) → AreMarked (trees_in c.revisions) → IsTree (trees_in c.revisions (youngest c))
@@ -121,19 +92,25 @@ module _ (begins : (path : PathValue) (name : List ℕ) → IsSoundEdit (new_edi
     → commit_refusal c ask t ≡ None → MeetWell (trees_in c.revisions) t.base (tree_of t.tree) (youngest c))
     (makes_tree : (c : RepoState) (t : TxnState) → MeetWell (trees_in c.revisions) t.base (tree_of t.tree) (youngest c) → IsTree (tree_of (next_tree c t)))
     (makes_marks : (c : RepoState) (ask : CommitAsk) (t : TxnState) → MeetWell (trees_in c.revisions) t.base (tree_of t.tree) (youngest c) → AreMarked (trees_in (committed c ask t).revisions)) where
-  leaves_begins : (c : RepoState) (s : Settings) (env : Env) (client : Client) (r : Result Asked Refusal) → AreSound c.revisions → LeavesTrees c (commit_begins s env client r)
-  leaves_begins c s env client (Ok asked) trees = (trees, begins client.path s.name, tt)
-  leaves_begins c s env client (Err r) trees = (trees, tt, tt)
+  -- an edit of which nothing has been made is sound
+  sound_new : (s : Settings) (phase : Stage) → HasNewEdit s phase → EditIsSound phase
+  sound_new s Greeted new = tt
+  sound_new s (LoggingIn login) new = tt
+  sound_new s (Challenged pending) new = tt
+  sound_new s (Serving client) new = tt
+  sound_new s (Editing edit) new = subst IsSoundEdit (sym new) (begins edit.client.path s.name)
+  sound_new s (Skipping client) new = tt
+  sound_new s Ended new = tt
 
-  leaves_command : (c : RepoState) (s : Settings) (env : Env) (client : Client) (r : Result MainCommand CommandFault) → AreSound c.revisions → LeavesTrees c (command_answer s env c client r)
-  leaves_command c s env client (Ok GetLatestRev) trees = (trees, tt, tt)
-  leaves_command c s env client (Ok (CheckPath path revision)) trees = (trees, tt, tt)
-  leaves_command c s env client (Ok (RevProplist n)) trees = (trees, tt, tt)
-  leaves_command c s env client (Ok (Commit command)) trees = leaves_begins c s env client (asked_by command (lock_tokens client.path command.tokens)) trees
-  leaves_command c s env client (Ok commands.AbortEdit) trees = (trees, tt, tt)
-  leaves_command c s env client (Err UnknownName) trees = (trees, tt, tt)
-  leaves_command c s env client (Err BadParameters) trees = (trees, tt, tt)
-  leaves_command c s env client (Err NoMemory) trees = (trees, tt, tt)
+  leaves_quiet : (c : RepoState) (s : Settings) (a b : Answer) → AreSound c.revisions → a ≡ b → IsQuiet s b → LeavesTrees c a
+  leaves_quiet c s a b trees is quiet =
+      leaves_is c a b is (subst (λ (e : Effect). AreSound (content_after c e).revisions × EditIsSound b.phase × MeetBy c e.changes)
+      (sym quiet.nothing) (trees, sound_new s b.phase quiet.new, tt))
+
+  leaves_challenge : (s : Settings) (env : Env) (c : RepoState) (pending : OpenChallenge) (text : Option (List ℕ)) (a : Answer)
+      → AreSound c.revisions → ChallengeStep s env c pending text a → LeavesTrees c a
+  leaves_challenge s env c pending None a trees is = leaves_is c a _ is (trees, tt, tt)
+  leaves_challenge s env c pending (Some text) a trees (user, whose, is) = leaves_quiet c s a _ trees is (quiet_outcome s env c pending.login user)
 
   leaves_edits : (env : Env) (c : RepoState) (edit : MachineEdit) (command : EditorCommand) (r : Option Refusal) (a : Answer)
       → AreSound c.revisions → RestsOn edit.editor c → IsSoundEdit edit.editor → edit_refusal c edit.editor command ≡ r → JudgedEdit env c edit command r a → LeavesTrees c a
@@ -181,13 +158,15 @@ module _ (begins : (path : PathValue) (name : List ℕ) → IsSoundEdit (new_edi
 
   leaves_trees : (halted : Bool) (s : Settings) (env : Env) (c : RepoState) (phase : Stage) (input : Input) (a : Answer)
       → AreSound c.revisions → EditRests phase c → EditIsSound phase → InputStep halted s env c phase input a → LeavesTrees c a
-  leaves_trees halted s env c Greeted (Whole t) a trees rests sound is = leaves_is c a _ is (leaves_greeting c s env (client_greeting t) trees)
-  leaves_trees halted s env c (LoggingIn client) (Whole t) a trees rests sound is = leaves_is c a _ is (leaves_login c env client (auth_response t) trees)
-  leaves_trees halted s env c (Serving client) (Whole t) a trees rests sound is = leaves_is c a _ is (leaves_command c s env client (main_command t) trees)
+  leaves_trees halted s env c Greeted (Whole t) a trees rests sound is = leaves_quiet c s a _ trees is (quiet_greeting s env (client_greeting t))
+  leaves_trees halted s env c (LoggingIn login) (Whole t) a trees rests sound is = leaves_quiet c s a _ trees is (quiet_login s env c login (auth_response t))
+  leaves_trees halted s env c (Challenged pending) (Whole t) a trees rests sound step = leaves_challenge s env c pending (challenge_answer t) a trees step
+  leaves_trees halted s env c (Serving client) (Whole t) a trees rests sound is = leaves_quiet c s a _ trees is (quiet_command s env c client (main_command t))
   leaves_trees halted s env c (Editing edit) (Whole t) a trees rests sound step = leaves_editing halted env c edit (editor_command t) a trees rests sound step
-  leaves_trees halted s env c (Skipping client) (Whole t) a trees rests sound is = leaves_is c a _ is (leaves_skipping c env client (ends_edit t) trees)
+  leaves_trees halted s env c (Skipping client) (Whole t) a trees rests sound is = leaves_quiet c s a _ trees is (quiet_skipping s env client (ends_edit t))
   leaves_trees halted s env c Greeted Broken a trees rests sound is = leaves_is c a _ is (trees, tt, tt)
-  leaves_trees halted s env c (LoggingIn client) Broken a trees rests sound is = leaves_is c a _ is (trees, tt, tt)
+  leaves_trees halted s env c (LoggingIn login) Broken a trees rests sound is = leaves_is c a _ is (trees, tt, tt)
+  leaves_trees halted s env c (Challenged pending) Broken a trees rests sound is = leaves_is c a _ is (trees, tt, tt)
   leaves_trees halted s env c (Serving client) Broken a trees rests sound is = leaves_is c a _ is (trees, tt, tt)
   leaves_trees halted s env c (Editing edit) Broken a trees rests sound is = leaves_is c a _ is (trees, tt, tt)
   leaves_trees halted s env c (Skipping client) Broken a trees rests sound is = leaves_is c a _ is (trees, tt, tt)

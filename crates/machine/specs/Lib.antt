@@ -1,6 +1,9 @@
 pub mod Settings
 pub mod Hearing
 pub mod Stages
+pub mod Answers
+pub mod Commands
+pub mod Logins
 pub mod Machine
 pub mod Steps
 pub mod Soundness

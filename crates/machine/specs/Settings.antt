@@ -4,6 +4,7 @@ use Rattle.std.specs.Char.{is_ascii_alphanumeric}
 use Rattle.std.specs.List.{list_all}
 use Rattle.machine.specs.declared.options.TheConstants.{NAME_LIMIT}
 use Rattle.forms.specs.Forms.{is_name}
+use Rattle.cram.specs.Login.{Login}
 
 -- a letter, a digit, `-`, `_` or `.`
 abbrev pub is_name_byte : ℕ → Bool
@@ -25,5 +26,5 @@ is_repository_name name = has_name_length name && list_all is_name_byte name && 
 -- properties may be changed
 pub record Settings : Type 0 where
   pub name : List ℕ
-  pub users : Option (List (List ℕ × List ℕ))
+  pub users : Option (List Login)
   pub revprops : Bool

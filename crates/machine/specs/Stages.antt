@@ -6,7 +6,7 @@ use Rattle.edit_rules.specs.Editor.{RestsOn as EditRestsOn}
 use Rattle.repo_api.specs.Soundness.{AreSound}
 use Rattle.edit_rules.specs.Soundness.{IsSoundEdit}
 use Rattle.machine.specs.declared.phase.Phase.{Phase}
-use Rattle.machine.specs.declared.phase.Phase.TheVariants.{Greeted, LoggingIn, Serving, Editing, Skipping, Ended}
+use Rattle.machine.specs.declared.phase.Phase.TheVariants.{Greeted, LoggingIn, Challenged, Serving, Editing, Skipping, Ended}
 
 -- a phase, with its edit as the machine has it
 abbrev pub Stage : Type 0
@@ -15,7 +15,8 @@ Stage = Phase EditState
 -- whether the session hears what comes
 abbrev pub is_open : {E : Type 0} → Phase E → Bool
 is_open Greeted = true
-is_open (LoggingIn client) = true
+is_open (LoggingIn login) = true
+is_open (Challenged pending) = true
 is_open (Serving client) = true
 is_open (Editing edit) = true
 is_open (Skipping client) = true
@@ -24,7 +25,8 @@ is_open Ended = false
 -- the edit of the session, if it has one, has seen revisions that begin the repository's
 abbrev pub EditRests : Stage → RepoState → Type 0
 EditRests Greeted c = Unit {0}
-EditRests (LoggingIn client) c = Unit {0}
+EditRests (LoggingIn login) c = Unit {0}
+EditRests (Challenged pending) c = Unit {0}
 EditRests (Serving client) c = Unit {0}
 EditRests (Editing edit) c = EditRestsOn edit.editor c
 EditRests (Skipping client) c = Unit {0}
@@ -33,7 +35,8 @@ EditRests Ended c = Unit {0}
 -- the edit of the session, if it has one, is sound
 abbrev pub EditIsSound : Stage → Type 0
 EditIsSound Greeted = Unit {0}
-EditIsSound (LoggingIn client) = Unit {0}
+EditIsSound (LoggingIn login) = Unit {0}
+EditIsSound (Challenged pending) = Unit {0}
 EditIsSound (Serving client) = Unit {0}
 EditIsSound (Editing edit) = IsSoundEdit edit.editor
 EditIsSound (Skipping client) = Unit {0}

@@ -12,8 +12,9 @@ use Rattle.machine.specs.declared.env.Env.{Env}
 use Rattle.machine.specs.Stages.{Stage, is_open}
 use Rattle.machine.specs.Settings.{Settings}
 use Rattle.machine.specs.Hearing.{Input, Yields, HasNoMore}
-use Rattle.machine.specs.Machine.{Verdict, Effect, Answer, InputStep}
-use Rattle.machine.specs.Machine.Verdict.{Written, NotWritten, Unknown}
+use Rattle.machine.specs.Answers.{Verdict, Effect, Answer}
+use Rattle.machine.specs.Machine.{InputStep}
+use Rattle.machine.specs.Answers.Verdict.{Written, NotWritten, Unknown}
 
 -- ---- at a point of the repository
 

@@ -4,7 +4,8 @@ ghost use Rattle.repo_api.specs.States.{RepoState};
 ghost use Rattle.machine.specs.Settings.{Settings};
 ghost use Rattle.machine.specs.Stages.{Stage, EditRests, RestsOn};
 ghost use Rattle.machine.specs.Soundness.{MeetBy};
-ghost use Rattle.machine.specs.Machine.{Answer, InputStep, content_after};
+ghost use Rattle.machine.specs.Answers.{Answer, content_after};
+ghost use Rattle.machine.specs.Machine.{InputStep};
 ghost use Rattle.machine.specs.declared.env.Env.{Env};
 ghost use Rattle.machine.specs.Hearing.{Input, Yields, HasNoMore, EndsBroken};
 

@@ -1,27 +1,31 @@
 //! What a server is started with.
-ghost use Rattle.std.specs.Prelude.{◌≡◌, IsTrue, IfOk, None, false, string_bytes};
+ghost use Rattle.std.specs.Prelude.{◌≡◌, IsTrue, IfOk, Some, None, false, option_copied, string_bytes};
 ghost use Rattle.std.specs.List.{list_all};
 ghost use Rattle.machine.specs.Settings.{is_repository_name, has_name_length, is_dots, is_name_byte};
 
+use cram::Users;
 use std::alloc::{AllocError, Global};
 use std::marker::Model;
+use std::mem::drop;
 
 /// The most bytes of a repository's name.
 pub const NAME_LIMIT: usize = 64;
 
-/// What a server is started with: the repository's name.
+/// What a server is started with: the repository's name, and the users that may log in, if there is a file of them.
+/// There is no `Debug`, so that nothing of a password is printed.
 #[derive(Drop)]
 pub struct Options {
     name: String,
+    users: Option<Users>,
 }
 
 impl Model for Options {
-    ghost use Rattle.std.specs.Prelude.{None, false, string_bytes};
+    ghost use Rattle.std.specs.Prelude.{false, string_bytes};
     ghost use Rattle.machine.specs.Settings.{Settings};
 
     ghost Value = { Settings };
 
-    ghost view = { λ o. record { name = string_bytes o.name; users = None; revprops = false } };
+    ghost view = { λ o. record { name = string_bytes o.name; users = o.users; revprops = false } };
 }
 
 impl Options {
@@ -33,7 +37,31 @@ impl Options {
     {
         Ok(Options {
             name: String::from_str(alloc, name)?,
+            users: None,
         })
+    }
+
+    /// The same, with these users in the place of those before. Then a client may log in as one of them, and one that
+    /// writes must.
+    pub fn with_users(self, users: Users) -> Options
+        ensures { result ≡ record self { users = Some users } }
+    {
+        let Options {
+            name,
+            users: before,
+        } = self;
+        drop(before);
+        Options {
+            name,
+            users: Some(users),
+        }
+    }
+
+    /// The users that may log in, if there is a file of them.
+    pub fn users(&self) -> Option<&Users>
+        ensures { option_copied result ≡ self.now.users }
+    {
+        self.users.as_ref()
     }
 
     /// The repository's name.

@@ -3,6 +3,7 @@ ghost use Rattle.std.specs.Prelude.{◌≡◌};
 ghost use Rattle.machine.specs.Stages.{is_open};
 
 use crate::asked::Asked;
+use crate::login::{OpenChallenge, OpenLogin};
 use byte_string::ByteString;
 use svnpath::Path;
 
@@ -29,7 +30,9 @@ pub enum Phase<E> {
     /// The answer to the greeting is awaited.
     Greeted,
     /// The choice of a mechanism is awaited.
-    LoggingIn(Client),
+    LoggingIn(OpenLogin),
+    /// The answer to a challenge is awaited.
+    Challenged(OpenChallenge),
     /// Commands are awaited.
     Serving(Client),
     /// Commands of an edit are awaited.

@@ -1,5 +1,6 @@
 //! Why a script is not played to its end.
 
+use cram::CramFault;
 use std::alloc::AllocError;
 use std::io;
 use std::process::ExitCode;
@@ -11,9 +12,15 @@ pub enum LineFault {
     /// It is none of the lines of a script.
     #[error("not a line of a script")]
     Unknown,
-    /// It is a call, and no hub was made before it.
+    /// It is a call or names users, and no hub was asked for before it.
     #[error("no hub yet")]
     NoHub,
+    /// It names users, and a call to the hub was made before it.
+    #[error("users stand before a hub's first call")]
+    LateUsers,
+    /// It is a hub's first call, and its users file is not read.
+    #[error("{0}")]
+    BadUsers(CramFault),
     /// Memory was refused.
     #[error("no memory")]
     NoMemory,
@@ -22,6 +29,15 @@ pub enum LineFault {
 impl From<AllocError> for LineFault {
     fn from(_error: AllocError) -> Self {
         LineFault::NoMemory
+    }
+}
+
+impl From<CramFault> for LineFault {
+    fn from(fault: CramFault) -> Self {
+        match fault {
+            CramFault::NoMemory => LineFault::NoMemory,
+            _ => LineFault::BadUsers(fault),
+        }
     }
 }
 

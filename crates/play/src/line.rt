@@ -17,6 +17,13 @@ pub struct NewHub {
     ghost dated: { moment ≤ LAST_MOMENT },
 }
 
+/// A user, by name, and the password.
+#[derive(Drop)]
+pub struct NewUser {
+    pub name: String,
+    pub password: Vec<u8>,
+}
+
 /// A piece for a session.
 #[derive(Drop)]
 pub struct Piece {
@@ -32,6 +39,10 @@ pub enum Line {
     Comment,
     /// A new hub, in place of the one before.
     Hub(NewHub),
+    /// A users file for the hub that is asked for, so far without users.
+    Users,
+    /// One more user in the file.
+    User(NewUser),
     /// A new session.
     Connect,
     /// A session is sent a piece.
@@ -58,6 +69,11 @@ impl Line {
     fn from_words(alloc: Global, words: &[&str]) -> Result<Line, LineFault> {
         match *words {
             ["hub", name, uuid, moment] => Ok(Line::Hub(parse_hub(alloc, name, uuid, moment)?)),
+            ["users"] => Ok(Line::Users),
+            ["user", name, password] => Ok(Line::User(NewUser {
+                name: String::from_str(alloc, name)?,
+                password: parse_bytes(alloc, password)?,
+            })),
             ["connect"] => Ok(Line::Connect),
             ["feed", session, moment, token, nonce, bytes] => {
                 let session = parse_session(session)?;

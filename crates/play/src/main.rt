@@ -2,6 +2,8 @@
 //!
 //!     # any text                             nothing
 //!     hub NAME UUID MOMENT                   a new hub, in place of the one before, over an empty repository
+//!     users                                  a users file for it, so far without users
+//!     user NAME PASSWORD                     one more user in its users file, the password in HEX
 //!     connect                                a new session: `connect ID HEX`, HEX the greeting
 //!     feed ID MOMENT TOKEN NONCE HEX         a piece for a session: `feed ID HEX`, HEX what is written back
 //!     open ID                                `open ID true` or `open ID false`
@@ -9,12 +11,18 @@
 //!
 //! Numbers are decimal, and HEX has lower-case digits, or is `-` for no bytes. A call that fails is answered
 //! by its fault in place of HEX: `H1` for a session that isn't open, `H2` for want of memory, `H3` for a hub
-//! that has halted, `H4` for one that is full. Any other line ends the program with status 2.
+//! that has halted, `H4` for one that is full.
+//!
+//! The lines of users stand behind the hub's and before its first call, at which the hub is made. A users file
+//! of them all is read then: the line `[users]`, and `NAME = PASSWORD` for each user, in order; so there is one
+//! also without a `users` line where a user is named. A hub without such lines has no users file. A users file
+//! that is not read, a line in another place and any other line end the program with status 2.
 #![tactic(auto)]
 
 mod answer;
 mod fault;
 mod line;
+mod plan;
 mod player;
 mod script;
 mod words;

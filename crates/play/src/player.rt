@@ -1,32 +1,15 @@
 //! What plays the lines.
-ghost use Rattle.std.specs.Prelude.{◌≡◌, ℕ, List, IfOk};
-ghost use Rattle.dates.specs.Dates.{IsDateText};
-ghost use Rattle.hub.specs.Laws.{new_hub};
 ghost use Rattle.hub.specs.Calls.{CallStep};
 ghost use Rattle.hub.specs.declared.calls.Outcome.{Outcome};
 
 use crate::answer::answer_line;
 use crate::fault::LineFault;
-use crate::line::{Line, NewHub, Piece};
-use access::{SoleAccess, SoleRepository};
-use flatrepo::FlatRepo;
+use crate::line::{Line, Piece};
+use crate::plan::{MemoryHub, Plan};
+use access::SoleAccess;
 use hub::{Call, Hub, SessionId, make_call};
 use std::alloc::{AllocError, Global};
-
-/// A hub over a repository in memory.
-type MemoryHub = Hub<SoleRepository<FlatRepo>>;
-
-/// A hub without sessions over an empty repository.
-fn make_hub(alloc: Global, asked: NewHub) -> Result<MemoryHub, LineFault>
-    ensures { IfOk result (λ hub. (date : List ℕ) × IsDateText asked.moment date
-        × (hub ≡ new_hub asked.options asked.uuid date)) }
-{
-    let repository = FlatRepo::new(alloc, asked.uuid, asked.moment)?;
-    match Hub::over_new(alloc, repository, asked.options) {
-        Ok(hub) => Ok(hub),
-        Err(_) => Err(LineFault::NoMemory),
-    }
-}
+use std::mem;
 
 /// Makes a call, and gives the line that it is answered by.
 fn answer_call<A: SoleAccess>(
@@ -40,17 +23,31 @@ fn answer_call<A: SoleAccess>(
     answer_line(alloc, call, &outcome)
 }
 
+/// What a script has come to.
+#[derive(Drop)]
+enum Stage {
+    /// No hub is asked for yet.
+    Beginning,
+    /// A hub is asked for, and no call to it was made.
+    Asked(Plan),
+    /// Calls are made to a hub.
+    Calling(MemoryHub),
+}
+
 /// Plays lines, one after another.
 #[derive(Drop)]
 pub struct Player {
     alloc: Global,
-    hub: Option<MemoryHub>,
+    stage: Stage,
 }
 
 impl Player {
     /// A player that has no hub yet.
     pub fn new(alloc: Global) -> Self {
-        Player { alloc, hub: None }
+        Player {
+            alloc,
+            stage: Stage::Beginning,
+        }
     }
 
     /// Plays a line, and gives what it is answered by, if by anything.
@@ -58,7 +55,17 @@ impl Player {
         match line {
             Line::Comment => Ok(None),
             Line::Hub(asked) => {
-                self.hub = Some(make_hub(self.alloc, asked)?);
+                self.stage = Stage::Asked(Plan::new(asked));
+                Ok(None)
+            }
+            Line::Users => {
+                let alloc = self.alloc;
+                self.plan()?.begin_users(alloc)?;
+                Ok(None)
+            }
+            Line::User(user) => {
+                let alloc = self.alloc;
+                self.plan()?.add_user(alloc, &user)?;
                 Ok(None)
             }
             Line::Connect => self.call(&Call::Connect),
@@ -77,20 +84,42 @@ impl Player {
 
     /// Makes a call.
     fn call(&mut self, call: &Call) -> Result<Option<String>, LineFault> {
-        match &mut self.hub {
-            Some(hub) => Ok(Some(answer_call(self.alloc, hub, call)?)),
-            None => Err(LineFault::NoHub),
-        }
+        let alloc = self.alloc;
+        let answer = answer_call(alloc, self.hub()?, call)?;
+        Ok(Some(answer))
     }
 
     /// Whether a session is open.
-    fn ask_open(&self, session: SessionId) -> Result<Option<String>, LineFault> {
-        match &self.hub {
-            Some(hub) => {
-                let is_open = hub.is_open(session);
-                Ok(Some(format!(in self.alloc; "open {session} {is_open}")?))
-            }
-            None => Err(LineFault::NoHub),
+    fn ask_open(&mut self, session: SessionId) -> Result<Option<String>, LineFault> {
+        let alloc = self.alloc;
+        let is_open = self.hub()?.is_open(session);
+        Ok(Some(format!(in alloc; "open {session} {is_open}")?))
+    }
+
+    /// The hub that is asked for, before its first call.
+    fn plan(&mut self) -> Result<&mut Plan, LineFault> {
+        match &mut self.stage {
+            Stage::Asked(plan) => Ok(plan),
+            Stage::Beginning => Err(LineFault::NoHub),
+            Stage::Calling(_) => Err(LineFault::LateUsers),
         }
+    }
+
+    /// The hub, which is made at its first call.
+    fn hub(&mut self) -> Result<&mut MemoryHub, LineFault> {
+        self.make_hub()?;
+        match &mut self.stage {
+            Stage::Calling(hub) => Ok(hub),
+            _ => Err(LineFault::NoHub),
+        }
+    }
+
+    /// Makes the hub that is asked for, if it isn't made yet.
+    fn make_hub(&mut self) -> Result<(), LineFault> {
+        self.stage = match mem::replace(&mut self.stage, Stage::Beginning) {
+            Stage::Asked(plan) => Stage::Calling(plan.into_hub(self.alloc)?),
+            stage => stage,
+        };
+        Ok(())
     }
 }

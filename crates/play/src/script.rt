@@ -10,11 +10,21 @@ use std::io::{self, BufRead, BufReader, BufWriter, Write};
 pub fn play_script(rt: &(impl Input + Print), alloc: Global) -> Result<(), ScriptFault> {
     let mut output = BufWriter::new(alloc, io::writer(rt))?;
     let mut player = Player::new(alloc);
+    play_lines(rt, alloc, &mut player, &mut output)
+}
+
+/// Plays the lines of standard input.
+fn play_lines<W: Write>(
+    rt: &impl Input,
+    alloc: Global,
+    player: &mut Player,
+    output: &mut W,
+) -> Result<(), ScriptFault> {
     for (i, text) in BufReader::new(alloc, rt.reader())?
         .split(alloc, b'\n')
         .enumerate()
     {
-        play_line(alloc, &mut player, i.saturating_add(1), &text?, &mut output)?;
+        play_line(alloc, player, i.saturating_add(1), &text?, output)?;
     }
     Ok(())
 }

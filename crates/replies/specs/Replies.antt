@@ -9,8 +9,10 @@ use Rattle.refusals.specs.Table.{refusal_number, refusal_text}
 use Rattle.repo_api.specs.Properties.{PropertyList}
 use Rattle.repo_api.specs.declared.entry.NodeKind.{NodeKind}
 use Rattle.repo_api.specs.declared.entry.NodeKind.TheVariants as kinds
+use Rattle.replies.specs.declared.reply.Offer.{Offer}
+use Rattle.replies.specs.declared.reply.Offer.TheVariants.{Anonymous, AnonymousOrUser, User}
 use Rattle.replies.specs.declared.reply.Reply.{Reply}
-use Rattle.replies.specs.declared.reply.Reply.TheVariants.{Greeting, NoLogin, Login, MechanismNotOffered, Success, ReposInfo, Revision, Kind, Properties, CommitInfo, Failure}
+use Rattle.replies.specs.declared.reply.Reply.TheVariants.{Greeting, NoLogin, Login, MechanismNotOffered, Challenge, LoginFailed, Success, ReposInfo, Revision, Kind, Properties, CommitInfo, Failure}
 
 -- the text of a number of 128 bits: `8-4-4-4-12` lower-case hexadecimal digits
 abbrev pub uuid_text : ℕ → List ℕ
@@ -37,6 +39,12 @@ abbrev pub kind_word : NodeKind → List ℕ
 kind_word kinds.Absent = codes "none"
 kind_word kinds.File = codes "file"
 kind_word kinds.Directory = codes "dir"
+
+-- the words of the mechanisms that are offered
+abbrev pub mechanism_trees : Offer → ItemValues
+mechanism_trees Anonymous = only (word (codes "ANONYMOUS"))
+mechanism_trees AnonymousOrUser = both (word (codes "ANONYMOUS")) (word (codes "CRAM-MD5"))
+mechanism_trees User = only (word (codes "CRAM-MD5"))
 
 -- `( name value ) ...`
 abbrev pub property_trees : PropertyList → ItemValues
@@ -65,8 +73,10 @@ abbrev pub reply_item : Reply → ItemValue
 reply_item Greeting =
     success (more (number 2) (more (number 2) (both (list none) (list capabilities))))
 reply_item NoLogin = success (both (list none) (string []))
-reply_item (Login realm) = success (both (list (only (word (codes "ANONYMOUS")))) (string realm))
+reply_item (Login offer realm) = success (both (list (mechanism_trees offer)) (string realm))
 reply_item MechanismNotOffered = failure (only (string (codes "mechanism not offered")))
+reply_item (Challenge text) = list (both (word (codes "step")) (list (only (string text))))
+reply_item LoginFailed = failure (only (string (codes "login failed")))
 reply_item Success = success none
 reply_item (ReposInfo uuid root) =
     success (more (string (uuid_text uuid)) (both (string root) (list none)))

@@ -5,5 +5,5 @@ mod build;
 mod reply;
 mod sink;
 
-pub use reply::Reply;
+pub use reply::{Offer, Reply};
 pub use sink::{MemorySink, ReplySink};

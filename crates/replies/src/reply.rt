@@ -3,7 +3,7 @@ ghost use Rattle.std.specs.Prelude.{◌≡◌, ◌++◌, IfOk, OnOk, OnErr, code
 ghost use Rattle.items.specs.View.{value_of, values_of};
 ghost use Rattle.items.specs.Values.{word, string, list, none, more};
 ghost use Rattle.items.specs.Print.{printed, Grows};
-ghost use Rattle.replies.specs.Replies.{reply_item, success, failure, only, both, property_trees, capabilities, uuid_text, commit_info, optional_string_trees};
+ghost use Rattle.replies.specs.Replies.{reply_item, success, failure, only, both, mechanism_trees, property_trees, capabilities, uuid_text, commit_info, optional_string_trees};
 
 use crate::build::{list_item, number_item, string_item, word_item};
 use byte_string::ByteString;
@@ -13,6 +13,17 @@ use repo_api::{NodeKind, Properties};
 use std::alloc::{AllocError, Global};
 use uuid::Uuid;
 
+/// The mechanisms of a login that a client may choose from.
+#[derive(Clone, Copy, Debug, PartialEq, Eq)]
+pub enum Offer {
+    /// `ANONYMOUS` alone: a login without a name.
+    Anonymous,
+    /// `ANONYMOUS`, or `CRAM-MD5`: a login without a name, or of a user by its password.
+    AnonymousOrUser,
+    /// `CRAM-MD5` alone.
+    User,
+}
+
 /// What a client is told.
 #[derive(Drop)]
 pub enum Reply {
@@ -20,10 +31,14 @@ pub enum Reply {
     Greeting,
     /// No login is wanted.
     NoLogin,
-    /// A login by `ANONYMOUS` is wanted, to this realm.
-    Login(ByteString),
+    /// A login by one of these mechanisms is wanted, to this realm.
+    Login(Offer, ByteString),
     /// The mechanism is none of those that were offered.
     MechanismNotOffered,
+    /// The challenge of a login by `CRAM-MD5`.
+    Challenge(ByteString),
+    /// The answer to the challenge is no user's.
+    LoginFailed,
     /// It is done.
     Success,
     /// The repository's name among all repositories, and the URL of its root.
@@ -51,10 +66,15 @@ impl Reply {
                 b"( success ( 2 2 ( ) ( edit-pipeline absent-entries commit-revprops ) ) ) ",
             ),
             Reply::NoLogin => out.extend_from_slice(b"( success ( ( ) 0: ) ) "),
-            Reply::Login(realm) => write_item(&login_item(alloc, realm.as_slice())?, out),
+            Reply::Login(offer, realm) => write_item(
+                &login_item(alloc, *offer, realm.as_slice())?,
+                out,
+            ),
             Reply::MechanismNotOffered => out.extend_from_slice(
                 b"( failure ( 21:mechanism not offered ) ) ",
             ),
+            Reply::Challenge(text) => write_item(&challenge_item(alloc, text.as_slice())?, out),
+            Reply::LoginFailed => out.extend_from_slice(b"( failure ( 12:login failed ) ) "),
             Reply::Success => out.extend_from_slice(b"( success ( ) ) "),
             Reply::ReposInfo(uuid, root) => write_item(
                 &repos_info_item(alloc, *uuid, root.as_slice())?,
@@ -132,14 +152,40 @@ fn failure_item(alloc: Global, param: Item) -> Result<Item, AllocError>
     list_item(alloc, [word, params])
 }
 
-fn login_item(alloc: Global, realm: &[u8]) -> Result<Item, AllocError>
+/// `( success ( ( mechanism ... ) realm ) )`
+fn login_item(alloc: Global, offer: Offer, realm: &[u8]) -> Result<Item, AllocError>
     ensures { IfOk result (λ item. value_of item
-        ≡ success (both (list (only (word (codes "ANONYMOUS")))) (string realm.now))) }
+        ≡ success (both (list (mechanism_trees offer)) (string realm.now))) }
 {
-    let mechanism = word_item(alloc, b"ANONYMOUS")?;
-    let mechanisms = list_item(alloc, [mechanism])?;
+    let mechanisms = mechanisms_item(alloc, offer)?;
     let realm = string_item(alloc, realm)?;
     success_item(alloc, [mechanisms, realm])
+}
+
+/// `( mechanism ... )`
+fn mechanisms_item(alloc: Global, offer: Offer) -> Result<Item, AllocError>
+    ensures { IfOk result (λ item. value_of item ≡ list (mechanism_trees offer)) }
+{
+    match offer {
+        Offer::Anonymous => list_item(alloc, [word_item(alloc, b"ANONYMOUS")?]),
+        Offer::AnonymousOrUser => {
+            let anonymous = word_item(alloc, b"ANONYMOUS")?;
+            let user = word_item(alloc, b"CRAM-MD5")?;
+            list_item(alloc, [anonymous, user])
+        }
+        Offer::User => list_item(alloc, [word_item(alloc, b"CRAM-MD5")?]),
+    }
+}
+
+/// `( step ( challenge ) )`
+fn challenge_item(alloc: Global, text: &[u8]) -> Result<Item, AllocError>
+    ensures { IfOk result (λ item. value_of item
+        ≡ list (both (word (codes "step")) (list (only (string text.now))))) }
+{
+    let word = word_item(alloc, b"step")?;
+    let text = string_item(alloc, text)?;
+    let params = list_item(alloc, [text])?;
+    list_item(alloc, [word, params])
 }
 
 fn repos_info_item(alloc: Global, uuid: u128, root: &[u8]) -> Result<Item, AllocError>

@@ -6,9 +6,13 @@ ghost use Rattle.replies.specs.declared.reply.Reply.{Reply};
 ghost use Rattle.replies.specs.Replies.{print};
 ghost use Rattle.replies.specs.Sinks.{WritesPart};
 ghost use Rattle.access.specs.Points.{content_of};
-ghost use Rattle.machine.specs.Machine.{serves, own_answer, login_request, command_answer};
+ghost use Rattle.machine.specs.Answers.{serves, behind};
+ghost use Rattle.machine.specs.Commands.{own_answer, login_request, is_write};
+ghost use Rattle.machine.specs.Logins.{wants_user};
+ghost use Rattle.machine.specs.Machine.{command_answer};
 ghost use Rattle.machine.specs.Steps.{AnswerWritten};
 
+use crate::login::ask_for_login;
 use crate::reading::{kind_reply, properties_reply, youngest_reply};
 use crate::saying::say_made;
 use access::RepoAccess;
@@ -16,7 +20,7 @@ use commands::MainCommand;
 use committing::{SessionPhase, begin_edit, end_malformed};
 use forms::CommandFault;
 use items::Item;
-use machine::{Client, Options, Phase, Turn};
+use machine::{Client, OpenLogin, Options, Phase, Turn};
 use refusals::Refusal;
 use replies::{Reply, ReplySink};
 use repo_api::Repository;
@@ -83,7 +87,7 @@ fn request_login<S: ReplySink>(command: &MainCommand, out: &mut S) -> Result<(),
 }
 
 /// A command's own answer.
-fn own_answer<R: Repository, A: RepoAccess<View = R>, S: ReplySink>(
+pub fn own_answer<R: Repository, A: RepoAccess<View = R>, S: ReplySink>(
     options: &Options,
     client: Client,
     command: &MainCommand,
@@ -125,12 +129,13 @@ fn answer_command<R: Repository, A: RepoAccess<View = R>, S: ReplySink>(
     turn: &mut Turn<S>,
 ) -> Result<SessionPhase<R>, AllocError>
     ensures ok { IfOk result (λ phase. AnswerWritten
-        (command_answer options.now turn.old.env (content_of (A.point access.new)) client
-        (Ok command.now))
+        (behind (login_request command.now)
+        (own_answer options.now turn.old.env (content_of (A.point access.new)) client command.now))
         phase turn.new.env (S.writes turn.old.out turn.new.out)) }
     ensures err { OnErr result (WritesPart (S.writes turn.old.out turn.new.out)
-        (print (command_answer options.now turn.old.env (content_of (A.point access.new)) client
-        (Ok command.now)).replies)) }
+        (print (behind (login_request command.now)
+        (own_answer options.now turn.old.env (content_of (A.point access.new)) client
+        command.now)).replies)) }
     ensures later { A.rules.between (A.point access.old) (A.point access.new) }
 {
     match request_login(command, &mut turn.out) {
@@ -139,6 +144,51 @@ fn answer_command<R: Repository, A: RepoAccess<View = R>, S: ReplySink>(
             drop(client);
             Err(error)
         }
+    }
+}
+
+/// Whether a command writes.
+fn is_write(command: &MainCommand) -> bool
+    ensures { result ≡ is_write command.now }
+{
+    match command {
+        MainCommand::GetLatestRev => false,
+        MainCommand::CheckPath(_, _) => false,
+        MainCommand::RevProplist(_) => false,
+        MainCommand::Commit(_) => true,
+        MainCommand::AbortEdit => false,
+    }
+}
+
+/// Whether a command waits for the login of a user: it writes, its client has no user, and there are users.
+fn wants_user(options: &Options, client: &Client, command: &MainCommand) -> bool
+    ensures { result ≡ wants_user options.now client.now command.now }
+{
+    options.users().is_some() && client.user.is_none() && is_write(command)
+}
+
+/// A command: it waits for a login, or is answered.
+fn take_command<R: Repository, A: RepoAccess<View = R>, S: ReplySink>(
+    options: &Options,
+    client: Client,
+    command: MainCommand,
+    access: &mut A,
+    turn: &mut Turn<S>,
+) -> Result<SessionPhase<R>, AllocError>
+    ensures ok { IfOk result (λ phase. AnswerWritten
+        (command_answer options.now turn.old.env (content_of (A.point access.new)) client
+        (Ok command))
+        phase turn.new.env (S.writes turn.old.out turn.new.out)) }
+    ensures err { OnErr result (WritesPart (S.writes turn.old.out turn.new.out)
+        (print (command_answer options.now turn.old.env (content_of (A.point access.new)) client
+        (Ok command)).replies)) }
+    ensures later { A.rules.between (A.point access.old) (A.point access.new) }
+{
+    if wants_user(options, &client, &command) {
+        let waiting = Some(command);
+        ask_for_login(options, OpenLogin { client, waiting }, turn)
+    } else {
+        answer_command(options, client, &command, access, turn)
     }
 }
 
@@ -160,7 +210,7 @@ pub fn answer_item<R: Repository, A: RepoAccess<View = R>, S: ReplySink>(
     ensures later { A.rules.between (A.point access.old) (A.point access.new) }
 {
     match MainCommand::from_item(turn.alloc, item) {
-        Ok(command) => answer_command(options, client, &command, access, turn),
+        Ok(command) => take_command(options, client, command, access, turn),
         Err(CommandFault::UnknownName) => refuse_unknown(client, turn),
         Err(CommandFault::BadParameters) => {
             drop(client);

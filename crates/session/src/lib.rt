@@ -3,6 +3,7 @@
 #![tactic(auto)]
 
 mod answering;
+mod greeting;
 mod incoming;
 mod login;
 mod reading;

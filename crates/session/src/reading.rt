@@ -7,7 +7,7 @@ ghost use Rattle.repo_api.specs.Kinds.{kind_at};
 ghost use Rattle.replies.specs.declared.reply.Reply.{Reply};
 ghost use Rattle.replies.specs.declared.reply.Reply.TheVariants as replies;
 ghost use Rattle.access.specs.Points.{content_of};
-ghost use Rattle.machine.specs.Machine.{at_revision, check_path_reply, rev_proplist_reply};
+ghost use Rattle.machine.specs.Commands.{at_revision, check_path_reply, rev_proplist_reply};
 
 use access::RepoAccess;
 use byte_string::ByteString;

@@ -5,15 +5,16 @@ ghost use Rattle.replies.specs.Replies.{print};
 ghost use Rattle.replies.specs.Sinks.{WritesPart};
 ghost use Rattle.access.specs.Points.{content_of};
 ghost use Rattle.machine.specs.Hearing.Input.{Whole};
-ghost use Rattle.machine.specs.Machine.{malformed, says};
+ghost use Rattle.machine.specs.Answers.{malformed, says};
 ghost use Rattle.machine.specs.Stages.{is_open, RestsOn};
 ghost use Rattle.machine.specs.Steps.{input_step, AnswerWritten, StepWritten, StepOrNothing};
 ghost use Rattle.machine.specs.declared.phase.Phase.TheVariants.{Ended};
 ghost use Rattle.session.specs.Taking.{input_of};
 
 use crate::answering::answer_item;
+use crate::greeting::greet;
 use crate::incoming::Incoming;
-use crate::login::{greet, log_in};
+use crate::login::{answer_challenge, log_in};
 use access::RepoAccess;
 use committing::{SessionPhase, edit_item, end_malformed, skip};
 use items::Item;
@@ -42,7 +43,8 @@ fn serve_item<R: Repository, A: RepoAccess<View = R>, S: ReplySink>(
 {
     match phase {
         Phase::Greeted => greet(options, item, turn),
-        Phase::LoggingIn(client) => log_in(client, item, access, turn),
+        Phase::LoggingIn(login) => log_in(options, login, item, access, turn),
+        Phase::Challenged(pending) => answer_challenge(options, pending, item, access, turn),
         Phase::Serving(client) => answer_item(options, client, item, access, turn),
         Phase::Editing(edit) => edit_item(edit, item, access, turn),
         Phase::Skipping(client) => skip(client, item, turn),

@@ -8,9 +8,10 @@ use Rattle.machine.specs.Settings.{Settings}
 use Rattle.machine.specs.Hearing.{Input, Yields}
 use Rattle.machine.specs.Hearing.Input.{Whole, Broken}
 use Rattle.machine.specs.Stages.{Stage, SessionState, is_open}
-use Rattle.machine.specs.Machine.{Answer, InputStep, content_after, halted_after}
+use Rattle.machine.specs.Answers.{Answer, content_after, halted_after}
+use Rattle.machine.specs.Machine.{InputStep}
 use Rattle.machine.specs.declared.env.Env.{Env}
-use Rattle.machine.specs.declared.phase.Phase.TheVariants.{Greeted, LoggingIn, Serving, Editing, Skipping, Ended}
+use Rattle.machine.specs.declared.phase.Phase.TheVariants.{Greeted, LoggingIn, Challenged, Serving, Editing, Skipping, Ended}
 use Rattle.hub.specs.State.{HubState, session_of, updated, without, kept}
 use Rattle.hub.specs.Runs.{Event, HubStep, HubRun, InputHappens, InputsAre, Feeds, answered, with_rest}
 use Rattle.hub.specs.Runs.Event.{Connects, Hears, Drops}
@@ -60,7 +61,8 @@ no_piece_happens n (piece ∷ pieces) old new told none (events, first, mid, aft
 -- a wrong byte ends the session
 broken_ends : (halted : Bool) (s : Settings) (env : Env) (c : RepoState) (phase : Stage) (a : Answer) → InputStep halted s env c phase Broken a → a.phase ≡ Ended
 broken_ends halted s env c Greeted a step = ap (λ (x : Answer). x.phase) step
-broken_ends halted s env c (LoggingIn client) a step = ap (λ (x : Answer). x.phase) step
+broken_ends halted s env c (LoggingIn login) a step = ap (λ (x : Answer). x.phase) step
+broken_ends halted s env c (Challenged pending) a step = ap (λ (x : Answer). x.phase) step
 broken_ends halted s env c (Serving client) a step = ap (λ (x : Answer). x.phase) step
 broken_ends halted s env c (Editing edit) a step = ap (λ (x : Answer). x.phase) step
 broken_ends halted s env c (Skipping client) a step = ap (λ (x : Answer). x.phase) step

@@ -1,5 +1,5 @@
 use Rattle.access.specs.Points.{content_of}
-use Rattle.machine.specs.Machine.{login_request, own_answer}
+use Rattle.machine.specs.Commands.{login_request, own_answer}
 use Rattle.session.proofs.Quiet.{behind_answered, behind_part}
 use Rattle.session.proofs.answering.answer_command.Goals as goal
 

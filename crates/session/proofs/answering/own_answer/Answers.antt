@@ -2,7 +2,7 @@ use Rattle.svnpath.specs.Texts.{joined}
 use Rattle.repo_api.specs.States.{youngest}
 use Rattle.replies.specs.declared.reply.Reply.TheVariants as replies
 use Rattle.access.specs.Points.{content_of}
-use Rattle.machine.specs.Machine.{check_path_reply}
+use Rattle.machine.specs.Commands.{check_path_reply}
 use Rattle.session.proofs.answering.own_answer.Goals as goal
 
 pub returns-in-GetLatestRev-clause-err : goal.returns-in-GetLatestRev-clause-err

@@ -1,7 +1,7 @@
 use Rattle.std.proofs.Common.{◌∙◌, ap}
 use Rattle.items.specs.Print.{printed}
 use Rattle.replies.specs.Replies.{reply_item}
-use Rattle.replies.proofs.Constants.{appended, printed-greeting, printed-no_login, printed-not_offered}
+use Rattle.replies.proofs.Constants.{appended, printed-greeting, printed-no_login, printed-not_offered, printed-login_failed}
 use Rattle.replies.proofs.reply.Reply.write.Goals as goal
 
 pub returns-in-Greeting-clause-ok : goal.returns-in-Greeting-clause-ok
@@ -18,3 +18,8 @@ pub returns-in-MechanismNotOffered-clause-ok : goal.returns-in-MechanismNotOffer
 returns-in-MechanismNotOffered-clause-ok c =
     let call = c.extend_from_slice-in-MechanismNotOffered in
     appended call.result _ _ _ _ call.ensures.items (ap (λ r. printed (reply_item r)) c.in-MechanismNotOffered.is ∙ printed-not_offered)
+
+pub returns-in-LoginFailed-clause-ok : goal.returns-in-LoginFailed-clause-ok
+returns-in-LoginFailed-clause-ok c =
+    let call = c.extend_from_slice-in-LoginFailed in
+    appended call.result _ _ _ _ call.ensures.items (ap (λ r. printed (reply_item r)) c.in-LoginFailed.is ∙ printed-login_failed)

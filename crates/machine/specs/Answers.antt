@@ -1,0 +1,73 @@
+-- What an input does: the replies, where the session stands then, the words that are left, and what
+-- becomes of the repository.
+use Rattle.std.specs.Prelude.{◌≡◌, ℕ, Bool, true, false, ◌||◌, List, [], ◌∷◌, ◌++◌}
+use Rattle.refusals.specs.declared.Refusal.TheVariants as refusals
+use Rattle.repo_api.specs.States.{RepoState}
+use Rattle.repo_api.specs.Accepted.{Accepted, changed_all}
+use Rattle.replies.specs.declared.reply.Reply.{Reply}
+use Rattle.replies.specs.declared.reply.Reply.TheVariants as replies
+use Rattle.access.specs.Points.{HasRisen}
+use Rattle.machine.specs.Stages.{Stage}
+use Rattle.machine.specs.declared.env.Env.{Env}
+use Rattle.machine.specs.declared.phase.Phase.TheVariants.{Serving, Ended}
+use Rattle.machine.specs.declared.phase.Client.{Client}
+
+-- what the store did with a change: it wrote it, it failed and nothing is written, or it failed so
+-- that nobody knows,
+-- and no change is made any more
+pub data Verdict : Type 0 where
+  Written : Verdict
+  NotWritten : Verdict
+  Unknown : Verdict
+
+-- what an input does to the repository: the changes that are accepted, one after another, and what
+-- the store did
+pub record Effect : Type 0 where
+  pub changes : List Accepted
+  pub store : Verdict
+
+abbrev pub no_effect : Effect
+no_effect = record { changes = []; store = Written }
+
+-- the repository after an effect
+abbrev pub content_after : RepoState → Effect → RepoState
+content_after c effect = changed_all c effect.changes
+
+abbrev pub is_halt : Verdict → Bool
+is_halt Written = false
+is_halt NotWritten = false
+is_halt Unknown = true
+
+-- whether changes have come to a halt, after an effect
+abbrev pub halted_after : Bool → Effect → Bool
+halted_after halted effect = halted || is_halt effect.store
+
+-- the store's count of failures before and after: it rises where the store fails
+abbrev pub Counts : Verdict → ℕ → ℕ → Type 0
+Counts Written before after = after ≡ before
+Counts NotWritten before after = HasRisen before after
+Counts Unknown before after = HasRisen before after
+
+-- what an input does: the replies, where the session stands then, the words that are left, and the
+-- effect
+pub record Answer : Type 0 where
+  pub replies : List Reply
+  pub phase : Stage
+  pub env : Env
+  pub effect : Effect
+
+-- replies that change nothing
+abbrev pub says : Env → Stage → List Reply → Answer
+says env phase told = record { replies = told; phase = phase; env = env; effect = no_effect }
+
+-- what is no command ends the session
+abbrev pub malformed : Env → Answer
+malformed env = says env Ended (replies.Failure refusals.MalformedData ∷ [])
+
+-- a reply, after which commands are awaited
+abbrev pub serves : Env → Client → Reply → Answer
+serves env client reply = says env (Serving client) (reply ∷ [])
+
+-- an answer behind other replies
+abbrev pub behind : List Reply → Answer → Answer
+behind told a = record a { replies = told ++ a.replies }

@@ -1,0 +1,143 @@
+-- Logins: what is offered, and what is answered while a login is under way.
+use Rattle.std.specs.Prelude.{◌≡◌, ◌+◌, ◌%◌, ◌^◌, ℕ, Bool, true, false, ◌&&◌, ◌==◌, List, [], ◌∷◌, Option, Some, None, is_some, Result, Ok, Err, if◌then◌else◌, codes}
+use Rattle.std.specs.Option.{is_none}
+use Rattle.svnpath.specs.Paths.{PathValue}
+use Rattle.svnpath.specs.Urls.{path_of_text, root_of_text}
+use Rattle.svnpath.specs.declared.fault.PathFault.{PathFault}
+use Rattle.refusals.specs.Refusing.{path_refusal}
+use Rattle.cram.specs.Login.{Login}
+use Rattle.cram.specs.Answer.{challenge_text, IsAnswerOf}
+use Rattle.repo_api.specs.States.{RepoState}
+use Rattle.forms.specs.Forms.{is_name}
+use Rattle.forms.specs.declared.fault.CommandFault.{CommandFault}
+use Rattle.commands.specs.declared.command.MainCommand.{MainCommand}
+use Rattle.commands.specs.declared.login.ClientGreeting.{ClientGreeting}
+use Rattle.commands.specs.declared.login.AuthResponse.{AuthResponse}
+use Rattle.replies.specs.declared.reply.Offer.{Offer}
+use Rattle.replies.specs.declared.reply.Offer.TheVariants.{Anonymous, AnonymousOrUser, User}
+use Rattle.replies.specs.declared.reply.Reply.TheVariants as replies
+use Rattle.machine.specs.Settings.{Settings}
+use Rattle.machine.specs.Answers.{Answer, says, behind, malformed}
+use Rattle.machine.specs.Commands.{is_write, own_answer}
+use Rattle.machine.specs.declared.env.Env.{Env}
+use Rattle.machine.specs.declared.login.Mechanism.{Mechanism}
+use Rattle.machine.specs.declared.login.Mechanism.TheVariants as mechanisms
+use Rattle.machine.specs.declared.phase.Client.{Client}
+use Rattle.machine.specs.declared.login.OpenLogin.{OpenLogin}
+use Rattle.machine.specs.declared.login.OpenChallenge.{OpenChallenge}
+use Rattle.machine.specs.declared.phase.Phase.TheVariants.{LoggingIn, Challenged, Serving, Ended}
+
+-- ---- what is offered
+
+-- a login without a name; a user's as well, where there are users; a user's alone, where a command
+-- waits for it
+abbrev pub offer : Option (List Login) → Option MainCommand → Offer
+offer None waiting = Anonymous
+offer (Some users) None = AnonymousOrUser
+offer (Some users) (Some command) = User
+
+abbrev pub offers_anonymous : Offer → Bool
+offers_anonymous Anonymous = true
+offers_anonymous AnonymousOrUser = true
+offers_anonymous User = false
+
+abbrev pub offers_user : Offer → Bool
+offers_user Anonymous = false
+offers_user AnonymousOrUser = true
+offers_user User = true
+
+-- the mechanism of this name, if it is offered
+abbrev pub chosen : Offer → List ℕ → Option Mechanism
+chosen offered name =
+    if offers_anonymous offered && is_name name (codes "ANONYMOUS") then Some mechanisms.Anonymous
+    else if offers_user offered && is_name name (codes "CRAM-MD5") then Some mechanisms.CramMd5
+    else None
+
+-- ---- a login is asked for
+
+-- it is asked for, and a choice is awaited
+abbrev pub asks : Settings → Env → OpenLogin → Answer
+asks s env login =
+    says env (LoggingIn login) (replies.Login (offer s.users login.waiting) s.name ∷ [])
+
+-- a write command of a client without a user waits for one, where there are users
+abbrev pub wants_user : Settings → Client → MainCommand → Bool
+wants_user s client command = is_some s.users && is_none client.user && is_write command
+
+-- ---- after the greeting
+
+abbrev pub url_answer : Settings → Env → Result PathValue PathFault → Result (List ℕ) PathFault
+    → Answer
+url_answer s env (Ok path) (Ok root) =
+    asks s env (record { client = record { path = path; root = root; user = None }; waiting = None })
+url_answer s env (Ok path) (Err fault) = says env Ended (replies.Failure (path_refusal fault) ∷ [])
+url_answer s env (Err fault) root = says env Ended (replies.Failure (path_refusal fault) ∷ [])
+
+-- another version, or a client that waits within edits, is left without a word
+abbrev pub speaks : ClientGreeting → Bool
+speaks g = (g.version == 2) && g.edit_pipeline
+
+abbrev pub greeting_answer : Settings → Env → Result ClientGreeting CommandFault → Answer
+greeting_answer s env (Ok g) =
+    if speaks g then url_answer s env (path_of_text g.url s.name) (root_of_text g.url s.name)
+    else says env Ended []
+greeting_answer s env (Err fault) = malformed env
+
+-- ---- a mechanism is chosen
+
+-- the client is told of the repository, or the command that waited goes on
+abbrev pub logged_in : Settings → Env → RepoState → Client → Option MainCommand → Answer
+logged_in s env c client None =
+    says env (Serving client) (replies.Success ∷ replies.ReposInfo c.uuid client.root ∷ [])
+logged_in s env c client (Some command) =
+    behind (replies.Success ∷ []) (own_answer s env c client command)
+
+abbrev pub challenge_of : Settings → Env → List ℕ
+challenge_of s env = challenge_text env.nonce env.moment s.name
+
+-- the words that are left once the nonce is used: the next one, and 0 behind the greatest
+abbrev pub without_nonce : Env → Env
+without_nonce env = record env { nonce = (env.nonce + 1) % 2 ^ 64 }
+
+-- a challenge goes out, and its answer is awaited
+abbrev pub challenges : Settings → Env → OpenLogin → Answer
+challenges s env login =
+    says (without_nonce env) (Challenged (record { login = login; challenge = challenge_of s env }))
+    (replies.Challenge (challenge_of s env) ∷ [])
+
+-- after a mechanism that is not offered another choice is awaited
+abbrev pub choice_answer : Settings → Env → RepoState → OpenLogin → Option Mechanism → Answer
+choice_answer s env c login None =
+    says env (LoggingIn login) (replies.MechanismNotOffered ∷ [])
+choice_answer s env c login (Some mechanisms.Anonymous) =
+    logged_in s env c login.client login.waiting
+choice_answer s env c login (Some mechanisms.CramMd5) = challenges s env login
+
+abbrev pub login_answer : Settings → Env → RepoState → OpenLogin
+    → Result AuthResponse CommandFault → Answer
+login_answer s env c login (Ok r) =
+    choice_answer s env c login (chosen (offer s.users login.waiting) r.mechanism)
+login_answer s env c login (Err fault) = malformed env
+
+-- ---- a challenge is answered
+
+abbrev pub logins_of : Option (List Login) → List Login
+logins_of None = []
+logins_of (Some users) = users
+
+abbrev pub with_user : Client → List ℕ → Client
+with_user client name = record client { user = Some name }
+
+-- after an answer that is no user's another choice is awaited
+abbrev pub challenge_outcome : Settings → Env → RepoState → OpenLogin → Option (List ℕ) → Answer
+challenge_outcome s env c login None = says env (LoggingIn login) (replies.LoginFailed ∷ [])
+challenge_outcome s env c login (Some name) =
+    logged_in s env c (with_user login.client name) login.waiting
+
+-- the answer is judged by whose it is; what is no string is no answer
+abbrev pub ChallengeStep : Settings → Env → RepoState → OpenChallenge → Option (List ℕ) → Answer
+    → Type 0
+ChallengeStep s env c pending None a = a ≡ malformed env
+ChallengeStep s env c pending (Some text) a =
+    (user : Option (List ℕ)) × IsAnswerOf pending.challenge (logins_of s.users) text user
+    × (a ≡ challenge_outcome s env c pending.login user)

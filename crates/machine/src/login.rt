@@ -1,0 +1,82 @@
+//! A login that is under way.
+ghost use Rattle.std.specs.Prelude.{◌≡◌, option_map};
+ghost use Rattle.machine.specs.Logins.{offer, offers_anonymous, offers_user, chosen, without_nonce};
+
+use crate::env::Env;
+use crate::options::Options;
+use crate::phase::Client;
+use commands::MainCommand;
+use cram::Challenge;
+use replies::Offer;
+
+/// How a client logs in.
+#[derive(Clone, Copy, Debug, PartialEq, Eq)]
+pub enum Mechanism {
+    /// Without a name.
+    Anonymous,
+    /// As a user, by its password.
+    CramMd5,
+}
+
+/// A client whose login is awaited, and the write command that waits for it, if one does.
+#[derive(Drop)]
+pub struct OpenLogin {
+    pub client: Client,
+    pub waiting: Option<MainCommand>,
+}
+
+/// A login whose challenge was sent, and its answer is awaited.
+#[derive(Drop)]
+pub struct OpenChallenge {
+    pub login: OpenLogin,
+    pub challenge: Challenge,
+}
+
+/// What is offered to a client, for which a command may wait.
+pub fn offer(options: &Options, waiting: &Option<MainCommand>) -> Offer
+    ensures { result ≡ offer options.now.users waiting.now }
+{
+    match (options.users(), waiting) {
+        (None, _) => Offer::Anonymous,
+        (Some(_), None) => Offer::AnonymousOrUser,
+        (Some(_), Some(_)) => Offer::User,
+    }
+}
+
+/// The mechanism of this name, if it is offered.
+pub fn chosen(offered: Offer, name: &[u8]) -> Option<Mechanism>
+    ensures { result ≡ chosen offered name.now }
+{
+    if offers_anonymous(offered) && name == b"ANONYMOUS".as_slice() {
+        Some(Mechanism::Anonymous)
+    } else if offers_user(offered) && name == b"CRAM-MD5".as_slice() {
+        Some(Mechanism::CramMd5)
+    } else {
+        None
+    }
+}
+
+fn offers_anonymous(offered: Offer) -> bool
+    ensures { result ≡ offers_anonymous offered }
+{
+    matches!(offered, Offer::Anonymous | Offer::AnonymousOrUser)
+}
+
+fn offers_user(offered: Offer) -> bool
+    ensures { result ≡ offers_user offered }
+{
+    matches!(offered, Offer::AnonymousOrUser | Offer::User)
+}
+
+impl Env {
+    /// The words that are left once the nonce is used.
+    pub fn without_nonce(self) -> Env
+        ensures { result ≡ without_nonce self }
+    {
+        Env {
+            moment: self.moment,
+            token: self.token,
+            nonce: self.nonce.wrapping_add(1),
+        }
+    }
+}

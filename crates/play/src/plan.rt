@@ -1,0 +1,71 @@
+//! What the lines before a hub's first call ask for.
+ghost use Rattle.std.specs.Prelude.{◌≡◌, ℕ, List, IfOk};
+ghost use Rattle.dates.specs.Dates.{IsDateText};
+ghost use Rattle.hub.specs.Laws.{new_hub};
+
+use crate::fault::LineFault;
+use crate::line::{NewHub, NewUser};
+use access::SoleRepository;
+use cram::Users;
+use flatrepo::FlatRepo;
+use hub::Hub;
+use std::alloc::{AllocError, Global};
+
+/// A hub over a repository in memory.
+pub type MemoryHub = Hub<SoleRepository<FlatRepo>>;
+
+/// A hub without sessions over an empty repository.
+fn make_hub(alloc: Global, asked: NewHub) -> Result<MemoryHub, LineFault>
+    ensures { IfOk result (λ hub. (date : List ℕ) × IsDateText asked.moment date
+        × (hub ≡ new_hub asked.options asked.uuid date)) }
+{
+    let repository = FlatRepo::new(alloc, asked.uuid, asked.moment)?;
+    match Hub::over_new(alloc, repository, asked.options) {
+        Ok(hub) => Ok(hub),
+        Err(_) => Err(LineFault::NoMemory),
+    }
+}
+
+/// A hub that is asked for, and the bytes of its users file, if it has one.
+#[derive(Drop)]
+pub struct Plan {
+    hub: NewHub,
+    users: Option<Vec<u8>>,
+}
+
+impl Plan {
+    /// A hub without a users file.
+    pub fn new(hub: NewHub) -> Self {
+        Plan { hub, users: None }
+    }
+
+    /// A users file without users, in place of the one before.
+    pub fn begin_users(&mut self, alloc: Global) -> Result<(), AllocError> {
+        self.users = Some(Vec::from_slice(alloc, b"[users]\n")?);
+        Ok(())
+    }
+
+    /// One more user at the end of the file.
+    pub fn add_user(&mut self, alloc: Global, user: &NewUser) -> Result<(), AllocError> {
+        if self.users.is_none() {
+            self.begin_users(alloc)?;
+        }
+        if let Some(users) = &mut self.users {
+            users.extend_from_slice(user.name.as_bytes())?;
+            users.extend_from_slice(b" = ")?;
+            users.extend_from_slice(&user.password)?;
+            users.push(b'\n')?;
+        }
+        Ok(())
+    }
+
+    /// The hub.
+    pub fn into_hub(self, alloc: Global) -> Result<MemoryHub, LineFault> {
+        let Plan { mut hub, users } = self;
+        if let Some(users) = users {
+            let users = Users::read(alloc, &users)?;
+            hub.options = hub.options.with_users(users);
+        }
+        make_hub(alloc, hub)
+    }
+}
