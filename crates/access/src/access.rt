@@ -1,12 +1,13 @@
 //! A repository as a session reaches it.
-ghost use Rattle.std.specs.Prelude.{◌≡◌, ◌≤◌, true, IfOk};
+ghost use Rattle.std.specs.Prelude.{◌≡◌, ◌≤◌, true, IfOk, option_copied};
 ghost use Rattle.repo_api.specs.States.{IsBeginning};
 ghost use Rattle.repo_api.specs.Accepted.{Accepted, changed};
 ghost use Rattle.repo_api.specs.Soundness.{AreSound};
 ghost use Rattle.access.specs.Points.{Point, AccessRules, content_of};
-ghost use Rattle.access.specs.Changing.{CommitsAt};
+ghost use Rattle.access.specs.Changing.{CommitsAt, LocksAt, UnlocksAt, ReleasesAt};
 
-use repo_api::{ChangeFault, CommitAsk, Repository};
+use byte_string::ByteString;
+use repo_api::{ChangeFault, CommitAsk, LockAsk, LockTokens, Repository, UnlockAsk};
 use std::alloc::AllocError;
 
 /// A repository as a session reaches it: others may change it between two of the session's inputs.
@@ -40,6 +41,26 @@ pub trait RepoAccess {
             (content_of (point self.old)).revisions }
         ensures { (at : Point) × rules.between (point self.old) at
             × CommitsAt rules ask (Self.View.txn_state txn) at result (point self.new) };
+
+    /// Locks the path of a file, in place of a lock that stands there if that may be stolen.
+    fn lock(&mut self, ask: LockAsk) -> Result<(), ChangeFault>
+        ensures { (at : Point) × rules.between (point self.old) at
+            × LocksAt rules ask at result (point self.new) };
+
+    /// Takes the lock at a path away.
+    fn unlock(&mut self, ask: &UnlockAsk) -> Result<(), ChangeFault>
+        ensures { (at : Point) × rules.between (point self.old) at
+            × UnlocksAt rules ask.now at result (point self.new) };
+
+    /// Releases the locks that are the user's and were handed in, each by its path and its token, and
+    /// answers whether there were any. One that was stolen since then stays.
+    fn release(
+        &mut self,
+        user: Option<&ByteString>,
+        tokens: &LockTokens,
+    ) -> Result<bool, ChangeFault>
+        ensures { (at : Point) × rules.between (point self.old) at
+            × ReleasesAt rules (option_copied user.entry) tokens.now at result (point self.new) };
 
     ghost stays: { (p : Point) → rules.between p p };
 

@@ -2,7 +2,8 @@
 ghost use Rattle.std.specs.Prelude.{◌≡◌};
 
 use crate::access::{RepoAccess, SoleAccess};
-use repo_api::{ChangeFault, CommitAsk, Repository};
+use byte_string::ByteString;
+use repo_api::{ChangeFault, CommitAsk, LockAsk, LockTokens, Repository, UnlockAsk};
 use std::alloc::AllocError;
 
 /// A repository in memory that one hub alone has: nobody else changes it, and no store can fail.
@@ -55,6 +56,35 @@ impl<R: Repository> RepoAccess for SoleRepository<R> {
         match self.repository.commit(ask, txn) {
             Ok(revision) => Ok(revision),
             Err(fault) => Err(fault),
+        }
+    }
+
+    fn lock(&mut self, ask: LockAsk) -> Result<(), ChangeFault> {
+        match self.repository.lock(ask) {
+            Ok(()) => Ok(()),
+            Err(reason) => Err(reason),
+        }
+    }
+
+    fn unlock(&mut self, ask: &UnlockAsk) -> Result<(), ChangeFault> {
+        match self.repository.unlock(ask) {
+            Ok(()) => Ok(()),
+            Err(reason) => Err(reason),
+        }
+    }
+
+    fn release(
+        &mut self,
+        user: Option<&ByteString>,
+        tokens: &LockTokens,
+    ) -> Result<bool, ChangeFault> {
+        if self.repository.releases(user, tokens) {
+            match self.repository.release(user, tokens) {
+                Ok(()) => Ok(true),
+                Err(reason) => Err(reason),
+            }
+        } else {
+            Ok(false)
         }
     }
 }

@@ -181,11 +181,9 @@ fn source_path(alloc: Global, name: &str, text: &[u8]) -> Result<Path, PathFault
     ensures { Answers result (source_path name.now text.now) }
 {
     if text.starts_with(b"/".as_slice()) {
-        let path = Path::parse(alloc, text)?;
-        Ok(path)
+        Path::parse(alloc, text)
     } else {
-        let path = Path::from_url(alloc, text, name)?;
-        Ok(path)
+        Path::from_url(alloc, text, name)
     }
 }
 
@@ -193,8 +191,7 @@ fn source_path(alloc: Global, name: &str, text: &[u8]) -> Result<Path, PathFault
 pub fn path_named(alloc: Global, root: &Path, text: &ByteString) -> Result<Path, EditFault>
     ensures { Names result (joined root.now text.now) }
 {
-    let path = root.join(alloc, text.as_slice())?;
-    Ok(path)
+    Ok(root.join(alloc, text.as_slice())?)
 }
 
 /// Whether the path is one name beneath the directory, if there is one.

@@ -56,8 +56,7 @@ impl<R: Repository> CommitEditor<R> {
                     directory.revision,
                     self.created(&directory.path, repository),
                 )?;
-                let op = self.property_edit(&directory.path, change)?;
-                Ok(op)
+                Ok(self.property_edit(&directory.path, change)?)
             }
             Some(Opened::File(_, _)) => Err(EditFault::Refused(Refusal::MalformedData)),
             None => Err(EditFault::Refused(Refusal::MalformedData)),
@@ -98,8 +97,7 @@ impl<R: Repository> CommitEditor<R> {
         match self.open_under(token) {
             Some(Opened::File(path, _)) => {
                 judge_name(change.name.as_slice())?;
-                let op = self.property_edit(path, change)?;
-                Ok(op)
+                Ok(self.property_edit(path, change)?)
             }
             Some(Opened::Directory(_)) => Err(EditFault::Refused(Refusal::MalformedData)),
             None => Err(EditFault::Refused(Refusal::MalformedData)),

@@ -1,6 +1,6 @@
 //! The changes of a transaction as one ordered map.
 ghost use Rattle.std.specs.Prelude.{◌≡◌, OnOk, OnErr, None};
-ghost use Rattle.std.specs.FinMap.{get, empty};
+ghost use Rattle.std.specs.FinMap.{get, empty, from_entries};
 ghost use Rattle.svnpath.specs.Paths.{PathValue};
 ghost use Rattle.repo_api.specs.Changes.{after_add, after_property, after_text, noted, noted_copy, noted_delete};
 ghost use Rattle.repo_api.specs.States.{changes_of};
@@ -41,6 +41,13 @@ impl FlatChanges {
         FlatChanges {
             changes: BTreeMap::new(alloc),
         }
+    }
+
+    /// The changes by their paths.
+    pub fn as_map(&self) -> &BTreeMap<Path, Change>
+        ensures { from_entries result.now.entries ≡ self.now }
+    {
+        &self.changes
     }
 
     /// Notes that an entry was added at the path, and copied from nowhere.

@@ -1,11 +1,19 @@
 -- What the values of this crate stand for.
-use Rattle.repo_api.specs.States.{RepoState, TxnState}
+use Rattle.repo_api.specs.States.{LockMap, RepoState, TxnState}
 use Rattle.flat_trees.specs.Contents.{revisions_of, content_of}
+use Rattle.flat_trees.specs.declared.flat_content.FlatContent.{FlatContent}
 use Rattle.flatrepo.specs.declared.repository.FlatRepo.{FlatRepo}
 use Rattle.flatrepo.specs.declared.repository.FlatTxn.{FlatTxn}
 
+abbrev pub with_locks : RepoState → LockMap → RepoState
+with_locks c locks = record c { locks = locks }
+
+-- what is held, with these locks
+abbrev pub state_of : FlatContent → LockMap → RepoState
+state_of c locks = with_locks (content_of c) locks
+
 abbrev pub repo_content : FlatRepo → RepoState
-repo_content r = content_of r.content.value
+repo_content r = state_of r.content.value r.locks.value
 
 abbrev pub txn_state_of : FlatTxn → TxnState
 txn_state_of t =

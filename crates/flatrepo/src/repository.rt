@@ -1,5 +1,5 @@
 //! The repository and its transactions.
-ghost use Rattle.std.specs.Prelude.{◌≡◌, ◌≤◌, ◌<◌, ◌++◌, ◌∷◌, [], List, ℕ, length, IfOk, OnOk, OnErr};
+ghost use Rattle.std.specs.Prelude.{◌≡◌, ◌≤◌, ◌<◌, ◌++◌, ◌∷◌, [], List, ℕ, length, IfOk, OnOk, OnErr, Some, None};
 ghost use Rattle.std.specs.FinMap.{get};
 ghost use Rattle.dates.specs.Dates.{IsDateText};
 ghost use Rattle.dates.specs.declared.TheConstants.{LAST_MOMENT};
@@ -7,36 +7,43 @@ ghost use Rattle.svnpath.specs.Paths.{PathValue};
 ghost use Rattle.repo_api.specs.Changes.{changes_after, noted_copy, noted_delete};
 ghost use Rattle.repo_api.specs.declared.limits.TheConstants.{REVISION_LIMIT};
 ghost use Rattle.repo_api.specs.Commits.{commit_refusal, committed, revision_properties};
+ghost use Rattle.repo_api.specs.Accepted.{IfRefused, IsOfMemory};
+ghost use Rattle.repo_api.specs.Kinds.{kind_at, created_at};
+ghost use Rattle.repo_api.specs.Locking.{check_refusal, with_lock};
 ghost use Rattle.repo_api.specs.Edits.{edited, copied, deleted};
 ghost use Rattle.repo_api.specs.Opening.{new_repository};
 ghost use Rattle.repo_api.specs.MergedMaps.{has_conflict, merged_map};
 ghost use Rattle.repo_api.specs.declared.ask.CommitAsk.{CommitAsk};
 ghost use Rattle.repo_api.specs.States.{IsEdited, tree_of, tree_at, trees_in, changes_of, youngest};
 ghost use Rattle.flat_trees.specs.Contents.{fixed_of, content_of, revisions_of, properties_of};
-ghost use Rattle.flatrepo.specs.Whole.{repo_content, txn_state_of};
+ghost use Rattle.flatrepo.specs.Whole.{state_of, repo_content, txn_state_of};
 
+use crate::locking;
 use byte_string::ByteString;
 use dates::date_text;
 use flat_parts::{empty_file, revision_properties};
 use flat_trees::{
-    FlatChanges, FlatContent, FlatRevision, FlatTree, add, begun_tree, created, delete, has_deeper,
-    kind_at, remove_property, set_property, set_text, take_copy, take_replacement, text,
+    FlatChanges, FlatContent, FlatRevision, FlatTree, add, begun_tree, created, delete, entry_at,
+    has_deeper, kind_at, remove_property, set_property, set_text, take_copy, take_replacement,
+    text,
 };
+use pathlocks::Locks;
 use refusals::Refusal;
 use repo_api::{
-    ChangeFault, CommitAsk, Content, EditOp, FileText, NodeKind, Properties, REVISION_LIMIT,
-    Repository, Source,
+    ChangeFault, CommitAsk, Content, EditOp, FileText, Lock, LockAsk, LockTokens, NodeKind,
+    Properties, REVISION_LIMIT, Repository, Source, UnlockAsk,
 };
 use std::alloc::{AllocError, Global};
 use std::sync::Arc;
 use svnpath::Path;
 
-/// A repository in memory. A commit makes a new list of revisions, so that what was shared before stays
-/// as it was.
+/// A repository in memory. A commit makes a new list of revisions, and a change of locks that are shared
+/// copies them, so that what was shared before stays as it was.
 #[derive(Drop)]
 pub struct FlatRepo {
     alloc: Global,
     content: Arc<FlatContent>,
+    locks: Arc<Locks>,
 }
 
 /// An open transaction.
@@ -61,7 +68,18 @@ impl FlatRepo {
         Ok(FlatRepo {
             alloc,
             content: Arc::new(alloc, content)?,
+            locks: Arc::new(alloc, Locks::new(alloc))?,
         })
+    }
+
+    /// Puts a lock at a path, over what stood there, and whatever refuses a lock: for a repository in
+    /// which locks stand that nobody asked for here.
+    pub fn put_lock(&mut self, path: Path, lock: Lock) -> Result<(), AllocError>
+        ensures ok { OnOk result (repo_content self.new
+            ≡ with_lock (repo_content self.old) path lock) }
+        ensures err { OnErr result (repo_content self.new ≡ repo_content self.old) }
+    {
+        locking::put(&mut self.locks, path, lock)
     }
 }
 
@@ -78,6 +96,7 @@ impl Repository for FlatRepo {
         Ok(FlatRepo {
             alloc: self.alloc,
             content: Arc::try_clone(&self.content)?,
+            locks: Arc::try_clone(&self.locks)?,
         })
     }
 
@@ -99,6 +118,18 @@ impl Repository for FlatRepo {
 
     fn revision_properties(&self, revision: u64) -> Option<&Properties> {
         self.content.properties(revision)
+    }
+
+    fn lock_at(&self, path: &Path) -> Option<&Lock> {
+        self.locks.get(path)
+    }
+
+    fn locks_under(&self, path: &Path) -> Result<Vec<(&Path, &Lock)>, AllocError> {
+        self.locks.at_or_under(self.alloc, path)
+    }
+
+    fn releases(&self, user: Option<&ByteString>, tokens: &LockTokens) -> bool {
+        self.locks.releases(user, tokens.as_slice())
     }
 
     fn kind_in(&self, txn: &FlatTxn, path: &Path) -> NodeKind {
@@ -128,14 +159,47 @@ impl Repository for FlatRepo {
     }
 
     fn commit(&mut self, ask: CommitAsk, txn: FlatTxn) -> Result<u64, ChangeFault> {
-        if let Some(refusal) = refusal_of(&self.content, &txn) {
-            return Err(ChangeFault::Refused(refusal));
+        if let Err(fault) = judge(self.alloc, &self.content, &self.locks, &ask, &txn) {
+            let_go(ask, txn);
+            return Err(fault);
         }
         let number = self.content.count();
         self.content = with_commit(self.alloc, &self.content, ask, txn)?;
         Ok(number)
     }
+
+    fn lock(&mut self, ask: LockAsk) -> Result<(), ChangeFault> {
+        let (kind, created) = standing(&self.content, &ask.path);
+        locking::lock(self.alloc, &mut self.locks, kind, created, ask)
+    }
+
+    fn unlock(&mut self, ask: &UnlockAsk) -> Result<(), ChangeFault> {
+        locking::unlock(&mut self.locks, ask)
+    }
+
+    fn release(
+        &mut self,
+        user: Option<&ByteString>,
+        tokens: &LockTokens,
+    ) -> Result<(), ChangeFault> {
+        locking::release(self.alloc, &mut self.locks, user, tokens)?;
+        Ok(())
+    }
 }
+
+/// What stands at the path in the youngest revision, and the revision of its last change.
+fn standing(content: &FlatContent, path: &Path) -> (NodeKind, Option<u64>)
+    ensures kind { result.0
+        ≡ kind_at (content_of content.now) (youngest (content_of content.now)) path.now }
+    ensures created { result.1
+        ≡ created_at (content_of content.now) (youngest (content_of content.now)) path.now }
+{
+    let tree = content.tree(content.youngest());
+    (kind_at(tree, path), created(entry_at(tree, path)))
+}
+
+/// What a commit that is not made was asked for.
+fn let_go(_ask: CommitAsk, _txn: FlatTxn) {}
 
 /// The date of the moment.
 fn date_of(alloc: Global, moment: u64) -> Result<ByteString, AllocError>
@@ -245,18 +309,45 @@ fn copied_tree(
     tree.with_copy(alloc, content.tree(source.revision), &source.path, path)
 }
 
-/// Why the commit is refused, if it is.
-fn refusal_of(content: &FlatContent, txn: &FlatTxn) -> Option<Refusal>
-    ensures { (ask : CommitAsk)
-        → result ≡ commit_refusal (content_of content.now) ask (txn_state_of txn.now) }
+/// Whether the commit is accepted: there is no conflict, no lock in its way, and a number left.
+fn judge(
+    alloc: Global,
+    content: &FlatContent,
+    locks: &Locks,
+    ask: &CommitAsk,
+    txn: &FlatTxn,
+) -> Result<(), ChangeFault>
+    ensures accepted { OnOk result (commit_refusal (state_of content.now locks.now) ask.now
+        (txn_state_of txn.now) ≡ None) }
+    ensures refused { IfRefused result (λ r. commit_refusal (state_of content.now locks.now) ask.now
+        (txn_state_of txn.now) ≡ Some r) }
+    ensures memory { IsOfMemory result }
 {
     if has_conflict(content, txn.base, &txn.tree) {
-        Some(Refusal::Conflict)
-    } else if content.count() >= REVISION_LIMIT {
-        Some(Refusal::NotSupported)
-    } else {
-        None
+        return Err(ChangeFault::Refused(Refusal::Conflict));
     }
+    check_locks(alloc, locks, &txn.changes, ask)?;
+    if content.count() >= REVISION_LIMIT {
+        return Err(ChangeFault::Refused(Refusal::NotSupported));
+    }
+    Ok(())
+}
+
+/// Whether the locks in the way of the changes let the commit pass.
+fn check_locks(
+    alloc: Global,
+    locks: &Locks,
+    changes: &FlatChanges,
+    ask: &CommitAsk,
+) -> Result<(), ChangeFault>
+    ensures accepted { OnOk result (check_refusal locks.now changes.now ask.now.author ask.now.tokens
+        ≡ None) }
+    ensures refused { IfRefused result (λ r.
+        check_refusal locks.now changes.now ask.now.author ask.now.tokens ≡ Some r) }
+    ensures memory { IsOfMemory result }
+{
+    let tokens = ask.tokens.as_slice();
+    locks.check(alloc, changes.as_map(), ask.author.as_ref(), tokens)
 }
 
 /// Whether the tree of a transaction from this base is in conflict with the youngest revision's.

@@ -5,7 +5,7 @@ use Rattle.repo_api.specs.Properties.{PropertyList}
 use Rattle.repo_api.specs.States.{RepoState, TxnState, Revision, IsBeginning}
 use Rattle.repo_api.specs.Commits.{committed, revision_properties}
 use Rattle.repo_api.specs.Accepted.{Accepted, AreAccepted, changed, changed_all}
-use Rattle.repo_api.specs.Accepted.Accepted.{Commits}
+use Rattle.repo_api.specs.Accepted.Accepted.{Commits, Locks, Unlocks, Releases}
 use Rattle.repo_api.specs.declared.ask.CommitAsk.{CommitAsk}
 use Rattle.replies.specs.declared.reply.Reply.{Reply}
 use Rattle.replies.specs.declared.reply.Reply.TheVariants.{Success, NoLogin, CommitInfo, Failure}
@@ -125,6 +125,9 @@ breaks_keep old env n piece new f = run_keeps (with_rest old n f.session f.rest)
 
 change_keeps : (c : RepoState) (e : Accepted) → IsBeginning c.revisions (changed c e).revisions
 change_keeps c (Commits ask t) = record { more = _; is = refl }
+change_keeps c (Locks ask) = begins c.revisions
+change_keeps c (Unlocks ask) = begins c.revisions
+change_keeps c (Releases user tokens) = begins c.revisions
 
 pub changes_keep : (c : RepoState) (es : List Accepted) → IsBeginning c.revisions (changed_all c es).revisions
 changes_keep c [] = begins c.revisions

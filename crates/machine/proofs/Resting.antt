@@ -5,7 +5,7 @@ use Rattle.refusals.specs.declared.Refusal.{Refusal}
 use Rattle.repo_api.specs.States.{RepoState, TxnState, Revision, IsBeginning}
 use Rattle.repo_api.specs.Commits.{commit_refusal}
 use Rattle.repo_api.specs.Accepted.{Accepted, changed, changed_all}
-use Rattle.repo_api.specs.Accepted.Accepted.{Commits}
+use Rattle.repo_api.specs.Accepted.Accepted.{Commits, Locks, Unlocks, Releases}
 use Rattle.repo_api.specs.declared.edit.EditOp.{EditOp}
 use Rattle.commands.specs.Commands.{main_command}
 use Rattle.commands.specs.Logins.{client_greeting, auth_response, challenge_answer}
@@ -181,6 +181,9 @@ rests_step halted s env c Ended input a rests is = rests_is c a _ is tt
 
 change_keeps : (c : RepoState) (e : Accepted) → IsBeginning c.revisions (changed c e).revisions
 change_keeps c (Commits ask t) = record { more = _; is = refl }
+change_keeps c (Locks ask) = begins c.revisions
+change_keeps c (Unlocks ask) = begins c.revisions
+change_keeps c (Releases user tokens) = begins c.revisions
 
 changes_keep : (c : RepoState) (es : List Accepted) → IsBeginning c.revisions (changed_all c es).revisions
 changes_keep c [] = begins c.revisions

@@ -11,7 +11,7 @@ use Rattle.svnpath.specs.PathLaws.{at_is, same_component_is}
 use Rattle.refusals.specs.declared.Refusal.{Refusal}
 use Rattle.refusals.specs.declared.Refusal.TheVariants as refusals
 use Rattle.repo_api.specs.declared.lock.Lock.{Lock}
-use Rattle.pathlocks.specs.Locking.{LockList, holder_refusal, way_refusal, first_refusal}
+use Rattle.repo_api.specs.Locking.{LockList, holder_refusal, way_refusal, first_refusal}
 
 some_none : (r : Refusal) → ◌≡◌ {A = Option Refusal} (Some r) None → ⊥
 some_none r h = false≢true (ap is_some (sym h))

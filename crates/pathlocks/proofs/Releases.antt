@@ -13,7 +13,7 @@ use Rattle.svnpath.specs.Paths.{PathValue, same_path, path_cmp, path_cmp_total, 
 use Rattle.svnpath.specs.PathLaws.{at_is_same, same_path_is, same_path_refl}
 use Rattle.repo_api.specs.States.{LockMap}
 use Rattle.repo_api.specs.declared.lock.Lock.{Lock}
-use Rattle.pathlocks.specs.Locking.{LockList, Tokens, is_held, is_released, released, after_release}
+use Rattle.repo_api.specs.Locking.{LockList, Tokens, is_held, is_released, released, after_release, releases}
 
 or_false : (b : Bool) → (b || false) ≡ b
 or_false true = refl
@@ -57,6 +57,24 @@ module _ (user : Option (List ℕ)) (old : LockMap) where
       (λ q. left_at ts q
       ∙ none_gone (is_released user ts old q) (get old q)
       (sym (get_kept old (is_released user ts old) q) ∙ ap (λ (k : LockMap). get k q) none ∙ get-empty path_cmp q))
+
+  -- where no pair's lock is held none is released
+  not_held : (q : PathValue) (ts : Tokens) → releases user ts old ≡ false → is_released user ts old q ≡ false
+  not_held q [] h = refl
+  not_held q (t ∷ ts) h = by (same_path t.0 q) refl (is_held user t.1 (get old t.0)) refl h (not_held q ts)
+    where
+      by : (b : Bool) → same_path t.0 q ≡ b → (x : Bool) → is_held user t.1 (get old t.0) ≡ x → (x || releases user ts old) ≡ false
+          → (releases user ts old ≡ false → is_released user ts old q ≡ false)
+          → ((b && is_held user t.1 (get old q)) || is_released user ts old q) ≡ false
+      by b same true held h rest = absurd (false≢true (sym h))
+      by true same false held h rest =
+          ap (λ x. x || is_released user ts old q) ((λ i. is_held user t.1 (get old (sym (same_path_is t.0 q same) i))) ∙ held) ∙ rest h
+      by false same false held h rest = rest h
+
+  pub none_left_out : (ts : Tokens) → releases user ts old ≡ false → after_release user ts old ≡ old
+  none_left_out ts none =
+      same_map path_cmp_total path_cmp-IsAntisymmetric (after_release user ts old) old
+      (λ q. left_at ts q ∙ ap (λ b. cond (not b) (get old q) None) (not_held q ts none))
 
   -- ---- a pair whose lock stands and is held
 

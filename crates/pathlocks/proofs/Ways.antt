@@ -15,7 +15,7 @@ use Rattle.std.specs.declared.cmp.Ordering.TheVariants.{Less, Equal, Greater}
 use Rattle.svnpath.specs.Paths.{PathValue, same_path, is_at_or_under, path_cmp, path_cmp_total, path_ties, path_cmp-IsAntisymmetric}
 use Rattle.svnpath.specs.PathLaws.{at_is, same_path_is, under_is, under_append, under_itself}
 use Rattle.repo_api.specs.declared.change.Change.{Change}
-use Rattle.pathlocks.specs.Locking.{is_of_whole_tree, reaches, is_reached}
+use Rattle.repo_api.specs.Locking.{is_of_whole_tree, reaches, is_reached}
 use Rattle.pathlocks.specs.Tops.{is_below, top_after}
 use Rattle.pathlocks.proofs.Runs.{past, le_under, and_false}
 

@@ -1,3 +1,2 @@
-pub mod Locking
 pub mod Tops
 pub mod Handed

@@ -5,7 +5,7 @@ ghost use Rattle.std.specs.List.Sorted.{IsStrictlySortedBy};
 ghost use Rattle.std.specs.Map.{keys_of};
 ghost use Rattle.std.specs.Map.Iter.{deref_pair};
 ghost use Rattle.svnpath.specs.Paths.{path_cmp, same_path, is_at_or_under};
-ghost use Rattle.pathlocks.specs.Locking.{is_of_whole_tree, reaches, is_reached};
+ghost use Rattle.repo_api.specs.Locking.{is_of_whole_tree, reaches, is_reached};
 ghost use Rattle.pathlocks.specs.Tops.{is_below, top_after};
 
 use repo_api::{Action, Change, Lock};

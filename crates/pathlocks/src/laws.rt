@@ -3,9 +3,13 @@ ghost use Rattle.std.specs.Prelude.{◌≡◌, ℕ, Bool, true, false, IsTrue, L
 ghost use Rattle.std.specs.FinMap.{get, empty, insert, remove};
 ghost use Rattle.std.specs.List.{list_any};
 ghost use Rattle.svnpath.specs.Paths.{PathValue, same_path};
-ghost use Rattle.repo_api.specs.States.{ChangeMap, LockMap};
+ghost use Rattle.repo_api.specs.States.{ChangeMap, LockMap, RepoState, TxnState};
 ghost use Rattle.repo_api.specs.declared.lock.Lock.{Lock};
-ghost use Rattle.pathlocks.specs.Locking.{Tokens, is_in_the_way, is_handed_in, check_refusal, released, after_release};
+ghost use Rattle.repo_api.specs.Locking.{Tokens, is_in_the_way, is_handed_in, check_refusal, released, after_release, releases};
+ghost use Rattle.repo_api.specs.Accepted.{Accepted, changed_all};
+ghost use Rattle.repo_api.specs.Commits.{commit_refusal};
+ghost use Rattle.repo_api.specs.LockRuns.{names_lock, HaveOwnTokens, HaveNewTokens};
+ghost use Rattle.repo_api.specs.declared.ask.CommitAsk.{CommitAsk};
 
 /// Where no lock refuses a commit, each lock in its way is its user's, and its token was handed in.
 pub fn locks_in_the_way_are_held()
@@ -28,6 +32,29 @@ pub fn other_locks_stay()
 
 /// A release that takes no lock changes nothing.
 pub fn a_release_of_none_changes_nothing()
-    ensures { (locks : LockMap) (user : Option (List ℕ)) (tokens : Tokens)
+    ensures asked { (locks : LockMap) (user : Option (List ℕ)) (tokens : Tokens)
+        → releases user tokens locks ≡ false → after_release user tokens locks ≡ locks }
+    ensures taken { (locks : LockMap) (user : Option (List ℕ)) (tokens : Tokens)
         → released user tokens locks ≡ empty → after_release user tokens locks ≡ locks }
+{}
+
+/// Each lock in the way of an accepted commit is its user's, and its token was handed in.
+pub fn accepted_commits_hold_locks()
+    ensures { (c : RepoState) (ask : CommitAsk) (t : TxnState) → commit_refusal c ask t ≡ None
+        → (p : PathValue) (l : Lock) → get c.locks p ≡ Some l → is_in_the_way t.changes p ≡ true
+        → (ask.author ≡ Some l.owner) × IsTrue (is_handed_in ask.tokens l.token) }
+{}
+
+/// What stands at a path that no change names as its lock's stays through changes, whatever they are.
+pub fn unnamed_locks_stay()
+    ensures { (c : RepoState) (changes : List Accepted) (p : PathValue)
+        → list_any (λ e. names_lock e p) changes ≡ false
+        → get (changed_all c changes).locks p ≡ get c.locks p }
+{}
+
+/// Where no two locks have one token, and each new lock has a token that none has then, no two locks
+/// come to have one.
+pub fn tokens_stay_distinct()
+    ensures { (c : RepoState) (changes : List Accepted) → HaveOwnTokens c.locks
+        → HaveNewTokens c changes → HaveOwnTokens (changed_all c changes).locks }
 {}

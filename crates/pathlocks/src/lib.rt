@@ -7,6 +7,8 @@ mod laws;
 mod locks;
 mod refusing;
 
-pub use laws::{a_release_of_none_changes_nothing, locks_in_the_way_are_held, other_locks_stay};
+pub use laws::{
+    a_release_of_none_changes_nothing, accepted_commits_hold_locks, locks_in_the_way_are_held,
+    other_locks_stay, tokens_stay_distinct, unnamed_locks_stay,
+};
 pub use locks::Locks;
-pub use refusing::LOCK_LIMIT;

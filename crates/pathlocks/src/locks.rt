@@ -4,13 +4,16 @@ ghost use Rattle.std.specs.FinMap.{get, empty, len, insert, remove, from_entries
 ghost use Rattle.std.specs.Map.Iter.{deref_pair};
 ghost use Rattle.svnpath.specs.Listings.{listing};
 ghost use Rattle.repo_api.specs.Accepted.{IfRefused, IsOfMemory};
-ghost use Rattle.pathlocks.specs.Locking.{in_the_way, at_or_under, check_refusal, unlock_refusal, lock_refusal, released, after_release};
+ghost use Rattle.repo_api.specs.Locking.{in_the_way, at_or_under, check_refusal, taking_refusal, lock_refusal_at, lock_of, is_held, released, after_release, releases};
 
 use crate::finding::{append_in_the_way, append_under};
-use crate::refusing::{first_refusal, handed_in, is_held, lock_refusal, unlock_refusal};
+use crate::refusing::{
+    entry_refusal, first_refusal, handed_in, is_held, lock_of, place_refusal, taking_refusal,
+    user_refusal,
+};
 use byte_string::ByteString;
 use refusals::Refusal;
-use repo_api::{Change, ChangeFault, Lock};
+use repo_api::{Change, ChangeFault, Lock, LockAsk, NodeKind, UnlockAsk};
 use std::alloc::{AllocError, Global};
 use std::collections::BTreeMap;
 use std::marker::Model;
@@ -107,25 +110,32 @@ impl Locks {
         }
     }
 
-    /// Locks the path, in place of the lock that stands there if that may be stolen. Whether the path
-    /// may be locked at all, as a file of the youngest revision, is for the caller to see to.
+    /// Locks the path, in place of the lock that stands there if that may be stolen. What stands at the
+    /// path in the youngest revision, and the revision of its last change, are for the caller to say.
     ///
     /// # Errors
     ///
-    /// `AlreadyLocked` where a lock stands that may not be stolen, and else `NotSupported` where none
-    /// stands and `LOCK_LIMIT` others do; `NoMemory`.
-    pub fn lock(&mut self, path: Path, lock: Lock, steals: bool) -> Result<(), ChangeFault>
-        ensures accepted { OnOk result (lock_refusal steals (get self.old path) (len self.old)
-            ≡ None) }
-        ensures ok { OnOk result (self.new ≡ insert self.old path lock) }
-        ensures refused { IfRefused result (λ r.
-            lock_refusal steals (get self.old path) (len self.old) ≡ Some r) }
+    /// `NoUser`; then `NotFound` or `NotAFile` where no file stands, and `LockOutOfDate` where the client
+    /// has seen it before its last change; then `AlreadyLocked` where a lock stands that may not be
+    /// stolen, and `NotSupported` where none stands and `LOCK_LIMIT` others do; `NoMemory`.
+    pub fn lock(
+        &mut self,
+        alloc: Global,
+        kind: NodeKind,
+        created: Option<u64>,
+        ask: LockAsk,
+    ) -> Result<(), ChangeFault>
+        ensures accepted { OnOk result (lock_refusal_at kind created self.old ask ≡ None) }
+        ensures ok { OnOk result (self.new ≡ insert self.old ask.path (lock_of ask)) }
+        ensures refused { IfRefused result (λ r. lock_refusal_at kind created self.old ask ≡ Some r) }
         ensures memory { IsOfMemory result }
         ensures err { OnErr result (self.new ≡ self.old) }
     {
-        if let Some(refusal) = lock_refusal(steals, self.get(&path), self.count()) {
+        if let Some(refusal) = self.lock_refusal(kind, created, &ask) {
+            std::mem::drop(ask);
             return Err(ChangeFault::Refused(refusal));
         }
+        let (path, lock) = lock_of(alloc, ask);
         self.put(path, lock)?;
         Ok(())
     }
@@ -135,25 +145,33 @@ impl Locks {
     /// # Errors
     ///
     /// `NoSuchLock`; then, unless it is broken, `NoUser`, `NotTheLockOwner` or `BadLockToken`.
-    pub fn unlock(
-        &mut self,
-        path: &Path,
-        user: Option<&ByteString>,
-        token: Option<&ByteString>,
-        breaks: bool,
-    ) -> Result<(), Refusal>
-        ensures accepted { OnOk result (unlock_refusal (option_copied user.entry)
-            (option_copied token.entry) breaks (get self.old path.now) ≡ None) }
-        ensures ok { OnOk result (self.new ≡ remove self.old path.now) }
-        ensures refused { IfErr result (λ r. unlock_refusal (option_copied user.entry)
-            (option_copied token.entry) breaks (get self.old path.now) ≡ Some r) }
+    pub fn unlock(&mut self, ask: &UnlockAsk) -> Result<(), Refusal>
+        ensures accepted { OnOk result (taking_refusal ask.now (get self.old ask.now.path) ≡ None) }
+        ensures ok { OnOk result (self.new ≡ remove self.old ask.now.path) }
+        ensures refused { IfErr result (λ r. taking_refusal ask.now (get self.old ask.now.path)
+            ≡ Some r) }
         ensures err { OnErr result (self.new ≡ self.old) }
     {
-        if let Some(refusal) = unlock_refusal(user, token, breaks, self.get(path)) {
+        if let Some(refusal) = taking_refusal(ask, self.get(&ask.path)) {
             return Err(refusal);
         }
-        self.take(path);
+        self.take(&ask.path);
         Ok(())
+    }
+
+    /// Whether a release by the user, with these paths and tokens handed in, takes some lock. It costs
+    /// one look for each pair, whatever other locks stand.
+    pub fn releases(&self, user: Option<&ByteString>, tokens: &[(Path, ByteString)]) -> bool
+        ensures { result ≡ releases (option_copied user.entry) tokens.now self.now }
+    {
+        tokens.iter().any(|pair| self.holds(user, pair))
+    }
+
+    /// Whether the lock at the path is the user's and has the token.
+    fn holds(&self, user: Option<&ByteString>, pair: &(Path, ByteString)) -> bool
+        ensures { result ≡ is_held (option_copied user.entry) pair.now.1 (get self.now pair.now.0) }
+    {
+        is_held(user, &pair.1, self.get(&pair.0))
     }
 
     /// Releases the locks that are the user's and were handed in, each by its path and its token, and
@@ -183,6 +201,15 @@ impl Locks {
         Ok(taken)
     }
 
+    /// Why a lock is refused where an entry of this kind stands, last changed at this revision.
+    fn lock_refusal(&self, kind: NodeKind, created: Option<u64>, ask: &LockAsk) -> Option<Refusal>
+        ensures { result ≡ lock_refusal_at kind created self.now ask.now }
+    {
+        let place = place_refusal(ask.steals, self.get(&ask.path), self.count());
+        let entry = entry_refusal(ask.current, kind, created);
+        user_refusal(ask.user.as_ref()).or(entry.or(place))
+    }
+
     /// How many locks stand.
     fn count(&self) -> usize
         ensures { result ≡ len self.now }
@@ -190,8 +217,8 @@ impl Locks {
         self.locks.len()
     }
 
-    /// Puts the lock at the path, over what stood there.
-    fn put(&mut self, path: Path, lock: Lock) -> Result<(), AllocError>
+    /// Puts the lock at the path, over what stood there, and whatever refuses a lock.
+    pub fn put(&mut self, path: Path, lock: Lock) -> Result<(), AllocError>
         ensures ok { OnOk result (self.new ≡ insert self.old path lock) }
         ensures err { OnErr result (self.new ≡ self.old) }
     {
@@ -205,6 +232,16 @@ impl Locks {
         ensures left { self.new ≡ remove self.old path.now }
     {
         self.locks.remove_entry(path)
+    }
+}
+
+impl Clone for Locks {
+    ghost is_clone = { λ locks copy. copy ≡ locks };
+
+    fn clone(&self) -> Result<Self, AllocError> {
+        Ok(Locks {
+            locks: self.locks.clone()?,
+        })
     }
 }
 

@@ -2,17 +2,14 @@
 ghost use Rattle.std.specs.Prelude.{◌≡◌, ℕ, List, IfOk, map, option_copied};
 ghost use Rattle.std.specs.Map.Iter.{deref_pair};
 ghost use Rattle.pathlocks.specs.Handed.{is_among};
-ghost use Rattle.pathlocks.specs.Locking.{holder_refusal, is_handed_in, way_refusal, first_refusal, is_token, unlock_refusal, lock_refusal, is_held};
+ghost use Rattle.repo_api.specs.Locking.{holder_refusal, is_handed_in, way_refusal, first_refusal, user_refusal, is_below, entry_refusal, place_refusal, owner_of, lock_of, is_token, taking_refusal, is_held};
 
 use byte_string::ByteString;
 use refusals::Refusal;
-use repo_api::Lock;
+use repo_api::{LOCK_LIMIT, Lock, LockAsk, NodeKind, UnlockAsk};
 use std::alloc::{AllocError, Global};
 use std::collections::BTreeSet;
 use svnpath::Path;
-
-/// The most locks that stand at a time.
-pub const LOCK_LIMIT: usize = 65536;
 
 /// What keeps the user from using the lock, where the right token was given or was not.
 fn holder_refusal(user: Option<&ByteString>, is_right: bool, lock: &Lock) -> Option<Refusal>
@@ -86,28 +83,64 @@ fn is_token(token: Option<&ByteString>, lock: &Lock) -> bool
 }
 
 /// Why the lock, if there is one, is not taken away.
-pub(crate) fn unlock_refusal(
-    user: Option<&ByteString>,
-    token: Option<&ByteString>,
-    breaks: bool,
-    lock: Option<&Lock>,
-) -> Option<Refusal>
-    ensures { result ≡ unlock_refusal (option_copied user.entry) (option_copied token.entry) breaks
-        (option_copied lock.entry) }
+pub(crate) fn taking_refusal(ask: &UnlockAsk, lock: Option<&Lock>) -> Option<Refusal>
+    ensures { result ≡ taking_refusal ask.now (option_copied lock.entry) }
 {
     let Some(lock) = lock else {
         return Some(Refusal::NoSuchLock);
     };
-    if breaks {
+    if ask.breaks {
         None
     } else {
-        holder_refusal(user, is_token(token, lock), lock)
+        holder_refusal(ask.user.as_ref(), is_token(ask.token.as_ref(), lock), lock)
     }
 }
 
-/// Why a path is not locked, where this lock stands or none does, and so many stand in all.
-pub(crate) fn lock_refusal(steals: bool, lock: Option<&Lock>, count: usize) -> Option<Refusal>
-    ensures { result ≡ lock_refusal steals (option_copied lock.entry) count }
+/// Only a user locks.
+pub(crate) fn user_refusal(user: Option<&ByteString>) -> Option<Refusal>
+    ensures { result ≡ user_refusal (option_copied user.entry) }
+{
+    match user {
+        None => Some(Refusal::NoUser),
+        Some(_) => None,
+    }
+}
+
+/// Whether the client has seen a revision before the last change.
+fn is_below(current: Option<u64>, created: Option<u64>) -> bool
+    ensures { result ≡ is_below current created }
+{
+    match (current, created) {
+        (Some(current), Some(created)) => current < created,
+        _ => false,
+    }
+}
+
+/// Why what stands at a path, last changed at this revision, is not locked by a client that has seen it
+/// at that one.
+pub(crate) fn entry_refusal(
+    current: Option<u64>,
+    kind: NodeKind,
+    created: Option<u64>,
+) -> Option<Refusal>
+    ensures { result ≡ entry_refusal current kind created }
+{
+    match kind {
+        NodeKind::Absent => Some(Refusal::NotFound),
+        NodeKind::Directory => Some(Refusal::NotAFile),
+        NodeKind::File => {
+            if is_below(current, created) {
+                Some(Refusal::LockOutOfDate)
+            } else {
+                None
+            }
+        }
+    }
+}
+
+/// Why no lock is put where this one stands or none does, and so many stand in all.
+pub(crate) fn place_refusal(steals: bool, lock: Option<&Lock>, count: usize) -> Option<Refusal>
+    ensures { result ≡ place_refusal steals (option_copied lock.entry) count }
 {
     match lock {
         None => {
@@ -125,6 +158,37 @@ pub(crate) fn lock_refusal(steals: bool, lock: Option<&Lock>, count: usize) -> O
             }
         }
     }
+}
+
+fn owner_of(alloc: Global, user: Option<ByteString>) -> ByteString
+    ensures { result ≡ owner_of user }
+{
+    match user {
+        None => ByteString::new(Vec::new(alloc)),
+        Some(user) => user,
+    }
+}
+
+/// The lock that is asked for, with its path.
+pub(crate) fn lock_of(alloc: Global, ask: LockAsk) -> (Path, Lock)
+    ensures path { result.0 ≡ ask.path }
+    ensures lock { result.1 ≡ lock_of ask }
+{
+    let LockAsk {
+        path,
+        user,
+        comment,
+        token,
+        date,
+        ..
+    } = ask;
+    let lock = Lock {
+        token,
+        owner: owner_of(alloc, user),
+        comment,
+        created: date,
+    };
+    (path, lock)
 }
 
 /// Whether the lock, if there is one, is the user's and has the token.

@@ -8,3 +8,4 @@ pub mod Marking
 pub mod Alone
 pub mod Revisions
 pub mod Copying
+pub mod LockChanges

@@ -1,26 +1,38 @@
 -- The accepted changes of a repository, and what they make of it.
-use Rattle.std.specs.Prelude.{◌≡◌, List, [], ◌∷◌, None, Result, Ok, Err}
+use Rattle.std.specs.Prelude.{◌≡◌, ℕ, true, List, [], ◌∷◌, Option, None, Result, Ok, Err}
 use Rattle.refusals.specs.declared.Refusal.{Refusal}
 use Rattle.repo_api.specs.States.{RepoState, TxnState}
 use Rattle.repo_api.specs.Commits.{commit_refusal, committed}
+use Rattle.repo_api.specs.Locking.{Tokens, lock_refusal, locked, unlock_refusal, unlocked, releases, without_released}
 use Rattle.repo_api.specs.declared.ask.CommitAsk.{CommitAsk}
 use Rattle.repo_api.specs.declared.fault.ChangeFault.{ChangeFault}
+use Rattle.repo_api.specs.declared.lock_ask.LockAsk.{LockAsk}
+use Rattle.repo_api.specs.declared.lock_ask.UnlockAsk.{UnlockAsk}
 use Rattle.repo_api.specs.declared.fault.ChangeFault.TheVariants.{Refused, StoreFailed, Halted, NoMemory}
 
--- an accepted change, with what was asked
+-- an accepted change, with what was asked; a release with the user and the tokens handed in
 pub data Accepted : Type 0 where
   Commits : CommitAsk → TxnState → Accepted
+  Locks : LockAsk → Accepted
+  Unlocks : UnlockAsk → Accepted
+  Releases : Option (List ℕ) → Tokens → Accepted
 
 abbrev pub changed : RepoState → Accepted → RepoState
 changed c (Commits ask t) = committed c ask t
+changed c (Locks ask) = locked c ask
+changed c (Unlocks ask) = unlocked c ask
+changed c (Releases user tokens) = without_released c user tokens
 
 abbrev pub changed_all : RepoState → List Accepted → RepoState
 changed_all c [] = c
 changed_all c (e ∷ es) = changed_all (changed c e) es
 
--- a change that the rules accept
+-- a change that the rules accept; a release takes some lock, else there is none
 abbrev pub IsAccepted : RepoState → Accepted → Type 0
 IsAccepted c (Commits ask t) = commit_refusal c ask t ≡ None
+IsAccepted c (Locks ask) = lock_refusal c ask ≡ None
+IsAccepted c (Unlocks ask) = unlock_refusal c ask ≡ None
+IsAccepted c (Releases user tokens) = releases user tokens c.locks ≡ true
 
 -- changes one after another, each accepted in the state that those before it make
 abbrev pub AreAccepted : RepoState → List Accepted → Type 0

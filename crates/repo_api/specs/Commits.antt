@@ -1,20 +1,26 @@
 -- What a commit does: it is refused, or adds one revision.
 use Rattle.std.specs.Prelude.{ℕ, List, [], ◌∷◌, ◌++◌, length, Option, Some, None, nat_le, if◌then◌else◌, codes}
+use Rattle.std.specs.Option.{option_or}
 use Rattle.refusals.specs.declared.Refusal.{Refusal}
 use Rattle.refusals.specs.declared.Refusal.TheVariants as refusals
 use Rattle.repo_api.specs.Properties.{PropertyList, with_property, without_property}
 use Rattle.repo_api.specs.States.{TreeMap, RepoState, TxnState, tree_at, youngest}
 use Rattle.repo_api.specs.MergedMaps.{has_conflict, merged_map}
+use Rattle.repo_api.specs.Locking.{check_refusal}
 use Rattle.repo_api.specs.declared.limits.TheConstants.{REVISION_LIMIT}
 use Rattle.repo_api.specs.declared.ask.CommitAsk.{CommitAsk}
 
+-- no number is left for a further revision
+abbrev pub limit_refusal : RepoState → Option Refusal
+limit_refusal c =
+    if nat_le REVISION_LIMIT (length c.revisions) then Some refusals.NotSupported else None
+
 -- why a commit that asks for this is refused, if it is: it conflicts with what others have changed
--- since it began, or
--- there is no number left
+-- since it began, or a lock is in its way, or there is no number left
 abbrev pub commit_refusal : RepoState → CommitAsk → TxnState → Option Refusal
 commit_refusal c ask t =
     if has_conflict (tree_at c t.base) t.tree (tree_at c (youngest c)) then Some refusals.Conflict
-    else (if nat_le REVISION_LIMIT (length c.revisions) then Some refusals.NotSupported else None)
+    else option_or (check_refusal c.locks t.changes ask.author ask.tokens) (limit_refusal c)
 
 -- the tree of the revision that a commit adds
 abbrev pub next_tree : RepoState → TxnState → TreeMap

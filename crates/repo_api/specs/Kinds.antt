@@ -40,6 +40,10 @@ abbrev pub created_of : Option Entry → Option ℕ
 created_of None = None
 created_of (Some e) = revision_of e.last
 
+-- the revision that last changed what stands at a path of a revision, at or under it
+abbrev pub created_at : RepoState → ℕ → PathValue → Option ℕ
+created_at c n p = created_of (get (tree_at c n) p)
+
 -- the revision that last changed what stands at a path of a transaction, none where the transaction
 -- has
 abbrev pub created_in : TxnState → PathValue → Option ℕ

@@ -8,10 +8,12 @@ pub mod States
 pub mod Merge
 pub mod MergedMaps
 pub mod MergeLaws
+pub mod Locking
 pub mod Commits
 pub mod Marks
 pub mod Transactions
 pub mod Accepted
+pub mod LockRuns
 pub mod Kinds
 pub mod Opening
 pub mod StateLaws

@@ -5,6 +5,8 @@ ghost use Rattle.repo_api.specs.Trees.{Tree, IsTree, HasDirectory, HasFile};
 ghost use Rattle.repo_api.specs.Edits.{edited, begun};
 ghost use Rattle.repo_api.specs.States.{ChangeMap, Revision, RepoState, TxnState, IsBeginning, IsBegun, IsEdited, tree_of, tree_at, trees_in, youngest};
 ghost use Rattle.repo_api.specs.Commits.{commit_refusal, next_tree, committed};
+ghost use Rattle.repo_api.specs.Accepted.{Accepted, changed};
+ghost use Rattle.repo_api.specs.LockRuns.{is_of_locks, HasSameRevisions};
 ghost use Rattle.repo_api.specs.Transactions.{IsMarkedTxn};
 ghost use Rattle.repo_api.specs.declared.ask.CommitAsk.{CommitAsk};
 ghost use Rattle.std.specs.FinMap.{get};
@@ -166,4 +168,11 @@ pub fn commits_keep_both_sides()
         → MeetWell (trees_in c.revisions) t.base (tree_of t.tree) (youngest c) → (p : PathValue)
         → is_changed (get (tree_at c t.base) p) (get t.tree p) ≡ true
         → shown (get (next_tree c t) p) ≡ shown (get t.tree p) }
+{}
+
+/// A lock, an unlock and a release change the locks alone: no revision, no property of one, and not the
+/// repository's name. So what is sound stays sound.
+pub fn changes_of_locks_keep_revisions()
+    ensures { (c : RepoState) (e : Accepted) → is_of_locks e ≡ true
+        → HasSameRevisions c (changed c e) }
 {}

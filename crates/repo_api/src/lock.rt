@@ -47,4 +47,34 @@ impl LockTokens {
     {
         self.tokens.push((path, token)).map_err(AllocError::from)
     }
+
+    /// The paths with their tokens, in the order in which they were put.
+    pub fn as_slice(&self) -> &[(Path, ByteString)]
+        ensures { result.now ≡ self.now }
+    {
+        self.tokens.as_slice()
+    }
+}
+
+impl Clone for LockTokens {
+    ghost is_clone = { λ tokens copy. copy ≡ tokens };
+
+    fn clone(&self) -> Result<Self, AllocError> {
+        Ok(LockTokens {
+            tokens: self.tokens.clone()?,
+        })
+    }
+}
+
+impl Clone for Lock {
+    ghost is_clone = { λ lock copy. copy ≡ lock };
+
+    fn clone(&self) -> Result<Self, AllocError> {
+        Ok(Lock {
+            token: self.token.clone()?,
+            owner: self.owner.clone()?,
+            comment: self.comment.clone()?,
+            created: self.created.clone()?,
+        })
+    }
 }

@@ -1,9 +1,12 @@
 //! A repository, by what it contains.
-ghost use Rattle.std.specs.Prelude.{◌≡◌, ◌<◌, length, IfOk, OnOk, OnErr, None, Some, option_copied, slice_get};
+ghost use Rattle.std.specs.Prelude.{◌≡◌, ◌<◌, length, map, IfOk, OnOk, OnErr, None, Some, option_copied, slice_get};
+ghost use Rattle.std.specs.FinMap.{get};
+ghost use Rattle.std.specs.Map.Iter.{deref_pair};
 ghost use Rattle.repo_api.specs.States.{RepoState, TxnState, IsBeginning, IsBegun, IsEdited, tree_of, trees_in, youngest};
 ghost use Rattle.repo_api.specs.RightEdits.{IsRightEdit};
 ghost use Rattle.repo_api.specs.Commits.{commit_refusal, committed};
 ghost use Rattle.repo_api.specs.Accepted.{IfRefused, IsOfMemory};
+ghost use Rattle.repo_api.specs.Locking.{at_or_under, lock_refusal, locked, unlock_refusal, unlocked, releases, without_released};
 ghost use Rattle.repo_api.specs.Kinds.{kind_at, has_deeper_at, kind_in, created_in, text_in};
 
 use crate::ask::CommitAsk;
@@ -11,7 +14,10 @@ use crate::edit::EditOp;
 use crate::entry::NodeKind;
 use crate::fault::ChangeFault;
 use crate::file_text::FileText;
+use crate::lock::{Lock, LockTokens};
+use crate::lock_ask::{LockAsk, UnlockAsk};
 use crate::properties::Properties;
+use byte_string::ByteString;
 use std::alloc::AllocError;
 use svnpath::Path;
 
@@ -50,6 +56,19 @@ pub trait Repository: Drop {
     /// The properties of a revision, none for a number that is no revision.
     fn revision_properties(&self, revision: u64) -> Option<&Properties>
         ensures { option_copied result ≡ slice_get (content self.now).properties revision };
+
+    /// The lock at a path.
+    fn lock_at(&self, path: &Path) -> Option<&Lock>
+        ensures { option_copied result ≡ get (content self.now).locks path.now };
+
+    /// The locks at a path and under it, by the bytes of their paths.
+    fn locks_under(&self, path: &Path) -> Result<Vec<(&Path, &Lock)>, AllocError>
+        ensures { IfOk result (λ found. map deref_pair found.items
+            ≡ at_or_under (content self.now).locks path.now) };
+
+    /// Whether a release by the user, with these tokens handed in, takes some lock.
+    fn releases(&self, user: Option<&ByteString>, tokens: &LockTokens) -> bool
+        ensures { result ≡ releases (option_copied user.entry) tokens.now (content self.now).locks };
 
     /// A transaction that begins from the youngest revision.
     fn begin(&self) -> Result<Self::Txn, AllocError>
@@ -92,6 +111,32 @@ pub trait Repository: Drop {
             ≡ committed (content self.old) ask (txn_state txn)) }
         ensures refused { IfRefused result (λ r. commit_refusal (content self.old) ask
             (txn_state txn) ≡ Some r) }
+        ensures memory { IsOfMemory result }
+        ensures err { OnErr result (content self.new ≡ content self.old) };
+
+    /// Locks the path of a file, in place of a lock that stands there if that may be stolen.
+    fn lock(&mut self, ask: LockAsk) -> Result<(), ChangeFault>
+        ensures accepted { OnOk result (lock_refusal (content self.old) ask ≡ None) }
+        ensures ok { OnOk result (content self.new ≡ locked (content self.old) ask) }
+        ensures refused { IfRefused result (λ r. lock_refusal (content self.old) ask ≡ Some r) }
+        ensures memory { IsOfMemory result }
+        ensures err { OnErr result (content self.new ≡ content self.old) };
+
+    /// Takes the lock at the path away.
+    fn unlock(&mut self, ask: &UnlockAsk) -> Result<(), ChangeFault>
+        ensures accepted { OnOk result (unlock_refusal (content self.old) ask.now ≡ None) }
+        ensures ok { OnOk result (content self.new ≡ unlocked (content self.old) ask.now) }
+        ensures refused { IfRefused result (λ r. unlock_refusal (content self.old) ask.now
+            ≡ Some r) }
+        ensures memory { IsOfMemory result }
+        ensures err { OnErr result (content self.new ≡ content self.old) };
+
+    /// Takes away each lock that is the user's and was handed in by its path and its token. One that was
+    /// stolen since then stays.
+    fn release(&mut self, user: Option<&ByteString>, tokens: &LockTokens) -> Result<(), ChangeFault>
+        ensures ok { OnOk result (content self.new
+            ≡ without_released (content self.old) (option_copied user.entry) tokens.now) }
+        ensures refused { IfRefused result (λ r. ⊥) }
         ensures memory { IsOfMemory result }
         ensures err { OnErr result (content self.new ≡ content self.old) };
 }

@@ -128,8 +128,7 @@ impl Applier {
         match self.stage {
             Stage::Broken(fault) => Err(fault),
             Stage::Windows if self.rest.is_empty() => {
-                let text = self.text.share(self.alloc)?;
-                Ok(text)
+                Ok(self.text.share(self.alloc)?)
             }
             _ => Err(DiffFault::Truncated),
         }

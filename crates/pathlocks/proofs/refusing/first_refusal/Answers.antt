@@ -4,7 +4,7 @@ use Rattle.std.specs.Map.Iter.{deref_pair}
 use Rattle.std.specs.Option.{option_or}
 use Rattle.std.specs.Prelude.{option_copied}
 use Rattle.pathlocks.specs.Handed.{is_among}
-use Rattle.pathlocks.specs.Locking.{first_refusal, way_refusal}
+use Rattle.repo_api.specs.Locking.{first_refusal, way_refusal}
 use Rattle.pathlocks.proofs.refusing.first_refusal.Goals as goal
 
 pub returns-in-Some : goal.returns-in-Some

@@ -2,7 +2,7 @@ use Rattle.std.proofs.Common.{◌≡◌, map, drop}
 use Rattle.std.specs.Map.Iter.{deref_pair}
 use Rattle.std.specs.Prelude.{option_copied}
 use Rattle.pathlocks.specs.Handed.{is_among}
-use Rattle.pathlocks.specs.Locking.{first_refusal}
+use Rattle.repo_api.specs.Locking.{first_refusal}
 use Rattle.pathlocks.proofs.refusing.first_refusal.Given as goal
 
 -- none so far refuses

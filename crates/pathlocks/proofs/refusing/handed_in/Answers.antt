@@ -2,7 +2,7 @@ use Rattle.std.proofs.Common.{◌||◌, take, sym, ap, ◌∙◌}
 use Rattle.std.proofs.lemmas.List.Folds.{list_any_more}
 use Rattle.svnpath.specs.Paths.{same_component}
 use Rattle.pathlocks.specs.Handed.{is_among}
-use Rattle.pathlocks.specs.Locking.{is_handed_in}
+use Rattle.repo_api.specs.Locking.{is_handed_in}
 use Rattle.pathlocks.proofs.Handed.{among_inserted}
 use Rattle.pathlocks.proofs.refusing.handed_in.Goals as goal
 

@@ -1,6 +1,6 @@
 use Rattle.std.proofs.Common.{◌≡◌, ℕ, List, take}
 use Rattle.pathlocks.specs.Handed.{is_among}
-use Rattle.pathlocks.specs.Locking.{is_handed_in}
+use Rattle.repo_api.specs.Locking.{is_handed_in}
 use Rattle.pathlocks.proofs.refusing.handed_in.Given as goal
 
 abbrev pub invariant-loop-pair : goal.invariant-loop-pair

@@ -1,6 +1,8 @@
-use Rattle.std.proofs.Common.{refl, ap}
+use Rattle.std.proofs.Common.{◌≡◌, ℕ, length, refl, ap}
 use Rattle.access.specs.Sole.{point_at, sole_rules}
-use Rattle.access.proofs.InMemory.{commit_fails}
+use Rattle.access.proofs.InMemory.{change_fails}
+use Rattle.repo_api.specs.Accepted.Accepted.{Commits}
+use Rattle.repo_api.specs.Commits.{commit_refusal}
 use Rattle.access.proofs.sole.SoleRepositoryRepoAccess.commit.Goals as goal
 
 pub returns-in-Ok : goal.returns-in-Ok
@@ -10,4 +12,5 @@ returns-in-Ok g c =
 pub returns-in-Err : goal.returns-in-Err
 returns-in-Err g c =
     let old = g.R.Repository.content c.args.self.now.repository in
-    (point_at old, refl, commit_fails sole_rules old (g.R.Repository.content c.commit.new.self) c.args.ask (g.R.Repository.txn_state c.args.txn) c.in-Err.fault c.in-Err.ensures.refused c.in-Err.ensures.memory c.in-Err.ensures.err)
+    let t = g.R.Repository.txn_state c.args.txn in
+    (point_at old, refl, change_fails ℕ ℕ sole_rules old (g.R.Repository.content c.commit.new.self) (commit_refusal old c.args.ask t) (λ n. n ≡ length old.revisions) (Commits c.args.ask t) c.in-Err.fault c.in-Err.ensures.refused c.in-Err.ensures.memory c.in-Err.ensures.err)

@@ -1,7 +1,7 @@
 use Rattle.std.proofs.Common.{map, sym, ap, ◌∙◌}
 use Rattle.std.specs.Map.Iter.{deref_pair}
 use Rattle.std.specs.Prelude.{option_copied}
-use Rattle.pathlocks.specs.Locking.{first_refusal}
+use Rattle.repo_api.specs.Locking.{first_refusal}
 use Rattle.pathlocks.proofs.locks.Locks.check.Goals as goal
 
 pub returns-in-Some-clause-refused : goal.returns-in-Some-clause-refused

@@ -4,7 +4,7 @@ use Rattle.std.specs.Map.Iter.{deref_pair}
 use Rattle.std.specs.FinMap.{entries}
 use Rattle.std.specs.List.{filter}
 use Rattle.svnpath.specs.Listings.{listing}
-use Rattle.pathlocks.specs.Locking.{is_reached}
+use Rattle.repo_api.specs.Locking.{is_reached}
 use Rattle.pathlocks.proofs.Maps.{entries_of}
 use Rattle.pathlocks.proofs.locks.Locks.in_the_way.Goals as goal
 

@@ -1,7 +1,7 @@
 use Rattle.std.proofs.Common.{rules, ◌≡◌, ◌+◌, ◌++◌, ◌∷◌, [], take, refl, sym, ap, ◌∙◌}
 use Rattle.std.proofs.lemmas.List.{take_more}
 use Rattle.std.specs.Prelude.{option_copied}
-use Rattle.pathlocks.specs.Locking.{is_held}
+use Rattle.repo_api.specs.Locking.{is_held}
 use Rattle.pathlocks.proofs.Releases.{Releases, begins, hit, miss, is_there, same_releases}
 use Rattle.pathlocks.proofs.locks.Locks.release.Goals.{then-is_held+in-Some+in_ok-push, then-is_held+in_default, else-is_held}
 use Rattle.pathlocks.proofs.locks.Locks.release.Goals as goal

@@ -1,19 +1,24 @@
--- Locks of paths: which stand in the way of changes, and what refuses a commit, an unlock and a
--- lock.
-use Rattle.std.specs.Prelude.{ℕ, Bool, true, false, ◌&&◌, not, if◌then◌else◌, nat_le, List, [], ◌∷◌, Option, Some, None}
-use Rattle.std.specs.FinMap.{get, entries, retain_keys}
+-- Locks of paths: which stand in the way of changes, and what refuses a commit, a lock and an
+-- unlock.
+use Rattle.std.specs.Prelude.{ℕ, Bool, true, false, ◌&&◌, not, if◌then◌else◌, nat_le, nat_lt, List, [], ◌∷◌, Option, Some, None}
+use Rattle.std.specs.FinMap.{get, len, entries, insert, remove, retain_keys}
 use Rattle.std.specs.List.{list_any, filter}
 use Rattle.std.specs.Option.{is_none, option_or}
 use Rattle.svnpath.specs.Listings.{listing}
 use Rattle.svnpath.specs.Paths.{PathValue, same_component, same_path, is_at_or_under}
 use Rattle.refusals.specs.declared.Refusal.{Refusal}
 use Rattle.refusals.specs.declared.Refusal.TheVariants as refusals
-use Rattle.repo_api.specs.States.{ChangeMap, LockMap}
+use Rattle.repo_api.specs.Kinds.{kind_at, created_at}
+use Rattle.repo_api.specs.States.{ChangeMap, LockMap, RepoState, youngest}
 use Rattle.repo_api.specs.declared.change.Action.{Action}
 use Rattle.repo_api.specs.declared.change.Action.TheVariants.{Add, Delete, Replace, Modify}
 use Rattle.repo_api.specs.declared.change.Change.{Change}
+use Rattle.repo_api.specs.declared.entry.NodeKind.{NodeKind}
+use Rattle.repo_api.specs.declared.entry.NodeKind.TheVariants as kinds
+use Rattle.repo_api.specs.declared.limits.TheConstants.{LOCK_LIMIT}
 use Rattle.repo_api.specs.declared.lock.Lock.{Lock}
-use Rattle.pathlocks.specs.declared.refusing.TheConstants.{LOCK_LIMIT}
+use Rattle.repo_api.specs.declared.lock_ask.LockAsk.{LockAsk}
+use Rattle.repo_api.specs.declared.lock_ask.UnlockAsk.{UnlockAsk}
 
 -- locks with the paths at which they stand
 abbrev pub LockList : Type 0
@@ -80,6 +85,68 @@ abbrev pub check_refusal : LockMap → ChangeMap → Option (List ℕ) → Token
 check_refusal locks changes user tokens =
     first_refusal user (is_handed_in tokens) (in_the_way locks changes)
 
+-- ---- lock
+
+abbrev pub user_refusal : Option (List ℕ) → Option Refusal
+user_refusal None = Some refusals.NoUser
+user_refusal (Some user) = None
+
+-- the client has seen a revision before the last change
+abbrev pub is_below : Option ℕ → Option ℕ → Bool
+is_below None created = false
+is_below (Some current) None = false
+is_below (Some current) (Some created) = nat_lt current created
+
+-- why what stands at a path, last changed at this revision, is not locked: only files are, and only
+-- as the client has seen them
+abbrev pub entry_refusal : Option ℕ → NodeKind → Option ℕ → Option Refusal
+entry_refusal current kinds.Absent created = Some refusals.NotFound
+entry_refusal current kinds.Directory created = Some refusals.NotAFile
+entry_refusal current kinds.File created =
+    if is_below current created then Some refusals.LockOutOfDate else None
+
+-- why no lock is put where one stands or none does, and so many stand in all
+abbrev pub place_refusal : Bool → Option Lock → ℕ → Option Refusal
+place_refusal steals None count =
+    if nat_le LOCK_LIMIT count then Some refusals.NotSupported else None
+place_refusal steals (Some l) count = if steals then None else Some refusals.AlreadyLocked
+
+-- why a lock is refused where an entry of this kind stands, last changed at this revision, beside
+-- these locks
+abbrev pub lock_refusal_at : NodeKind → Option ℕ → LockMap → LockAsk → Option Refusal
+lock_refusal_at kind created locks ask =
+    option_or (user_refusal ask.user) (option_or (entry_refusal ask.current kind created)
+    (place_refusal ask.steals (get locks ask.path) (len locks)))
+
+-- why a lock that is asked for is refused: the path is judged in the youngest tree
+abbrev pub lock_refusal : RepoState → LockAsk → Option Refusal
+lock_refusal c ask =
+    lock_refusal_at (kind_at c (youngest c) ask.path) (created_at c (youngest c) ask.path)
+    c.locks ask
+
+-- a lock without an owner is refused
+abbrev pub owner_of : Option (List ℕ) → List ℕ
+owner_of None = []
+owner_of (Some user) = user
+
+-- the lock that is asked for
+abbrev pub lock_of : LockAsk → Lock
+lock_of ask =
+    record {
+      token = ask.token;
+      owner = owner_of ask.user;
+      comment = ask.comment;
+      created = ask.date;
+    }
+
+-- the repository with a lock at the path, in place of what stood there
+abbrev pub with_lock : RepoState → PathValue → Lock → RepoState
+with_lock c p l = record c { locks = insert c.locks p l }
+
+-- the repository after a lock, which takes the place of the one that it steals
+abbrev pub locked : RepoState → LockAsk → RepoState
+locked c ask = with_lock c ask.path (lock_of ask)
+
 -- ---- unlock
 
 abbrev pub is_token : Option (List ℕ) → Lock → Bool
@@ -87,18 +154,17 @@ is_token None l = false
 is_token (Some token) l = same_component token l.token
 
 -- why the lock, if there is one, is not taken away
-abbrev pub unlock_refusal : Option (List ℕ) → Option (List ℕ) → Bool → Option Lock → Option Refusal
-unlock_refusal user token breaks None = Some refusals.NoSuchLock
-unlock_refusal user token breaks (Some l) =
-    if breaks then None else holder_refusal user (is_token token l) l
+abbrev pub taking_refusal : UnlockAsk → Option Lock → Option Refusal
+taking_refusal ask None = Some refusals.NoSuchLock
+taking_refusal ask (Some l) =
+    if ask.breaks then None else holder_refusal ask.user (is_token ask.token l) l
 
--- ---- lock
+-- why an unlock that is asked for is refused
+abbrev pub unlock_refusal : RepoState → UnlockAsk → Option Refusal
+unlock_refusal c ask = taking_refusal ask (get c.locks ask.path)
 
--- why a path is not locked, where a lock stands or none does, and so many stand in all
-abbrev pub lock_refusal : Bool → Option Lock → ℕ → Option Refusal
-lock_refusal steals None count =
-    if nat_le LOCK_LIMIT count then Some refusals.NotSupported else None
-lock_refusal steals (Some l) count = if steals then None else Some refusals.AlreadyLocked
+abbrev pub unlocked : RepoState → UnlockAsk → RepoState
+unlocked c ask = record c { locks = remove c.locks ask.path }
 
 -- ---- release
 
@@ -118,3 +184,11 @@ released user tokens locks = retain_keys locks (is_released user tokens locks)
 
 abbrev pub after_release : Option (List ℕ) → Tokens → LockMap → LockMap
 after_release user tokens locks = retain_keys locks (λ p. not (is_released user tokens locks p))
+
+-- a release takes some lock
+abbrev pub releases : Option (List ℕ) → Tokens → LockMap → Bool
+releases user tokens locks = list_any (λ t. is_held user t.1 (get locks t.0)) tokens
+
+-- the repository after a release
+abbrev pub without_released : RepoState → Option (List ℕ) → Tokens → RepoState
+without_released c user tokens = record c { locks = after_release user tokens c.locks }
