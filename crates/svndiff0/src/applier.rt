@@ -127,9 +127,7 @@ impl Applier {
     {
         match self.stage {
             Stage::Broken(fault) => Err(fault),
-            Stage::Windows if self.rest.is_empty() => {
-                Ok(self.text.share(self.alloc)?)
-            }
+            Stage::Windows if self.rest.is_empty() => { Ok(self.text.share(self.alloc)?) }
             _ => Err(DiffFault::Truncated),
         }
     }

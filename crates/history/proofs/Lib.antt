@@ -1,0 +1,12 @@
+pub mod Steps
+pub mod Settled
+pub mod Dating
+pub mod Once
+pub mod Among
+pub mod Downward
+pub mod ToCome
+pub mod Walking
+pub mod Logging
+pub mod Orders
+pub mod OnTraces
+pub mod Passing

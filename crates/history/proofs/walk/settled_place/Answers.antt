@@ -1,0 +1,8 @@
+use Rattle.history.specs.Histories.{history_of}
+use Rattle.history.proofs.Passing.{listed_settled}
+use Rattle.history.proofs.walk.settled_place.Goals as goal
+
+pub returns-clause-listed : goal.returns-clause-listed
+returns-clause-listed g c strict low =
+    listed_settled (history_of (g.R.Repository.content c.args.repository.now)) strict low c.args.at c.settled-revision.result (λ root. cc (c.if-is_root.ensures.1 root))
+    c.settled-revision.ensures.within c.settled-revision.ensures.quiet

@@ -1,0 +1,8 @@
+pub mod Histories
+pub mod Traces
+pub mod Logs
+pub mod Locations
+pub mod Quiet
+pub mod Dates
+pub mod Walks
+pub mod Laws

@@ -1,0 +1,34 @@
+//! What holds of histories. The functions do nothing: their contracts are the laws.
+ghost use Rattle.std.specs.Prelude.{ℕ, List};
+ghost use Rattle.repo_api.specs.Trees.{Tree};
+ghost use Rattle.history.specs.Histories.{History};
+ghost use Rattle.repo_api.specs.States.{RepoState};
+ghost use Rattle.history.specs.Dates.{dated_rev};
+ghost use Rattle.history.specs.Laws.{TracesFall, LogsAreRight, AreOnTraces, IsGreatestDated};
+ghost use Rattle.history.specs.Quiet.{IsMarkedBy, MarksLeadBack};
+
+/// From the newest revision of the marks at and above a place up to the place's own revision nothing
+/// is listed at, under or above it: a walk may go there at once.
+pub fn marks_lead_back()
+    ensures { (trees : ℕ → Tree) (h : History) → IsMarkedBy trees h → MarksLeadBack trees h }
+{}
+
+/// Along a trace the revisions fall.
+pub fn traces_fall()
+    ensures { (h : History) → TracesFall h }
+{}
+
+/// What a log lists is between the two revisions, each once and in order, and on one of the traces.
+pub fn logs_are_right()
+    ensures { (h : History) → LogsAreRight h }
+{}
+
+/// A location is on the trace of the place, or the place is on that of the location.
+pub fn locations_are_on_traces()
+    ensures { (c : RepoState) → AreOnTraces c }
+{}
+
+/// The dated revision is the greatest that is not dated after the date.
+pub fn dated_revisions_are_greatest()
+    ensures { (c : RepoState) (date : List ℕ) → IsGreatestDated c date (dated_rev c date) }
+{}

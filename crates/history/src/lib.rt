@@ -1,0 +1,31 @@
+//! The history of places, read off the lists of changes: traces, logs, and where a place was or went.
+#![tactic(auto)]
+
+mod changes;
+mod coming;
+mod dates;
+mod kinds;
+mod laws;
+mod listed;
+mod locating;
+mod log;
+mod log_ask;
+mod place;
+mod revisions;
+mod walk;
+mod walks;
+
+pub use changes::{is_touched, next_place, place_before};
+pub use dates::{dated_rev, is_date_text};
+pub use kinds::kind_shown;
+pub use laws::{
+    dated_revisions_are_greatest, locations_are_on_traces, logs_are_right, marks_lead_back,
+    traces_fall,
+};
+pub use listed::Listed;
+pub use locating::{each_once, location, locations};
+pub use log::Log;
+pub use log_ask::LogAsk;
+pub use place::Place;
+pub use revisions::Revisions;
+pub use walk::{next_listed, step};

@@ -1,0 +1,155 @@
+//! Where a place was, or went.
+ghost use Rattle.std.specs.Prelude.{◌≡◌, ◌≤◌, IfOk};
+ghost use Rattle.std.specs.List.{filter_map};
+ghost use Rattle.history.specs.Histories.{history_of};
+ghost use Rattle.history.specs.Locations.{each_once, location, location_back, location_on, located_in, locations, only_same};
+
+use crate::place::Place;
+use crate::revisions::Revisions;
+use crate::walk::step;
+use repo_api::NodeKind;
+use std::alloc::{AllocError, Global};
+use std::collections::BTreeSet;
+use svnpath::Path;
+
+/// The path of the place in a revision: at or below its own by its trace, above it the same path,
+/// where something stands there whose trace passes through the place.
+pub fn location<R: Revisions>(
+    alloc: Global,
+    repository: &R,
+    place: &Place,
+    revision: u64,
+) -> Result<Option<Path>, AllocError>
+    ensures { IfOk result (λ path. path ≡ location (R.content repository.now) place.now
+        revision) }
+{
+    if revision <= place.revision {
+        return location_back(alloc, repository, place, revision);
+    }
+    match repository.kind(revision, &place.path) {
+        NodeKind::Absent => Ok(None),
+        NodeKind::File => location_on(alloc, repository, place, revision),
+        NodeKind::Directory => location_on(alloc, repository, place, revision),
+    }
+}
+
+/// The place's paths in the revisions: those that have one, in the order asked, each once.
+pub fn locations<R: Revisions>(
+    alloc: Global,
+    repository: &R,
+    place: &Place,
+    revisions: &[u64],
+) -> Result<Vec<(u64, Path)>, AllocError>
+    ensures { IfOk result (λ found. found.items ≡ locations (R.content repository.now) place.now
+        revisions.now) }
+{
+    let once = each_once(alloc, revisions)?;
+    located(alloc, repository, place, once.as_slice())
+}
+
+/// The place's paths in the revisions that have one.
+fn located<R: Revisions>(
+    alloc: Global,
+    repository: &R,
+    place: &Place,
+    revisions: &[u64],
+) -> Result<Vec<(u64, Path)>, AllocError>
+    ensures { let c = R.content repository.now in
+        IfOk result (λ found. found.items ≡ filter_map (located_in c place.now) revisions.now) }
+{
+    let mut found = Vec::new(alloc);
+    for revision in revisions {
+        if let Some(path) = location(alloc, repository, place, *revision)? {
+            found.push((*revision, path))?;
+        }
+    }
+    Ok(found)
+}
+
+/// Each of the revisions once, where it stands first.
+pub fn each_once(alloc: Global, revisions: &[u64]) -> Result<Vec<u64>, AllocError>
+    ensures { IfOk result (λ once. once.items ≡ each_once revisions.now) }
+{
+    let mut seen = BTreeSet::new(alloc);
+    let mut once = Vec::new(alloc);
+    for revision in revisions {
+        if seen.insert(*revision)? {
+            once.push(*revision)?;
+        }
+    }
+    Ok(once)
+}
+
+fn location_on<R: Revisions>(
+    alloc: Global,
+    repository: &R,
+    place: &Place,
+    revision: u64,
+) -> Result<Option<Path>, AllocError>
+    ensures { let h = history_of (R.content repository.now) in
+        IfOk result (λ path. path ≡ location_on h place.now revision) }
+{
+    let later = Place {
+        path: place.path.clone()?,
+        revision,
+    };
+    let back = location_back(alloc, repository, &later, place.revision)?;
+    Ok(only_same(later.path, &back))
+}
+
+/// The path, if it is the other.
+fn only_same(path: Path, other: &Option<Path>) -> Option<Path>
+    ensures { result ≡ only_same path other.now }
+{
+    match other {
+        None => None,
+        Some(other) => { if path == *other { Some(path) } else { None } }
+    }
+}
+
+/// The path of the place's trace in the revision.
+#[tactic(auto, using(crate::proofs::Steps::located_on, crate::proofs::Steps::located_end, crate::proofs::Steps::located_here, crate::proofs::Steps::located_below))]
+fn location_back<R: Revisions>(
+    alloc: Global,
+    repository: &R,
+    place: &Place,
+    revision: u64,
+) -> Result<Option<Path>, AllocError>
+    ensures { let h = history_of (R.content repository.now) in
+        IfOk result (λ path. path ≡ location_back h place.now revision) }
+{
+    let mut at = Place {
+        path: place.path.clone()?,
+        revision: place.revision,
+    };
+    while at.revision > revision {
+        let found = settled_above(repository, at, revision);
+        if found.revision == revision {
+            return Ok(Some(found.path));
+        }
+        let Some(next) = step(alloc, repository, false, &found)? else {
+            return Ok(None);
+        };
+        at = next;
+    }
+    if at.revision == revision {
+        Ok(Some(at.path))
+    } else {
+        Ok(None)
+    }
+}
+
+/// The place in the revision that it has settled in, or in this one where that is greater.
+fn settled_above<R: Revisions>(repository: &R, at: Place, revision: u64) -> Place
+    requires { revision ≤ at.revision }
+    ensures within { result.revision ≤ at.revision }
+    ensures above { revision ≤ result.revision }
+    ensures back { let h = history_of (R.content repository.now) in
+        location_back h at revision ≡ location_back h result revision }
+{
+    let settled = repository.settled(at.revision, &at.path);
+    Place {
+        path: at.path,
+        revision: settled.max(revision),
+    }
+}

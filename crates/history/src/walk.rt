@@ -1,0 +1,89 @@
+//! A walk along the trace of a place.
+ghost use Rattle.std.specs.Prelude.{◌≡◌, ◌≤◌, ◌∷◌, ℕ, Bool, IfOk};
+ghost use Rattle.history.specs.Histories.{History, history_of};
+ghost use Rattle.history.specs.Traces.{trace_below, trace, traced, IsBelow};
+ghost use Rattle.history.specs.Logs.{IsNext, listed};
+
+use crate::changes::{is_touched, next_place};
+use crate::listed::Listed;
+use crate::place::Place;
+use crate::revisions::Revisions;
+use std::alloc::{AllocError, Global};
+
+/// The place, if it is below the revision.
+fn only_below(place: Option<Place>, revision: u64) -> Option<Place>
+    ensures below { IsBelow revision result }
+    ensures trace { (h : History) (strict : Bool) → trace_below h strict revision place
+        ≡ traced h strict result }
+{
+    match place {
+        None => None,
+        Some(place) => {
+            if place.revision < revision {
+                Some(place)
+            } else {
+                None
+            }
+        }
+    }
+}
+
+/// One step back along the trace of a place.
+pub fn step<R: Revisions>(
+    alloc: Global,
+    repository: &R,
+    strict: bool,
+    at: &Place,
+) -> Result<Option<Place>, AllocError>
+    ensures below { IfOk result (λ next. IsBelow at.now.revision next) }
+    ensures trace { let h = history_of (R.content repository.now) in
+        IfOk result (λ next. trace h strict at.now ≡ at.now ∷ traced h strict next) }
+{
+    let next = next_place(alloc, repository.changes(at.revision), strict, at)?;
+    Ok(only_below(next, at.revision))
+}
+
+/// The place in the revision that it has settled in: from there to the place nothing is listed.
+fn settled_place<R: Revisions>(repository: &R, at: Place) -> Place
+    ensures within { result.revision ≤ at.revision }
+    ensures listed { let h = history_of (R.content repository.now) in (strict : Bool) (low : ℕ)
+        → listed h low (trace h strict at) ≡ listed h low (trace h strict result) }
+{
+    if at.path.is_root() {
+        return at;
+    }
+    let revision = repository.settled(at.revision, &at.path);
+    Place {
+        path: at.path,
+        revision,
+    }
+}
+
+/// The first revision, from `low` on, that the log lists along the trace from the place back, and the
+/// place from which the log goes on: so a log goes out revision by revision.
+#[tactic(auto, using(crate::proofs::Steps::walked_on, crate::proofs::Steps::walked_to, crate::proofs::Steps::nothing_listed_below))]
+pub fn next_listed<R: Revisions>(
+    alloc: Global,
+    repository: &R,
+    strict: bool,
+    low: u64,
+    start: Option<Place>,
+) -> Result<Option<Listed>, AllocError>
+    ensures { IfOk result (λ found. IsNext (history_of (R.content repository.now)) strict low
+        start found) }
+{
+    let mut place = start;
+    while let Some(found) = place {
+        let at = settled_place(repository, found);
+        let revision = at.revision;
+        if revision < low {
+            return Ok(None);
+        }
+        let next = step(alloc, repository, strict, &at)?;
+        if is_touched(repository.changes(revision), &at.path) {
+            return Ok(Some(Listed { revision, next }));
+        }
+        place = next;
+    }
+    Ok(None)
+}
