@@ -6,6 +6,7 @@ The other programs of this folder are written in these words.
 import hmac
 from datetime import datetime, timedelta
 from hashlib import md5
+from uuid import UUID as Uuid
 
 UUID = "00000000-0000-4000-8000-000000000000"
 MOMENT = 1_000_000
@@ -19,6 +20,12 @@ TEXTS = {
     160020: "already exists",
     160024: "conflict",
     160028: "out of date",
+    160034: "no user",
+    160035: "already locked",
+    160037: "bad lock token",
+    160039: "not the lock owner",
+    160040: "no such lock",
+    160042: "lock out of date",
     185001: "bad svndiff",
     200007: "not supported",
     200014: "checksum mismatch",
@@ -141,6 +148,47 @@ def commit(message="first", tokens=(), keep_locks=b"false ", properties=None):
     """The beginning of an edit."""
     rest = b"" if properties is None else b"( " + pairs(properties) + b") "
     return b"( commit ( " + string(message) + b"( " + pairs(tokens) + b") " + keep_locks + rest + b") ) "
+
+
+def lock(path, comment=None, steals=False, current=b""):
+    """A file is locked."""
+    return b"( lock ( " + string(path) + optional(comment) + boolean(steals) + b"( " + current + b") ) ) "
+
+
+def unlock(path, token=None, breaks=False):
+    """A lock is taken away."""
+    return b"( unlock ( " + string(path) + optional(token) + boolean(breaks) + b") ) "
+
+
+def get_lock(path):
+    """The lock at a path."""
+    return b"( get-lock ( " + string(path) + b") ) "
+
+
+def get_locks(path):
+    """The locks at a path and under it."""
+    return b"( get-locks ( " + string(path) + b") ) "
+
+
+def boolean(value):
+    """A word that is true or false."""
+    return b"true " if value else b"false "
+
+
+def lock_token(word):
+    """The token of a lock, by the word that its call hands in."""
+    return f"opaquelocktoken:{Uuid(int=word)}"
+
+
+def lock_at(path, word, owner, comment=None, moment=MOMENT):
+    """What a client is told of a lock at a path, which it is told with a slash in front."""
+    parts = string("/" + path), string(lock_token(word)), string(owner), optional(comment), string(date(moment))
+    return b"( " + b"".join(parts) + b"( ) ) "
+
+
+def locks_told(*locks):
+    """The answer to get-lock, with one lock or none, and to get-locks."""
+    return answered(b"( " + b"".join(locks) + b") ")
 
 
 def open_root(token="d0", revision=b""):

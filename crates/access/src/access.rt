@@ -1,14 +1,21 @@
 //! A repository as a session reaches it.
-ghost use Rattle.std.specs.Prelude.{◌≡◌, ◌≤◌, true, IfOk, option_copied};
+ghost use Rattle.std.specs.Prelude.{◌≡◌, ◌≤◌, true, IfOk};
 ghost use Rattle.repo_api.specs.States.{IsBeginning};
 ghost use Rattle.repo_api.specs.Accepted.{Accepted, changed};
 ghost use Rattle.repo_api.specs.Soundness.{AreSound};
 ghost use Rattle.access.specs.Points.{Point, AccessRules, content_of};
-ghost use Rattle.access.specs.Changing.{CommitsAt, LocksAt, UnlocksAt, ReleasesAt};
+ghost use Rattle.access.specs.Changing.{CommitsAt, LocksAt, UnlocksAt};
 
-use byte_string::ByteString;
-use repo_api::{ChangeFault, CommitAsk, LockAsk, LockTokens, Repository, UnlockAsk};
+use repo_api::{ChangeFault, CommitAsk, LockAsk, Repository, UnlockAsk};
 use std::alloc::AllocError;
+
+/// A commit that was made: the number of its revision, and whether the release of the locks that were handed
+/// in has failed, so that they stand on.
+#[derive(Clone, Copy)]
+pub struct Committed {
+    pub revision: u64,
+    pub release_fails: bool,
+}
 
 /// A repository as a session reaches it: others may change it between two of the session's inputs.
 pub trait RepoAccess {
@@ -30,13 +37,15 @@ pub trait RepoAccess {
     fn is_halted(&self) -> bool
         ensures { result ≡ (point self.now).halted };
 
-    /// Makes the transaction the next revision, and answers its number. The transaction was last shown
-    /// revisions that this access has shown.
+    /// Makes the transaction the next revision, and then, unless the locks are to stay, releases those of
+    /// the user's that were handed in, each by its path and its token: one that was stolen since then stays,
+    /// and nobody changes the repository between the two. The transaction was last shown revisions that this
+    /// access has shown.
     fn commit(
         &mut self,
         ask: CommitAsk,
         txn: <Self::View as Repository>::Txn,
-    ) -> Result<u64, ChangeFault>
+    ) -> Result<Committed, ChangeFault>
         requires { IsBeginning (Self.View.txn_state txn).shown
             (content_of (point self.old)).revisions }
         ensures { (at : Point) × rules.between (point self.old) at
@@ -51,16 +60,6 @@ pub trait RepoAccess {
     fn unlock(&mut self, ask: &UnlockAsk) -> Result<(), ChangeFault>
         ensures { (at : Point) × rules.between (point self.old) at
             × UnlocksAt rules ask.now at result (point self.new) };
-
-    /// Releases the locks that are the user's and were handed in, each by its path and its token, and
-    /// answers whether there were any. One that was stolen since then stays.
-    fn release(
-        &mut self,
-        user: Option<&ByteString>,
-        tokens: &LockTokens,
-    ) -> Result<bool, ChangeFault>
-        ensures { (at : Point) × rules.between (point self.old) at
-            × ReleasesAt rules (option_copied user.entry) tokens.now at result (point self.new) };
 
     ghost stays: { (p : Point) → rules.between p p };
 

@@ -1,9 +1,9 @@
 //! A repository that one hub alone has.
 ghost use Rattle.std.specs.Prelude.{◌≡◌};
 
-use crate::access::{RepoAccess, SoleAccess};
-use byte_string::ByteString;
-use repo_api::{ChangeFault, CommitAsk, LockAsk, LockTokens, Repository, UnlockAsk};
+use crate::access::{Committed, RepoAccess, SoleAccess};
+use crate::handed::{commit_and_release, handed_in};
+use repo_api::{ChangeFault, CommitAsk, LockAsk, Repository, UnlockAsk};
 use std::alloc::AllocError;
 
 /// A repository in memory that one hub alone has: nobody else changes it, and no store can fail.
@@ -52,10 +52,13 @@ impl<R: Repository> RepoAccess for SoleRepository<R> {
         false
     }
 
-    fn commit(&mut self, ask: CommitAsk, txn: R::Txn) -> Result<u64, ChangeFault> {
-        match self.repository.commit(ask, txn) {
-            Ok(revision) => Ok(revision),
-            Err(fault) => Err(fault),
+    fn commit(&mut self, ask: CommitAsk, txn: R::Txn) -> Result<Committed, ChangeFault> {
+        match handed_in(&ask) {
+            Ok(handed) => commit_and_release(&mut self.repository, ask, txn, handed),
+            Err(AllocError) => {
+                std::mem::drop((ask, txn));
+                Err(ChangeFault::NoMemory)
+            }
         }
     }
 
@@ -70,21 +73,6 @@ impl<R: Repository> RepoAccess for SoleRepository<R> {
         match self.repository.unlock(ask) {
             Ok(()) => Ok(()),
             Err(reason) => Err(reason),
-        }
-    }
-
-    fn release(
-        &mut self,
-        user: Option<&ByteString>,
-        tokens: &LockTokens,
-    ) -> Result<bool, ChangeFault> {
-        if self.repository.releases(user, tokens) {
-            match self.repository.release(user, tokens) {
-                Ok(()) => Ok(true),
-                Err(reason) => Err(reason),
-            }
-        } else {
-            Ok(false)
         }
     }
 }

@@ -2,11 +2,18 @@
 use Rattle.std.specs.Prelude.{ℕ, Bool, true, List, Option, Some, None, option_map, ok_or, Result, Ok, Err, codes, if◌then◌else◌}
 use Rattle.std.specs.Option.{option_map_or}
 use Rattle.items.specs.Values.{ItemValue, ItemValues, none, more}
-use Rattle.forms.specs.Forms.{◌>>=◌, is_name, command_form, number_first, string_first, list_first, item_first, items_in, optional_number, boolean, pairs}
+use Rattle.forms.specs.Forms.{◌>>=◌, is_name, command_form, number_first, string_first, list_first, item_first, items_in, optional_number, optional_string, boolean, pairs}
 use Rattle.commands.specs.declared.command.MainCommand.{MainCommand}
-use Rattle.commands.specs.declared.command.MainCommand.TheVariants.{GetLatestRev, CheckPath, RevProplist, Commit, AbortEdit}
+use Rattle.commands.specs.declared.command.MainCommand.TheVariants.{GetLatestRev, CheckPath, RevProplist, Commit, AbortEdit, Lock, Unlock, GetLock, GetLocks}
 use Rattle.forms.specs.declared.fault.CommandFault.{CommandFault}
 use Rattle.forms.specs.declared.fault.CommandFault.TheVariants.{UnknownName, BadParameters}
+
+-- the word `true` or `false` in front, and what stands behind it
+abbrev pub flag_first : ItemValues → Option (Bool × ItemValues)
+flag_first items = do
+  (item, rest) ← item_first items
+  value ← boolean item
+  Some (value, rest)
 
 -- `( path [ rev ] )`
 abbrev pub check_path : ItemValues → Option MainCommand
@@ -28,8 +35,7 @@ abbrev pub locks_first : ItemValues → Option (ItemValues × Bool × ItemValues
 locks_first none = Some (none, true, none)
 locks_first (more tokens rest) = do
   tokens ← items_in tokens
-  (keep_locks, rest) ← item_first rest
-  keep_locks ← boolean keep_locks
+  (keep_locks, rest) ← flag_first rest
   Some (tokens, keep_locks, rest)
 
 -- `? ( ( name value ) ... )`: nothing, or revision properties
@@ -53,6 +59,38 @@ commit params = do
     properties = properties;
   }))
 
+-- `( path [ comment ] steal [ current-rev ] )`
+abbrev pub lock : ItemValues → Option MainCommand
+lock params = do
+  (path, rest) ← string_first params
+  (comment, rest) ← list_first rest
+  comment ← optional_string comment
+  (steals, rest) ← flag_first rest
+  (current, _) ← list_first rest
+  current ← optional_number current
+  Some (Lock (record { path = path; comment = comment; steals = steals; current = current }))
+
+-- `( path [ token ] break )`
+abbrev pub unlock : ItemValues → Option MainCommand
+unlock params = do
+  (path, rest) ← string_first params
+  (token, rest) ← list_first rest
+  token ← optional_string token
+  (breaks, _) ← flag_first rest
+  Some (Unlock (record { path = path; token = token; breaks = breaks }))
+
+-- `( path )`
+abbrev pub get_lock : ItemValues → Option MainCommand
+get_lock params = do
+  (path, _) ← string_first params
+  Some (GetLock path)
+
+-- `( path )`
+abbrev pub get_locks : ItemValues → Option MainCommand
+get_locks params = do
+  (path, _) ← string_first params
+  Some (GetLocks path)
+
 -- the command of a name and its parameters
 abbrev pub command_named : List ℕ → ItemValues → Result MainCommand CommandFault
 command_named name params =
@@ -61,6 +99,10 @@ command_named name params =
     else if is_name name (codes "rev-proplist") then ok_or (rev_proplist params) BadParameters
     else if is_name name (codes "commit") then ok_or (commit params) BadParameters
     else if is_name name (codes "abort-edit") then Ok AbortEdit
+    else if is_name name (codes "lock") then ok_or (lock params) BadParameters
+    else if is_name name (codes "unlock") then ok_or (unlock params) BadParameters
+    else if is_name name (codes "get-lock") then ok_or (get_lock params) BadParameters
+    else if is_name name (codes "get-locks") then ok_or (get_locks params) BadParameters
     else Err UnknownName
 
 -- the command that an item is, or why it is none

@@ -2,13 +2,13 @@
 ghost use Rattle.items.specs.View.{value_of, values_of};
 ghost use Rattle.std.specs.Prelude.{◌≡◌, option_map};
 ghost use Rattle.forms.specs.Answering.{Answers, Reads};
-ghost use Rattle.commands.specs.Commands.{main_command, command_named, check_path, rev_proplist, locks_first, properties_at_end, commit};
+ghost use Rattle.commands.specs.Commands.{main_command, command_named, check_path, rev_proplist, locks_first, properties_at_end, commit, flag_first, lock, unlock, get_lock, get_locks};
 
 use byte_string::ByteString;
 use forms::CommandFault::{self, BadParameters};
 use forms::{
-    Pairs, read_boolean, read_form, read_items, read_list, read_number, read_optional_number,
-    read_pairs, read_string,
+    Pairs, copy_optional, read_boolean, read_form, read_items, read_list, read_number,
+    read_optional_number, read_optional_string, read_pairs, read_string,
 };
 use items::Item;
 use std::alloc::Global;
@@ -26,6 +26,28 @@ pub struct CommitCommand {
     pub properties: Option<Pairs>,
 }
 
+/// What a `lock` asks for.
+#[derive(Drop)]
+pub struct LockCommand {
+    pub path: ByteString,
+    /// What the owner says of the lock, if anything.
+    pub comment: Option<ByteString>,
+    /// Whether it takes the place of a lock that stands there.
+    pub steals: bool,
+    /// The revision at which the client has seen the file, if it says so.
+    pub current: Option<u64>,
+}
+
+/// What an `unlock` asks for.
+#[derive(Drop)]
+pub struct UnlockCommand {
+    pub path: ByteString,
+    /// The lock's token, if the client has it.
+    pub token: Option<ByteString>,
+    /// Whether the lock is taken away whose ever it is.
+    pub breaks: bool,
+}
+
 /// A command outside an edit or a report, with its parameters.
 #[derive(Drop)]
 pub enum MainCommand {
@@ -40,6 +62,14 @@ pub enum MainCommand {
     Commit(CommitCommand),
     /// What a client sends after a commit that failed: `( abort-edit ( ) )`.
     AbortEdit,
+    /// Locks a file: `( lock ( path [ comment ] steal [ current-rev ] ) )`.
+    Lock(LockCommand),
+    /// Takes a lock away: `( unlock ( path [ token ] break ) )`.
+    Unlock(UnlockCommand),
+    /// The lock at a path, if there is one: `( get-lock ( path ) )`.
+    GetLock(ByteString),
+    /// The locks at a path and under it: `( get-locks ( path ) )`.
+    GetLocks(ByteString),
 }
 
 impl MainCommand {
@@ -67,6 +97,14 @@ fn read_named(alloc: Global, name: &[u8], params: &[Item]) -> Result<MainCommand
         read_commit(alloc, params)
     } else if name == b"abort-edit".as_slice() {
         Ok(MainCommand::AbortEdit)
+    } else if name == b"lock".as_slice() {
+        read_lock(params)
+    } else if name == b"unlock".as_slice() {
+        read_unlock(params)
+    } else if name == b"get-lock".as_slice() {
+        read_get_lock(params)
+    } else if name == b"get-locks".as_slice() {
+        read_get_locks(params)
     } else {
         Err(CommandFault::UnknownName)
     }
@@ -113,8 +151,8 @@ fn read_locks(items: &[Item]) -> Option<(&[Item], bool, &[Item])>
     let Some((tokens, rest)) = items.split_first() else {
         return Some((items, true, items));
     };
-    let (keep_locks, rest) = rest.split_first()?;
-    Some((read_items(tokens)?, read_boolean(keep_locks)?, rest))
+    let (keep_locks, rest) = read_flag(rest)?;
+    Some((read_items(tokens)?, keep_locks, rest))
 }
 
 /// `? ( ( name value ) ... )`
@@ -126,4 +164,62 @@ fn read_properties(alloc: Global, items: &[Item]) -> Result<Option<Pairs>, Comma
         [Item::List(properties), ..] => Ok(Some(read_pairs(alloc, properties.as_slice())?)),
         _ => Err(BadParameters),
     }
+}
+
+/// `( path [ comment ] steal [ current-rev ] )`
+fn read_lock(params: &[Item]) -> Result<MainCommand, CommandFault>
+    ensures { Reads result (lock (values_of params.now)) }
+{
+    let (path, rest) = read_string(params).ok_or(BadParameters)?;
+    let (comment, rest) = read_list(rest).ok_or(BadParameters)?;
+    let comment = read_optional_string(comment).ok_or(BadParameters)?;
+    let (steals, rest) = read_flag(rest).ok_or(BadParameters)?;
+    let (current, _) = read_list(rest).ok_or(BadParameters)?;
+    let current = read_optional_number(current).ok_or(BadParameters)?;
+    Ok(MainCommand::Lock(LockCommand {
+        path: path.clone()?,
+        comment: copy_optional(comment)?,
+        steals,
+        current,
+    }))
+}
+
+/// `( path [ token ] break )`
+fn read_unlock(params: &[Item]) -> Result<MainCommand, CommandFault>
+    ensures { Reads result (unlock (values_of params.now)) }
+{
+    let (path, rest) = read_string(params).ok_or(BadParameters)?;
+    let (token, rest) = read_list(rest).ok_or(BadParameters)?;
+    let token = read_optional_string(token).ok_or(BadParameters)?;
+    let (breaks, _) = read_flag(rest).ok_or(BadParameters)?;
+    Ok(MainCommand::Unlock(UnlockCommand {
+        path: path.clone()?,
+        token: copy_optional(token)?,
+        breaks,
+    }))
+}
+
+/// `( path )`
+fn read_get_lock(params: &[Item]) -> Result<MainCommand, CommandFault>
+    ensures { Reads result (get_lock (values_of params.now)) }
+{
+    let (path, _) = read_string(params).ok_or(BadParameters)?;
+    Ok(MainCommand::GetLock(path.clone()?))
+}
+
+/// `( path )`
+fn read_get_locks(params: &[Item]) -> Result<MainCommand, CommandFault>
+    ensures { Reads result (get_locks (values_of params.now)) }
+{
+    let (path, _) = read_string(params).ok_or(BadParameters)?;
+    Ok(MainCommand::GetLocks(path.clone()?))
+}
+
+/// The word `true` or `false` in front, and what stands behind it.
+fn read_flag(items: &[Item]) -> Option<(bool, &[Item])>
+    ensures { option_map (λ p. (p.0, values_of p.1.now)) result
+        ≡ flag_first (values_of items.now) }
+{
+    let (item, rest) = items.split_first()?;
+    Some((read_boolean(item)?, rest))
 }

@@ -4,5 +4,5 @@
 mod command;
 mod login;
 
-pub use command::{CommitCommand, MainCommand};
+pub use command::{CommitCommand, LockCommand, MainCommand, UnlockCommand};
 pub use login::{AuthResponse, ClientGreeting, challenge_answer};

@@ -1,12 +1,13 @@
--- The steps of an edit, and what becomes of their answers.
-use Rattle.std.proofs.Common.{◌≡◌, ℕ, List, [], ◌∷◌, Bool, true, false, Option, Some, None, refl, sym, subst, ◌∙◌, inl, inr}
-use Rattle.std.specs.Prelude.{Result, Ok, Err, IfOk, OnErr}
+-- The steps of an edit.
+use Rattle.std.proofs.Common.{◌≡◌, ℕ, List, [], ◌∷◌, Bool, true, false, Option, Some, None, refl, sym, ap, subst, ◌∙◌, inl, inr, length}
+use Rattle.std.specs.Prelude.{Result, Ok, Err, if◌then◌else◌}
 use Rattle.dates.specs.Dates.{IsDateText}
 use Rattle.refusals.specs.declared.Refusal.{Refusal}
 use Rattle.refusals.specs.declared.Refusal.TheVariants as refusals
-use Rattle.repo_api.specs.States.{TxnState}
-use Rattle.repo_api.specs.Commits.{commit_refusal}
-use Rattle.repo_api.specs.Accepted.Accepted.{Commits}
+use Rattle.repo_api.specs.States.{RepoState, TxnState}
+use Rattle.repo_api.specs.Commits.{commit_refusal, committed as with_commit}
+use Rattle.repo_api.specs.Accepted.{Accepted, changed}
+use Rattle.repo_api.specs.Accepted.Accepted.{Commits, Releases}
 use Rattle.repo_api.specs.declared.ask.CommitAsk.{CommitAsk}
 use Rattle.repo_api.specs.declared.fault.ChangeFault.TheVariants as change_faults
 use Rattle.edit_commands.specs.declared.editing.EditorCommand.{EditorCommand}
@@ -17,60 +18,19 @@ use Rattle.edit_rules.specs.Refusing.{edit_refusal}
 use Rattle.edit_rules.specs.Editor.{Applies, finished}
 use Rattle.access.specs.Points.{Point, AccessRules, content_of}
 use Rattle.machine.specs.Stages.{Stage}
-use Rattle.replies.specs.Replies.{print}
-use Rattle.replies.specs.Sinks.{WritesPart}
-use Rattle.machine.specs.Answers.{Answer, says}
-use Rattle.machine.specs.Machine.{MachineEdit, JudgedEdit, EditStep, CommitStep, CloseStep, CommandStep, EditingStep, ending_of, commit_answer, commit_ask, gives_up}
+use Rattle.machine.specs.Answers.{Answer, says, change_answer}
+use Rattle.machine.specs.Machine.{MachineEdit, JudgedEdit, EditStep, CommitStep, CloseStep, CommandStep, EditingStep, ending_of, commit_ask, gives_up, Release, IsReleaseOf, release_fails, release_effect, phase_after, made_answer}
+use Rattle.machine.specs.Machine.Release.{Stays, Released, Lacks, Fails}
 use Rattle.machine.specs.Answers.Verdict.{Written, NotWritten, Unknown}
-use Rattle.access.specs.Changing.{CommitsAt}
-use Rattle.machine.specs.Steps.{EffectAt, StepAt, StepWritten, StepOrNothing, AnswerWritten}
+use Rattle.access.specs.Changing.{CommitsAt, wants_release}
+use Rattle.machine.specs.Steps.{EffectAt}
+use Rattle.telling.proofs.Steps.{Leads, only_says}
 use Rattle.machine.specs.declared.asked.Asked.{Asked}
 use Rattle.machine.specs.declared.env.Env.{Env}
 use Rattle.machine.specs.declared.ending.Ending.{Ending}
 use Rattle.machine.specs.declared.ending.Ending.TheVariants.{GivesUp}
 use Rattle.machine.specs.declared.phase.Phase.TheVariants.{Serving, Editing, Skipping, Ended}
 use Rattle.machine.specs.declared.phase.Client.{Client}
-
--- ---- a step and its answer
-
--- a step leads from a point to another, where the session stands there, and is to tell this
-pub record Leads (rules : AccessRules) (step : Point → Answer → Type 0) (p q : Point) (env : Env) (phase : Stage) (told : List Reply) : Type 0 where
-  pub answer : Answer
-  pub happens : StepAt rules step p answer q
-  pub phase_is : phase ≡ answer.phase
-  pub env_is : env ≡ answer.env
-  pub told_is : told ≡ answer.replies
-
-module _ {rules : AccessRules} {step : Point → Answer → Type 0} {p q : Point} {env : Env} {phase : Stage} {told : List Reply} where
-  -- a step that changes nothing, at the point that was looked at
-  pub only_says : rules.between p q → step q (says env phase told) → Leads rules step p q env phase told
-  only_says later step_is = record {
-    answer = says env phase told;
-    happens = record { at = q; later = later; step_is = step_is; moves = (q, refl, refl) };
-    phase_is = refl;
-    env_is = refl;
-    told_is = refl;
-  }
-
-  module _ (leads : Leads rules step p q env phase told) (writes : List ℕ → Type 0) where
-    pub told_all : (phase' : Stage) (env' : Env) → AnswerWritten (says env phase told) phase' env' writes → StepWritten rules step p q phase' env' writes
-    told_all phase' env' written = record {
-      answer = leads.answer;
-      happens = leads.happens;
-      phase_after = written.phase_after ∙ leads.phase_is;
-      env_after = written.env_after ∙ leads.env_is;
-      written = subst (λ (rs : List Reply). writes (print rs)) leads.told_is written.written;
-    }
-
-    told_part : WritesPart writes (print told) → StepOrNothing rules step p q writes
-    told_part part = inr (leads.answer, leads.happens, subst (λ (rs : List Reply). WritesPart writes (print rs)) leads.told_is part)
-
-    -- the step has happened as far as its answer was written
-    pub stepped : {E : Type 0} (r : Result Stage E) (env' : Env)
-        → record { ok : IfOk r (λ phase'. AnswerWritten (says env phase told) phase' env' writes); err : OnErr r (WritesPart writes (print told)) }
-        → record { ok : IfOk r (λ phase'. StepWritten rules step p q phase' env' writes); err : OnErr r (StepOrNothing rules step p q writes) }
-    stepped (Ok phase') env' said = record { ok = told_all phase' env' said.ok; err = tt }
-    stepped (Err e) env' said = record { ok = tt; err = told_part said.err }
 
 -- ---- the steps of an edit
 
@@ -121,26 +81,61 @@ module _ {env : Env} {client : Client} {asked : Asked} {date : List ℕ} {ask : 
 
   -- it is dated, and judged as what is asked to be recorded
   closes : (at : Point) (h : Bool) (r : Option Refusal) (a : Answer) → at.halted ≡ h → commit_refusal (content_of at) ask t ≡ r
-      → CommitStep h env (content_of at) client asked t date r a → CloseStep at.halted env (content_of at) client asked (Ok t) a
+      → CommitStep h env (content_of at) client ask t r a → CloseStep at.halted env (content_of at) client asked (Ok t) a
   closes at h r a halts judged step =
       let c = content_of at in
-      let now = subst (λ (x : CommitAsk). commit_refusal c x t ≡ r) is.same judged in
-      let here = subst (λ (o : Option Refusal). CommitStep h env c client asked t date o a) (sym now) step in
-      (date, is.dated, subst (λ (b : Bool). CommitStep b env c client asked t date (commit_refusal c (commit_ask client asked date) t) a) (sym halts) here)
+      let here = subst (λ (o : Option Refusal). CommitStep h env c client ask t o a) (sym judged) step in
+      let now = subst (λ (b : Bool). CommitStep b env c client ask t (commit_refusal c ask t) a) (sym halts) here in
+      (date, is.dated, subst (λ (x : CommitAsk). CommitStep at.halted env c client x t (commit_refusal c x t) a) is.same now)
 
-  -- one that is written
-  pub committed : (n : ℕ) (author : Option (List ℕ)) → author ≡ client.user → ((at : Point) × rules.between p at × CommitsAt rules ask t at (Ok n) q)
-      → CommitLeads (Serving client) (replies.Success ∷ replies.NoLogin ∷ replies.CommitInfo n date author ∷ [])
-  committed n author author_is (at, later, (going, accepted, number, added)) =
-      let a = commit_answer env (content_of at) client asked t date Written in
-      let adds = subst (λ (x : CommitAsk). rules.adds at (Commits x t) q) is.same added in
+  -- one that is written: what then became of the locks
+  releases_so : (at mid : Point) (release : Release) (n : ℕ) (author : Option (List ℕ)) (phase : Stage) → at.halted ≡ false → rules.between p at
+      → commit_refusal (content_of at) ask t ≡ None → n ≡ length (content_of at).revisions → author ≡ client.user
+      → content_of mid ≡ with_commit (content_of at) ask t → IsReleaseOf (wants_release ask (content_of mid)) release
+      → EffectAt rules at (made_answer env (content_of at) client ask t release).effect q → phase ≡ phase_after client (release_effect ask release).store
+      → CommitLeads phase (replies.Success ∷ replies.NoLogin ∷ replies.CommitInfo n date author (release_fails release) ∷ [])
+  releases_so at mid release n author phase going later accepted number author_is after_it wanted moves phase_is =
+      let a = made_answer env (content_of at) client ask t release in
+      let wanted_there = subst (λ (x : RepoState). IsReleaseOf (wants_release ask x) release) after_it wanted in
+      let dated : ask.date ≡ date = ap (λ (x : CommitAsk). x.date) is.same in
       record {
         answer = a;
-        happens = record { at = at; later = later; step_is = closes at false None a going accepted (Written, refl); moves = (q, (q, adds, refl), refl) };
-        phase_is = refl;
+        happens = record { at = at; later = later; step_is = closes at false None a going accepted (Written, (release, wanted_there, refl)); moves = moves };
+        phase_is = phase_is;
         env_is = refl;
-        told_is = cc (number, author_is);
+        told_is = cc (number, author_is, dated);
       }
+
+  -- where the session stands then
+  stands : (over : Bool) (b : Bool) (q' : Point) → over ≡ q'.halted → q'.halted ≡ b → ◌≡◌ {A = Stage} (if over then Ended else Serving client) (if b then Ended else Serving client)
+  stands over b q' is_over halts = ap {B = Stage} (λ (x : Bool). if x then Ended else Serving client) (is_over ∙ halts)
+
+  module _ (counts : (x : Point) (e : Accepted) (y : Point) → rules.adds x e y
+      → (content_of y ≡ changed (content_of x) e) × (y.halted ≡ x.halted) × (y.failures ≡ x.failures)) where
+    pub committed : (n : ℕ) (fails over : Bool) (author : Option (List ℕ)) → over ≡ q.halted → author ≡ client.user
+        → ((at : Point) × rules.between p at × CommitsAt rules ask t at (Ok (record { revision = n; release_fails = fails })) q)
+        → CommitLeads (if over then Ended else Serving client) (replies.Success ∷ replies.NoLogin ∷ replies.CommitInfo n date author fails ∷ [])
+    committed n false over author is_over author_is (at, later, (going, accepted, (number, (mid, added, inl (wants, freed))))) =
+        let first = counts at (Commits ask t) mid added in
+        let second = counts mid (Releases ask.author ask.tokens) q freed in
+        releases_so at mid Released n author _ going later accepted number author_is first.0 (subst (λ (b : Bool). IsReleaseOf b Released) (sym wants) tt)
+        (q, (mid, added, (q, freed, refl)), refl) (stands over false q is_over (second.1 ∙ first.1 ∙ going))
+    committed n false over author is_over author_is (at, later, (going, accepted, (number, (mid, added, inr (stay, same))))) =
+        let first = counts at (Commits ask t) mid added in
+        releases_so at mid Stays n author _ going later accepted number author_is first.0 (subst (λ (b : Bool). IsReleaseOf b Stays) (sym stay) tt)
+        (mid, (mid, added, refl), same) (stands over false q is_over (ap (λ (x : Point). x.halted) same ∙ first.1 ∙ going))
+    committed n true over author is_over author_is (at, later, (going, accepted, (number, (mid, added, (wants, inl same))))) =
+        let first = counts at (Commits ask t) mid added in
+        releases_so at mid Lacks n author _ going later accepted number author_is first.0 (subst (λ (b : Bool). IsReleaseOf b Lacks) (sym wants) tt)
+        (mid, (mid, added, refl), same) (stands over false q is_over (ap (λ (x : Point). x.halted) same ∙ first.1 ∙ going))
+    committed n true over author is_over author_is (at, later, (going, accepted, (number, (mid, added, (wants, inr (inl failure)))))) =
+        let first = counts at (Commits ask t) mid added in
+        releases_so at mid (Fails NotWritten) n author _ going later accepted number author_is first.0 (subst (λ (b : Bool). IsReleaseOf b (Fails NotWritten)) (sym wants) tt)
+        (mid, (mid, added, refl), failure) (stands over false q is_over (failure.halted ∙ first.1 ∙ going))
+    committed n true over author is_over author_is (at, later, (going, accepted, (number, (mid, added, (wants, inr (inr halt)))))) =
+        let first = counts at (Commits ask t) mid added in
+        releases_so at mid (Fails Unknown) n author _ going later accepted number author_is first.0 (subst (λ (b : Bool). IsReleaseOf b (Fails Unknown)) (sym wants) tt)
+        (mid, (mid, added, refl), halt) (stands over true q is_over halt.halted)
 
   -- one that is refused, or not written
   led : (at : Point) (a : Answer) → env ≡ a.env → rules.between p at → CloseStep at.halted env (content_of at) client asked (Ok t) a
@@ -161,7 +156,7 @@ module _ {env : Env} {client : Client} {asked : Asked} {date : List ℕ} {ask : 
   pub failed : ((at : Point) × rules.between p at × CommitsAt rules ask t at (Err change_faults.StoreFailed) q)
       → CommitLeads (Serving client) (replies.Failure refusals.StoreFailed ∷ [])
   failed (at, later, (going, accepted, fails)) =
-      let a = commit_answer env (content_of at) client asked t date NotWritten in
+      let a = change_answer env client (Commits ask t) [] NotWritten in
       led at a refl later (closes at false None a going accepted (NotWritten, refl)) (at, refl, fails)
 
   -- one after a halt, or one of which nobody knows whether it is written
@@ -171,10 +166,5 @@ module _ {env : Env} {client : Client} {asked : Asked} {date : List ℕ} {ask : 
       let a = says env Ended (replies.Failure refusals.StoreFailed ∷ []) in
       led at a refl later (closes at true (commit_refusal (content_of at) ask t) a stopped refl refl) (at, refl, stays)
   halted (at, later, inr (going, accepted, halts)) =
-      let a = commit_answer env (content_of at) client asked t date Unknown in
+      let a = change_answer env client (Commits ask t) [] Unknown in
       led at a refl later (closes at false None a going accepted (Unknown, refl)) (at, refl, halts)
-
--- memory was refused: the commit is not made
-pub not_asked : {rules : AccessRules} {step : Point → Answer → Type 0} {writes : List ℕ → Type 0} {p q : Point}
-    → ((at : Point) × rules.between p at × (q ≡ at)) → writes [] → StepOrNothing rules step p q writes
-not_asked {rules = rules} {p = p} (at, later, stays) unwritten = inl (subst (λ (x : Point). rules.between p x) (sym stays) later, unwritten)

@@ -1,5 +1,5 @@
 //! A commit: its beginning, its commands and its end.
-ghost use Rattle.std.specs.Prelude.{◌≡◌, ◌≤◌, ◌∷◌, [], Ok, Err, Some, None, IfOk, OnOk, OnErr, IfErr};
+ghost use Rattle.std.specs.Prelude.{◌≡◌, ◌≤◌, ◌∷◌, [], Ok, Err, Some, None, IfOk, OnOk, OnErr, IfErr, if◌then◌else◌};
 ghost use Rattle.items.specs.View.{value_of};
 ghost use Rattle.dates.specs.Dates.{IsDateText};
 ghost use Rattle.dates.specs.declared.TheConstants.{LAST_MOMENT};
@@ -18,13 +18,10 @@ ghost use Rattle.machine.specs.Machine.{commit_ask, skipping_answer, CloseStep, 
 ghost use Rattle.machine.specs.Steps.{AnswerWritten, StepWritten, StepOrNothing};
 
 use crate::asking::asked_by;
-use crate::turn::{
-    SessionEdit, SessionPhase, end_malformed, give_up, refuse, say_both, tell_refusal,
-};
-use access::RepoAccess;
+use crate::giving_up::give_up;
+use access::{Committed, RepoAccess};
 use byte_string::ByteString;
 use commands::CommitCommand;
-use dates::date_text;
 use edit_commands::{EditorCommand, ends_edit};
 use edit_rules::EditFault;
 use editor::CommitEditor;
@@ -37,6 +34,9 @@ use repo_api::{ChangeFault, CommitAsk, Repository};
 use std::alloc::{AllocError, Global};
 use std::mem::drop;
 use svnpath::Path;
+use telling::{
+    Preface, SessionEdit, SessionPhase, date_of, end_halted, end_malformed, refuse, say_both,
+};
 
 /// Tells a client that its edit may begin.
 fn tell_begun<S: ReplySink>(out: &mut S) -> Result<(), AllocError>
@@ -110,7 +110,7 @@ pub fn begin_edit<R: Repository, S: ReplySink>(
                 Err(error)
             }
         },
-        Err(EditFault::Refused(refusal)) => refuse(client, refusal, turn),
+        Err(EditFault::Refused(refusal)) => refuse(client, Preface::Nothing, refusal, turn),
         Err(EditFault::NoMemory) => {
             drop(client);
             Err(AllocError)
@@ -165,25 +165,6 @@ fn edit<R: Repository, A: RepoAccess<View = R>, S: ReplySink>(
     }
 }
 
-/// The date of a moment.
-fn date_of(alloc: Global, moment: u64) -> Result<ByteString, AllocError>
-    requires { moment ≤ LAST_MOMENT }
-    ensures { IfOk result (λ date. IsDateText moment date) }
-{
-    let date = date_text(alloc, moment)?;
-    ByteString::from_slice(alloc, date.as_bytes())
-}
-
-/// A copy of a client's user.
-fn user_of(user: &Option<ByteString>) -> Result<Option<ByteString>, AllocError>
-    ensures { IfOk result (λ copy. copy ≡ user.now) }
-{
-    match user {
-        None => Ok(None),
-        Some(user) => Ok(Some(user.clone()?)),
-    }
-}
-
 /// What a commit is asked to record.
 fn commit_ask(
     alloc: Global,
@@ -201,7 +182,7 @@ fn commit_ask(
     } = asked;
     Ok(CommitAsk {
         date: date.clone()?,
-        author: user_of(&client.user)?,
+        author: client.user.clone()?,
         message,
         properties,
         tokens,
@@ -223,7 +204,7 @@ fn told_of(alloc: Global, moment: u64, user: &Option<ByteString>) -> Result<Told
     ensures author { IfOk result (λ told. told.author ≡ user.now) }
 {
     let date = date_of(alloc, moment)?;
-    let author = user_of(user)?;
+    let author = user.clone()?;
     Ok(Told { date, author })
 }
 
@@ -240,60 +221,60 @@ fn say_made<S: ReplySink>(info: &Reply, out: &mut S) -> Result<(), AllocError>
 
 /// Tells of a commit.
 fn report<S: ReplySink>(
-    revision: u64,
+    made: Committed,
     date: ByteString,
     author: Option<ByteString>,
     out: &mut S,
 ) -> Result<(), AllocError>
-    ensures ok { OnOk result (S.writes out.old out.new
-        (print (Reply.Success ∷ Reply.NoLogin ∷ Reply.CommitInfo revision date author ∷ []))) }
+    ensures ok { OnOk result (S.writes out.old out.new (print (Reply.Success ∷ Reply.NoLogin
+        ∷ Reply.CommitInfo made.revision date author made.release_fails ∷ []))) }
     ensures err { OnErr result (WritesPart (S.writes out.old out.new)
-        (print (Reply.Success ∷ Reply.NoLogin ∷ Reply.CommitInfo revision date author ∷ []))) }
+        (print (Reply.Success ∷ Reply.NoLogin
+        ∷ Reply.CommitInfo made.revision date author made.release_fails ∷ []))) }
 {
-    let info = Reply::CommitInfo(revision, date, author);
+    let info = Reply::CommitInfo(made.revision, date, author, made.release_fails);
     let said = say_made(&info, out);
     drop(info);
     said
 }
 
-/// Tells of a commit. Commands are awaited again.
+/// Where a session stands after a commit: at its end, where changes have come to a halt.
+fn phase_after<R: Repository>(client: Client, is_over: bool) -> SessionPhase<R>
+    ensures { result ≡ (if is_over then Phase.Ended else Phase.Serving client) }
+{
+    if is_over {
+        drop(client);
+        Phase::Ended
+    } else {
+        Phase::Serving(client)
+    }
+}
+
+/// Tells of a commit. Commands are awaited again, unless changes have come to a halt.
 fn tell_commit<R: Repository, S: ReplySink>(
     client: Client,
-    revision: u64,
+    made: Committed,
+    is_over: bool,
     told: Told,
     turn: &mut Turn<S>,
 ) -> Result<SessionPhase<R>, AllocError>
-    ensures ok { IfOk result (λ phase. AnswerWritten (says turn.old.env (Phase.Serving client)
-        (Reply.Success ∷ Reply.NoLogin ∷ Reply.CommitInfo revision told.date told.author ∷ []))
+    ensures ok { IfOk result (λ phase. AnswerWritten
+        (says turn.old.env (if is_over then Phase.Ended else Phase.Serving client)
+        (Reply.Success ∷ Reply.NoLogin
+        ∷ Reply.CommitInfo made.revision told.date told.author made.release_fails ∷ []))
         phase turn.new.env (S.writes turn.old.out turn.new.out)) }
     ensures err { OnErr result (WritesPart (S.writes turn.old.out turn.new.out)
         (print (Reply.Success ∷ Reply.NoLogin
-        ∷ Reply.CommitInfo revision told.date told.author ∷ []))) }
+        ∷ Reply.CommitInfo made.revision told.date told.author made.release_fails ∷ []))) }
 {
     let Told { date, author } = told;
-    match report(revision, date, author, &mut turn.out) {
-        Ok(()) => Ok(Phase::Serving(client)),
+    match report(made, date, author, &mut turn.out) {
+        Ok(()) => Ok(phase_after(client, is_over)),
         Err(error) => {
             drop(client);
             Err(error)
         }
     }
-}
-
-/// Ends the session, since no change is made any more.
-fn end_halted<R: Repository, S: ReplySink>(
-    unserved: Client,
-    turn: &mut Turn<S>,
-) -> Result<SessionPhase<R>, AllocError>
-    ensures ok { IfOk result (λ phase. AnswerWritten
-        (says turn.old.env Phase.Ended (Reply.Failure Refusal.StoreFailed ∷ []))
-        phase turn.new.env (S.writes turn.old.out turn.new.out)) }
-    ensures err { OnErr result (WritesPart (S.writes turn.old.out turn.new.out)
-        (print (Reply.Failure Refusal.StoreFailed ∷ []))) }
-{
-    drop(unserved);
-    tell_refusal(Refusal::StoreFailed, &mut turn.out)?;
-    Ok(Phase::Ended)
 }
 
 /// Commits a transaction.
@@ -319,18 +300,21 @@ fn commit<R: Repository, A: RepoAccess<View = R>, S: ReplySink>(
     match told_of(turn.alloc, turn.env.moment, &client.user) {
         Ok(told) => match commit_ask(turn.alloc, &client, asked, &told.date) {
             Ok(ask) => match access.commit(ask, txn) {
-                Ok(revision) => tell_commit(client, revision, told, turn),
+                Ok(made) => {
+                    let is_over = access.is_halted();
+                    tell_commit(client, made, is_over, told, turn)
+                }
                 Err(ChangeFault::Refused(refusal)) => {
                     drop(told);
-                    refuse(client, refusal, turn)
+                    refuse(client, Preface::Nothing, refusal, turn)
                 }
                 Err(ChangeFault::StoreFailed) => {
                     drop(told);
-                    refuse(client, Refusal::StoreFailed, turn)
+                    refuse(client, Preface::Nothing, Refusal::StoreFailed, turn)
                 }
                 Err(ChangeFault::Halted) => {
                     drop(told);
-                    end_halted(client, turn)
+                    end_halted(client, Preface::Nothing, turn)
                 }
                 Err(ChangeFault::NoMemory) => {
                     drop(told);
@@ -380,7 +364,7 @@ fn close<R: Repository, A: RepoAccess<View = R>, S: ReplySink>(
         Ok(txn) => commit(client, asked, txn, access, turn),
         Err(refusal) => {
             drop(asked);
-            refuse(client, refusal, turn)
+            refuse(client, Preface::Nothing, refusal, turn)
         }
     }
 }

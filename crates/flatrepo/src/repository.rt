@@ -9,7 +9,7 @@ ghost use Rattle.repo_api.specs.declared.limits.TheConstants.{REVISION_LIMIT};
 ghost use Rattle.repo_api.specs.Commits.{commit_refusal, committed, revision_properties};
 ghost use Rattle.repo_api.specs.Accepted.{IfRefused, IsOfMemory};
 ghost use Rattle.repo_api.specs.Kinds.{kind_at, created_at};
-ghost use Rattle.repo_api.specs.Locking.{check_refusal, with_lock};
+ghost use Rattle.repo_api.specs.Locking.{check_refusal, current_refusal, with_lock};
 ghost use Rattle.repo_api.specs.Edits.{edited, copied, deleted};
 ghost use Rattle.repo_api.specs.Opening.{new_repository};
 ghost use Rattle.repo_api.specs.MergedMaps.{has_conflict, merged_map};
@@ -169,6 +169,10 @@ impl Repository for FlatRepo {
     }
 
     fn lock(&mut self, ask: LockAsk) -> Result<(), ChangeFault> {
+        if let Some(refusal) = current_refusal(&self.content, ask.current) {
+            std::mem::drop(ask);
+            return Err(ChangeFault::Refused(refusal));
+        }
         let (kind, created) = standing(&self.content, &ask.path);
         locking::lock(self.alloc, &mut self.locks, kind, created, ask)
     }
@@ -184,6 +188,16 @@ impl Repository for FlatRepo {
     ) -> Result<(), ChangeFault> {
         locking::release(self.alloc, &mut self.locks, user, tokens)?;
         Ok(())
+    }
+}
+
+/// A client cannot have seen a revision above the youngest.
+fn current_refusal(content: &FlatContent, current: Option<u64>) -> Option<Refusal>
+    ensures { result ≡ current_refusal (youngest (content_of content.now)) current }
+{
+    match current {
+        Some(current) if current > content.youngest() => Some(Refusal::NoSuchRevision),
+        _ => None,
     }
 }
 

@@ -15,7 +15,7 @@ use Rattle.hub.specs.declared.calls.Call.TheVariants.{Connect, Feed, Disconnect}
 use Rattle.hub.specs.declared.calls.Outcome.{Outcome}
 use Rattle.hub.specs.declared.calls.Outcome.TheVariants.{Connected, Wrote, Dropped, Failed}
 use Rattle.hub.proofs.Everywhere.{HasTrees-with_rest}
-use Rattle.hub.proofs.Staying.{KeepsRevisions, same_revisions, keeps_on, run_keeps, same_properties, properties_on, run_keeps_properties, OnlyCommits, no_commits, commits_on, run_commits, same_constants, constants_on, run_constants}
+use Rattle.hub.proofs.Staying.{OnlyAccepted, none_accepted, accepted_on, run_accepted, keeps_revisions, keeps_properties, same_constants, constants_on, run_constants}
 use Rattle.hub.proofs.Failing.{AreCounted, none_counted, counted_on, run_counted, StaysHalted, none_halted, halted_on, run_halted}
 
 abbrev with_sessions : HubState → List (ℕ × SessionState) → HubState
@@ -31,7 +31,7 @@ record Makes (old new : HubState) : Type 0 where
   told : List Reply
   run : HubRun (with_sessions old sessions) env events told new after
 
-some_words : Env
+pub some_words : Env
 some_words = record { moment = 0; token = 0; nonce = 0; dated = omega arith }
 
 makes_nothing : (old new : HubState) → new ≡ old → Makes old new
@@ -136,23 +136,19 @@ module _ (K : HubState → HubState → Type 0) (none : (h : HubState) → K h h
   through_calls old new [] (outcome ∷ outcomes) run = absurd run
   through_calls old new (call ∷ calls) [] run = absurd run
 
-module _ (K : RepoState → RepoState → Type 0) (none : (c : RepoState) → K c c) (both : (a b c : RepoState) → K a b → K b c → K a c)
-    (runs : (old new : HubState) (env after : Env) (events : List Event) (told : List Reply) → HubRun old env events told new after → K old.content new.content) where
-  contents_through : (old new : HubState) (calls : List Call) (outcomes : List Outcome) → CallRun old calls outcomes new → K old.content new.content
-  contents_through =
-      through_calls (λ old new. K old.content new.content) (λ h. none h.content) (λ a b c x y. both a.content b.content c.content x y) (λ old new sessions k. k) runs
+pub calls_accepted : (old new : HubState) (calls : List Call) (outcomes : List Outcome) → CallRun old calls outcomes new → OnlyAccepted old.content new.content
+calls_accepted =
+    through_calls (λ old new. OnlyAccepted old.content new.content) (λ h. none_accepted h.content)
+    (λ a b c x y. accepted_on a.content b.content c.content x y) (λ old new sessions k. k) run_accepted
 
 pub calls_keep_revisions : (old new : HubState) (calls : List Call) (outcomes : List Outcome) → CallRun old calls outcomes new → IsBeginning old.content.revisions new.content.revisions
-calls_keep_revisions = contents_through KeepsRevisions same_revisions keeps_on run_keeps
+calls_keep_revisions old new calls outcomes run = keeps_revisions old.content new.content (calls_accepted old new calls outcomes run)
 
 pub calls_keep_properties : (old new : HubState) (calls : List Call) (outcomes : List Outcome) → CallRun old calls outcomes new → KeepsProperties old.content new.content
-calls_keep_properties = contents_through KeepsProperties same_properties properties_on run_keeps_properties
-
-pub calls_commit : (old new : HubState) (calls : List Call) (outcomes : List Outcome) → CallRun old calls outcomes new → OnlyCommits old.content new.content
-calls_commit = contents_through OnlyCommits no_commits commits_on run_commits
+calls_keep_properties old new calls outcomes run = keeps_properties old.content new.content (calls_accepted old new calls outcomes run)
 
 pub calls_constants : (old new : HubState) (calls : List Call) (outcomes : List Outcome) → CallRun old calls outcomes new → KeepsConstants old new
-calls_constants = through_calls KeepsConstants same_constants constants_on (λ old new sessions k. record { settings = k.settings; uuid = k.uuid; locks = k.locks }) run_constants
+calls_constants = through_calls KeepsConstants same_constants constants_on (λ old new sessions k. record { settings = k.settings; uuid = k.uuid }) run_constants
 
 pub calls_counted : (old new : HubState) (calls : List Call) (outcomes : List Outcome) → CallRun old calls outcomes new → AreCounted old new
 calls_counted = through_calls AreCounted none_counted counted_on (λ old new sessions k. k) run_counted

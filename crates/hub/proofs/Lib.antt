@@ -8,4 +8,5 @@ pub mod Feeding
 pub mod Everywhere
 pub mod Trees
 pub mod Calling
+pub mod Respecting
 pub mod Sinks

@@ -1,14 +1,17 @@
 -- What each event does to the repository, and what it keeps.
-use Rattle.std.proofs.Common.{◌≡◌, ◌⊎◌, inl, inr, ℕ, zero, suc, ◌+◌, ◌≤◌, List, [], ◌∷◌, ◌++◌, length, Contains, Option, Some, None, false, refl, sym, ap, subst, ◌∙◌, append-nil, append_assoc, arith, length-append}
-use Rattle.refusals.specs.declared.Refusal.{Refusal}
+use Rattle.std.proofs.Common.{◌≡◌, ◌⊎◌, inl, inr, ℕ, ◌+◌, ◌≤◌, ◌&&◌, not, List, [], ◌∷◌, ◌++◌, length, Option, Some, None, Bool, true, false, refl, sym, ap, subst, ◌∙◌, append-nil, append_assoc, arith, length-append}
+use Rattle.std.specs.Prelude.{if◌then◌else◌}
+use Rattle.access.specs.Changing.{wants_release}
 use Rattle.repo_api.specs.Properties.{PropertyList}
 use Rattle.repo_api.specs.States.{RepoState, TxnState, Revision, IsBeginning}
 use Rattle.repo_api.specs.Commits.{committed, revision_properties}
-use Rattle.repo_api.specs.Accepted.{Accepted, AreAccepted, changed, changed_all}
+use Rattle.repo_api.specs.Locking.{releases}
+use Rattle.repo_api.specs.LockRuns.{HasSameRevisions}
+use Rattle.repo_api.specs.Accepted.{Accepted, IsAccepted, AreAccepted, changed, changed_all}
 use Rattle.repo_api.specs.Accepted.Accepted.{Commits, Locks, Unlocks, Releases}
 use Rattle.repo_api.specs.declared.ask.CommitAsk.{CommitAsk}
 use Rattle.replies.specs.declared.reply.Reply.{Reply}
-use Rattle.replies.specs.declared.reply.Reply.TheVariants.{Success, NoLogin, CommitInfo, Failure}
+use Rattle.replies.specs.declared.reply.Reply.TheVariants.{Success, NoLogin}
 use Rattle.machine.specs.Hearing.{Input}
 use Rattle.machine.specs.Stages.{SessionState}
 use Rattle.machine.specs.Answers.{Answer, content_after}
@@ -16,8 +19,9 @@ use Rattle.machine.specs.declared.env.Env.{Env}
 use Rattle.hub.specs.State.{HubState, session_of}
 use Rattle.hub.specs.Runs.{Event, InputHappens, HubStep, HubRun, with_rest, Feeds, Breaks}
 use Rattle.hub.specs.Runs.Event.{Connects, Hears, Drops}
-use Rattle.hub.specs.Laws.{TellsFailure, IsCommit, IsToldCommit, KeepsConstants, KeepsProperties}
-use Rattle.hub.proofs.Effects.{Does, does}
+use Rattle.hub.specs.Laws.IsToldChange.{Committed, Locked, Unlocked}
+use Rattle.hub.specs.Laws.{TellsFailure, EndsWith, commit_changes, IsToldChange, KeepsConstants, KeepsProperties}
+use Rattle.hub.proofs.Effects.{ArePlain, no_failure, Does, does}
 use Rattle.hub.proofs.Running.{through_run}
 
 pub begins : (c : List Revision) → IsBeginning c c
@@ -28,25 +32,56 @@ joins a b c x y = record { more = x.more ++ y.more; is = y.is ∙ ap (λ (z : Li
 
 -- ---- what an event does to the repository
 
--- a commit that the rules accept, and that is told
-pub record Committing (old : HubState) (told : List Reply) (new : HubState) : Type 0 where
+-- a change that the rules accept, and that is told
+pub record Changing (old : HubState) (told : List Reply) (new : HubState) : Type 0 where
   pub running : old.halted ≡ false
-  pub commit : IsCommit old.content new.content
-  pub replies : told ≡ Success ∷ NoLogin ∷ CommitInfo (length old.content.revisions) commit.ask.date commit.ask.author ∷ []
+  pub change : IsToldChange old.content told new.content
+  pub plain : ArePlain told
 
--- the repository is as it was, or has gone on by a commit
+-- the repository is as it was, or has gone on by such a change
 abbrev pub Next : HubState → List Reply → HubState → Type 0
-Next old told new = (new.content ≡ old.content) ⊎ Committing old told new
+Next old told new = (new.content ≡ old.content) ⊎ Changing old told new
 
-after_answer : (old : HubState) (a : Answer) (told : List Reply) (new : HubState)
-    → told ≡ a.replies → new.content ≡ content_after old.content a.effect → Does old.halted old.content a → Next old told new
-after_answer old a told new is_told is (inl quiet) = inl (is ∙ ap (λ (es : List Accepted). changed_all old.content es) quiet)
-after_answer old a told new is_told is (inr d) =
-    inr (record {
-      running = d.running;
-      commit = record { ask = d.ask; txn = d.txn; accepted = d.accepted; is = is ∙ ap (λ (es : List Accepted). changed_all old.content es) d.changes };
-      replies = is_told ∙ d.replies;
-    })
+-- what an answer does
+module _ (old : HubState) (a : Answer) (told : List Reply) (new : HubState)
+    (is_told : told ≡ a.replies) (is : new.content ≡ content_after old.content a.effect) where
+  made : (es : List Accepted) → a.effect.changes ≡ es → new.content ≡ changed_all old.content es
+  made es changes = is ∙ ap (λ (xs : List Accepted). changed_all old.content xs) changes
+
+  ends_so : (reply : Reply) → EndsWith a.replies reply → EndsWith told reply
+  ends_so reply ends = (ends.0, is_told ∙ ends.1)
+
+  plain_so : ArePlain a.replies → ArePlain told
+  plain_so plain = subst ArePlain (sym is_told) plain
+
+  after_answer : Does old.halted old.content a → Next old told new
+  after_answer (inl (inl quiet)) = inl (made [] quiet)
+  after_answer (inl (inr (inl (ask, by)))) =
+      inr (record {
+        running = by.running;
+        change = Locked (record { ask = ask; accepted = by.accepted; is = made (Locks ask ∷ []) by.changes; lock = ends_so _ by.told });
+        plain = plain_so by.plain;
+      })
+  after_answer (inl (inr (inr (ask, by)))) =
+      inr (record {
+        running = by.running;
+        change = Unlocked (record { ask = ask; accepted = by.accepted; is = made (Unlocks ask ∷ []) by.changes; success = ends_so _ by.told });
+        plain = plain_so by.plain;
+      })
+  after_answer (inr d) =
+      inr (record {
+        running = d.running;
+        change = Committed (record {
+          ask = d.ask;
+          txn = d.txn;
+          fails = d.fails;
+          accepted = d.accepted;
+          wanted = d.wanted;
+          is = made (commit_changes old.content d.ask d.txn d.fails) d.changes;
+          info = (Success ∷ NoLogin ∷ [], is_told ∙ d.replies);
+        });
+        plain = plain_so (subst ArePlain (sym d.replies) (λ r e. cc, (λ r e. cc, (λ r e. cc, tt))));
+      })
 
 after_input : (old : HubState) (env : Env) (n : ℕ) (o : Option SessionState) (input : Input) (told : List Reply) (new : HubState) (after : Env)
     → InputHappens old env n o input told new after → Next old told new
@@ -61,67 +96,102 @@ after_event old new env after (Drops n) told h = inl (ap (λ (x : HubState). x.c
 
 -- ---- what is told
 
-no_failure : (r : Refusal) (n : ℕ) (date : List ℕ) (author : Option (List ℕ)) → Contains (Success ∷ NoLogin ∷ CommitInfo n date author ∷ []) (Failure r) → ⊥
-no_failure r n date author (zero, lt, e) = cc
-no_failure r n date author (suc zero, lt, e) = cc
-no_failure r n date author (suc (suc zero), lt, e) = cc
-no_failure r n date author (suc (suc (suc k)), lt, e) = absurd (omega (arith, lt))
-
 pub event_refused : (old new : HubState) (env after : Env) (e : Event) (told : List Reply) → HubStep old env e told new after → TellsFailure told → new.content ≡ old.content
 event_refused old new env after e told h (r, has) = by (after_event old new env after e told h)
   where
     by : Next old told new → new.content ≡ old.content
     by (inl same) = same
-    by (inr c) =
-        absurd (no_failure r (length old.content.revisions) c.commit.ask.date c.commit.ask.author (subst (λ (xs : List Reply). Contains xs (Failure r)) c.replies has))
+    by (inr c) = absurd (no_failure told r c.plain has)
 
-pub event_commits : (old new : HubState) (env after : Env) (e : Event) (told : List Reply) → HubStep old env e told new after
-    → (new.content ≡ old.content) ⊎ IsToldCommit old.content told new.content
-event_commits old new env after e told h = by (after_event old new env after e told h)
+pub event_changes : (old new : HubState) (env after : Env) (e : Event) (told : List Reply) → HubStep old env e told new after
+    → (new.content ≡ old.content) ⊎ IsToldChange old.content told new.content
+event_changes old new env after e told h = by (after_event old new env after e told h)
   where
-    by : Next old told new → (new.content ≡ old.content) ⊎ IsToldCommit old.content told new.content
+    by : Next old told new → (new.content ≡ old.content) ⊎ IsToldChange old.content told new.content
     by (inl same) = inl same
-    by (inr c) =
-        let info = CommitInfo (length old.content.revisions) c.commit.ask.date c.commit.ask.author in
-        inr (record { commit = c.commit; info = subst (λ (xs : List Reply). Contains xs info) (sym c.replies) (2, omega arith, refl) })
+    by (inr c) = inr c.change
 
--- ---- what holds of each commit, and where there is none, holds of each event
+-- ---- changes of locks alone
 
-module _ (K : RepoState → RepoState → Type 0) (none : (c : RepoState) → K c c) (commits : (old new : RepoState) → IsCommit old new → K old new) where
-  by_commits : (old : HubState) (told : List Reply) (new : HubState) → Next old told new → K old.content new.content
-  by_commits old told new (inl e) = subst (λ (x : RepoState). K old.content x) (sym e) (none old.content)
-  by_commits old told new (inr c) = commits old.content new.content c.commit
+pub all_the_same : (c : RepoState) → HasSameRevisions c c
+all_the_same c = record { uuid = refl; revisions = refl; properties = refl }
 
-  pub event_by_commits : (old new : HubState) (env after : Env) (e : Event) (told : List Reply) → HubStep old env e told new after → K old.content new.content
-  event_by_commits old new env after e told h = by_commits old told new (after_event old new env after e told h)
+pub same_at : (old c new : RepoState) → new ≡ c → HasSameRevisions old c → HasSameRevisions old new
+same_at old c new is same = subst (λ (x : RepoState). HasSameRevisions old x) (sym is) same
 
-  module _ (both : (a b c : RepoState) → K a b → K b c → K a c) where
-    pub run_by_commits : (old new : HubState) (env after : Env) (events : List Event) (told : List Reply) → HubRun old env events told new after → K old.content new.content
-    run_by_commits =
-        through_run (λ old new. K old.content new.content) (λ h. none h.content) (λ a b c x y. both a.content b.content c.content x y) event_by_commits
+pub same_released : (c : RepoState) (ask : CommitAsk) (b : Bool) → HasSameRevisions c (changed_all c (if b then Releases ask.author ask.tokens ∷ [] else []))
+same_released c ask true = record { uuid = refl; revisions = refl; properties = refl }
+same_released c ask false = all_the_same c
+
+-- behind a commit nothing changes but locks
+pub same_behind : (c : RepoState) (ask : CommitAsk) (t : TxnState) (fails : Bool) → HasSameRevisions (committed c ask t) (changed_all c (commit_changes c ask t fails))
+same_behind c ask t fails = same_released (committed c ask t) ask (wants_release ask (committed c ask t) && not fails)
+
+-- ---- accepted changes, one after another
+
+abbrev pub OnlyAccepted : RepoState → RepoState → Type 0
+OnlyAccepted old new = (changes : List Accepted) × AreAccepted old changes × (new ≡ changed_all old changes)
+
+pub none_accepted : (c : RepoState) → OnlyAccepted c c
+none_accepted c = ([], tt, refl)
+
+and_second : (a b : Bool) → (a && b) ≡ true → b ≡ true
+and_second true b h = h
+and_second false b h = cc
+
+release_accepted : (c : RepoState) (ask : CommitAsk) (wants fails : Bool) → wants_release ask c ≡ wants
+    → AreAccepted c (if wants && not fails then Releases ask.author ask.tokens ∷ [] else [])
+release_accepted c ask true false e = (and_second (not ask.keep_locks) (releases ask.author ask.tokens c.locks) e, tt)
+release_accepted c ask true true e = tt
+release_accepted c ask false fails e = tt
+
+-- a commit, and the release behind it
+pub commit_accepted : (c : RepoState) (ask : CommitAsk) (t : TxnState) (fails : Bool) → IsAccepted c (Commits ask t) → AreAccepted c (commit_changes c ask t fails)
+commit_accepted c ask t fails accepted =
+    let after = committed c ask t in
+    (accepted, release_accepted after ask (wants_release ask after) fails refl)
+
+by_change : (old new : RepoState) (told : List Reply) → IsToldChange old told new → OnlyAccepted old new
+by_change old new told (Committed c) = (commit_changes old c.ask c.txn c.fails, commit_accepted old c.ask c.txn c.fails c.accepted, c.is)
+by_change old new told (Locked l) = (Locks l.ask ∷ [], (l.accepted, tt), l.is)
+by_change old new told (Unlocked u) = (Unlocks u.ask ∷ [], (u.accepted, tt), u.is)
+
+pub event_accepted : (old new : HubState) (env after : Env) (e : Event) (told : List Reply) → HubStep old env e told new after → OnlyAccepted old.content new.content
+event_accepted old new env after e told h = by (after_event old new env after e told h)
+  where
+    by : Next old told new → OnlyAccepted old.content new.content
+    by (inl same) = ([], tt, same)
+    by (inr c) = by_change old.content new.content told c.change
+
+all_accepted : (c : RepoState) (xs ys : List Accepted) → AreAccepted c xs → AreAccepted (changed_all c xs) ys → AreAccepted c (xs ++ ys)
+all_accepted c [] ys are more = more
+all_accepted c (x ∷ xs) ys (one, are) more = (one, all_accepted (changed c x) xs ys are more)
+
+changed-append : (c : RepoState) (xs ys : List Accepted) → changed_all c (xs ++ ys) ≡ changed_all (changed_all c xs) ys
+changed-append c [] ys = refl
+changed-append c (x ∷ xs) ys = changed-append (changed c x) xs ys
+
+pub accepted_on : (a b c : RepoState) → OnlyAccepted a b → OnlyAccepted b c → OnlyAccepted a c
+accepted_on a b c (xs, are, is) (ys, more, to) = (
+  xs ++ ys,
+  all_accepted a xs ys are (subst (λ (x : RepoState). AreAccepted x ys) is more),
+  to ∙ ap (λ (x : RepoState). changed_all x ys) is ∙ sym (changed-append a xs ys),
+)
+
+pub run_accepted : (old new : HubState) (env after : Env) (events : List Event) (told : List Reply) → HubRun old env events told new after → OnlyAccepted old.content new.content
+run_accepted =
+    through_run (λ old new. OnlyAccepted old.content new.content) (λ h. none_accepted h.content)
+    (λ a b c x y. accepted_on a.content b.content c.content x y) event_accepted
+
+-- what changes keep, whatever they are
+module _ (K : RepoState → RepoState → Type 0) (keeps : (c : RepoState) (es : List Accepted) → K c (changed_all c es)) where
+  pub by_changes : (old new : RepoState) → OnlyAccepted old new → K old new
+  by_changes old new (es, are, is) = subst (λ (x : RepoState). K old x) (sym is) (keeps old es)
 
 -- ---- revisions
 
 abbrev pub KeepsRevisions : RepoState → RepoState → Type 0
 KeepsRevisions old new = IsBeginning old.revisions new.revisions
-
-pub same_revisions : (c : RepoState) → KeepsRevisions c c
-same_revisions c = begins c.revisions
-
-pub commit_keeps : (old new : RepoState) → IsCommit old new → KeepsRevisions old new
-commit_keeps old new c = record { more = _; is = ap (λ (x : RepoState). x.revisions) c.is }
-
-pub keeps_on : (a b c : RepoState) → KeepsRevisions a b → KeepsRevisions b c → KeepsRevisions a c
-keeps_on a b c x y = joins a.revisions b.revisions c.revisions x y
-
-pub run_keeps : (old new : HubState) (env after : Env) (events : List Event) (told : List Reply) → HubRun old env events told new after → IsBeginning old.content.revisions new.content.revisions
-run_keeps = run_by_commits KeepsRevisions same_revisions commit_keeps keeps_on
-
-pub feeds_keep : (old : HubState) (env : Env) (n : ℕ) (piece out : List ℕ) (new : HubState) → Feeds old env n piece out new → IsBeginning old.content.revisions new.content.revisions
-feeds_keep old env n piece out new f = run_keeps (with_rest old n f.session f.rest) new env f.env_after f.events f.told f.run
-
-pub breaks_keep : (old : HubState) (env : Env) (n : ℕ) (piece : List ℕ) (new : HubState) → Breaks old env n piece new → IsBeginning old.content.revisions new.content.revisions
-breaks_keep old env n piece new f = run_keeps (with_rest old n f.session f.rest) new env f.env_after (f.events ++ Drops n ∷ []) f.told f.run
 
 change_keeps : (c : RepoState) (e : Accepted) → IsBeginning c.revisions (changed c e).revisions
 change_keeps c (Commits ask t) = record { more = _; is = refl }
@@ -133,65 +203,81 @@ pub changes_keep : (c : RepoState) (es : List Accepted) → IsBeginning c.revisi
 changes_keep c [] = begins c.revisions
 changes_keep c (e ∷ es) = joins c.revisions (changed c e).revisions (changed_all (changed c e) es).revisions (change_keeps c e) (changes_keep (changed c e) es)
 
+pub keeps_revisions : (old new : RepoState) → OnlyAccepted old new → KeepsRevisions old new
+keeps_revisions = by_changes KeepsRevisions changes_keep
+
+pub run_keeps : (old new : HubState) (env after : Env) (events : List Event) (told : List Reply) → HubRun old env events told new after → IsBeginning old.content.revisions new.content.revisions
+run_keeps old new env after events told run = keeps_revisions old.content new.content (run_accepted old new env after events told run)
+
+pub feeds_keep : (old : HubState) (env : Env) (n : ℕ) (piece out : List ℕ) (new : HubState) → Feeds old env n piece out new → IsBeginning old.content.revisions new.content.revisions
+feeds_keep old env n piece out new f = run_keeps (with_rest old n f.session f.rest) new env f.env_after f.events f.told f.run
+
+pub breaks_keep : (old : HubState) (env : Env) (n : ℕ) (piece : List ℕ) (new : HubState) → Breaks old env n piece new → IsBeginning old.content.revisions new.content.revisions
+breaks_keep old env n piece new f = run_keeps (with_rest old n f.session f.rest) new env f.env_after (f.events ++ Drops n ∷ []) f.told f.run
+
 one_more : (c : RepoState) (ask : CommitAsk) (t : TxnState) → length (committed c ask t).revisions ≤ length c.revisions + 1
 one_more c ask t = omega (arith, length-append {A = Revision})
 
+-- at most one revision more
+abbrev OneMore : RepoState → RepoState → Type 0
+OneMore old new = length new.revisions ≤ length old.revisions + 1
+
+as_many : (old new : RepoState) → new.revisions ≡ old.revisions → OneMore old new
+as_many old new same = subst (λ (xs : List Revision). length xs ≤ length old.revisions + 1) (sym same) (omega arith)
+
+change_counts : (old new : RepoState) (told : List Reply) → IsToldChange old told new → OneMore old new
+change_counts old new told (Committed c) =
+    let same = (same_at (committed old c.ask c.txn) _ new c.is (same_behind old c.ask c.txn c.fails)).revisions in
+    subst (λ (xs : List Revision). length xs ≤ length old.revisions + 1) (sym same) (one_more old c.ask c.txn)
+change_counts old new told (Locked l) = as_many old new (ap (λ (x : RepoState). x.revisions) l.is)
+change_counts old new told (Unlocked u) = as_many old new (ap (λ (x : RepoState). x.revisions) u.is)
+
 pub event_counts : (old new : HubState) (env after : Env) (e : Event) (told : List Reply) → HubStep old env e told new after → length new.content.revisions ≤ length old.content.revisions + 1
-event_counts =
-    event_by_commits (λ old new. length new.revisions ≤ length old.revisions + 1) (λ c. omega arith)
-    (λ old new c. subst (λ (x : RepoState). length x.revisions ≤ length old.revisions + 1) (sym c.is) (one_more old c.ask c.txn))
+event_counts old new env after e told h = by (after_event old new env after e told h)
+  where
+    by : Next old told new → OneMore old.content new.content
+    by (inl same) = as_many old.content new.content (ap (λ (x : RepoState). x.revisions) same)
+    by (inr c) = change_counts old.content new.content told c.change
 
 -- ---- revision properties
 
-pub same_properties : (c : RepoState) → KeepsProperties c c
+same_properties : (c : RepoState) → KeepsProperties c c
 same_properties c = ([], sym (append-nil c.properties))
 
-pub commit_adds : (old new : RepoState) → IsCommit old new → KeepsProperties old new
-commit_adds old new c = (revision_properties c.ask ∷ [], ap (λ (x : RepoState). x.properties) c.is)
-
-pub properties_on : (a b c : RepoState) → KeepsProperties a b → KeepsProperties b c → KeepsProperties a c
+properties_on : (a b c : RepoState) → KeepsProperties a b → KeepsProperties b c → KeepsProperties a c
 properties_on a b c x y =
     (x.0 ++ y.0, y.1 ∙ ap (λ (z : List PropertyList). z ++ y.0) x.1 ∙ append_assoc a.properties x.0 y.0)
 
+change_adds : (c : RepoState) (e : Accepted) → KeepsProperties c (changed c e)
+change_adds c (Commits ask t) = (revision_properties ask ∷ [], refl)
+change_adds c (Locks ask) = same_properties c
+change_adds c (Unlocks ask) = same_properties c
+change_adds c (Releases user tokens) = same_properties c
+
+changes_add : (c : RepoState) (es : List Accepted) → KeepsProperties c (changed_all c es)
+changes_add c [] = same_properties c
+changes_add c (e ∷ es) = properties_on c (changed c e) (changed_all (changed c e) es) (change_adds c e) (changes_add (changed c e) es)
+
+pub keeps_properties : (old new : RepoState) → OnlyAccepted old new → KeepsProperties old new
+keeps_properties = by_changes KeepsProperties changes_add
+
 pub run_keeps_properties : (old new : HubState) (env after : Env) (events : List Event) (told : List Reply) → HubRun old env events told new after → KeepsProperties old.content new.content
-run_keeps_properties = run_by_commits KeepsProperties same_properties commit_adds properties_on
-
--- ---- accepted changes, one after another
-
-abbrev pub OnlyCommits : RepoState → RepoState → Type 0
-OnlyCommits old new = (changes : List Accepted) × AreAccepted old changes × (new ≡ changed_all old changes)
-
-pub no_commits : (c : RepoState) → OnlyCommits c c
-no_commits c = ([], tt, refl)
-
-pub one_commit : (old new : RepoState) → IsCommit old new → OnlyCommits old new
-one_commit old new c = (Commits c.ask c.txn ∷ [], (c.accepted, tt), c.is)
-
-all_accepted : (c : RepoState) (xs ys : List Accepted) → AreAccepted c xs → AreAccepted (changed_all c xs) ys → AreAccepted c (xs ++ ys)
-all_accepted c [] ys are more = more
-all_accepted c (x ∷ xs) ys (one, are) more = (one, all_accepted (changed c x) xs ys are more)
-
-changed-append : (c : RepoState) (xs ys : List Accepted) → changed_all c (xs ++ ys) ≡ changed_all (changed_all c xs) ys
-changed-append c [] ys = refl
-changed-append c (x ∷ xs) ys = changed-append (changed c x) xs ys
-
-pub commits_on : (a b c : RepoState) → OnlyCommits a b → OnlyCommits b c → OnlyCommits a c
-commits_on a b c (xs, are, is) (ys, more, to) = (
-  xs ++ ys,
-  all_accepted a xs ys are (subst (λ (x : RepoState). AreAccepted x ys) is more),
-  to ∙ ap (λ (x : RepoState). changed_all x ys) is ∙ sym (changed-append a xs ys),
-)
-
-pub run_commits : (old new : HubState) (env after : Env) (events : List Event) (told : List Reply) → HubRun old env events told new after → OnlyCommits old.content new.content
-run_commits = run_by_commits OnlyCommits no_commits one_commit commits_on
+run_keeps_properties old new env after events told run = keeps_properties old.content new.content (run_accepted old new env after events told run)
 
 -- ---- what nothing changes
 
-abbrev SameNames : RepoState → RepoState → Type 0
-SameNames old new = (new.uuid ≡ old.uuid) × (new.locks ≡ old.locks)
+change_name : (c : RepoState) (e : Accepted) → (changed c e).uuid ≡ c.uuid
+change_name c (Commits ask t) = refl
+change_name c (Locks ask) = refl
+change_name c (Unlocks ask) = refl
+change_name c (Releases user tokens) = refl
 
-commit_names : (old new : RepoState) → IsCommit old new → SameNames old new
-commit_names old new c = (ap (λ (x : RepoState). x.uuid) c.is, ap (λ (x : RepoState). x.locks) c.is)
+changes_name : (c : RepoState) (es : List Accepted) → (changed_all c es).uuid ≡ c.uuid
+changes_name c [] = refl
+changes_name c (e ∷ es) = changes_name (changed c e) es ∙ change_name c e
+
+keeps_name : (old new : RepoState) → OnlyAccepted old new → new.uuid ≡ old.uuid
+keeps_name = by_changes (λ old new. new.uuid ≡ old.uuid) changes_name
 
 input_settings : (old : HubState) (env : Env) (n : ℕ) (o : Option SessionState) (input : Input) (told : List Reply) (new : HubState) (after : Env)
     → InputHappens old env n o input told new after → new.settings ≡ old.settings
@@ -204,15 +290,16 @@ event_settings old new env after (Hears n input) told h = input_settings old env
 event_settings old new env after (Drops n) told h = ap (λ (x : HubState). x.settings) h.2
 
 pub event_constants : (old new : HubState) (env after : Env) (e : Event) (told : List Reply) → HubStep old env e told new after → KeepsConstants old new
-event_constants old new env after e told h =
-    let names = event_by_commits SameNames (λ c. (refl, refl)) commit_names old new env after e told h in
-    record { settings = event_settings old new env after e told h; uuid = names.0; locks = names.1 }
+event_constants old new env after e told h = record {
+  settings = event_settings old new env after e told h;
+  uuid = keeps_name old.content new.content (event_accepted old new env after e told h);
+}
 
 pub same_constants : (h : HubState) → KeepsConstants h h
-same_constants h = record { settings = refl; uuid = refl; locks = refl }
+same_constants h = record { settings = refl; uuid = refl }
 
 pub constants_on : (a b c : HubState) → KeepsConstants a b → KeepsConstants b c → KeepsConstants a c
-constants_on a b c x y = record { settings = y.settings ∙ x.settings; uuid = y.uuid ∙ x.uuid; locks = y.locks ∙ x.locks }
+constants_on a b c x y = record { settings = y.settings ∙ x.settings; uuid = y.uuid ∙ x.uuid }
 
 pub run_constants : (old new : HubState) (env after : Env) (events : List Event) (told : List Reply) → HubRun old env events told new after → KeepsConstants old new
 run_constants = through_run KeepsConstants same_constants constants_on event_constants

@@ -1,19 +1,37 @@
 -- Words of the laws of a hub.
-use Rattle.std.specs.Prelude.{◌≡◌, ◌⊎◌, true, false, ℕ, List, [], ◌∷◌, ◌++◌, None, Contains, length}
+use Rattle.std.specs.Prelude.{◌≡◌, ◌⊎◌, ◌&&◌, not, if◌then◌else◌, Bool, true, false, ℕ, List, [], ◌∷◌, ◌++◌, Some, None, Contains, length, IsTrue}
 use Rattle.std.specs.FinMap.{get}
+use Rattle.std.specs.List.{list_any}
 use Rattle.svnpath.specs.Paths.{PathValue}
+use Rattle.access.specs.Changing.{wants_release}
+use Rattle.repo_api.specs.Accepted.{Accepted, changed, changed_all}
+use Rattle.repo_api.specs.Accepted.Accepted.{Commits, Locks, Unlocks, Releases}
+use Rattle.repo_api.specs.Locking.{lock_refusal, lock_of, locked, unlock_refusal, unlocked, is_in_the_way, is_handed_in}
+use Rattle.repo_api.specs.LockRuns.{names_lock, HasSameRevisions, HaveOwnTokens, IsNewToken, HaveNewTokens}
+use Rattle.repo_api.specs.declared.lock.Lock.{Lock as LockValue}
+use Rattle.repo_api.specs.declared.lock_ask.LockAsk.{LockAsk}
+use Rattle.repo_api.specs.declared.lock_ask.UnlockAsk.{UnlockAsk}
 use Rattle.repo_api.specs.Merge.{is_changed}
 use Rattle.repo_api.specs.Marks.{shown, own_of}
 use Rattle.repo_api.specs.Commits.{commit_refusal, next_tree, committed}
 use Rattle.repo_api.specs.Properties.{PropertyList}
 use Rattle.repo_api.specs.declared.ask.CommitAsk.{CommitAsk}
-use Rattle.repo_api.specs.States.{RepoState, TxnState, tree_at, youngest}
+use Rattle.repo_api.specs.States.{RepoState, TxnState, LockMap, tree_at, youngest}
 use Rattle.repo_api.specs.Opening.{new_repository}
 use Rattle.refusals.specs.declared.Refusal.{Refusal}
 use Rattle.replies.specs.declared.reply.Reply.{Reply}
-use Rattle.replies.specs.declared.reply.Reply.TheVariants.{CommitInfo, Failure}
+use Rattle.replies.specs.declared.reply.Reply.TheVariants.{Success, Lock, CommitInfo, Failure}
 use Rattle.machine.specs.Settings.{Settings}
+use Rattle.machine.specs.declared.env.Env.{Env}
 use Rattle.hub.specs.State.{HubState}
+use Rattle.hub.specs.Runs.{Event, HubRun, with_rest}
+use Rattle.hub.specs.Runs.Event.{Drops}
+use Rattle.hub.specs.Calls.{CallStep, CallRun}
+use Rattle.hub.specs.declared.hub.HubFault.TheVariants.{NoSession, NoMemory, Halted, Full}
+use Rattle.hub.specs.declared.calls.Call.{Call}
+use Rattle.hub.specs.declared.calls.Call.TheVariants.{Connect, Feed, Disconnect}
+use Rattle.hub.specs.declared.calls.Outcome.{Outcome}
+use Rattle.hub.specs.declared.calls.Outcome.TheVariants.{Connected, Wrote, Dropped, Failed}
 use Rattle.machine.specs.Hearing.{Input}
 use Rattle.machine.specs.Hearing.Input.{Whole, Broken}
 
@@ -32,23 +50,60 @@ new_hub settings uuid date = record {
 abbrev pub TellsFailure : List Reply → Type 0
 TellsFailure told = (r : Refusal) × Contains told (Failure r)
 
--- a commit that the rules accept
-pub record IsCommit (old new : RepoState) : Type 0 where
+-- the last of the replies is this one
+abbrev pub EndsWith : List Reply → Reply → Type 0
+EndsWith told reply = (before : List Reply) × (told ≡ before ++ reply ∷ [])
+
+-- a commit, and behind it the release of the locks that were handed in with it, where one is wanted
+-- and does not fail
+abbrev pub commit_changes : RepoState → CommitAsk → TxnState → Bool → List Accepted
+commit_changes c ask t fails =
+    Commits ask t
+    ∷ (if wants_release ask (committed c ask t) && not fails
+    then Releases ask.author ask.tokens ∷ [] else [])
+
+-- a commit that the rules accept, and that is told: its number, its date and its author, and
+-- whether the release of its locks has failed; only one that is wanted can fail
+pub record IsToldCommit (old : RepoState) (told : List Reply) (new : RepoState) : Type 0 where
   pub ask : CommitAsk
   pub txn : TxnState
+  pub fails : Bool
   pub accepted : commit_refusal old ask txn ≡ None
-  pub is : new ≡ committed old ask txn
+  pub wanted : fails ≡ true → wants_release ask (committed old ask txn) ≡ true
+  pub is : new ≡ changed_all old (commit_changes old ask txn fails)
+  pub info : EndsWith told (CommitInfo (length old.revisions) ask.date ask.author fails)
 
--- a commit that the rules accept, and whose number, date and author are told
-pub record IsToldCommit (old : RepoState) (told : List Reply) (new : RepoState) : Type 0 where
-  pub commit : IsCommit old new
-  pub info : Contains told (CommitInfo (length old.revisions) commit.ask.date commit.ask.author)
+-- a lock that the rules accept, and that is told
+pub record IsToldLock (old : RepoState) (told : List Reply) (new : RepoState) : Type 0 where
+  pub ask : LockAsk
+  pub accepted : lock_refusal old ask ≡ None
+  pub is : new ≡ locked old ask
+  pub lock : EndsWith told (Lock ask.path (lock_of ask))
 
--- what nothing changes: the settings, the repository's name among all repositories, and its locks
+-- an unlock that the rules accept, and that is answered by success
+pub record IsToldUnlock (old : RepoState) (told : List Reply) (new : RepoState) : Type 0 where
+  pub ask : UnlockAsk
+  pub accepted : unlock_refusal old ask ≡ None
+  pub is : new ≡ unlocked old ask
+  pub success : EndsWith told Success
+
+-- a change that the rules accept, and that is told
+pub data IsToldChange (old : RepoState) (told : List Reply) (new : RepoState) : Type 0 where
+  Committed : IsToldCommit old told new → IsToldChange old told new
+  Locked : IsToldLock old told new → IsToldChange old told new
+  Unlocked : IsToldUnlock old told new → IsToldChange old told new
+
+-- the changes that were told
+abbrev pub changes_of : (old : RepoState) (told : List Reply) (new : RepoState)
+    → IsToldChange old told new → List Accepted
+changes_of old told new (Committed c) = commit_changes old c.ask c.txn c.fails
+changes_of old told new (Locked l) = Locks l.ask ∷ []
+changes_of old told new (Unlocked u) = Unlocks u.ask ∷ []
+
+-- what nothing changes: the settings, and the repository's name among all repositories
 pub record KeepsConstants (old new : HubState) : Type 0 where
   pub settings : new.settings ≡ old.settings
   pub uuid : new.content.uuid ≡ old.content.uuid
-  pub locks : new.content.locks ≡ old.content.locks
 
 -- each revision that is there keeps its properties
 abbrev pub KeepsProperties : RepoState → RepoState → Type 0
@@ -70,13 +125,79 @@ pub record KeepsBothSides (c : RepoState) (t : TxnState) : Type 0 where
   pub ours : (p : PathValue) → is_changed (get (tree_at c t.base) p) (get t.tree p) ≡ true
       → shown (get (next_tree c t) p) ≡ shown (get t.tree p)
 
--- nothing has happened, or a commit that keeps what was changed on either side
+-- nothing has happened but to locks, or a commit that keeps what was changed on either side, and
+-- behind it nothing but to locks
 abbrev pub OverwritesNothing : RepoState → RepoState → Type 0
 OverwritesNothing old new =
-    (new ≡ old) ⊎ ((ask : CommitAsk) × (t : TxnState) × (new ≡ committed old ask t)
+    HasSameRevisions old new
+    ⊎ ((ask : CommitAsk) × (t : TxnState) × HasSameRevisions (committed old ask t) new
     × KeepsBothSides old t)
 
 -- one state after another, and at none of these steps was anything overwritten
 abbrev pub KeepsAll : RepoState → List RepoState → RepoState → Type 0
 KeepsAll old [] new = new ≡ old
 KeepsAll old (next ∷ more) new = OverwritesNothing old next × KeepsAll next more new
+
+-- ---- locks
+
+-- where the change is a commit, each lock in its way is its user's, and its token was handed in
+abbrev pub HoldsLocks : RepoState → Accepted → Type 0
+HoldsLocks c (Commits ask t) =
+    (p : PathValue) (l : LockValue) → get c.locks p ≡ Some l → is_in_the_way t.changes p ≡ true
+    → (ask.author ≡ Some l.owner) × IsTrue (is_handed_in ask.tokens l.token)
+HoldsLocks c (Locks ask) = Unit {0}
+HoldsLocks c (Unlocks ask) = Unit {0}
+HoldsLocks c (Releases user tokens) = Unit {0}
+
+-- so it is of each change, in the state that those before it make
+abbrev pub AllHoldLocks : RepoState → List Accepted → Type 0
+AllHoldLocks c [] = Unit {0}
+AllHoldLocks c (e ∷ es) = HoldsLocks c e × AllHoldLocks (changed c e) es
+
+-- the changes respect locks: those in the way of a commit are held, those at paths that no change
+-- names stay as they were, and no two come to have one token where each new one's is new
+pub record RespectLocks (old : RepoState) (changes : List Accepted) (new : RepoState)
+    : Type 0 where
+  pub held : AllHoldLocks old changes
+  pub unnamed : (p : PathValue) → list_any (λ e. names_lock e p) changes ≡ false
+      → get new.locks p ≡ get old.locks p
+  pub distinct : HaveOwnTokens old.locks → HaveNewTokens old changes → HaveOwnTokens new.locks
+
+-- each lock that is told has a token that none of the locks has
+abbrev pub TellsNewToken : LockMap → List Reply → Type 0
+TellsNewToken locks told =
+    (p : PathValue) (l : LockValue) → EndsWith told (Lock p l) → IsNewToken locks l.token
+
+-- at each event of a run the lock that is made, if there is one, has a token that none of the locks
+-- has which stand then
+abbrev pub MakesNewTokens : (old : HubState) (env : Env) (events : List Event) (told : List Reply)
+    (new : HubState) (after : Env) → HubRun old env events told new after → Type 0
+MakesNewTokens old env [] told new after run = Unit {0}
+MakesNewTokens old env (e ∷ es) told new after (first, mid, between, more, step, run, is_told) =
+    TellsNewToken old.content.locks first × MakesNewTokens mid between es more new after run
+
+-- and so at each event of a call
+abbrev pub CallMakesNewTokens : (old : HubState) (call : Call) (outcome : Outcome) (new : HubState)
+    → CallStep old call outcome new → Type 0
+CallMakesNewTokens old Connect outcome new step = Unit {0}
+CallMakesNewTokens old (Feed n piece env) (Wrote out) new step =
+    let f = step.feeds in
+    MakesNewTokens (with_rest old n f.session f.rest) env f.events f.told new f.env_after f.run
+CallMakesNewTokens old (Feed n piece env) (Failed NoMemory) new step =
+    let b = step.1 in
+    MakesNewTokens (with_rest old n b.session b.rest) env (b.events ++ Drops n ∷ []) b.told new
+    b.env_after b.run
+CallMakesNewTokens old (Feed n piece env) (Failed NoSession) new step = Unit {0}
+CallMakesNewTokens old (Feed n piece env) (Failed Halted) new step = Unit {0}
+CallMakesNewTokens old (Feed n piece env) (Failed Full) new step = Unit {0}
+CallMakesNewTokens old (Feed n piece env) (Connected m out) new step = Unit {0}
+CallMakesNewTokens old (Feed n piece env) Dropped new step = Unit {0}
+CallMakesNewTokens old (Disconnect n) outcome new step = Unit {0}
+
+-- and so at each of the calls
+abbrev pub CallsMakeNewTokens : (old : HubState) (calls : List Call) (outcomes : List Outcome)
+    (new : HubState) → CallRun old calls outcomes new → Type 0
+CallsMakeNewTokens old [] outcomes new run = Unit {0}
+CallsMakeNewTokens old (call ∷ calls) (outcome ∷ outcomes) new (mid, step, run) =
+    CallMakesNewTokens old call outcome mid step × CallsMakeNewTokens mid calls outcomes new run
+CallsMakeNewTokens old (call ∷ calls) [] new run = Unit {0}

@@ -2,6 +2,7 @@
 ghost use Rattle.std.specs.Prelude.{◌<◌, ◌≤◌, ◌+◌, ◌≡◌, ◌⊎◌, ◌++◌, ℕ, true, List, length};
 ghost use Rattle.repo_api.specs.States.{RepoState, IsBeginning, trees_in};
 ghost use Rattle.repo_api.specs.Accepted.{Accepted, AreAccepted, changed_all};
+ghost use Rattle.repo_api.specs.LockRuns.{HaveOwnTokens};
 ghost use Rattle.repo_api.specs.Marks.{AreMarked};
 ghost use Rattle.repo_api.specs.Opening.{new_repository};
 ghost use Rattle.repo_api.specs.Soundness.{AreTrees, AreSound};
@@ -9,7 +10,7 @@ ghost use Rattle.replies.specs.declared.reply.Reply.{Reply};
 ghost use Rattle.access.specs.Points.{last_count};
 ghost use Rattle.machine.specs.Hearing.{Input, Yields};
 ghost use Rattle.machine.specs.Settings.{Settings};
-ghost use Rattle.hub.specs.Laws.{TellsFailure, IsToldCommit, KeepsConstants, KeepsProperties, IsUnbroken, new_hub, OverwritesNothing, KeepsAll};
+ghost use Rattle.hub.specs.Laws.{TellsFailure, IsToldChange, changes_of, KeepsConstants, KeepsProperties, IsUnbroken, new_hub, OverwritesNothing, KeepsAll, RespectLocks, MakesNewTokens, CallsMakeNewTokens};
 ghost use Rattle.machine.specs.declared.env.Env.{Env};
 ghost use Rattle.hub.specs.State.{HubState, HasTrees};
 ghost use Rattle.hub.specs.Runs.{Event, HubStep, HubRun};
@@ -29,19 +30,20 @@ pub fn one_revision_an_event()
         → HubStep old env event told new after → length new.content.revisions ≤ length old.content.revisions + 1 }
 {}
 
-/// An event that is answered by a failure leaves the repository as it was; and what changes it is a commit that the
-/// rules accept, and its number, its date and its author are told.
+/// An event that is answered by a failure leaves the repository as it was; and what changes it is a commit, a lock or
+/// an unlock that the rules accept, and that is told: of a commit its number, its date, its author, and whether the
+/// release of its locks, which comes behind it, has failed.
 pub fn refused_changes_nothing()
     ensures refused { (old new : HubState) (env after : Env) (event : Event) (told : List Reply)
         → HubStep old env event told new after → TellsFailure told → new.content ≡ old.content }
     ensures changed { (old new : HubState) (env after : Env) (event : Event) (told : List Reply)
         → HubStep old env event told new after
-        → (new.content ≡ old.content) ⊎ IsToldCommit old.content told new.content }
+        → (new.content ≡ old.content) ⊎ IsToldChange old.content told new.content }
 {}
 
 /// Whatever happens, and whatever calls come, the repository has gone on by changes that the rules accept, one after
 /// another, and by nothing else.
-pub fn only_commits_change()
+pub fn only_accepted_changes()
     ensures events { (old new : HubState) (env after : Env) (events : List Event) (told : List Reply)
         → HubRun old env events told new after
         → (changes : List Accepted) × AreAccepted old.content changes
@@ -52,13 +54,57 @@ pub fn only_commits_change()
         × (new.content ≡ changed_all old.content changes) }
 {}
 
+/// Accepted changes respect locks, those of an event, and those by which the repository has gone on, whatever happens
+/// and whatever calls come: each lock in the way of a commit among them is its user's, and its token was handed in; at
+/// a path that no change names the lock stays as it was; and where no two locks have one token, and each new lock has a
+/// token that none has then, no two come to have one.
+pub fn locks_are_respected()
+    ensures event { (old new : HubState) (env after : Env) (event : Event) (told : List Reply)
+        → HubStep old env event told new after
+        → (new.content ≡ old.content) ⊎ ((change : IsToldChange old.content told new.content)
+        × RespectLocks old.content (changes_of old.content told new.content change) new.content) }
+    ensures events { (old new : HubState) (env after : Env) (events : List Event) (told : List Reply)
+        → HubRun old env events told new after
+        → (changes : List Accepted) × AreAccepted old.content changes
+        × (new.content ≡ changed_all old.content changes)
+        × RespectLocks old.content changes new.content }
+    ensures calls { (old new : HubState) (calls : List Call) (outcomes : List Outcome)
+        → CallRun old calls outcomes new
+        → (changes : List Accepted) × AreAccepted old.content changes
+        × (new.content ≡ changed_all old.content changes)
+        × RespectLocks old.content changes new.content }
+{
+    pathlocks::accepted_commits_hold_locks();
+    pathlocks::unnamed_locks_stay();
+    pathlocks::tokens_stay_distinct();
+}
+
+/// Where no two locks have one token, as in a new hub, and each lock that is made has a token that none has which
+/// stands then, no two locks come to have one, whatever happens, and whatever calls come.
+pub fn no_two_locks_have_one_token()
+    ensures at_first { (settings : Settings) (uuid : ℕ) (date : List ℕ)
+        → HaveOwnTokens (new_hub settings uuid date).content.locks }
+    ensures events { (old new : HubState) (env after : Env) (events : List Event) (told : List Reply)
+        (run : HubRun old env events told new after)
+        → HaveOwnTokens old.content.locks → MakesNewTokens old env events told new after run
+        → HaveOwnTokens new.content.locks }
+    ensures calls { (old new : HubState) (calls : List Call) (outcomes : List Outcome)
+        (run : CallRun old calls outcomes new)
+        → HaveOwnTokens old.content.locks → CallsMakeNewTokens old calls outcomes new run
+        → HaveOwnTokens new.content.locks }
+{
+    pathlocks::accepted_commits_hold_locks();
+    pathlocks::unnamed_locks_stay();
+    pathlocks::tokens_stay_distinct();
+}
+
 /// Whatever calls come, the trees and changes of revisions that are there stay the same.
 pub fn calls_keep_history()
     ensures { (old new : HubState) (calls : List Call) (outcomes : List Outcome)
         → CallRun old calls outcomes new → IsBeginning old.content.revisions new.content.revisions }
 {}
 
-/// The settings, the repository's name among all repositories and its locks never change.
+/// The settings and the repository's name among all repositories never change.
 pub fn constants_stay()
     ensures events { (old new : HubState) (env after : Env) (events : List Event) (told : List Reply)
         → HubRun old env events told new after → KeepsConstants old new }
@@ -121,8 +167,8 @@ pub fn trees_stay_trees()
     machine::steps_keep_trees();
 }
 
-/// A commit never overwrites what was changed since its base: where every tree is a tree, what an event makes of the
-/// repository keeps what was changed on either side.
+/// A commit never overwrites what was changed since its base: where every tree is a tree, an event changes no more than
+/// locks, or makes a commit that keeps what was changed on either side, and behind it changes no more than locks.
 pub fn nothing_is_overwritten()
     ensures { (old new : HubState) (env after : Env) (event : Event) (told : List Reply)
         → HasTrees old → HubStep old env event told new after → OverwritesNothing old.content new.content }

@@ -1,15 +1,30 @@
--- Answers that change nothing, and begin no edit but a new one.
-use Rattle.std.proofs.Common.{◌≡◌, ℕ, List, [], ◌∷◌, Bool, true, false, Option, Some, None, refl}
+-- Answers that change nothing but locks, and begin no edit but a new one.
+use Rattle.std.proofs.Common.{◌≡◌, ℕ, List, [], ◌∷◌, Bool, true, false, Option, Some, None, refl, sym, subst}
 use Rattle.std.specs.Prelude.{Result, Ok, Err, if◌then◌else◌}
 use Rattle.svnpath.specs.Paths.{PathValue}
 use Rattle.svnpath.specs.Urls.{path_of_text, root_of_text}
 use Rattle.svnpath.specs.declared.fault.PathFault.{PathFault}
 use Rattle.refusals.specs.declared.Refusal.{Refusal}
 use Rattle.repo_api.specs.States.{RepoState}
+use Rattle.repo_api.specs.Accepted.{Accepted}
+use Rattle.repo_api.specs.Accepted.Accepted.{Locks, Unlocks}
+use Rattle.repo_api.specs.Locking.{lock_refusal, unlock_refusal}
+use Rattle.repo_api.specs.LockRuns.{is_of_locks}
+use Rattle.repo_api.specs.declared.lock_ask.LockAsk.{LockAsk}
+use Rattle.commands.specs.Commands.{main_command}
+use Rattle.commands.specs.Logins.{client_greeting, auth_response, challenge_answer}
+use Rattle.commands.specs.declared.command.LockCommand.{LockCommand}
+use Rattle.commands.specs.declared.command.UnlockCommand.{UnlockCommand}
+use Rattle.edit_commands.specs.Editing.{ends_edit}
+use Rattle.svnpath.specs.Texts.{joined}
+use Rattle.machine.specs.Hearing.{Input}
+use Rattle.machine.specs.Hearing.Input.{Whole, Broken}
+use Rattle.machine.specs.Answers.Verdict.{Written, NotWritten, Unknown}
+use Rattle.machine.specs.declared.login.OpenChallenge.{OpenChallenge}
 use Rattle.forms.specs.declared.fault.CommandFault.{CommandFault}
 use Rattle.forms.specs.declared.fault.CommandFault.TheVariants.{UnknownName, BadParameters, NoMemory}
 use Rattle.commands.specs.declared.command.MainCommand.{MainCommand}
-use Rattle.commands.specs.declared.command.MainCommand.TheVariants.{GetLatestRev, CheckPath, RevProplist, Commit, AbortEdit}
+use Rattle.commands.specs.declared.command.MainCommand.TheVariants.{GetLatestRev, CheckPath, RevProplist, Commit, AbortEdit, Lock, Unlock, GetLock, GetLocks}
 use Rattle.commands.specs.declared.login.ClientGreeting.{ClientGreeting}
 use Rattle.commands.specs.declared.login.AuthResponse.{AuthResponse}
 use Rattle.replies.specs.declared.reply.Reply.{Reply}
@@ -17,10 +32,10 @@ use Rattle.replies.specs.declared.reply.Reply.TheVariants as replies
 use Rattle.edit_rules.specs.Edits.{new_edit}
 use Rattle.machine.specs.Settings.{Settings}
 use Rattle.machine.specs.Stages.{Stage}
-use Rattle.machine.specs.Answers.{Answer, no_effect, says, behind}
-use Rattle.machine.specs.Commands.{own_answer, asked_by, lock_tokens, commit_begins, login_request}
-use Rattle.machine.specs.Logins.{offer, chosen, asks, wants_user, speaks, url_answer, greeting_answer, logged_in, choice_answer, login_answer, with_user, challenge_outcome}
-use Rattle.machine.specs.Machine.{command_answer, skipping_answer}
+use Rattle.machine.specs.Answers.{Verdict, Answer, says, change_answer, ChangeStep, behind, Behind, malformed}
+use Rattle.machine.specs.Commands.{OwnStep, asked_by, lock_tokens, commit_begins, without_token, lock_ask, unlock_ask, lock_answer, LockStep, UnlockStep, login_request}
+use Rattle.machine.specs.Logins.{offer, chosen, wants_user, speaks, url_answer, greeting_answer, LoggedIn, ChoiceStep, LoginStep, with_user, OutcomeStep, ChallengeStep}
+use Rattle.machine.specs.Machine.{InputStep, KnownCommand, MainStep, skipping_answer}
 use Rattle.machine.specs.declared.asked.Asked.{Asked}
 use Rattle.machine.specs.declared.env.Env.{Env}
 use Rattle.machine.specs.declared.login.Mechanism.{Mechanism}
@@ -39,86 +54,172 @@ HasNewEdit s (Editing edit) = edit.editor ≡ new_edit edit.client.path s.name
 HasNewEdit s (Skipping client) = Unit {0}
 HasNewEdit s Ended = Unit {0}
 
+-- changes of locks alone
+abbrev pub AreOfLocks : List Accepted → Type 0
+AreOfLocks [] = Unit {0}
+AreOfLocks (e ∷ es) = (is_of_locks e ≡ true) × AreOfLocks es
+
 pub record IsQuiet (s : Settings) (a : Answer) : Type 0 where
-  pub nothing : a.effect ≡ no_effect
+  pub of_locks : AreOfLocks a.effect.changes
   pub new : HasNewEdit s a.phase
+
+quiet_is : (s : Settings) (a b : Answer) → a ≡ b → IsQuiet s b → IsQuiet s a
+quiet_is s a b e q = subst (λ (x : Answer). IsQuiet s x) (sym e) q
 
 quiet_if : (s : Settings) (b : Bool) (x y : Answer) → IsQuiet s x → IsQuiet s y → IsQuiet s (if b then x else y)
 quiet_if s true x y p q = p
 quiet_if s false x y p q = q
 
-quiet_behind : (s : Settings) (told : List Reply) (a : Answer) → IsQuiet s a → IsQuiet s (behind told a)
-quiet_behind s told a q = record { nothing = q.nothing; new = q.new }
+quiet_behind : (s : Settings) (told : List Reply) (Step : Answer → Type 0) (a : Answer)
+    → ((b : Answer) → Step b → IsQuiet s b) → Behind told Step a → IsQuiet s a
+quiet_behind s told Step a quiet (b, step, is) =
+    quiet_is s a (behind told b) is (record { of_locks = (quiet b step).of_locks; new = (quiet b step).new })
 
 -- replies after which no edit is open
 plain : (s : Settings) (env : Env) (client : Client) (told : List Reply) → IsQuiet s (says env (Serving client) told)
-plain s env client told = record { nothing = refl; new = tt }
+plain s env client told = record { of_locks = tt; new = tt }
 
 asking : (s : Settings) (env : Env) (login : OpenLogin) (told : List Reply) → IsQuiet s (says env (LoggingIn login) told)
-asking s env login told = record { nothing = refl; new = tt }
+asking s env login told = record { of_locks = tt; new = tt }
 
-pub quiet_end : (s : Settings) (env : Env) (told : List Reply) → IsQuiet s (says env Ended told)
-quiet_end s env told = record { nothing = refl; new = tt }
+ending : (s : Settings) (env : Env) (told : List Reply) → IsQuiet s (says env Ended told)
+ending s env told = record { of_locks = tt; new = tt }
 
 -- ---- the greeting
 
 quiet_url : (s : Settings) (env : Env) (path : Result PathValue PathFault) (root : Result (List ℕ) PathFault) → IsQuiet s (url_answer s env path root)
 quiet_url s env (Ok path) (Ok root) = asking s env _ _
-quiet_url s env (Ok path) (Err fault) = quiet_end s env _
-quiet_url s env (Err fault) root = quiet_end s env _
+quiet_url s env (Ok path) (Err fault) = ending s env _
+quiet_url s env (Err fault) root = ending s env _
 
-pub quiet_greeting : (s : Settings) (env : Env) (r : Result ClientGreeting CommandFault) → IsQuiet s (greeting_answer s env r)
+quiet_greeting : (s : Settings) (env : Env) (r : Result ClientGreeting CommandFault) → IsQuiet s (greeting_answer s env r)
 quiet_greeting s env (Ok g) =
     let path = path_of_text g.url s.name in
     let root = root_of_text g.url s.name in
-    quiet_if s (speaks g) (url_answer s env path root) (says env Ended []) (quiet_url s env path root) (quiet_end s env [])
-quiet_greeting s env (Err fault) = quiet_end s env _
+    quiet_if s (speaks g) (url_answer s env path root) (says env Ended []) (quiet_url s env path root) (ending s env [])
+quiet_greeting s env (Err fault) = ending s env _
+
+-- ---- changes of locks
+
+quiet_change : (s : Settings) (env : Env) (client : Client) (e : Accepted) (told : List Reply) (v : Verdict) → is_of_locks e ≡ true → IsQuiet s (change_answer env client e told v)
+quiet_change s env client e told Written of = record { of_locks = (of, tt); new = tt }
+quiet_change s env client e told NotWritten of = record { of_locks = tt; new = tt }
+quiet_change s env client e told Unknown of = record { of_locks = tt; new = tt }
+
+quiet_step : (s : Settings) (halted : Bool) (env : Env) (client : Client) (r : Option Refusal) (answer : Verdict → Answer) (a : Answer)
+    → ((v : Verdict) → IsQuiet s (answer v)) → ChangeStep halted env client r answer a → IsQuiet s a
+quiet_step s true env client r answer a quiet is = quiet_is s a _ is (ending s env _)
+quiet_step s false env client (Some r) answer a quiet is = quiet_is s a _ is (plain s env client _)
+quiet_step s false env client None answer a quiet (v, is) = quiet_is s a _ is (quiet v)
+
+quiet_locked : (s : Settings) (env : Env) (client : Client) (ask : LockAsk) (v : Verdict) → IsQuiet s (lock_answer env client ask v)
+quiet_locked s env client ask Written = quiet_change s (without_token env) client (Locks ask) _ Written refl
+quiet_locked s env client ask NotWritten = quiet_change s env client (Locks ask) [] NotWritten refl
+quiet_locked s env client ask Unknown = quiet_change s env client (Locks ask) [] Unknown refl
+
+quiet_lock : (s : Settings) (halted : Bool) (env : Env) (c : RepoState) (client : Client) (command : LockCommand) (path : Result PathValue PathFault) (a : Answer)
+    → LockStep halted env c client command path a → IsQuiet s a
+quiet_lock s halted env c client command (Ok path) a (date, is_date, step) =
+    let ask = lock_ask env client command path date in
+    quiet_step s halted env client (lock_refusal c ask) (lock_answer env client ask) a (quiet_locked s env client ask) step
+quiet_lock s halted env c client command (Err fault) a is = quiet_is s a _ is (plain s env client _)
+
+quiet_unlock : (s : Settings) (halted : Bool) (env : Env) (c : RepoState) (client : Client) (command : UnlockCommand) (path : Result PathValue PathFault) (a : Answer)
+    → UnlockStep halted env c client command path a → IsQuiet s a
+quiet_unlock s halted env c client command (Ok path) a step =
+    let ask = unlock_ask client command path in
+    quiet_step s halted env client (unlock_refusal c ask) (change_answer env client (Unlocks ask) (replies.Success ∷ [])) a
+    (λ v. quiet_change s env client (Unlocks ask) _ v refl) step
+quiet_unlock s halted env c client command (Err fault) a is = quiet_is s a _ is (plain s env client _)
 
 -- ---- commands
 
 quiet_begins : (s : Settings) (env : Env) (client : Client) (r : Result Asked Refusal) → IsQuiet s (commit_begins s env client r)
-quiet_begins s env client (Ok asked) = record { nothing = refl; new = refl }
+quiet_begins s env client (Ok asked) = record { of_locks = tt; new = refl }
 quiet_begins s env client (Err r) = plain s env client _
 
-pub quiet_own : (s : Settings) (env : Env) (c : RepoState) (client : Client) (command : MainCommand) → IsQuiet s (own_answer s env c client command)
-quiet_own s env c client GetLatestRev = plain s env client _
-quiet_own s env c client (CheckPath path revision) = plain s env client _
-quiet_own s env c client (RevProplist n) = plain s env client _
-quiet_own s env c client (Commit command) = quiet_begins s env client (asked_by command (lock_tokens client.path command.tokens))
-quiet_own s env c client AbortEdit = plain s env client _
+quiet_own : (s : Settings) (halted : Bool) (env : Env) (c : RepoState) (client : Client) (command : MainCommand) (a : Answer)
+    → OwnStep halted s env c client command a → IsQuiet s a
+quiet_own s halted env c client GetLatestRev a is = quiet_is s a _ is (plain s env client _)
+quiet_own s halted env c client (CheckPath path revision) a is = quiet_is s a _ is (plain s env client _)
+quiet_own s halted env c client (RevProplist n) a is = quiet_is s a _ is (plain s env client _)
+quiet_own s halted env c client (Commit command) a is =
+    quiet_is s a _ is (quiet_begins s env client (asked_by command (lock_tokens client.path command.tokens)))
+quiet_own s halted env c client AbortEdit a is = quiet_is s a _ is (plain s env client _)
+quiet_own s halted env c client (Lock command) a step = quiet_lock s halted env c client command (joined client.path command.path) a step
+quiet_own s halted env c client (Unlock command) a step = quiet_unlock s halted env c client command (joined client.path command.path) a step
+quiet_own s halted env c client (GetLock path) a is = quiet_is s a _ is (plain s env client _)
+quiet_own s halted env c client (GetLocks path) a is = quiet_is s a _ is (plain s env client _)
 
-pub quiet_command : (s : Settings) (env : Env) (c : RepoState) (client : Client) (r : Result MainCommand CommandFault) → IsQuiet s (command_answer s env c client r)
-quiet_command s env c client (Ok command) =
-    quiet_if s (wants_user s client command) (asks s env (record { client = client; waiting = Some command }))
-    (behind (login_request command) (own_answer s env c client command))
-    (asking s env _ _) (quiet_behind s (login_request command) (own_answer s env c client command) (quiet_own s env c client command))
-quiet_command s env c client (Err UnknownName) = plain s env client _
-quiet_command s env c client (Err BadParameters) = quiet_end s env _
-quiet_command s env c client (Err NoMemory) = quiet_end s env _
+quiet_known : (s : Settings) (waits halted : Bool) (env : Env) (c : RepoState) (client : Client) (command : MainCommand) (a : Answer)
+    → KnownCommand waits halted s env c client command a → IsQuiet s a
+quiet_known s true halted env c client command a is = quiet_is s a _ is (asking s env _ _)
+quiet_known s false halted env c client command a step =
+    quiet_behind s (login_request command) (OwnStep halted s env c client command) a (quiet_own s halted env c client command) step
+
+quiet_main : (s : Settings) (halted : Bool) (env : Env) (c : RepoState) (client : Client) (r : Result MainCommand CommandFault) (a : Answer)
+    → MainStep halted s env c client r a → IsQuiet s a
+quiet_main s halted env c client (Ok command) a step = quiet_known s (wants_user s client command) halted env c client command a step
+quiet_main s halted env c client (Err UnknownName) a is = quiet_is s a _ is (plain s env client _)
+quiet_main s halted env c client (Err BadParameters) a is = quiet_is s a _ is (ending s env _)
+quiet_main s halted env c client (Err NoMemory) a is = quiet_is s a _ is (ending s env _)
 
 -- ---- logins
 
-pub quiet_logged_in : (s : Settings) (env : Env) (c : RepoState) (client : Client) (waiting : Option MainCommand) → IsQuiet s (logged_in s env c client waiting)
-quiet_logged_in s env c client None = plain s env client _
-quiet_logged_in s env c client (Some command) =
-    quiet_behind s (replies.Success ∷ []) (own_answer s env c client command) (quiet_own s env c client command)
+quiet_logged_in : (s : Settings) (halted : Bool) (env : Env) (c : RepoState) (client : Client) (waiting : Option MainCommand) (a : Answer)
+    → LoggedIn halted s env c client waiting a → IsQuiet s a
+quiet_logged_in s halted env c client None a is = quiet_is s a _ is (plain s env client _)
+quiet_logged_in s halted env c client (Some command) a step =
+    quiet_behind s (replies.Success ∷ []) (OwnStep halted s env c client command) a (quiet_own s halted env c client command) step
 
-quiet_choice : (s : Settings) (env : Env) (c : RepoState) (login : OpenLogin) (mechanism : Option Mechanism) → IsQuiet s (choice_answer s env c login mechanism)
-quiet_choice s env c login None = asking s env login _
-quiet_choice s env c login (Some mechanisms.Anonymous) = quiet_logged_in s env c login.client login.waiting
-quiet_choice s env c login (Some mechanisms.CramMd5) = record { nothing = refl; new = tt }
+quiet_choice : (s : Settings) (halted : Bool) (env : Env) (c : RepoState) (login : OpenLogin) (mechanism : Option Mechanism) (a : Answer)
+    → ChoiceStep halted s env c login mechanism a → IsQuiet s a
+quiet_choice s halted env c login None a is = quiet_is s a _ is (asking s env login _)
+quiet_choice s halted env c login (Some mechanisms.Anonymous) a step = quiet_logged_in s halted env c login.client login.waiting a step
+quiet_choice s halted env c login (Some mechanisms.CramMd5) a is = quiet_is s a _ is (record { of_locks = tt; new = tt })
 
-pub quiet_login : (s : Settings) (env : Env) (c : RepoState) (login : OpenLogin) (r : Result AuthResponse CommandFault) → IsQuiet s (login_answer s env c login r)
-quiet_login s env c login (Ok r) = quiet_choice s env c login (chosen (offer s.users login.waiting) r.mechanism)
-quiet_login s env c login (Err fault) = quiet_end s env _
+quiet_login : (s : Settings) (halted : Bool) (env : Env) (c : RepoState) (login : OpenLogin) (r : Result AuthResponse CommandFault) (a : Answer)
+    → LoginStep halted s env c login r a → IsQuiet s a
+quiet_login s halted env c login (Ok r) a step = quiet_choice s halted env c login (chosen (offer s.users login.waiting) r.mechanism) a step
+quiet_login s halted env c login (Err fault) a is = quiet_is s a _ is (ending s env _)
 
-pub quiet_outcome : (s : Settings) (env : Env) (c : RepoState) (login : OpenLogin) (user : Option (List ℕ)) → IsQuiet s (challenge_outcome s env c login user)
-quiet_outcome s env c login None = asking s env login _
-quiet_outcome s env c login (Some name) = quiet_logged_in s env c (with_user login.client name) login.waiting
+quiet_outcome : (s : Settings) (halted : Bool) (env : Env) (c : RepoState) (login : OpenLogin) (user : Option (List ℕ)) (a : Answer)
+    → OutcomeStep halted s env c login user a → IsQuiet s a
+quiet_outcome s halted env c login None a is = quiet_is s a _ is (asking s env login _)
+quiet_outcome s halted env c login (Some name) a step = quiet_logged_in s halted env c (with_user login.client name) login.waiting a step
+
+quiet_challenge : (s : Settings) (halted : Bool) (env : Env) (c : RepoState) (pending : OpenChallenge) (text : Option (List ℕ)) (a : Answer)
+    → ChallengeStep halted s env c pending text a → IsQuiet s a
+quiet_challenge s halted env c pending None a is = quiet_is s a _ is (ending s env _)
+quiet_challenge s halted env c pending (Some text) a (user, whose, step) = quiet_outcome s halted env c pending.login user a step
 
 -- ---- an edit that was given up
 
-pub quiet_skipping : (s : Settings) (env : Env) (client : Client) (ends : Option Bool) → IsQuiet s (skipping_answer env client ends)
-quiet_skipping s env client None = quiet_end s env _
+quiet_skipping : (s : Settings) (env : Env) (client : Client) (ends : Option Bool) → IsQuiet s (skipping_answer env client ends)
+quiet_skipping s env client None = ending s env _
 quiet_skipping s env client (Some true) = plain s env client _
-quiet_skipping s env client (Some false) = record { nothing = refl; new = tt }
+quiet_skipping s env client (Some false) = record { of_locks = tt; new = tt }
+
+-- ---- an input
+
+-- the session has an edit, and a command of it has come
+abbrev pub IsEditing : Stage → Input → Type 0
+IsEditing (Editing edit) (Whole t) = Unit {0}
+IsEditing phase input = ⊥
+
+-- but for the commands of an edit, an input changes nothing but locks
+pub quiet_input : (s : Settings) (halted : Bool) (env : Env) (c : RepoState) (phase : Stage) (input : Input) (a : Answer)
+    → (IsEditing phase input → ⊥) → InputStep halted s env c phase input a → IsQuiet s a
+quiet_input s halted env c Greeted (Whole t) a not is = quiet_is s a _ is (quiet_greeting s env (client_greeting t))
+quiet_input s halted env c (LoggingIn login) (Whole t) a not step = quiet_login s halted env c login (auth_response t) a step
+quiet_input s halted env c (Challenged pending) (Whole t) a not step = quiet_challenge s halted env c pending (challenge_answer t) a step
+quiet_input s halted env c (Serving client) (Whole t) a not step = quiet_main s halted env c client (main_command t) a step
+quiet_input s halted env c (Editing edit) (Whole t) a not step = absurd (not tt)
+quiet_input s halted env c (Skipping client) (Whole t) a not is = quiet_is s a _ is (quiet_skipping s env client (ends_edit t))
+quiet_input s halted env c Greeted Broken a not is = quiet_is s a _ is (ending s env _)
+quiet_input s halted env c (LoggingIn login) Broken a not is = quiet_is s a _ is (ending s env _)
+quiet_input s halted env c (Challenged pending) Broken a not is = quiet_is s a _ is (ending s env _)
+quiet_input s halted env c (Serving client) Broken a not is = quiet_is s a _ is (ending s env _)
+quiet_input s halted env c (Editing edit) Broken a not is = quiet_is s a _ is (ending s env _)
+quiet_input s halted env c (Skipping client) Broken a not is = quiet_is s a _ is (ending s env _)
+quiet_input s halted env c Ended input a not is = quiet_is s a _ is (ending s env _)

@@ -7,6 +7,7 @@ use Rattle.repo_api.specs.Commits.{commit_refusal}
 use Rattle.repo_api.specs.Accepted.{Accepted, changed, changed_all}
 use Rattle.repo_api.specs.Accepted.Accepted.{Commits, Locks, Unlocks, Releases}
 use Rattle.repo_api.specs.declared.edit.EditOp.{EditOp}
+use Rattle.repo_api.specs.declared.ask.CommitAsk.{CommitAsk}
 use Rattle.commands.specs.Commands.{main_command}
 use Rattle.commands.specs.Logins.{client_greeting, auth_response, challenge_answer}
 use Rattle.edit_commands.specs.Editing.{editor_command, ends_edit}
@@ -26,8 +27,7 @@ use Rattle.machine.specs.Soundness.{MeetBy}
 use Rattle.machine.specs.Hearing.{Input}
 use Rattle.machine.specs.Hearing.Input.{Whole, Broken}
 use Rattle.machine.specs.Answers.{Verdict, Effect, Answer, content_after}
-use Rattle.machine.specs.Logins.{ChallengeStep}
-use Rattle.machine.specs.Machine.{InputStep, MachineEdit, JudgedEdit, CommitStep, CloseStep, CommandStep, EditingStep, ending_of, commit_ask, commit_answer}
+use Rattle.machine.specs.Machine.{InputStep, MachineEdit, JudgedEdit, CommitStep, CloseStep, CommandStep, EditingStep, ending_of, commit_ask, release_effect, phase_after, CommittedStep}
 use Rattle.machine.specs.Answers.Verdict.{Written, NotWritten, Unknown}
 use Rattle.machine.specs.Steps.{input_step, StepAt, StepWritten, StepOrNothing, AddsAll, Stores, EffectAt}
 use Rattle.machine.specs.declared.asked.Asked.{Asked}
@@ -37,7 +37,7 @@ use Rattle.machine.specs.declared.ending.Ending.TheVariants.{Commits as ToCommit
 use Rattle.machine.specs.declared.phase.Phase.TheVariants.{Greeted, LoggingIn, Challenged, Serving, Editing, Skipping, Ended}
 use Rattle.machine.specs.declared.phase.Client.{Client}
 use Rattle.machine.specs.declared.login.OpenChallenge.{OpenChallenge}
-use Rattle.machine.proofs.Quiet.{HasNewEdit, IsQuiet, quiet_greeting, quiet_login, quiet_outcome, quiet_command, quiet_skipping}
+use Rattle.machine.proofs.Quiet.{HasNewEdit, IsQuiet, quiet_input}
 
 -- ---- beginnings
 
@@ -77,14 +77,6 @@ rests_new s (Serving client) c new = tt
 rests_new s (Editing edit) c new = subst (λ (e : EditState). EditRestsOn e c) (sym new) tt
 rests_new s (Skipping client) c new = tt
 rests_new s Ended c new = tt
-
-rests_quiet : (c : RepoState) (s : Settings) (a b : Answer) → a ≡ b → IsQuiet s b → EditRests a.phase c
-rests_quiet c s a b is quiet = rests_is c a b is (rests_new s b.phase c quiet.new)
-
-rests_challenge : (s : Settings) (env : Env) (c : RepoState) (pending : OpenChallenge) (text : Option (List ℕ)) (a : Answer)
-    → ChallengeStep s env c pending text a → EditRests a.phase c
-rests_challenge s env c pending None a is = rests_is c a _ is tt
-rests_challenge s env c pending (Some text) a (user, whose, is) = rests_quiet c s a _ is (quiet_outcome s env c pending.login user)
 
 -- ---- the steps of an edit
 
@@ -132,21 +124,27 @@ rests_edits : (env : Env) (c : RepoState) (edit : MachineEdit) (command : Editor
 rests_edits env c edit command None a rests (after, applies, is) = rests_is c a _ is (rests_applied c edit.editor after command rests applies)
 rests_edits env c edit command (Some r) a rests is = rests_is c a _ is tt
 
-rests_committed : (env : Env) (c : RepoState) (client : Client) (asked : Asked) (t : TxnState) (date : List ℕ) (v : Verdict) → EditRests (commit_answer env c client asked t date v).phase c
-rests_committed env c client asked t date Written = tt
-rests_committed env c client asked t date NotWritten = tt
-rests_committed env c client asked t date Unknown = tt
+rests_phase : (c : RepoState) (client : Client) (v : Verdict) → EditRests (phase_after client v) c
+rests_phase c client Written = tt
+rests_phase c client NotWritten = tt
+rests_phase c client Unknown = tt
 
-rests_commit : (halted : Bool) (env : Env) (c : RepoState) (client : Client) (asked : Asked) (t : TxnState)
-    (date : List ℕ) (r : Option Refusal) (a : Answer) → CommitStep halted env c client asked t date r a → EditRests a.phase c
-rests_commit true env c client asked t date r a is = rests_is c a _ is tt
-rests_commit false env c client asked t date (Some r) a is = rests_is c a _ is tt
-rests_commit false env c client asked t date None a (v, is) = rests_is c a _ is (rests_committed env c client asked t date v)
+rests_committed : (env : Env) (c : RepoState) (client : Client) (ask : CommitAsk) (t : TxnState) (v : Verdict) (a : Answer)
+    → CommittedStep env c client ask t v a → EditRests a.phase c
+rests_committed env c client ask t Written a (release, wanted, is) = rests_is c a _ is (rests_phase c client (release_effect ask release).store)
+rests_committed env c client ask t NotWritten a is = rests_is c a _ is tt
+rests_committed env c client ask t Unknown a is = rests_is c a _ is tt
+
+rests_commit : (halted : Bool) (env : Env) (c : RepoState) (client : Client) (ask : CommitAsk) (t : TxnState)
+    (r : Option Refusal) (a : Answer) → CommitStep halted env c client ask t r a → EditRests a.phase c
+rests_commit true env c client ask t r a is = rests_is c a _ is tt
+rests_commit false env c client ask t (Some r) a is = rests_is c a _ is tt
+rests_commit false env c client ask t None a (v, step) = rests_committed env c client ask t v a step
 
 rests_close : (halted : Bool) (env : Env) (c : RepoState) (client : Client) (asked : Asked) (r : Result TxnState Refusal) (a : Answer)
     → CloseStep halted env c client asked r a → EditRests a.phase c
 rests_close halted env c client asked (Ok t) a (date, is_date, step) =
-    rests_commit halted env c client asked t date (commit_refusal c (commit_ask client asked date) t) a step
+    rests_commit halted env c client (commit_ask client asked date) t (commit_refusal c (commit_ask client asked date) t) a step
 rests_close halted env c client asked (Err r) a is = rests_is c a _ is tt
 
 rests_told : (halted : Bool) (env : Env) (c : RepoState) (edit : MachineEdit) (command : EditorCommand) (ending : Option Ending) (a : Answer)
@@ -164,20 +162,23 @@ rests_editing halted env c edit (Err NoMemory) a rests is = rests_is c a _ is tt
 
 -- ---- an input
 
+rests_quiet : (s : Settings) (c : RepoState) (a : Answer) → IsQuiet s a → EditRests a.phase c
+rests_quiet s c a quiet = rests_new s a.phase c quiet.new
+
 rests_step : (halted : Bool) (s : Settings) (env : Env) (c : RepoState) (phase : Stage) (input : Input) (a : Answer) → EditRests phase c → InputStep halted s env c phase input a → EditRests a.phase c
-rests_step halted s env c Greeted (Whole t) a rests is = rests_quiet c s a _ is (quiet_greeting s env (client_greeting t))
-rests_step halted s env c (LoggingIn login) (Whole t) a rests is = rests_quiet c s a _ is (quiet_login s env c login (auth_response t))
-rests_step halted s env c (Challenged pending) (Whole t) a rests step = rests_challenge s env c pending (challenge_answer t) a step
-rests_step halted s env c (Serving client) (Whole t) a rests is = rests_quiet c s a _ is (quiet_command s env c client (main_command t))
+rests_step halted s env c Greeted (Whole t) a rests step = rests_quiet s c a (quiet_input s halted env c Greeted (Whole t) a (λ h. h) step)
+rests_step halted s env c (LoggingIn login) (Whole t) a rests step = rests_quiet s c a (quiet_input s halted env c (LoggingIn login) (Whole t) a (λ h. h) step)
+rests_step halted s env c (Challenged pending) (Whole t) a rests step = rests_quiet s c a (quiet_input s halted env c (Challenged pending) (Whole t) a (λ h. h) step)
+rests_step halted s env c (Serving client) (Whole t) a rests step = rests_quiet s c a (quiet_input s halted env c (Serving client) (Whole t) a (λ h. h) step)
+rests_step halted s env c (Skipping client) (Whole t) a rests step = rests_quiet s c a (quiet_input s halted env c (Skipping client) (Whole t) a (λ h. h) step)
 rests_step halted s env c (Editing edit) (Whole t) a rests step = rests_editing halted env c edit (editor_command t) a rests step
-rests_step halted s env c (Skipping client) (Whole t) a rests is = rests_quiet c s a _ is (quiet_skipping s env client (ends_edit t))
-rests_step halted s env c Greeted Broken a rests is = rests_is c a _ is tt
-rests_step halted s env c (LoggingIn login) Broken a rests is = rests_is c a _ is tt
-rests_step halted s env c (Challenged pending) Broken a rests is = rests_is c a _ is tt
-rests_step halted s env c (Serving client) Broken a rests is = rests_is c a _ is tt
-rests_step halted s env c (Editing edit) Broken a rests is = rests_is c a _ is tt
-rests_step halted s env c (Skipping client) Broken a rests is = rests_is c a _ is tt
-rests_step halted s env c Ended input a rests is = rests_is c a _ is tt
+rests_step halted s env c Greeted Broken a rests step = rests_quiet s c a (quiet_input s halted env c Greeted Broken a (λ h. h) step)
+rests_step halted s env c (LoggingIn login) Broken a rests step = rests_quiet s c a (quiet_input s halted env c (LoggingIn login) Broken a (λ h. h) step)
+rests_step halted s env c (Challenged pending) Broken a rests step = rests_quiet s c a (quiet_input s halted env c (Challenged pending) Broken a (λ h. h) step)
+rests_step halted s env c (Serving client) Broken a rests step = rests_quiet s c a (quiet_input s halted env c (Serving client) Broken a (λ h. h) step)
+rests_step halted s env c (Skipping client) Broken a rests step = rests_quiet s c a (quiet_input s halted env c (Skipping client) Broken a (λ h. h) step)
+rests_step halted s env c (Editing edit) Broken a rests step = rests_quiet s c a (quiet_input s halted env c (Editing edit) Broken a (λ h. h) step)
+rests_step halted s env c Ended input a rests step = rests_is c a _ step tt
 
 change_keeps : (c : RepoState) (e : Accepted) → IsBeginning c.revisions (changed c e).revisions
 change_keeps c (Commits ask t) = record { more = _; is = refl }

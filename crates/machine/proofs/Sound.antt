@@ -12,6 +12,8 @@ use Rattle.repo_api.specs.declared.entry.Entry.{Entry}
 use Rattle.repo_api.specs.declared.ask.CommitAsk.{CommitAsk}
 use Rattle.repo_api.specs.States.{RepoState, TxnState, Revision, IsBeginning, tree_of, tree_in, trees_in, youngest}
 use Rattle.repo_api.specs.Commits.{commit_refusal, next_tree, committed}
+use Rattle.repo_api.specs.Accepted.{Accepted, changed, changed_all}
+use Rattle.repo_api.specs.Accepted.Accepted.{Commits, Locks, Unlocks, Releases}
 use Rattle.commands.specs.Commands.{main_command}
 use Rattle.commands.specs.Logins.{client_greeting, auth_response, challenge_answer}
 use Rattle.edit_commands.specs.Editing.{editor_command, ends_edit}
@@ -30,17 +32,17 @@ use Rattle.machine.specs.Soundness.{MeetBy}
 use Rattle.machine.specs.Hearing.{Input}
 use Rattle.machine.specs.Hearing.Input.{Whole, Broken}
 use Rattle.machine.specs.Answers.{Verdict, Effect, Answer, content_after}
-use Rattle.machine.specs.Logins.{ChallengeStep}
-use Rattle.machine.specs.Machine.{InputStep, MachineEdit, JudgedEdit, CommitStep, CloseStep, CommandStep, EditingStep, ending_of, commit_ask, commit_answer}
+use Rattle.machine.specs.Machine.{InputStep, MachineEdit, JudgedEdit, CommitStep, CloseStep, CommandStep, EditingStep, ending_of, commit_ask, Release, release_effect, phase_after, made_answer, CommittedStep}
+use Rattle.machine.specs.Machine.Release.{Stays, Released, Lacks, Fails}
 use Rattle.machine.specs.Answers.Verdict.{Written, NotWritten, Unknown}
 use Rattle.machine.specs.declared.asked.Asked.{Asked}
 use Rattle.machine.specs.declared.env.Env.{Env}
 use Rattle.machine.specs.declared.ending.Ending.{Ending}
-use Rattle.machine.specs.declared.ending.Ending.TheVariants.{Commits, GivesUp}
+use Rattle.machine.specs.declared.ending.Ending.TheVariants.{Commits as ToCommit, GivesUp}
 use Rattle.machine.specs.declared.phase.Phase.TheVariants.{Greeted, LoggingIn, Challenged, Serving, Editing, Skipping, Ended}
 use Rattle.machine.specs.declared.phase.Client.{Client}
 use Rattle.machine.specs.declared.login.OpenChallenge.{OpenChallenge}
-use Rattle.machine.proofs.Quiet.{HasNewEdit, IsQuiet, quiet_greeting, quiet_login, quiet_outcome, quiet_command, quiet_skipping}
+use Rattle.machine.proofs.Quiet.{HasNewEdit, AreOfLocks, IsQuiet, quiet_input}
 use Rattle.machine.proofs.Resting.{rests_on}
 
 trees_more : (rs : List Revision) (r : Revision) → AreTrees rs → IsTree (tree_of r.tree) → AreTrees (rs ++ r ∷ [])
@@ -85,6 +87,27 @@ LeavesTrees c a = AreSound (content_after c a.effect).revisions × EditIsSound a
 leaves_is : (c : RepoState) (a b : Answer) → a ≡ b → LeavesTrees c b → LeavesTrees c a
 leaves_is c a b e r = subst (λ (x : Answer). LeavesTrees c x) (sym e) r
 
+-- changes of locks leave the trees as they are
+locks_leave : (c : RepoState) (es : List Accepted) → AreOfLocks es → AreSound c.revisions → AreSound (changed_all c es).revisions × MeetBy c es
+locks_leave c [] of trees = (trees, tt)
+locks_leave c (Commits ask t ∷ es) (of, more) trees = cc
+locks_leave c (Locks ask ∷ es) (of, more) trees = let left = locks_leave (changed c (Locks ask)) es more trees in (left.0, (tt, left.1))
+locks_leave c (Unlocks ask ∷ es) (of, more) trees = let left = locks_leave (changed c (Unlocks ask)) es more trees in (left.0, (tt, left.1))
+locks_leave c (Releases user tokens ∷ es) (of, more) trees =
+    let left = locks_leave (changed c (Releases user tokens)) es more trees in (left.0, (tt, left.1))
+
+-- a release is a change of locks
+release_of_locks : (ask : CommitAsk) (release : Release) → AreOfLocks (release_effect ask release).changes
+release_of_locks ask Stays = tt
+release_of_locks ask Released = (refl, tt)
+release_of_locks ask Lacks = tt
+release_of_locks ask (Fails v) = tt
+
+sound_after : (client : Client) (v : Verdict) → EditIsSound (phase_after client v)
+sound_after client Written = tt
+sound_after client NotWritten = tt
+sound_after client Unknown = tt
+
 module _ (begins : (path : PathValue) (name : List ℕ) → IsSoundEdit (new_edit path name))
     (goes_on : (c : RepoState) (old new : EditState) (command : EditorCommand) → AreSound c.revisions → RestsOn old c → IsSoundEdit old → edit_refusal c old command ≡ None → Applies c old command new → IsSoundEdit new)
     (meets : (c : RepoState) (ask : CommitAsk) (t : TxnState) → AreMarked (trees_in c.revisions) → IsTree (trees_in c.revisions (youngest c))
@@ -102,37 +125,40 @@ module _ (begins : (path : PathValue) (name : List ℕ) → IsSoundEdit (new_edi
   sound_new s (Skipping client) new = tt
   sound_new s Ended new = tt
 
-  leaves_quiet : (c : RepoState) (s : Settings) (a b : Answer) → AreSound c.revisions → a ≡ b → IsQuiet s b → LeavesTrees c a
-  leaves_quiet c s a b trees is quiet =
-      leaves_is c a b is (subst (λ (e : Effect). AreSound (content_after c e).revisions × EditIsSound b.phase × MeetBy c e.changes)
-      (sym quiet.nothing) (trees, sound_new s b.phase quiet.new, tt))
-
-  leaves_challenge : (s : Settings) (env : Env) (c : RepoState) (pending : OpenChallenge) (text : Option (List ℕ)) (a : Answer)
-      → AreSound c.revisions → ChallengeStep s env c pending text a → LeavesTrees c a
-  leaves_challenge s env c pending None a trees is = leaves_is c a _ is (trees, tt, tt)
-  leaves_challenge s env c pending (Some text) a trees (user, whose, is) = leaves_quiet c s a _ trees is (quiet_outcome s env c pending.login user)
+  leaves_quiet : (c : RepoState) (s : Settings) (a : Answer) → AreSound c.revisions → IsQuiet s a → LeavesTrees c a
+  leaves_quiet c s a trees quiet =
+      let left = locks_leave c a.effect.changes quiet.of_locks trees in
+      (left.0, sound_new s a.phase quiet.new, left.1)
 
   leaves_edits : (env : Env) (c : RepoState) (edit : MachineEdit) (command : EditorCommand) (r : Option Refusal) (a : Answer)
       → AreSound c.revisions → RestsOn edit.editor c → IsSoundEdit edit.editor → edit_refusal c edit.editor command ≡ r → JudgedEdit env c edit command r a → LeavesTrees c a
   leaves_edits env c edit command None a trees rests sound judged (after, applies, is) = leaves_is c a _ is (trees, goes_on c edit.editor after command trees rests sound judged applies, tt)
   leaves_edits env c edit command (Some r) a trees rests sound judged is = leaves_is c a _ is (trees, tt, tt)
 
-  leaves_committed : (env : Env) (c : RepoState) (client : Client) (asked : Asked) (t : TxnState) (date : List ℕ) (v : Verdict)
-      → AreSound c.revisions → MeetWell (trees_in c.revisions) t.base (tree_of t.tree) (youngest c) → LeavesTrees c (commit_answer env c client asked t date v)
-  leaves_committed env c client asked t date Written trees w = ((trees_more c.revisions _ trees.0 (makes_tree c t w), makes_marks c (commit_ask client asked date) t w), tt, (w, tt))
-  leaves_committed env c client asked t date NotWritten trees w = (trees, tt, tt)
-  leaves_committed env c client asked t date Unknown trees w = (trees, tt, tt)
+  leaves_made : (env : Env) (c : RepoState) (client : Client) (ask : CommitAsk) (t : TxnState) (release : Release)
+      → AreSound c.revisions → MeetWell (trees_in c.revisions) t.base (tree_of t.tree) (youngest c) → LeavesTrees c (made_answer env c client ask t release)
+  leaves_made env c client ask t release trees w =
+      let freed = release_effect ask release in
+      let left = locks_leave (committed c ask t) freed.changes (release_of_locks ask release)
+      (trees_more c.revisions _ trees.0 (makes_tree c t w), makes_marks c ask t w) in
+      (left.0, sound_after client freed.store, (w, left.1))
 
-  leaves_commit : (halted : Bool) (env : Env) (c : RepoState) (client : Client) (asked : Asked) (t : TxnState)
-      (date : List ℕ) (r : Option Refusal) (a : Answer)
+  leaves_committed : (env : Env) (c : RepoState) (client : Client) (ask : CommitAsk) (t : TxnState) (v : Verdict) (a : Answer)
+      → AreSound c.revisions → MeetWell (trees_in c.revisions) t.base (tree_of t.tree) (youngest c) → CommittedStep env c client ask t v a → LeavesTrees c a
+  leaves_committed env c client ask t Written a trees w (release, wanted, is) = leaves_is c a _ is (leaves_made env c client ask t release trees w)
+  leaves_committed env c client ask t NotWritten a trees w is = leaves_is c a _ is (trees, tt, tt)
+  leaves_committed env c client ask t Unknown a trees w is = leaves_is c a _ is (trees, tt, tt)
+
+  leaves_commit : (halted : Bool) (env : Env) (c : RepoState) (client : Client) (ask : CommitAsk) (t : TxnState)
+      (r : Option Refusal) (a : Answer)
       → AreSound c.revisions → IsBeginning t.shown c.revisions → IsMarkedTxn t → IsTree (tree_of t.tree)
-      → commit_refusal c (commit_ask client asked date) t ≡ r
-      → CommitStep halted env c client asked t date r a → LeavesTrees c a
-  leaves_commit true env c client asked t date r a trees b m tree judged is = leaves_is c a _ is (trees, tt, tt)
-  leaves_commit false env c client asked t date (Some r) a trees b m tree judged is = leaves_is c a _ is (trees, tt, tt)
-  leaves_commit false env c client asked t date None a trees b m tree judged (v, is) =
-      let met = meets c (commit_ask client asked date) t trees.1 (youngest_tree c t trees.0 b m) b m tree judged in
-      leaves_is c a _ is (leaves_committed env c client asked t date v trees met)
+      → commit_refusal c ask t ≡ r
+      → CommitStep halted env c client ask t r a → LeavesTrees c a
+  leaves_commit true env c client ask t r a trees b m tree judged is = leaves_is c a _ is (trees, tt, tt)
+  leaves_commit false env c client ask t (Some r) a trees b m tree judged is = leaves_is c a _ is (trees, tt, tt)
+  leaves_commit false env c client ask t None a trees b m tree judged (v, step) =
+      let met = meets c ask t trees.1 (youngest_tree c t trees.0 b m) b m tree judged in
+      leaves_committed env c client ask t v a trees met step
 
   leaves_close : (halted : Bool) (env : Env) (c : RepoState) (client : Client) (asked : Asked) (edit : EditState) (r : Result TxnState Refusal) (a : Answer)
       → AreSound c.revisions → RestsOn edit c → IsSoundEdit edit → finished edit ≡ r → CloseStep halted env c client asked r a → LeavesTrees c a
@@ -140,13 +166,14 @@ module _ (begins : (path : PathValue) (name : List ℕ) → IsSoundEdit (new_edi
       let here : edit.txn ≡ Some t = finished_is edit.refused edit.txn edit.tokens t is in
       let s : IsSoundIn (Some t) edit.tokens = subst (λ (o : Option TxnState). IsSoundIn o edit.tokens) here sound in
       let b : IsBeginning t.shown c.revisions = subst (λ (o : Option TxnState). RestsIn o c) here rests in
-      leaves_commit halted env c client asked t date (commit_refusal c (commit_ask client asked date) t) a trees b s.2 s.0 refl step
+      let ask = commit_ask client asked date in
+      leaves_commit halted env c client ask t (commit_refusal c ask t) a trees b s.2 s.0 refl step
   leaves_close halted env c client asked edit (Err r) a trees rests sound is step = leaves_is c a _ step (trees, tt, tt)
 
   leaves_told : (halted : Bool) (env : Env) (c : RepoState) (edit : MachineEdit) (command : EditorCommand) (ending : Option Ending) (a : Answer)
       → AreSound c.revisions → RestsOn edit.editor c → IsSoundEdit edit.editor → CommandStep halted env c edit command ending a → LeavesTrees c a
   leaves_told halted env c edit command None a trees rests sound step = leaves_edits env c edit command (edit_refusal c edit.editor command) a trees rests sound refl step
-  leaves_told halted env c edit command (Some Commits) a trees rests sound step = leaves_close halted env c edit.client edit.asked edit.editor (finished edit.editor) a trees rests sound refl step
+  leaves_told halted env c edit command (Some ToCommit) a trees rests sound step = leaves_close halted env c edit.client edit.asked edit.editor (finished edit.editor) a trees rests sound refl step
   leaves_told halted env c edit command (Some GivesUp) a trees rests sound is = leaves_is c a _ is (trees, tt, tt)
 
   leaves_editing : (halted : Bool) (env : Env) (c : RepoState) (edit : MachineEdit) (r : Result EditorCommand CommandFault) (a : Answer)
@@ -158,18 +185,18 @@ module _ (begins : (path : PathValue) (name : List ℕ) → IsSoundEdit (new_edi
 
   leaves_trees : (halted : Bool) (s : Settings) (env : Env) (c : RepoState) (phase : Stage) (input : Input) (a : Answer)
       → AreSound c.revisions → EditRests phase c → EditIsSound phase → InputStep halted s env c phase input a → LeavesTrees c a
-  leaves_trees halted s env c Greeted (Whole t) a trees rests sound is = leaves_quiet c s a _ trees is (quiet_greeting s env (client_greeting t))
-  leaves_trees halted s env c (LoggingIn login) (Whole t) a trees rests sound is = leaves_quiet c s a _ trees is (quiet_login s env c login (auth_response t))
-  leaves_trees halted s env c (Challenged pending) (Whole t) a trees rests sound step = leaves_challenge s env c pending (challenge_answer t) a trees step
-  leaves_trees halted s env c (Serving client) (Whole t) a trees rests sound is = leaves_quiet c s a _ trees is (quiet_command s env c client (main_command t))
+  leaves_trees halted s env c Greeted (Whole t) a trees rests sound step = leaves_quiet c s a trees (quiet_input s halted env c Greeted (Whole t) a (λ h. h) step)
+  leaves_trees halted s env c (LoggingIn login) (Whole t) a trees rests sound step = leaves_quiet c s a trees (quiet_input s halted env c (LoggingIn login) (Whole t) a (λ h. h) step)
+  leaves_trees halted s env c (Challenged pending) (Whole t) a trees rests sound step = leaves_quiet c s a trees (quiet_input s halted env c (Challenged pending) (Whole t) a (λ h. h) step)
+  leaves_trees halted s env c (Serving client) (Whole t) a trees rests sound step = leaves_quiet c s a trees (quiet_input s halted env c (Serving client) (Whole t) a (λ h. h) step)
+  leaves_trees halted s env c (Skipping client) (Whole t) a trees rests sound step = leaves_quiet c s a trees (quiet_input s halted env c (Skipping client) (Whole t) a (λ h. h) step)
   leaves_trees halted s env c (Editing edit) (Whole t) a trees rests sound step = leaves_editing halted env c edit (editor_command t) a trees rests sound step
-  leaves_trees halted s env c (Skipping client) (Whole t) a trees rests sound is = leaves_quiet c s a _ trees is (quiet_skipping s env client (ends_edit t))
-  leaves_trees halted s env c Greeted Broken a trees rests sound is = leaves_is c a _ is (trees, tt, tt)
-  leaves_trees halted s env c (LoggingIn login) Broken a trees rests sound is = leaves_is c a _ is (trees, tt, tt)
-  leaves_trees halted s env c (Challenged pending) Broken a trees rests sound is = leaves_is c a _ is (trees, tt, tt)
-  leaves_trees halted s env c (Serving client) Broken a trees rests sound is = leaves_is c a _ is (trees, tt, tt)
-  leaves_trees halted s env c (Editing edit) Broken a trees rests sound is = leaves_is c a _ is (trees, tt, tt)
-  leaves_trees halted s env c (Skipping client) Broken a trees rests sound is = leaves_is c a _ is (trees, tt, tt)
+  leaves_trees halted s env c Greeted Broken a trees rests sound step = leaves_quiet c s a trees (quiet_input s halted env c Greeted Broken a (λ h. h) step)
+  leaves_trees halted s env c (LoggingIn login) Broken a trees rests sound step = leaves_quiet c s a trees (quiet_input s halted env c (LoggingIn login) Broken a (λ h. h) step)
+  leaves_trees halted s env c (Challenged pending) Broken a trees rests sound step = leaves_quiet c s a trees (quiet_input s halted env c (Challenged pending) Broken a (λ h. h) step)
+  leaves_trees halted s env c (Serving client) Broken a trees rests sound step = leaves_quiet c s a trees (quiet_input s halted env c (Serving client) Broken a (λ h. h) step)
+  leaves_trees halted s env c (Skipping client) Broken a trees rests sound step = leaves_quiet c s a trees (quiet_input s halted env c (Skipping client) Broken a (λ h. h) step)
+  leaves_trees halted s env c (Editing edit) Broken a trees rests sound step = leaves_quiet c s a trees (quiet_input s halted env c (Editing edit) Broken a (λ h. h) step)
   leaves_trees halted s env c Ended input a trees rests sound is = leaves_is c a _ is (trees, tt, tt)
 
   pub keeps_rests : (halted : Bool) (s : Settings) (env : Env) (c : RepoState) (phase : Stage) (input : Input) (a : Answer)

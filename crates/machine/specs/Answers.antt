@@ -1,6 +1,7 @@
 -- What an input does: the replies, where the session stands then, the words that are left, and what
 -- becomes of the repository.
-use Rattle.std.specs.Prelude.{◌≡◌, ℕ, Bool, true, false, ◌||◌, List, [], ◌∷◌, ◌++◌}
+use Rattle.std.specs.Prelude.{◌≡◌, ℕ, Bool, true, false, ◌||◌, List, [], ◌∷◌, ◌++◌, Option, Some, None}
+use Rattle.refusals.specs.declared.Refusal.{Refusal}
 use Rattle.refusals.specs.declared.Refusal.TheVariants as refusals
 use Rattle.repo_api.specs.States.{RepoState}
 use Rattle.repo_api.specs.Accepted.{Accepted, changed_all}
@@ -68,6 +69,44 @@ malformed env = says env Ended (replies.Failure refusals.MalformedData ∷ [])
 abbrev pub serves : Env → Client → Reply → Answer
 serves env client reply = says env (Serving client) (reply ∷ [])
 
+-- ---- a change
+
+-- a change that the rules accept, and that is told so where it is made, by what the store says
+abbrev pub change_answer : Env → Client → Accepted → List Reply → Verdict → Answer
+change_answer env client e told Written = record {
+  replies = told;
+  phase = Serving client;
+  env = env;
+  effect = record { changes = e ∷ []; store = Written };
+}
+change_answer env client e told NotWritten = record {
+  replies = replies.Failure refusals.StoreFailed ∷ [];
+  phase = Serving client;
+  env = env;
+  effect = record { changes = []; store = NotWritten };
+}
+change_answer env client e told Unknown = record {
+  replies = replies.Failure refusals.StoreFailed ∷ [];
+  phase = Ended;
+  env = env;
+  effect = record { changes = []; store = Unknown };
+}
+
+-- a change that was judged so: a refused one changes nothing, and once changes have come to a halt
+-- none is made, whatever the rules say of it; one that is accepted is answered so, by what the store
+-- says
+abbrev pub ChangeStep : Bool → Env → Client → Option Refusal → (Verdict → Answer) → Answer → Type 0
+ChangeStep true env client r answer a =
+    a ≡ says env Ended (replies.Failure refusals.StoreFailed ∷ [])
+ChangeStep false env client (Some r) answer a = a ≡ serves env client (replies.Failure r)
+ChangeStep false env client None answer a = (v : Verdict) × (a ≡ answer v)
+
+-- ---- what comes before
+
 -- an answer behind other replies
 abbrev pub behind : List Reply → Answer → Answer
 behind told a = record a { replies = told ++ a.replies }
+
+-- a step whose answer comes behind other replies
+abbrev pub Behind : List Reply → (Answer → Type 0) → Answer → Type 0
+Behind told Step a = (b : Answer) × Step b × (a ≡ behind told b)

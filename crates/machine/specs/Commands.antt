@@ -1,5 +1,7 @@
 -- What commands are answered, once nothing has to come before.
-use Rattle.std.specs.Prelude.{ℕ, Bool, true, false, nat_lt, List, [], ◌∷◌, Option, Some, None, option_map, Result, Ok, Err, if◌then◌else◌}
+use Rattle.std.specs.Prelude.{◌≡◌, ℕ, ◌+◌, ◌%◌, ◌^◌, Bool, true, false, nat_lt, List, [], ◌∷◌, ◌++◌, Option, Some, None, option_map, Result, Ok, Err, if◌then◌else◌, codes}
+use Rattle.std.specs.FinMap.{get}
+use Rattle.std.specs.Option.{option_to_list}
 use Rattle.std.specs.List.{list_all}
 use Rattle.svnpath.specs.Paths.{PathValue}
 use Rattle.svnpath.specs.Texts.{joined}
@@ -10,15 +12,24 @@ use Rattle.refusals.specs.Refusing.{path_refusal}
 use Rattle.repo_api.specs.Properties.{PropertyList, with_property}
 use Rattle.repo_api.specs.States.{RepoState, youngest}
 use Rattle.repo_api.specs.Kinds.{kind_at, properties_at}
+use Rattle.repo_api.specs.Accepted.Accepted.{Locks, Unlocks}
+use Rattle.repo_api.specs.Locking.{LockList, at_or_under, lock_refusal, lock_of, unlock_refusal}
+use Rattle.repo_api.specs.declared.lock_ask.LockAsk.{LockAsk}
+use Rattle.repo_api.specs.declared.lock_ask.UnlockAsk.{UnlockAsk}
+use Rattle.dates.specs.Dates.{IsDateText}
 use Rattle.commands.specs.declared.command.CommitCommand.{CommitCommand}
 use Rattle.commands.specs.declared.command.MainCommand.{MainCommand}
-use Rattle.commands.specs.declared.command.MainCommand.TheVariants.{GetLatestRev, CheckPath, RevProplist, Commit, AbortEdit}
+use Rattle.commands.specs.declared.command.MainCommand.TheVariants.{GetLatestRev, CheckPath, RevProplist, Commit, AbortEdit, Lock, Unlock, GetLock, GetLocks}
+use Rattle.commands.specs.declared.command.LockCommand.{LockCommand}
+use Rattle.commands.specs.declared.command.UnlockCommand.{UnlockCommand}
+use Rattle.replies.specs.Replies.{uuid_text}
 use Rattle.replies.specs.declared.reply.Reply.{Reply}
 use Rattle.replies.specs.declared.reply.Reply.TheVariants as replies
 use Rattle.edit_rules.specs.Edits.{new_edit}
 use Rattle.edit_rules.specs.Refusing.{is_property_name}
 use Rattle.machine.specs.Settings.{Settings}
-use Rattle.machine.specs.Answers.{Answer, says, serves}
+use Rattle.machine.specs.Answers.{Verdict, Answer, says, serves, change_answer, ChangeStep}
+use Rattle.machine.specs.Answers.Verdict.{Written, NotWritten, Unknown}
 use Rattle.machine.specs.declared.env.Env.{Env}
 use Rattle.machine.specs.declared.asked.Asked.{Asked}
 use Rattle.machine.specs.declared.phase.Phase.TheVariants.{Serving, Editing}
@@ -81,17 +92,89 @@ commit_begins s env client (Ok asked) =
     says env (Editing (record { client = client; asked = asked; editor = new_edit client.path s.name })) (replies.Success ∷ [])
 commit_begins s env client (Err r) = serves env client (replies.Failure r)
 
+-- ---- locks
+
+-- the lock at a path, if there is one; those at the path and under it
+abbrev pub lock_at : RepoState → PathValue → LockList
+lock_at c path = option_to_list (option_map (λ l. (path, l)) (get c.locks path))
+
+abbrev pub locks_reply : (PathValue → LockList) → Result PathValue PathFault → Reply
+locks_reply found (Ok path) = replies.Locks (found path)
+locks_reply found (Err fault) = replies.Failure (path_refusal fault)
+
+-- `opaquelocktoken:` and the text of a word
+abbrev pub token_text : ℕ → List ℕ
+token_text word = codes "opaquelocktoken:" ++ uuid_text word
+
+-- the words that are left once the token is used: the next one, and 0 behind the greatest
+abbrev pub without_token : Env → Env
+without_token env = record env { token = (env.token + 1) % 2 ^ 128 }
+
+-- what is asked of a path by a lock of this date, and by an unlock
+abbrev pub lock_ask : Env → Client → LockCommand → PathValue → List ℕ → LockAsk
+lock_ask env client command path date = record {
+  path = path;
+  user = client.user;
+  comment = command.comment;
+  steals = command.steals;
+  current = command.current;
+  token = token_text env.token;
+  date = date;
+}
+
+abbrev pub unlock_ask : Client → UnlockCommand → PathValue → UnlockAsk
+unlock_ask client command path = record {
+  path = path;
+  user = client.user;
+  token = command.token;
+  breaks = command.breaks;
+}
+
+-- a lock that is made uses the token, and is told
+abbrev pub lock_answer : Env → Client → LockAsk → Verdict → Answer
+lock_answer env client ask Written =
+    change_answer (without_token env) client (Locks ask)
+    (replies.Lock ask.path (lock_of ask) ∷ []) Written
+lock_answer env client ask NotWritten = change_answer env client (Locks ask) [] NotWritten
+lock_answer env client ask Unknown = change_answer env client (Locks ask) [] Unknown
+
+abbrev pub LockStep : Bool → Env → RepoState → Client → LockCommand → Result PathValue PathFault
+    → Answer → Type 0
+LockStep halted env c client command (Ok path) a = (date : List ℕ) × IsDateText env.moment date
+    × (let ask = lock_ask env client command path date in
+    ChangeStep halted env client (lock_refusal c ask) (lock_answer env client ask) a)
+LockStep halted env c client command (Err fault) a =
+    a ≡ serves env client (replies.Failure (path_refusal fault))
+
+abbrev pub UnlockStep : Bool → Env → RepoState → Client → UnlockCommand
+    → Result PathValue PathFault → Answer → Type 0
+UnlockStep halted env c client command (Ok path) a =
+    let ask = unlock_ask client command path in
+    ChangeStep halted env client (unlock_refusal c ask)
+    (change_answer env client (Unlocks ask) (replies.Success ∷ [])) a
+UnlockStep halted env c client command (Err fault) a =
+    a ≡ serves env client (replies.Failure (path_refusal fault))
+
 -- ---- a command, and what comes before it
 
--- a command's own answer
-abbrev pub own_answer : Settings → Env → RepoState → Client → MainCommand → Answer
-own_answer s env c client GetLatestRev = serves env client (replies.Revision (youngest c))
-own_answer s env c client (CheckPath path revision) =
-    serves env client (check_path_reply c revision (joined client.path path))
-own_answer s env c client (RevProplist n) = serves env client (rev_proplist_reply c n)
-own_answer s env c client (Commit command) =
-    commit_begins s env client (asked_by command (lock_tokens client.path command.tokens))
-own_answer s env c client AbortEdit = says env (Serving client) []
+-- what a command is answered, once nothing has to come before
+abbrev pub OwnStep : Bool → Settings → Env → RepoState → Client → MainCommand → Answer → Type 0
+OwnStep halted s env c client GetLatestRev a =
+    a ≡ serves env client (replies.Revision (youngest c))
+OwnStep halted s env c client (CheckPath path revision) a =
+    a ≡ serves env client (check_path_reply c revision (joined client.path path))
+OwnStep halted s env c client (RevProplist n) a = a ≡ serves env client (rev_proplist_reply c n)
+OwnStep halted s env c client (Commit command) a =
+    a ≡ commit_begins s env client (asked_by command (lock_tokens client.path command.tokens))
+OwnStep halted s env c client AbortEdit a = a ≡ says env (Serving client) []
+OwnStep halted s env c client (Lock command) a =
+    LockStep halted env c client command (joined client.path command.path) a
+OwnStep halted s env c client (Unlock command) a =
+    UnlockStep halted env c client command (joined client.path command.path) a
+OwnStep halted s env c client (GetLock path) a =
+    a ≡ serves env client (locks_reply (lock_at c) (joined client.path path))
+OwnStep halted s env c client (GetLocks path) a =
+    a ≡ serves env client (locks_reply (at_or_under c.locks) (joined client.path path))
 
 -- what is told before it: a login request, which asks for nothing; an edit that is given up outside
 -- one draws no reply
@@ -101,6 +184,10 @@ login_request (CheckPath path revision) = replies.NoLogin ∷ []
 login_request (RevProplist n) = replies.NoLogin ∷ []
 login_request (Commit command) = replies.NoLogin ∷ []
 login_request AbortEdit = []
+login_request (Lock command) = replies.NoLogin ∷ []
+login_request (Unlock command) = replies.NoLogin ∷ []
+login_request (GetLock path) = replies.NoLogin ∷ []
+login_request (GetLocks path) = replies.NoLogin ∷ []
 
 -- whether a command writes
 abbrev pub is_write : MainCommand → Bool
@@ -109,3 +196,7 @@ is_write (CheckPath path revision) = false
 is_write (RevProplist n) = false
 is_write (Commit command) = true
 is_write AbortEdit = false
+is_write (Lock command) = true
+is_write (Unlock command) = true
+is_write (GetLock path) = false
+is_write (GetLocks path) = false

@@ -17,8 +17,8 @@ use Rattle.replies.specs.declared.reply.Offer.{Offer}
 use Rattle.replies.specs.declared.reply.Offer.TheVariants.{Anonymous, AnonymousOrUser, User}
 use Rattle.replies.specs.declared.reply.Reply.TheVariants as replies
 use Rattle.machine.specs.Settings.{Settings}
-use Rattle.machine.specs.Answers.{Answer, says, behind, malformed}
-use Rattle.machine.specs.Commands.{is_write, own_answer}
+use Rattle.machine.specs.Answers.{Answer, says, Behind, malformed}
+use Rattle.machine.specs.Commands.{is_write, OwnStep}
 use Rattle.machine.specs.declared.env.Env.{Env}
 use Rattle.machine.specs.declared.login.Mechanism.{Mechanism}
 use Rattle.machine.specs.declared.login.Mechanism.TheVariants as mechanisms
@@ -86,11 +86,12 @@ greeting_answer s env (Err fault) = malformed env
 -- ---- a mechanism is chosen
 
 -- the client is told of the repository, or the command that waited goes on
-abbrev pub logged_in : Settings → Env → RepoState → Client → Option MainCommand → Answer
-logged_in s env c client None =
-    says env (Serving client) (replies.Success ∷ replies.ReposInfo c.uuid client.root ∷ [])
-logged_in s env c client (Some command) =
-    behind (replies.Success ∷ []) (own_answer s env c client command)
+abbrev pub LoggedIn : Bool → Settings → Env → RepoState → Client → Option MainCommand → Answer
+    → Type 0
+LoggedIn halted s env c client None a =
+    a ≡ says env (Serving client) (replies.Success ∷ replies.ReposInfo c.uuid client.root ∷ [])
+LoggedIn halted s env c client (Some command) a =
+    Behind (replies.Success ∷ []) (OwnStep halted s env c client command) a
 
 abbrev pub challenge_of : Settings → Env → List ℕ
 challenge_of s env = challenge_text env.nonce env.moment s.name
@@ -106,18 +107,19 @@ challenges s env login =
     (replies.Challenge (challenge_of s env) ∷ [])
 
 -- after a mechanism that is not offered another choice is awaited
-abbrev pub choice_answer : Settings → Env → RepoState → OpenLogin → Option Mechanism → Answer
-choice_answer s env c login None =
-    says env (LoggingIn login) (replies.MechanismNotOffered ∷ [])
-choice_answer s env c login (Some mechanisms.Anonymous) =
-    logged_in s env c login.client login.waiting
-choice_answer s env c login (Some mechanisms.CramMd5) = challenges s env login
+abbrev pub ChoiceStep : Bool → Settings → Env → RepoState → OpenLogin → Option Mechanism → Answer
+    → Type 0
+ChoiceStep halted s env c login None a =
+    a ≡ says env (LoggingIn login) (replies.MechanismNotOffered ∷ [])
+ChoiceStep halted s env c login (Some mechanisms.Anonymous) a =
+    LoggedIn halted s env c login.client login.waiting a
+ChoiceStep halted s env c login (Some mechanisms.CramMd5) a = a ≡ challenges s env login
 
-abbrev pub login_answer : Settings → Env → RepoState → OpenLogin
-    → Result AuthResponse CommandFault → Answer
-login_answer s env c login (Ok r) =
-    choice_answer s env c login (chosen (offer s.users login.waiting) r.mechanism)
-login_answer s env c login (Err fault) = malformed env
+abbrev pub LoginStep : Bool → Settings → Env → RepoState → OpenLogin
+    → Result AuthResponse CommandFault → Answer → Type 0
+LoginStep halted s env c login (Ok r) a =
+    ChoiceStep halted s env c login (chosen (offer s.users login.waiting) r.mechanism) a
+LoginStep halted s env c login (Err fault) a = a ≡ malformed env
 
 -- ---- a challenge is answered
 
@@ -129,15 +131,17 @@ abbrev pub with_user : Client → List ℕ → Client
 with_user client name = record client { user = Some name }
 
 -- after an answer that is no user's another choice is awaited
-abbrev pub challenge_outcome : Settings → Env → RepoState → OpenLogin → Option (List ℕ) → Answer
-challenge_outcome s env c login None = says env (LoggingIn login) (replies.LoginFailed ∷ [])
-challenge_outcome s env c login (Some name) =
-    logged_in s env c (with_user login.client name) login.waiting
+abbrev pub OutcomeStep : Bool → Settings → Env → RepoState → OpenLogin → Option (List ℕ) → Answer
+    → Type 0
+OutcomeStep halted s env c login None a =
+    a ≡ says env (LoggingIn login) (replies.LoginFailed ∷ [])
+OutcomeStep halted s env c login (Some name) a =
+    LoggedIn halted s env c (with_user login.client name) login.waiting a
 
 -- the answer is judged by whose it is; what is no string is no answer
-abbrev pub ChallengeStep : Settings → Env → RepoState → OpenChallenge → Option (List ℕ) → Answer
-    → Type 0
-ChallengeStep s env c pending None a = a ≡ malformed env
-ChallengeStep s env c pending (Some text) a =
+abbrev pub ChallengeStep : Bool → Settings → Env → RepoState → OpenChallenge → Option (List ℕ)
+    → Answer → Type 0
+ChallengeStep halted s env c pending None a = a ≡ malformed env
+ChallengeStep halted s env c pending (Some text) a =
     (user : Option (List ℕ)) × IsAnswerOf pending.challenge (logins_of s.users) text user
-    × (a ≡ challenge_outcome s env c pending.login user)
+    × OutcomeStep halted s env c pending.login user a

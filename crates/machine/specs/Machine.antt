@@ -3,9 +3,10 @@ use Rattle.std.specs.Prelude.{◌≡◌, Bool, true, false, List, [], ◌∷◌,
 use Rattle.refusals.specs.declared.Refusal.{Refusal}
 use Rattle.refusals.specs.declared.Refusal.TheVariants as refusals
 use Rattle.dates.specs.Dates.{IsDateText}
+use Rattle.access.specs.Changing.{wants_release}
 use Rattle.repo_api.specs.States.{RepoState, TxnState}
-use Rattle.repo_api.specs.Commits.{commit_refusal}
-use Rattle.repo_api.specs.Accepted.Accepted.{Commits}
+use Rattle.repo_api.specs.Commits.{commit_refusal, committed}
+use Rattle.repo_api.specs.Accepted.Accepted.{Commits, Releases}
 use Rattle.repo_api.specs.declared.ask.CommitAsk.{CommitAsk}
 use Rattle.commands.specs.Commands.{main_command}
 use Rattle.commands.specs.Logins.{client_greeting, auth_response, challenge_answer}
@@ -24,10 +25,10 @@ use Rattle.machine.specs.Settings.{Settings}
 use Rattle.machine.specs.Hearing.{Input}
 use Rattle.machine.specs.Hearing.Input.{Whole, Broken}
 use Rattle.machine.specs.Stages.{Stage}
-use Rattle.machine.specs.Answers.{Verdict, Answer, says, behind, malformed}
+use Rattle.machine.specs.Answers.{Verdict, Effect, no_effect, Answer, says, serves, change_answer, Behind, malformed}
 use Rattle.machine.specs.Answers.Verdict.{Written, NotWritten, Unknown}
-use Rattle.machine.specs.Commands.{login_request, own_answer}
-use Rattle.machine.specs.Logins.{asks, wants_user, greeting_answer, login_answer, ChallengeStep}
+use Rattle.machine.specs.Commands.{login_request, OwnStep}
+use Rattle.machine.specs.Logins.{asks, wants_user, greeting_answer, LoginStep, ChallengeStep}
 use Rattle.machine.specs.declared.env.Env.{Env}
 use Rattle.machine.specs.declared.asked.Asked.{Asked}
 use Rattle.machine.specs.declared.ending.Ending.{Ending}
@@ -40,16 +41,21 @@ use Rattle.machine.specs.declared.phase.Client.{Client}
 
 -- a command waits for a login, or is answered: the login request, which asks for nothing, comes
 -- before its own answer
-abbrev pub command_answer : Settings → Env → RepoState → Client → Result MainCommand CommandFault
-    → Answer
-command_answer s env c client (Ok command) =
-    if wants_user s client command
-    then asks s env (record { client = client; waiting = Some command })
-    else behind (login_request command) (own_answer s env c client command)
-command_answer s env c client (Err UnknownName) =
-    says env (Serving client) (replies.Failure refusals.UnknownCommand ∷ [])
-command_answer s env c client (Err BadParameters) = malformed env
-command_answer s env c client (Err NoMemory) = malformed env
+abbrev pub KnownCommand : Bool → Bool → Settings → Env → RepoState → Client → MainCommand → Answer
+    → Type 0
+KnownCommand true halted s env c client command a =
+    a ≡ asks s env (record { client = client; waiting = Some command })
+KnownCommand false halted s env c client command a =
+    Behind (login_request command) (OwnStep halted s env c client command) a
+
+abbrev pub MainStep : Bool → Settings → Env → RepoState → Client
+    → Result MainCommand CommandFault → Answer → Type 0
+MainStep halted s env c client (Ok command) a =
+    KnownCommand (wants_user s client command) halted s env c client command a
+MainStep halted s env c client (Err UnknownName) a =
+    a ≡ serves env client (replies.Failure refusals.UnknownCommand)
+MainStep halted s env c client (Err BadParameters) a = a ≡ malformed env
+MainStep halted s env c client (Err NoMemory) a = a ≡ malformed env
 
 -- ---- an edit
 
@@ -84,45 +90,82 @@ commit_ask client asked date = record {
   keep_locks = asked.keep_locks;
 }
 
--- a commit that is accepted, by what the store says
-abbrev pub commit_answer : Env → RepoState → Client → Asked → TxnState → List ℕ → Verdict → Answer
-commit_answer env c client asked t date Written = record {
-  replies = replies.Success ∷ replies.NoLogin ∷ replies.CommitInfo (length c.revisions) date client.user ∷ [];
-  phase = Serving client;
-  env = env;
-  effect = record { changes = Commits (commit_ask client asked date) t ∷ []; store = Written };
-}
-commit_answer env c client asked t date NotWritten = record {
-  replies = replies.Failure refusals.StoreFailed ∷ [];
-  phase = Serving client;
-  env = env;
-  effect = record { changes = []; store = NotWritten };
-}
-commit_answer env c client asked t date Unknown = record {
-  replies = replies.Failure refusals.StoreFailed ∷ [];
-  phase = Ended;
-  env = env;
-  effect = record { changes = []; store = Unknown };
-}
+-- what becomes of the locks that were handed in with a commit: they stay, they are released, or
+-- their release fails: for want of memory, or as the store says
+pub data Release : Type 0 where
+  Stays : Release
+  Released : Release
+  Lacks : Release
+  Fails : Verdict → Release
 
--- a commit of this date that was judged so: a refused one changes nothing, and once changes have
--- come to a halt none
--- is made, whatever the rules say of it
-abbrev pub CommitStep : Bool → Env → RepoState → Client → Asked → TxnState → List ℕ → Option Refusal
+-- a release is tried exactly where it is wanted
+abbrev pub IsReleaseOf : Bool → Release → Type 0
+IsReleaseOf false Stays = Unit {0}
+IsReleaseOf false Released = ⊥
+IsReleaseOf false Lacks = ⊥
+IsReleaseOf false (Fails v) = ⊥
+IsReleaseOf true Stays = ⊥
+IsReleaseOf true Released = Unit {0}
+IsReleaseOf true Lacks = Unit {0}
+IsReleaseOf true (Fails v) = Unit {0}
+
+abbrev pub release_fails : Release → Bool
+release_fails Stays = false
+release_fails Released = false
+release_fails Lacks = true
+release_fails (Fails v) = true
+
+abbrev pub release_effect : CommitAsk → Release → Effect
+release_effect ask Stays = no_effect
+release_effect ask Released =
+    record { changes = Releases ask.author ask.tokens ∷ []; store = Written }
+release_effect ask Lacks = no_effect
+release_effect ask (Fails v) = record { changes = []; store = v }
+
+-- where a session stands after a change that was made, by what the store said last
+abbrev pub phase_after : Client → Verdict → Stage
+phase_after client Written = Serving client
+phase_after client NotWritten = Serving client
+phase_after client Unknown = Ended
+
+-- a commit that is made, and its release behind it
+abbrev pub made_answer : Env → RepoState → Client → CommitAsk → TxnState → Release → Answer
+made_answer env c client ask t release =
+    let freed : Effect = release_effect ask release in
+    record {
+      replies = replies.Success ∷ replies.NoLogin
+          ∷ replies.CommitInfo (length c.revisions) ask.date client.user (release_fails release) ∷ [];
+      phase = phase_after client freed.store;
+      env = env;
+      effect = record { changes = Commits ask t ∷ freed.changes; store = freed.store };
+    }
+
+-- a commit that the rules accept, by what the store says
+abbrev pub CommittedStep : Env → RepoState → Client → CommitAsk → TxnState → Verdict → Answer
+    → Type 0
+CommittedStep env c client ask t Written a =
+    (release : Release) × IsReleaseOf (wants_release ask (committed c ask t)) release
+    × (a ≡ made_answer env c client ask t release)
+CommittedStep env c client ask t NotWritten a =
+    a ≡ change_answer env client (Commits ask t) [] NotWritten
+CommittedStep env c client ask t Unknown a =
+    a ≡ change_answer env client (Commits ask t) [] Unknown
+
+-- a commit of this date that was judged so
+abbrev pub CommitStep : Bool → Env → RepoState → Client → CommitAsk → TxnState → Option Refusal
     → Answer → Type 0
-CommitStep true env c client asked t date r a =
+CommitStep true env c client ask t r a =
     a ≡ says env Ended (replies.Failure refusals.StoreFailed ∷ [])
-CommitStep false env c client asked t date (Some r) a =
-    a ≡ says env (Serving client) (replies.Failure r ∷ [])
-CommitStep false env c client asked t date None a =
-    (v : Verdict) × (a ≡ commit_answer env c client asked t date v)
+CommitStep false env c client ask t (Some r) a = a ≡ serves env client (replies.Failure r)
+CommitStep false env c client ask t None a =
+    (v : Verdict) × CommittedStep env c client ask t v a
 
 -- the edit's transaction is committed, if it has one: dated by the moment, and then judged
 abbrev pub CloseStep : Bool → Env → RepoState → Client → Asked → Result TxnState Refusal → Answer
     → Type 0
 CloseStep halted env c client asked (Ok t) a = (date : List ℕ) × IsDateText env.moment date
-    × CommitStep halted env c client asked t date
-    (commit_refusal c (commit_ask client asked date) t) a
+    × (let ask = commit_ask client asked date in
+    CommitStep halted env c client ask t (commit_refusal c ask t) a)
 CloseStep halted env c client asked (Err r) a =
     a ≡ says env (Serving client) (replies.Failure r ∷ [])
 
@@ -180,11 +223,11 @@ skipping_answer env client (Some false) = says env (Skipping client) []
 abbrev pub InputStep : Bool → Settings → Env → RepoState → Stage → Input → Answer → Type 0
 InputStep halted s env c Greeted (Whole t) a = a ≡ greeting_answer s env (client_greeting t)
 InputStep halted s env c (LoggingIn login) (Whole t) a =
-    a ≡ login_answer s env c login (auth_response t)
+    LoginStep halted s env c login (auth_response t) a
 InputStep halted s env c (Challenged pending) (Whole t) a =
-    ChallengeStep s env c pending (challenge_answer t) a
+    ChallengeStep halted s env c pending (challenge_answer t) a
 InputStep halted s env c (Serving client) (Whole t) a =
-    a ≡ command_answer s env c client (main_command t)
+    MainStep halted s env c client (main_command t) a
 InputStep halted s env c (Editing edit) (Whole t) a =
     EditingStep halted env c edit (editor_command t) a
 InputStep halted s env c (Skipping client) (Whole t) a =

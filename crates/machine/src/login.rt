@@ -1,5 +1,6 @@
 //! A login that is under way.
 ghost use Rattle.std.specs.Prelude.{◌≡◌, option_map};
+ghost use Rattle.machine.specs.Commands.{without_token};
 ghost use Rattle.machine.specs.Logins.{offer, offers_anonymous, offers_user, chosen, without_nonce};
 
 use crate::env::Env;
@@ -77,6 +78,17 @@ impl Env {
             moment: self.moment,
             token: self.token,
             nonce: self.nonce.wrapping_add(1),
+        }
+    }
+
+    /// The words that are left once the token is used.
+    pub fn without_token(self) -> Env
+        ensures { result ≡ without_token self }
+    {
+        Env {
+            moment: self.moment,
+            token: self.token.wrapping_add(1),
+            nonce: self.nonce,
         }
     }
 }

@@ -1,8 +1,9 @@
 //! Items made of their parts.
-ghost use Rattle.std.specs.Prelude.{◌≡◌, IfOk};
+ghost use Rattle.std.specs.Prelude.{◌≡◌, ◌++◌, ◌∷◌, [], IfOk, IsOkAnd};
 ghost use Rattle.items.specs.View.{value_of, values_of};
 ghost use Rattle.items.specs.Values.{word, number, string, list};
 ghost use Rattle.items.specs.Word.{IsWord};
+ghost use Rattle.replies.specs.Replies.{optional_string_trees};
 
 use byte_string::ByteString;
 use items::{Item, Name};
@@ -37,4 +38,24 @@ pub fn list_item<const N: usize>(alloc: Global, items: [Item; N]) -> Result<Item
 {
     let items = Vec::from_array(alloc, items).map_err(AllocError::from)?;
     Ok(Item::List(items))
+}
+
+/// `[ string ]`
+pub fn optional_string_item(alloc: Global, text: &Option<ByteString>) -> Result<Item, AllocError>
+    ensures { IfOk result (λ item. value_of item ≡ list (optional_string_trees text.now)) }
+{
+    match text {
+        Some(text) => list_item(alloc, [string_item(alloc, text.as_slice())?]),
+        None => list_item(alloc, []),
+    }
+}
+
+/// The items, and behind them one that was to be made.
+pub fn with_made(items: Vec<Item>, made: Result<Item, AllocError>) -> Result<Vec<Item>, AllocError>
+    ensures { IfOk result (λ longer. IsOkAnd made (λ item.
+        longer.items ≡ items.items ++ item ∷ [])) }
+{
+    let mut items = items;
+    items.push(made?).map_err(AllocError::from)?;
+    Ok(items)
 }

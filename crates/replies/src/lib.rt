@@ -2,8 +2,10 @@
 #![tactic(auto)]
 
 mod build;
+mod locks;
 mod reply;
 mod sink;
 
+pub use locks::LockList;
 pub use reply::{Offer, Reply};
 pub use sink::{MemorySink, ReplySink};

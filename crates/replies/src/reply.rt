@@ -1,16 +1,18 @@
 //! Replies, as items and as bytes.
-ghost use Rattle.std.specs.Prelude.{◌≡◌, ◌++◌, IfOk, OnOk, OnErr, codes};
+ghost use Rattle.std.specs.Prelude.{◌≡◌, ◌++◌, IfOk, IsOkAnd, OnOk, OnErr, codes};
 ghost use Rattle.items.specs.View.{value_of, values_of};
 ghost use Rattle.items.specs.Values.{word, string, list, none, more};
 ghost use Rattle.items.specs.Print.{printed, Grows};
-ghost use Rattle.replies.specs.Replies.{reply_item, success, failure, only, both, mechanism_trees, property_trees, capabilities, uuid_text, commit_info, optional_string_trees};
+ghost use Rattle.replies.specs.Replies.{reply_item, success, failure, only, both, mechanism_trees, property_trees, capabilities, uuid_text, commit_info, lock_tree, lock_trees, release_fault};
 
-use crate::build::{list_item, number_item, string_item, word_item};
+use crate::build::{list_item, number_item, optional_string_item, string_item, word_item};
+use crate::locks::{LockList, lock_item, locks_item};
 use byte_string::ByteString;
 use items::{Item, write_item};
 use refusals::Refusal;
-use repo_api::{NodeKind, Properties};
+use repo_api::{Lock, NodeKind, Properties};
 use std::alloc::{AllocError, Global};
+use svnpath::Path;
 use uuid::Uuid;
 
 /// The mechanisms of a login that a client may choose from.
@@ -49,8 +51,13 @@ pub enum Reply {
     Kind(NodeKind),
     /// The properties of a revision.
     Properties(Properties),
-    /// The number of the revision that a commit has made, its date, and its author if it has one.
-    CommitInfo(u64, ByteString, Option<ByteString>),
+    /// The lock that was made, and where it stands.
+    Lock(Path, Lock),
+    /// The locks that were asked for, and where they stand.
+    Locks(LockList),
+    /// The number of the revision that a commit has made, its date, its author if it has one, and
+    /// whether the release of its locks has failed.
+    CommitInfo(u64, ByteString, Option<ByteString>, bool),
     /// The command is refused.
     Failure(Refusal),
 }
@@ -66,33 +73,47 @@ impl Reply {
                 b"( success ( 2 2 ( ) ( edit-pipeline absent-entries commit-revprops ) ) ) ",
             ),
             Reply::NoLogin => out.extend_from_slice(b"( success ( ( ) 0: ) ) "),
-            Reply::Login(offer, realm) => write_item(
-                &login_item(alloc, *offer, realm.as_slice())?,
+            Reply::Login(offer, realm) => write_made(
+                login_item(alloc, *offer, realm.as_slice()),
                 out,
             ),
             Reply::MechanismNotOffered => out.extend_from_slice(
                 b"( failure ( 21:mechanism not offered ) ) ",
             ),
-            Reply::Challenge(text) => write_item(&challenge_item(alloc, text.as_slice())?, out),
+            Reply::Challenge(text) => write_made(challenge_item(alloc, text.as_slice()), out),
             Reply::LoginFailed => out.extend_from_slice(b"( failure ( 12:login failed ) ) "),
             Reply::Success => out.extend_from_slice(b"( success ( ) ) "),
-            Reply::ReposInfo(uuid, root) => write_item(
-                &repos_info_item(alloc, *uuid, root.as_slice())?,
+            Reply::ReposInfo(uuid, root) => write_made(
+                repos_info_item(alloc, *uuid, root.as_slice()),
                 out,
             ),
             Reply::Revision(n) => write_revision(*n, out),
             Reply::Kind(kind) => write_kind(*kind, out),
-            Reply::Properties(properties) => write_item(
-                &success_item(alloc, [properties_item(alloc, properties)?])?,
+            Reply::Properties(properties) => write_made(
+                success_of(alloc, properties_item(alloc, properties)),
                 out,
             ),
-            Reply::CommitInfo(revision, date, author) => write_item(
-                &commit_info_item(alloc, *revision, date.as_slice(), author)?,
+            Reply::Lock(path, lock) => write_made(
+                success_of(alloc, lock_item(alloc, path, lock)),
                 out,
             ),
-            Reply::Failure(refusal) => write_item(&refusal_item(alloc, *refusal)?, out),
+            Reply::Locks(locks) => write_made(success_of(alloc, locks_item(alloc, locks)), out),
+            Reply::CommitInfo(revision, date, author, release_fails) => write_made(
+                commit_info_item(alloc, *revision, date.as_slice(), author, *release_fails),
+                out,
+            ),
+            Reply::Failure(refusal) => write_made(refusal_item(alloc, *refusal), out),
         }
     }
+}
+
+/// Writes an item at the end, if it was made. An `Err` changes nothing.
+fn write_made(made: Result<Item, AllocError>, out: &mut Vec<u8>) -> Result<(), AllocError>
+    ensures ok { OnOk result (IsOkAnd made (λ item.
+        out.new.items ≡ out.old.items ++ printed (value_of item))) }
+    ensures err { OnErr result (out.new.items ≡ out.old.items) }
+{
+    write_item(&made?, out)
 }
 
 /// Writes the number of a revision at the end. An `Err` changes nothing.
@@ -141,6 +162,14 @@ fn success_item<const N: usize>(alloc: Global, params: [Item; N]) -> Result<Item
     let word = word_item(alloc, b"success")?;
     let params = list_item(alloc, params)?;
     list_item(alloc, [word, params])
+}
+
+/// `( success ( param ) )`, if the parameter was made.
+fn success_of(alloc: Global, param: Result<Item, AllocError>) -> Result<Item, AllocError>
+    ensures { IfOk result (λ item. IsOkAnd param (λ made.
+        value_of item ≡ success (only (value_of made)))) }
+{
+    success_item(alloc, [param?])
 }
 
 /// `( failure ( param ) )`
@@ -226,23 +255,26 @@ fn commit_info_item(
     revision: u64,
     date: &[u8],
     author: &Option<ByteString>,
+    release_fails: bool,
 ) -> Result<Item, AllocError>
-    ensures { IfOk result (λ item. value_of item ≡ commit_info revision date.now author.now) }
+    ensures { IfOk result (λ item. value_of item
+        ≡ commit_info revision date.now author.now release_fails) }
 {
     let date = string_item(alloc, date)?;
     let date = list_item(alloc, [date])?;
     let author = optional_string_item(alloc, author)?;
-    let error = list_item(alloc, [])?;
-    list_item(alloc, [number_item(revision), date, author, error])
+    let fault = release_fault_item(alloc, release_fails)?;
+    list_item(alloc, [number_item(revision), date, author, fault])
 }
 
-/// `[ string ]`
-fn optional_string_item(alloc: Global, text: &Option<ByteString>) -> Result<Item, AllocError>
-    ensures { IfOk result (λ item. value_of item ≡ list (optional_string_trees text.now)) }
+/// `[ post-commit-err ]`
+fn release_fault_item(alloc: Global, release_fails: bool) -> Result<Item, AllocError>
+    ensures { IfOk result (λ item. value_of item ≡ list (release_fault release_fails)) }
 {
-    match text {
-        Some(text) => list_item(alloc, [string_item(alloc, text.as_slice())?]),
-        None => list_item(alloc, []),
+    if release_fails {
+        list_item(alloc, [string_item(alloc, Refusal::StoreFailed.text())?])
+    } else {
+        list_item(alloc, [])
     }
 }
 

@@ -118,11 +118,19 @@ lock_refusal_at kind created locks ask =
     option_or (user_refusal ask.user) (option_or (entry_refusal ask.current kind created)
     (place_refusal ask.steals (get locks ask.path) (len locks)))
 
--- why a lock that is asked for is refused: the path is judged in the youngest tree
+-- a client cannot have seen a revision above the youngest
+abbrev pub current_refusal : ℕ → Option ℕ → Option Refusal
+current_refusal newest None = None
+current_refusal newest (Some current) =
+    if nat_lt newest current then Some refusals.NoSuchRevision else None
+
+-- why a lock that is asked for is refused: for the revision that the client has seen before all
+-- else; then the path is judged in the youngest tree
 abbrev pub lock_refusal : RepoState → LockAsk → Option Refusal
 lock_refusal c ask =
-    lock_refusal_at (kind_at c (youngest c) ask.path) (created_at c (youngest c) ask.path)
-    c.locks ask
+    option_or (current_refusal (youngest c) ask.current)
+    (lock_refusal_at (kind_at c (youngest c) ask.path) (created_at c (youngest c) ask.path)
+    c.locks ask)
 
 -- a lock without an owner is refused
 abbrev pub owner_of : Option (List ℕ) → List ℕ

@@ -2,4 +2,6 @@
 #![tactic(auto)]
 
 #[cfg(test)]
+mod locks;
+#[cfg(test)]
 mod tests;

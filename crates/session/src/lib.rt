@@ -2,12 +2,7 @@
 //! repository, alone or among others.
 #![tactic(auto)]
 
-mod answering;
-mod greeting;
 mod incoming;
-mod login;
-mod reading;
-mod saying;
 mod serve;
 mod session;
 

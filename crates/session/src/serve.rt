@@ -11,18 +11,18 @@ ghost use Rattle.machine.specs.Steps.{input_step, AnswerWritten, StepWritten, St
 ghost use Rattle.machine.specs.declared.phase.Phase.TheVariants.{Ended};
 ghost use Rattle.session.specs.Taking.{input_of};
 
-use crate::answering::answer_item;
-use crate::greeting::greet;
 use crate::incoming::Incoming;
-use crate::login::{answer_challenge, log_in};
 use access::RepoAccess;
-use committing::{SessionPhase, edit_item, end_malformed, skip};
+use answering::answer_item;
+use committing::{edit_item, skip};
 use items::Item;
+use logins::{answer_challenge, greet, log_in};
 use machine::{Options, Phase, Turn};
 use replies::ReplySink;
 use repo_api::Repository;
 use std::alloc::AllocError;
 use std::mem::drop;
+use telling::{SessionPhase, end_malformed};
 
 /// An item.
 fn serve_item<R: Repository, A: RepoAccess<View = R>, S: ReplySink>(

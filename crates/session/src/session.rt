@@ -9,7 +9,6 @@ ghost use Rattle.machine.specs.declared.phase.Phase.TheVariants.{Greeted, Ended}
 use crate::incoming::take_incoming;
 use crate::serve::serve;
 use access::RepoAccess;
-use committing::SessionPhase;
 use items::ItemReader;
 use machine::{Options, Phase, Turn, steps_keep_trees};
 use replies::ReplySink;
@@ -17,6 +16,7 @@ use repo_api::Repository;
 use std::alloc::{AllocError, Global};
 use std::marker::Model;
 use std::mem::{self, drop};
+use telling::SessionPhase;
 use thiserror::Error;
 
 /// Why a session was not served.

@@ -1,4 +1,5 @@
-use Rattle.committing.proofs.Edits.{stepped, closes_by}
+use Rattle.telling.proofs.Steps.{stepped}
+use Rattle.committing.proofs.Edits.{closes_by}
 use Rattle.committing.proofs.edit.close.Goals as goal
 
 pub returns-in-Ok : goal.returns-in-Ok

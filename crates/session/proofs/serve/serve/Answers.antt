@@ -1,31 +1,24 @@
 use Rattle.access.specs.Points.{content_of}
 use Rattle.machine.specs.Hearing.Input.{Broken}
 use Rattle.machine.specs.Steps.{input_step}
-use Rattle.session.proofs.Quiet.{said, said_part, broken_answer, step_broken, quiet_broken}
+use Rattle.telling.proofs.Steps.{said, said_part}
+use Rattle.session.proofs.Answered.{broken_answer, broken_nothing, step_broken}
 use Rattle.session.proofs.serve.serve.Goals as goal
 
-pub returns-in-Whole-clause-ok : goal.returns-in-Whole-clause-ok
-returns-in-Whole-clause-ok g c = rw c.in-Whole.is c.serve_item.ensures.ok
+pub returns-in-Whole : goal.returns-in-Whole
+returns-in-Whole g c = rw c.in-Whole.is c.serve_item.ensures
 
-pub returns-in-Whole-clause-err : goal.returns-in-Whole-clause-err
-returns-in-Whole-clause-err g c = rw c.in-Whole.is c.serve_item.ensures.err
-
-pub returns-in-Broken-clause-ok : goal.returns-in-Broken-clause-ok
-returns-in-Broken-clause-ok g c =
+pub returns-in-Broken : goal.returns-in-Broken
+returns-in-Broken g c =
     let s = c.args.options.now in
     let env = c.args.turn.now.env in
     let p = g.A.RepoAccess.point c.args.access.now in
-    rw c.in-Broken.is (said g.A.RepoAccess.rules s (g.S.ReplySink.writes c.args.turn.now.out c.serve_broken.new.turn.out)
-    p p (input_step s env c.args.phase Broken) (broken_answer env c.args.phase)
-    (g.met.A.RepoAccess.stays p) (step_broken p.halted s env (content_of p) c.args.phase) (quiet_broken s env c.args.phase)
-    c.serve_broken.result c.serve_broken.new.turn.env c.serve_broken.ensures.ok)
-
-pub returns-in-Broken-clause-err : goal.returns-in-Broken-clause-err
-returns-in-Broken-clause-err g c =
-    let s = c.args.options.now in
-    let env = c.args.turn.now.env in
-    let p = g.A.RepoAccess.point c.args.access.now in
-    rw c.in-Broken.is (said_part g.A.RepoAccess.rules s (g.S.ReplySink.writes c.args.turn.now.out c.serve_broken.new.turn.out)
-    p p (input_step s env c.args.phase Broken) (broken_answer env c.args.phase)
-    (g.met.A.RepoAccess.stays p) (step_broken p.halted s env (content_of p) c.args.phase) (quiet_broken s env c.args.phase)
-    c.serve_broken.result c.serve_broken.ensures.err)
+    let step = input_step s env c.args.phase Broken in
+    let a = broken_answer env c.args.phase in
+    let stays = g.met.A.RepoAccess.stays p in
+    let is = step_broken p.halted s env (content_of p) c.args.phase in
+    let nothing = broken_nothing env c.args.phase in
+    rw c.in-Broken.is (record {
+      ok = said g.A.RepoAccess.rules step p p a stays is nothing _ c.serve_broken.result _ c.serve_broken.ensures.ok;
+      err = said_part g.A.RepoAccess.rules step p p a stays is nothing _ c.serve_broken.result c.serve_broken.ensures.err;
+    })

@@ -1,0 +1,43 @@
+-- Answers to commands that change nothing, behind what their clients are told before.
+use Rattle.std.proofs.Common.{◌≡◌, ℕ, List, [], ◌∷◌, ◌++◌, refl}
+use Rattle.std.specs.Prelude.{Result, Ok, Err, IfOk, OnErr}
+use Rattle.refusals.specs.declared.Refusal.{Refusal}
+use Rattle.replies.specs.declared.reply.Reply.{Reply}
+use Rattle.replies.specs.Replies.{print}
+use Rattle.replies.specs.Sinks.{WritesPart}
+use Rattle.access.specs.Points.{Point, AccessRules}
+use Rattle.machine.specs.Settings.{Settings}
+use Rattle.machine.specs.Stages.{Stage}
+use Rattle.machine.specs.Answers.{no_effect, Answer, serves, behind, Behind}
+use Rattle.machine.specs.Commands.{commit_begins}
+use Rattle.machine.specs.Steps.{AnswerWritten, StepWritten, StepOrNothing}
+use Rattle.machine.specs.declared.asked.Asked.{Asked}
+use Rattle.machine.specs.declared.env.Env.{Env}
+use Rattle.machine.specs.declared.phase.Client.{Client}
+use Rattle.telling.proofs.Steps.{said, said_part}
+
+-- the beginning of a commit changes nothing
+pub begins : (s : Settings) (env : Env) (client : Client) (asked : Result Asked Refusal) → (commit_begins s env client asked).effect ≡ no_effect
+begins s env client (Ok asked) = refl
+begins s env client (Err r) = refl
+
+module _ (rules : AccessRules) (step : Point → Answer → Type 0) {p q : Point} (before : List Reply) (later : rules.between p q) where
+  -- an answer that changes nothing
+  pub answered : (a : Answer) → step q a → a.effect ≡ no_effect → (writes : List ℕ → Type 0) → {E : Type 0} (r : Result Stage E) (env' : Env)
+      → record { ok : IfOk r (λ after. AnswerWritten (behind before a) after env' writes); err : OnErr r (WritesPart writes (print (before ++ a.replies))) }
+      → record { ok : IfOk r (λ after. StepWritten rules (λ at b. Behind before (step at) b) p q after env' writes); err : OnErr r (StepOrNothing rules (λ at b. Behind before (step at) b) p q writes) }
+  answered a is nothing writes r env' told = record {
+    ok = said rules (λ at b. Behind before (step at) b) p q (behind before a) later (a, is, refl) nothing writes r env' told.ok;
+    err = said_part rules (λ at b. Behind before (step at) b) p q (behind before a) later (a, is, refl) nothing writes r told.err;
+  }
+
+  -- a reply, if it could be made
+  pub replied : (env : Env) (client : Client) (told : Reply) → step q (serves env client told) → (writes : List ℕ → Type 0)
+      → {E F : Type 0} (reply : Result Reply F) (r : Result Stage E) (env' : Env) → IfOk reply (λ made. made ≡ told)
+      → record {
+        ok : (x : Reply) → IfOk reply (λ made. made ≡ x) → IfOk r (λ after. AnswerWritten (behind before (serves env client x)) after env' writes);
+        err : (x : Reply) → IfOk reply (λ made. made ≡ x) → OnErr r (WritesPart writes (print (before ++ x ∷ [])));
+      }
+      → record { ok : IfOk r (λ after. StepWritten rules (λ at b. Behind before (step at) b) p q after env' writes); err : OnErr r (StepOrNothing rules (λ at b. Behind before (step at) b) p q writes) }
+  replied env client told is writes reply r env' made said_so =
+      answered (serves env client told) is refl writes r env' (record { ok = said_so.ok told made; err = said_so.err told made })

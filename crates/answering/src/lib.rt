@@ -1,0 +1,12 @@
+//! The answers to commands.
+#![tactic(auto)]
+
+mod answering;
+mod asking;
+mod own;
+mod request;
+
+pub use answering::answer_item;
+pub use asking::{ask_for_login, await_choice};
+pub use own::own_answer;
+pub use request::Request;

@@ -1,0 +1,116 @@
+//! What a command is answered, behind what its client is told before.
+ghost use Rattle.std.specs.Prelude.{◌++◌, [], IfOk, OnErr};
+ghost use Rattle.replies.specs.Replies.{print};
+ghost use Rattle.replies.specs.Sinks.{WritesPart};
+ghost use Rattle.access.specs.Points.{content_of};
+ghost use Rattle.machine.specs.Answers.{says, behind, Behind};
+ghost use Rattle.machine.specs.Commands.{lock_tokens, asked_by, commit_begins, OwnStep};
+ghost use Rattle.machine.specs.Steps.{AnswerWritten, StepWritten, StepOrNothing};
+ghost use Rattle.machine.specs.declared.phase.Phase.TheVariants.{Serving};
+ghost use Rattle.telling.specs.Telling.{told_before};
+
+use crate::request::Request;
+use access::RepoAccess;
+use commands::{CommitCommand, MainCommand};
+use committing::begin_edit;
+use locking::{lock, unlock};
+use machine::{Client, Options, Phase, Turn};
+use reading::{kind_reply, lock_reply, locks_reply, properties_reply, youngest_reply};
+use replies::ReplySink;
+use repo_api::Repository;
+use std::alloc::AllocError;
+use std::mem::drop;
+use telling::{Preface, SessionPhase, say_preface, tell};
+
+/// The beginning of a commit.
+fn begin<R: Repository, S: ReplySink>(
+    options: &Options,
+    client: Client,
+    command: &CommitCommand,
+    preface: Preface,
+    turn: &mut Turn<S>,
+) -> Result<SessionPhase<R>, AllocError>
+    ensures ok { IfOk result (λ phase. AnswerWritten (behind (told_before preface)
+        (commit_begins options.now turn.old.env client
+        (asked_by command.now (lock_tokens client.path command.now.tokens))))
+        phase turn.new.env (S.writes turn.old.out turn.new.out)) }
+    ensures err { OnErr result (WritesPart (S.writes turn.old.out turn.new.out)
+        (print (behind (told_before preface) (commit_begins options.now turn.old.env client
+        (asked_by command.now (lock_tokens client.path command.now.tokens)))).replies)) }
+{
+    match say_preface(preface, &mut turn.out) {
+        Ok(()) => begin_edit(options, client, command, turn),
+        Err(error) => {
+            drop(client);
+            Err(error)
+        }
+    }
+}
+
+/// Tells no more than what comes before an answer. The next command is awaited.
+fn tell_nothing<R: Repository, S: ReplySink>(
+    client: Client,
+    preface: Preface,
+    turn: &mut Turn<S>,
+) -> Result<SessionPhase<R>, AllocError>
+    ensures ok { IfOk result (λ phase. AnswerWritten
+        (behind (told_before preface) (says turn.old.env (Serving client) []))
+        phase turn.new.env (S.writes turn.old.out turn.new.out)) }
+    ensures err { OnErr result (WritesPart (S.writes turn.old.out turn.new.out)
+        (print (told_before preface ++ []))) }
+{
+    match say_preface(preface, &mut turn.out) {
+        Ok(()) => Ok(Phase::Serving(client)),
+        Err(error) => {
+            drop(client);
+            Err(error)
+        }
+    }
+}
+
+/// A command's own answer, behind what its client is told before.
+pub fn own_answer<R: Repository, A: RepoAccess<View = R>, S: ReplySink>(
+    options: &Options,
+    client: Client,
+    request: Request,
+    access: &mut A,
+    turn: &mut Turn<S>,
+) -> Result<SessionPhase<R>, AllocError>
+    ensures ok { IfOk result (λ phase. StepWritten A.rules
+        (λ at a. Behind (told_before request.entry.preface) (OwnStep at.halted options.now
+        turn.old.env (content_of at) client request.entry.command.now) a)
+        (A.point access.old) (A.point access.new)
+        phase turn.new.env (S.writes turn.old.out turn.new.out)) }
+    ensures err { OnErr result (StepOrNothing A.rules
+        (λ at a. Behind (told_before request.entry.preface) (OwnStep at.halted options.now
+        turn.old.env (content_of at) client request.entry.command.now) a)
+        (A.point access.old) (A.point access.new) (S.writes turn.old.out turn.new.out)) }
+{
+    let Request { command, preface } = request;
+    match command {
+        MainCommand::GetLatestRev => {
+            let reply = youngest_reply(access);
+            tell(client, preface, reply, turn)
+        }
+        MainCommand::CheckPath(path, revision) => {
+            let reply = kind_reply(turn.alloc, &client.path, path, *revision, access);
+            tell(client, preface, reply, turn)
+        }
+        MainCommand::RevProplist(revision) => {
+            let reply = properties_reply(turn.alloc, *revision, access);
+            tell(client, preface, reply, turn)
+        }
+        MainCommand::Commit(commit) => begin(options, client, commit, preface, turn),
+        MainCommand::AbortEdit => tell_nothing(client, preface, turn),
+        MainCommand::Lock(command) => lock(client, command, preface, access, turn),
+        MainCommand::Unlock(command) => unlock(client, command, preface, access, turn),
+        MainCommand::GetLock(path) => {
+            let reply = lock_reply(turn.alloc, &client.path, path, access);
+            tell(client, preface, reply, turn)
+        }
+        MainCommand::GetLocks(path) => {
+            let reply = locks_reply(turn.alloc, &client.path, path, access);
+            tell(client, preface, reply, turn)
+        }
+    }
+}

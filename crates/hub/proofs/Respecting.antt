@@ -1,0 +1,149 @@
+-- Accepted changes respect locks.
+use Rattle.std.proofs.Common.{◌≡◌, ◌⊎◌, inl, inr, ◌&&◌, not, List, [], ◌∷◌, ◌++◌, Bool, true, false, Option, Some, None, ap, sym, subst, ◌∙◌}
+use Rattle.std.specs.Prelude.{IsTrue, if◌then◌else◌}
+use Rattle.std.specs.FinMap.{get, empty, get-empty}
+use Rattle.std.specs.List.{list_any}
+use Rattle.svnpath.specs.Paths.{PathValue, path_cmp}
+use Rattle.access.specs.Changing.{wants_release}
+use Rattle.repo_api.specs.States.{RepoState, TxnState}
+use Rattle.repo_api.specs.Commits.{commit_refusal, committed}
+use Rattle.repo_api.specs.Locking.{lock_of, is_in_the_way, is_handed_in}
+use Rattle.repo_api.specs.LockRuns.{names_lock, HaveOwnTokens, HaveNewTokens}
+use Rattle.repo_api.specs.Accepted.{Accepted, AreAccepted, changed, changed_all}
+use Rattle.repo_api.specs.Accepted.Accepted.{Commits, Locks, Unlocks, Releases}
+use Rattle.repo_api.specs.declared.ask.CommitAsk.{CommitAsk}
+use Rattle.repo_api.specs.declared.lock.Lock.{Lock as LockValue}
+use Rattle.replies.specs.declared.reply.Reply.{Reply}
+use Rattle.machine.specs.declared.env.Env.{Env}
+use Rattle.hub.specs.State.{HubState}
+use Rattle.hub.specs.Runs.{Event, HubStep, HubRun, with_rest}
+use Rattle.hub.specs.Runs.Event.{Drops}
+use Rattle.hub.specs.Calls.{CallStep, CallRun}
+use Rattle.hub.specs.Laws.IsToldChange.{Committed, Locked, Unlocked}
+use Rattle.hub.specs.Laws.{IsToldChange, changes_of, AllHoldLocks, RespectLocks, TellsNewToken, MakesNewTokens, CallMakesNewTokens, CallsMakeNewTokens}
+use Rattle.hub.specs.declared.hub.HubFault.TheVariants.{NoSession, NoMemory, Halted, Full}
+use Rattle.hub.specs.declared.calls.Call.{Call}
+use Rattle.hub.specs.declared.calls.Call.TheVariants.{Connect, Feed, Disconnect}
+use Rattle.hub.specs.declared.calls.Outcome.{Outcome}
+use Rattle.hub.specs.declared.calls.Outcome.TheVariants.{Connected, Wrote, Dropped, Failed}
+use Rattle.hub.proofs.Staying.{OnlyAccepted, commit_accepted, event_changes}
+use Rattle.hub.proofs.Calling.{some_words}
+
+-- where there are no locks, no two have one token
+pub none_at_first : HaveOwnTokens empty
+none_at_first p q k l at = absurd (no_lock k (sym (get-empty path_cmp p) ∙ at))
+  where
+    IsNone : Option LockValue → Type 0
+    IsNone None = Unit {0}
+    IsNone (Some k) = ⊥
+
+    no_lock : (k : LockValue) → None ≡ Some k → ⊥
+    no_lock k h = subst IsNone h tt
+
+module _ (holds : (c : RepoState) (ask : CommitAsk) (t : TxnState) → commit_refusal c ask t ≡ None → (p : PathValue) (l : LockValue) → get c.locks p ≡ Some l
+    → is_in_the_way t.changes p ≡ true → (ask.author ≡ Some l.owner) × IsTrue (is_handed_in ask.tokens l.token))
+    (stays : (c : RepoState) (changes : List Accepted) (p : PathValue) → list_any (λ e. names_lock e p) changes ≡ false → get (changed_all c changes).locks p ≡ get c.locks p)
+    (apart : (c : RepoState) (changes : List Accepted) → HaveOwnTokens c.locks → HaveNewTokens c changes → HaveOwnTokens (changed_all c changes).locks) where
+  all_held : (c : RepoState) (es : List Accepted) → AreAccepted c es → AllHoldLocks c es
+  all_held c [] are = tt
+  all_held c (Commits ask t ∷ es) (accepted, are) = (holds c ask t accepted, all_held (changed c (Commits ask t)) es are)
+  all_held c (Locks ask ∷ es) (accepted, are) = (tt, all_held (changed c (Locks ask)) es are)
+  all_held c (Unlocks ask ∷ es) (accepted, are) = (tt, all_held (changed c (Unlocks ask)) es are)
+  all_held c (Releases user tokens ∷ es) (accepted, are) = (tt, all_held (changed c (Releases user tokens)) es are)
+
+  respects : (c : RepoState) (es : List Accepted) → AreAccepted c es → RespectLocks c es (changed_all c es)
+  respects c es are = record { held = all_held c es are; unnamed = stays c es; distinct = apart c es }
+
+  pub respected : (old new : RepoState) → OnlyAccepted old new
+      → (changes : List Accepted) × AreAccepted old changes × (new ≡ changed_all old changes) × RespectLocks old changes new
+  respected old new (es, are, is) = (es, are, is, subst (λ (x : RepoState). RespectLocks old es x) (sym is) (respects old es are))
+
+  -- ---- an event
+
+  told_accepted : (old new : RepoState) (told : List Reply) (change : IsToldChange old told new)
+      → AreAccepted old (changes_of old told new change) × (new ≡ changed_all old (changes_of old told new change))
+  told_accepted old new told (Committed c) = (commit_accepted old c.ask c.txn c.fails c.accepted, c.is)
+  told_accepted old new told (Locked l) = ((l.accepted, tt), l.is)
+  told_accepted old new told (Unlocked u) = ((u.accepted, tt), u.is)
+
+  change_respects : (old new : RepoState) (told : List Reply) (change : IsToldChange old told new) → RespectLocks old (changes_of old told new change) new
+  change_respects old new told change =
+      let es = changes_of old told new change in
+      let by = told_accepted old new told change in
+      subst (λ (x : RepoState). RespectLocks old es x) (sym by.1) (respects old es by.0)
+
+  pub event_respects : (old new : HubState) (env after : Env) (e : Event) (told : List Reply) → HubStep old env e told new after
+      → (new.content ≡ old.content)
+      ⊎ ((change : IsToldChange old.content told new.content) × RespectLocks old.content (changes_of old.content told new.content change) new.content)
+  event_respects old new env after e told h = by (event_changes old new env after e told h)
+    where
+      by : (new.content ≡ old.content) ⊎ IsToldChange old.content told new.content
+          → (new.content ≡ old.content)
+          ⊎ ((change : IsToldChange old.content told new.content) × RespectLocks old.content (changes_of old.content told new.content change) new.content)
+      by (inl same) = inl same
+      by (inr change) = inr (change, change_respects old.content new.content told change)
+
+  -- ---- tokens
+
+  release_new : (c : RepoState) (ask : CommitAsk) (b : Bool) → HaveNewTokens c (if b then Releases ask.author ask.tokens ∷ [] else [])
+  release_new c ask true = tt
+  release_new c ask false = tt
+
+  change_new : (old new : RepoState) (told : List Reply) (change : IsToldChange old told new) → TellsNewToken old.locks told → HaveNewTokens old (changes_of old told new change)
+  change_new old new told (Committed c) fresh =
+      release_new (committed old c.ask c.txn) c.ask (wants_release c.ask (committed old c.ask c.txn) && not c.fails)
+  change_new old new told (Locked l) fresh = (fresh l.ask.path (lock_of l.ask) l.lock, tt)
+  change_new old new told (Unlocked u) fresh = tt
+
+  pub event_apart : (old new : HubState) (env after : Env) (e : Event) (told : List Reply) → HubStep old env e told new after
+      → HaveOwnTokens old.content.locks → TellsNewToken old.content.locks told → HaveOwnTokens new.content.locks
+  event_apart old new env after e told h own fresh = by (event_changes old new env after e told h)
+    where
+      by : (new.content ≡ old.content) ⊎ IsToldChange old.content told new.content → HaveOwnTokens new.content.locks
+      by (inl same) = subst (λ (x : RepoState). HaveOwnTokens x.locks) (sym same) own
+      by (inr change) = (change_respects old.content new.content told change).distinct own (change_new old.content new.content told change fresh)
+
+  pub run_apart : (old new : HubState) (env after : Env) (events : List Event) (told : List Reply) (run : HubRun old env events told new after)
+      → HaveOwnTokens old.content.locks → MakesNewTokens old env events told new after run → HaveOwnTokens new.content.locks
+  run_apart old new env after [] told run own fresh = subst (λ (x : HubState). HaveOwnTokens x.content.locks) (sym run.1) own
+  run_apart old new env after (e ∷ es) told (first, mid, between, more, step, run, is_told) own fresh =
+      run_apart mid new between after es more run (event_apart old mid env between e first step own fresh.0) fresh.1
+
+  same_apart : (old new : HubState) → new.content ≡ old.content → HaveOwnTokens old.content.locks → HaveOwnTokens new.content.locks
+  same_apart old new same own = subst (λ (x : RepoState). HaveOwnTokens x.locks) (sym same) own
+
+  at_same : (old new : HubState) → new ≡ old → HaveOwnTokens old.content.locks → HaveOwnTokens new.content.locks
+  at_same old new same own = same_apart old new (ap (λ (x : HubState). x.content) same) own
+
+  call_apart : (old : HubState) (call : Call) (outcome : Outcome) (new : HubState) (step : CallStep old call outcome new)
+      → HaveOwnTokens old.content.locks → CallMakesNewTokens old call outcome new step → HaveOwnTokens new.content.locks
+  call_apart old Connect (Connected n out) new step own fresh = same_apart old new (ap (λ (x : HubState). x.content) (step.step some_words).3) own
+  call_apart old Connect (Failed NoSession) new step own fresh = absurd step
+  call_apart old Connect (Failed NoMemory) new step own fresh = at_same old new step.1 own
+  call_apart old Connect (Failed Halted) new step own fresh = at_same old new step.1 own
+  call_apart old Connect (Failed Full) new step own fresh = at_same old new step.2 own
+  call_apart old Connect (Wrote out) new step own fresh = absurd step
+  call_apart old Connect Dropped new step own fresh = absurd step
+  call_apart old (Feed n piece env) (Wrote out) new step own fresh =
+      let f = step.feeds in
+      run_apart (with_rest old n f.session f.rest) new env f.env_after f.events f.told f.run own fresh
+  call_apart old (Feed n piece env) (Failed NoMemory) new step own fresh =
+      let b = step.1 in
+      run_apart (with_rest old n b.session b.rest) new env b.env_after (b.events ++ Drops n ∷ []) b.told b.run own fresh
+  call_apart old (Feed n piece env) (Failed NoSession) new step own fresh = at_same old new step.2 own
+  call_apart old (Feed n piece env) (Failed Halted) new step own fresh = at_same old new step.1 own
+  call_apart old (Feed n piece env) (Failed Full) new step own fresh = absurd step
+  call_apart old (Feed n piece env) (Connected m out) new step own fresh = absurd step
+  call_apart old (Feed n piece env) Dropped new step own fresh = absurd step
+  call_apart old (Disconnect n) Dropped new step own fresh = same_apart old new (ap (λ (x : HubState). x.content) (step some_words).2) own
+  call_apart old (Disconnect n) (Failed e) new step own fresh = absurd step
+  call_apart old (Disconnect n) (Connected m out) new step own fresh = absurd step
+  call_apart old (Disconnect n) (Wrote out) new step own fresh = absurd step
+
+  pub calls_apart : (old new : HubState) (calls : List Call) (outcomes : List Outcome) (run : CallRun old calls outcomes new)
+      → HaveOwnTokens old.content.locks → CallsMakeNewTokens old calls outcomes new run → HaveOwnTokens new.content.locks
+  calls_apart old new [] [] run own fresh = at_same old new run own
+  calls_apart old new (call ∷ calls) (outcome ∷ outcomes) (mid, step, run) own fresh =
+      calls_apart mid new calls outcomes run (call_apart old call outcome mid step own fresh.0) fresh.1
+  calls_apart old new [] (outcome ∷ outcomes) run own fresh = absurd run
+  calls_apart old new (call ∷ calls) [] run own fresh = absurd run

@@ -1,0 +1,18 @@
+//! The tokens of locks.
+ghost use Rattle.std.specs.Prelude.{◌≡◌, IfOk};
+ghost use Rattle.machine.specs.Commands.{token_text};
+
+use byte_string::ByteString;
+use std::alloc::{AllocError, Global};
+use uuid::Uuid;
+
+/// The token that a word makes.
+pub(crate) fn token_of(alloc: Global, word: u128) -> Result<ByteString, AllocError>
+    ensures { IfOk result (λ token. token ≡ token_text word) }
+{
+    let mut buffer = Uuid::encode_buffer();
+    let text = Uuid::from_u128(word).hyphenated().encode_lower(&mut buffer);
+    let mut token = Vec::from_slice(alloc, b"opaquelocktoken:")?;
+    token.extend_from_slice(text.as_bytes())?;
+    Ok(ByteString::new(token))
+}

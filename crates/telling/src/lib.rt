@@ -1,0 +1,15 @@
+//! How a step of a session tells its client: what comes before an answer, the answer, or a refusal in its
+//! place.
+#![tactic(auto)]
+
+mod dating;
+mod preface;
+mod saying;
+mod serving;
+mod turn;
+
+pub use dating::date_of;
+pub use preface::{Preface, say_behind, say_new_behind, say_preface};
+pub use saying::{say_both, say_new, tell_refusal};
+pub use serving::{end_halted, refuse, tell};
+pub use turn::{SessionEdit, SessionPhase, end_malformed};

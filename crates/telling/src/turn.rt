@@ -1,0 +1,33 @@
+//! Where a session at a repository stands, and its end over what is no command.
+ghost use Rattle.std.specs.Prelude.{◌≡◌, IfOk, OnErr};
+ghost use Rattle.replies.specs.Replies.{print};
+ghost use Rattle.replies.specs.Sinks.{WritesPart};
+ghost use Rattle.machine.specs.Answers.{malformed};
+ghost use Rattle.machine.specs.Steps.{AnswerWritten};
+
+use crate::saying::tell_refusal;
+use editor::CommitEditor;
+use machine::{OpenEdit, Phase, Turn};
+use refusals::Refusal;
+use replies::ReplySink;
+use repo_api::Repository;
+use std::alloc::AllocError;
+
+/// An edit of a session at a repository.
+pub type SessionEdit<R> = OpenEdit<CommitEditor<R>>;
+
+/// Where a session at a repository stands.
+pub type SessionPhase<R> = Phase<CommitEditor<R>>;
+
+/// Ends the session over what is no command.
+pub fn end_malformed<R: Repository, S: ReplySink>(
+    turn: &mut Turn<S>,
+) -> Result<SessionPhase<R>, AllocError>
+    ensures ok { IfOk result (λ phase. AnswerWritten (malformed turn.old.env)
+        phase turn.new.env (S.writes turn.old.out turn.new.out)) }
+    ensures err { OnErr result (WritesPart (S.writes turn.old.out turn.new.out)
+        (print (malformed turn.old.env).replies)) }
+{
+    tell_refusal(Refusal::MalformedData, &mut turn.out)?;
+    Ok(Phase::Ended)
+}
