@@ -26,6 +26,7 @@ TEXTS = {
     160039: "not the lock owner",
     160040: "no such lock",
     160042: "lock out of date",
+    165006: "revision properties are closed",
     185001: "bad svndiff",
     200007: "not supported",
     200014: "checksum mismatch",
@@ -34,11 +35,15 @@ TEXTS = {
     210005: "no such repository",
 }
 
+# how many bytes of a text are sent in one string
+PIECE = 65_536
+
 GREETING = b"( success ( 2 2 ( ) ( edit-pipeline absent-entries commit-revprops ) ) ) "
 NO_LOGIN = b"( success ( ( ) 0: ) ) "
 EMPTY = b"( success ( ) ) "
 NOT_OFFERED = b"( failure ( 21:mechanism not offered ) ) "
 LOGIN_FAILED = b"( failure ( 12:login failed ) ) "
+DONE = b"done "
 
 
 def string(content):
@@ -139,6 +144,47 @@ def rev_proplist(revision):
     return b"( rev-proplist ( %d ) ) " % revision
 
 
+def log(paths, start=b"", end=b"", changes=False, strict=False, rest=b""):
+    """The revisions of paths. What may be left out at the end is the greatest number of them."""
+    names = b"".join(map(string, paths))
+    return b"( log ( ( " + names + b") ( " + start + b") ( " + end + b") " + boolean(changes) + boolean(strict) + rest + b") ) "
+
+
+def log_change(path, action, kind="file", source=None, text=False, properties=False):
+    """A change in an entry of a log. A source is a path and a revision."""
+    copied = string(source[0]) + b"%d " % source[1] if source else b""
+    facts = string(kind) + boolean(text) + boolean(properties)
+    return b"( " + string(path) + action.encode() + b" ( " + copied + b") ( " + facts + b") ) "
+
+
+def log_entry(revision, changes=(), author=None, moment=MOMENT, message=None):
+    """An entry of a log: a revision with these changes, of this moment, or with another date or none."""
+    dated = date(moment) if isinstance(moment, int) else moment
+    facts = b"%d " % revision + optional(author) + optional(dated) + optional(message)
+    return b"( ( " + b"".join(changes) + b") " + facts + b") "
+
+
+def log_told(*entries):
+    """The answer to `log`."""
+    return NO_LOGIN + b"".join(entries) + DONE + EMPTY
+
+
+def locations(path, peg, revisions):
+    """Where what stands at a path in a revision was, or went, in others."""
+    numbers = b"".join(b"%d " % revision for revision in revisions)
+    return b"( get-locations ( " + string(path) + b"%d ( " % peg + numbers + b") ) ) "
+
+
+def locations_told(*places):
+    """The answer to `get-locations`: revisions and paths, which have a slash in front."""
+    return NO_LOGIN + b"".join(b"( %d " % revision + string(path) + b") " for revision, path in places) + DONE + EMPTY
+
+
+def listing_refused(number):
+    """What `log` and `get-locations` are told where they are refused: behind the end of a listing."""
+    return NO_LOGIN + DONE + refusal(number)
+
+
 def pairs(properties):
     """Pairs of strings."""
     return b"".join(b"( " + string(first) + string(second) + b") " for first, second in properties)
@@ -148,6 +194,88 @@ def commit(message="first", tokens=(), keep_locks=b"false ", properties=None):
     """The beginning of an edit."""
     rest = b"" if properties is None else b"( " + pairs(properties) + b") "
     return b"( commit ( " + string(message) + b"( " + pairs(tokens) + b") " + keep_locks + rest + b") ) "
+
+
+def get_file(path, revision=b"", properties=False, contents=True):
+    """A file: its digest, its properties and its text, as far as they are wanted."""
+    return b"( get-file ( " + string(path) + b"( " + revision + b") " + boolean(properties) + boolean(contents) + b") ) "
+
+
+def get_directory(path, revision=b"", properties=False, contents=True, rest=b""):
+    """A directory: its properties and its entries, as far as they are wanted, and what stands behind these wishes."""
+    wishes = boolean(properties) + boolean(contents)
+    return b"( get-dir ( " + string(path) + b"( " + revision + b") " + wishes + rest + b") ) "
+
+
+def stat(path, revision=b""):
+    """What is known of what stands at a path."""
+    return b"( stat ( " + string(path) + b"( " + revision + b") ) ) "
+
+
+def get_dated_revision(text):
+    """The revision of a date."""
+    return b"( get-dated-rev ( " + string(text) + b") ) "
+
+
+def revision_property(revision, name):
+    """A property of a revision."""
+    return b"( rev-prop ( %d " % revision + string(name) + b") ) "
+
+
+def change_revision_property(revision, name, value=None):
+    """A property of a revision is set, or removed."""
+    set_to = b"" if value is None else string(value)
+    return b"( change-rev-prop ( %d " % revision + string(name) + set_to + b") ) "
+
+
+def reparent(url):
+    """The session's URL is to be this one."""
+    return b"( reparent ( " + string(url) + b") ) "
+
+
+def committed_by(revision, moment=MOMENT, author=None, uuid=UUID):
+    """The properties that an entry has by the revision of its last change. What that revision lacks is None."""
+    facts = {"committed-date": date(moment) if isinstance(moment, int) else moment, "last-author": author}
+    names = {"committed-rev": str(revision), "uuid": uuid, **facts}
+    return {"svn:entry:" + name: value for name, value in names.items() if value is not None}
+
+
+def sorted_pairs(properties):
+    """Properties by the bytes of their names."""
+    return b"( " + pairs(sorted(properties.items())) + b") "
+
+
+def file_told(text, revision, properties=None):
+    """What a client is told of a file whose contents are not wanted. Of no properties none are wanted."""
+    return answered(b"( " + string(digest(text)) + b") %d " % revision + sorted_pairs(properties or {}))
+
+
+def contents_told(text):
+    """What comes behind it where they are: the text in strings, an empty one, and an empty reply."""
+    pieces = [text[begin : begin + PIECE] for begin in range(0, len(text), PIECE)]
+    return b"".join(map(string, [*pieces, b""])) + EMPTY
+
+
+def node(kind, size, created, moment=MOMENT, author=None, has_properties=False):
+    """What is known of a file or a directory. A moment is a count of microseconds, or what stands in the date's place."""
+    told = date(moment) if isinstance(moment, int) else moment
+    return kind + b"%d " % size + boolean(has_properties) + b"%d " % created + optional(told) + optional(author)
+
+
+def directory_told(revision, entries=(), properties=None):
+    """What a client is told of a directory. Each entry is its name and what is known of it, and they are in order."""
+    listed = b"".join(b"( " + string(name) + facts + b") " for name, facts in entries)
+    return answered(b"%d " % revision + sorted_pairs(properties or {}) + b"( " + listed + b") ")
+
+
+def stat_told(facts=None):
+    """What a client is told of what stands at a path, if anything does."""
+    return answered(b"( " + (b"" if facts is None else b"( " + facts + b") ") + b") ")
+
+
+def revision_property_told(value=None):
+    """What a client is told of a property of a revision, if the revision has it."""
+    return answered(optional(value))
 
 
 def lock(path, comment=None, steals=False, current=b""):

@@ -4,8 +4,9 @@ ghost use Rattle.repo_api.specs.States.{IsBeginning};
 ghost use Rattle.repo_api.specs.Accepted.{Accepted, changed};
 ghost use Rattle.repo_api.specs.Soundness.{AreSound};
 ghost use Rattle.access.specs.Points.{Point, AccessRules, content_of};
-ghost use Rattle.access.specs.Changing.{CommitsAt, LocksAt, UnlocksAt};
+ghost use Rattle.access.specs.Changing.{CommitsAt, LocksAt, UnlocksAt, ChangesPropertyAt};
 
+use byte_string::ByteString;
 use repo_api::{ChangeFault, CommitAsk, LockAsk, Repository, UnlockAsk};
 use std::alloc::AllocError;
 
@@ -60,6 +61,17 @@ pub trait RepoAccess {
     fn unlock(&mut self, ask: &UnlockAsk) -> Result<(), ChangeFault>
         ensures { (at : Point) × rules.between (point self.old) at
             × UnlocksAt rules ask.now at result (point self.new) };
+
+    /// Makes this the value of a property of a revision, or takes the property out where there is no
+    /// value.
+    fn change_property(
+        &mut self,
+        revision: u64,
+        name: ByteString,
+        value: Option<ByteString>,
+    ) -> Result<(), ChangeFault>
+        ensures { (at : Point) × rules.between (point self.old) at
+            × ChangesPropertyAt rules revision name value at result (point self.new) };
 
     ghost stays: { (p : Point) → rules.between p p };
 

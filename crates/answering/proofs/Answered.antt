@@ -1,6 +1,8 @@
 -- Answers to commands that change nothing, behind what their clients are told before.
 use Rattle.std.proofs.Common.{◌≡◌, ℕ, List, [], ◌∷◌, ◌++◌, refl}
 use Rattle.std.specs.Prelude.{Result, Ok, Err, IfOk, OnErr}
+use Rattle.svnpath.specs.Paths.{PathValue}
+use Rattle.svnpath.specs.declared.fault.PathFault.{PathFault}
 use Rattle.refusals.specs.declared.Refusal.{Refusal}
 use Rattle.replies.specs.declared.reply.Reply.{Reply}
 use Rattle.replies.specs.Replies.{print}
@@ -8,11 +10,12 @@ use Rattle.replies.specs.Sinks.{WritesPart}
 use Rattle.access.specs.Points.{Point, AccessRules}
 use Rattle.machine.specs.Settings.{Settings}
 use Rattle.machine.specs.Stages.{Stage}
-use Rattle.machine.specs.Answers.{no_effect, Answer, serves, behind, Behind}
-use Rattle.machine.specs.Commands.{commit_begins}
+use Rattle.machine.specs.Answers.{no_effect, Answer, says, serves, behind, Behind}
+use Rattle.machine.specs.Commands.{commit_begins, reparented}
 use Rattle.machine.specs.Steps.{AnswerWritten, StepWritten, StepOrNothing}
 use Rattle.machine.specs.declared.asked.Asked.{Asked}
 use Rattle.machine.specs.declared.env.Env.{Env}
+use Rattle.machine.specs.declared.phase.Phase.TheVariants.{Serving}
 use Rattle.machine.specs.declared.phase.Client.{Client}
 use Rattle.telling.proofs.Steps.{said, said_part}
 
@@ -20,6 +23,11 @@ use Rattle.telling.proofs.Steps.{said, said_part}
 pub begins : (s : Settings) (env : Env) (client : Client) (asked : Result Asked Refusal) → (commit_begins s env client asked).effect ≡ no_effect
 begins s env client (Ok asked) = refl
 begins s env client (Err r) = refl
+
+-- and so does another URL
+pub moves : (env : Env) (client : Client) (path : Result PathValue PathFault) → (reparented env client path).effect ≡ no_effect
+moves env client (Ok path) = refl
+moves env client (Err fault) = refl
 
 module _ (rules : AccessRules) (step : Point → Answer → Type 0) {p q : Point} (before : List Reply) (later : rules.between p q) where
   -- an answer that changes nothing
@@ -30,6 +38,17 @@ module _ (rules : AccessRules) (step : Point → Answer → Type 0) {p q : Point
     ok = said rules (λ at b. Behind before (step at) b) p q (behind before a) later (a, is, refl) nothing writes r env' told.ok;
     err = said_part rules (λ at b. Behind before (step at) b) p q (behind before a) later (a, is, refl) nothing writes r told.err;
   }
+
+  -- replies, if they could be made
+  pub replied_all : (env : Env) (client : Client) (told : List Reply) → step q (says env (Serving client) told) → (writes : List ℕ → Type 0)
+      → {E F : Type 0} (replies : Result (List Reply) F) (r : Result Stage E) (env' : Env) → IfOk replies (λ made. made ≡ told)
+      → record {
+        ok : (xs : List Reply) → IfOk replies (λ made. made ≡ xs) → IfOk r (λ after. AnswerWritten (behind before (says env (Serving client) xs)) after env' writes);
+        err : (xs : List Reply) → IfOk replies (λ made. made ≡ xs) → OnErr r (WritesPart writes (print (before ++ xs)));
+      }
+      → record { ok : IfOk r (λ after. StepWritten rules (λ at b. Behind before (step at) b) p q after env' writes); err : OnErr r (StepOrNothing rules (λ at b. Behind before (step at) b) p q writes) }
+  replied_all env client told is writes replies r env' made said_so =
+      answered (says env (Serving client) told) is refl writes r env' (record { ok = said_so.ok told made; err = said_so.err told made })
 
   -- a reply, if it could be made
   pub replied : (env : Env) (client : Client) (told : Reply) → step q (serves env client told) → (writes : List ℕ → Type 0)

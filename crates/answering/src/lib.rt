@@ -3,7 +3,9 @@
 
 mod answering;
 mod asking;
+mod files;
 mod own;
+mod reparenting;
 mod request;
 
 pub use answering::answer_item;

@@ -9,18 +9,26 @@ ghost use Rattle.machine.specs.Steps.{AnswerWritten, StepWritten, StepOrNothing}
 ghost use Rattle.machine.specs.declared.phase.Phase.TheVariants.{Serving};
 ghost use Rattle.telling.specs.Telling.{told_before};
 
+use crate::files::tell_file;
+use crate::reparenting::reparent;
 use crate::request::Request;
 use access::RepoAccess;
 use commands::{CommitCommand, MainCommand};
 use committing::begin_edit;
 use locking::{lock, unlock};
 use machine::{Client, Options, Phase, Turn};
-use reading::{kind_reply, lock_reply, locks_reply, properties_reply, youngest_reply};
+use reading::{
+    dated_reply, directory_reply, file_answer, kind_reply, lock_reply, locks_reply,
+    properties_reply, property_reply, stat_reply, youngest_reply,
+};
+use refusals::Refusal;
 use replies::ReplySink;
 use repo_api::Repository;
+use revising::change_property;
 use std::alloc::AllocError;
 use std::mem::drop;
-use telling::{Preface, SessionPhase, say_preface, tell};
+use telling::{Preface, SessionPhase, refuse, say_preface, tell};
+use tracing::{tell_locations, tell_log};
 
 /// The beginning of a commit.
 fn begin<R: Repository, S: ReplySink>(
@@ -111,6 +119,38 @@ pub fn own_answer<R: Repository, A: RepoAccess<View = R>, S: ReplySink>(
         MainCommand::GetLocks(path) => {
             let reply = locks_reply(turn.alloc, &client.path, path, access);
             tell(client, preface, reply, turn)
+        }
+        MainCommand::GetFile(command) => {
+            let answer = file_answer(turn.alloc, &client.path, command, access);
+            tell_file(client, preface, answer, turn)
+        }
+        MainCommand::GetDir(command) => {
+            let reply = directory_reply(turn.alloc, &client.path, command, access);
+            tell(client, preface, reply, turn)
+        }
+        MainCommand::Stat(path, revision) => {
+            let reply = stat_reply(turn.alloc, &client.path, path, *revision, access);
+            tell(client, preface, reply, turn)
+        }
+        MainCommand::GetDatedRev(date) => {
+            let reply = dated_reply(date, access);
+            tell(client, preface, reply, turn)
+        }
+        MainCommand::RevProp(revision, name) => {
+            let reply = property_reply(*revision, name, access);
+            tell(client, preface, reply, turn)
+        }
+        MainCommand::ChangeRevProp(command) => {
+            if options.has_revprops() {
+                change_property(client, command, preface, access, turn)
+            } else {
+                refuse(client, preface, Refusal::RevisionPropertiesClosed, turn)
+            }
+        }
+        MainCommand::Reparent(url) => reparent(options, client, url, preface, turn),
+        MainCommand::Log(command) => tell_log(client, command, preface, access, turn),
+        MainCommand::GetLocations(command) => {
+            tell_locations(client, command, preface, access, turn)
         }
     }
 }

@@ -30,6 +30,15 @@ pub(crate) fn preface_of(command: &MainCommand) -> Preface
         MainCommand::Unlock(_) => Preface::NoLogin,
         MainCommand::GetLock(_) => Preface::NoLogin,
         MainCommand::GetLocks(_) => Preface::NoLogin,
+        MainCommand::GetFile(_) => Preface::NoLogin,
+        MainCommand::GetDir(_) => Preface::NoLogin,
+        MainCommand::Stat(_, _) => Preface::NoLogin,
+        MainCommand::GetDatedRev(_) => Preface::NoLogin,
+        MainCommand::RevProp(_, _) => Preface::NoLogin,
+        MainCommand::ChangeRevProp(_) => Preface::NoLogin,
+        MainCommand::Reparent(_) => Preface::NoLogin,
+        MainCommand::Log(_) => Preface::NoLogin,
+        MainCommand::GetLocations(_) => Preface::NoLogin,
     }
 }
 
@@ -47,6 +56,15 @@ fn is_write(command: &MainCommand) -> bool
         MainCommand::Unlock(_) => true,
         MainCommand::GetLock(_) => false,
         MainCommand::GetLocks(_) => false,
+        MainCommand::GetFile(_) => false,
+        MainCommand::GetDir(_) => false,
+        MainCommand::Stat(_, _) => false,
+        MainCommand::GetDatedRev(_) => false,
+        MainCommand::RevProp(_, _) => false,
+        MainCommand::ChangeRevProp(_) => true,
+        MainCommand::Reparent(_) => false,
+        MainCommand::Log(_) => false,
+        MainCommand::GetLocations(_) => false,
     }
 }
 

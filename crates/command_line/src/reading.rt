@@ -3,7 +3,7 @@
 use crate::fault::CommandLineFault;
 use crate::order::Order;
 use clap::error::ErrorKind;
-use clap::{Arg, ArgMatches, Command, Error};
+use clap::{Arg, ArgAction, ArgMatches, Command, Error};
 use std::alloc::{AllocError, Global};
 
 /// The argument that names the folder.
@@ -11,6 +11,9 @@ const FOLDER: &str = "DIR";
 
 /// The argument that names the repository.
 const NAME: &str = "name";
+
+/// The argument that lets clients change the properties of revisions.
+const REVPROPS: &str = "revprops";
 
 /// The folder that stands for an empty repository in memory.
 const IN_MEMORY: &str = "-";
@@ -30,12 +33,21 @@ fn name_argument<'a>(alloc: Global) -> Arg<'a> {
         .required(true)
 }
 
-/// `stdio DIR --name N`.
+/// Whether clients may change the properties of revisions.
+fn revprops_argument<'a>(alloc: Global) -> Arg<'a> {
+    Arg::new(alloc, REVPROPS)
+        .long("revprops")
+        .action(ArgAction::SetTrue)
+        .help("Lets clients change the properties of revisions")
+}
+
+/// `stdio DIR --name N [--revprops]`.
 fn stdio_command<'a>(alloc: Global) -> Result<Command<'a>, AllocError> {
     Command::new(alloc, "stdio")
         .about("Serves one session over the standard streams")
         .arg(folder_argument(alloc))?
-        .arg(name_argument(alloc))
+        .arg(name_argument(alloc))?
+        .arg(revprops_argument(alloc))
 }
 
 /// The program with its commands.
@@ -79,6 +91,7 @@ fn stdio_order(alloc: Global, matches: &ArgMatches<'_>) -> Result<Order, Command
     };
     Ok(Order::Stdio {
         name: String::from_str(alloc, name)?,
+        revprops: matches.get_flag(REVPROPS),
     })
 }
 
@@ -106,18 +119,36 @@ mod tests {
         Ok(read_command_line(alloc, words.as_slice()))
     }
 
-    /// Whether the line asks for a session of the repository `r`.
-    fn asks_for_r(alloc: Global, line: &str) -> Result<bool, AllocError> {
+    /// Whether the line asks for a session of the repository `r`, and then whether properties of
+    /// revisions may be changed.
+    fn asks_for_r(alloc: Global, line: &str) -> Result<Option<bool>, AllocError> {
         match read(alloc, line)? {
-            Ok(Order::Stdio { name }) => Ok(name.as_str() == "r"),
-            Err(_) => Ok(false),
+            Ok(Order::Stdio { name, revprops }) => Ok(if name.as_str() == "r" {
+                Some(revprops)
+            } else {
+                None
+            }),
+            Err(_) => Ok(None),
         }
     }
 
     #[test]
     fn reads_the_name(rt: HostRuntime) -> Result<(), Fail> {
-        assert!(rt; asks_for_r(rt.alloc(), "svnserved stdio - --name r")?);
-        assert!(rt; asks_for_r(rt.alloc(), "svnserved stdio --name=r -")?);
+        for line in ["svnserved stdio - --name r", "svnserved stdio --name=r -"] {
+            assert_eq!(rt; asks_for_r(rt.alloc(), line)?, Some(false), "{line}");
+        }
+        Ok(())
+    }
+
+    #[test]
+    fn reads_whether_properties_of_revisions_may_be_changed(rt: HostRuntime) -> Result<(), Fail> {
+        let lines = [
+            "svnserved stdio - --name r --revprops",
+            "svnserved stdio --revprops --name=r -",
+        ];
+        for line in lines {
+            assert_eq!(rt; asks_for_r(rt.alloc(), line)?, Some(true), "{line}");
+        }
         Ok(())
     }
 
@@ -131,6 +162,9 @@ mod tests {
             "svnserved stdio folder --name r",
             "svnserved stdio - --name r --name q",
             "svnserved stdio - --name r more",
+            "svnserved stdio - --name r --revprops=true",
+            "svnserved stdio - --name r --revprops --revprops",
+            "svnserved stdio - --revprops",
             "svnserved other - --name r",
         ];
         for line in lines {

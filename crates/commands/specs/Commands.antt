@@ -1,10 +1,14 @@
 -- The main commands, as the items that spell them.
-use Rattle.std.specs.Prelude.{ℕ, Bool, true, List, Option, Some, None, option_map, ok_or, Result, Ok, Err, codes, if◌then◌else◌}
+use Rattle.std.specs.Prelude.{ℕ, Bool, true, false, List, [], ◌∷◌, Option, Some, None, option_map, ok_or, Result, Err, codes, if◌then◌else◌}
+use Rattle.std.specs.List.{find}
 use Rattle.std.specs.Option.{option_map_or}
 use Rattle.items.specs.Values.{ItemValue, ItemValues, none, more}
-use Rattle.forms.specs.Forms.{◌>>=◌, is_name, command_form, number_first, string_first, list_first, item_first, items_in, optional_number, optional_string, boolean, pairs}
+use Rattle.forms.specs.Forms.{◌>>=◌, is_name, command_form, number_first, string_first, list_first, item_first, items_in, optional_number, optional_string, boolean, pairs, strings, numbers}
+use Rattle.commands.specs.Logins.{are_words}
+use Rattle.commands.specs.declared.command.CommandName.{CommandName}
+use Rattle.commands.specs.declared.command.CommandName.TheVariants as names
 use Rattle.commands.specs.declared.command.MainCommand.{MainCommand}
-use Rattle.commands.specs.declared.command.MainCommand.TheVariants.{GetLatestRev, CheckPath, RevProplist, Commit, AbortEdit, Lock, Unlock, GetLock, GetLocks}
+use Rattle.commands.specs.declared.command.MainCommand.TheVariants.{GetLatestRev, CheckPath, RevProplist, Commit, AbortEdit, Lock, Unlock, GetLock, GetLocks, GetFile, GetDir, Stat, GetDatedRev, RevProp, ChangeRevProp, Reparent, Log, GetLocations}
 use Rattle.forms.specs.declared.fault.CommandFault.{CommandFault}
 use Rattle.forms.specs.declared.fault.CommandFault.TheVariants.{UnknownName, BadParameters}
 
@@ -91,19 +95,180 @@ get_locks params = do
   (path, _) ← string_first params
   Some (GetLocks path)
 
--- the command of a name and its parameters
+-- `path [ rev ]` in front: a path and the revision, if there is one, and what stands behind them
+abbrev pub path_first : ItemValues → Option (List ℕ × Option ℕ × ItemValues)
+path_first items = do
+  (path, rest) ← string_first items
+  (revision, rest) ← list_first rest
+  revision ← optional_number revision
+  Some (path, revision, rest)
+
+-- `( path [ rev ] want-props want-contents )`
+abbrev pub get_file : ItemValues → Option MainCommand
+get_file params = do
+  (path, revision, rest) ← path_first params
+  (properties, rest) ← flag_first rest
+  (contents, _) ← flag_first rest
+  Some (GetFile (record {
+    path = path;
+    revision = revision;
+    wants_properties = properties;
+    wants_contents = contents;
+  }))
+
+-- `? ( field ... )`: nothing, or a list of words
+abbrev pub has_fields : ItemValues → Bool
+has_fields none = true
+has_fields items = option_map_or (λ fields. are_words fields.0) (list_first items) false
+
+-- `( path [ rev ] want-props want-contents ? ( field ... ) )`: which fields a client names does not
+-- matter
+abbrev pub get_dir : ItemValues → Option MainCommand
+get_dir params = do
+  (path, revision, rest) ← path_first params
+  (properties, rest) ← flag_first rest
+  (contents, rest) ← flag_first rest
+  if has_fields rest
+      then Some (GetDir (record {
+        path = path;
+        revision = revision;
+        wants_properties = properties;
+        wants_contents = contents;
+      }))
+      else None
+
+-- `( path [ rev ] )`
+abbrev pub stat : ItemValues → Option MainCommand
+stat params = do
+  (path, revision, _) ← path_first params
+  Some (Stat path revision)
+
+-- `( date )`
+abbrev pub get_dated_rev : ItemValues → Option MainCommand
+get_dated_rev params = do
+  (date, _) ← string_first params
+  Some (GetDatedRev date)
+
+-- `( rev name )`
+abbrev pub rev_prop : ItemValues → Option MainCommand
+rev_prop params = do
+  (revision, rest) ← number_first params
+  (name, _) ← string_first rest
+  Some (RevProp revision name)
+
+-- `( rev name ? value )`
+abbrev pub change_rev_prop : ItemValues → Option MainCommand
+change_rev_prop params = do
+  (revision, rest) ← number_first params
+  (name, rest) ← string_first rest
+  value ← optional_string rest
+  Some (ChangeRevProp (record { revision = revision; name = name; value = value }))
+
+-- `( url )`
+abbrev pub reparent : ItemValues → Option MainCommand
+reparent params = do
+  (url, _) ← string_first params
+  Some (Reparent url)
+
+-- `[ rev ]` in front: the revision, if there is one, and what stands behind it
+abbrev pub revision_first : ItemValues → Option (Option ℕ × ItemValues)
+revision_first items = do
+  (revision, rest) ← list_first items
+  revision ← optional_number revision
+  Some (revision, rest)
+
+-- `? limit`: 0 where there is none
+abbrev pub limit_at_end : ItemValues → Option ℕ
+limit_at_end none = Some 0
+limit_at_end items = option_map (λ first. first.0) (number_first items)
+
+-- `( ( path ... ) [ start ] [ end ] changed-paths strict-node ? limit )`
+abbrev pub log : ItemValues → Option MainCommand
+log params = do
+  (paths, rest) ← list_first params
+  paths ← strings paths
+  (start, rest) ← revision_first rest
+  (end, rest) ← revision_first rest
+  (changes, rest) ← flag_first rest
+  (strict, rest) ← flag_first rest
+  limit ← limit_at_end rest
+  Some (Log (record {
+    paths = paths;
+    start = start;
+    end = end;
+    wants_changes = changes;
+    strict = strict;
+    limit = limit;
+  }))
+
+-- `( path peg-rev ( rev ... ) )`
+abbrev pub get_locations : ItemValues → Option MainCommand
+get_locations params = do
+  (path, rest) ← string_first params
+  (peg, rest) ← number_first rest
+  (revisions, _) ← list_first rest
+  revisions ← numbers revisions
+  Some (GetLocations (record { path = path; peg = peg; revisions = revisions }))
+
+-- the name of a command, as it is sent
+abbrev pub name_text : CommandName → List ℕ
+name_text names.GetLatestRev = codes "get-latest-rev"
+name_text names.CheckPath = codes "check-path"
+name_text names.RevProplist = codes "rev-proplist"
+name_text names.Commit = codes "commit"
+name_text names.AbortEdit = codes "abort-edit"
+name_text names.Lock = codes "lock"
+name_text names.Unlock = codes "unlock"
+name_text names.GetLock = codes "get-lock"
+name_text names.GetLocks = codes "get-locks"
+name_text names.GetFile = codes "get-file"
+name_text names.GetDir = codes "get-dir"
+name_text names.Stat = codes "stat"
+name_text names.GetDatedRev = codes "get-dated-rev"
+name_text names.RevProp = codes "rev-prop"
+name_text names.ChangeRevProp = codes "change-rev-prop"
+name_text names.Reparent = codes "reparent"
+name_text names.Log = codes "log"
+name_text names.GetLocations = codes "get-locations"
+
+-- all commands
+abbrev pub all_names : List CommandName
+all_names =
+    names.GetLatestRev ∷ names.CheckPath ∷ names.RevProplist ∷ names.Commit ∷ names.AbortEdit
+    ∷ names.Lock ∷ names.Unlock ∷ names.GetLock ∷ names.GetLocks ∷ names.GetFile ∷ names.GetDir
+    ∷ names.Stat ∷ names.GetDatedRev ∷ names.RevProp ∷ names.ChangeRevProp ∷ names.Reparent
+    ∷ names.Log ∷ names.GetLocations ∷ []
+
+-- the command that has this name
+abbrev pub command_name : List ℕ → Option CommandName
+command_name name = find (λ known. is_name name (name_text known)) all_names
+
+-- the command of a name and its parameters, if they are of its form
+abbrev pub command_with : CommandName → ItemValues → Option MainCommand
+command_with names.GetLatestRev params = Some GetLatestRev
+command_with names.CheckPath params = check_path params
+command_with names.RevProplist params = rev_proplist params
+command_with names.Commit params = commit params
+command_with names.AbortEdit params = Some AbortEdit
+command_with names.Lock params = lock params
+command_with names.Unlock params = unlock params
+command_with names.GetLock params = get_lock params
+command_with names.GetLocks params = get_locks params
+command_with names.GetFile params = get_file params
+command_with names.GetDir params = get_dir params
+command_with names.Stat params = stat params
+command_with names.GetDatedRev params = get_dated_rev params
+command_with names.RevProp params = rev_prop params
+command_with names.ChangeRevProp params = change_rev_prop params
+command_with names.Reparent params = reparent params
+command_with names.Log params = log params
+command_with names.GetLocations params = get_locations params
+
+-- the command of a name and its parameters, or why there is none
 abbrev pub command_named : List ℕ → ItemValues → Result MainCommand CommandFault
 command_named name params =
-    if is_name name (codes "get-latest-rev") then Ok GetLatestRev
-    else if is_name name (codes "check-path") then ok_or (check_path params) BadParameters
-    else if is_name name (codes "rev-proplist") then ok_or (rev_proplist params) BadParameters
-    else if is_name name (codes "commit") then ok_or (commit params) BadParameters
-    else if is_name name (codes "abort-edit") then Ok AbortEdit
-    else if is_name name (codes "lock") then ok_or (lock params) BadParameters
-    else if is_name name (codes "unlock") then ok_or (unlock params) BadParameters
-    else if is_name name (codes "get-lock") then ok_or (get_lock params) BadParameters
-    else if is_name name (codes "get-locks") then ok_or (get_locks params) BadParameters
-    else Err UnknownName
+    option_map_or (λ known. ok_or (command_with known params) BadParameters)
+    (command_name name) (Err UnknownName)
 
 -- the command that an item is, or why it is none
 abbrev pub main_command : ItemValue → Result MainCommand CommandFault

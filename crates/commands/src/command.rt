@@ -1,14 +1,18 @@
 //! The main commands.
 ghost use Rattle.items.specs.View.{value_of, values_of};
-ghost use Rattle.std.specs.Prelude.{◌≡◌, option_map};
+ghost use Rattle.std.specs.Prelude.{◌≡◌, option_copied, option_map};
+ghost use Rattle.std.specs.List.{find};
 ghost use Rattle.forms.specs.Answering.{Answers, Reads};
-ghost use Rattle.commands.specs.Commands.{main_command, command_named, check_path, rev_proplist, locks_first, properties_at_end, commit, flag_first, lock, unlock, get_lock, get_locks};
+ghost use Rattle.forms.specs.Forms.{is_name};
+ghost use Rattle.commands.specs.Commands.{main_command, command_name, name_text, command_with, check_path, rev_proplist, locks_first, properties_at_end, commit, flag_first, lock, unlock, get_lock, get_locks, path_first, get_file, get_dir, has_fields, stat, get_dated_rev, rev_prop, change_rev_prop, reparent, revision_first, limit_at_end, log, get_locations};
 
+use crate::login::are_words;
 use byte_string::ByteString;
-use forms::CommandFault::{self, BadParameters};
+use forms::CommandFault::{self, BadParameters, UnknownName};
 use forms::{
-    Pairs, copy_optional, read_boolean, read_form, read_items, read_list, read_number,
-    read_optional_number, read_optional_string, read_pairs, read_string,
+    Numbers, Pairs, Strings, copy_optional, read_boolean, read_form, read_items, read_list,
+    read_number, read_numbers, read_optional_number, read_optional_string, read_pairs, read_string,
+    read_strings,
 };
 use items::Item;
 use std::alloc::Global;
@@ -48,6 +52,66 @@ pub struct UnlockCommand {
     pub breaks: bool,
 }
 
+/// What a `get-file` asks for.
+#[derive(Drop)]
+pub struct GetFileCommand {
+    pub path: ByteString,
+    /// The revision, or `None` for the youngest.
+    pub revision: Option<u64>,
+    /// Whether the file's properties are to be told.
+    pub wants_properties: bool,
+    /// Whether the file's text is to be sent.
+    pub wants_contents: bool,
+}
+
+/// What a `get-dir` asks for.
+#[derive(Drop)]
+pub struct GetDirCommand {
+    pub path: ByteString,
+    /// The revision, or `None` for the youngest.
+    pub revision: Option<u64>,
+    /// Whether the directory's properties are to be told.
+    pub wants_properties: bool,
+    /// Whether the directory's entries are to be told.
+    pub wants_contents: bool,
+}
+
+/// What a `change-rev-prop` asks for.
+#[derive(Drop)]
+pub struct ChangeRevPropCommand {
+    pub revision: u64,
+    pub name: ByteString,
+    /// The value, or `None` where the property is taken out.
+    pub value: Option<ByteString>,
+}
+
+/// What a `log` asks for.
+#[derive(Drop)]
+pub struct LogCommand {
+    /// The paths, none for the whole repository.
+    pub paths: Strings,
+    /// The revision that comes first, or `None` for the youngest.
+    pub start: Option<u64>,
+    /// The revision that comes last, or `None` for the youngest.
+    pub end: Option<u64>,
+    /// Whether the changes of each revision are to be told.
+    pub wants_changes: bool,
+    /// Whether the log ends where a copy brought a path.
+    pub strict: bool,
+    /// The most revisions, 0 for all.
+    pub limit: u64,
+}
+
+/// What a `get-locations` asks for.
+#[derive(Drop)]
+pub struct GetLocationsCommand {
+    pub path: ByteString,
+    /// The revision in which the path is meant.
+    pub peg: u64,
+    /// The revisions in which it is looked for.
+    pub revisions: Numbers,
+}
+
 /// A command outside an edit or a report, with its parameters.
 #[derive(Drop)]
 pub enum MainCommand {
@@ -70,6 +134,27 @@ pub enum MainCommand {
     GetLock(ByteString),
     /// The locks at a path and under it: `( get-locks ( path ) )`.
     GetLocks(ByteString),
+    /// A file, in a revision or the youngest:
+    /// `( get-file ( path [ rev ] want-props want-contents ) )`.
+    GetFile(GetFileCommand),
+    /// A directory, in a revision or the youngest:
+    /// `( get-dir ( path [ rev ] want-props want-contents ? ( field ... ) ) )`.
+    GetDir(GetDirCommand),
+    /// What is known of a path's entry, in a revision or the youngest: `( stat ( path [ rev ] ) )`.
+    Stat(ByteString, Option<u64>),
+    /// The number of the youngest revision up to a date: `( get-dated-rev ( date ) )`.
+    GetDatedRev(ByteString),
+    /// One property of a revision: `( rev-prop ( rev name ) )`.
+    RevProp(u64, ByteString),
+    /// Sets a property of a revision, or takes it out: `( change-rev-prop ( rev name ? value ) )`.
+    ChangeRevProp(ChangeRevPropCommand),
+    /// Goes on at another URL of the same repository: `( reparent ( url ) )`.
+    Reparent(ByteString),
+    /// The revisions that changed paths:
+    /// `( log ( ( path ... ) [ start ] [ end ] changed-paths strict-node ? limit ) )`.
+    Log(LogCommand),
+    /// Where something was in other revisions: `( get-locations ( path peg-rev ( rev ... ) ) )`.
+    GetLocations(GetLocationsCommand),
 }
 
 impl MainCommand {
@@ -77,36 +162,132 @@ impl MainCommand {
     pub fn from_item(alloc: Global, item: &Item) -> Result<MainCommand, CommandFault>
         ensures { Answers result (main_command (value_of item.now)) }
     {
-        match read_form(item) {
-            Some((name, params)) => read_named(alloc, name, params),
-            None => Err(BadParameters),
-        }
+        let (name, params) = read_form(item).ok_or(BadParameters)?;
+        let name = command_name(name).ok_or(UnknownName)?;
+        read_command(alloc, name, params)
     }
 }
 
-fn read_named(alloc: Global, name: &[u8], params: &[Item]) -> Result<MainCommand, CommandFault>
-    ensures { Answers result (command_named name.now (values_of params.now)) }
+/// The name of a command outside an edit or a report.
+#[derive(Clone, Copy)]
+pub enum CommandName {
+    GetLatestRev,
+    CheckPath,
+    RevProplist,
+    Commit,
+    AbortEdit,
+    Lock,
+    Unlock,
+    GetLock,
+    GetLocks,
+    GetFile,
+    GetDir,
+    Stat,
+    GetDatedRev,
+    RevProp,
+    ChangeRevProp,
+    Reparent,
+    Log,
+    GetLocations,
+}
+
+/// The names of all commands.
+const COMMAND_NAMES: [CommandName; 18] = [
+    CommandName::GetLatestRev,
+    CommandName::CheckPath,
+    CommandName::RevProplist,
+    CommandName::Commit,
+    CommandName::AbortEdit,
+    CommandName::Lock,
+    CommandName::Unlock,
+    CommandName::GetLock,
+    CommandName::GetLocks,
+    CommandName::GetFile,
+    CommandName::GetDir,
+    CommandName::Stat,
+    CommandName::GetDatedRev,
+    CommandName::RevProp,
+    CommandName::ChangeRevProp,
+    CommandName::Reparent,
+    CommandName::Log,
+    CommandName::GetLocations,
+];
+
+/// The command that has this name.
+fn command_name(name: &[u8]) -> Option<CommandName>
+    ensures { result ≡ command_name name.now }
 {
-    if name == b"get-latest-rev".as_slice() {
-        Ok(MainCommand::GetLatestRev)
-    } else if name == b"check-path".as_slice() {
-        read_check_path(params)
-    } else if name == b"rev-proplist".as_slice() {
-        read_rev_proplist(params)
-    } else if name == b"commit".as_slice() {
-        read_commit(alloc, params)
-    } else if name == b"abort-edit".as_slice() {
-        Ok(MainCommand::AbortEdit)
-    } else if name == b"lock".as_slice() {
-        read_lock(params)
-    } else if name == b"unlock".as_slice() {
-        read_unlock(params)
-    } else if name == b"get-lock".as_slice() {
-        read_get_lock(params)
-    } else if name == b"get-locks".as_slice() {
-        read_get_locks(params)
-    } else {
-        Err(CommandFault::UnknownName)
+    first_named(&COMMAND_NAMES, name).copied()
+}
+
+/// The first of these that has this name.
+fn first_named<'a>(names: &'a [CommandName], name: &[u8]) -> Option<&'a CommandName>
+    ensures { option_copied result
+        ≡ find (λ known. is_name name.now (name_text known)) names.now }
+{
+    names.iter().find(|known| has_name(name, **known))
+}
+
+/// Whether the command has this name.
+fn has_name(name: &[u8], known: CommandName) -> bool
+    ensures { result ≡ is_name name.now (name_text known) }
+{
+    name == name_text(known)
+}
+
+/// The name of a command, as it is sent.
+fn name_text(known: CommandName) -> &'static [u8]
+    ensures { result.now ≡ name_text known }
+{
+    match known {
+        CommandName::GetLatestRev => b"get-latest-rev",
+        CommandName::CheckPath => b"check-path",
+        CommandName::RevProplist => b"rev-proplist",
+        CommandName::Commit => b"commit",
+        CommandName::AbortEdit => b"abort-edit",
+        CommandName::Lock => b"lock",
+        CommandName::Unlock => b"unlock",
+        CommandName::GetLock => b"get-lock",
+        CommandName::GetLocks => b"get-locks",
+        CommandName::GetFile => b"get-file",
+        CommandName::GetDir => b"get-dir",
+        CommandName::Stat => b"stat",
+        CommandName::GetDatedRev => b"get-dated-rev",
+        CommandName::RevProp => b"rev-prop",
+        CommandName::ChangeRevProp => b"change-rev-prop",
+        CommandName::Reparent => b"reparent",
+        CommandName::Log => b"log",
+        CommandName::GetLocations => b"get-locations",
+    }
+}
+
+/// The command of a name that is known.
+fn read_command(
+    alloc: Global,
+    name: CommandName,
+    params: &[Item],
+) -> Result<MainCommand, CommandFault>
+    ensures { Reads result (command_with name (values_of params.now)) }
+{
+    match name {
+        CommandName::GetLatestRev => Ok(MainCommand::GetLatestRev),
+        CommandName::CheckPath => read_check_path(params),
+        CommandName::RevProplist => read_rev_proplist(params),
+        CommandName::Commit => read_commit(alloc, params),
+        CommandName::AbortEdit => Ok(MainCommand::AbortEdit),
+        CommandName::Lock => read_lock(params),
+        CommandName::Unlock => read_unlock(params),
+        CommandName::GetLock => read_get_lock(params),
+        CommandName::GetLocks => read_get_locks(params),
+        CommandName::GetFile => read_get_file(params),
+        CommandName::GetDir => read_get_dir(params),
+        CommandName::Stat => read_stat(params),
+        CommandName::GetDatedRev => read_get_dated_rev(params),
+        CommandName::RevProp => read_rev_prop(params),
+        CommandName::ChangeRevProp => read_change_rev_prop(params),
+        CommandName::Reparent => read_reparent(params),
+        CommandName::Log => read_log(alloc, params),
+        CommandName::GetLocations => read_get_locations(alloc, params),
     }
 }
 
@@ -213,6 +394,161 @@ fn read_get_locks(params: &[Item]) -> Result<MainCommand, CommandFault>
 {
     let (path, _) = read_string(params).ok_or(BadParameters)?;
     Ok(MainCommand::GetLocks(path.clone()?))
+}
+
+/// `path [ rev ]` in front, and what stands behind it.
+fn read_path(items: &[Item]) -> Option<(&ByteString, Option<u64>, &[Item])>
+    ensures { option_map (λ p. (p.0.now, p.1, values_of p.2.now)) result
+        ≡ path_first (values_of items.now) }
+{
+    let (path, rest) = read_string(items)?;
+    let (revision, rest) = read_list(rest)?;
+    Some((path, read_optional_number(revision)?, rest))
+}
+
+/// `( path [ rev ] want-props want-contents )`
+fn read_get_file(params: &[Item]) -> Result<MainCommand, CommandFault>
+    ensures { Reads result (get_file (values_of params.now)) }
+{
+    let (path, revision, rest) = read_path(params).ok_or(BadParameters)?;
+    let (wants_properties, rest) = read_flag(rest).ok_or(BadParameters)?;
+    let (wants_contents, _) = read_flag(rest).ok_or(BadParameters)?;
+    Ok(MainCommand::GetFile(GetFileCommand {
+        path: path.clone()?,
+        revision,
+        wants_properties,
+        wants_contents,
+    }))
+}
+
+/// `( path [ rev ] want-props want-contents ? ( field ... ) )`
+fn read_get_dir(params: &[Item]) -> Result<MainCommand, CommandFault>
+    ensures { Reads result (get_dir (values_of params.now)) }
+{
+    let (path, revision, rest) = read_path(params).ok_or(BadParameters)?;
+    let (wants_properties, rest) = read_flag(rest).ok_or(BadParameters)?;
+    let (wants_contents, rest) = read_flag(rest).ok_or(BadParameters)?;
+    if !has_fields(rest) {
+        return Err(BadParameters);
+    }
+    Ok(MainCommand::GetDir(GetDirCommand {
+        path: path.clone()?,
+        revision,
+        wants_properties,
+        wants_contents,
+    }))
+}
+
+/// `? ( field ... )`: nothing, or a list of words.
+fn has_fields(items: &[Item]) -> bool
+    ensures { result ≡ has_fields (values_of items.now) }
+{
+    match items {
+        [] => true,
+        [Item::List(fields), ..] => are_words(fields.as_slice()),
+        _ => false,
+    }
+}
+
+/// `( path [ rev ] )`
+fn read_stat(params: &[Item]) -> Result<MainCommand, CommandFault>
+    ensures { Reads result (stat (values_of params.now)) }
+{
+    let (path, revision, _) = read_path(params).ok_or(BadParameters)?;
+    Ok(MainCommand::Stat(path.clone()?, revision))
+}
+
+/// `( date )`
+fn read_get_dated_rev(params: &[Item]) -> Result<MainCommand, CommandFault>
+    ensures { Reads result (get_dated_rev (values_of params.now)) }
+{
+    let (date, _) = read_string(params).ok_or(BadParameters)?;
+    Ok(MainCommand::GetDatedRev(date.clone()?))
+}
+
+/// `( rev name )`
+fn read_rev_prop(params: &[Item]) -> Result<MainCommand, CommandFault>
+    ensures { Reads result (rev_prop (values_of params.now)) }
+{
+    let (revision, rest) = read_number(params).ok_or(BadParameters)?;
+    let (name, _) = read_string(rest).ok_or(BadParameters)?;
+    Ok(MainCommand::RevProp(revision, name.clone()?))
+}
+
+/// `( rev name ? value )`
+fn read_change_rev_prop(params: &[Item]) -> Result<MainCommand, CommandFault>
+    ensures { Reads result (change_rev_prop (values_of params.now)) }
+{
+    let (revision, rest) = read_number(params).ok_or(BadParameters)?;
+    let (name, rest) = read_string(rest).ok_or(BadParameters)?;
+    let value = read_optional_string(rest).ok_or(BadParameters)?;
+    Ok(MainCommand::ChangeRevProp(ChangeRevPropCommand {
+        revision,
+        name: name.clone()?,
+        value: copy_optional(value)?,
+    }))
+}
+
+/// `( url )`
+fn read_reparent(params: &[Item]) -> Result<MainCommand, CommandFault>
+    ensures { Reads result (reparent (values_of params.now)) }
+{
+    let (url, _) = read_string(params).ok_or(BadParameters)?;
+    Ok(MainCommand::Reparent(url.clone()?))
+}
+
+/// `[ rev ]` in front, and what stands behind it.
+fn read_revision(items: &[Item]) -> Option<(Option<u64>, &[Item])>
+    ensures { option_map (λ p. (p.0, values_of p.1.now)) result
+        ≡ revision_first (values_of items.now) }
+{
+    let (revision, rest) = read_list(items)?;
+    Some((read_optional_number(revision)?, rest))
+}
+
+/// `? limit`: 0 where there is none.
+fn read_limit(items: &[Item]) -> Option<u64>
+    ensures { result ≡ limit_at_end (values_of items.now) }
+{
+    match items {
+        [] => Some(0),
+        [Item::Number(limit), ..] => Some(*limit),
+        _ => None,
+    }
+}
+
+/// `( ( path ... ) [ start ] [ end ] changed-paths strict-node ? limit )`
+fn read_log(alloc: Global, params: &[Item]) -> Result<MainCommand, CommandFault>
+    ensures { Reads result (log (values_of params.now)) }
+{
+    let (paths, rest) = read_list(params).ok_or(BadParameters)?;
+    let (start, rest) = read_revision(rest).ok_or(BadParameters)?;
+    let (end, rest) = read_revision(rest).ok_or(BadParameters)?;
+    let (wants_changes, rest) = read_flag(rest).ok_or(BadParameters)?;
+    let (strict, rest) = read_flag(rest).ok_or(BadParameters)?;
+    let limit = read_limit(rest).ok_or(BadParameters)?;
+    Ok(MainCommand::Log(LogCommand {
+        paths: read_strings(alloc, paths)?,
+        start,
+        end,
+        wants_changes,
+        strict,
+        limit,
+    }))
+}
+
+/// `( path peg-rev ( rev ... ) )`
+fn read_get_locations(alloc: Global, params: &[Item]) -> Result<MainCommand, CommandFault>
+    ensures { Reads result (get_locations (values_of params.now)) }
+{
+    let (path, rest) = read_string(params).ok_or(BadParameters)?;
+    let (peg, rest) = read_number(rest).ok_or(BadParameters)?;
+    let (revisions, _) = read_list(rest).ok_or(BadParameters)?;
+    Ok(MainCommand::GetLocations(GetLocationsCommand {
+        path: path.clone()?,
+        peg,
+        revisions: read_numbers(alloc, revisions)?,
+    }))
 }
 
 /// The word `true` or `false` in front, and what stands behind it.

@@ -4,5 +4,8 @@
 mod command;
 mod login;
 
-pub use command::{CommitCommand, LockCommand, MainCommand, UnlockCommand};
+pub use command::{
+    ChangeRevPropCommand, CommandName, CommitCommand, GetDirCommand, GetFileCommand,
+    GetLocationsCommand, LockCommand, LogCommand, MainCommand, UnlockCommand,
+};
 pub use login::{AuthResponse, ClientGreeting, challenge_answer};

@@ -66,7 +66,8 @@ fn read_client(items: &[Item]) -> Option<Option<&ByteString>>
     }
 }
 
-fn are_words(items: &[Item]) -> bool
+/// Whether each is a word.
+pub(crate) fn are_words(items: &[Item]) -> bool
     ensures { result ≡ are_words (values_of items.now) }
 {
     for item in items {

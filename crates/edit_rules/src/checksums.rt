@@ -1,6 +1,5 @@
 //! Checksums of texts.
 ghost use Rattle.std.specs.Prelude.{◌≡◌, IfOk};
-ghost use Rattle.md5.specs.Md5.{md5};
 ghost use Rattle.hex.specs.Hex.{encode_lower};
 ghost use Rattle.forms.specs.Forms.{is_name};
 ghost use Rattle.edit_rules.specs.Refusing.{checksum_refusal};
@@ -9,15 +8,15 @@ ghost use Rattle.edit_rules.specs.Judging.{Judges};
 use crate::fault::EditFault;
 use crate::judging::judge;
 use byte_string::ByteString;
-use md5::{Digest, Md5};
 use refusals::Refusal;
+use repo_api::FileText;
 use std::alloc::{AllocError, Global};
 
-/// The text has to have this checksum, if one is named.
+/// The text has to have this checksum, if one is named. The digest that the text keeps is compared.
 pub fn judge_checksum(
     alloc: Global,
     checksum: &Option<ByteString>,
-    text: &[u8],
+    text: &FileText,
 ) -> Result<(), EditFault>
     ensures { Judges result (checksum_refusal checksum.now text.now) }
 {
@@ -25,7 +24,7 @@ pub fn judge_checksum(
         None => Ok(()),
         Some(digits) => {
             judge(
-                is_checksum(alloc, digits.as_slice(), text)?,
+                is_checksum(alloc, digits.as_slice(), text.digest())?,
                 Refusal::ChecksumMismatch,
             )?;
             Ok(())
@@ -33,10 +32,10 @@ pub fn judge_checksum(
     }
 }
 
-/// Whether these are the digits of the text's MD5.
-fn is_checksum(alloc: Global, digits: &[u8], text: &[u8]) -> Result<bool, AllocError>
-    ensures { IfOk result (λ same. same ≡ is_name digits.now (encode_lower (md5 text.now))) }
+/// Whether these are the digits of the digest.
+fn is_checksum(alloc: Global, digits: &[u8], digest: [u8; 16]) -> Result<bool, AllocError>
+    ensures { IfOk result (λ same. same ≡ is_name digits.now (encode_lower digest)) }
 {
-    let right = hex::encode(alloc, &Md5::digest(text))?;
+    let right = hex::encode(alloc, &digest)?;
     Ok(digits == right.as_bytes())
 }

@@ -19,7 +19,7 @@ use edit_rules::{
     text_edit_under,
 };
 use refusals::Refusal;
-use repo_api::{EditOp, Repository};
+use repo_api::{EditOp, FileText, Repository};
 use std::sync::Arc;
 use svndiff0::Applier;
 use svnpath::Path;
@@ -63,7 +63,7 @@ impl<R: Repository> CommitEditor<R> {
         match self.open_under(token) {
             Some(Opened::File(path, Delta::Untouched)) => {
                 let base = self.shared_text(path, repository)?;
-                judge_checksum(self.alloc, checksum, base.as_slice())?;
+                self.judge_text_at(path, checksum, repository)?;
                 Ok(base)
             }
             Some(Opened::File(_, Delta::Reading(_))) => {
@@ -184,11 +184,12 @@ impl<R: Repository> CommitEditor<R> {
         requires { RestsOn self.now (R.content repository.now) }
         ensures { Judges result (checksum_refusal checksum.now (file_text self.now path.now)) }
     {
+        let empty = FileText::empty();
         match &self.txn {
-            None => judge_checksum(self.alloc, checksum, &[]),
+            None => judge_checksum(self.alloc, checksum, &empty),
             Some(txn) => match repository.text_in(txn, path) {
-                None => judge_checksum(self.alloc, checksum, &[]),
-                Some(text) => judge_checksum(self.alloc, checksum, text.as_slice()),
+                None => judge_checksum(self.alloc, checksum, &empty),
+                Some(text) => judge_checksum(self.alloc, checksum, text),
             },
         }
     }

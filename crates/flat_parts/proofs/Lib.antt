@@ -5,3 +5,4 @@ pub mod Anys
 pub mod Parts
 pub mod Aboves
 pub mod Copied
+pub mod Children

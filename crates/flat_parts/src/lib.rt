@@ -6,6 +6,7 @@ mod changes;
 mod copies;
 mod entries;
 mod merging;
+mod names;
 mod path_map;
 mod revision;
 mod touching;
@@ -19,6 +20,7 @@ pub use entries::{
     empty_file, is_deeper, new_entry, opening_root, put_new_entry, put_properties, put_text,
 };
 pub use merging::{is_in_conflict, merged_entry};
+pub use names::names_beneath;
 pub use path_map::{put, put_some, take_out};
-pub use revision::{opening_properties, revision_properties};
+pub use revision::{changed_property, opening_properties, revision_properties};
 pub use touching::touch_above;

@@ -1,6 +1,7 @@
 //! The properties of a revision.
 ghost use Rattle.std.specs.Prelude.{◌≡◌, ◌∷◌, [], IfOk, OnOk, codes};
 ghost use Rattle.repo_api.specs.Properties.{with_property};
+ghost use Rattle.repo_api.specs.RevisionProperties.{property_changed};
 ghost use Rattle.repo_api.specs.Commits.{asked_properties, with_author, revision_properties};
 
 use byte_string::ByteString;
@@ -31,6 +32,22 @@ pub fn revision_properties(alloc: Global, ask: CommitAsk) -> Result<Properties, 
     let mut list = asked_properties(alloc, properties, message)?;
     set(alloc, &mut list, b"svn:date", date)?;
     set_author(alloc, &mut list, author)?;
+    Ok(list)
+}
+
+/// The properties with this value of the name, and without the name where there is no value.
+pub fn changed_property(
+    list: &Properties,
+    name: ByteString,
+    value: Option<ByteString>,
+) -> Result<Properties, AllocError>
+    ensures { IfOk result (λ ps. ps ≡ property_changed name value list.now) }
+{
+    let mut list = list.clone()?;
+    match value {
+        Some(value) => list.set(name, value)?,
+        None => list.remove(&name),
+    }
     Ok(list)
 }
 

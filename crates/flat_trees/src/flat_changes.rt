@@ -1,10 +1,11 @@
 //! The changes of a transaction as one ordered map.
-ghost use Rattle.std.specs.Prelude.{◌≡◌, OnOk, OnErr, None};
+ghost use Rattle.std.specs.Prelude.{◌≡◌, IfOk, OnOk, OnErr, None};
 ghost use Rattle.std.specs.FinMap.{get, empty, from_entries};
 ghost use Rattle.svnpath.specs.Paths.{PathValue};
 ghost use Rattle.repo_api.specs.Changes.{after_add, after_property, after_text, noted, noted_copy, noted_delete};
 ghost use Rattle.repo_api.specs.States.{changes_of};
 
+use crate::change_list::ChangeList;
 use flat_parts::{
     change_of_add, change_of_replace, copy_source, flag_property, flag_text, is_add, make_modified,
     plain, prune, put, put_new,
@@ -48,6 +49,13 @@ impl FlatChanges {
         ensures { from_entries result.now.entries ≡ self.now }
     {
         &self.changes
+    }
+
+    /// The same changes as a list.
+    pub fn into_list(self, alloc: Global) -> Result<ChangeList, AllocError>
+        ensures { IfOk result (λ list. list ≡ self) }
+    {
+        ChangeList::from_map(alloc, self.changes)
     }
 
     /// Notes that an entry was added at the path, and copied from nowhere.

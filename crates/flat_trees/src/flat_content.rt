@@ -1,22 +1,26 @@
 //! What a repository holds.
-ghost use Rattle.std.specs.Prelude.{◌≡◌, ◌∷◌, [], ◌++◌, ◌-◌, length, IfOk, OnOk, slice_get, option_copied, option_map};
+ghost use Rattle.std.specs.Prelude.{◌≡◌, ◌<◌, ◌∷◌, [], ◌++◌, ◌-◌, length, IfOk, OnOk, slice_get, slice_set, option_copied, option_map};
 ghost use Rattle.std.specs.FinMap.{empty};
+ghost use Rattle.repo_api.specs.Histories.{changes_in};
+ghost use Rattle.repo_api.specs.Kinds.{or_empty};
+ghost use Rattle.repo_api.specs.RevisionProperties.{property_changed, with_changed_property};
 ghost use Rattle.repo_api.specs.Opening.{new_repository, opening_tree};
 ghost use Rattle.flat_trees.specs.Contents.{fixed_of, values, revisions_of, properties_of, content_of};
 
-use crate::flat_changes::FlatChanges;
+use crate::change_list::ChangeList;
 use crate::flat_tree::FlatTree;
 use byte_string::ByteString;
-use flat_parts::opening_properties;
-use repo_api::Properties;
+use flat_parts::{changed_property, opening_properties};
+use repo_api::{Change, Properties};
 use std::alloc::{AllocError, Global};
 use std::sync::Arc;
+use svnpath::Path;
 
 /// What never changes of a revision.
 #[derive(Drop)]
 pub struct FlatRevision {
     pub tree: FlatTree,
-    pub changes: FlatChanges,
+    pub changes: ChangeList,
 }
 
 impl FlatRevision {
@@ -27,7 +31,7 @@ impl FlatRevision {
     {
         Ok(FlatRevision {
             tree: FlatTree::opening(alloc)?,
-            changes: FlatChanges::new(alloc),
+            changes: ChangeList::new(alloc),
         })
     }
 }
@@ -77,11 +81,39 @@ impl FlatContent {
         }
     }
 
+    /// The changes of the revision in the order of their paths, none for a number that is no revision.
+    pub fn changes(&self, revision: u64) -> &[(Path, Change)]
+        ensures { result.now ≡ changes_in (slice_get (revisions_of self.now) revision) }
+    {
+        match at(&self.revisions, revision) {
+            Some(revision) => revision.changes.as_slice(),
+            None => &[],
+        }
+    }
+
     /// The properties of the revision, none for a number that is no revision.
     pub fn properties(&self, revision: u64) -> Option<&Properties>
         ensures { option_copied result ≡ slice_get (properties_of self.now) revision }
     {
         at(&self.properties, revision)
+    }
+
+    /// The same with a property of a revision changed.
+    pub fn with_property(
+        &self,
+        alloc: Global,
+        revision: u64,
+        name: ByteString,
+        value: Option<ByteString>,
+    ) -> Result<Self, AllocError>
+        ensures { IfOk result (λ c. content_of c
+            ≡ with_changed_property (content_of self.now) revision name value) }
+    {
+        Ok(FlatContent {
+            uuid: self.uuid,
+            revisions: shared(alloc, &self.revisions)?,
+            properties: with_property(alloc, &self.properties, revision, name, value)?,
+        })
     }
 
     /// The same with one revision more.
@@ -103,6 +135,41 @@ impl FlatContent {
             properties: with_one_more(alloc, &self.properties, properties)?,
         })
     }
+}
+
+/// The lists of properties, of which this one has a property changed, if it is there.
+fn with_property(
+    alloc: Global,
+    lists: &[Arc<Properties>],
+    number: u64,
+    name: ByteString,
+    value: Option<ByteString>,
+) -> Result<Vec<Arc<Properties>>, AllocError>
+    ensures { IfOk result (λ v. values v.items
+        ≡ slice_set (values lists.now) number (property_changed name value (or_empty (slice_get (values lists.now) number)))) }
+{
+    let place = number as usize;
+    if place >= lists.len() {
+        std::mem::drop((name, value));
+        return shared(alloc, lists);
+    }
+    let list = changed_property(&lists[place], name, value)?;
+    replaced(alloc, lists, place, Arc::new(alloc, list)?)
+}
+
+/// The values, which are shared, with another one at the place.
+fn replaced<T: Drop>(
+    alloc: Global,
+    items: &[Arc<T>],
+    place: usize,
+    value: Arc<T>,
+) -> Result<Vec<Arc<T>>, AllocError>
+    requires { place < length items.now }
+    ensures { IfOk result (λ v. values v.items ≡ slice_set (values items.now) place value.value) }
+{
+    let mut list = shared(alloc, items)?;
+    list[place] = value;
+    Ok(list)
 }
 
 /// The value at the number, if there is one.

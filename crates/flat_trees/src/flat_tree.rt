@@ -1,11 +1,13 @@
 //! A tree as one ordered map.
-ghost use Rattle.std.specs.Prelude.{◌≡◌, not, IfOk, OnOk, OnErr, is_some, option_map, option_copied, if◌then◌else◌, None};
+ghost use Rattle.std.specs.Prelude.{◌≡◌, not, IfOk, OnOk, OnErr, is_some, map, option_map, option_copied, if◌then◌else◌, None};
 ghost use Rattle.std.specs.FinMap.{get, empty, keys};
 ghost use Rattle.std.specs.List.{list_any};
+ghost use Rattle.std.specs.Map.Iter.{deref};
 ghost use Rattle.std.specs.Option.{option_or};
 ghost use Rattle.svnpath.specs.Paths.{PathValue, same_path};
 ghost use Rattle.repo_api.specs.Edits.{new_entry, touched_above, revised, with_text, deleted, copied, begun};
 ghost use Rattle.repo_api.specs.Kinds.{has_deeper};
+ghost use Rattle.repo_api.specs.Readings.{names_in};
 ghost use Rattle.repo_api.specs.MergedMaps.{has_conflict, merged_map};
 ghost use Rattle.repo_api.specs.Opening.{opening_tree};
 ghost use Rattle.repo_api.specs.States.{tree_of};
@@ -17,8 +19,8 @@ ghost use Rattle.flat_trees.specs.Perhaps.{map_of};
 
 use byte_string::ByteString;
 use flat_parts::{
-    cut, is_deeper, is_in_conflict, merged_entry, new_entry, opening_root, put, put_copies,
-    put_new_entry, put_properties, put_some, put_text, take_out, touch_above,
+    cut, is_deeper, is_in_conflict, merged_entry, names_beneath, new_entry, opening_root, put,
+    put_copies, put_new_entry, put_properties, put_some, put_text, take_out, touch_above,
 };
 use repo_api::{Content, Entry, FileText, Properties};
 use std::alloc::{AllocError, Global};
@@ -201,6 +203,16 @@ impl FlatTree {
         ensures { result ≡ has_deeper self.now path.now names }
     {
         self.entries.keys().any(|key| is_deeper(key, path, names))
+    }
+
+    /// The names of what stands straight beneath the path, by their bytes.
+    pub fn names(&self, alloc: Global, path: &Path) -> Result<Vec<&ByteString>, AllocError>
+        ensures { IfOk result (λ names. map deref names.items ≡ names_in self.now path.now) }
+    {
+        match names_beneath(alloc, &self.entries, path) {
+            Ok(names) => Ok(names),
+            Err(error) => Err(error),
+        }
     }
 
     /// This tree after a copy of what stands at `from` of the source, and under it, to `to`.

@@ -1,14 +1,17 @@
 //! What is seen of a tree that there may be none of.
-ghost use Rattle.std.specs.Prelude.{◌≡◌, IfOk, option_copied};
+ghost use Rattle.std.specs.Prelude.{◌≡◌, IfOk, map, option_copied};
 ghost use Rattle.std.specs.FinMap.{get};
+ghost use Rattle.std.specs.Map.Iter.{deref};
 ghost use Rattle.svnpath.specs.Paths.{PathValue};
 ghost use Rattle.repo_api.specs.Edits.{begun};
-ghost use Rattle.repo_api.specs.Kinds.{kind_of, has_deeper, created_of, text_of};
+ghost use Rattle.repo_api.specs.Kinds.{kind_of, has_deeper, created_of, node_properties, text_of};
+ghost use Rattle.repo_api.specs.Readings.{names_in};
 ghost use Rattle.repo_api.specs.States.{tree_of};
 ghost use Rattle.flat_trees.specs.Perhaps.{map_of};
 
 use crate::flat_tree::{FlatTree, entry_at};
-use repo_api::{Content, Entry, FileText, Mark, NodeKind};
+use byte_string::ByteString;
+use repo_api::{Content, Entry, FileText, Mark, NodeKind, Properties};
 use std::alloc::{AllocError, Global};
 use svnpath::Path;
 
@@ -29,6 +32,31 @@ pub fn has_deeper(tree: Option<&FlatTree>, path: &Path, names: usize) -> bool
     match tree {
         Some(tree) => tree.has_deeper(path, names),
         None => false,
+    }
+}
+
+/// The names of what stands straight beneath the path of the tree, by their bytes.
+pub fn names<'a>(
+    alloc: Global,
+    tree: Option<&'a FlatTree>,
+    path: &Path,
+) -> Result<Vec<&'a ByteString>, AllocError>
+    ensures { IfOk result (λ names. map deref names.items
+        ≡ names_in (map_of (option_copied tree.entry)) path.now) }
+{
+    match tree {
+        Some(tree) => tree.names(alloc, path),
+        None => Ok(Vec::new(alloc)),
+    }
+}
+
+/// The properties of the entry.
+pub fn properties(entry: Option<&Entry>) -> Option<&Properties>
+    ensures { option_copied result ≡ node_properties (option_copied entry.entry) }
+{
+    match entry {
+        None => None,
+        Some(entry) => Some(&entry.properties),
     }
 }
 

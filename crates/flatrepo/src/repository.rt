@@ -10,6 +10,7 @@ ghost use Rattle.repo_api.specs.Commits.{commit_refusal, committed, revision_pro
 ghost use Rattle.repo_api.specs.Accepted.{IfRefused, IsOfMemory};
 ghost use Rattle.repo_api.specs.Kinds.{kind_at, created_at};
 ghost use Rattle.repo_api.specs.Locking.{check_refusal, current_refusal, with_lock};
+ghost use Rattle.repo_api.specs.RevisionProperties.{name_refusal, property_refusal, with_changed_property};
 ghost use Rattle.repo_api.specs.Edits.{edited, copied, deleted};
 ghost use Rattle.repo_api.specs.Opening.{new_repository};
 ghost use Rattle.repo_api.specs.MergedMaps.{has_conflict, merged_map};
@@ -24,14 +25,14 @@ use dates::date_text;
 use flat_parts::{empty_file, revision_properties};
 use flat_trees::{
     FlatChanges, FlatContent, FlatRevision, FlatTree, add, begun_tree, created, delete, entry_at,
-    has_deeper, kind_at, remove_property, set_property, set_text, take_copy, take_replacement,
-    text,
+    has_deeper, kind_at, names, properties, remove_property, set_property, set_text, take_copy,
+    take_replacement, text,
 };
 use pathlocks::Locks;
 use refusals::Refusal;
 use repo_api::{
-    ChangeFault, CommitAsk, Content, EditOp, FileText, Lock, LockAsk, LockTokens, NodeKind,
-    Properties, REVISION_LIMIT, Repository, Source, UnlockAsk,
+    Change, ChangeFault, CommitAsk, Content, EditOp, FileText, Lock, LockAsk, LockTokens, NodeKind,
+    PROPERTY_NAME_LIMIT, Properties, REVISION_LIMIT, Repository, Source, UnlockAsk,
 };
 use std::alloc::{AllocError, Global};
 use std::sync::Arc;
@@ -116,6 +117,26 @@ impl Repository for FlatRepo {
         has_deeper(self.content.tree(revision), path, names)
     }
 
+    fn created(&self, revision: u64, path: &Path) -> Option<u64> {
+        created(entry_at(self.content.tree(revision), path))
+    }
+
+    fn properties(&self, revision: u64, path: &Path) -> Option<&Properties> {
+        properties(entry_at(self.content.tree(revision), path))
+    }
+
+    fn text(&self, revision: u64, path: &Path) -> Option<&FileText> {
+        text(entry_at(self.content.tree(revision), path))
+    }
+
+    fn names(&self, revision: u64, path: &Path) -> Result<Vec<&ByteString>, AllocError> {
+        names(self.alloc, self.content.tree(revision), path)
+    }
+
+    fn changes(&self, revision: u64) -> &[(Path, Change)] {
+        self.content.changes(revision)
+    }
+
     fn revision_properties(&self, revision: u64) -> Option<&Properties> {
         self.content.properties(revision)
     }
@@ -181,6 +202,20 @@ impl Repository for FlatRepo {
         locking::unlock(&mut self.locks, ask)
     }
 
+    fn change_property(
+        &mut self,
+        revision: u64,
+        name: ByteString,
+        value: Option<ByteString>,
+    ) -> Result<(), ChangeFault> {
+        if let Some(refusal) = property_refusal(&self.content, revision, &name) {
+            std::mem::drop((name, value));
+            return Err(ChangeFault::Refused(refusal));
+        }
+        self.content = with_property(self.alloc, &self.content, revision, name, value)?;
+        Ok(())
+    }
+
     fn release(
         &mut self,
         user: Option<&ByteString>,
@@ -199,6 +234,43 @@ fn current_refusal(content: &FlatContent, current: Option<u64>) -> Option<Refusa
         Some(current) if current > content.youngest() => Some(Refusal::NoSuchRevision),
         _ => None,
     }
+}
+
+/// Why a change of a property of a revision is refused: there is no such revision, or none has such a
+/// name.
+fn property_refusal(content: &FlatContent, revision: u64, name: &ByteString) -> Option<Refusal>
+    ensures { result ≡ property_refusal (content_of content.now) revision name.now }
+{
+    if revision > content.youngest() {
+        return Some(Refusal::NoSuchRevision);
+    }
+    name_refusal(name.as_slice())
+}
+
+/// A property's name has 1 to 255 bytes.
+fn name_refusal(name: &[u8]) -> Option<Refusal>
+    ensures { result ≡ name_refusal name.now }
+{
+    if 0 < name.len() && name.len() <= PROPERTY_NAME_LIMIT {
+        None
+    } else {
+        Some(Refusal::NotSupported)
+    }
+}
+
+/// What is held after a change of a property of a revision. What was shared before stays as it was.
+fn with_property(
+    alloc: Global,
+    content: &FlatContent,
+    revision: u64,
+    name: ByteString,
+    value: Option<ByteString>,
+) -> Result<Arc<FlatContent>, AllocError>
+    ensures { IfOk result (λ c. content_of c.value
+        ≡ with_changed_property (content_of content.now) revision name value) }
+{
+    let changed = content.with_property(alloc, revision, name, value)?;
+    Ok(Arc::new(alloc, changed)?)
 }
 
 /// What stands at the path in the youngest revision, and the revision of its last change.
@@ -417,9 +489,21 @@ fn with_revision(
         ++ revision_properties ask ∷ []) }
     ensures uuid { IfOk result (λ c. c.value.uuid ≡ content.now.uuid) }
 {
-    let revision = Arc::new(alloc, FlatRevision { tree, changes })?;
+    let revision = shared_revision(alloc, tree, changes)?;
     let properties = next_properties(alloc, ask)?;
     with_one_more(alloc, content, &revision, &properties)
+}
+
+/// A revision with this tree and these changes, to be shared.
+fn shared_revision(
+    alloc: Global,
+    tree: FlatTree,
+    changes: FlatChanges,
+) -> Result<Arc<FlatRevision>, AllocError>
+    ensures { IfOk result (λ r. fixed_of r.value ≡ record { tree = tree; changes = changes }) }
+{
+    let changes = changes.into_list(alloc)?;
+    Ok(Arc::new(alloc, FlatRevision { tree, changes })?)
 }
 
 /// What is held after one revision more, which is shared.

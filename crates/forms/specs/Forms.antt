@@ -43,6 +43,16 @@ abbrev pub items_in : ItemValue → Option ItemValues
 items_in (list items) = Some items
 items_in _ = None
 
+-- a string
+abbrev pub string_in : ItemValue → Option (List ℕ)
+string_in (string s) = Some s
+string_in _ = None
+
+-- a number
+abbrev pub number_in : ItemValue → Option ℕ
+number_in (number n) = Some n
+number_in _ = None
+
 -- the word `true` or `false`
 abbrev pub boolean : ItemValue → Option Bool
 boolean (word w) =
@@ -86,3 +96,19 @@ pairs (more item rest) = do
   p ← pair item
   ps ← pairs rest
   Some (p ∷ ps)
+
+-- `string ...`
+abbrev pub strings : ItemValues → Option (List (List ℕ))
+strings none = Some []
+strings (more item rest) = do
+  s ← string_in item
+  ss ← strings rest
+  Some (s ∷ ss)
+
+-- `number ...`
+abbrev pub numbers : ItemValues → Option (List ℕ)
+numbers none = Some []
+numbers (more item rest) = do
+  n ← number_in item
+  ns ← numbers rest
+  Some (n ∷ ns)

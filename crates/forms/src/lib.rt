@@ -4,6 +4,7 @@
 
 mod fault;
 mod form;
+mod lists;
 mod pairs;
 
 pub use fault::CommandFault;
@@ -11,4 +12,5 @@ pub use form::{
     copy_optional, read_boolean, read_form, read_items, read_list, read_number,
     read_optional_number, read_optional_string, read_string, read_word,
 };
+pub use lists::{Numbers, Strings, read_numbers, read_strings};
 pub use pairs::{Pairs, read_pairs};

@@ -2,7 +2,7 @@
 use Rattle.std.proofs.Common.{◌≡◌, ◌<◌, ◌≤◌, ℕ, zero, suc, Bool, true, false, List, [], ◌∷◌, Option, Some, None, arith, refl, sym, ap, ◌∙◌}
 use Rattle.std.specs.Prelude.{◌==◌, ◌&&◌, ◌||◌, nat_le}
 use borrow.Author.Tests.{eqb-true, le-leb}
-use Rattle.history.specs.Histories.{History}
+use Rattle.repo_api.specs.Histories.{History}
 use Rattle.history.specs.Traces.{trace_below, trace, traced, next_place, IsBelow}
 use Rattle.history.specs.Logs.{listed, is_listed, is_touched, is_among, is_logged, found_from}
 use Rattle.history.specs.declared.place.Place.{Place}

@@ -10,3 +10,11 @@ pub mod Logging
 pub mod Orders
 pub mod OnTraces
 pub mod Passing
+pub mod Above
+pub mod Telling
+pub mod Told
+pub mod Sealing
+pub mod Entries
+pub mod Marked
+pub mod Staying
+pub mod Settling

@@ -5,7 +5,7 @@ use Rattle.std.proofs.lemmas.List.Elements.{filter-append}
 use Rattle.std.specs.Prelude.{if◌then◌else◌, filter}
 use borrow.Author.Tests.{lt-leb}
 use Rattle.svnpath.specs.Paths.{PathValue}
-use Rattle.history.specs.Histories.{History}
+use Rattle.repo_api.specs.Histories.{History}
 use Rattle.history.specs.Logs.{revisions_down, revisions_from, is_of_log, oldest_asked, newest_asked}
 use Rattle.history.specs.Walks.{next_then, is_spent, one_less, up_to}
 use Rattle.history.specs.declared.log_ask.LogAsk.{LogAsk}

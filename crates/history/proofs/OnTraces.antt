@@ -8,7 +8,7 @@ use Rattle.repo_api.specs.States.{RepoState, youngest}
 use Rattle.repo_api.specs.Kinds.{kind_at}
 use Rattle.repo_api.specs.declared.entry.NodeKind.{NodeKind}
 use Rattle.repo_api.specs.declared.entry.NodeKind.TheVariants as kinds
-use Rattle.history.specs.Histories.{history_of}
+use Rattle.repo_api.specs.Histories.{history_of}
 use Rattle.history.specs.Traces.{trace}
 use Rattle.history.specs.Logs.{place_at}
 use Rattle.history.specs.Locations.{path_in, location, location_back, location_on, only_same, if_present}

@@ -8,7 +8,7 @@ use Rattle.std.proofs.lemmas.List.Quantifiers.{all_pairs_push}
 use Rattle.std.specs.List.{AllPairs, All}
 use Rattle.std.specs.Prelude.{if◌then◌else◌, filter, nat_le, ◌==◌}
 use borrow.Author.Tests.{eqb-true, le-leb, lt-leb}
-use Rattle.history.specs.Histories.{History}
+use Rattle.repo_api.specs.Histories.{History}
 use Rattle.history.specs.Traces.{trace_below, next_place}
 use Rattle.history.specs.Logs.{limited, is_of_log, newest_asked, oldest_asked, revisions_down, revisions_from}
 use Rattle.history.specs.Laws.{TracesFall, LogsAreRight}

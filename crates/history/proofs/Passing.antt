@@ -7,11 +7,11 @@ use Rattle.std.specs.List.{All, Contains, find}
 use Rattle.std.specs.Prelude.{if◌then◌else◌, nat_le, ◌==◌, ◌&&◌, ◌||◌}
 use borrow.Author.Tests.{eqb-true, eqb-false}
 use Rattle.svnpath.specs.Paths.{PathValue, Component, is_at_or_under}
-use Rattle.history.specs.Histories.{Changed, History}
+use Rattle.repo_api.specs.Histories.{Changed, History}
 use Rattle.history.specs.Traces.{makes, decides, decider, earlier, place_by, is_from, is_copy_by, next_place, trace, trace_below}
 use Rattle.history.specs.Logs.{listed, is_touched, touches, place_at}
 use Rattle.history.specs.Locations.{path_in, location_back}
-use Rattle.history.specs.Quiet.{IsQuiet, IsQuietSince}
+use Rattle.repo_api.specs.Histories.{IsQuiet, IsQuietSince}
 use Rattle.history.specs.declared.place.Place.{Place}
 use Rattle.history.proofs.Steps.{trace_is, listed_by, not_equal, path_past}
 

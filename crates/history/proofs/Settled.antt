@@ -6,8 +6,9 @@ use Rattle.svnpath.specs.Paths.{PathValue}
 use Rattle.repo_api.specs.Trees.{Tree}
 use Rattle.repo_api.specs.Kinds.{created_of}
 use Rattle.repo_api.specs.declared.entry.Entry.{Entry}
-use Rattle.history.specs.Histories.{History}
-use Rattle.history.specs.Quiet.{own_revision, IsQuiet, IsMarkedBy, IsUpTo, IsSettled, MarksLeadBack}
+use Rattle.repo_api.specs.Histories.{History}
+use Rattle.history.specs.Quiet.{own_revision, IsMarkedBy, IsUpTo, IsSettled, MarksLeadBack}
+use Rattle.repo_api.specs.Histories.{IsQuiet}
 
 there_last : (o : Option Entry) (m : ℕ) → created_of o ≡ Some m → IsSome o
 there_last None m is = cc

@@ -2,7 +2,7 @@
 use Rattle.std.proofs.Common.{◌≡◌, ◌<◌, ◌≤◌, ℕ, suc, Bool, true, false, List, [], ◌∷◌, Option, Some, None, arith, refl, sym, ap, ◌∙◌}
 use Rattle.std.specs.Prelude.{◌==◌, ◌&&◌, ◌||◌, filter}
 use borrow.Author.Tests.{eqb-false, le-leb, lt-leb}
-use Rattle.history.specs.Histories.{History}
+use Rattle.repo_api.specs.Histories.{History}
 use Rattle.history.specs.Traces.{traced}
 use Rattle.history.specs.Logs.{listed, is_among, is_logged, found_from, revisions_down}
 use Rattle.history.specs.Walks.{above_head, above_heads, is_coming, coming}

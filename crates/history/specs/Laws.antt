@@ -3,7 +3,7 @@ use Rattle.std.specs.Prelude.{◌≡◌, ◌<◌, ◌≤◌, ◌⊎◌, ℕ, Boo
 use Rattle.std.specs.List.{AllPairs}
 use Rattle.svnpath.specs.Paths.{PathValue}
 use Rattle.repo_api.specs.States.{RepoState, youngest}
-use Rattle.history.specs.Histories.{History, history_of}
+use Rattle.repo_api.specs.Histories.{History, history_of}
 use Rattle.history.specs.Traces.{trace}
 use Rattle.history.specs.Logs.{log, is_of_log, newest_asked, oldest_asked, place_at}
 use Rattle.history.specs.Locations.{location}

@@ -9,7 +9,7 @@ use Rattle.repo_api.specs.declared.change.Action.{Action}
 use Rattle.repo_api.specs.declared.change.Action.TheVariants.{Add, Delete, Replace, Modify}
 use Rattle.repo_api.specs.States.{RepoState}
 use Rattle.repo_api.specs.Kinds.{kind_at}
-use Rattle.history.specs.Histories.{Changed, History, history_of}
+use Rattle.repo_api.specs.Histories.{Changed, History, history_of}
 use Rattle.history.specs.Traces.{trace, place_before}
 use Rattle.history.specs.declared.place.Place.{Place}
 

@@ -2,7 +2,7 @@
 use Rattle.std.specs.Prelude.{◌≡◌, ℕ, zero, suc, ◌==◌, Bool, true, ◌&&◌, ◌||◌, List, [], ◌∷◌, Option, Some, None, if◌then◌else◌, map, filter, take, max, min, nat_le, reverse}
 use Rattle.std.specs.List.{list_any}
 use Rattle.svnpath.specs.Paths.{PathValue, is_at_or_under}
-use Rattle.history.specs.Histories.{Changed, History}
+use Rattle.repo_api.specs.Histories.{Changed, History}
 use Rattle.history.specs.Traces.{is_from, trace, traced}
 use Rattle.history.specs.declared.place.Place.{Place}
 use Rattle.history.specs.declared.listed.Listed.{Listed}

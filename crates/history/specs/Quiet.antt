@@ -1,10 +1,10 @@
 -- What the marks of a tree tell of the lists of changes.
-use Rattle.std.specs.Prelude.{◌≡◌, ◌≤◌, ◌<◌, ℕ, suc, true, List, Option, Some, None, IsSome, Contains, ◌⊎◌}
+use Rattle.std.specs.Prelude.{◌≡◌, ◌≤◌, ℕ, suc, true, List, Option, Some, None, IsSome, Contains, ◌⊎◌}
 use Rattle.svnpath.specs.Paths.{PathValue, is_at_or_under}
 use Rattle.repo_api.specs.Trees.{Tree, revision_of}
 use Rattle.repo_api.specs.Kinds.{created_of}
 use Rattle.repo_api.specs.declared.entry.Entry.{Entry}
-use Rattle.history.specs.Histories.{Changed, History}
+use Rattle.repo_api.specs.Histories.{Changed, History, IsQuietSince}
 use Rattle.history.specs.Traces.{makes}
 
 -- the revision that last changed the entry itself
@@ -16,15 +16,6 @@ own_revision (Some e) = revision_of e.own
 abbrev pub IsNotMade : List Changed → PathValue → Type 0
 IsNotMade changes p =
     (e : Changed) → Contains changes e → is_at_or_under p e.0 ≡ true → makes e.1.action ≡ true → ⊥
-
--- nothing was changed at, under or above the path
-pub record IsQuiet (changes : List Changed) (p : PathValue) : Type 0 where
-  pub beneath : (e : Changed) → Contains changes e → is_at_or_under e.0 p ≡ true → ⊥
-  pub above : (e : Changed) → Contains changes e → is_at_or_under p e.0 ≡ true → ⊥
-
--- nothing was changed there after revision k and up to n
-abbrev pub IsQuietSince : History → PathValue → ℕ → ℕ → Type 0
-IsQuietSince h p k n = (m : ℕ) → k < m → m ≤ n → IsQuiet (h m) p
 
 -- Marks tell of changes: what lies at or above a change has the revision in its `last`, what lies
 -- at it in its `own` too, and an entry that nothing made has the marks of the revision before, or

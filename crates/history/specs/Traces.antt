@@ -6,7 +6,7 @@ use Rattle.svnpath.specs.Paths.{PathValue, is_at_or_under}
 use Rattle.repo_api.specs.declared.change.Action.{Action}
 use Rattle.repo_api.specs.declared.change.Action.TheVariants.{Add, Delete, Replace, Modify}
 use Rattle.repo_api.specs.declared.change.Source.{Source}
-use Rattle.history.specs.Histories.{Changed, History}
+use Rattle.repo_api.specs.Histories.{Changed, History}
 use Rattle.history.specs.declared.place.Place.{Place}
 
 -- whether what stands at the path after the change is another than before

@@ -1,7 +1,7 @@
 -- What is still to come of a log that goes out revision by revision.
 use Rattle.std.specs.Prelude.{◌==◌, ◌-◌, false, ◌≡◌, ◌<◌, ◌≤◌, ℕ, suc, Bool, List, [], ◌∷◌, Option, Some, None, filter, take, max, reverse}
 use Rattle.std.specs.List.{list_any}
-use Rattle.history.specs.Histories.{History}
+use Rattle.repo_api.specs.Histories.{History}
 use Rattle.history.specs.Logs.{found_from, is_among, is_logged, revisions_down}
 use Rattle.history.specs.declared.place.Place.{Place}
 use Rattle.history.specs.declared.listed.Listed.{Listed}

@@ -1,7 +1,7 @@
 //! What the changes of one revision say of a path.
 ghost use Rattle.std.specs.Prelude.{◌≡◌, ◌≤◌, length, IfOk, option_copied, Some, drop};
 ghost use Rattle.std.specs.List.{list_any};
-ghost use Rattle.history.specs.Histories.{Changed};
+ghost use Rattle.repo_api.specs.Histories.{Changed};
 ghost use Rattle.history.specs.Traces.{decides, decider, earlier, source_place, place_before, is_copied, next_place};
 ghost use Rattle.history.specs.Logs.{touches, is_touched};
 

@@ -1,10 +1,10 @@
 //! What is still to come of a log.
 ghost use Rattle.std.specs.Prelude.{◌≡◌, IfOk, OnErr, []};
-ghost use Rattle.history.specs.Histories.{history_of};
+ghost use Rattle.repo_api.specs.Histories.{history_of};
 ghost use Rattle.history.specs.Walks.{next_then, of_coming};
 
-use crate::revisions::Revisions;
 use crate::walks::Walks;
+use repo_api::Repository;
 use std::alloc::{AllocError, Global};
 
 /// What is still to come of a log: falling revisions, found as they are asked for, or rising ones, the
@@ -17,7 +17,7 @@ pub enum Coming {
 
 impl Coming {
     /// The next revision, if there is one. After an `Err` none comes any more.
-    pub fn next<R: Revisions>(
+    pub fn next<R: Repository>(
         &mut self,
         alloc: Global,
         repository: &R,

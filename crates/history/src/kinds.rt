@@ -4,14 +4,13 @@ ghost use Rattle.history.specs.Locations.{kind_shown, kind_before, kind_in_place
 
 use crate::changes::place_before;
 use crate::place::Place;
-use crate::revisions::Revisions;
-use repo_api::{Action, Change, NodeKind};
+use repo_api::{Action, Change, NodeKind, Repository};
 use std::alloc::{AllocError, Global};
 use svnpath::Path;
 
 /// The kind that a log shows for a change: of what is there now, or of what was deleted, at its place
 /// before.
-pub fn kind_shown<R: Revisions>(
+pub fn kind_shown<R: Repository>(
     alloc: Global,
     repository: &R,
     revision: u64,
@@ -30,7 +29,7 @@ pub fn kind_shown<R: Revisions>(
 }
 
 /// The kind of what stood at the path's place before the revision.
-fn kind_before<R: Revisions>(
+fn kind_before<R: Repository>(
     alloc: Global,
     repository: &R,
     revision: u64,
@@ -47,7 +46,7 @@ fn kind_before<R: Revisions>(
     Ok(kind_in_place(repository, &before))
 }
 
-fn kind_in_place<R: Revisions>(repository: &R, place: &Option<Place>) -> NodeKind
+fn kind_in_place<R: Repository>(repository: &R, place: &Option<Place>) -> NodeKind
     ensures { result ≡ kind_in_place (R.content repository.now) place.now }
 {
     match place {

@@ -11,7 +11,6 @@ mod locating;
 mod log;
 mod log_ask;
 mod place;
-mod revisions;
 mod walk;
 mod walks;
 
@@ -19,13 +18,13 @@ pub use changes::{is_touched, next_place, place_before};
 pub use dates::{dated_rev, is_date_text};
 pub use kinds::kind_shown;
 pub use laws::{
-    dated_revisions_are_greatest, locations_are_on_traces, logs_are_right, marks_lead_back,
-    traces_fall,
+    commits_mark_changes, dated_revisions_are_greatest, locations_are_on_traces, logs_are_right,
+    marks_lead_back, marks_settle, new_repositories_are_marked, repositories_stay_sound,
+    traces_fall, transactions_stay_sound, transactions_tell_changes,
 };
 pub use listed::Listed;
 pub use locating::{each_once, location, locations};
 pub use log::Log;
 pub use log_ask::LogAsk;
 pub use place::Place;
-pub use revisions::Revisions;
 pub use walk::{next_listed, step};

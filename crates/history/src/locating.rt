@@ -1,20 +1,19 @@
 //! Where a place was, or went.
 ghost use Rattle.std.specs.Prelude.{◌≡◌, ◌≤◌, IfOk};
 ghost use Rattle.std.specs.List.{filter_map};
-ghost use Rattle.history.specs.Histories.{history_of};
+ghost use Rattle.repo_api.specs.Histories.{history_of};
 ghost use Rattle.history.specs.Locations.{each_once, location, location_back, location_on, located_in, locations, only_same};
 
 use crate::place::Place;
-use crate::revisions::Revisions;
 use crate::walk::step;
-use repo_api::NodeKind;
+use repo_api::{NodeKind, Repository};
 use std::alloc::{AllocError, Global};
 use std::collections::BTreeSet;
 use svnpath::Path;
 
 /// The path of the place in a revision: at or below its own by its trace, above it the same path,
 /// where something stands there whose trace passes through the place.
-pub fn location<R: Revisions>(
+pub fn location<R: Repository>(
     alloc: Global,
     repository: &R,
     place: &Place,
@@ -34,7 +33,7 @@ pub fn location<R: Revisions>(
 }
 
 /// The place's paths in the revisions: those that have one, in the order asked, each once.
-pub fn locations<R: Revisions>(
+pub fn locations<R: Repository>(
     alloc: Global,
     repository: &R,
     place: &Place,
@@ -48,7 +47,7 @@ pub fn locations<R: Revisions>(
 }
 
 /// The place's paths in the revisions that have one.
-fn located<R: Revisions>(
+fn located<R: Repository>(
     alloc: Global,
     repository: &R,
     place: &Place,
@@ -80,7 +79,7 @@ pub fn each_once(alloc: Global, revisions: &[u64]) -> Result<Vec<u64>, AllocErro
     Ok(once)
 }
 
-fn location_on<R: Revisions>(
+fn location_on<R: Repository>(
     alloc: Global,
     repository: &R,
     place: &Place,
@@ -109,7 +108,7 @@ fn only_same(path: Path, other: &Option<Path>) -> Option<Path>
 
 /// The path of the place's trace in the revision.
 #[tactic(auto, using(crate::proofs::Steps::located_on, crate::proofs::Steps::located_end, crate::proofs::Steps::located_here, crate::proofs::Steps::located_below))]
-fn location_back<R: Revisions>(
+fn location_back<R: Repository>(
     alloc: Global,
     repository: &R,
     place: &Place,
@@ -140,7 +139,7 @@ fn location_back<R: Revisions>(
 }
 
 /// The place in the revision that it has settled in, or in this one where that is greater.
-fn settled_above<R: Revisions>(repository: &R, at: Place, revision: u64) -> Place
+fn settled_above<R: Repository>(repository: &R, at: Place, revision: u64) -> Place
     requires { revision ≤ at.revision }
     ensures within { result.revision ≤ at.revision }
     ensures above { revision ≤ result.revision }

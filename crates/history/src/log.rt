@@ -1,13 +1,13 @@
 //! Logs that go out revision by revision.
 ghost use Rattle.std.specs.Prelude.{◌≡◌, ℕ, List, filter, IfOk, OnErr, []};
-ghost use Rattle.history.specs.Histories.{history_of};
+ghost use Rattle.repo_api.specs.Histories.{history_of};
 ghost use Rattle.history.specs.Logs.{is_of_log, limited, log, revisions_from};
 ghost use Rattle.history.specs.Walks.{next_then, of_coming, is_spent, one_less, to_come, up_to};
 
 use crate::coming::Coming;
 use crate::log_ask::LogAsk;
-use crate::revisions::Revisions;
 use crate::walks::Walks;
+use repo_api::Repository;
 use std::alloc::{AllocError, Global};
 use svnpath::Path;
 
@@ -21,7 +21,7 @@ pub struct Log {
 impl Log {
     /// The log of these paths, each of which stands in the greater of the two revisions; no path means
     /// the root.
-    pub fn open<R: Revisions>(
+    pub fn open<R: Repository>(
         alloc: Global,
         repository: &R,
         paths: &[Path],
@@ -38,7 +38,7 @@ impl Log {
 
     /// The next revision of the log, if there is one, over the repository that it was opened over.
     /// After an `Err` none comes any more.
-    pub fn next<R: Revisions>(
+    pub fn next<R: Repository>(
         &mut self,
         alloc: Global,
         repository: &R,
@@ -57,7 +57,7 @@ impl Log {
 }
 
 /// The log without its limit.
-fn open_coming<R: Revisions>(
+fn open_coming<R: Repository>(
     alloc: Global,
     repository: &R,
     paths: &[Path],

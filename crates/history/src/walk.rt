@@ -1,13 +1,13 @@
 //! A walk along the trace of a place.
 ghost use Rattle.std.specs.Prelude.{◌≡◌, ◌≤◌, ◌∷◌, ℕ, Bool, IfOk};
-ghost use Rattle.history.specs.Histories.{History, history_of};
+ghost use Rattle.repo_api.specs.Histories.{History, history_of};
 ghost use Rattle.history.specs.Traces.{trace_below, trace, traced, IsBelow};
 ghost use Rattle.history.specs.Logs.{IsNext, listed};
 
 use crate::changes::{is_touched, next_place};
 use crate::listed::Listed;
 use crate::place::Place;
-use crate::revisions::Revisions;
+use repo_api::Repository;
 use std::alloc::{AllocError, Global};
 
 /// The place, if it is below the revision.
@@ -29,7 +29,7 @@ fn only_below(place: Option<Place>, revision: u64) -> Option<Place>
 }
 
 /// One step back along the trace of a place.
-pub fn step<R: Revisions>(
+pub fn step<R: Repository>(
     alloc: Global,
     repository: &R,
     strict: bool,
@@ -44,7 +44,7 @@ pub fn step<R: Revisions>(
 }
 
 /// The place in the revision that it has settled in: from there to the place nothing is listed.
-fn settled_place<R: Revisions>(repository: &R, at: Place) -> Place
+fn settled_place<R: Repository>(repository: &R, at: Place) -> Place
     ensures within { result.revision ≤ at.revision }
     ensures listed { let h = history_of (R.content repository.now) in (strict : Bool) (low : ℕ)
         → listed h low (trace h strict at) ≡ listed h low (trace h strict result) }
@@ -62,7 +62,7 @@ fn settled_place<R: Revisions>(repository: &R, at: Place) -> Place
 /// The first revision, from `low` on, that the log lists along the trace from the place back, and the
 /// place from which the log goes on: so a log goes out revision by revision.
 #[tactic(auto, using(crate::proofs::Steps::walked_on, crate::proofs::Steps::walked_to, crate::proofs::Steps::nothing_listed_below))]
-pub fn next_listed<R: Revisions>(
+pub fn next_listed<R: Repository>(
     alloc: Global,
     repository: &R,
     strict: bool,

@@ -1,14 +1,14 @@
 //! Walks along several traces at once.
 ghost use Rattle.std.specs.Prelude.{◌≡◌, ◌≤◌, suc, max, map, filter, IfOk, OnErr, Some, []};
-ghost use Rattle.history.specs.Histories.{history_of};
+ghost use Rattle.repo_api.specs.Histories.{history_of};
 ghost use Rattle.history.specs.Logs.{IsNext, is_of_log, log_places, newest_asked, oldest_asked, place_at, revisions_down};
 ghost use Rattle.history.specs.Walks.{above, above_head, above_heads, of_walks, next_then, IsPast, ArePast, AreFirst};
 
 use crate::listed::Listed;
 use crate::log_ask::LogAsk;
 use crate::place::Place;
-use crate::revisions::Revisions;
 use crate::walk::next_listed;
+use repo_api::Repository;
 use std::alloc::{AllocError, Global};
 use std::{mem, slice};
 use svnpath::Path;
@@ -44,7 +44,7 @@ fn newer(newest: Option<u64>, head: &Option<Listed>) -> Option<u64>
 
 impl Walks {
     /// The walks of a log of these paths, each with the first revision that it finds.
-    pub fn begin<R: Revisions>(
+    pub fn begin<R: Repository>(
         alloc: Global,
         repository: &R,
         paths: &[Path],
@@ -63,7 +63,7 @@ impl Walks {
     }
 
     /// The next revision, if there is one. After an `Err` none comes any more.
-    pub fn next<R: Revisions>(
+    pub fn next<R: Repository>(
         &mut self,
         alloc: Global,
         repository: &R,
@@ -82,7 +82,7 @@ impl Walks {
     }
 
     /// All revisions that are to come.
-    pub fn all<R: Revisions>(self, alloc: Global, repository: &R) -> Result<Vec<u64>, AllocError>
+    pub fn all<R: Repository>(self, alloc: Global, repository: &R) -> Result<Vec<u64>, AllocError>
         ensures { let h = history_of (R.content repository.now) in
             IfOk result (λ found. found.items ≡ of_walks h self) }
     {
@@ -95,7 +95,7 @@ impl Walks {
     }
 
     /// The walks gone on past the newest revision that they have found.
-    fn advanced<R: Revisions>(
+    fn advanced<R: Repository>(
         &self,
         alloc: Global,
         repository: &R,
@@ -116,7 +116,7 @@ impl Walks {
     }
 
     /// The walk gone on, where it has found this revision.
-    fn past<R: Revisions>(
+    fn past<R: Repository>(
         &self,
         alloc: Global,
         repository: &R,
@@ -141,7 +141,7 @@ impl Walks {
 }
 
 /// What the walks of a log find first: those of the paths, or that of the root.
-fn all_heads<R: Revisions>(
+fn all_heads<R: Repository>(
     alloc: Global,
     repository: &R,
     paths: &[Path],
@@ -160,7 +160,7 @@ fn all_heads<R: Revisions>(
 }
 
 /// What the walks of these paths find first.
-fn first_heads<R: Revisions>(
+fn first_heads<R: Repository>(
     alloc: Global,
     repository: &R,
     paths: &[Path],
@@ -177,7 +177,7 @@ fn first_heads<R: Revisions>(
     Ok(heads)
 }
 
-fn first_head<R: Revisions>(
+fn first_head<R: Repository>(
     alloc: Global,
     repository: &R,
     path: &Path,

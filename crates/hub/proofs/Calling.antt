@@ -8,14 +8,14 @@ use Rattle.hub.specs.State.{HubState, HasTrees, session_of, updated}
 use Rattle.hub.specs.Runs.{Event, HubStep, HubRun, with_rest}
 use Rattle.hub.specs.Runs.Event.{Connects, Drops}
 use Rattle.hub.specs.Calls.{CallStep, CallRun, BeginsCalls}
-use Rattle.hub.specs.Laws.{KeepsConstants, KeepsProperties, OverwritesNothing, KeepsAll}
+use Rattle.hub.specs.Laws.{KeepsConstants, OverwritesNothing, KeepsAll}
 use Rattle.hub.specs.declared.hub.HubFault.TheVariants.{NoSession, NoMemory, Halted, Full}
 use Rattle.hub.specs.declared.calls.Call.{Call}
 use Rattle.hub.specs.declared.calls.Call.TheVariants.{Connect, Feed, Disconnect}
 use Rattle.hub.specs.declared.calls.Outcome.{Outcome}
 use Rattle.hub.specs.declared.calls.Outcome.TheVariants.{Connected, Wrote, Dropped, Failed}
 use Rattle.hub.proofs.Everywhere.{HasTrees-with_rest}
-use Rattle.hub.proofs.Staying.{OnlyAccepted, none_accepted, accepted_on, run_accepted, keeps_revisions, keeps_properties, same_constants, constants_on, run_constants}
+use Rattle.hub.proofs.Staying.{OnlyAccepted, none_accepted, accepted_on, run_accepted, keeps_revisions, same_constants, constants_on, run_constants, StaysClosed, none_closed, closed_on, run_closed}
 use Rattle.hub.proofs.Failing.{AreCounted, none_counted, counted_on, run_counted, StaysHalted, none_halted, halted_on, run_halted}
 
 abbrev with_sessions : HubState → List (ℕ × SessionState) → HubState
@@ -144,8 +144,8 @@ calls_accepted =
 pub calls_keep_revisions : (old new : HubState) (calls : List Call) (outcomes : List Outcome) → CallRun old calls outcomes new → IsBeginning old.content.revisions new.content.revisions
 calls_keep_revisions old new calls outcomes run = keeps_revisions old.content new.content (calls_accepted old new calls outcomes run)
 
-pub calls_keep_properties : (old new : HubState) (calls : List Call) (outcomes : List Outcome) → CallRun old calls outcomes new → KeepsProperties old.content new.content
-calls_keep_properties old new calls outcomes run = keeps_properties old.content new.content (calls_accepted old new calls outcomes run)
+pub calls_closed : (old new : HubState) (calls : List Call) (outcomes : List Outcome) → CallRun old calls outcomes new → StaysClosed old new
+calls_closed = through_calls StaysClosed none_closed closed_on (λ old new sessions k. k) run_closed
 
 pub calls_constants : (old new : HubState) (calls : List Call) (outcomes : List Outcome) → CallRun old calls outcomes new → KeepsConstants old new
 calls_constants = through_calls KeepsConstants same_constants constants_on (λ old new sessions k. record { settings = k.settings; uuid = k.uuid }) run_constants

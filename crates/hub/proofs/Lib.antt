@@ -1,6 +1,7 @@
 pub mod Places
 pub mod Running
 pub mod Effects
+pub mod Revising
 pub mod Staying
 pub mod Failing
 pub mod Composing

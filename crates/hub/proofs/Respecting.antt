@@ -10,7 +10,7 @@ use Rattle.repo_api.specs.Commits.{commit_refusal, committed}
 use Rattle.repo_api.specs.Locking.{lock_of, is_in_the_way, is_handed_in}
 use Rattle.repo_api.specs.LockRuns.{names_lock, HaveOwnTokens, HaveNewTokens}
 use Rattle.repo_api.specs.Accepted.{Accepted, AreAccepted, changed, changed_all}
-use Rattle.repo_api.specs.Accepted.Accepted.{Commits, Locks, Unlocks, Releases}
+use Rattle.repo_api.specs.Accepted.Accepted.{Commits, Locks, Unlocks, Releases, ChangesProperty}
 use Rattle.repo_api.specs.declared.ask.CommitAsk.{CommitAsk}
 use Rattle.repo_api.specs.declared.lock.Lock.{Lock as LockValue}
 use Rattle.replies.specs.declared.reply.Reply.{Reply}
@@ -19,14 +19,14 @@ use Rattle.hub.specs.State.{HubState}
 use Rattle.hub.specs.Runs.{Event, HubStep, HubRun, with_rest}
 use Rattle.hub.specs.Runs.Event.{Drops}
 use Rattle.hub.specs.Calls.{CallStep, CallRun}
-use Rattle.hub.specs.Laws.IsToldChange.{Committed, Locked, Unlocked}
+use Rattle.hub.specs.Laws.IsToldChange.{Committed, Locked, Unlocked, Revised}
 use Rattle.hub.specs.Laws.{IsToldChange, changes_of, AllHoldLocks, RespectLocks, TellsNewToken, MakesNewTokens, CallMakesNewTokens, CallsMakeNewTokens}
 use Rattle.hub.specs.declared.hub.HubFault.TheVariants.{NoSession, NoMemory, Halted, Full}
 use Rattle.hub.specs.declared.calls.Call.{Call}
 use Rattle.hub.specs.declared.calls.Call.TheVariants.{Connect, Feed, Disconnect}
 use Rattle.hub.specs.declared.calls.Outcome.{Outcome}
 use Rattle.hub.specs.declared.calls.Outcome.TheVariants.{Connected, Wrote, Dropped, Failed}
-use Rattle.hub.proofs.Staying.{OnlyAccepted, commit_accepted, event_changes}
+use Rattle.hub.proofs.Staying.{OnlyAccepted, event_changes, told_accepted}
 use Rattle.hub.proofs.Calling.{some_words}
 
 -- where there are no locks, no two have one token
@@ -50,6 +50,7 @@ module _ (holds : (c : RepoState) (ask : CommitAsk) (t : TxnState) → commit_re
   all_held c (Locks ask ∷ es) (accepted, are) = (tt, all_held (changed c (Locks ask)) es are)
   all_held c (Unlocks ask ∷ es) (accepted, are) = (tt, all_held (changed c (Unlocks ask)) es are)
   all_held c (Releases user tokens ∷ es) (accepted, are) = (tt, all_held (changed c (Releases user tokens)) es are)
+  all_held c (ChangesProperty n name value ∷ es) (accepted, are) = (tt, all_held (changed c (ChangesProperty n name value)) es are)
 
   respects : (c : RepoState) (es : List Accepted) → AreAccepted c es → RespectLocks c es (changed_all c es)
   respects c es are = record { held = all_held c es are; unnamed = stays c es; distinct = apart c es }
@@ -59,12 +60,6 @@ module _ (holds : (c : RepoState) (ask : CommitAsk) (t : TxnState) → commit_re
   respected old new (es, are, is) = (es, are, is, subst (λ (x : RepoState). RespectLocks old es x) (sym is) (respects old es are))
 
   -- ---- an event
-
-  told_accepted : (old new : RepoState) (told : List Reply) (change : IsToldChange old told new)
-      → AreAccepted old (changes_of old told new change) × (new ≡ changed_all old (changes_of old told new change))
-  told_accepted old new told (Committed c) = (commit_accepted old c.ask c.txn c.fails c.accepted, c.is)
-  told_accepted old new told (Locked l) = ((l.accepted, tt), l.is)
-  told_accepted old new told (Unlocked u) = ((u.accepted, tt), u.is)
 
   change_respects : (old new : RepoState) (told : List Reply) (change : IsToldChange old told new) → RespectLocks old (changes_of old told new change) new
   change_respects old new told change =
@@ -94,6 +89,7 @@ module _ (holds : (c : RepoState) (ask : CommitAsk) (t : TxnState) → commit_re
       release_new (committed old c.ask c.txn) c.ask (wants_release c.ask (committed old c.ask c.txn) && not c.fails)
   change_new old new told (Locked l) fresh = (fresh l.ask.path (lock_of l.ask) l.lock, tt)
   change_new old new told (Unlocked u) fresh = tt
+  change_new old new told (Revised r) fresh = tt
 
   pub event_apart : (old new : HubState) (env after : Env) (e : Event) (told : List Reply) → HubStep old env e told new after
       → HaveOwnTokens old.content.locks → TellsNewToken old.content.locks told → HaveOwnTokens new.content.locks

@@ -1,27 +1,29 @@
 -- What each event does to the repository, and what it keeps.
 use Rattle.std.proofs.Common.{◌≡◌, ◌⊎◌, inl, inr, ℕ, ◌+◌, ◌≤◌, ◌&&◌, not, List, [], ◌∷◌, ◌++◌, length, Option, Some, None, Bool, true, false, refl, sym, ap, subst, ◌∙◌, append-nil, append_assoc, arith, length-append}
+use Rattle.std.proofs.lemmas.Bool.{true≢false}
 use Rattle.std.specs.Prelude.{if◌then◌else◌}
 use Rattle.access.specs.Changing.{wants_release}
-use Rattle.repo_api.specs.Properties.{PropertyList}
 use Rattle.repo_api.specs.States.{RepoState, TxnState, Revision, IsBeginning}
-use Rattle.repo_api.specs.Commits.{committed, revision_properties}
+use Rattle.repo_api.specs.Commits.{committed}
 use Rattle.repo_api.specs.Locking.{releases}
-use Rattle.repo_api.specs.LockRuns.{HasSameRevisions}
+use Rattle.repo_api.specs.LockRuns.{HasSameRevisions, HasSameOtherwise}
 use Rattle.repo_api.specs.Accepted.{Accepted, IsAccepted, AreAccepted, changed, changed_all}
-use Rattle.repo_api.specs.Accepted.Accepted.{Commits, Locks, Unlocks, Releases}
+use Rattle.repo_api.specs.Accepted.Accepted.{Commits, Locks, Unlocks, Releases, ChangesProperty}
 use Rattle.repo_api.specs.declared.ask.CommitAsk.{CommitAsk}
 use Rattle.replies.specs.declared.reply.Reply.{Reply}
 use Rattle.replies.specs.declared.reply.Reply.TheVariants.{Success, NoLogin}
 use Rattle.machine.specs.Hearing.{Input}
+use Rattle.machine.specs.Settings.{Settings}
 use Rattle.machine.specs.Stages.{SessionState}
 use Rattle.machine.specs.Answers.{Answer, content_after}
 use Rattle.machine.specs.declared.env.Env.{Env}
 use Rattle.hub.specs.State.{HubState, session_of}
 use Rattle.hub.specs.Runs.{Event, InputHappens, HubStep, HubRun, with_rest, Feeds, Breaks}
 use Rattle.hub.specs.Runs.Event.{Connects, Hears, Drops}
-use Rattle.hub.specs.Laws.IsToldChange.{Committed, Locked, Unlocked}
-use Rattle.hub.specs.Laws.{TellsFailure, EndsWith, commit_changes, IsToldChange, KeepsConstants, KeepsProperties}
+use Rattle.hub.specs.Laws.IsToldChange.{Committed, Locked, Unlocked, Revised}
+use Rattle.hub.specs.Laws.{TellsFailure, EndsWith, commit_changes, IsToldChange, changes_of, KeepsConstants, KeepsProperties, KeepsOtherProperties}
 use Rattle.hub.proofs.Effects.{ArePlain, no_failure, Does, does}
+use Rattle.hub.proofs.Revising.{AreOthers, others_stay, same_properties, properties_on, changes_add, commit_is_other}
 use Rattle.hub.proofs.Running.{through_run}
 
 pub begins : (c : List Revision) → IsBeginning c c
@@ -37,6 +39,7 @@ pub record Changing (old : HubState) (told : List Reply) (new : HubState) : Type
   pub running : old.halted ≡ false
   pub change : IsToldChange old.content told new.content
   pub plain : ArePlain told
+  pub closed : old.settings.revprops ≡ false → KeepsProperties old.content new.content
 
 -- the repository is as it was, or has gone on by such a change
 abbrev pub Next : HubState → List Reply → HubState → Type 0
@@ -54,19 +57,38 @@ module _ (old : HubState) (a : Answer) (told : List Reply) (new : HubState)
   plain_so : ArePlain a.replies → ArePlain told
   plain_so plain = subst ArePlain (sym is_told) plain
 
-  after_answer : Does old.halted old.content a → Next old told new
+  kept_so : (es : List Accepted) → a.effect.changes ≡ es → AreOthers es → KeepsProperties old.content new.content
+  kept_so es changes others = subst (λ (x : RepoState). KeepsProperties old.content x) (sym (made es changes)) (changes_add old.content es others)
+
+  after_answer : Does old.settings.revprops old.halted old.content a → Next old told new
   after_answer (inl (inl quiet)) = inl (made [] quiet)
   after_answer (inl (inr (inl (ask, by)))) =
       inr (record {
         running = by.running;
         change = Locked (record { ask = ask; accepted = by.accepted; is = made (Locks ask ∷ []) by.changes; lock = ends_so _ by.told });
         plain = plain_so by.plain;
+        closed = λ shut. kept_so (Locks ask ∷ []) by.changes (tt, tt);
       })
-  after_answer (inl (inr (inr (ask, by)))) =
+  after_answer (inl (inr (inr (inl (ask, by))))) =
       inr (record {
         running = by.running;
         change = Unlocked (record { ask = ask; accepted = by.accepted; is = made (Unlocks ask ∷ []) by.changes; success = ends_so _ by.told });
         plain = plain_so by.plain;
+        closed = λ shut. kept_so (Unlocks ask ∷ []) by.changes (tt, tt);
+      })
+  after_answer (inl (inr (inr (inr (n, name, value, opened, by))))) =
+      inr (record {
+        running = by.running;
+        change = Revised (record {
+          revision = n;
+          name = name;
+          value = value;
+          accepted = by.accepted;
+          is = made (ChangesProperty n name value ∷ []) by.changes;
+          success = ends_so _ by.told;
+        });
+        plain = plain_so by.plain;
+        closed = λ shut. absurd (true≢false (sym opened ∙ shut));
       })
   after_answer (inr d) =
       inr (record {
@@ -81,6 +103,7 @@ module _ (old : HubState) (a : Answer) (told : List Reply) (new : HubState)
           info = (Success ∷ NoLogin ∷ [], is_told ∙ d.replies);
         });
         plain = plain_so (subst ArePlain (sym d.replies) (λ r e. cc, (λ r e. cc, (λ r e. cc, tt))));
+        closed = λ shut. kept_so (commit_changes old.content d.ask d.txn d.fails) d.changes (commit_is_other old.content d.ask d.txn d.fails);
       })
 
 after_input : (old : HubState) (env : Env) (n : ℕ) (o : Option SessionState) (input : Input) (told : List Reply) (new : HubState) (after : Env)
@@ -155,6 +178,7 @@ by_change : (old new : RepoState) (told : List Reply) → IsToldChange old told 
 by_change old new told (Committed c) = (commit_changes old c.ask c.txn c.fails, commit_accepted old c.ask c.txn c.fails c.accepted, c.is)
 by_change old new told (Locked l) = (Locks l.ask ∷ [], (l.accepted, tt), l.is)
 by_change old new told (Unlocked u) = (Unlocks u.ask ∷ [], (u.accepted, tt), u.is)
+by_change old new told (Revised r) = (ChangesProperty r.revision r.name r.value ∷ [], (r.accepted, tt), r.is)
 
 pub event_accepted : (old new : HubState) (env after : Env) (e : Event) (told : List Reply) → HubStep old env e told new after → OnlyAccepted old.content new.content
 event_accepted old new env after e told h = by (after_event old new env after e told h)
@@ -198,6 +222,7 @@ change_keeps c (Commits ask t) = record { more = _; is = refl }
 change_keeps c (Locks ask) = begins c.revisions
 change_keeps c (Unlocks ask) = begins c.revisions
 change_keeps c (Releases user tokens) = begins c.revisions
+change_keeps c (ChangesProperty n name value) = begins c.revisions
 
 pub changes_keep : (c : RepoState) (es : List Accepted) → IsBeginning c.revisions (changed_all c es).revisions
 changes_keep c [] = begins c.revisions
@@ -231,6 +256,7 @@ change_counts old new told (Committed c) =
     subst (λ (xs : List Revision). length xs ≤ length old.revisions + 1) (sym same) (one_more old c.ask c.txn)
 change_counts old new told (Locked l) = as_many old new (ap (λ (x : RepoState). x.revisions) l.is)
 change_counts old new told (Unlocked u) = as_many old new (ap (λ (x : RepoState). x.revisions) u.is)
+change_counts old new told (Revised r) = as_many old new (ap (λ (x : RepoState). x.revisions) r.is)
 
 pub event_counts : (old new : HubState) (env after : Env) (e : Event) (told : List Reply) → HubStep old env e told new after → length new.content.revisions ≤ length old.content.revisions + 1
 event_counts old new env after e told h = by (after_event old new env after e told h)
@@ -239,31 +265,6 @@ event_counts old new env after e told h = by (after_event old new env after e to
     by (inl same) = as_many old.content new.content (ap (λ (x : RepoState). x.revisions) same)
     by (inr c) = change_counts old.content new.content told c.change
 
--- ---- revision properties
-
-same_properties : (c : RepoState) → KeepsProperties c c
-same_properties c = ([], sym (append-nil c.properties))
-
-properties_on : (a b c : RepoState) → KeepsProperties a b → KeepsProperties b c → KeepsProperties a c
-properties_on a b c x y =
-    (x.0 ++ y.0, y.1 ∙ ap (λ (z : List PropertyList). z ++ y.0) x.1 ∙ append_assoc a.properties x.0 y.0)
-
-change_adds : (c : RepoState) (e : Accepted) → KeepsProperties c (changed c e)
-change_adds c (Commits ask t) = (revision_properties ask ∷ [], refl)
-change_adds c (Locks ask) = same_properties c
-change_adds c (Unlocks ask) = same_properties c
-change_adds c (Releases user tokens) = same_properties c
-
-changes_add : (c : RepoState) (es : List Accepted) → KeepsProperties c (changed_all c es)
-changes_add c [] = same_properties c
-changes_add c (e ∷ es) = properties_on c (changed c e) (changed_all (changed c e) es) (change_adds c e) (changes_add (changed c e) es)
-
-pub keeps_properties : (old new : RepoState) → OnlyAccepted old new → KeepsProperties old new
-keeps_properties = by_changes KeepsProperties changes_add
-
-pub run_keeps_properties : (old new : HubState) (env after : Env) (events : List Event) (told : List Reply) → HubRun old env events told new after → KeepsProperties old.content new.content
-run_keeps_properties old new env after events told run = keeps_properties old.content new.content (run_accepted old new env after events told run)
-
 -- ---- what nothing changes
 
 change_name : (c : RepoState) (e : Accepted) → (changed c e).uuid ≡ c.uuid
@@ -271,6 +272,7 @@ change_name c (Commits ask t) = refl
 change_name c (Locks ask) = refl
 change_name c (Unlocks ask) = refl
 change_name c (Releases user tokens) = refl
+change_name c (ChangesProperty n name value) = refl
 
 changes_name : (c : RepoState) (es : List Accepted) → (changed_all c es).uuid ≡ c.uuid
 changes_name c [] = refl
@@ -303,3 +305,57 @@ constants_on a b c x y = record { settings = y.settings ∙ x.settings; uuid = y
 
 pub run_constants : (old new : HubState) (env after : Env) (events : List Event) (told : List Reply) → HubRun old env events told new after → KeepsConstants old new
 run_constants = through_run KeepsConstants same_constants constants_on event_constants
+
+-- ---- properties of revisions
+
+-- the change that is told, in the form of a list of accepted ones
+pub told_accepted : (old new : RepoState) (told : List Reply) (change : IsToldChange old told new)
+    → AreAccepted old (changes_of old told new change) × (new ≡ changed_all old (changes_of old told new change))
+told_accepted old new told (Committed c) = (commit_accepted old c.ask c.txn c.fails c.accepted, c.is)
+told_accepted old new told (Locked l) = ((l.accepted, tt), l.is)
+told_accepted old new told (Unlocked u) = ((u.accepted, tt), u.is)
+told_accepted old new told (Revised r) = ((r.accepted, tt), r.is)
+
+module _ (otherwise : (c : RepoState) (n : ℕ) (name : List ℕ) (value : Option (List ℕ)) → HasSameOtherwise n c (changed c (ChangesProperty n name value))) where
+  kept_otherwise : (old new : RepoState) (es : List Accepted) → new ≡ changed_all old es → KeepsOtherProperties old es new
+  kept_otherwise old new es is = subst (λ (x : RepoState). KeepsOtherProperties old es x) (sym is) (others_stay otherwise old es)
+
+  pub others_kept : (old new : RepoState) → OnlyAccepted old new
+      → (changes : List Accepted) × AreAccepted old changes × (new ≡ changed_all old changes) × KeepsOtherProperties old changes new
+  others_kept old new (es, are, is) = (es, are, is, kept_otherwise old new es is)
+
+  pub event_others_kept : (old new : HubState) (env after : Env) (e : Event) (told : List Reply) → HubStep old env e told new after
+      → (new.content ≡ old.content)
+      ⊎ ((change : IsToldChange old.content told new.content) × KeepsOtherProperties old.content (changes_of old.content told new.content change) new.content)
+  event_others_kept old new env after e told h = by (event_changes old new env after e told h)
+    where
+      by : (new.content ≡ old.content) ⊎ IsToldChange old.content told new.content
+          → (new.content ≡ old.content)
+          ⊎ ((change : IsToldChange old.content told new.content) × KeepsOtherProperties old.content (changes_of old.content told new.content change) new.content)
+      by (inl same) = inl same
+      by (inr change) =
+          let es = changes_of old.content told new.content change in
+          inr (change, kept_otherwise old.content new.content es (told_accepted old.content new.content told change).1)
+
+-- where clients may not change properties of revisions they stay, and so do the settings
+abbrev pub StaysClosed : HubState → HubState → Type 0
+StaysClosed old new = (new.settings ≡ old.settings) × (old.settings.revprops ≡ false → KeepsProperties old.content new.content)
+
+pub none_closed : (h : HubState) → StaysClosed h h
+none_closed h = (refl, λ shut. same_properties h.content h.content refl)
+
+pub closed_on : (a b c : HubState) → StaysClosed a b → StaysClosed b c → StaysClosed a c
+closed_on a b c x y = (
+  y.0 ∙ x.0,
+  λ shut. properties_on a.content b.content c.content (x.1 shut) (y.1 (ap (λ (s : Settings). s.revprops) x.0 ∙ shut)),
+)
+
+event_closed : (old new : HubState) (env after : Env) (e : Event) (told : List Reply) → HubStep old env e told new after → StaysClosed old new
+event_closed old new env after e told h = (event_settings old new env after e told h, λ shut. by shut (after_event old new env after e told h))
+  where
+    by : old.settings.revprops ≡ false → Next old told new → KeepsProperties old.content new.content
+    by shut (inl same) = same_properties old.content new.content (ap (λ (x : RepoState). x.properties) same)
+    by shut (inr c) = c.closed shut
+
+pub run_closed : (old new : HubState) (env after : Env) (events : List Event) (told : List Reply) → HubRun old env events told new after → StaysClosed old new
+run_closed = through_run StaysClosed none_closed closed_on event_closed

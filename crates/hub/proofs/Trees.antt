@@ -7,7 +7,8 @@ use Rattle.repo_api.specs.Merge.{is_changed}
 use Rattle.repo_api.specs.Marks.{shown, own_of, AreMarked, MeetWell}
 use Rattle.repo_api.specs.Commits.{next_tree, committed}
 use Rattle.repo_api.specs.Accepted.{Accepted, changed, changed_all}
-use Rattle.repo_api.specs.Accepted.Accepted.{Locks, Unlocks}
+use Rattle.repo_api.specs.Accepted.Accepted.{Locks, Unlocks, ChangesProperty}
+use Rattle.repo_api.specs.LockRuns.{HasSameOtherwise}
 use Rattle.repo_api.specs.States.{RepoState, TxnState, ChangeMap, tree_of, tree_at, trees_in, youngest}
 use Rattle.repo_api.specs.Opening.{opening_tree, new_repository}
 use Rattle.replies.specs.declared.reply.Reply.{Reply}
@@ -52,18 +53,21 @@ module _ (step_keeps : (halted : Bool) (s : Settings) (env : Env) (c : RepoState
   -- ---- nothing is overwritten
 
   module _ (theirs : (c : RepoState) (t : TxnState) → MeetWell (trees_in c.revisions) t.base (tree_of t.tree) (youngest c) → (p : PathValue) → is_changed (get (tree_at c t.base) p) (get (tree_at c (youngest c)) p) ≡ true → (shown (get (next_tree c t) p) ≡ shown (get (tree_at c (youngest c)) p)) × (own_of (get (next_tree c t) p) ≡ own_of (get (tree_at c (youngest c)) p)))
-      (ours : (c : RepoState) (t : TxnState) → MeetWell (trees_in c.revisions) t.base (tree_of t.tree) (youngest c) → (p : PathValue) → is_changed (get (tree_at c t.base) p) (get t.tree p) ≡ true → shown (get (next_tree c t) p) ≡ shown (get t.tree p)) where
-    answer_keeps : (halted : Bool) (c : RepoState) (a : Answer) → Does halted c a → MeetBy c a.effect.changes → OverwritesNothing c (content_after c a.effect)
-    answer_keeps halted c a (inl (inl quiet)) w = inl (same_at c c _ (ap (λ (es : List Accepted). changed_all c es) quiet) (all_the_same c))
-    answer_keeps halted c a (inl (inr (inl (ask, by)))) w =
+      (ours : (c : RepoState) (t : TxnState) → MeetWell (trees_in c.revisions) t.base (tree_of t.tree) (youngest c) → (p : PathValue) → is_changed (get (tree_at c t.base) p) (get t.tree p) ≡ true → shown (get (next_tree c t) p) ≡ shown (get t.tree p))
+      (otherwise : (c : RepoState) (n : ℕ) (name : List ℕ) (value : Option (List ℕ)) → HasSameOtherwise n c (changed c (ChangesProperty n name value))) where
+    answer_keeps : (may halted : Bool) (c : RepoState) (a : Answer) → Does may halted c a → MeetBy c a.effect.changes → OverwritesNothing c (content_after c a.effect)
+    answer_keeps may halted c a (inl (inl quiet)) w = inl (same_at c c _ (ap (λ (es : List Accepted). changed_all c es) quiet) (all_the_same c))
+    answer_keeps may halted c a (inl (inr (inl (ask, by)))) w =
         inl (same_at c (changed c (Locks ask)) _ (ap (λ (es : List Accepted). changed_all c es) by.changes) (record { uuid = refl; revisions = refl; properties = refl }))
-    answer_keeps halted c a (inl (inr (inr (ask, by)))) w =
+    answer_keeps may halted c a (inl (inr (inr (inl (ask, by))))) w =
         inl (same_at c (changed c (Unlocks ask)) _ (ap (λ (es : List Accepted). changed_all c es) by.changes) (record { uuid = refl; revisions = refl; properties = refl }))
-    answer_keeps halted c a (inr d) w =
+    answer_keeps may halted c a (inl (inr (inr (inr (n, name, value, opened, by))))) w =
+        inr (inl (n, subst (λ (es : List Accepted). HasSameOtherwise n c (changed_all c es)) (sym by.changes) (otherwise c n name value)))
+    answer_keeps may halted c a (inr d) w =
         let meets : MeetBy c (commit_changes c d.ask d.txn d.fails) = subst (λ (es : List Accepted). MeetBy c es) d.changes w in
         let same = same_at (committed c d.ask d.txn) (changed_all c (commit_changes c d.ask d.txn d.fails)) (content_after c a.effect)
         (ap (λ (es : List Accepted). changed_all c es) d.changes) (same_behind c d.ask d.txn d.fails) in
-        inr (d.ask, d.txn, same, record { theirs = theirs c d.txn meets.0; ours = ours c d.txn meets.0 })
+        inr (inr (d.ask, d.txn, same, record { theirs = theirs c d.txn meets.0; ours = ours c d.txn meets.0 }))
 
     stays : (old new : HubState) → new.content ≡ old.content → OverwritesNothing old.content new.content
     stays old new is = inl (same_at old.content old.content new.content is (all_the_same old.content))
@@ -73,7 +77,7 @@ module _ (step_keeps : (halted : Bool) (s : Settings) (env : Env) (c : RepoState
     input_overwrites old env n None input told new after found trees h = stays old new (ap (λ (x : HubState). x.content) h.1)
     input_overwrites old env n (Some s) input told new after found trees (a, step, is_told, left, failures, counts, is) =
         let kept = step_keeps old.halted old.settings env old.content s.phase input a (HasTrees-at old n s trees found) step in
-        subst (λ (x : HubState). OverwritesNothing old.content x.content) (sym is) (answer_keeps old.halted old.content a (does old.halted old.settings env old.content s.phase input a step) kept.1)
+        subst (λ (x : HubState). OverwritesNothing old.content x.content) (sym is) (answer_keeps old.settings.revprops old.halted old.content a (does old.halted old.settings env old.content s.phase input a step) kept.1)
 
     pub overwrites_nothing : (old new : HubState) (env after : Env) (e : Event) (told : List Reply) → HasTrees old → HubStep old env e told new after → OverwritesNothing old.content new.content
     overwrites_nothing old new env after (Connects n) told trees h = stays old new (ap (λ (x : HubState). x.content) h.3)

@@ -1,13 +1,14 @@
 -- Words of the laws of a hub.
-use Rattle.std.specs.Prelude.{◌≡◌, ◌⊎◌, ◌&&◌, not, if◌then◌else◌, Bool, true, false, ℕ, List, [], ◌∷◌, ◌++◌, Some, None, Contains, length, IsTrue}
+use Rattle.std.specs.Prelude.{◌≡◌, ◌⊎◌, ◌&&◌, ◌==◌, ◌<◌, not, if◌then◌else◌, Bool, true, false, ℕ, List, [], ◌∷◌, ◌++◌, Option, Some, None, Contains, length, IsTrue}
 use Rattle.std.specs.FinMap.{get}
 use Rattle.std.specs.List.{list_any}
 use Rattle.svnpath.specs.Paths.{PathValue}
 use Rattle.access.specs.Changing.{wants_release}
 use Rattle.repo_api.specs.Accepted.{Accepted, changed, changed_all}
-use Rattle.repo_api.specs.Accepted.Accepted.{Commits, Locks, Unlocks, Releases}
+use Rattle.repo_api.specs.Accepted.Accepted.{Commits, Locks, Unlocks, Releases, ChangesProperty}
 use Rattle.repo_api.specs.Locking.{lock_refusal, lock_of, locked, unlock_refusal, unlocked, is_in_the_way, is_handed_in}
-use Rattle.repo_api.specs.LockRuns.{names_lock, HasSameRevisions, HaveOwnTokens, IsNewToken, HaveNewTokens}
+use Rattle.repo_api.specs.LockRuns.{names_lock, HasSameRevisions, HasSameOtherwise, HaveOwnTokens, IsNewToken, HaveNewTokens}
+use Rattle.repo_api.specs.RevisionProperties.{property_refusal, with_changed_property}
 use Rattle.repo_api.specs.declared.lock.Lock.{Lock as LockValue}
 use Rattle.repo_api.specs.declared.lock_ask.LockAsk.{LockAsk}
 use Rattle.repo_api.specs.declared.lock_ask.UnlockAsk.{UnlockAsk}
@@ -19,9 +20,11 @@ use Rattle.repo_api.specs.declared.ask.CommitAsk.{CommitAsk}
 use Rattle.repo_api.specs.States.{RepoState, TxnState, LockMap, tree_at, youngest}
 use Rattle.repo_api.specs.Opening.{new_repository}
 use Rattle.refusals.specs.declared.Refusal.{Refusal}
+use Rattle.forms.specs.Forms.{is_name}
 use Rattle.replies.specs.declared.reply.Reply.{Reply}
 use Rattle.replies.specs.declared.reply.Reply.TheVariants.{Success, Lock, CommitInfo, Failure}
 use Rattle.machine.specs.Settings.{Settings}
+use Rattle.machine.specs.Readings.{revision_value}
 use Rattle.machine.specs.declared.env.Env.{Env}
 use Rattle.hub.specs.State.{HubState}
 use Rattle.hub.specs.Runs.{Event, HubRun, with_rest}
@@ -87,11 +90,21 @@ pub record IsToldUnlock (old : RepoState) (told : List Reply) (new : RepoState) 
   pub is : new ≡ unlocked old ask
   pub success : EndsWith told Success
 
+-- a change of a property of a revision that the rules accept, and that is answered by success
+pub record IsToldRevised (old : RepoState) (told : List Reply) (new : RepoState) : Type 0 where
+  pub revision : ℕ
+  pub name : List ℕ
+  pub value : Option (List ℕ)
+  pub accepted : property_refusal old revision name ≡ None
+  pub is : new ≡ with_changed_property old revision name value
+  pub success : EndsWith told Success
+
 -- a change that the rules accept, and that is told
 pub data IsToldChange (old : RepoState) (told : List Reply) (new : RepoState) : Type 0 where
   Committed : IsToldCommit old told new → IsToldChange old told new
   Locked : IsToldLock old told new → IsToldChange old told new
   Unlocked : IsToldUnlock old told new → IsToldChange old told new
+  Revised : IsToldRevised old told new → IsToldChange old told new
 
 -- the changes that were told
 abbrev pub changes_of : (old : RepoState) (told : List Reply) (new : RepoState)
@@ -99,6 +112,7 @@ abbrev pub changes_of : (old : RepoState) (told : List Reply) (new : RepoState)
 changes_of old told new (Committed c) = commit_changes old c.ask c.txn c.fails
 changes_of old told new (Locked l) = Locks l.ask ∷ []
 changes_of old told new (Unlocked u) = Unlocks u.ask ∷ []
+changes_of old told new (Revised r) = ChangesProperty r.revision r.name r.value ∷ []
 
 -- what nothing changes: the settings, and the repository's name among all repositories
 pub record KeepsConstants (old new : HubState) : Type 0 where
@@ -108,6 +122,22 @@ pub record KeepsConstants (old new : HubState) : Type 0 where
 -- each revision that is there keeps its properties
 abbrev pub KeepsProperties : RepoState → RepoState → Type 0
 KeepsProperties old new = (more : List PropertyList) × (new.properties ≡ old.properties ++ more)
+
+-- the change is of this property of this revision: no commit is, and no change of locks
+abbrev pub names_property : Accepted → ℕ → List ℕ → Bool
+names_property (Commits ask t) n name = false
+names_property (Locks ask) n name = false
+names_property (Unlocks ask) n name = false
+names_property (Releases user tokens) n name = false
+names_property (ChangesProperty m other value) n name = (m == n) && is_name other name
+
+-- of a revision that is there, each property that no change names has the value that it had, or has
+-- none as before
+abbrev pub KeepsOtherProperties : RepoState → List Accepted → RepoState → Type 0
+KeepsOtherProperties old changes new =
+    (n : ℕ) (name : List ℕ) → n < length old.properties
+    → list_any (λ e. names_property e n name) changes ≡ false
+    → revision_value new name n ≡ revision_value old name n
 
 -- no byte of the stream is wrong so far
 abbrev pub IsUnbroken : List Input → Type 0
@@ -125,13 +155,14 @@ pub record KeepsBothSides (c : RepoState) (t : TxnState) : Type 0 where
   pub ours : (p : PathValue) → is_changed (get (tree_at c t.base) p) (get t.tree p) ≡ true
       → shown (get (next_tree c t) p) ≡ shown (get t.tree p)
 
--- nothing has happened but to locks, or a commit that keeps what was changed on either side, and
--- behind it nothing but to locks
+-- nothing has happened but to locks, or but to the properties of one revision, or a commit that
+-- keeps what was changed on either side, and behind it nothing but to locks
 abbrev pub OverwritesNothing : RepoState → RepoState → Type 0
 OverwritesNothing old new =
     HasSameRevisions old new
+    ⊎ (((n : ℕ) × HasSameOtherwise n old new)
     ⊎ ((ask : CommitAsk) × (t : TxnState) × HasSameRevisions (committed old ask t) new
-    × KeepsBothSides old t)
+    × KeepsBothSides old t))
 
 -- one state after another, and at none of these steps was anything overwritten
 abbrev pub KeepsAll : RepoState → List RepoState → RepoState → Type 0
@@ -148,6 +179,7 @@ HoldsLocks c (Commits ask t) =
 HoldsLocks c (Locks ask) = Unit {0}
 HoldsLocks c (Unlocks ask) = Unit {0}
 HoldsLocks c (Releases user tokens) = Unit {0}
+HoldsLocks c (ChangesProperty n name value) = Unit {0}
 
 -- so it is of each change, in the state that those before it make
 abbrev pub AllHoldLocks : RepoState → List Accepted → Type 0

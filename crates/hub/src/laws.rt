@@ -1,5 +1,5 @@
 //! What holds of every run of a hub. The functions do nothing: their contracts are the laws.
-ghost use Rattle.std.specs.Prelude.{◌<◌, ◌≤◌, ◌+◌, ◌≡◌, ◌⊎◌, ◌++◌, ℕ, true, List, length};
+ghost use Rattle.std.specs.Prelude.{◌<◌, ◌≤◌, ◌+◌, ◌≡◌, ◌⊎◌, ◌++◌, ℕ, true, false, List, length};
 ghost use Rattle.repo_api.specs.States.{RepoState, IsBeginning, trees_in};
 ghost use Rattle.repo_api.specs.Accepted.{Accepted, AreAccepted, changed_all};
 ghost use Rattle.repo_api.specs.LockRuns.{HaveOwnTokens};
@@ -10,7 +10,7 @@ ghost use Rattle.replies.specs.declared.reply.Reply.{Reply};
 ghost use Rattle.access.specs.Points.{last_count};
 ghost use Rattle.machine.specs.Hearing.{Input, Yields};
 ghost use Rattle.machine.specs.Settings.{Settings};
-ghost use Rattle.hub.specs.Laws.{TellsFailure, IsToldChange, changes_of, KeepsConstants, KeepsProperties, IsUnbroken, new_hub, OverwritesNothing, KeepsAll, RespectLocks, MakesNewTokens, CallsMakeNewTokens};
+ghost use Rattle.hub.specs.Laws.{TellsFailure, IsToldChange, changes_of, KeepsConstants, KeepsProperties, KeepsOtherProperties, IsUnbroken, new_hub, OverwritesNothing, KeepsAll, RespectLocks, MakesNewTokens, CallsMakeNewTokens};
 ghost use Rattle.machine.specs.declared.env.Env.{Env};
 ghost use Rattle.hub.specs.State.{HubState, HasTrees};
 ghost use Rattle.hub.specs.Runs.{Event, HubStep, HubRun};
@@ -30,9 +30,10 @@ pub fn one_revision_an_event()
         → HubStep old env event told new after → length new.content.revisions ≤ length old.content.revisions + 1 }
 {}
 
-/// An event that is answered by a failure leaves the repository as it was; and what changes it is a commit, a lock or
-/// an unlock that the rules accept, and that is told: of a commit its number, its date, its author, and whether the
-/// release of its locks, which comes behind it, has failed.
+/// An event that is answered by a failure leaves the repository as it was; and what changes it is
+/// a commit, a lock, an unlock or a change of a property of a revision that the rules accept, and
+/// that is told: of a commit its number, its date, its author, and whether the release of its
+/// locks, which comes behind it, has failed.
 pub fn refused_changes_nothing()
     ensures refused { (old new : HubState) (env after : Env) (event : Event) (told : List Reply)
         → HubStep old env event told new after → TellsFailure told → new.content ≡ old.content }
@@ -112,13 +113,34 @@ pub fn constants_stay()
         → CallRun old calls outcomes new → KeepsConstants old new }
 {}
 
-/// The properties of revisions that are there stay the same.
+/// Properties of revisions that are there stay the same, but for those that accepted changes name:
+/// at an event the change that is told, and whatever happens, and whatever calls come, those by
+/// which the repository has gone on. Where clients may not change them, all stay the same.
 pub fn revision_properties_stay()
-    ensures events { (old new : HubState) (env after : Env) (events : List Event) (told : List Reply)
-        → HubRun old env events told new after → KeepsProperties old.content new.content }
+    ensures event { (old new : HubState) (env after : Env) (event : Event) (told : List Reply)
+        → HubStep old env event told new after
+        → (new.content ≡ old.content) ⊎ ((change : IsToldChange old.content told new.content)
+        × KeepsOtherProperties old.content (changes_of old.content told new.content change)
+        new.content) }
+    ensures events { (old new : HubState) (env after : Env) (events : List Event)
+        (told : List Reply) → HubRun old env events told new after
+        → (changes : List Accepted) × AreAccepted old.content changes
+        × (new.content ≡ changed_all old.content changes)
+        × KeepsOtherProperties old.content changes new.content }
     ensures calls { (old new : HubState) (calls : List Call) (outcomes : List Outcome)
-        → CallRun old calls outcomes new → KeepsProperties old.content new.content }
-{}
+        → CallRun old calls outcomes new
+        → (changes : List Accepted) × AreAccepted old.content changes
+        × (new.content ≡ changed_all old.content changes)
+        × KeepsOtherProperties old.content changes new.content }
+    ensures closed_events { (old new : HubState) (env after : Env) (events : List Event)
+        (told : List Reply) → old.settings.revprops ≡ false → HubRun old env events told new after
+        → KeepsProperties old.content new.content }
+    ensures closed_calls { (old new : HubState) (calls : List Call) (outcomes : List Outcome)
+        → old.settings.revprops ≡ false → CallRun old calls outcomes new
+        → KeepsProperties old.content new.content }
+{
+    repo_api::changes_of_properties_keep_revisions();
+}
 
 /// The count of the store's failures never falls.
 pub fn failures_never_fall()
@@ -167,14 +189,16 @@ pub fn trees_stay_trees()
     machine::steps_keep_trees();
 }
 
-/// A commit never overwrites what was changed since its base: where every tree is a tree, an event changes no more than
-/// locks, or makes a commit that keeps what was changed on either side, and behind it changes no more than locks.
+/// A commit never overwrites what was changed since its base: where every tree is a tree, an event
+/// changes no more than locks, or than the properties of one revision, or makes a commit that keeps
+/// what was changed on either side, and behind it changes no more than locks.
 pub fn nothing_is_overwritten()
     ensures { (old new : HubState) (env after : Env) (event : Event) (told : List Reply)
         → HasTrees old → HubStep old env event told new after → OverwritesNothing old.content new.content }
 {
     machine::steps_keep_trees();
     repo_api::commits_keep_both_sides();
+    repo_api::changes_of_properties_keep_revisions();
 }
 
 /// The trees of a new repository are sound: a hub may be made over it.

@@ -1,4 +1,4 @@
--- Answers that change nothing but locks, and begin no edit but a new one.
+-- Answers that keep all revisions, and begin no edit but a new one.
 use Rattle.std.proofs.Common.{◌≡◌, ℕ, List, [], ◌∷◌, Bool, true, false, Option, Some, None, refl, sym, subst}
 use Rattle.std.specs.Prelude.{Result, Ok, Err, if◌then◌else◌}
 use Rattle.svnpath.specs.Paths.{PathValue}
@@ -7,12 +7,13 @@ use Rattle.svnpath.specs.declared.fault.PathFault.{PathFault}
 use Rattle.refusals.specs.declared.Refusal.{Refusal}
 use Rattle.repo_api.specs.States.{RepoState}
 use Rattle.repo_api.specs.Accepted.{Accepted}
-use Rattle.repo_api.specs.Accepted.Accepted.{Locks, Unlocks}
+use Rattle.repo_api.specs.Accepted.Accepted.{Commits, Locks, Unlocks, Releases, ChangesProperty}
+use Rattle.repo_api.specs.RevisionProperties.{property_refusal}
 use Rattle.repo_api.specs.Locking.{lock_refusal, unlock_refusal}
-use Rattle.repo_api.specs.LockRuns.{is_of_locks}
 use Rattle.repo_api.specs.declared.lock_ask.LockAsk.{LockAsk}
 use Rattle.commands.specs.Commands.{main_command}
 use Rattle.commands.specs.Logins.{client_greeting, auth_response, challenge_answer}
+use Rattle.commands.specs.declared.command.ChangeRevPropCommand.{ChangeRevPropCommand}
 use Rattle.commands.specs.declared.command.LockCommand.{LockCommand}
 use Rattle.commands.specs.declared.command.UnlockCommand.{UnlockCommand}
 use Rattle.edit_commands.specs.Editing.{ends_edit}
@@ -24,7 +25,7 @@ use Rattle.machine.specs.declared.login.OpenChallenge.{OpenChallenge}
 use Rattle.forms.specs.declared.fault.CommandFault.{CommandFault}
 use Rattle.forms.specs.declared.fault.CommandFault.TheVariants.{UnknownName, BadParameters, NoMemory}
 use Rattle.commands.specs.declared.command.MainCommand.{MainCommand}
-use Rattle.commands.specs.declared.command.MainCommand.TheVariants.{GetLatestRev, CheckPath, RevProplist, Commit, AbortEdit, Lock, Unlock, GetLock, GetLocks}
+use Rattle.commands.specs.declared.command.MainCommand.TheVariants.{GetLatestRev, CheckPath, RevProplist, Commit, AbortEdit, Lock, Unlock, GetLock, GetLocks, GetFile, GetDir, Stat, GetDatedRev, RevProp, ChangeRevProp, Reparent, Log, GetLocations}
 use Rattle.commands.specs.declared.login.ClientGreeting.{ClientGreeting}
 use Rattle.commands.specs.declared.login.AuthResponse.{AuthResponse}
 use Rattle.replies.specs.declared.reply.Reply.{Reply}
@@ -32,8 +33,8 @@ use Rattle.replies.specs.declared.reply.Reply.TheVariants as replies
 use Rattle.edit_rules.specs.Edits.{new_edit}
 use Rattle.machine.specs.Settings.{Settings}
 use Rattle.machine.specs.Stages.{Stage}
-use Rattle.machine.specs.Answers.{Verdict, Answer, says, change_answer, ChangeStep, behind, Behind, malformed}
-use Rattle.machine.specs.Commands.{OwnStep, asked_by, lock_tokens, commit_begins, without_token, lock_ask, unlock_ask, lock_answer, LockStep, UnlockStep, login_request}
+use Rattle.machine.specs.Answers.{Verdict, Answer, says, change_answer, ChangeStep, behind, Behind}
+use Rattle.machine.specs.Commands.{OwnStep, asked_by, lock_tokens, commit_begins, without_token, lock_ask, unlock_ask, lock_answer, LockStep, UnlockStep, PropertyStep, reparented, login_request}
 use Rattle.machine.specs.Logins.{offer, chosen, wants_user, speaks, url_answer, greeting_answer, LoggedIn, ChoiceStep, LoginStep, with_user, OutcomeStep, ChallengeStep}
 use Rattle.machine.specs.Machine.{InputStep, KnownCommand, MainStep, skipping_answer}
 use Rattle.machine.specs.declared.asked.Asked.{Asked}
@@ -54,13 +55,21 @@ HasNewEdit s (Editing edit) = edit.editor ≡ new_edit edit.client.path s.name
 HasNewEdit s (Skipping client) = Unit {0}
 HasNewEdit s Ended = Unit {0}
 
--- changes of locks alone
-abbrev pub AreOfLocks : List Accepted → Type 0
-AreOfLocks [] = Unit {0}
-AreOfLocks (e ∷ es) = (is_of_locks e ≡ true) × AreOfLocks es
+-- the change leaves the revisions as they are
+abbrev pub keeps_revisions : Accepted → Bool
+keeps_revisions (Commits ask t) = false
+keeps_revisions (Locks ask) = true
+keeps_revisions (Unlocks ask) = true
+keeps_revisions (Releases user tokens) = true
+keeps_revisions (ChangesProperty n name value) = true
+
+-- and so does each of these
+abbrev pub KeepRevisions : List Accepted → Type 0
+KeepRevisions [] = Unit {0}
+KeepRevisions (e ∷ es) = (keeps_revisions e ≡ true) × KeepRevisions es
 
 pub record IsQuiet (s : Settings) (a : Answer) : Type 0 where
-  pub of_locks : AreOfLocks a.effect.changes
+  pub kept : KeepRevisions a.effect.changes
   pub new : HasNewEdit s a.phase
 
 quiet_is : (s : Settings) (a b : Answer) → a ≡ b → IsQuiet s b → IsQuiet s a
@@ -73,17 +82,17 @@ quiet_if s false x y p q = q
 quiet_behind : (s : Settings) (told : List Reply) (Step : Answer → Type 0) (a : Answer)
     → ((b : Answer) → Step b → IsQuiet s b) → Behind told Step a → IsQuiet s a
 quiet_behind s told Step a quiet (b, step, is) =
-    quiet_is s a (behind told b) is (record { of_locks = (quiet b step).of_locks; new = (quiet b step).new })
+    quiet_is s a (behind told b) is (record { kept = (quiet b step).kept; new = (quiet b step).new })
 
 -- replies after which no edit is open
 plain : (s : Settings) (env : Env) (client : Client) (told : List Reply) → IsQuiet s (says env (Serving client) told)
-plain s env client told = record { of_locks = tt; new = tt }
+plain s env client told = record { kept = tt; new = tt }
 
 asking : (s : Settings) (env : Env) (login : OpenLogin) (told : List Reply) → IsQuiet s (says env (LoggingIn login) told)
-asking s env login told = record { of_locks = tt; new = tt }
+asking s env login told = record { kept = tt; new = tt }
 
 ending : (s : Settings) (env : Env) (told : List Reply) → IsQuiet s (says env Ended told)
-ending s env told = record { of_locks = tt; new = tt }
+ending s env told = record { kept = tt; new = tt }
 
 -- ---- the greeting
 
@@ -99,12 +108,12 @@ quiet_greeting s env (Ok g) =
     quiet_if s (speaks g) (url_answer s env path root) (says env Ended []) (quiet_url s env path root) (ending s env [])
 quiet_greeting s env (Err fault) = ending s env _
 
--- ---- changes of locks
+-- ---- changes
 
-quiet_change : (s : Settings) (env : Env) (client : Client) (e : Accepted) (told : List Reply) (v : Verdict) → is_of_locks e ≡ true → IsQuiet s (change_answer env client e told v)
-quiet_change s env client e told Written of = record { of_locks = (of, tt); new = tt }
-quiet_change s env client e told NotWritten of = record { of_locks = tt; new = tt }
-quiet_change s env client e told Unknown of = record { of_locks = tt; new = tt }
+quiet_change : (s : Settings) (env : Env) (client : Client) (e : Accepted) (told : List Reply) (v : Verdict) → keeps_revisions e ≡ true → IsQuiet s (change_answer env client e told v)
+quiet_change s env client e told Written of = record { kept = (of, tt); new = tt }
+quiet_change s env client e told NotWritten of = record { kept = tt; new = tt }
+quiet_change s env client e told Unknown of = record { kept = tt; new = tt }
 
 quiet_step : (s : Settings) (halted : Bool) (env : Env) (client : Client) (r : Option Refusal) (answer : Verdict → Answer) (a : Answer)
     → ((v : Verdict) → IsQuiet s (answer v)) → ChangeStep halted env client r answer a → IsQuiet s a
@@ -132,11 +141,23 @@ quiet_unlock s halted env c client command (Ok path) a step =
     (λ v. quiet_change s env client (Unlocks ask) _ v refl) step
 quiet_unlock s halted env c client command (Err fault) a is = quiet_is s a _ is (plain s env client _)
 
+quiet_property : (s : Settings) (may halted : Bool) (env : Env) (c : RepoState) (client : Client) (command : ChangeRevPropCommand) (a : Answer)
+    → PropertyStep may halted env c client command a → IsQuiet s a
+quiet_property s false halted env c client command a is = quiet_is s a _ is (plain s env client _)
+quiet_property s true halted env c client command a step =
+    let change = ChangesProperty command.revision command.name command.value in
+    quiet_step s halted env client (property_refusal c command.revision command.name) (change_answer env client change (replies.Success ∷ [])) a
+    (λ v. quiet_change s env client change _ v refl) step
+
 -- ---- commands
 
 quiet_begins : (s : Settings) (env : Env) (client : Client) (r : Result Asked Refusal) → IsQuiet s (commit_begins s env client r)
-quiet_begins s env client (Ok asked) = record { of_locks = tt; new = refl }
+quiet_begins s env client (Ok asked) = record { kept = tt; new = refl }
 quiet_begins s env client (Err r) = plain s env client _
+
+quiet_reparented : (s : Settings) (env : Env) (client : Client) (path : Result PathValue PathFault) → IsQuiet s (reparented env client path)
+quiet_reparented s env client (Ok path) = record { kept = tt; new = tt }
+quiet_reparented s env client (Err fault) = plain s env client _
 
 quiet_own : (s : Settings) (halted : Bool) (env : Env) (c : RepoState) (client : Client) (command : MainCommand) (a : Answer)
     → OwnStep halted s env c client command a → IsQuiet s a
@@ -150,6 +171,16 @@ quiet_own s halted env c client (Lock command) a step = quiet_lock s halted env 
 quiet_own s halted env c client (Unlock command) a step = quiet_unlock s halted env c client command (joined client.path command.path) a step
 quiet_own s halted env c client (GetLock path) a is = quiet_is s a _ is (plain s env client _)
 quiet_own s halted env c client (GetLocks path) a is = quiet_is s a _ is (plain s env client _)
+quiet_own s halted env c client (GetFile command) a is = quiet_is s a _ is (plain s env client _)
+quiet_own s halted env c client (GetDir command) a is = quiet_is s a _ is (plain s env client _)
+quiet_own s halted env c client (Stat path revision) a is = quiet_is s a _ is (plain s env client _)
+quiet_own s halted env c client (GetDatedRev date) a is = quiet_is s a _ is (plain s env client _)
+quiet_own s halted env c client (RevProp n name) a is = quiet_is s a _ is (plain s env client _)
+quiet_own s halted env c client (ChangeRevProp command) a step = quiet_property s s.revprops halted env c client command a step
+quiet_own s halted env c client (Reparent url) a is =
+    quiet_is s a _ is (quiet_reparented s env client (path_of_text url s.name))
+quiet_own s halted env c client (Log command) a is = quiet_is s a _ is (plain s env client _)
+quiet_own s halted env c client (GetLocations command) a is = quiet_is s a _ is (plain s env client _)
 
 quiet_known : (s : Settings) (waits halted : Bool) (env : Env) (c : RepoState) (client : Client) (command : MainCommand) (a : Answer)
     → KnownCommand waits halted s env c client command a → IsQuiet s a
@@ -176,7 +207,7 @@ quiet_choice : (s : Settings) (halted : Bool) (env : Env) (c : RepoState) (login
     → ChoiceStep halted s env c login mechanism a → IsQuiet s a
 quiet_choice s halted env c login None a is = quiet_is s a _ is (asking s env login _)
 quiet_choice s halted env c login (Some mechanisms.Anonymous) a step = quiet_logged_in s halted env c login.client login.waiting a step
-quiet_choice s halted env c login (Some mechanisms.CramMd5) a is = quiet_is s a _ is (record { of_locks = tt; new = tt })
+quiet_choice s halted env c login (Some mechanisms.CramMd5) a is = quiet_is s a _ is (record { kept = tt; new = tt })
 
 quiet_login : (s : Settings) (halted : Bool) (env : Env) (c : RepoState) (login : OpenLogin) (r : Result AuthResponse CommandFault) (a : Answer)
     → LoginStep halted s env c login r a → IsQuiet s a
@@ -198,7 +229,7 @@ quiet_challenge s halted env c pending (Some text) a (user, whose, step) = quiet
 quiet_skipping : (s : Settings) (env : Env) (client : Client) (ends : Option Bool) → IsQuiet s (skipping_answer env client ends)
 quiet_skipping s env client None = ending s env _
 quiet_skipping s env client (Some true) = plain s env client _
-quiet_skipping s env client (Some false) = record { of_locks = tt; new = tt }
+quiet_skipping s env client (Some false) = record { kept = tt; new = tt }
 
 -- ---- an input
 
@@ -207,7 +238,7 @@ abbrev pub IsEditing : Stage → Input → Type 0
 IsEditing (Editing edit) (Whole t) = Unit {0}
 IsEditing phase input = ⊥
 
--- but for the commands of an edit, an input changes nothing but locks
+-- but for the commands of an edit, an input keeps all revisions
 pub quiet_input : (s : Settings) (halted : Bool) (env : Env) (c : RepoState) (phase : Stage) (input : Input) (a : Answer)
     → (IsEditing phase input → ⊥) → InputStep halted s env c phase input a → IsQuiet s a
 quiet_input s halted env c Greeted (Whole t) a not is = quiet_is s a _ is (quiet_greeting s env (client_greeting t))

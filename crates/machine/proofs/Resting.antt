@@ -5,12 +5,10 @@ use Rattle.refusals.specs.declared.Refusal.{Refusal}
 use Rattle.repo_api.specs.States.{RepoState, TxnState, Revision, IsBeginning}
 use Rattle.repo_api.specs.Commits.{commit_refusal}
 use Rattle.repo_api.specs.Accepted.{Accepted, changed, changed_all}
-use Rattle.repo_api.specs.Accepted.Accepted.{Commits, Locks, Unlocks, Releases}
+use Rattle.repo_api.specs.Accepted.Accepted.{Commits, Locks, Unlocks, Releases, ChangesProperty}
 use Rattle.repo_api.specs.declared.edit.EditOp.{EditOp}
 use Rattle.repo_api.specs.declared.ask.CommitAsk.{CommitAsk}
-use Rattle.commands.specs.Commands.{main_command}
-use Rattle.commands.specs.Logins.{client_greeting, auth_response, challenge_answer}
-use Rattle.edit_commands.specs.Editing.{editor_command, ends_edit}
+use Rattle.edit_commands.specs.Editing.{editor_command}
 use Rattle.edit_commands.specs.declared.editing.EditorCommand.{EditorCommand}
 use Rattle.edit_commands.specs.declared.editing.EditorCommand.TheVariants.{TargetRevision, OpenRoot, DeleteEntry, AddDirectory, AddFile, OpenDirectory, OpenFile, AbsentDirectory, AbsentFile, ChangeDirectoryProperty, ChangeFileProperty, ApplyTextDelta, TextDeltaChunk, TextDeltaEnd, CloseDirectory, CloseFile, CloseEdit, AbortEdit}
 use Rattle.forms.specs.declared.fault.CommandFault.{CommandFault}
@@ -36,7 +34,6 @@ use Rattle.machine.specs.declared.ending.Ending.{Ending}
 use Rattle.machine.specs.declared.ending.Ending.TheVariants.{Commits as ToCommit, GivesUp}
 use Rattle.machine.specs.declared.phase.Phase.TheVariants.{Greeted, LoggingIn, Challenged, Serving, Editing, Skipping, Ended}
 use Rattle.machine.specs.declared.phase.Client.{Client}
-use Rattle.machine.specs.declared.login.OpenChallenge.{OpenChallenge}
 use Rattle.machine.proofs.Quiet.{HasNewEdit, IsQuiet, quiet_input}
 
 -- ---- beginnings
@@ -183,6 +180,7 @@ rests_step halted s env c Ended input a rests step = rests_is c a _ step tt
 change_keeps : (c : RepoState) (e : Accepted) → IsBeginning c.revisions (changed c e).revisions
 change_keeps c (Commits ask t) = record { more = _; is = refl }
 change_keeps c (Locks ask) = begins c.revisions
+change_keeps c (ChangesProperty n name value) = begins c.revisions
 change_keeps c (Unlocks ask) = begins c.revisions
 change_keeps c (Releases user tokens) = begins c.revisions
 

@@ -13,10 +13,8 @@ use Rattle.repo_api.specs.declared.ask.CommitAsk.{CommitAsk}
 use Rattle.repo_api.specs.States.{RepoState, TxnState, Revision, IsBeginning, tree_of, tree_in, trees_in, youngest}
 use Rattle.repo_api.specs.Commits.{commit_refusal, next_tree, committed}
 use Rattle.repo_api.specs.Accepted.{Accepted, changed, changed_all}
-use Rattle.repo_api.specs.Accepted.Accepted.{Commits, Locks, Unlocks, Releases}
-use Rattle.commands.specs.Commands.{main_command}
-use Rattle.commands.specs.Logins.{client_greeting, auth_response, challenge_answer}
-use Rattle.edit_commands.specs.Editing.{editor_command, ends_edit}
+use Rattle.repo_api.specs.Accepted.Accepted.{Commits, Locks, Unlocks, Releases, ChangesProperty}
+use Rattle.edit_commands.specs.Editing.{editor_command}
 use Rattle.edit_commands.specs.declared.editing.EditorCommand.{EditorCommand}
 use Rattle.forms.specs.declared.fault.CommandFault.{CommandFault}
 use Rattle.forms.specs.declared.fault.CommandFault.TheVariants.{UnknownName, BadParameters, NoMemory}
@@ -31,7 +29,7 @@ use Rattle.machine.specs.Stages.{Stage, EditRests, EditIsSound, RestsOn as Sessi
 use Rattle.machine.specs.Soundness.{MeetBy}
 use Rattle.machine.specs.Hearing.{Input}
 use Rattle.machine.specs.Hearing.Input.{Whole, Broken}
-use Rattle.machine.specs.Answers.{Verdict, Effect, Answer, content_after}
+use Rattle.machine.specs.Answers.{Verdict, Answer, content_after}
 use Rattle.machine.specs.Machine.{InputStep, MachineEdit, JudgedEdit, CommitStep, CloseStep, CommandStep, EditingStep, ending_of, commit_ask, Release, release_effect, phase_after, made_answer, CommittedStep}
 use Rattle.machine.specs.Machine.Release.{Stays, Released, Lacks, Fails}
 use Rattle.machine.specs.Answers.Verdict.{Written, NotWritten, Unknown}
@@ -41,8 +39,7 @@ use Rattle.machine.specs.declared.ending.Ending.{Ending}
 use Rattle.machine.specs.declared.ending.Ending.TheVariants.{Commits as ToCommit, GivesUp}
 use Rattle.machine.specs.declared.phase.Phase.TheVariants.{Greeted, LoggingIn, Challenged, Serving, Editing, Skipping, Ended}
 use Rattle.machine.specs.declared.phase.Client.{Client}
-use Rattle.machine.specs.declared.login.OpenChallenge.{OpenChallenge}
-use Rattle.machine.proofs.Quiet.{HasNewEdit, AreOfLocks, IsQuiet, quiet_input}
+use Rattle.machine.proofs.Quiet.{HasNewEdit, KeepRevisions, IsQuiet, quiet_input}
 use Rattle.machine.proofs.Resting.{rests_on}
 
 trees_more : (rs : List Revision) (r : Revision) → AreTrees rs → IsTree (tree_of r.tree) → AreTrees (rs ++ r ∷ [])
@@ -87,21 +84,23 @@ LeavesTrees c a = AreSound (content_after c a.effect).revisions × EditIsSound a
 leaves_is : (c : RepoState) (a b : Answer) → a ≡ b → LeavesTrees c b → LeavesTrees c a
 leaves_is c a b e r = subst (λ (x : Answer). LeavesTrees c x) (sym e) r
 
--- changes of locks leave the trees as they are
-locks_leave : (c : RepoState) (es : List Accepted) → AreOfLocks es → AreSound c.revisions → AreSound (changed_all c es).revisions × MeetBy c es
-locks_leave c [] of trees = (trees, tt)
-locks_leave c (Commits ask t ∷ es) (of, more) trees = cc
-locks_leave c (Locks ask ∷ es) (of, more) trees = let left = locks_leave (changed c (Locks ask)) es more trees in (left.0, (tt, left.1))
-locks_leave c (Unlocks ask ∷ es) (of, more) trees = let left = locks_leave (changed c (Unlocks ask)) es more trees in (left.0, (tt, left.1))
-locks_leave c (Releases user tokens ∷ es) (of, more) trees =
-    let left = locks_leave (changed c (Releases user tokens)) es more trees in (left.0, (tt, left.1))
+-- changes that keep the revisions leave the trees as they are
+kept_leave : (c : RepoState) (es : List Accepted) → KeepRevisions es → AreSound c.revisions → AreSound (changed_all c es).revisions × MeetBy c es
+kept_leave c [] of trees = (trees, tt)
+kept_leave c (Commits ask t ∷ es) (of, more) trees = cc
+kept_leave c (ChangesProperty n name value ∷ es) (of, more) trees =
+    let left = kept_leave (changed c (ChangesProperty n name value)) es more trees in (left.0, (tt, left.1))
+kept_leave c (Locks ask ∷ es) (of, more) trees = let left = kept_leave (changed c (Locks ask)) es more trees in (left.0, (tt, left.1))
+kept_leave c (Unlocks ask ∷ es) (of, more) trees = let left = kept_leave (changed c (Unlocks ask)) es more trees in (left.0, (tt, left.1))
+kept_leave c (Releases user tokens ∷ es) (of, more) trees =
+    let left = kept_leave (changed c (Releases user tokens)) es more trees in (left.0, (tt, left.1))
 
--- a release is a change of locks
-release_of_locks : (ask : CommitAsk) (release : Release) → AreOfLocks (release_effect ask release).changes
-release_of_locks ask Stays = tt
-release_of_locks ask Released = (refl, tt)
-release_of_locks ask Lacks = tt
-release_of_locks ask (Fails v) = tt
+-- a release keeps the revisions
+release_keeps : (ask : CommitAsk) (release : Release) → KeepRevisions (release_effect ask release).changes
+release_keeps ask Stays = tt
+release_keeps ask Released = (refl, tt)
+release_keeps ask Lacks = tt
+release_keeps ask (Fails v) = tt
 
 sound_after : (client : Client) (v : Verdict) → EditIsSound (phase_after client v)
 sound_after client Written = tt
@@ -127,7 +126,7 @@ module _ (begins : (path : PathValue) (name : List ℕ) → IsSoundEdit (new_edi
 
   leaves_quiet : (c : RepoState) (s : Settings) (a : Answer) → AreSound c.revisions → IsQuiet s a → LeavesTrees c a
   leaves_quiet c s a trees quiet =
-      let left = locks_leave c a.effect.changes quiet.of_locks trees in
+      let left = kept_leave c a.effect.changes quiet.kept trees in
       (left.0, sound_new s a.phase quiet.new, left.1)
 
   leaves_edits : (env : Env) (c : RepoState) (edit : MachineEdit) (command : EditorCommand) (r : Option Refusal) (a : Answer)
@@ -139,7 +138,7 @@ module _ (begins : (path : PathValue) (name : List ℕ) → IsSoundEdit (new_edi
       → AreSound c.revisions → MeetWell (trees_in c.revisions) t.base (tree_of t.tree) (youngest c) → LeavesTrees c (made_answer env c client ask t release)
   leaves_made env c client ask t release trees w =
       let freed = release_effect ask release in
-      let left = locks_leave (committed c ask t) freed.changes (release_of_locks ask release)
+      let left = kept_leave (committed c ask t) freed.changes (release_keeps ask release)
       (trees_more c.revisions _ trees.0 (makes_tree c t w), makes_marks c ask t w) in
       (left.0, sound_after client freed.store, (w, left.1))
 

@@ -5,6 +5,7 @@ use Rattle.std.specs.Option.{option_to_list}
 use Rattle.std.specs.List.{list_all}
 use Rattle.svnpath.specs.Paths.{PathValue}
 use Rattle.svnpath.specs.Texts.{joined}
+use Rattle.svnpath.specs.Urls.{path_of_text}
 use Rattle.svnpath.specs.declared.fault.PathFault.{PathFault}
 use Rattle.refusals.specs.declared.Refusal.{Refusal}
 use Rattle.refusals.specs.declared.Refusal.TheVariants as refusals
@@ -12,14 +13,16 @@ use Rattle.refusals.specs.Refusing.{path_refusal}
 use Rattle.repo_api.specs.Properties.{PropertyList, with_property}
 use Rattle.repo_api.specs.States.{RepoState, youngest}
 use Rattle.repo_api.specs.Kinds.{kind_at, properties_at}
-use Rattle.repo_api.specs.Accepted.Accepted.{Locks, Unlocks}
+use Rattle.repo_api.specs.RevisionProperties.{property_refusal}
+use Rattle.repo_api.specs.Accepted.Accepted.{Locks, Unlocks, ChangesProperty}
 use Rattle.repo_api.specs.Locking.{LockList, at_or_under, lock_refusal, lock_of, unlock_refusal}
 use Rattle.repo_api.specs.declared.lock_ask.LockAsk.{LockAsk}
 use Rattle.repo_api.specs.declared.lock_ask.UnlockAsk.{UnlockAsk}
 use Rattle.dates.specs.Dates.{IsDateText}
+use Rattle.commands.specs.declared.command.ChangeRevPropCommand.{ChangeRevPropCommand}
 use Rattle.commands.specs.declared.command.CommitCommand.{CommitCommand}
 use Rattle.commands.specs.declared.command.MainCommand.{MainCommand}
-use Rattle.commands.specs.declared.command.MainCommand.TheVariants.{GetLatestRev, CheckPath, RevProplist, Commit, AbortEdit, Lock, Unlock, GetLock, GetLocks}
+use Rattle.commands.specs.declared.command.MainCommand.TheVariants.{GetLatestRev, CheckPath, RevProplist, Commit, AbortEdit, Lock, Unlock, GetLock, GetLocks, GetFile, GetDir, Stat, GetDatedRev, RevProp, ChangeRevProp, Reparent, Log, GetLocations}
 use Rattle.commands.specs.declared.command.LockCommand.{LockCommand}
 use Rattle.commands.specs.declared.command.UnlockCommand.{UnlockCommand}
 use Rattle.replies.specs.Replies.{uuid_text}
@@ -30,6 +33,8 @@ use Rattle.edit_rules.specs.Refusing.{is_property_name}
 use Rattle.machine.specs.Settings.{Settings}
 use Rattle.machine.specs.Answers.{Verdict, Answer, says, serves, change_answer, ChangeStep}
 use Rattle.machine.specs.Answers.Verdict.{Written, NotWritten, Unknown}
+use Rattle.machine.specs.Histories.{all_joined, log_replies, locations_replies}
+use Rattle.machine.specs.Readings.{place_read, file_replies, directory_reply, stat_reply, dated_reply, property_reply}
 use Rattle.machine.specs.declared.env.Env.{Env}
 use Rattle.machine.specs.declared.asked.Asked.{Asked}
 use Rattle.machine.specs.declared.phase.Phase.TheVariants.{Serving, Editing}
@@ -155,6 +160,34 @@ UnlockStep halted env c client command (Ok path) a =
 UnlockStep halted env c client command (Err fault) a =
     a ≡ serves env client (replies.Failure (path_refusal fault))
 
+-- ---- properties of revisions
+
+-- a property of a revision is changed: the value takes the place of the one before, and without a
+-- value there is none
+abbrev pub RevisingStep : Bool → Env → RepoState → Client → ChangeRevPropCommand → Answer → Type 0
+RevisingStep halted env c client command a =
+    let change = ChangesProperty command.revision command.name command.value in
+    ChangeStep halted env client (property_refusal c command.revision command.name)
+    (change_answer env client change (replies.Success ∷ [])) a
+
+-- where clients may not change them it is refused, whatever else would be said of it
+abbrev pub PropertyStep : Bool → Bool → Env → RepoState → Client → ChangeRevPropCommand → Answer
+    → Type 0
+PropertyStep false halted env c client command a =
+    a ≡ serves env client (replies.Failure refusals.RevisionPropertiesClosed)
+PropertyStep true halted env c client command a = RevisingStep halted env c client command a
+
+-- ---- another URL
+
+-- a client goes on at the path of its new URL; its root stays as it was told
+abbrev pub at_path : Client → PathValue → Client
+at_path client path = record client { path = path }
+
+-- a URL that is refused leaves the client where it is
+abbrev pub reparented : Env → Client → Result PathValue PathFault → Answer
+reparented env client (Ok path) = serves env (at_path client path) replies.Success
+reparented env client (Err fault) = serves env client (replies.Failure (path_refusal fault))
+
 -- ---- a command, and what comes before it
 
 -- what a command is answered, once nothing has to come before
@@ -175,6 +208,23 @@ OwnStep halted s env c client (GetLock path) a =
     a ≡ serves env client (locks_reply (lock_at c) (joined client.path path))
 OwnStep halted s env c client (GetLocks path) a =
     a ≡ serves env client (locks_reply (at_or_under c.locks) (joined client.path path))
+OwnStep halted s env c client (GetFile command) a =
+    a ≡ says env (Serving client)
+    (file_replies c command (place_read c command.revision (joined client.path command.path)))
+OwnStep halted s env c client (GetDir command) a =
+    a ≡ serves env client
+    (directory_reply c command (place_read c command.revision (joined client.path command.path)))
+OwnStep halted s env c client (Stat path revision) a =
+    a ≡ serves env client (stat_reply c (place_read c revision (joined client.path path)))
+OwnStep halted s env c client (GetDatedRev date) a = a ≡ serves env client (dated_reply c date)
+OwnStep halted s env c client (RevProp n name) a = a ≡ serves env client (property_reply c n name)
+OwnStep halted s env c client (ChangeRevProp command) a =
+    PropertyStep s.revprops halted env c client command a
+OwnStep halted s env c client (Reparent url) a = a ≡ reparented env client (path_of_text url s.name)
+OwnStep halted s env c client (Log command) a =
+    a ≡ says env (Serving client) (log_replies c command (all_joined client.path command.paths))
+OwnStep halted s env c client (GetLocations command) a =
+    a ≡ says env (Serving client) (locations_replies c command (joined client.path command.path))
 
 -- what is told before it: a login request, which asks for nothing; an edit that is given up outside
 -- one draws no reply
@@ -188,6 +238,15 @@ login_request (Lock command) = replies.NoLogin ∷ []
 login_request (Unlock command) = replies.NoLogin ∷ []
 login_request (GetLock path) = replies.NoLogin ∷ []
 login_request (GetLocks path) = replies.NoLogin ∷ []
+login_request (GetFile command) = replies.NoLogin ∷ []
+login_request (GetDir command) = replies.NoLogin ∷ []
+login_request (Stat path revision) = replies.NoLogin ∷ []
+login_request (GetDatedRev date) = replies.NoLogin ∷ []
+login_request (RevProp n name) = replies.NoLogin ∷ []
+login_request (ChangeRevProp command) = replies.NoLogin ∷ []
+login_request (Reparent url) = replies.NoLogin ∷ []
+login_request (Log command) = replies.NoLogin ∷ []
+login_request (GetLocations command) = replies.NoLogin ∷ []
 
 -- whether a command writes
 abbrev pub is_write : MainCommand → Bool
@@ -200,3 +259,12 @@ is_write (Lock command) = true
 is_write (Unlock command) = true
 is_write (GetLock path) = false
 is_write (GetLocks path) = false
+is_write (GetFile command) = false
+is_write (GetDir command) = false
+is_write (Stat path revision) = false
+is_write (GetDatedRev date) = false
+is_write (RevProp n name) = false
+is_write (ChangeRevProp command) = true
+is_write (Reparent url) = false
+is_write (Log command) = false
+is_write (GetLocations command) = false

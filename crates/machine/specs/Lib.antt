@@ -2,6 +2,8 @@ pub mod Settings
 pub mod Hearing
 pub mod Stages
 pub mod Answers
+pub mod Readings
+pub mod Histories
 pub mod Commands
 pub mod Logins
 pub mod Machine

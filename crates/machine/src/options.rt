@@ -1,5 +1,5 @@
 //! What a server is started with.
-ghost use Rattle.std.specs.Prelude.{◌≡◌, IsTrue, IfOk, Some, None, false, option_copied, string_bytes};
+ghost use Rattle.std.specs.Prelude.{◌≡◌, IsTrue, IfOk, Some, None, true, false, option_copied, string_bytes};
 ghost use Rattle.std.specs.List.{list_all};
 ghost use Rattle.machine.specs.Settings.{is_repository_name, has_name_length, is_dots, is_name_byte};
 
@@ -11,21 +11,23 @@ use std::mem::drop;
 /// The most bytes of a repository's name.
 pub const NAME_LIMIT: usize = 64;
 
-/// What a server is started with: the repository's name, and the users that may log in, if there is a file of them.
+/// What a server is started with: the repository's name, the users that may log in, if there is a file of them, and
+/// whether clients may change the properties of revisions.
 /// There is no `Debug`, so that nothing of a password is printed.
 #[derive(Drop)]
 pub struct Options {
     name: String,
     users: Option<Users>,
+    revprops: bool,
 }
 
 impl Model for Options {
-    ghost use Rattle.std.specs.Prelude.{false, string_bytes};
+    ghost use Rattle.std.specs.Prelude.{string_bytes};
     ghost use Rattle.machine.specs.Settings.{Settings};
 
     ghost Value = { Settings };
 
-    ghost view = { λ o. record { name = string_bytes o.name; users = o.users; revprops = false } };
+    ghost view = { λ o. record { name = string_bytes o.name; users = o.users; revprops = o.revprops } };
 }
 
 impl Options {
@@ -38,6 +40,7 @@ impl Options {
         Ok(Options {
             name: String::from_str(alloc, name)?,
             users: None,
+            revprops: false,
         })
     }
 
@@ -49,12 +52,37 @@ impl Options {
         let Options {
             name,
             users: before,
+            revprops,
         } = self;
         drop(before);
         Options {
             name,
             users: Some(users),
+            revprops,
         }
+    }
+
+    /// The same, where clients may change the properties of revisions.
+    pub fn with_revprops(self) -> Options
+        ensures { result ≡ record self { revprops = true } }
+    {
+        let Options {
+            name,
+            users,
+            revprops: _,
+        } = self;
+        Options {
+            name,
+            users,
+            revprops: true,
+        }
+    }
+
+    /// Whether clients may change the properties of revisions.
+    pub fn has_revprops(&self) -> bool
+        ensures { result ≡ self.now.revprops }
+    {
+        self.revprops
     }
 
     /// The users that may log in, if there is a file of them.

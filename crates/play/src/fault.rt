@@ -12,12 +12,12 @@ pub enum LineFault {
     /// It is none of the lines of a script.
     #[error("not a line of a script")]
     Unknown,
-    /// It is a call or names users, and no hub was asked for before it.
+    /// It is a call or asks something of a hub, and no hub was asked for before it.
     #[error("no hub yet")]
     NoHub,
-    /// It names users, and a call to the hub was made before it.
-    #[error("users stand before a hub's first call")]
-    LateUsers,
+    /// It asks something of a hub, and a call to the hub was made before it.
+    #[error("what a hub is made with stands before its first call")]
+    TooLate,
     /// It is a hub's first call, and its users file is not read.
     #[error("{0}")]
     BadUsers(CramFault),

@@ -39,6 +39,8 @@ pub enum Line {
     Comment,
     /// A new hub, in place of the one before.
     Hub(NewHub),
+    /// The hub that is asked for lets its clients change the properties of revisions.
+    Revprops,
     /// A users file for the hub that is asked for, so far without users.
     Users,
     /// One more user in the file.
@@ -69,6 +71,7 @@ impl Line {
     fn from_words(alloc: Global, words: &[&str]) -> Result<Line, LineFault> {
         match *words {
             ["hub", name, uuid, moment] => Ok(Line::Hub(parse_hub(alloc, name, uuid, moment)?)),
+            ["revprops"] => Ok(Line::Revprops),
             ["users"] => Ok(Line::Users),
             ["user", name, password] => Ok(Line::User(NewUser {
                 name: String::from_str(alloc, name)?,

@@ -2,6 +2,7 @@
 //!
 //!     # any text                             nothing
 //!     hub NAME UUID MOMENT                   a new hub, in place of the one before, over an empty repository
+//!     revprops                               clients of it may change the properties of revisions
 //!     users                                  a users file for it, so far without users
 //!     user NAME PASSWORD                     one more user in its users file, the password in HEX
 //!     connect                                a new session: `connect ID HEX`, HEX the greeting
@@ -13,9 +14,10 @@
 //! by its fault in place of HEX: `H1` for a session that isn't open, `H2` for want of memory, `H3` for a hub
 //! that has halted, `H4` for one that is full.
 //!
-//! The lines of users stand behind the hub's and before its first call, at which the hub is made. A users file
-//! of them all is read then: the line `[users]`, and `NAME = PASSWORD` for each user, in order; so there is one
-//! also without a `users` line where a user is named. A hub without such lines has no users file. A users file
+//! What a hub is made with, `revprops` and the lines of users, stands behind the hub's line and
+//! before its first call, at which the hub is made. A users file of all users is read then: the
+//! line `[users]`, and `NAME = PASSWORD` for each user, in order; so there is one also without a
+//! `users` line where a user is named. A hub without such lines has no users file. A users file
 //! that is not read, a line in another place and any other line end the program with status 2.
 #![tactic(auto)]
 

@@ -26,17 +26,28 @@ fn make_hub(alloc: Global, asked: NewHub) -> Result<MemoryHub, LineFault>
     }
 }
 
-/// A hub that is asked for, and the bytes of its users file, if it has one.
+/// A hub that is asked for, the bytes of its users file, if it has one, and whether its clients may
+/// change the properties of revisions.
 #[derive(Drop)]
 pub struct Plan {
     hub: NewHub,
     users: Option<Vec<u8>>,
+    revprops: bool,
 }
 
 impl Plan {
-    /// A hub without a users file.
+    /// A hub without a users file, whose clients may not change the properties of revisions.
     pub fn new(hub: NewHub) -> Self {
-        Plan { hub, users: None }
+        Plan {
+            hub,
+            users: None,
+            revprops: false,
+        }
+    }
+
+    /// Lets its clients change the properties of revisions.
+    pub fn open_revprops(&mut self) {
+        self.revprops = true;
     }
 
     /// A users file without users, in place of the one before.
@@ -61,10 +72,17 @@ impl Plan {
 
     /// The hub.
     pub fn into_hub(self, alloc: Global) -> Result<MemoryHub, LineFault> {
-        let Plan { mut hub, users } = self;
+        let Plan {
+            mut hub,
+            users,
+            revprops,
+        } = self;
         if let Some(users) = users {
             let users = Users::read(alloc, &users)?;
             hub.options = hub.options.with_users(users);
+        }
+        if revprops {
+            hub.options = hub.options.with_revprops();
         }
         make_hub(alloc, hub)
     }

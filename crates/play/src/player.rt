@@ -58,6 +58,10 @@ impl Player {
                 self.stage = Stage::Asked(Plan::new(asked));
                 Ok(None)
             }
+            Line::Revprops => {
+                self.plan()?.open_revprops();
+                Ok(None)
+            }
             Line::Users => {
                 let alloc = self.alloc;
                 self.plan()?.begin_users(alloc)?;
@@ -101,7 +105,7 @@ impl Player {
         match &mut self.stage {
             Stage::Asked(plan) => Ok(plan),
             Stage::Beginning => Err(LineFault::NoHub),
-            Stage::Calling(_) => Err(LineFault::LateUsers),
+            Stage::Calling(_) => Err(LineFault::TooLate),
         }
     }
 

@@ -4,7 +4,7 @@ use Rattle.std.proofs.Common.{◌≡◌, ℕ, List, ◌++◌, ◌∙◌, ap, sym
 use Rattle.std.specs.Fmt.{digits}
 use Rattle.items.specs.Print.{printed}
 use Rattle.replies.specs.Replies.{reply_item}
-use Rattle.replies.specs.declared.reply.Reply.TheVariants.{Greeting, NoLogin, MechanismNotOffered, LoginFailed}
+use Rattle.replies.specs.declared.reply.Reply.TheVariants.{Greeting, NoLogin, MechanismNotOffered, LoginFailed, Done}
 
 pub printed-greeting : printed (reply_item Greeting) ≡ codes "( success ( 2 2 ( ) ( edit-pipeline absent-entries commit-revprops ) ) ) "
 unfolding digits
@@ -21,6 +21,9 @@ printed-not_offered = refl
 pub printed-login_failed : printed (reply_item LoginFailed) ≡ codes "( failure ( 12:login failed ) ) "
 unfolding digits
 printed-login_failed = refl
+
+pub printed-done : printed (reply_item Done) ≡ codes "done "
+printed-done = refl
 
 -- what is wanted is what was appended
 pub appended : {T E : Type 0} (r : Result T E) (old new text wanted : List ℕ) → new ≡ (if is_ok r then old ++ text else old) → wanted ≡ text → OnOk r (new ≡ old ++ wanted)

@@ -1,5 +1,10 @@
 pub mod Constants
-pub mod Properties
+pub mod PropertyRows
 pub mod LockRows
+pub mod EntryRows
+pub mod ChangeRows
 pub mod Made
 pub mod Parts
+pub mod Telling
+pub mod Whole
+pub mod Rows

@@ -3,11 +3,14 @@ ghost use Rattle.std.specs.Prelude.{◌≡◌, ◌++◌, ◌∷◌, [], IfOk, Is
 ghost use Rattle.items.specs.View.{value_of, values_of};
 ghost use Rattle.items.specs.Values.{word, number, string, list};
 ghost use Rattle.items.specs.Word.{IsWord};
-ghost use Rattle.replies.specs.Replies.{optional_string_trees};
+ghost use Rattle.svnpath.specs.Texts.{path_text};
+ghost use Rattle.replies.specs.Replies.{boolean_name, kind_word, optional_string_trees, success};
 
 use byte_string::ByteString;
 use items::{Item, Name};
+use repo_api::NodeKind;
 use std::alloc::{AllocError, Global};
+use svnpath::Path;
 
 /// A word. The bytes are a letter, then letters, digits and dashes.
 pub fn word_item(alloc: Global, bytes: &[u8]) -> Result<Item, AllocError>
@@ -58,4 +61,44 @@ pub fn with_made(items: Vec<Item>, made: Result<Item, AllocError>) -> Result<Vec
     let mut items = items;
     items.push(made?).map_err(AllocError::from)?;
     Ok(items)
+}
+
+/// `( success ( params ) )`
+pub fn success_row(alloc: Global, params: Vec<Item>) -> Result<Item, AllocError>
+    ensures { IfOk result (λ item. value_of item ≡ success (values_of params.items)) }
+{
+    let word = word_item(alloc, b"success")?;
+    list_item(alloc, [word, Item::List(params)])
+}
+
+/// The word `true` or `false`.
+pub fn boolean_item(alloc: Global, value: bool) -> Result<Item, AllocError>
+    ensures { IfOk result (λ item. value_of item ≡ word (boolean_name value)) }
+{
+    if value {
+        word_item(alloc, b"true")
+    } else {
+        word_item(alloc, b"false")
+    }
+}
+
+/// The name of a kind.
+pub fn kind_name(kind: NodeKind) -> &'static [u8]
+    ensures value { result.now ≡ kind_word kind }
+    ensures is_word { IsWord (kind_word kind) }
+{
+    match kind {
+        NodeKind::Absent => b"none",
+        NodeKind::File => b"file",
+        NodeKind::Directory => b"dir",
+    }
+}
+
+/// The text of a path, as a string.
+pub fn path_item(alloc: Global, path: &Path) -> Result<Item, AllocError>
+    ensures { IfOk result (λ item. value_of item ≡ string (path_text path.now)) }
+{
+    let mut text = Vec::new(alloc);
+    path.append_text(&mut text)?;
+    Ok(Item::Str(ByteString::new(text)))
 }

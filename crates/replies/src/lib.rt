@@ -2,10 +2,19 @@
 #![tactic(auto)]
 
 mod build;
+mod contents;
+mod entries;
+mod histories;
+mod laws;
 mod locks;
+mod properties;
 mod reply;
 mod sink;
 
+pub use contents::{PIECE, TextPiece, say_contents};
+pub use entries::{DirectoryInfo, EntryList, FileInfo, NodeInfo};
+pub use histories::{ChangeList, LogEntry, LoggedChange};
+pub use laws::pieces_make_the_text;
 pub use locks::LockList;
 pub use reply::{Offer, Reply};
 pub use sink::{MemorySink, ReplySink};

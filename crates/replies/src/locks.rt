@@ -2,11 +2,10 @@
 ghost use Rattle.std.specs.Prelude.{◌≡◌, ◌++◌, ◌∷◌, [], IfOk, OnOk, OnErr, map};
 ghost use Rattle.std.specs.Map.Iter.{deref_pair};
 ghost use Rattle.items.specs.View.{value_of};
-ghost use Rattle.items.specs.Values.{string, list};
-ghost use Rattle.svnpath.specs.Texts.{path_text};
+ghost use Rattle.items.specs.Values.{list};
 ghost use Rattle.replies.specs.Replies.{lock_tree, lock_trees};
 
-use crate::build::{list_item, optional_string_item, string_item, with_made};
+use crate::build::{list_item, optional_string_item, path_item, string_item, with_made};
 use byte_string::ByteString;
 use items::Item;
 use repo_api::Lock;
@@ -90,12 +89,4 @@ pub(crate) fn lock_item(alloc: Global, path: &Path, lock: &Lock) -> Result<Item,
     let items = with_made(items, string_item(alloc, lock.created.as_slice()))?;
     let items = with_made(items, list_item(alloc, []))?;
     Ok(Item::List(items))
-}
-
-fn path_item(alloc: Global, path: &Path) -> Result<Item, AllocError>
-    ensures { IfOk result (λ item. value_of item ≡ string (path_text path.now)) }
-{
-    let mut text = Vec::new(alloc);
-    path.append_text(&mut text)?;
-    Ok(Item::Str(ByteString::new(text)))
 }

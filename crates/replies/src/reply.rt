@@ -3,10 +3,16 @@ ghost use Rattle.std.specs.Prelude.{◌≡◌, ◌++◌, IfOk, IsOkAnd, OnOk, On
 ghost use Rattle.items.specs.View.{value_of, values_of};
 ghost use Rattle.items.specs.Values.{word, string, list, none, more};
 ghost use Rattle.items.specs.Print.{printed, Grows};
-ghost use Rattle.replies.specs.Replies.{reply_item, success, failure, only, both, mechanism_trees, property_trees, capabilities, uuid_text, commit_info, lock_tree, lock_trees, release_fault};
+ghost use Rattle.replies.specs.Replies.{reply_item, success, failure, only, both, mechanism_trees, capabilities, uuid_text, commit_info, lock_tree, lock_trees, release_fault};
 
 use crate::build::{list_item, number_item, optional_string_item, string_item, word_item};
+use crate::contents::TextPiece;
+use crate::entries::{
+    DirectoryInfo, FileInfo, NodeInfo, directory_info_item, file_info_item, stat_item,
+};
+use crate::histories::{LogEntry, location_item, log_entry_item};
 use crate::locks::{LockList, lock_item, locks_item};
+use crate::properties::properties_item;
 use byte_string::ByteString;
 use items::{Item, write_item};
 use refusals::Refusal;
@@ -58,6 +64,22 @@ pub enum Reply {
     /// The number of the revision that a commit has made, its date, its author if it has one, and
     /// whether the release of its locks has failed.
     CommitInfo(u64, ByteString, Option<ByteString>, bool),
+    /// A file without its text.
+    FileInfo(FileInfo),
+    /// A piece of a file's text, or the empty string that ends it.
+    Piece(TextPiece),
+    /// A directory with its entries.
+    DirectoryInfo(DirectoryInfo),
+    /// What is known of what stands at a path, if anything does.
+    Stat(Option<NodeInfo>),
+    /// The value of a property of a revision, if it has one.
+    RevisionProperty(Option<ByteString>),
+    /// A revision of a log.
+    LogEntry(LogEntry),
+    /// Where something was in a revision.
+    Location(u64, Path),
+    /// No further revision of a log comes, or no further location.
+    Done,
     /// The command is refused.
     Failure(Refusal),
 }
@@ -102,6 +124,20 @@ impl Reply {
                 commit_info_item(alloc, *revision, date.as_slice(), author, *release_fails),
                 out,
             ),
+            Reply::FileInfo(info) => write_made(file_info_item(alloc, info), out),
+            Reply::Piece(piece) => write_string(piece.as_slice(), out),
+            Reply::DirectoryInfo(info) => write_made(directory_info_item(alloc, info), out),
+            Reply::Stat(node) => write_made(success_of(alloc, stat_item(alloc, node)), out),
+            Reply::RevisionProperty(value) => write_made(
+                success_of(alloc, optional_string_item(alloc, value)),
+                out,
+            ),
+            Reply::LogEntry(entry) => write_made(log_entry_item(alloc, entry), out),
+            Reply::Location(revision, path) => write_made(
+                location_item(alloc, *revision, path),
+                out,
+            ),
+            Reply::Done => out.extend_from_slice(b"done "),
             Reply::Failure(refusal) => write_made(refusal_item(alloc, *refusal), out),
         }
     }
@@ -140,6 +176,31 @@ fn append_revision(n: u64, out: &mut Vec<u8>) -> Result<(), AllocError>
     out.extend_from_slice(b"( success ( ")?;
     out.extend_from_slice(buffer.format(n).as_bytes())?;
     out.extend_from_slice(b" ) ) ")
+}
+
+/// Writes a string at the end. An `Err` changes nothing.
+fn write_string(text: &[u8], out: &mut Vec<u8>) -> Result<(), AllocError>
+    ensures ok { OnOk result (out.new.items ≡ out.old.items ++ printed (string text.now)) }
+    ensures err { OnErr result (out.new.items ≡ out.old.items) }
+{
+    let len = out.len();
+    let written = append_string(text, out);
+    if written.is_err() {
+        out.truncate(len);
+    }
+    written
+}
+
+// An `Err` leaves a part of the bytes behind the old ones.
+fn append_string(text: &[u8], out: &mut Vec<u8>) -> Result<(), AllocError>
+    ensures ok { OnOk result (out.new.items ≡ out.old.items ++ printed (string text.now)) }
+    ensures grows { Grows out.old.items out.new.items }
+{
+    let mut buffer = itoa::Buffer::new();
+    out.extend_from_slice(buffer.format(text.len() as u64).as_bytes())?;
+    out.extend_from_slice(b":")?;
+    out.extend_from_slice(text)?;
+    out.extend_from_slice(b" ")
 }
 
 /// Writes what stands at a path at the end. An `Err` changes nothing.
@@ -233,20 +294,6 @@ fn uuid_item(alloc: Global, uuid: u128) -> Result<Item, AllocError>
     let mut buffer = Uuid::encode_buffer();
     let text = Uuid::from_u128(uuid).hyphenated().encode_lower(&mut buffer);
     string_item(alloc, text.as_bytes())
-}
-
-/// `( ( name value ) ... )`
-fn properties_item(alloc: Global, properties: &Properties) -> Result<Item, AllocError>
-    ensures { IfOk result (λ item. value_of item ≡ list (property_trees properties.now)) }
-{
-    let mut items = Vec::new(alloc);
-    for (name, value) in properties.iter() {
-        let name = string_item(alloc, name.as_slice())?;
-        let value = string_item(alloc, value.as_slice())?;
-        let item = list_item(alloc, [name, value])?;
-        items.push(item).map_err(AllocError::from)?;
-    }
-    Ok(Item::List(items))
 }
 
 /// `( rev [ date ] [ author ] [ post-commit-err ] )`

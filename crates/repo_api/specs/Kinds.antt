@@ -57,9 +57,21 @@ abbrev pub text_of : Option Entry → Option (List ℕ)
 text_of None = None
 text_of (Some e) = content_text e.content
 
+-- the text of the file at a path of a revision
+abbrev pub text_at : RepoState → ℕ → PathValue → Option (List ℕ)
+text_at c n p = text_of (get (tree_at c n) p)
+
 -- the text of the file at a path of a transaction
 abbrev pub text_in : TxnState → PathValue → Option (List ℕ)
 text_in t p = text_of (get t.tree p)
+
+abbrev pub node_properties : Option Entry → Option PropertyList
+node_properties None = None
+node_properties (Some e) = Some e.properties
+
+-- the properties of what stands at a path of a revision
+abbrev pub node_properties_at : RepoState → ℕ → PathValue → Option PropertyList
+node_properties_at c n p = node_properties (get (tree_at c n) p)
 
 abbrev pub or_empty : Option PropertyList → PropertyList
 or_empty None = []

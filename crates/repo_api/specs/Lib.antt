@@ -10,11 +10,14 @@ pub mod MergedMaps
 pub mod MergeLaws
 pub mod Locking
 pub mod Commits
+pub mod RevisionProperties
 pub mod Marks
 pub mod Transactions
 pub mod Accepted
 pub mod LockRuns
 pub mod Kinds
+pub mod Histories
+pub mod Readings
 pub mod Opening
 pub mod StateLaws
 pub mod EditLaws

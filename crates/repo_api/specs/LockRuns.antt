@@ -1,32 +1,41 @@
 -- Locks through accepted changes, one after another.
-use Rattle.std.specs.Prelude.{◌≡◌, ◌≢◌, ℕ, Bool, true, false, List, [], ◌∷◌, Some}
+use Rattle.std.specs.Prelude.{◌≡◌, ◌≢◌, ℕ, Bool, true, false, List, [], ◌∷◌, Some, slice_get}
 use Rattle.std.specs.FinMap.{get}
 use Rattle.std.specs.List.{list_any}
 use Rattle.svnpath.specs.Paths.{PathValue, same_path}
 use Rattle.repo_api.specs.Accepted.{Accepted, changed}
-use Rattle.repo_api.specs.Accepted.Accepted.{Commits, Locks, Unlocks, Releases}
+use Rattle.repo_api.specs.Accepted.Accepted.{Commits, Locks, Unlocks, Releases, ChangesProperty}
 use Rattle.repo_api.specs.States.{RepoState, LockMap}
 use Rattle.repo_api.specs.declared.lock.Lock.{Lock}
 
--- the change is of locks, and no commit
+-- the change is of locks
 abbrev pub is_of_locks : Accepted → Bool
 is_of_locks (Commits ask t) = false
 is_of_locks (Locks ask) = true
 is_of_locks (Unlocks ask) = true
 is_of_locks (Releases user tokens) = true
+is_of_locks (ChangesProperty n name value) = false
 
--- the change is of a lock at the path: no commit is
+-- the change is of a lock at the path: no commit is, and no change of a property
 abbrev pub names_lock : Accepted → PathValue → Bool
 names_lock (Commits ask t) p = false
 names_lock (Locks ask) p = same_path ask.path p
 names_lock (Unlocks ask) p = same_path ask.path p
 names_lock (Releases user tokens) p = list_any (λ t. same_path t.0 p) tokens
+names_lock (ChangesProperty n name value) p = false
 
 -- all but the locks is the same
 pub record HasSameRevisions (old new : RepoState) : Type 0 where
   pub uuid : new.uuid ≡ old.uuid
   pub revisions : new.revisions ≡ old.revisions
   pub properties : new.properties ≡ old.properties
+
+-- all but the properties of one revision is the same
+pub record HasSameOtherwise (n : ℕ) (old new : RepoState) : Type 0 where
+  pub uuid : new.uuid ≡ old.uuid
+  pub revisions : new.revisions ≡ old.revisions
+  pub properties : (m : ℕ) → m ≢ n → slice_get new.properties m ≡ slice_get old.properties m
+  pub locks : new.locks ≡ old.locks
 
 -- locks of one token are at one path
 abbrev pub HaveOwnTokens : LockMap → Type 0
@@ -47,3 +56,5 @@ HaveNewTokens c (Locks ask ∷ es) =
 HaveNewTokens c (Unlocks ask ∷ es) = HaveNewTokens (changed c (Unlocks ask)) es
 HaveNewTokens c (Releases user tokens ∷ es) =
     HaveNewTokens (changed c (Releases user tokens)) es
+HaveNewTokens c (ChangesProperty n name value ∷ es) =
+    HaveNewTokens (changed c (ChangesProperty n name value)) es

@@ -1,12 +1,13 @@
 //! What holds of trees. The functions do nothing: their contracts are the laws.
-ghost use Rattle.std.specs.Prelude.{◌≡◌, ℕ, true, List, ◌++◌, ◌∷◌, [], Some, None, option_map};
+ghost use Rattle.std.specs.Prelude.{◌≡◌, ℕ, true, List, ◌++◌, ◌∷◌, [], Option, Some, None, option_map};
 ghost use Rattle.svnpath.specs.Paths.{PathValue, Component};
 ghost use Rattle.repo_api.specs.Trees.{Tree, IsTree, HasDirectory, HasFile};
 ghost use Rattle.repo_api.specs.Edits.{edited, begun};
 ghost use Rattle.repo_api.specs.States.{ChangeMap, Revision, RepoState, TxnState, IsBeginning, IsBegun, IsEdited, tree_of, tree_at, trees_in, youngest};
 ghost use Rattle.repo_api.specs.Commits.{commit_refusal, next_tree, committed};
 ghost use Rattle.repo_api.specs.Accepted.{Accepted, changed};
-ghost use Rattle.repo_api.specs.LockRuns.{is_of_locks, HasSameRevisions};
+ghost use Rattle.repo_api.specs.Accepted.Accepted.{ChangesProperty};
+ghost use Rattle.repo_api.specs.LockRuns.{is_of_locks, HasSameRevisions, HasSameOtherwise};
 ghost use Rattle.repo_api.specs.Transactions.{IsMarkedTxn};
 ghost use Rattle.repo_api.specs.declared.ask.CommitAsk.{CommitAsk};
 ghost use Rattle.std.specs.FinMap.{get};
@@ -175,4 +176,11 @@ pub fn commits_keep_both_sides()
 pub fn changes_of_locks_keep_revisions()
     ensures { (c : RepoState) (e : Accepted) → is_of_locks e ≡ true
         → HasSameRevisions c (changed c e) }
+{}
+
+/// A change of a property of a revision changes the properties of that revision alone: no tree, no
+/// list of changes, no property of another revision, no lock, and not the repository's name.
+pub fn changes_of_properties_keep_revisions()
+    ensures { (c : RepoState) (n : ℕ) (name : List ℕ) (value : Option (List ℕ))
+        → HasSameOtherwise n c (changed c (ChangesProperty n name value)) }
 {}

@@ -1,15 +1,19 @@
 //! A repository, by what it contains.
-ghost use Rattle.std.specs.Prelude.{◌≡◌, ◌<◌, length, map, IfOk, OnOk, OnErr, None, Some, option_copied, slice_get};
+ghost use Rattle.std.specs.Prelude.{◌≡◌, ◌≤◌, ◌<◌, length, map, IfOk, OnOk, OnErr, None, Some, option_copied, slice_get};
 ghost use Rattle.std.specs.FinMap.{get};
-ghost use Rattle.std.specs.Map.Iter.{deref_pair};
+ghost use Rattle.std.specs.Map.Iter.{deref, deref_pair};
 ghost use Rattle.repo_api.specs.States.{RepoState, TxnState, IsBeginning, IsBegun, IsEdited, tree_of, trees_in, youngest};
+ghost use Rattle.repo_api.specs.RevisionProperties.{property_refusal, with_changed_property};
 ghost use Rattle.repo_api.specs.RightEdits.{IsRightEdit};
 ghost use Rattle.repo_api.specs.Commits.{commit_refusal, committed};
 ghost use Rattle.repo_api.specs.Accepted.{IfRefused, IsOfMemory};
 ghost use Rattle.repo_api.specs.Locking.{at_or_under, lock_refusal, locked, unlock_refusal, unlocked, releases, without_released};
-ghost use Rattle.repo_api.specs.Kinds.{kind_at, has_deeper_at, kind_in, created_in, text_in};
+ghost use Rattle.repo_api.specs.Histories.{history_of, IsQuietSince};
+ghost use Rattle.repo_api.specs.Kinds.{kind_at, has_deeper_at, created_at, node_properties_at, text_at, kind_in, created_in, text_in};
+ghost use Rattle.repo_api.specs.Readings.{names_at};
 
 use crate::ask::CommitAsk;
+use crate::change::Change;
 use crate::edit::EditOp;
 use crate::entry::NodeKind;
 use crate::fault::ChangeFault;
@@ -52,6 +56,36 @@ pub trait Repository: Drop {
     /// Whether something stands more than so many names beneath a path of a revision.
     fn has_deeper(&self, revision: u64, path: &Path, names: usize) -> bool
         ensures { result ≡ has_deeper_at (content self.now) revision path.now names };
+
+    /// The revision that last changed what stands at a path of a revision, at or under it.
+    fn created(&self, revision: u64, path: &Path) -> Option<u64>
+        ensures { result ≡ created_at (content self.now) revision path.now };
+
+    /// The properties of what stands at a path of a revision, `None` where nothing stands.
+    fn properties(&self, revision: u64, path: &Path) -> Option<&Properties>
+        ensures { option_copied result ≡ node_properties_at (content self.now) revision path.now };
+
+    /// The text of the file at a path of a revision, `None` where no file stands.
+    fn text(&self, revision: u64, path: &Path) -> Option<&FileText>
+        ensures { option_copied result ≡ text_at (content self.now) revision path.now };
+
+    /// The names of what stands straight beneath a path of a revision, by their bytes.
+    fn names(&self, revision: u64, path: &Path) -> Result<Vec<&ByteString>, AllocError>
+        ensures { IfOk result (λ names. map deref names.items
+            ≡ names_at (content self.now) revision path.now) };
+
+    /// The changes of a revision in the order of their paths, none for a number that is no revision.
+    fn changes(&self, revision: u64) -> &[(Path, Change)]
+        ensures { result.now ≡ history_of (content self.now) revision };
+
+    /// A revision, at most this one, after which and up to this one nothing was changed at, under or
+    /// above the path. The less it is, the fewer revisions are gone through.
+    fn settled(&self, revision: u64, path: &Path) -> u64
+        ensures within { result ≤ revision }
+        ensures quiet { IsQuietSince (history_of (content self.now)) path.now result revision }
+    {
+        revision
+    }
 
     /// The properties of a revision, none for a number that is no revision.
     fn revision_properties(&self, revision: u64) -> Option<&Properties>
@@ -127,6 +161,22 @@ pub trait Repository: Drop {
         ensures accepted { OnOk result (unlock_refusal (content self.old) ask.now ≡ None) }
         ensures ok { OnOk result (content self.new ≡ unlocked (content self.old) ask.now) }
         ensures refused { IfRefused result (λ r. unlock_refusal (content self.old) ask.now
+            ≡ Some r) }
+        ensures memory { IsOfMemory result }
+        ensures err { OnErr result (content self.new ≡ content self.old) };
+
+    /// Makes this the value of a property of a revision, or takes the property out where there is no
+    /// value.
+    fn change_property(
+        &mut self,
+        revision: u64,
+        name: ByteString,
+        value: Option<ByteString>,
+    ) -> Result<(), ChangeFault>
+        ensures accepted { OnOk result (property_refusal (content self.old) revision name ≡ None) }
+        ensures ok { OnOk result (content self.new
+            ≡ with_changed_property (content self.old) revision name value) }
+        ensures refused { IfRefused result (λ r. property_refusal (content self.old) revision name
             ≡ Some r) }
         ensures memory { IsOfMemory result }
         ensures err { OnErr result (content self.new ≡ content self.old) };

@@ -47,19 +47,33 @@ fn order(rt: &HostRuntime) -> Result<Option<Order>, ProgramFault> {
     }
 }
 
-/// A hub over an empty repository in memory of this name.
-fn empty_hub(alloc: Global, name: &str) -> Result<Hub<SoleRepository<FlatRepo>>, ProgramFault> {
+/// The options of a repository of this name, whose clients may change the properties of revisions
+/// or not.
+fn options(alloc: Global, name: &str, revprops: bool) -> Result<Options, ProgramFault> {
     if !is_repository_name(name) {
         return Err(ProgramFault::Name);
     }
     let options = Options::new(alloc, name)?;
+    Ok(if revprops {
+        options.with_revprops()
+    } else {
+        options
+    })
+}
+
+/// A hub over an empty repository in memory.
+fn empty_hub(
+    alloc: Global,
+    options: Options,
+) -> Result<Hub<SoleRepository<FlatRepo>>, ProgramFault> {
     let repository = FlatRepo::new(alloc, EMPTY_UUID, 0)?;
     Ok(Hub::over_new(alloc, repository, options)?)
 }
 
 /// Serves one session over the standard streams, on an empty repository in memory.
-fn serve_stdio(rt: &HostRuntime, name: &str) -> Result<(), ProgramFault> {
-    let mut hub = empty_hub(rt.alloc(), name)?;
+fn serve_stdio(rt: &HostRuntime, name: &str, revprops: bool) -> Result<(), ProgramFault> {
+    let options = options(rt.alloc(), name, revprops)?;
+    let mut hub = empty_hub(rt.alloc(), options)?;
     let mut envs = SystemEnvs::new(rt)?;
     run_stdio(&mut hub, &mut rt.stdin(), &mut rt.stdout(), &mut envs)?;
     Ok(())
@@ -68,7 +82,7 @@ fn serve_stdio(rt: &HostRuntime, name: &str) -> Result<(), ProgramFault> {
 /// Does what the command line asks for.
 fn run(rt: &HostRuntime) -> Result<(), ProgramFault> {
     match order(rt)? {
-        Some(Order::Stdio { name }) => serve_stdio(rt, name.as_str()),
+        Some(Order::Stdio { name, revprops }) => serve_stdio(rt, name.as_str(), revprops),
         None => Ok(()),
     }
 }

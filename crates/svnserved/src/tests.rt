@@ -17,6 +17,17 @@ const OUTPUT: &[u8] = b"( success ( 2 2 ( ) ( edit-pipeline absent-entries commi
       ( success ( ( ) 0: ) ) ( success ( 0 ) ) ( success ( ( ) 0: ) ) ( success ( none ) ) \
       ( success ( ( ) 0: ) ) ( success ( ( ( 8:svn:date 27:1970-01-01T00:00:00.000000Z ) ) ) ) ";
 
+/// A client that changes the date of revision 0.
+const CHANGE: &[u8] = b"( 2 ( edit-pipeline ) 9:svn://h/r ) ( ANONYMOUS ( 0: ) ) \
+      ( change-rev-prop ( 0 8:svn:date 3:now ) ) ";
+
+/// What the change draws where clients may not change the properties of revisions.
+const CLOSED: &[u8] =
+    b"( success ( ( ) 0: ) ) ( failure ( ( 165006 30:revision properties are closed 0: 0 ) ) ) ";
+
+/// What it draws where they may.
+const CHANGED: &[u8] = b"( success ( ( ) 0: ) ) ( success ( ) ) ";
+
 /// A client's beginning, up to the first byte of a command.
 const BEGINNING: &[u8] = b"( 2 ( edit-pipeline ) 15:svn://h/r/trunk ) ( ANONYMOUS ( 0: ) ) (";
 
@@ -103,9 +114,14 @@ fn drip(bytes: &'static [u8], fails: bool) -> Dripping {
     }
 }
 
+/// A hub of the repository `r`, where clients may change the properties of revisions or not.
+fn hub_of_r(alloc: Global, revprops: bool) -> Result<Hub<SoleRepository<FlatRepo>>, ProgramFault> {
+    empty_hub(alloc, options(alloc, "r", revprops)?)
+}
+
 #[test]
 fn answers_byte_by_byte(rt: HostRuntime) -> Result<(), Fail> {
-    let mut hub = empty_hub(rt.alloc(), "r")?;
+    let mut hub = hub_of_r(rt.alloc(), false)?;
     let mut output = Vec::new(rt.alloc());
     run_stdio(&mut hub, &mut drip(INPUT, false), &mut output, &mut Still)?;
     assert_eq!(rt; output.as_slice(), OUTPUT);
@@ -114,7 +130,7 @@ fn answers_byte_by_byte(rt: HostRuntime) -> Result<(), Fail> {
 
 /// What is written where the reader fails behind these bytes, if it is told so.
 fn written_before(alloc: Global, bytes: &'static [u8]) -> Result<Option<Vec<u8>>, Fail> {
-    let mut hub = empty_hub(alloc, "r")?;
+    let mut hub = hub_of_r(alloc, false)?;
     let mut output = Vec::new(alloc);
     match run_stdio(&mut hub, &mut drip(bytes, true), &mut output, &mut Still) {
         Err(ServeFault::Read(_)) => Ok(Some(output)),
@@ -143,9 +159,28 @@ fn answers_what_was_read_before_the_reader_fails(rt: HostRuntime) -> Result<(), 
 
 #[test]
 fn stops_where_the_writer_fails(rt: HostRuntime) -> Result<(), Fail> {
-    let mut hub = empty_hub(rt.alloc(), "r")?;
+    let mut hub = hub_of_r(rt.alloc(), false)?;
     let mut output = Closing { is_greeted: false };
     let ended = run_stdio(&mut hub, &mut drip(INPUT, false), &mut output, &mut Still);
     assert!(rt; matches!(ended, Err(ServeFault::Write(_))));
+    Ok(())
+}
+
+/// What a client is told that changes the date of revision 0.
+fn told_of_a_change(alloc: Global, revprops: bool) -> Result<Vec<u8>, Fail> {
+    let mut hub = hub_of_r(alloc, revprops)?;
+    let mut output = Vec::new(alloc);
+    run_stdio(&mut hub, &mut drip(CHANGE, false), &mut output, &mut Still)?;
+    Ok(output)
+}
+
+#[test]
+fn lets_clients_change_properties_of_revisions_where_asked_to(rt: HostRuntime) -> Result<(), Fail> {
+    let closed = told_of_a_change(rt.alloc(), false)?;
+    assert!(rt; closed.as_slice().starts_with(ANSWERS));
+    assert!(rt; closed.as_slice().ends_with(CLOSED));
+    let changed = told_of_a_change(rt.alloc(), true)?;
+    assert!(rt; changed.as_slice().starts_with(ANSWERS));
+    assert!(rt; changed.as_slice().ends_with(CHANGED));
     Ok(())
 }

@@ -1,13 +1,16 @@
-use Rattle.std.proofs.Common.{[], refl}
+use Rattle.std.proofs.Common.{[], refl, sym, ◌∙◌}
 use Rattle.svnpath.specs.Texts.{joined}
+use Rattle.svnpath.specs.Urls.{path_of_text}
+use Rattle.refusals.specs.declared.Refusal.TheVariants as refusals
 use Rattle.repo_api.specs.States.{youngest}
 use Rattle.repo_api.specs.Locking.{at_or_under}
 use Rattle.replies.specs.declared.reply.Reply.TheVariants as replies
 use Rattle.access.specs.Points.{content_of}
-use Rattle.machine.specs.Answers.{says}
-use Rattle.machine.specs.Commands.{check_path_reply, rev_proplist_reply, lock_at, locks_reply, lock_tokens, asked_by, commit_begins}
+use Rattle.machine.specs.Answers.{says, serves}
+use Rattle.machine.specs.Commands.{check_path_reply, rev_proplist_reply, lock_at, locks_reply, lock_tokens, asked_by, commit_begins, reparented}
+use Rattle.machine.specs.Readings.{place_read, file_replies, directory_reply, stat_reply, dated_reply, property_reply}
 use Rattle.machine.specs.declared.phase.Phase.TheVariants.{Serving}
-use Rattle.answering.proofs.Answered.{begins, answered, replied}
+use Rattle.answering.proofs.Answered.{begins, moves, answered, replied, replied_all}
 use Rattle.telling.specs.Telling.{told_before}
 use Rattle.answering.proofs.own.own_answer.Goals as goal
 
@@ -67,3 +70,66 @@ returns-in-GetLocks g c =
     rw c.in-GetLocks.is
     (replied _ _ (told_before c.args.request.preface) c.locks_reply-reply.ensures.later c.args.turn.now.env c.args.client (locks_reply (at_or_under now.locks) (joined c.args.client.path c.in-GetLocks.path)) refl
     _ c.locks_reply-reply.result c.tell-in-GetLocks.result _ c.locks_reply-reply.ensures.ok c.tell-in-GetLocks.ensures)
+
+pub returns-in-GetFile : goal.returns-in-GetFile
+returns-in-GetFile g c =
+    let now = content_of (g.A.RepoAccess.point c.file_answer-answer.new.access) in
+    let command = c.in-GetFile.command in
+    let told = file_replies now command (place_read now command.revision (joined c.args.client.path command.path)) in
+    rw c.in-GetFile.is
+    (replied_all _ _ (told_before c.args.request.preface) c.file_answer-answer.ensures.later c.args.turn.now.env c.args.client told refl
+    _ c.file_answer-answer.result c.tell_file.result _ c.file_answer-answer.ensures.ok c.tell_file.ensures)
+
+pub returns-in-GetDir : goal.returns-in-GetDir
+returns-in-GetDir g c =
+    let now = content_of (g.A.RepoAccess.point c.directory_reply-reply.new.access) in
+    let command = c.in-GetDir.command in
+    let reply = directory_reply now command (place_read now command.revision (joined c.args.client.path command.path)) in
+    rw c.in-GetDir.is
+    (replied _ _ (told_before c.args.request.preface) c.directory_reply-reply.ensures.later c.args.turn.now.env c.args.client reply refl
+    _ c.directory_reply-reply.result c.tell-in-GetDir.result _ c.directory_reply-reply.ensures.ok c.tell-in-GetDir.ensures)
+
+pub returns-in-Stat : goal.returns-in-Stat
+returns-in-Stat g c =
+    let now = content_of (g.A.RepoAccess.point c.stat_reply-reply.new.access) in
+    let reply = stat_reply now (place_read now c.in-Stat.revision (joined c.args.client.path c.in-Stat.path)) in
+    rw c.in-Stat.is
+    (replied _ _ (told_before c.args.request.preface) c.stat_reply-reply.ensures.later c.args.turn.now.env c.args.client reply refl
+    _ c.stat_reply-reply.result c.tell-in-Stat.result _ c.stat_reply-reply.ensures.ok c.tell-in-Stat.ensures)
+
+pub returns-in-GetDatedRev : goal.returns-in-GetDatedRev
+returns-in-GetDatedRev g c =
+    let now = content_of (g.A.RepoAccess.point c.dated_reply-reply.new.access) in
+    rw c.in-GetDatedRev.is
+    (replied _ _ (told_before c.args.request.preface) c.dated_reply-reply.ensures.later c.args.turn.now.env c.args.client (dated_reply now c.in-GetDatedRev.date) refl
+    _ c.dated_reply-reply.result c.tell-in-GetDatedRev.result _ c.dated_reply-reply.ensures.ok c.tell-in-GetDatedRev.ensures)
+
+pub returns-in-RevProp : goal.returns-in-RevProp
+returns-in-RevProp g c =
+    let now = content_of (g.A.RepoAccess.point c.property_reply-reply.new.access) in
+    rw c.in-RevProp.is
+    (replied _ _ (told_before c.args.request.preface) c.property_reply-reply.ensures.later c.args.turn.now.env c.args.client (property_reply now c.in-RevProp.revision c.in-RevProp.name) refl
+    _ c.property_reply-reply.result c.tell-in-RevProp.result _ c.property_reply-reply.ensures.ok c.tell-in-RevProp.ensures)
+
+pub returns-then-has_revprops : goal.returns-then-has_revprops
+returns-then-has_revprops g c =
+    rw c.in-ChangeRevProp.is (rw (sym c.has_revprops.ensures ∙ c.if-has_revprops.true) c.change_property.ensures)
+
+pub returns-else-has_revprops : goal.returns-else-has_revprops
+returns-else-has_revprops g c =
+    rw c.in-ChangeRevProp.is (rw (sym c.has_revprops.ensures ∙ c.if-has_revprops.false)
+    (answered _ _ (told_before c.args.request.preface) (g.met.A.RepoAccess.stays _) (serves c.args.turn.now.env c.args.client (replies.Failure refusals.RevisionPropertiesClosed)) refl refl
+    _ c.refuse.result _ c.refuse.ensures))
+
+pub returns-in-Reparent : goal.returns-in-Reparent
+returns-in-Reparent g c =
+    let path = path_of_text c.in-Reparent.url c.args.options.now.name in
+    rw c.in-Reparent.is
+    (answered _ _ (told_before c.args.request.preface) (g.met.A.RepoAccess.stays _) (reparented c.args.turn.now.env c.args.client path) refl (moves c.args.turn.now.env c.args.client path)
+    _ c.reparent.result _ c.reparent.ensures)
+
+pub returns-in-Log : goal.returns-in-Log
+returns-in-Log g c = rw c.in-Log.is c.tell_log.ensures
+
+pub returns-in-GetLocations : goal.returns-in-GetLocations
+returns-in-GetLocations g c = rw c.in-GetLocations.is c.tell_locations.ensures

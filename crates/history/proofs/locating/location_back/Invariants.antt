@@ -1,6 +1,6 @@
 -- The path in the revision is the same from each place of the trace above it.
 use Rattle.std.proofs.Common.{◌≡◌}
-use Rattle.history.specs.Histories.{history_of}
+use Rattle.repo_api.specs.Histories.{history_of}
 use Rattle.history.specs.Locations.{location_back}
 use Rattle.history.proofs.locating.location_back.Given as goal
 

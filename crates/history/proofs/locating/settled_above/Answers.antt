@@ -1,4 +1,4 @@
-use Rattle.history.specs.Histories.{history_of}
+use Rattle.repo_api.specs.Histories.{history_of}
 use Rattle.history.proofs.Passing.{path_settled}
 use Rattle.history.proofs.locating.settled_above.Goals as goal
 

@@ -1,5 +1,5 @@
 use Rattle.std.proofs.Common.{◌∙◌, sym, ap}
-use Rattle.history.specs.Histories.{history_of}
+use Rattle.repo_api.specs.Histories.{history_of}
 use Rattle.history.specs.Traces.{traced}
 use Rattle.history.specs.Logs.{listed}
 use Rattle.history.proofs.Steps.{nothing_listed_below}

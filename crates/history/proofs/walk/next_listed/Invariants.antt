@@ -1,6 +1,6 @@
 -- What the log lists from the place on is what it lists from the start on.
 use Rattle.std.proofs.Common.{◌≡◌, ℕ, Option, Some, None, suc}
-use Rattle.history.specs.Histories.{history_of}
+use Rattle.repo_api.specs.Histories.{history_of}
 use Rattle.history.specs.Traces.{traced}
 use Rattle.history.specs.Logs.{listed}
 use Rattle.history.specs.declared.place.Place.{Place}

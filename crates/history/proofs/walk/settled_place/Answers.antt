@@ -1,4 +1,4 @@
-use Rattle.history.specs.Histories.{history_of}
+use Rattle.repo_api.specs.Histories.{history_of}
 use Rattle.history.proofs.Passing.{listed_settled}
 use Rattle.history.proofs.walk.settled_place.Goals as goal
 

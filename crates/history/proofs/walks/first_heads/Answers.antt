@@ -1,5 +1,5 @@
 use Rattle.std.proofs.Common.{arith}
-use Rattle.history.specs.Histories.{history_of}
+use Rattle.repo_api.specs.Histories.{history_of}
 use Rattle.history.specs.Logs.{oldest_asked, newest_asked}
 use Rattle.history.proofs.Walking.{first_more}
 use Rattle.history.proofs.walks.first_heads.Goals as goal

@@ -5,7 +5,7 @@ use Rattle.repo_api.specs.Locking.{lock_refusal, lock_of}
 use Rattle.machine.specs.Commands.{lock_answer, without_token}
 use Rattle.telling.specs.Telling.{told_before}
 use Rattle.telling.proofs.Steps.{stepped, not_asked}
-use Rattle.locking.proofs.Changes.{made, refused, failed, halted}
+use Rattle.telling.proofs.Changes.{made, refused, failed, halted}
 use Rattle.locking.proofs.locking.ask_lock.Goals as goal
 
 pub returns-in-Ok-lock : goal.returns-in-Ok-lock

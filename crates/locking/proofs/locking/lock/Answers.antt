@@ -5,7 +5,8 @@ use Rattle.machine.specs.Commands.{LockStep}
 use Rattle.telling.specs.Telling.{told_before}
 use Rattle.telling.proofs.Steps.{stepped, leads_behind, only_says}
 use Rattle.locking.specs.Asked.{LockAsked}
-use Rattle.locking.proofs.Changes.{stepped_is, lock_is, lock_refused, fault_is}
+use Rattle.telling.proofs.Changes.{stepped_is}
+use Rattle.locking.proofs.Changes.{lock_is, lock_refused, fault_is}
 use Rattle.locking.proofs.locking.lock.Goals as goal
 
 pub returns-in-Ok : goal.returns-in-Ok

@@ -5,7 +5,7 @@ use Rattle.repo_api.specs.Locking.{unlock_refusal}
 use Rattle.machine.specs.Answers.{change_answer}
 use Rattle.telling.specs.Telling.{told_before}
 use Rattle.telling.proofs.Steps.{stepped, not_asked}
-use Rattle.locking.proofs.Changes.{made, refused, failed, halted}
+use Rattle.telling.proofs.Changes.{made, refused, failed, halted}
 use Rattle.locking.proofs.unlocking.ask_unlock.Goals as goal
 
 pub returns-in-Ok : goal.returns-in-Ok

@@ -5,7 +5,8 @@ use Rattle.machine.specs.Commands.{UnlockStep}
 use Rattle.telling.specs.Telling.{told_before}
 use Rattle.telling.proofs.Steps.{stepped, leads_behind, only_says}
 use Rattle.locking.specs.Asked.{UnlockAsked}
-use Rattle.locking.proofs.Changes.{stepped_is, unlock_is, unlock_refused, fault_is}
+use Rattle.telling.proofs.Changes.{stepped_is}
+use Rattle.locking.proofs.Changes.{unlock_is, unlock_refused, fault_is}
 use Rattle.locking.proofs.unlocking.unlock.Goals as goal
 
 pub returns-in-Ok : goal.returns-in-Ok

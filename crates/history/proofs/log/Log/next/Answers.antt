@@ -1,5 +1,5 @@
 use Rattle.std.proofs.Common.{◌∙◌, sym}
-use Rattle.history.specs.Histories.{history_of}
+use Rattle.repo_api.specs.Histories.{history_of}
 use Rattle.history.specs.Walks.{of_coming}
 use Rattle.history.proofs.Logging.{limit_next}
 use Rattle.history.proofs.log.Log.next.Goals as goal

@@ -1,4 +1,4 @@
-use Rattle.history.specs.Histories.{history_of}
+use Rattle.repo_api.specs.Histories.{history_of}
 use Rattle.history.proofs.Walking.{going_within, going_on}
 use Rattle.history.proofs.walks.Walks.advanced.Goals as goal
 

@@ -1,6 +1,6 @@
 -- Some walks are left, and the others have gone on.
 use Rattle.std.proofs.Common.{length}
-use Rattle.history.specs.Histories.{history_of}
+use Rattle.repo_api.specs.Histories.{history_of}
 use Rattle.history.proofs.Walking.{IsGoing}
 use Rattle.history.proofs.walks.Walks.advanced.Given as goal
 

@@ -1,6 +1,6 @@
 -- Those that are found and those that are to come are all.
 use Rattle.std.proofs.Common.{◌≡◌, ◌++◌, length}
-use Rattle.history.specs.Histories.{history_of}
+use Rattle.repo_api.specs.Histories.{history_of}
 use Rattle.history.specs.Walks.{of_walks}
 use Rattle.history.proofs.walks.Walks.all.Given as goal
 

@@ -1,5 +1,5 @@
 use Rattle.std.proofs.Common.{◌∙◌, sym, ap}
-use Rattle.history.specs.Histories.{history_of}
+use Rattle.repo_api.specs.Histories.{history_of}
 use Rattle.history.specs.Walks.{above_heads, is_coming}
 use Rattle.history.proofs.ToCome.{comes_then}
 use Rattle.history.proofs.walks.Walks.next.Goals as goal

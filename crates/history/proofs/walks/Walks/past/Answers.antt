@@ -1,4 +1,4 @@
-use Rattle.history.specs.Histories.{history_of}
+use Rattle.repo_api.specs.Histories.{history_of}
 use Rattle.history.proofs.Walking.{past_on}
 use Rattle.history.proofs.walks.Walks.past.Goals as goal
 

@@ -1,0 +1,146 @@
+-- What the commands are answered that read the history of paths.
+use Rattle.std.specs.Prelude.{ℕ, Bool, true, false, nat_lt, List, [], ◌∷◌, ◌++◌, map, Option, Some, None, Result, Ok, Err, if◌then◌else◌, codes}
+use Rattle.std.specs.List.{list_all, list_any}
+use Rattle.svnpath.specs.Listings.{listing}
+use Rattle.svnpath.specs.Paths.{PathValue}
+use Rattle.svnpath.specs.Texts.{joined}
+use Rattle.svnpath.specs.declared.fault.PathFault.{PathFault}
+use Rattle.refusals.specs.declared.Refusal.{Refusal}
+use Rattle.refusals.specs.declared.Refusal.TheVariants as refusals
+use Rattle.refusals.specs.Refusing.{path_refusal}
+use Rattle.repo_api.specs.Histories.{Changed, history_of}
+use Rattle.repo_api.specs.Kinds.{kind_at}
+use Rattle.repo_api.specs.States.{RepoState, youngest}
+use Rattle.repo_api.specs.declared.entry.NodeKind.{NodeKind}
+use Rattle.repo_api.specs.declared.entry.NodeKind.TheVariants as kinds
+use Rattle.history.specs.Locations.{kind_shown, locations}
+use Rattle.history.specs.Logs.{log, newest_asked, place_at}
+use Rattle.history.specs.declared.log_ask.LogAsk.{LogAsk}
+use Rattle.history.specs.declared.place.Place.{Place}
+use Rattle.commands.specs.declared.command.GetLocationsCommand.{GetLocationsCommand}
+use Rattle.commands.specs.declared.command.LogCommand.{LogCommand}
+use Rattle.replies.specs.Replies.{logged_change}
+use Rattle.replies.specs.declared.histories.LoggedChange.{LoggedChange}
+use Rattle.replies.specs.declared.reply.Reply.{Reply}
+use Rattle.replies.specs.declared.reply.Reply.TheVariants as replies
+use Rattle.machine.specs.Readings.{author_of, date_of, revision_value}
+
+-- ---- the end of what is listed
+
+-- that no more is listed, and what the command came to
+abbrev pub ended : Reply → List Reply
+ended reply = replies.Done ∷ reply ∷ []
+
+-- what was listed, or why nothing is
+abbrev pub listed_unless : Option Refusal → List Reply → List Reply
+listed_unless None told = told ++ ended replies.Success
+listed_unless (Some r) told = ended (replies.Failure r)
+
+-- ---- what stands where
+
+abbrev pub is_present : NodeKind → Bool
+is_present kinds.Absent = false
+is_present kinds.File = true
+is_present kinds.Directory = true
+
+-- whether something stands at the path of a revision
+abbrev pub is_there : RepoState → ℕ → PathValue → Bool
+is_there c n p = is_present (kind_at c n p)
+
+-- whether a revision is above the youngest
+abbrev pub is_to_come : RepoState → ℕ → Bool
+is_to_come c n = nat_lt (youngest c) n
+
+-- ---- logs
+
+-- the revision that is named, or the youngest
+abbrev pub or_youngest : RepoState → Option ℕ → ℕ
+or_youngest c None = youngest c
+or_youngest c (Some n) = n
+
+-- what a log is asked for
+abbrev pub log_ask : RepoState → LogCommand → LogAsk
+log_ask c command = record {
+  strict = command.strict;
+  start = or_youngest c command.start;
+  end = or_youngest c command.end;
+  limit = command.limit;
+}
+
+-- a path in front of others, or the first fault of a path
+abbrev pub path_before : Result PathValue PathFault → Result (List PathValue) PathFault
+    → Result (List PathValue) PathFault
+path_before (Err fault) rest = Err fault
+path_before (Ok path) (Err fault) = Err fault
+path_before (Ok path) (Ok paths) = Ok (path ∷ paths)
+
+-- the paths as they are seen from the path of the client's URL
+abbrev pub all_joined : PathValue → List (List ℕ) → Result (List PathValue) PathFault
+all_joined base [] = Ok []
+all_joined base (path ∷ paths) = path_before (joined base path) (all_joined base paths)
+
+-- why a log is refused: a revision is above the youngest, or a path is not in the greater of the
+-- two
+abbrev pub log_refusal : RepoState → LogAsk → List PathValue → Option Refusal
+log_refusal c ask paths =
+    if is_to_come c (newest_asked ask) then Some refusals.NoSuchRevision
+    else if list_all (is_there c (newest_asked ask)) paths then None else Some refusals.NotFound
+
+-- a change, with the kind of what it made, or of what it deleted
+abbrev pub change_told : RepoState → ℕ → Changed → LoggedChange
+change_told c n e = logged_change e.0 e.1 (kind_shown c n e)
+
+-- the changes of a revision by the bytes of their paths, where they are wanted
+abbrev pub changes_told : RepoState → Bool → ℕ → List LoggedChange
+changes_told c false n = []
+changes_told c true n = map (change_told c n) (listing (history_of c n))
+
+-- the message of a revision
+abbrev pub message_of : RepoState → ℕ → Option (List ℕ)
+message_of c n = revision_value c (codes "svn:log") n
+
+-- a revision, as a log tells it
+abbrev pub revision_told : RepoState → Bool → ℕ → Reply
+revision_told c wants_changes n = replies.LogEntry (record {
+  changes = changes_told c wants_changes n;
+  revision = n;
+  author = author_of c n;
+  date = date_of c n;
+  message = message_of c n;
+})
+
+-- the revisions of a log, as they are told
+abbrev pub log_told : RepoState → Bool → LogAsk → List PathValue → List Reply
+log_told c wants_changes ask paths =
+    map (revision_told c wants_changes) (log (history_of c) ask paths)
+
+-- a bad path is refused before a revision that is not there, and that before a path that is not
+abbrev pub log_replies : RepoState → LogCommand → Result (List PathValue) PathFault → List Reply
+log_replies c command (Err fault) = ended (replies.Failure (path_refusal fault))
+log_replies c command (Ok paths) =
+    let ask = log_ask c command in
+    listed_unless (log_refusal c ask paths) (log_told c command.wants_changes ask paths)
+
+-- ---- locations
+
+-- why locations are refused: a revision is above the youngest, or the path is not in the peg
+-- revision
+abbrev pub locations_refusal : RepoState → Place → List ℕ → Option Refusal
+locations_refusal c at ns =
+    if list_any (is_to_come c) (at.revision ∷ ns) then Some refusals.NoSuchRevision
+    else if is_there c at.revision at.path then None else Some refusals.NotFound
+
+abbrev pub location_told : ℕ × PathValue → Reply
+location_told found = replies.Location found.0 found.1
+
+abbrev pub locations_told : RepoState → Place → List ℕ → List Reply
+locations_told c at ns = map location_told (locations c at ns)
+
+-- a bad path is refused before a revision that is not there, and that before a path that is not
+abbrev pub locations_replies : RepoState → GetLocationsCommand → Result PathValue PathFault
+    → List Reply
+locations_replies c command (Err fault) = ended (replies.Failure (path_refusal fault))
+locations_replies c command (Ok path) =
+    let at = place_at command.peg path in
+    listed_unless (locations_refusal c at command.revisions)
+    (locations_told c at command.revisions)

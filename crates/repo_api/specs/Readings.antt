@@ -1,0 +1,33 @@
+-- What a directory of a revision shows: the names of its entries.
+use Rattle.std.specs.Prelude.{ℕ, List, [], ◌∷◌, length, drop, Option, Some, None, if◌then◌else◌}
+use Rattle.std.specs.FinMap.{keys}
+use Rattle.std.specs.List.{filter_map}
+use Rattle.svnpath.specs.Paths.{PathValue, Component, is_at_or_under}
+use Rattle.repo_api.specs.States.{TreeMap, RepoState, tree_at}
+
+-- the item of a list of one
+abbrev pub only : {A : Type 0} → List A → Option A
+only [] = None
+only (x ∷ []) = Some x
+only (x ∷ y ∷ xs) = None
+
+-- the names that lead from p down to q, none where q does not lie beneath it
+abbrev pub rest_beneath : PathValue → PathValue → List Component
+rest_beneath p q = if is_at_or_under q p then drop (length p) q else []
+
+-- the name of q in the directory p, none where it does not stand straight beneath it
+abbrev pub name_in : PathValue → PathValue → Option Component
+name_in p q = only (rest_beneath p q)
+
+-- the names of the paths that stand straight beneath p, in the order of the paths
+abbrev pub names_among : PathValue → List PathValue → List Component
+names_among p paths = filter_map (name_in p) paths
+
+-- the names of what stands straight beneath a path of a tree: a map has its paths component by
+-- component, so these come by their bytes
+abbrev pub names_in : TreeMap → PathValue → List Component
+names_in m p = names_among p (keys m)
+
+-- the names of what stands straight beneath a path of a revision
+abbrev pub names_at : RepoState → ℕ → PathValue → List Component
+names_at c n p = names_in (tree_at c n) p

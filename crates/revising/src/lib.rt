@@ -1,0 +1,6 @@
+//! Properties of revisions are changed.
+#![tactic(auto)]
+
+mod revising;
+
+pub use revising::change_property;

@@ -1,0 +1,58 @@
+//! Paths and revisions that are named.
+ghost use Rattle.std.specs.Prelude.{◌≡◌, ◌⊎◌, Ok, Err, MatchResult};
+ghost use Rattle.std.specs.List.{list_all};
+ghost use Rattle.svnpath.specs.declared.fault.PathFault.TheVariants.{NoMemory};
+ghost use Rattle.machine.specs.Histories.{all_joined, is_present, is_there, is_to_come};
+
+use byte_string::ByteString;
+use repo_api::{NodeKind, Repository};
+use std::alloc::Global;
+use svnpath::{Path, PathFault};
+
+/// The paths as they are seen from the path of the client's URL.
+pub(crate) fn all_joined(
+    alloc: Global,
+    base: &Path,
+    paths: &[ByteString],
+) -> Result<Vec<Path>, PathFault>
+    ensures { MatchResult result
+        (λ joined. all_joined base.now paths.now ≡ Ok joined.items)
+        (λ fault. (all_joined base.now paths.now ≡ Err fault) ⊎ (fault ≡ NoMemory)) }
+{
+    let mut joined = Vec::new(alloc);
+    for path in paths {
+        joined.push(base.join(alloc, path.as_slice())?)?;
+    }
+    Ok(joined)
+}
+
+/// Whether a revision is above the youngest.
+pub(crate) fn is_to_come<R: Repository>(view: &R, revision: u64) -> bool
+    ensures { result ≡ is_to_come (R.content view.now) revision }
+{
+    view.youngest() < revision
+}
+
+fn is_present(kind: NodeKind) -> bool
+    ensures { result ≡ is_present kind }
+{
+    match kind {
+        NodeKind::Absent => false,
+        NodeKind::File => true,
+        NodeKind::Directory => true,
+    }
+}
+
+/// Whether something stands at the path of a revision.
+pub(crate) fn is_there<R: Repository>(view: &R, revision: u64, path: &Path) -> bool
+    ensures { result ≡ is_there (R.content view.now) revision path.now }
+{
+    is_present(view.kind(revision, path))
+}
+
+/// Whether something stands at each of the paths of a revision.
+pub(crate) fn are_there<R: Repository>(view: &R, revision: u64, paths: &[Path]) -> bool
+    ensures { result ≡ list_all (is_there (R.content view.now) revision) paths.now }
+{
+    paths.iter().all(|path| is_there(view, revision, path))
+}
