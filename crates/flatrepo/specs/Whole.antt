@@ -1,9 +1,10 @@
 -- What the values of this crate stand for.
 use Rattle.repo_api.specs.States.{LockMap, RepoState, TxnState}
-use Rattle.flat_trees.specs.Contents.{revisions_of, content_of}
+use Rattle.flat_trees.specs.Contents.{content_of}
 use Rattle.flat_trees.specs.declared.flat_content.FlatContent.{FlatContent}
-use Rattle.flatrepo.specs.declared.repository.FlatRepo.{FlatRepo}
-use Rattle.flatrepo.specs.declared.repository.FlatTxn.{FlatTxn}
+use Rattle.flatrepo.specs.Open.{txn_of}
+use Rattle.flatrepo.specs.declared.flat_repo.FlatRepo.{FlatRepo}
+use Rattle.flatrepo.specs.declared.flat_txn.FlatTxn.{FlatTxn}
 
 abbrev pub with_locks : RepoState → LockMap → RepoState
 with_locks c locks = record c { locks = locks }
@@ -16,5 +17,4 @@ abbrev pub repo_content : FlatRepo → RepoState
 repo_content r = state_of r.content.value r.locks.value
 
 abbrev pub txn_state_of : FlatTxn → TxnState
-txn_state_of t =
-    record { shown = revisions_of t.shown.value; base = t.base; tree = t.tree; changes = t.changes }
+txn_state_of t = txn_of t.shown.value t.base t.tree t.changes

@@ -1,7 +1,11 @@
 //! A repository in memory, with an ordered map of all its entries for each revision.
 #![tactic(auto)]
 
+mod flat_repo;
+mod flat_txn;
 mod locking;
 mod repository;
+mod settling;
 
-pub use repository::{FlatRepo, FlatTxn};
+pub use flat_repo::FlatRepo;
+pub use flat_txn::FlatTxn;

@@ -15,11 +15,16 @@ ghost use Rattle.repo_api.specs.Edits.{edited, copied, deleted};
 ghost use Rattle.repo_api.specs.Opening.{new_repository};
 ghost use Rattle.repo_api.specs.MergedMaps.{has_conflict, merged_map};
 ghost use Rattle.repo_api.specs.declared.ask.CommitAsk.{CommitAsk};
-ghost use Rattle.repo_api.specs.States.{IsEdited, tree_of, tree_at, trees_in, changes_of, youngest};
+ghost use Rattle.repo_api.specs.States.{IsBeginning, IsEdited, tree_of, tree_at, trees_in, changes_of, youngest};
+ghost use Rattle.repo_api.specs.RightEdits.{IsRightEdit};
+ghost use Rattle.history.specs.Sound.{IsSoundRepo};
 ghost use Rattle.flat_trees.specs.Contents.{fixed_of, content_of, revisions_of, properties_of};
 ghost use Rattle.flatrepo.specs.Whole.{state_of, repo_content, txn_state_of};
 
+use crate::flat_repo::FlatRepo;
+use crate::flat_txn::FlatTxn;
 use crate::locking;
+use crate::settling::settled_in;
 use byte_string::ByteString;
 use dates::date_text;
 use flat_parts::{empty_file, revision_properties};
@@ -28,6 +33,7 @@ use flat_trees::{
     has_deeper, kind_at, names, properties, remove_property, set_property, set_text, take_copy,
     take_replacement, text,
 };
+use history::{repositories_stay_sound, transactions_stay_sound};
 use pathlocks::Locks;
 use refusals::Refusal;
 use repo_api::{
@@ -38,24 +44,6 @@ use std::alloc::{AllocError, Global};
 use std::sync::Arc;
 use svnpath::Path;
 
-/// A repository in memory. A commit makes a new list of revisions, and a change of locks that are shared
-/// copies them, so that what was shared before stays as it was.
-#[derive(Drop)]
-pub struct FlatRepo {
-    alloc: Global,
-    content: Arc<FlatContent>,
-    locks: Arc<Locks>,
-}
-
-/// An open transaction.
-#[derive(Drop)]
-pub struct FlatTxn {
-    shown: Arc<FlatContent>,
-    base: u64,
-    tree: FlatTree,
-    changes: FlatChanges,
-}
-
 impl FlatRepo {
     /// An empty repository: revision 0, whose date is the moment's, a count of microseconds since the
     /// beginning of 1970.
@@ -64,6 +52,7 @@ impl FlatRepo {
         ensures { IfOk result (λ r. (date : List ℕ) × IsDateText moment date
             × (repo_content r ≡ new_repository uuid date)) }
     {
+        repositories_stay_sound();
         let date = date_of(alloc, moment)?;
         let content = FlatContent::opened(alloc, uuid, date)?;
         Ok(FlatRepo {
@@ -137,6 +126,10 @@ impl Repository for FlatRepo {
         self.content.changes(revision)
     }
 
+    fn settled(&self, revision: u64, path: &Path) -> u64 {
+        settled_in(self.alloc, &self.content, revision, path)
+    }
+
     fn revision_properties(&self, revision: u64) -> Option<&Properties> {
         self.content.properties(revision)
     }
@@ -166,6 +159,7 @@ impl Repository for FlatRepo {
     }
 
     fn begin(&self) -> Result<FlatTxn, AllocError> {
+        transactions_stay_sound();
         let base = self.content.youngest();
         Ok(FlatTxn {
             shown: Arc::try_clone(&self.content)?,
@@ -302,6 +296,10 @@ fn edit_txn(
     txn: &mut FlatTxn,
     op: &EditOp,
 ) -> Result<(), AllocError>
+    requires sound { ∥ IsSoundRepo (content_of content.now.value) ∥₁ }
+    requires rests { IsBeginning (txn_state_of txn.old).shown (revisions_of content.now.value) }
+    requires right { IsRightEdit (trees_in (revisions_of content.now.value))
+        (tree_of (txn_state_of txn.old).tree) op.now }
     ensures ok { OnOk result (IsEdited (revisions_of content.now.value)
         (txn_state_of txn.old) op.now (txn_state_of txn.new)) }
     ensures err { OnErr result (txn_state_of txn.new ≡ txn_state_of txn.old) }

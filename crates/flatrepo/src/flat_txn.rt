@@ -1,0 +1,16 @@
+//! What an open transaction has.
+ghost use Rattle.history.specs.Sound.{IsSoundTxn};
+ghost use Rattle.flatrepo.specs.Open.{txn_of};
+
+use flat_trees::{FlatChanges, FlatContent, FlatTree};
+use std::sync::Arc;
+
+/// An open transaction, which is sound.
+#[derive(Drop)]
+pub struct FlatTxn {
+    pub(crate) shown: Arc<FlatContent>,
+    pub(crate) base: u64,
+    pub(crate) tree: FlatTree,
+    pub(crate) changes: FlatChanges,
+    ghost sound: { ∥ IsSoundTxn (txn_of shown.value base tree changes) ∥₁ },
+}
