@@ -33,9 +33,10 @@ TEXTS = {
     210001: "unknown command",
     210004: "malformed data",
     210005: "no such repository",
+    210008: "edit aborted",
 }
 
-# how many bytes of a text are sent in one string
+# how many bytes of a text are sent in one string, and in one window of a drive
 PIECE = 65_536
 
 GREETING = b"( success ( 2 2 ( ) ( edit-pipeline absent-entries commit-revprops ) ) ) "
@@ -409,6 +410,42 @@ def absent_file(path, parent):
     return b"( absent-file ( " + string(path) + string(parent) + b") ) "
 
 
+def update(target="", revision=b"", recurse=True, rest=b""):
+    """What a client has is to be as a revision has it, at its URL or at a target there."""
+    return b"( update ( ( " + revision + b") " + string(target) + boolean(recurse) + rest + b") ) "
+
+
+def switch(url, target="", revision=b"", recurse=True, rest=b""):
+    """It is to be as a revision has it at this URL."""
+    return b"( switch ( ( " + revision + b") " + string(target) + boolean(recurse) + string(url) + rest + b") ) "
+
+
+def status(target="", recurse=True, rest=b""):
+    """What would be otherwise is to be told, without texts."""
+    return b"( status ( " + string(target) + boolean(recurse) + rest + b") ) "
+
+
+def set_path(path, revision, starts_empty=False, rest=b""):
+    """At a path the client has what a revision has there, or of a directory the top alone."""
+    return b"( set-path ( " + string(path) + b"%d " % revision + boolean(starts_empty) + rest + b") ) "
+
+
+def link_path(path, url, revision, starts_empty=False, rest=b""):
+    """At a path the client has what a revision has at a URL."""
+    place = string(path) + string(url) + b"%d " % revision
+    return b"( link-path ( " + place + boolean(starts_empty) + rest + b") ) "
+
+
+def delete_path(path):
+    """At a path the client has nothing."""
+    return b"( delete-path ( " + string(path) + b") ) "
+
+
+def client_failure(number=155000, text="it went wrong"):
+    """A client's answer to a drive that it could not follow."""
+    return b"( failure ( ( %d %s0: 0 ) ) ) " % (number, string(text))
+
+
 def digest(text):
     """The MD5 of a text, in hexadecimal digits."""
     return md5(text).hexdigest()
@@ -436,8 +473,40 @@ def document(text):
     return NO_TEXT + window(0, 0, len(text), length, text)
 
 
+def whole_text(text):
+    """The chunks in which a drive sends a text: the head of its document, and each window."""
+    pieces = [text[begin : begin + PIECE] for begin in range(0, len(text), PIECE)]
+    return [NO_TEXT, *(document(piece)[len(NO_TEXT) :] for piece in pieces)]
+
+
+def items(content):
+    """The items that these bytes spell: words as texts, numbers, strings as bytes, and lists of items."""
+    lists, place = [[]], 0
+    while place < len(content):
+        end = content.index(b" ", place)
+        spelled = content[place:end]
+        if spelled == b"(":
+            lists.append([])
+        elif spelled == b")":
+            inner = lists.pop()
+            lists[-1].append(inner)
+        elif b":" in spelled:
+            begin = content.index(b":", place) + 1
+            end = begin + int(content[place : begin - 1])
+            lists[-1].append(content[begin:end])
+        else:
+            lists[-1].append(int(spelled) if spelled.isdigit() else spelled.decode())
+        if content[end : end + 1] != b" ":
+            raise ValueError(f"no item ends at {end}")
+        place = end + 1
+    (read,) = lists
+    return read
+
+
 CLOSE_EDIT = b"( close-edit ( ) ) "
 ABORT_EDIT = b"( abort-edit ( ) ) "
+FINISH_REPORT = b"( finish-report ( ) ) "
+ABORT_REPORT = b"( abort-report ( ) ) "
 ANONYMOUS = b"( ANONYMOUS ( 0: ) ) "
 CRAM_MD5 = b"( CRAM-MD5 ( ) ) "
 LATEST = b"( get-latest-rev ( ) ) "

@@ -15,7 +15,8 @@ use Rattle.machine.specs.Commands.{commit_begins, reparented}
 use Rattle.machine.specs.Steps.{AnswerWritten, StepWritten, StepOrNothing}
 use Rattle.machine.specs.declared.asked.Asked.{Asked}
 use Rattle.machine.specs.declared.env.Env.{Env}
-use Rattle.machine.specs.declared.phase.Phase.TheVariants.{Serving}
+use Rattle.reports.specs.Refusing.{ReportState}
+use Rattle.machine.specs.declared.phase.Phase.TheVariants.{Serving, Reporting}
 use Rattle.machine.specs.declared.phase.Client.{Client}
 use Rattle.telling.proofs.Steps.{said, said_part}
 
@@ -60,3 +61,14 @@ module _ (rules : AccessRules) (step : Point → Answer → Type 0) {p q : Point
       → record { ok : IfOk r (λ after. StepWritten rules (λ at b. Behind before (step at) b) p q after env' writes); err : OnErr r (StepOrNothing rules (λ at b. Behind before (step at) b) p q writes) }
   replied env client told is writes reply r env' made said_so =
       answered (serves env client told) is refl writes r env' (record { ok = said_so.ok told made; err = said_so.err told made })
+
+  -- a report that begins, if it could be made
+  pub opened : (env : Env) (client : Client) (told : ReportState) → step q (says env (Reporting (record { client = client; report = told })) []) → (writes : List ℕ → Type 0)
+      → {E F : Type 0} (report : Result ReportState F) (r : Result Stage E) (env' : Env) → IfOk report (λ made. made ≡ told)
+      → record {
+        ok : (x : ReportState) → IfOk report (λ made. made ≡ x) → IfOk r (λ after. AnswerWritten (behind before (says env (Reporting (record { client = client; report = x })) [])) after env' writes);
+        err : (x : ReportState) → IfOk report (λ made. made ≡ x) → OnErr r (WritesPart writes (print (before ++ [])));
+      }
+      → record { ok : IfOk r (λ after. StepWritten rules (λ at b. Behind before (step at) b) p q after env' writes); err : OnErr r (StepOrNothing rules (λ at b. Behind before (step at) b) p q writes) }
+  opened env client told is writes report r env' made said_so =
+      answered (says env (Reporting (record { client = client; report = told })) []) is refl writes r env' (record { ok = said_so.ok told made; err = said_so.err told made })

@@ -24,6 +24,8 @@ use reading::{
 use refusals::Refusal;
 use replies::ReplySink;
 use repo_api::Repository;
+use reporting::{begun_report, open_report};
+use reports::{Errand, Purpose};
 use revising::change_property;
 use std::alloc::AllocError;
 use std::mem::drop;
@@ -151,6 +153,33 @@ pub fn own_answer<R: Repository, A: RepoAccess<View = R>, S: ReplySink>(
         MainCommand::Log(command) => tell_log(client, command, preface, access, turn),
         MainCommand::GetLocations(command) => {
             tell_locations(client, command, preface, access, turn)
+        }
+        MainCommand::Update(request) => {
+            let errand = Errand {
+                purpose: Purpose::Update,
+                request,
+                url: None,
+            };
+            let report = begun_report(turn.alloc, options, &client, errand, access);
+            open_report(client, preface, report, turn)
+        }
+        MainCommand::Switch(request, url) => {
+            let errand = Errand {
+                purpose: Purpose::Switch,
+                request,
+                url: Some(url),
+            };
+            let report = begun_report(turn.alloc, options, &client, errand, access);
+            open_report(client, preface, report, turn)
+        }
+        MainCommand::Status(request) => {
+            let errand = Errand {
+                purpose: Purpose::Status,
+                request,
+                url: None,
+            };
+            let report = begun_report(turn.alloc, options, &client, errand, access);
+            open_report(client, preface, report, turn)
         }
     }
 }

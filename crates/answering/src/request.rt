@@ -39,6 +39,9 @@ pub(crate) fn preface_of(command: &MainCommand) -> Preface
         MainCommand::Reparent(_) => Preface::NoLogin,
         MainCommand::Log(_) => Preface::NoLogin,
         MainCommand::GetLocations(_) => Preface::NoLogin,
+        MainCommand::Update(_) => Preface::NoLogin,
+        MainCommand::Switch(_, _) => Preface::NoLogin,
+        MainCommand::Status(_) => Preface::NoLogin,
     }
 }
 
@@ -65,6 +68,9 @@ fn is_write(command: &MainCommand) -> bool
         MainCommand::Reparent(_) => false,
         MainCommand::Log(_) => false,
         MainCommand::GetLocations(_) => false,
+        MainCommand::Update(_) => false,
+        MainCommand::Switch(_, _) => false,
+        MainCommand::Status(_) => false,
     }
 }
 

@@ -3,21 +3,15 @@ use Rattle.std.specs.Prelude.{ℕ, Bool, true, false, List, [], ◌∷◌, Optio
 use Rattle.std.specs.List.{find}
 use Rattle.std.specs.Option.{option_map_or}
 use Rattle.items.specs.Values.{ItemValue, ItemValues, none, more}
-use Rattle.forms.specs.Forms.{◌>>=◌, is_name, command_form, number_first, string_first, list_first, item_first, items_in, optional_number, optional_string, boolean, pairs, strings, numbers}
+use Rattle.forms.specs.Forms.{◌>>=◌, is_name, command_form, number_first, string_first, list_first, flag_first, revision_first, items_in, optional_number, optional_string, pairs, strings, numbers}
+use Rattle.report_commands.specs.Asking.{update, switch, status}
 use Rattle.commands.specs.Logins.{are_words}
 use Rattle.commands.specs.declared.command.CommandName.{CommandName}
 use Rattle.commands.specs.declared.command.CommandName.TheVariants as names
 use Rattle.commands.specs.declared.command.MainCommand.{MainCommand}
-use Rattle.commands.specs.declared.command.MainCommand.TheVariants.{GetLatestRev, CheckPath, RevProplist, Commit, AbortEdit, Lock, Unlock, GetLock, GetLocks, GetFile, GetDir, Stat, GetDatedRev, RevProp, ChangeRevProp, Reparent, Log, GetLocations}
+use Rattle.commands.specs.declared.command.MainCommand.TheVariants.{GetLatestRev, CheckPath, RevProplist, Commit, AbortEdit, Lock, Unlock, GetLock, GetLocks, GetFile, GetDir, Stat, GetDatedRev, RevProp, ChangeRevProp, Reparent, Log, GetLocations, Update, Switch, Status}
 use Rattle.forms.specs.declared.fault.CommandFault.{CommandFault}
 use Rattle.forms.specs.declared.fault.CommandFault.TheVariants.{UnknownName, BadParameters}
-
--- the word `true` or `false` in front, and what stands behind it
-abbrev pub flag_first : ItemValues → Option (Bool × ItemValues)
-flag_first items = do
-  (item, rest) ← item_first items
-  value ← boolean item
-  Some (value, rest)
 
 -- `( path [ rev ] )`
 abbrev pub check_path : ItemValues → Option MainCommand
@@ -170,13 +164,6 @@ reparent params = do
   (url, _) ← string_first params
   Some (Reparent url)
 
--- `[ rev ]` in front: the revision, if there is one, and what stands behind it
-abbrev pub revision_first : ItemValues → Option (Option ℕ × ItemValues)
-revision_first items = do
-  (revision, rest) ← list_first items
-  revision ← optional_number revision
-  Some (revision, rest)
-
 -- `? limit`: 0 where there is none
 abbrev pub limit_at_end : ItemValues → Option ℕ
 limit_at_end none = Some 0
@@ -230,6 +217,9 @@ name_text names.ChangeRevProp = codes "change-rev-prop"
 name_text names.Reparent = codes "reparent"
 name_text names.Log = codes "log"
 name_text names.GetLocations = codes "get-locations"
+name_text names.Update = codes "update"
+name_text names.Switch = codes "switch"
+name_text names.Status = codes "status"
 
 -- all commands
 abbrev pub all_names : List CommandName
@@ -237,7 +227,7 @@ all_names =
     names.GetLatestRev ∷ names.CheckPath ∷ names.RevProplist ∷ names.Commit ∷ names.AbortEdit
     ∷ names.Lock ∷ names.Unlock ∷ names.GetLock ∷ names.GetLocks ∷ names.GetFile ∷ names.GetDir
     ∷ names.Stat ∷ names.GetDatedRev ∷ names.RevProp ∷ names.ChangeRevProp ∷ names.Reparent
-    ∷ names.Log ∷ names.GetLocations ∷ []
+    ∷ names.Log ∷ names.GetLocations ∷ names.Update ∷ names.Switch ∷ names.Status ∷ []
 
 -- the command that has this name
 abbrev pub command_name : List ℕ → Option CommandName
@@ -263,6 +253,9 @@ command_with names.ChangeRevProp params = change_rev_prop params
 command_with names.Reparent params = reparent params
 command_with names.Log params = log params
 command_with names.GetLocations params = get_locations params
+command_with names.Update params = option_map Update (update params)
+command_with names.Switch params = option_map (λ p. Switch p.0 p.1) (switch params)
+command_with names.Status params = option_map Status (status params)
 
 -- the command of a name and its parameters, or why there is none
 abbrev pub command_named : List ℕ → ItemValues → Result MainCommand CommandFault

@@ -4,17 +4,18 @@ ghost use Rattle.std.specs.Prelude.{◌≡◌, option_copied, option_map};
 ghost use Rattle.std.specs.List.{find};
 ghost use Rattle.forms.specs.Answering.{Answers, Reads};
 ghost use Rattle.forms.specs.Forms.{is_name};
-ghost use Rattle.commands.specs.Commands.{main_command, command_name, name_text, command_with, check_path, rev_proplist, locks_first, properties_at_end, commit, flag_first, lock, unlock, get_lock, get_locks, path_first, get_file, get_dir, has_fields, stat, get_dated_rev, rev_prop, change_rev_prop, reparent, revision_first, limit_at_end, log, get_locations};
+ghost use Rattle.commands.specs.Commands.{main_command, command_name, name_text, command_with, check_path, rev_proplist, locks_first, properties_at_end, commit, lock, unlock, get_lock, get_locks, path_first, get_file, get_dir, has_fields, stat, get_dated_rev, rev_prop, change_rev_prop, reparent, limit_at_end, log, get_locations};
 
 use crate::login::are_words;
 use byte_string::ByteString;
 use forms::CommandFault::{self, BadParameters, UnknownName};
 use forms::{
-    Numbers, Pairs, Strings, copy_optional, read_boolean, read_form, read_items, read_list,
-    read_number, read_numbers, read_optional_number, read_optional_string, read_pairs, read_string,
-    read_strings,
+    Numbers, Pairs, Strings, copy_optional, read_flag, read_form, read_items, read_list,
+    read_number, read_numbers, read_optional_number, read_optional_string, read_pairs,
+    read_revision, read_string, read_strings,
 };
 use items::Item;
+use report_commands::{DriveRequest, read_status, read_switch, read_update};
 use std::alloc::Global;
 
 /// What a `commit` hands in.
@@ -155,6 +156,15 @@ pub enum MainCommand {
     Log(LogCommand),
     /// Where something was in other revisions: `( get-locations ( path peg-rev ( rev ... ) ) )`.
     GetLocations(GetLocationsCommand),
+    /// What leads from what the client has to a revision:
+    /// `( update ( [ rev ] target recurse ? depth send-copyfrom ) )`.
+    Update(DriveRequest),
+    /// What leads from what the client has to what stands at another URL:
+    /// `( switch ( [ rev ] target recurse url ? depth ) )`.
+    Switch(DriveRequest, ByteString),
+    /// What an update would bring, without the texts:
+    /// `( status ( target recurse ? [ rev ] ? depth ) )`.
+    Status(DriveRequest),
 }
 
 impl MainCommand {
@@ -189,10 +199,13 @@ pub enum CommandName {
     Reparent,
     Log,
     GetLocations,
+    Update,
+    Switch,
+    Status,
 }
 
 /// The names of all commands.
-const COMMAND_NAMES: [CommandName; 18] = [
+const COMMAND_NAMES: [CommandName; 21] = [
     CommandName::GetLatestRev,
     CommandName::CheckPath,
     CommandName::RevProplist,
@@ -211,6 +224,9 @@ const COMMAND_NAMES: [CommandName; 18] = [
     CommandName::Reparent,
     CommandName::Log,
     CommandName::GetLocations,
+    CommandName::Update,
+    CommandName::Switch,
+    CommandName::Status,
 ];
 
 /// The command that has this name.
@@ -258,6 +274,9 @@ fn name_text(known: CommandName) -> &'static [u8]
         CommandName::Reparent => b"reparent",
         CommandName::Log => b"log",
         CommandName::GetLocations => b"get-locations",
+        CommandName::Update => b"update",
+        CommandName::Switch => b"switch",
+        CommandName::Status => b"status",
     }
 }
 
@@ -288,6 +307,12 @@ fn read_command(
         CommandName::Reparent => read_reparent(params),
         CommandName::Log => read_log(alloc, params),
         CommandName::GetLocations => read_get_locations(alloc, params),
+        CommandName::Update => Ok(MainCommand::Update(read_update(params)?)),
+        CommandName::Switch => {
+            let (request, url) = read_switch(params)?;
+            Ok(MainCommand::Switch(request, url))
+        }
+        CommandName::Status => Ok(MainCommand::Status(read_status(params)?)),
     }
 }
 
@@ -497,15 +522,6 @@ fn read_reparent(params: &[Item]) -> Result<MainCommand, CommandFault>
     Ok(MainCommand::Reparent(url.clone()?))
 }
 
-/// `[ rev ]` in front, and what stands behind it.
-fn read_revision(items: &[Item]) -> Option<(Option<u64>, &[Item])>
-    ensures { option_map (λ p. (p.0, values_of p.1.now)) result
-        ≡ revision_first (values_of items.now) }
-{
-    let (revision, rest) = read_list(items)?;
-    Some((read_optional_number(revision)?, rest))
-}
-
 /// `? limit`: 0 where there is none.
 fn read_limit(items: &[Item]) -> Option<u64>
     ensures { result ≡ limit_at_end (values_of items.now) }
@@ -549,13 +565,4 @@ fn read_get_locations(alloc: Global, params: &[Item]) -> Result<MainCommand, Com
         peg,
         revisions: read_numbers(alloc, revisions)?,
     }))
-}
-
-/// The word `true` or `false` in front, and what stands behind it.
-fn read_flag(items: &[Item]) -> Option<(bool, &[Item])>
-    ensures { option_map (λ p. (p.0, values_of p.1.now)) result
-        ≡ flag_first (values_of items.now) }
-{
-    let (item, rest) = items.split_first()?;
-    Some((read_boolean(item)?, rest))
 }

@@ -1,3 +1,4 @@
 pub mod Editing
 pub mod Places
+pub mod Printing
 pub mod Texts

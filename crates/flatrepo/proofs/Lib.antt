@@ -1,3 +1,4 @@
+pub mod EqualMarks
 pub mod Keeping
 pub mod Limits
 pub mod NewestMarks

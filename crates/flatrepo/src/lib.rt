@@ -4,6 +4,7 @@
 mod flat_repo;
 mod flat_txn;
 mod locking;
+mod marks;
 mod repository;
 mod settling;
 

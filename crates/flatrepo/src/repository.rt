@@ -24,6 +24,7 @@ ghost use Rattle.flatrepo.specs.Whole.{state_of, repo_content, txn_state_of};
 use crate::flat_repo::FlatRepo;
 use crate::flat_txn::FlatTxn;
 use crate::locking;
+use crate::marks::is_same_in;
 use crate::settling::settled_in;
 use byte_string::ByteString;
 use dates::date_text;
@@ -120,6 +121,10 @@ impl Repository for FlatRepo {
 
     fn names(&self, revision: u64, path: &Path) -> Result<Vec<&ByteString>, AllocError> {
         names(self.alloc, self.content.tree(revision), path)
+    }
+
+    fn is_same(&self, revision: u64, path: &Path, other: u64, other_path: &Path) -> bool {
+        is_same_in(&self.content, revision, path, other, other_path)
     }
 
     fn changes(&self, revision: u64) -> &[(Path, Change)] {

@@ -73,6 +73,20 @@ optional_string none = Some None
 optional_string (more (string s) rest) = Some (Some s)
 optional_string _ = None
 
+-- the word `true` or `false` in front, and what stands behind it
+abbrev pub flag_first : ItemValues → Option (Bool × ItemValues)
+flag_first items = do
+  (item, rest) ← item_first items
+  value ← boolean item
+  Some (value, rest)
+
+-- `[ rev ]` in front: the revision, if there is one, and what stands behind it
+abbrev pub revision_first : ItemValues → Option (Option ℕ × ItemValues)
+revision_first items = do
+  (revision, rest) ← list_first items
+  revision ← optional_number revision
+  Some (revision, rest)
+
 -- `( name ( params ) )`
 abbrev pub command_form : ItemValue → Option (List ℕ × ItemValues)
 command_form item = do

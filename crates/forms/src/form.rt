@@ -2,7 +2,7 @@
 ghost use Rattle.std.specs.Prelude.{◌≡◌, IfOk, option_map};
 ghost use Rattle.items.specs.View.{value_of, values_of};
 ghost use Rattle.items.specs.Values.{word};
-ghost use Rattle.forms.specs.Forms.{word_first, number_first, string_first, list_first, items_in, command_form, optional_number, optional_string, boolean};
+ghost use Rattle.forms.specs.Forms.{word_first, number_first, string_first, list_first, items_in, command_form, optional_number, optional_string, boolean, flag_first, revision_first};
 
 use byte_string::ByteString;
 use items::Item;
@@ -115,6 +115,24 @@ fn boolean_named(name: &[u8]) -> Option<bool>
     } else {
         None
     }
+}
+
+/// The word `true` or `false` in front, and what stands behind it.
+pub fn read_flag(items: &[Item]) -> Option<(bool, &[Item])>
+    ensures { option_map (λ p. (p.0, values_of p.1.now)) result
+        ≡ flag_first (values_of items.now) }
+{
+    let (item, rest) = items.split_first()?;
+    Some((read_boolean(item)?, rest))
+}
+
+/// `[ rev ]` in front, and what stands behind it.
+pub fn read_revision(items: &[Item]) -> Option<(Option<u64>, &[Item])>
+    ensures { option_map (λ p. (p.0, values_of p.1.now)) result
+        ≡ revision_first (values_of items.now) }
+{
+    let (revision, rest) = read_list(items)?;
+    Some((read_optional_number(revision)?, rest))
 }
 
 /// A copy of a string, if there is one.

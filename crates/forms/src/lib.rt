@@ -9,8 +9,8 @@ mod pairs;
 
 pub use fault::CommandFault;
 pub use form::{
-    copy_optional, read_boolean, read_form, read_items, read_list, read_number,
-    read_optional_number, read_optional_string, read_string, read_word,
+    copy_optional, read_boolean, read_flag, read_form, read_items, read_list, read_number,
+    read_optional_number, read_optional_string, read_revision, read_string, read_word,
 };
 pub use lists::{Numbers, Strings, read_numbers, read_strings};
 pub use pairs::{Pairs, read_pairs};

@@ -13,7 +13,7 @@ use Rattle.machine.specs.Machine.{InputStep}
 use Rattle.machine.specs.Answers.Verdict.{Written, NotWritten, Unknown}
 use Rattle.machine.specs.Steps.{AddsAll, Stores, EffectAt, StepAt, SessionRun, input_step}
 use Rattle.machine.specs.declared.env.Env.{Env}
-use Rattle.machine.specs.declared.phase.Phase.TheVariants.{Greeted, LoggingIn, Challenged, Serving, Editing, Skipping, Ended}
+use Rattle.machine.specs.declared.phase.Phase.TheVariants.{Greeted, LoggingIn, Challenged, Serving, Editing, Skipping, Reporting, Driven, Ended}
 use Rattle.hub.specs.State.{HubState, hub_at, session_of, updated, without, kept}
 use Rattle.hub.specs.Runs.{Event, InputHappens, HubStep, HubRun, InputsAre, answered}
 use Rattle.hub.specs.Runs.Event.{Hears}
@@ -51,6 +51,8 @@ ended_is (Challenged pending) e = cc
 ended_is (Serving client) e = cc
 ended_is (Editing edit) e = cc
 ended_is (Skipping client) e = cc
+ended_is (Reporting reporting) e = cc
+ended_is (Driven client) e = cc
 ended_is Ended e = refl
 
 pub holds_open : (xs : List (ℕ × SessionState)) (n : ℕ) (r : List ℕ) (phase : Stage) → is_open phase ≡ true → session_of xs n ≡ Some (record { rest = r; phase = phase }) → Holds xs n r phase

@@ -21,7 +21,7 @@ use Rattle.forms.specs.declared.fault.CommandFault.TheVariants.{UnknownName, Bad
 use Rattle.commands.specs.Commands.{main_command}
 use Rattle.commands.specs.Logins.{client_greeting, auth_response, challenge_answer}
 use Rattle.commands.specs.declared.command.MainCommand.{MainCommand}
-use Rattle.commands.specs.declared.command.MainCommand.TheVariants.{GetLatestRev, CheckPath, RevProplist, Commit, AbortEdit, Lock as LockPath, Unlock as UnlockPath, GetLock, GetLocks, GetFile, GetDir, Stat, GetDatedRev, RevProp, ChangeRevProp, Reparent, Log, GetLocations}
+use Rattle.commands.specs.declared.command.MainCommand.TheVariants.{GetLatestRev, CheckPath, RevProplist, Commit, AbortEdit, Lock as LockPath, Unlock as UnlockPath, GetLock, GetLocks, GetFile, GetDir, Stat, GetDatedRev, RevProp, ChangeRevProp, Reparent, Log, GetLocations, Update, Switch, Status}
 use Rattle.commands.specs.declared.command.ChangeRevPropCommand.{ChangeRevPropCommand}
 use Rattle.commands.specs.declared.command.LockCommand.{LockCommand}
 use Rattle.commands.specs.declared.command.UnlockCommand.{UnlockCommand}
@@ -29,6 +29,8 @@ use Rattle.commands.specs.declared.login.AuthResponse.{AuthResponse}
 use Rattle.commands.specs.declared.login.ClientGreeting.{ClientGreeting}
 use Rattle.edit_commands.specs.Editing.{editor_command, ends_edit}
 use Rattle.edit_commands.specs.declared.editing.EditorCommand.{EditorCommand}
+use Rattle.drive_commands.specs.Reporting.{Drawn, client_answer}
+use Rattle.drive_commands.specs.Reporting.Drawn.{GoesOn, GivenUp, Fails as Draws, Drives, Malformed}
 use Rattle.edit_rules.specs.Refusing.{edit_refusal}
 use Rattle.edit_rules.specs.Editor.{finished}
 use Rattle.replies.specs.declared.reply.Reply.{Reply}
@@ -42,6 +44,7 @@ use Rattle.machine.specs.Answers.Verdict.{Written, NotWritten, Unknown}
 use Rattle.machine.specs.Commands.{asked_by, lock_tokens, commit_begins, lock_ask, unlock_ask, lock_answer, LockStep, UnlockStep, PropertyStep, reparented, login_request, OwnStep}
 use Rattle.machine.specs.Logins.{offer, chosen, wants_user, speaks, url_answer, greeting_answer, LoggedIn, ChoiceStep, LoginStep, with_user, OutcomeStep, ChallengeStep}
 use Rattle.machine.specs.Machine.{InputStep, KnownCommand, MainStep, MachineEdit, JudgedEdit, CommitStep, CloseStep, CommandStep, EditingStep, ending_of, commit_ask, Release, IsReleaseOf, release_fails, release_effect, CommittedStep, skipping_answer}
+use Rattle.machine.specs.Reports.{drawn_answer, driven_answer}
 use Rattle.machine.specs.Machine.Release.{Stays, Released, Lacks, Fails}
 use Rattle.machine.specs.declared.asked.Asked.{Asked}
 use Rattle.machine.specs.declared.env.Env.{Env}
@@ -51,7 +54,7 @@ use Rattle.machine.specs.declared.login.Mechanism.{Mechanism}
 use Rattle.machine.specs.declared.login.Mechanism.TheVariants as mechanisms
 use Rattle.machine.specs.declared.login.OpenLogin.{OpenLogin}
 use Rattle.machine.specs.declared.login.OpenChallenge.{OpenChallenge}
-use Rattle.machine.specs.declared.phase.Phase.TheVariants.{Greeted, LoggingIn, Challenged, Serving, Editing, Skipping, Ended}
+use Rattle.machine.specs.declared.phase.Phase.TheVariants.{Greeted, LoggingIn, Challenged, Serving, Editing, Skipping, Reporting, Driven, Ended}
 use Rattle.machine.specs.declared.phase.Client.{Client}
 use Rattle.hub.specs.Laws.{EndsWith, commit_changes}
 
@@ -92,6 +95,9 @@ plain_request (ChangeRevProp command) = (λ r e. cc, tt)
 plain_request (Reparent url) = (λ r e. cc, tt)
 plain_request (Log command) = (λ r e. cc, tt)
 plain_request (GetLocations command) = (λ r e. cc, tt)
+plain_request (Update request) = (λ r e. cc, tt)
+plain_request (Switch request url) = (λ r e. cc, tt)
+plain_request (Status request) = (λ r e. cc, tt)
 
 -- ---- what an answer does
 
@@ -172,6 +178,18 @@ quiet_skipping : (env : Env) (client : Client) (ends : Option Bool) → Quiet (s
 quiet_skipping env client None = refl
 quiet_skipping env client (Some true) = refl
 quiet_skipping env client (Some false) = refl
+
+quiet_drawn : (env : Env) (client : Client) (d : Drawn) → Quiet (drawn_answer env client d)
+quiet_drawn env client (GoesOn report) = refl
+quiet_drawn env client GivenUp = refl
+quiet_drawn env client (Draws r) = refl
+quiet_drawn env client (Drives drive) = refl
+quiet_drawn env client Malformed = refl
+
+quiet_driven : (env : Env) (client : Client) (answer : Option Bool) → Quiet (driven_answer env client answer)
+quiet_driven env client None = refl
+quiet_driven env client (Some true) = refl
+quiet_driven env client (Some false) = refl
 
 -- ---- changes of locks
 
@@ -273,6 +291,9 @@ own halted s env c client (Reparent url) a is =
     quiet halted c a _ is (quiet_reparented env client (path_of_text url s.name))
 own halted s env c client (Log command) a is = quiet halted c a _ is refl
 own halted s env c client (GetLocations command) a is = quiet halted c a _ is refl
+own halted s env c client (Update request) a is = quiet halted c a _ is refl
+own halted s env c client (Switch request url) a is = quiet halted c a _ is refl
+own halted s env c client (Status request) a is = quiet halted c a _ is refl
 
 own_known : (waits halted : Bool) (s : Settings) (env : Env) (c : RepoState) (client : Client) (command : MainCommand) (a : Answer)
     → KnownCommand waits halted s env c client command a → DoesOwn s.revprops halted c a
@@ -398,10 +419,14 @@ does halted s env c (Challenged pending) (Whole t) a step = inl (own_challenge h
 does halted s env c (Serving client) (Whole t) a step = inl (own_main halted s env c client (main_command t) a step)
 does halted s env c (Editing edit) (Whole t) a step = does_editing halted env c edit (editor_command t) a step
 does halted s env c (Skipping client) (Whole t) a is = is_quiet halted c a _ is (quiet_skipping env client (ends_edit t))
+does halted s env c (Reporting reporting) (Whole t) a (d, step, is) = is_quiet halted c a _ is (quiet_drawn env reporting.client d)
+does halted s env c (Driven client) (Whole t) a is = is_quiet halted c a _ is (quiet_driven env client (client_answer t))
 does halted s env c Greeted Broken a is = is_quiet halted c a _ is refl
 does halted s env c (LoggingIn login) Broken a is = is_quiet halted c a _ is refl
 does halted s env c (Challenged pending) Broken a is = is_quiet halted c a _ is refl
 does halted s env c (Serving client) Broken a is = is_quiet halted c a _ is refl
 does halted s env c (Editing edit) Broken a is = is_quiet halted c a _ is refl
 does halted s env c (Skipping client) Broken a is = is_quiet halted c a _ is refl
+does halted s env c (Reporting reporting) Broken a is = is_quiet halted c a _ is refl
+does halted s env c (Driven client) Broken a is = is_quiet halted c a _ is refl
 does halted s env c Ended input a is = is_quiet halted c a _ is refl

@@ -4,7 +4,7 @@ use Rattle.std.specs.Prelude.{if◌then◌else◌, ◌==◌, not}
 use Rattle.repo_api.specs.States.{RepoState, TxnState, IsBeginning}
 use Rattle.edit_rules.specs.Editor.{RestsIn}
 use Rattle.machine.specs.Stages.{Stage, SessionState, is_open, EditRests, EditIsSound, RestsOn}
-use Rattle.machine.specs.declared.phase.Phase.TheVariants.{Greeted, LoggingIn, Challenged, Serving, Editing, Skipping, Ended}
+use Rattle.machine.specs.declared.phase.Phase.TheVariants.{Greeted, LoggingIn, Challenged, Serving, Editing, Skipping, Reporting, Driven, Ended}
 use Rattle.hub.specs.State.{HubState, session_of, updated, without, kept, AllOpen, AllRest, AllSound, HasTrees}
 use Rattle.hub.specs.Runs.{new_session, with_rest}
 use Rattle.hub.proofs.Staying.{joins}
@@ -89,6 +89,8 @@ rests-later (Challenged pending) c d b r = tt
 rests-later (Serving client) c d b r = tt
 rests-later (Editing edit) c d b r = txn-later edit.editor.txn c d b r
 rests-later (Skipping client) c d b r = tt
+rests-later (Reporting reporting) c d b r = tt
+rests-later (Driven client) c d b r = tt
 rests-later Ended c d b r = tt
 
 pub AllRest-later : (c d : RepoState) (xs : List (ℕ × SessionState)) → IsBeginning c.revisions d.revisions → AllRest c xs → AllRest d xs

@@ -25,16 +25,19 @@ use Rattle.machine.specs.declared.login.OpenChallenge.{OpenChallenge}
 use Rattle.forms.specs.declared.fault.CommandFault.{CommandFault}
 use Rattle.forms.specs.declared.fault.CommandFault.TheVariants.{UnknownName, BadParameters, NoMemory}
 use Rattle.commands.specs.declared.command.MainCommand.{MainCommand}
-use Rattle.commands.specs.declared.command.MainCommand.TheVariants.{GetLatestRev, CheckPath, RevProplist, Commit, AbortEdit, Lock, Unlock, GetLock, GetLocks, GetFile, GetDir, Stat, GetDatedRev, RevProp, ChangeRevProp, Reparent, Log, GetLocations}
+use Rattle.commands.specs.declared.command.MainCommand.TheVariants.{GetLatestRev, CheckPath, RevProplist, Commit, AbortEdit, Lock, Unlock, GetLock, GetLocks, GetFile, GetDir, Stat, GetDatedRev, RevProp, ChangeRevProp, Reparent, Log, GetLocations, Update, Switch, Status}
 use Rattle.commands.specs.declared.login.ClientGreeting.{ClientGreeting}
 use Rattle.commands.specs.declared.login.AuthResponse.{AuthResponse}
 use Rattle.replies.specs.declared.reply.Reply.{Reply}
 use Rattle.replies.specs.declared.reply.Reply.TheVariants as replies
+use Rattle.drive_commands.specs.Reporting.{Drawn, client_answer}
+use Rattle.drive_commands.specs.Reporting.Drawn.{GoesOn, GivenUp, Fails, Drives, Malformed}
 use Rattle.edit_rules.specs.Edits.{new_edit}
 use Rattle.machine.specs.Settings.{Settings}
 use Rattle.machine.specs.Stages.{Stage}
 use Rattle.machine.specs.Answers.{Verdict, Answer, says, change_answer, ChangeStep, behind, Behind}
 use Rattle.machine.specs.Commands.{OwnStep, asked_by, lock_tokens, commit_begins, without_token, lock_ask, unlock_ask, lock_answer, LockStep, UnlockStep, PropertyStep, reparented, login_request}
+use Rattle.machine.specs.Reports.{drawn_answer, driven_answer}
 use Rattle.machine.specs.Logins.{offer, chosen, wants_user, speaks, url_answer, greeting_answer, LoggedIn, ChoiceStep, LoginStep, with_user, OutcomeStep, ChallengeStep}
 use Rattle.machine.specs.Machine.{InputStep, KnownCommand, MainStep, skipping_answer}
 use Rattle.machine.specs.declared.asked.Asked.{Asked}
@@ -43,7 +46,7 @@ use Rattle.machine.specs.declared.login.Mechanism.{Mechanism}
 use Rattle.machine.specs.declared.login.Mechanism.TheVariants as mechanisms
 use Rattle.machine.specs.declared.login.OpenLogin.{OpenLogin}
 use Rattle.machine.specs.declared.phase.Client.{Client}
-use Rattle.machine.specs.declared.phase.Phase.TheVariants.{Greeted, LoggingIn, Challenged, Serving, Editing, Skipping, Ended}
+use Rattle.machine.specs.declared.phase.Phase.TheVariants.{Greeted, LoggingIn, Challenged, Serving, Editing, Skipping, Reporting, Driven, Ended}
 
 -- an edit, if the session has one, is one of which nothing has been made
 abbrev pub HasNewEdit : Settings → Stage → Type 0
@@ -53,6 +56,8 @@ HasNewEdit s (Challenged pending) = Unit {0}
 HasNewEdit s (Serving client) = Unit {0}
 HasNewEdit s (Editing edit) = edit.editor ≡ new_edit edit.client.path s.name
 HasNewEdit s (Skipping client) = Unit {0}
+HasNewEdit s (Reporting reporting) = Unit {0}
+HasNewEdit s (Driven client) = Unit {0}
 HasNewEdit s Ended = Unit {0}
 
 -- the change leaves the revisions as they are
@@ -93,6 +98,20 @@ asking s env login told = record { kept = tt; new = tt }
 
 ending : (s : Settings) (env : Env) (told : List Reply) → IsQuiet s (says env Ended told)
 ending s env told = record { kept = tt; new = tt }
+
+-- ---- reports
+
+quiet_drawn : (s : Settings) (env : Env) (client : Client) (d : Drawn) → IsQuiet s (drawn_answer env client d)
+quiet_drawn s env client (GoesOn report) = record { kept = tt; new = tt }
+quiet_drawn s env client GivenUp = plain s env client _
+quiet_drawn s env client (Fails r) = plain s env client _
+quiet_drawn s env client (Drives drive) = record { kept = tt; new = tt }
+quiet_drawn s env client Malformed = ending s env _
+
+quiet_driven : (s : Settings) (env : Env) (client : Client) (answer : Option Bool) → IsQuiet s (driven_answer env client answer)
+quiet_driven s env client None = ending s env _
+quiet_driven s env client (Some true) = plain s env client _
+quiet_driven s env client (Some false) = plain s env client _
 
 -- ---- the greeting
 
@@ -181,6 +200,9 @@ quiet_own s halted env c client (Reparent url) a is =
     quiet_is s a _ is (quiet_reparented s env client (path_of_text url s.name))
 quiet_own s halted env c client (Log command) a is = quiet_is s a _ is (plain s env client _)
 quiet_own s halted env c client (GetLocations command) a is = quiet_is s a _ is (plain s env client _)
+quiet_own s halted env c client (Update request) a is = quiet_is s a _ is (quiet_drawn s env client (GoesOn _))
+quiet_own s halted env c client (Switch request url) a is = quiet_is s a _ is (quiet_drawn s env client (GoesOn _))
+quiet_own s halted env c client (Status request) a is = quiet_is s a _ is (quiet_drawn s env client (GoesOn _))
 
 quiet_known : (s : Settings) (waits halted : Bool) (env : Env) (c : RepoState) (client : Client) (command : MainCommand) (a : Answer)
     → KnownCommand waits halted s env c client command a → IsQuiet s a
@@ -247,10 +269,14 @@ quiet_input s halted env c (Challenged pending) (Whole t) a not step = quiet_cha
 quiet_input s halted env c (Serving client) (Whole t) a not step = quiet_main s halted env c client (main_command t) a step
 quiet_input s halted env c (Editing edit) (Whole t) a not step = absurd (not tt)
 quiet_input s halted env c (Skipping client) (Whole t) a not is = quiet_is s a _ is (quiet_skipping s env client (ends_edit t))
+quiet_input s halted env c (Reporting reporting) (Whole t) a not (d, step, is) = quiet_is s a _ is (quiet_drawn s env reporting.client d)
+quiet_input s halted env c (Driven client) (Whole t) a not is = quiet_is s a _ is (quiet_driven s env client (client_answer t))
 quiet_input s halted env c Greeted Broken a not is = quiet_is s a _ is (ending s env _)
 quiet_input s halted env c (LoggingIn login) Broken a not is = quiet_is s a _ is (ending s env _)
 quiet_input s halted env c (Challenged pending) Broken a not is = quiet_is s a _ is (ending s env _)
 quiet_input s halted env c (Serving client) Broken a not is = quiet_is s a _ is (ending s env _)
 quiet_input s halted env c (Editing edit) Broken a not is = quiet_is s a _ is (ending s env _)
 quiet_input s halted env c (Skipping client) Broken a not is = quiet_is s a _ is (ending s env _)
+quiet_input s halted env c (Reporting reporting) Broken a not is = quiet_is s a _ is (ending s env _)
+quiet_input s halted env c (Driven client) Broken a not is = quiet_is s a _ is (ending s env _)
 quiet_input s halted env c Ended input a not is = quiet_is s a _ is (ending s env _)

@@ -32,7 +32,7 @@ use Rattle.machine.specs.declared.asked.Asked.{Asked}
 use Rattle.machine.specs.declared.env.Env.{Env}
 use Rattle.machine.specs.declared.ending.Ending.{Ending}
 use Rattle.machine.specs.declared.ending.Ending.TheVariants.{Commits as ToCommit, GivesUp}
-use Rattle.machine.specs.declared.phase.Phase.TheVariants.{Greeted, LoggingIn, Challenged, Serving, Editing, Skipping, Ended}
+use Rattle.machine.specs.declared.phase.Phase.TheVariants.{Greeted, LoggingIn, Challenged, Serving, Editing, Skipping, Reporting, Driven, Ended}
 use Rattle.machine.specs.declared.phase.Client.{Client}
 use Rattle.machine.proofs.Quiet.{HasNewEdit, IsQuiet, quiet_input}
 
@@ -58,6 +58,8 @@ rests_trans (Challenged pending) c d r b = tt
 rests_trans (Serving client) c d r b = tt
 rests_trans (Editing edit) c d r b = edit_rests edit.editor c d r b
 rests_trans (Skipping client) c d r b = tt
+rests_trans (Reporting reporting) c d r b = tt
+rests_trans (Driven client) c d r b = tt
 rests_trans Ended c d r b = tt
 
 -- ---- the answers
@@ -73,6 +75,8 @@ rests_new s (Challenged pending) c new = tt
 rests_new s (Serving client) c new = tt
 rests_new s (Editing edit) c new = subst (λ (e : EditState). EditRestsOn e c) (sym new) tt
 rests_new s (Skipping client) c new = tt
+rests_new s (Reporting reporting) c new = tt
+rests_new s (Driven client) c new = tt
 rests_new s Ended c new = tt
 
 -- ---- the steps of an edit
@@ -168,12 +172,16 @@ rests_step halted s env c (LoggingIn login) (Whole t) a rests step = rests_quiet
 rests_step halted s env c (Challenged pending) (Whole t) a rests step = rests_quiet s c a (quiet_input s halted env c (Challenged pending) (Whole t) a (λ h. h) step)
 rests_step halted s env c (Serving client) (Whole t) a rests step = rests_quiet s c a (quiet_input s halted env c (Serving client) (Whole t) a (λ h. h) step)
 rests_step halted s env c (Skipping client) (Whole t) a rests step = rests_quiet s c a (quiet_input s halted env c (Skipping client) (Whole t) a (λ h. h) step)
+rests_step halted s env c (Reporting reporting) (Whole t) a rests step = rests_quiet s c a (quiet_input s halted env c (Reporting reporting) (Whole t) a (λ h. h) step)
+rests_step halted s env c (Driven client) (Whole t) a rests step = rests_quiet s c a (quiet_input s halted env c (Driven client) (Whole t) a (λ h. h) step)
 rests_step halted s env c (Editing edit) (Whole t) a rests step = rests_editing halted env c edit (editor_command t) a rests step
 rests_step halted s env c Greeted Broken a rests step = rests_quiet s c a (quiet_input s halted env c Greeted Broken a (λ h. h) step)
 rests_step halted s env c (LoggingIn login) Broken a rests step = rests_quiet s c a (quiet_input s halted env c (LoggingIn login) Broken a (λ h. h) step)
 rests_step halted s env c (Challenged pending) Broken a rests step = rests_quiet s c a (quiet_input s halted env c (Challenged pending) Broken a (λ h. h) step)
 rests_step halted s env c (Serving client) Broken a rests step = rests_quiet s c a (quiet_input s halted env c (Serving client) Broken a (λ h. h) step)
 rests_step halted s env c (Skipping client) Broken a rests step = rests_quiet s c a (quiet_input s halted env c (Skipping client) Broken a (λ h. h) step)
+rests_step halted s env c (Reporting reporting) Broken a rests step = rests_quiet s c a (quiet_input s halted env c (Reporting reporting) Broken a (λ h. h) step)
+rests_step halted s env c (Driven client) Broken a rests step = rests_quiet s c a (quiet_input s halted env c (Driven client) Broken a (λ h. h) step)
 rests_step halted s env c (Editing edit) Broken a rests step = rests_quiet s c a (quiet_input s halted env c (Editing edit) Broken a (λ h. h) step)
 rests_step halted s env c Ended input a rests step = rests_is c a _ step tt
 

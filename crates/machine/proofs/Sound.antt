@@ -37,7 +37,7 @@ use Rattle.machine.specs.declared.asked.Asked.{Asked}
 use Rattle.machine.specs.declared.env.Env.{Env}
 use Rattle.machine.specs.declared.ending.Ending.{Ending}
 use Rattle.machine.specs.declared.ending.Ending.TheVariants.{Commits as ToCommit, GivesUp}
-use Rattle.machine.specs.declared.phase.Phase.TheVariants.{Greeted, LoggingIn, Challenged, Serving, Editing, Skipping, Ended}
+use Rattle.machine.specs.declared.phase.Phase.TheVariants.{Greeted, LoggingIn, Challenged, Serving, Editing, Skipping, Reporting, Driven, Ended}
 use Rattle.machine.specs.declared.phase.Client.{Client}
 use Rattle.machine.proofs.Quiet.{HasNewEdit, KeepRevisions, IsQuiet, quiet_input}
 use Rattle.machine.proofs.Resting.{rests_on}
@@ -122,6 +122,8 @@ module _ (begins : (path : PathValue) (name : List ℕ) → IsSoundEdit (new_edi
   sound_new s (Serving client) new = tt
   sound_new s (Editing edit) new = subst IsSoundEdit (sym new) (begins edit.client.path s.name)
   sound_new s (Skipping client) new = tt
+  sound_new s (Reporting reporting) new = tt
+  sound_new s (Driven client) new = tt
   sound_new s Ended new = tt
 
   leaves_quiet : (c : RepoState) (s : Settings) (a : Answer) → AreSound c.revisions → IsQuiet s a → LeavesTrees c a
@@ -189,12 +191,16 @@ module _ (begins : (path : PathValue) (name : List ℕ) → IsSoundEdit (new_edi
   leaves_trees halted s env c (Challenged pending) (Whole t) a trees rests sound step = leaves_quiet c s a trees (quiet_input s halted env c (Challenged pending) (Whole t) a (λ h. h) step)
   leaves_trees halted s env c (Serving client) (Whole t) a trees rests sound step = leaves_quiet c s a trees (quiet_input s halted env c (Serving client) (Whole t) a (λ h. h) step)
   leaves_trees halted s env c (Skipping client) (Whole t) a trees rests sound step = leaves_quiet c s a trees (quiet_input s halted env c (Skipping client) (Whole t) a (λ h. h) step)
+  leaves_trees halted s env c (Reporting reporting) (Whole t) a trees rests sound step = leaves_quiet c s a trees (quiet_input s halted env c (Reporting reporting) (Whole t) a (λ h. h) step)
+  leaves_trees halted s env c (Driven client) (Whole t) a trees rests sound step = leaves_quiet c s a trees (quiet_input s halted env c (Driven client) (Whole t) a (λ h. h) step)
   leaves_trees halted s env c (Editing edit) (Whole t) a trees rests sound step = leaves_editing halted env c edit (editor_command t) a trees rests sound step
   leaves_trees halted s env c Greeted Broken a trees rests sound step = leaves_quiet c s a trees (quiet_input s halted env c Greeted Broken a (λ h. h) step)
   leaves_trees halted s env c (LoggingIn login) Broken a trees rests sound step = leaves_quiet c s a trees (quiet_input s halted env c (LoggingIn login) Broken a (λ h. h) step)
   leaves_trees halted s env c (Challenged pending) Broken a trees rests sound step = leaves_quiet c s a trees (quiet_input s halted env c (Challenged pending) Broken a (λ h. h) step)
   leaves_trees halted s env c (Serving client) Broken a trees rests sound step = leaves_quiet c s a trees (quiet_input s halted env c (Serving client) Broken a (λ h. h) step)
   leaves_trees halted s env c (Skipping client) Broken a trees rests sound step = leaves_quiet c s a trees (quiet_input s halted env c (Skipping client) Broken a (λ h. h) step)
+  leaves_trees halted s env c (Reporting reporting) Broken a trees rests sound step = leaves_quiet c s a trees (quiet_input s halted env c (Reporting reporting) Broken a (λ h. h) step)
+  leaves_trees halted s env c (Driven client) Broken a trees rests sound step = leaves_quiet c s a trees (quiet_input s halted env c (Driven client) Broken a (λ h. h) step)
   leaves_trees halted s env c (Editing edit) Broken a trees rests sound step = leaves_quiet c s a trees (quiet_input s halted env c (Editing edit) Broken a (λ h. h) step)
   leaves_trees halted s env c Ended input a trees rests sound is = leaves_is c a _ is (trees, tt, tt)
 

@@ -22,12 +22,13 @@ use Rattle.dates.specs.Dates.{IsDateText}
 use Rattle.commands.specs.declared.command.ChangeRevPropCommand.{ChangeRevPropCommand}
 use Rattle.commands.specs.declared.command.CommitCommand.{CommitCommand}
 use Rattle.commands.specs.declared.command.MainCommand.{MainCommand}
-use Rattle.commands.specs.declared.command.MainCommand.TheVariants.{GetLatestRev, CheckPath, RevProplist, Commit, AbortEdit, Lock, Unlock, GetLock, GetLocks, GetFile, GetDir, Stat, GetDatedRev, RevProp, ChangeRevProp, Reparent, Log, GetLocations}
+use Rattle.commands.specs.declared.command.MainCommand.TheVariants.{GetLatestRev, CheckPath, RevProplist, Commit, AbortEdit, Lock, Unlock, GetLock, GetLocks, GetFile, GetDir, Stat, GetDatedRev, RevProp, ChangeRevProp, Reparent, Log, GetLocations, Update, Switch, Status}
 use Rattle.commands.specs.declared.command.LockCommand.{LockCommand}
 use Rattle.commands.specs.declared.command.UnlockCommand.{UnlockCommand}
 use Rattle.replies.specs.Replies.{uuid_text}
 use Rattle.replies.specs.declared.reply.Reply.{Reply}
 use Rattle.replies.specs.declared.reply.Reply.TheVariants as replies
+use Rattle.reports.specs.declared.ask.Purpose.TheVariants as purposes
 use Rattle.edit_rules.specs.Edits.{new_edit}
 use Rattle.edit_rules.specs.Refusing.{is_property_name}
 use Rattle.machine.specs.Settings.{Settings}
@@ -35,6 +36,7 @@ use Rattle.machine.specs.Answers.{Verdict, Answer, says, serves, change_answer, 
 use Rattle.machine.specs.Answers.Verdict.{Written, NotWritten, Unknown}
 use Rattle.machine.specs.Histories.{all_joined, log_replies, locations_replies}
 use Rattle.machine.specs.Readings.{place_read, file_replies, directory_reply, stat_reply, dated_reply, property_reply}
+use Rattle.machine.specs.Reports.{report_begins}
 use Rattle.machine.specs.declared.env.Env.{Env}
 use Rattle.machine.specs.declared.asked.Asked.{Asked}
 use Rattle.machine.specs.declared.phase.Phase.TheVariants.{Serving, Editing}
@@ -225,6 +227,12 @@ OwnStep halted s env c client (Log command) a =
     a ≡ says env (Serving client) (log_replies c command (all_joined client.path command.paths))
 OwnStep halted s env c client (GetLocations command) a =
     a ≡ says env (Serving client) (locations_replies c command (joined client.path command.path))
+OwnStep halted s env c client (Update request) a =
+    a ≡ report_begins s env c client purposes.Update request None
+OwnStep halted s env c client (Switch request url) a =
+    a ≡ report_begins s env c client purposes.Switch request (Some url)
+OwnStep halted s env c client (Status request) a =
+    a ≡ report_begins s env c client purposes.Status request None
 
 -- what is told before it: a login request, which asks for nothing; an edit that is given up outside
 -- one draws no reply
@@ -247,6 +255,9 @@ login_request (ChangeRevProp command) = replies.NoLogin ∷ []
 login_request (Reparent url) = replies.NoLogin ∷ []
 login_request (Log command) = replies.NoLogin ∷ []
 login_request (GetLocations command) = replies.NoLogin ∷ []
+login_request (Update request) = replies.NoLogin ∷ []
+login_request (Switch request url) = replies.NoLogin ∷ []
+login_request (Status request) = replies.NoLogin ∷ []
 
 -- whether a command writes
 abbrev pub is_write : MainCommand → Bool
@@ -268,3 +279,6 @@ is_write (ChangeRevProp command) = true
 is_write (Reparent url) = false
 is_write (Log command) = false
 is_write (GetLocations command) = false
+is_write (Update request) = false
+is_write (Switch request url) = false
+is_write (Status request) = false

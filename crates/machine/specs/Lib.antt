@@ -4,6 +4,7 @@ pub mod Stages
 pub mod Answers
 pub mod Readings
 pub mod Histories
+pub mod Reports
 pub mod Commands
 pub mod Logins
 pub mod Machine

@@ -18,6 +18,7 @@ use Rattle.edit_commands.specs.declared.editing.EditorCommand.TheVariants as edi
 use Rattle.forms.specs.declared.fault.CommandFault.{CommandFault}
 use Rattle.forms.specs.declared.fault.CommandFault.TheVariants.{UnknownName, BadParameters, NoMemory}
 use Rattle.replies.specs.declared.reply.Reply.TheVariants as replies
+use Rattle.drive_commands.specs.Reporting.{client_answer}
 use Rattle.edit_rules.specs.Edits.{EditState}
 use Rattle.edit_rules.specs.Refusing.{edit_refusal}
 use Rattle.edit_rules.specs.Editor.{Applies, finished}
@@ -28,13 +29,14 @@ use Rattle.machine.specs.Stages.{Stage}
 use Rattle.machine.specs.Answers.{Verdict, Effect, no_effect, Answer, says, serves, change_answer, Behind, malformed}
 use Rattle.machine.specs.Answers.Verdict.{Written, NotWritten, Unknown}
 use Rattle.machine.specs.Commands.{login_request, OwnStep}
+use Rattle.machine.specs.Reports.{ReportingStep, driven_answer}
 use Rattle.machine.specs.Logins.{asks, wants_user, greeting_answer, LoginStep, ChallengeStep}
 use Rattle.machine.specs.declared.env.Env.{Env}
 use Rattle.machine.specs.declared.asked.Asked.{Asked}
 use Rattle.machine.specs.declared.ending.Ending.{Ending}
 use Rattle.machine.specs.declared.ending.Ending.TheVariants.{Commits, GivesUp}
 use Rattle.machine.specs.declared.phase.OpenEdit.{OpenEdit}
-use Rattle.machine.specs.declared.phase.Phase.TheVariants.{Greeted, LoggingIn, Challenged, Serving, Editing, Skipping, Ended}
+use Rattle.machine.specs.declared.phase.Phase.TheVariants.{Greeted, LoggingIn, Challenged, Serving, Editing, Skipping, Reporting, Driven, Ended}
 use Rattle.machine.specs.declared.phase.Client.{Client}
 
 -- ---- a command
@@ -232,11 +234,16 @@ InputStep halted s env c (Editing edit) (Whole t) a =
     EditingStep halted env c edit (editor_command t) a
 InputStep halted s env c (Skipping client) (Whole t) a =
     a ≡ skipping_answer env client (ends_edit t)
+InputStep halted s env c (Reporting reporting) (Whole t) a = ReportingStep s env c reporting t a
+InputStep halted s env c (Driven client) (Whole t) a =
+    a ≡ driven_answer env client (client_answer t)
 InputStep halted s env c Greeted Broken a = a ≡ malformed env
 InputStep halted s env c (LoggingIn login) Broken a = a ≡ malformed env
 InputStep halted s env c (Challenged pending) Broken a = a ≡ malformed env
 InputStep halted s env c (Serving client) Broken a = a ≡ malformed env
 InputStep halted s env c (Editing edit) Broken a = a ≡ malformed env
 InputStep halted s env c (Skipping client) Broken a = a ≡ malformed env
+InputStep halted s env c (Reporting reporting) Broken a = a ≡ malformed env
+InputStep halted s env c (Driven client) Broken a = a ≡ malformed env
 -- what comes after the end is dropped
 InputStep halted s env c Ended input a = a ≡ says env Ended []

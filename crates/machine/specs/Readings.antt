@@ -1,5 +1,5 @@
 -- What the commands are answered that read entries, and properties of revisions.
-use Rattle.std.specs.Prelude.{ℕ, Bool, true, false, nat_lt, List, [], ◌∷◌, ◌++◌, length, map, Option, Some, None, option_map, Result, Ok, Err, if◌then◌else◌, codes, decimal}
+use Rattle.std.specs.Prelude.{ℕ, Bool, true, false, List, [], ◌∷◌, ◌++◌, length, map, Option, Some, None, option_map, Result, Ok, Err, if◌then◌else◌, codes, decimal}
 use Rattle.std.specs.List.{find}
 use Rattle.std.specs.Option.{option_map_or}
 use Rattle.md5.specs.Md5.{md5}
@@ -10,7 +10,7 @@ use Rattle.refusals.specs.declared.Refusal.{Refusal}
 use Rattle.refusals.specs.declared.Refusal.TheVariants as refusals
 use Rattle.refusals.specs.Refusing.{path_refusal}
 use Rattle.repo_api.specs.Properties.{PropertyList, with_property}
-use Rattle.repo_api.specs.States.{RepoState, youngest}
+use Rattle.repo_api.specs.States.{RepoState}
 use Rattle.repo_api.specs.Kinds.{kind_at, created_at, text_at, node_properties_at, or_empty, properties_at}
 use Rattle.repo_api.specs.Readings.{names_at}
 use Rattle.repo_api.specs.declared.entry.NodeKind.{NodeKind}
@@ -20,17 +20,13 @@ use Rattle.history.specs.declared.place.Place.{Place}
 use Rattle.forms.specs.Forms.{is_name}
 use Rattle.commands.specs.declared.command.GetFileCommand.{GetFileCommand}
 use Rattle.commands.specs.declared.command.GetDirCommand.{GetDirCommand}
+use Rattle.reports.specs.Refusing.{revision_read}
 use Rattle.replies.specs.Replies.{contents, uuid_text}
 use Rattle.replies.specs.declared.entries.NodeInfo.{NodeInfo}
 use Rattle.replies.specs.declared.reply.Reply.{Reply}
 use Rattle.replies.specs.declared.reply.Reply.TheVariants as replies
 
 -- ---- what is read
-
--- the youngest revision where none is named; one above it is refused
-abbrev pub revision_read : RepoState → Option ℕ → Result ℕ Refusal
-revision_read c None = Ok (youngest c)
-revision_read c (Some n) = if nat_lt (youngest c) n then Err refusals.NoSuchRevision else Ok n
 
 -- the path in the revision, if there is one
 abbrev pub in_revision : PathValue → Result ℕ Refusal → Result Place Refusal

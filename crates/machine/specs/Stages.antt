@@ -5,21 +5,24 @@ use Rattle.edit_rules.specs.Edits.{EditState}
 use Rattle.edit_rules.specs.Editor.{RestsOn as EditRestsOn}
 use Rattle.repo_api.specs.Soundness.{AreSound}
 use Rattle.edit_rules.specs.Soundness.{IsSoundEdit}
+use Rattle.reports.specs.declared.graft.Graft.{Graft}
 use Rattle.machine.specs.declared.phase.Phase.{Phase}
-use Rattle.machine.specs.declared.phase.Phase.TheVariants.{Greeted, LoggingIn, Challenged, Serving, Editing, Skipping, Ended}
+use Rattle.machine.specs.declared.phase.Phase.TheVariants.{Greeted, LoggingIn, Challenged, Serving, Editing, Skipping, Reporting, Driven, Ended}
 
--- a phase, with its edit as the machine has it
+-- a phase, with its edit or its report as the machine has it
 abbrev pub Stage : Type 0
-Stage = Phase EditState
+Stage = Phase EditState (List Graft)
 
 -- whether the session hears what comes
-abbrev pub is_open : {E : Type 0} → Phase E → Bool
+abbrev pub is_open : {E G : Type 0} → Phase E G → Bool
 is_open Greeted = true
 is_open (LoggingIn login) = true
 is_open (Challenged pending) = true
 is_open (Serving client) = true
 is_open (Editing edit) = true
 is_open (Skipping client) = true
+is_open (Reporting reporting) = true
+is_open (Driven client) = true
 is_open Ended = false
 
 -- the edit of the session, if it has one, has seen revisions that begin the repository's
@@ -30,6 +33,8 @@ EditRests (Challenged pending) c = Unit {0}
 EditRests (Serving client) c = Unit {0}
 EditRests (Editing edit) c = EditRestsOn edit.editor c
 EditRests (Skipping client) c = Unit {0}
+EditRests (Reporting reporting) c = Unit {0}
+EditRests (Driven client) c = Unit {0}
 EditRests Ended c = Unit {0}
 
 -- the edit of the session, if it has one, is sound
@@ -40,6 +45,8 @@ EditIsSound (Challenged pending) = Unit {0}
 EditIsSound (Serving client) = Unit {0}
 EditIsSound (Editing edit) = IsSoundEdit edit.editor
 EditIsSound (Skipping client) = Unit {0}
+EditIsSound (Reporting reporting) = Unit {0}
+EditIsSound (Driven client) = Unit {0}
 EditIsSound Ended = Unit {0}
 
 -- what a session stands on: the repository's trees are sound, and so is the session's edit, if it

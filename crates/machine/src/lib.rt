@@ -16,5 +16,5 @@ pub use env::Env;
 pub use laws::{one_hearing, steps_keep_trees, steps_rest};
 pub use login::{Mechanism, OpenChallenge, OpenLogin, chosen, offer};
 pub use options::{Options, is_repository_name};
-pub use phase::{Client, OpenEdit, Phase};
+pub use phase::{Client, OpenEdit, OpenReporting, Phase};
 pub use turn::Turn;

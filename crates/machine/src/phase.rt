@@ -5,6 +5,7 @@ ghost use Rattle.machine.specs.Stages.{is_open};
 use crate::asked::Asked;
 use crate::login::{OpenChallenge, OpenLogin};
 use byte_string::ByteString;
+use reports::Report;
 use svnpath::Path;
 
 /// Where a client is: the path of its URL in the repository, the root's URL as it spells it, and its user,
@@ -24,9 +25,16 @@ pub struct OpenEdit<E> {
     pub editor: E,
 }
 
-/// Where a session stands; `E` is what an edit has made.
+/// A report on its way: whose it is, and what it has come to.
 #[derive(Drop)]
-pub enum Phase<E> {
+pub struct OpenReporting<G> {
+    pub client: Client,
+    pub report: Report<G>,
+}
+
+/// Where a session stands; `E` is what an edit has made, `G` is what a report has put.
+#[derive(Drop)]
+pub enum Phase<E, G> {
     /// The answer to the greeting is awaited.
     Greeted,
     /// The choice of a mechanism is awaited.
@@ -39,11 +47,15 @@ pub enum Phase<E> {
     Editing(OpenEdit<E>),
     /// An edit was given up, and its end is awaited.
     Skipping(Client),
+    /// Commands of a report are awaited.
+    Reporting(OpenReporting<G>),
+    /// The client's answer to a drive is awaited.
+    Driven(Client),
     /// Nothing is heard any more.
     Ended,
 }
 
-impl<E> Phase<E> {
+impl<E, G> Phase<E, G> {
     /// Whether the session hears what comes.
     pub fn is_open(&self) -> bool
         ensures { result ≡ is_open self.now }

@@ -1,7 +1,8 @@
 //! Paths in the revisions in which they are read.
 ghost use Rattle.std.specs.Prelude.{◌≡◌, IfOk};
 ghost use Rattle.svnpath.specs.Texts.{joined};
-ghost use Rattle.machine.specs.Readings.{in_revision, place_read, revision_read};
+ghost use Rattle.machine.specs.Readings.{in_revision, place_read};
+ghost use Rattle.reports.specs.Refusing.{revision_read};
 
 use byte_string::ByteString;
 use history::Place;

@@ -3,6 +3,7 @@ use Rattle.std.specs.Prelude.{ℕ, Bool, List, [], ◌∷◌, ◌++◌, Option, 
 use Rattle.std.specs.Int.{to_be_bytes, w128}
 use Rattle.std.specs.List.{flat_map}
 use Rattle.uuid.specs.Text.{hyphenated_text, lower}
+use Rattle.edit_commands.specs.Printing.{command_item}
 use Rattle.items.specs.Print.{printed}
 use Rattle.items.specs.Values.{ItemValue, word, number, string, list, ItemValues, none, more}
 use Rattle.items.specs.View.{row_of}
@@ -27,7 +28,7 @@ use Rattle.replies.specs.declared.histories.LoggedChange.{LoggedChange}
 use Rattle.replies.specs.declared.reply.Offer.{Offer}
 use Rattle.replies.specs.declared.reply.Offer.TheVariants.{Anonymous, AnonymousOrUser, User}
 use Rattle.replies.specs.declared.reply.Reply.{Reply}
-use Rattle.replies.specs.declared.reply.Reply.TheVariants.{Greeting, NoLogin, Login, MechanismNotOffered, Challenge, LoginFailed, Success, ReposInfo, Revision, Kind, Properties, Lock, Locks, CommitInfo, FileInfo, Piece, DirectoryInfo, Stat, RevisionProperty, LogEntry, Location, Done, Failure}
+use Rattle.replies.specs.declared.reply.Reply.TheVariants.{Greeting, NoLogin, Login, MechanismNotOffered, Challenge, LoginFailed, Success, ReposInfo, Revision, Kind, Properties, Lock, Locks, CommitInfo, FileInfo, Piece, DirectoryInfo, Stat, RevisionProperty, LogEntry, Location, Edit, Done, Failure}
 
 -- the text of a number of 128 bits: `8-4-4-4-12` lower-case hexadecimal digits
 abbrev pub uuid_text : ℕ → List ℕ
@@ -203,6 +204,7 @@ reply_item (Stat node) = success (only (list (stat_trees node)))
 reply_item (RevisionProperty value) = success (only (list (optional_string_trees value)))
 reply_item (LogEntry entry) = log_entry entry
 reply_item (Location revision path) = location revision path
+reply_item (Edit command) = command_item command
 reply_item Done = word (codes "done")
 reply_item (Failure refusal) =
     failure (only (list (more (number (refusal_number refusal))

@@ -14,6 +14,7 @@ use crate::histories::{LogEntry, location_item, log_entry_item};
 use crate::locks::{LockList, lock_item, locks_item};
 use crate::properties::properties_item;
 use byte_string::ByteString;
+use edit_commands::{EditorCommand, command_item};
 use items::{Item, write_item};
 use refusals::Refusal;
 use repo_api::{Lock, NodeKind, Properties};
@@ -78,6 +79,8 @@ pub enum Reply {
     LogEntry(LogEntry),
     /// Where something was in a revision.
     Location(u64, Path),
+    /// A command of a drive.
+    Edit(EditorCommand),
     /// No further revision of a log comes, or no further location.
     Done,
     /// The command is refused.
@@ -137,6 +140,7 @@ impl Reply {
                 location_item(alloc, *revision, path),
                 out,
             ),
+            Reply::Edit(command) => write_made(command_item(alloc, command), out),
             Reply::Done => out.extend_from_slice(b"done "),
             Reply::Failure(refusal) => write_made(refusal_item(alloc, *refusal), out),
         }

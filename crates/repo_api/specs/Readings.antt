@@ -1,9 +1,9 @@
 -- What a directory of a revision shows: the names of its entries.
-use Rattle.std.specs.Prelude.{ℕ, List, [], ◌∷◌, length, drop, Option, Some, None, if◌then◌else◌}
+use Rattle.std.specs.Prelude.{◌≡◌, ℕ, List, [], ◌∷◌, ◌++◌, length, drop, Option, Some, None, if◌then◌else◌}
 use Rattle.std.specs.FinMap.{keys}
 use Rattle.std.specs.List.{filter_map}
 use Rattle.svnpath.specs.Paths.{PathValue, Component, is_at_or_under}
-use Rattle.repo_api.specs.States.{TreeMap, RepoState, tree_at}
+use Rattle.repo_api.specs.States.{TreeMap, RepoState, tree_at, trees_in}
 
 -- the item of a list of one
 abbrev pub only : {A : Type 0} → List A → Option A
@@ -31,3 +31,8 @@ names_in m p = names_among p (keys m)
 -- the names of what stands straight beneath a path of a revision
 abbrev pub names_at : RepoState → ℕ → PathValue → List Component
 names_at c n p = names_in (tree_at c n) p
+
+-- what stands at and under a path of a revision is what stands at and under another of another
+abbrev pub IsSameAt : RepoState → ℕ → PathValue → ℕ → PathValue → Type 0
+IsSameAt c n p m q =
+    (rest : PathValue) → trees_in c.revisions n (p ++ rest) ≡ trees_in c.revisions m (q ++ rest)

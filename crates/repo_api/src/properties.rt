@@ -1,5 +1,9 @@
 //! Properties by name.
-ghost use Rattle.std.specs.Prelude.{◌≡◌, [], OnOk, OnErr};
+ghost use Rattle.std.specs.Prelude.{◌≡◌, [], OnOk, OnErr, option_copied};
+ghost use Rattle.std.specs.BTreeMap.{is_at};
+ghost use Rattle.std.specs.Cmp.Lexicographic.{slice_cmp};
+ghost use Rattle.std.specs.Map.{lookup};
+ghost use Rattle.std.specs.Ordering.{nat_cmp};
 ghost use Rattle.repo_api.specs.Properties.{PropertyList, with_property, without_property};
 
 use byte_string::ByteString;
@@ -33,6 +37,13 @@ impl Properties {
         ensures { result ≡ self.now }
     {
         self.values.iter()
+    }
+
+    /// The value of the property of this name, if there is one.
+    pub fn get(&self, name: &ByteString) -> Option<&ByteString>
+        ensures { option_copied result ≡ lookup (is_at (slice_cmp nat_cmp name.now)) self.now }
+    {
+        self.values.get(name)
     }
 
     pub fn set(&mut self, name: ByteString, value: ByteString) -> Result<(), AllocError>

@@ -1,5 +1,5 @@
 //! A repository, by what it contains.
-ghost use Rattle.std.specs.Prelude.{◌≡◌, ◌≤◌, ◌<◌, length, map, IfOk, OnOk, OnErr, None, Some, option_copied, slice_get};
+ghost use Rattle.std.specs.Prelude.{◌≡◌, ◌≤◌, ◌<◌, true, length, map, IfOk, OnOk, OnErr, None, Some, option_copied, slice_get};
 ghost use Rattle.std.specs.FinMap.{get};
 ghost use Rattle.std.specs.Map.Iter.{deref, deref_pair};
 ghost use Rattle.repo_api.specs.States.{RepoState, TxnState, IsBeginning, IsBegun, IsEdited, tree_of, trees_in, youngest};
@@ -10,7 +10,7 @@ ghost use Rattle.repo_api.specs.Accepted.{IfRefused, IsOfMemory};
 ghost use Rattle.repo_api.specs.Locking.{at_or_under, lock_refusal, locked, unlock_refusal, unlocked, releases, without_released};
 ghost use Rattle.repo_api.specs.Histories.{history_of, IsQuietSince};
 ghost use Rattle.repo_api.specs.Kinds.{kind_at, has_deeper_at, created_at, node_properties_at, text_at, kind_in, created_in, text_in};
-ghost use Rattle.repo_api.specs.Readings.{names_at};
+ghost use Rattle.repo_api.specs.Readings.{names_at, IsSameAt};
 
 use crate::ask::CommitAsk;
 use crate::change::Change;
@@ -73,6 +73,16 @@ pub trait Repository: Drop {
     fn names(&self, revision: u64, path: &Path) -> Result<Vec<&ByteString>, AllocError>
         ensures { IfOk result (λ names. map deref names.items
             ≡ names_at (content self.now) revision path.now) };
+
+    /// Whether what stands at and under a path of a revision is what stands at and under another path
+    /// of another revision. A `false` answer is always right; a repository that can tell answers it
+    /// without looking at what lies beneath.
+    fn is_same(&self, revision: u64, path: &Path, other: u64, other_path: &Path) -> bool
+        ensures { result ≡ true
+            → IsSameAt (content self.now) revision path.now other other_path.now }
+    {
+        false
+    }
 
     /// The changes of a revision in the order of their paths, none for a number that is no revision.
     fn changes(&self, revision: u64) -> &[(Path, Change)]

@@ -13,9 +13,10 @@ use Rattle.machine.specs.Hearing.Input.{Broken}
 use Rattle.machine.specs.Answers.{no_effect, Answer, says, malformed}
 use Rattle.machine.specs.Logins.{speaks, url_answer, greeting_answer}
 use Rattle.machine.specs.Machine.{InputStep, skipping_answer}
+use Rattle.machine.specs.Reports.{driven_answer}
 use Rattle.machine.specs.declared.env.Env.{Env}
 use Rattle.machine.specs.declared.phase.Client.{Client}
-use Rattle.machine.specs.declared.phase.Phase.TheVariants.{Greeted, LoggingIn, Challenged, Serving, Editing, Skipping, Ended}
+use Rattle.machine.specs.declared.phase.Phase.TheVariants.{Greeted, LoggingIn, Challenged, Serving, Editing, Skipping, Reporting, Driven, Ended}
 
 nothing_if : (b : Bool) (x y : Answer) → x.effect ≡ no_effect → y.effect ≡ no_effect → (if b then x else y).effect ≡ no_effect
 nothing_if true x y p q = p
@@ -42,6 +43,13 @@ skipping_nothing env client None = refl
 skipping_nothing env client (Some true) = refl
 skipping_nothing env client (Some false) = refl
 
+-- ---- the client's answer to a drive
+
+pub driven_nothing : (env : Env) (client : Client) (answer : Option Bool) → (driven_answer env client answer).effect ≡ no_effect
+driven_nothing env client None = refl
+driven_nothing env client (Some true) = refl
+driven_nothing env client (Some false) = refl
+
 -- ---- a byte that goes on to no item
 
 abbrev pub broken_answer : Env → Stage → Answer
@@ -58,4 +66,6 @@ step_broken halted s env c (Challenged pending) = refl
 step_broken halted s env c (Serving client) = refl
 step_broken halted s env c (Editing edit) = refl
 step_broken halted s env c (Skipping client) = refl
+step_broken halted s env c (Reporting reporting) = refl
+step_broken halted s env c (Driven client) = refl
 step_broken halted s env c Ended = refl

@@ -20,6 +20,7 @@ use logins::{answer_challenge, greet, log_in};
 use machine::{Options, Phase, Turn};
 use replies::ReplySink;
 use repo_api::Repository;
+use reporting::{serve_driven, serve_report};
 use std::alloc::AllocError;
 use std::mem::drop;
 use telling::{SessionPhase, end_malformed};
@@ -48,6 +49,8 @@ fn serve_item<R: Repository, A: RepoAccess<View = R>, S: ReplySink>(
         Phase::Serving(client) => answer_item(options, client, item, access, turn),
         Phase::Editing(edit) => edit_item(edit, item, access, turn),
         Phase::Skipping(client) => skip(client, item, turn),
+        Phase::Reporting(reporting) => serve_report(options, reporting, item, access, turn),
+        Phase::Driven(client) => serve_driven(client, item, turn),
         Phase::Ended => Ok(Phase::Ended),
     }
 }

@@ -11,7 +11,7 @@ use Rattle.machine.specs.Stages.{Stage, SessionState, is_open}
 use Rattle.machine.specs.Answers.{Answer, content_after, halted_after}
 use Rattle.machine.specs.Machine.{InputStep}
 use Rattle.machine.specs.declared.env.Env.{Env}
-use Rattle.machine.specs.declared.phase.Phase.TheVariants.{Greeted, LoggingIn, Challenged, Serving, Editing, Skipping, Ended}
+use Rattle.machine.specs.declared.phase.Phase.TheVariants.{Greeted, LoggingIn, Challenged, Serving, Editing, Skipping, Reporting, Driven, Ended}
 use Rattle.hub.specs.State.{HubState, session_of, updated, without, kept}
 use Rattle.hub.specs.Runs.{Event, HubStep, HubRun, InputHappens, InputsAre, Feeds, answered, with_rest}
 use Rattle.hub.specs.Runs.Event.{Connects, Hears, Drops}
@@ -66,6 +66,8 @@ broken_ends halted s env c (Challenged pending) a step = ap (λ (x : Answer). x.
 broken_ends halted s env c (Serving client) a step = ap (λ (x : Answer). x.phase) step
 broken_ends halted s env c (Editing edit) a step = ap (λ (x : Answer). x.phase) step
 broken_ends halted s env c (Skipping client) a step = ap (λ (x : Answer). x.phase) step
+broken_ends halted s env c (Reporting reporting) a step = ap (λ (x : Answer). x.phase) step
+broken_ends halted s env c (Driven client) a step = ap (λ (x : Answer). x.phase) step
 broken_ends halted s env c Ended a step = ap (λ (x : Answer). x.phase) step
 
 either_way : (b : Bool) → (b ≡ true) ⊎ (b ≡ false)

@@ -60,7 +60,7 @@ fn put_new_data(document: &mut Vec<u8>, n: usize) -> Result<(), AllocError>
 
 /// Appends the window that gives this text.
 #[tactic(auto, unfolding(crate::specs::Full::full_window))]
-fn put_window(document: &mut Vec<u8>, text: &[u8]) -> Result<(), AllocError>
+pub fn put_window(document: &mut Vec<u8>, text: &[u8]) -> Result<(), AllocError>
     requires { length text.now < 2 ^ 21 }
     ensures { OnOk result (document.new.items ≡ document.old.items ++ full_window text.now) }
 {

@@ -18,4 +18,5 @@ mod window;
 pub use applier::Applier;
 pub use fault::DiffFault;
 pub use format::has_the_text_of_the_format;
-pub use full::encode_full;
+pub use full::{encode_full, put_window};
+pub use reading::HEADER;

@@ -12,4 +12,4 @@ pub use dating::date_of;
 pub use preface::{Preface, say_behind, say_new_behind, say_preface};
 pub use saying::{say_both, say_new, tell_refusal};
 pub use serving::{end_halted, refuse, tell};
-pub use turn::{SessionEdit, SessionPhase, end_malformed};
+pub use turn::{SessionEdit, SessionPhase, SessionReport, end_malformed};

@@ -7,17 +7,21 @@ ghost use Rattle.machine.specs.Steps.{AnswerWritten};
 
 use crate::saying::tell_refusal;
 use editor::CommitEditor;
-use machine::{OpenEdit, Phase, Turn};
+use machine::{OpenEdit, OpenReporting, Phase, Turn};
 use refusals::Refusal;
 use replies::ReplySink;
 use repo_api::Repository;
+use reports::Grafts;
 use std::alloc::AllocError;
 
 /// An edit of a session at a repository.
 pub type SessionEdit<R> = OpenEdit<CommitEditor<R>>;
 
+/// A report of a session.
+pub type SessionReport = OpenReporting<Grafts>;
+
 /// Where a session at a repository stands.
-pub type SessionPhase<R> = Phase<CommitEditor<R>>;
+pub type SessionPhase<R> = Phase<CommitEditor<R>, Grafts>;
 
 /// Ends the session over what is no command.
 pub fn end_malformed<R: Repository, S: ReplySink>(

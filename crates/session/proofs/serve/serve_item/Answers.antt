@@ -4,11 +4,13 @@ use Rattle.commands.specs.Logins.{client_greeting}
 use Rattle.edit_commands.specs.Editing.{ends_edit}
 use Rattle.machine.specs.Hearing.Input.{Whole}
 use Rattle.machine.specs.Logins.{greeting_answer}
+use Rattle.drive_commands.specs.Reporting.{client_answer}
 use Rattle.machine.specs.Machine.{skipping_answer}
+use Rattle.machine.specs.Reports.{driven_answer}
 use Rattle.machine.specs.Steps.{input_step}
-use Rattle.machine.specs.declared.phase.Phase.TheVariants.{Greeted, Skipping}
+use Rattle.machine.specs.declared.phase.Phase.TheVariants.{Greeted, Skipping, Driven}
 use Rattle.telling.proofs.Steps.{only_says, told_all, said, said_part}
-use Rattle.session.proofs.Answered.{greeting_nothing, skipping_nothing}
+use Rattle.session.proofs.Answered.{greeting_nothing, skipping_nothing, driven_nothing}
 use Rattle.session.proofs.serve.serve_item.Goals as goal
 
 pub returns-in-Greeted : goal.returns-in-Greeted
@@ -50,6 +52,24 @@ returns-in-Skipping g c =
     rw c.in-Skipping.is (record {
       ok = said g.A.RepoAccess.rules (input_step s env (Skipping client) (Whole item)) p p a stays refl nothing _ c.skip.result _ c.skip.ensures.ok;
       err = said_part g.A.RepoAccess.rules (input_step s env (Skipping client) (Whole item)) p p a stays refl nothing _ c.skip.result c.skip.ensures.err;
+    })
+
+pub returns-in-Reporting : goal.returns-in-Reporting
+returns-in-Reporting g c = rw c.in-Reporting.is c.serve_report.ensures
+
+pub returns-in-Driven : goal.returns-in-Driven
+returns-in-Driven g c =
+    let s = c.args.options.now in
+    let env = c.args.turn.now.env in
+    let client = c.in-Driven.client in
+    let item = value_of c.args.item.now in
+    let p = g.A.RepoAccess.point c.args.access.now in
+    let stays = g.met.A.RepoAccess.stays p in
+    let a = driven_answer env client (client_answer item) in
+    let nothing = driven_nothing env client (client_answer item) in
+    rw c.in-Driven.is (record {
+      ok = said g.A.RepoAccess.rules (input_step s env (Driven client) (Whole item)) p p a stays refl nothing _ c.serve_driven.result _ c.serve_driven.ensures.ok;
+      err = said_part g.A.RepoAccess.rules (input_step s env (Driven client) (Whole item)) p p a stays refl nothing _ c.serve_driven.result c.serve_driven.ensures.err;
     })
 
 pub returns-in-Ended-clause-ok : goal.returns-in-Ended-clause-ok

@@ -1,0 +1,104 @@
+-- What a writer's commands say: the properties of what is open, a text, and an entry from its opening to its close.
+use Rattle.std.proofs.Common.{◌≡◌, ℕ, true, false, not, List, [], ◌∷◌, ◌++◌, map, Option, Some, None, refl, ap, ◌∙◌, subst, if◌then◌else◌}
+use Rattle.std.proofs.lemmas.List.{append-nil, append_assoc}
+use Rattle.std.specs.Prelude.{Ok}
+use Rattle.svnpath.specs.Paths.{PathValue}
+use Rattle.svnpath.specs.PathLaws.{same_component_refl}
+use Rattle.svndiff0.specs.Document.{text_of}
+use Rattle.forms.specs.Forms.{is_name}
+use Rattle.edit_commands.specs.declared.editing.EditorCommand.{EditorCommand}
+use Rattle.edit_commands.specs.declared.editing.EditorCommand.TheVariants.{ChangeDirectoryProperty, ChangeFileProperty, ApplyTextDelta, TextDeltaChunk, TextDeltaEnd, CloseDirectory}
+use Rattle.drives.specs.Steps.{EntryKind, Step}
+use Rattle.drives.specs.Steps.EntryKind.{DirectoryKind, FileKind}
+use Rattle.drives.specs.Steps.Step.{PropertyAt, TextAt}
+use Rattle.drives.proofs.Joined.{and_both}
+use Rattle.drive_commands.specs.Saying.{OpenEntry, TextState, Says, said_by, same_kind, text_received, entered, is_placed, is_open}
+use Rattle.drive_commands.specs.Saying.TextState.{Unchanged, Receiving, Received}
+use Rattle.drive_commands.proofs.Joining.{says_append}
+
+same_kinds : (k : EntryKind) → same_kind k k ≡ true
+same_kinds DirectoryKind = refl
+same_kinds FileKind = refl
+
+-- a property of what is open
+abbrev pub property_command : EntryKind → List ℕ → List ℕ × Option (List ℕ) → EditorCommand
+property_command DirectoryKind token c = ChangeDirectoryProperty (record { token = token; name = c.0; value = c.1 })
+property_command FileKind token c = ChangeFileProperty (record { token = token; name = c.0; value = c.1 })
+
+reads_property : (top : PathValue) (base : PathValue → List ℕ) (h : OpenEntry) (hs : List OpenEntry) (c : List ℕ × Option (List ℕ)) (k : EntryKind) → same_kind k h.kind ≡ true
+    → said_by top base (h ∷ hs) (property_command k h.token c) ≡ Some (PropertyAt h.path c.0 c.1 ∷ [], h ∷ hs)
+reads_property top base h hs c DirectoryKind e = ap (λ b. if b then Some (PropertyAt h.path c.0 c.1 ∷ [], h ∷ hs) else None) (and_both (is_name h.token h.token) (same_kind DirectoryKind h.kind) (same_component_refl h.token) e)
+reads_property top base h hs c FileKind e = ap (λ b. if b then Some (PropertyAt h.path c.0 c.1 ∷ [], h ∷ hs) else None) (and_both (is_name h.token h.token) (same_kind FileKind h.kind) (same_component_refl h.token) e)
+
+pub says_properties : (top : PathValue) (base : PathValue → List ℕ) (h : OpenEntry) (hs : List OpenEntry) (cs : List (List ℕ × Option (List ℕ)))
+    → Says top base (h ∷ hs) (map (property_command h.kind h.token) cs) (map (λ c. PropertyAt h.path c.0 c.1) cs) (h ∷ hs)
+says_properties top base h hs [] = (refl, refl)
+says_properties top base h hs (c ∷ cs) =
+    (PropertyAt h.path c.0 c.1 ∷ [], h ∷ hs, map (λ d. PropertyAt h.path d.0 d.1) cs, reads_property top base h hs c h.kind (same_kinds h.kind), says_properties top base h hs cs, refl)
+
+-- ---- a text
+
+abbrev pub joined_bytes : List (List ℕ) → List ℕ
+joined_bytes [] = []
+joined_bytes (b ∷ bs) = b ++ joined_bytes bs
+
+abbrev pub with_state : OpenEntry → TextState → OpenEntry
+with_state h state = record h { state = state }
+
+says_chunks : (top : PathValue) (base : PathValue → List ℕ) (h : OpenEntry) (hs : List OpenEntry) (before : List ℕ) (bs : List (List ℕ)) → same_kind FileKind h.kind ≡ true
+    → Says top base (with_state h (Receiving before) ∷ hs) (map (λ b. TextDeltaChunk h.token b) bs) [] (with_state h (Receiving (before ++ joined_bytes bs)) ∷ hs)
+says_chunks top base h hs before [] file = (refl, ap (λ bytes. with_state h (Receiving bytes) ∷ hs) (append-nil before))
+says_chunks top base h hs before (b ∷ bs) file = (
+  [],
+  with_state h (Receiving (before ++ b)) ∷ hs,
+  [],
+  ap (λ x. if x then Some ([], with_state h (Receiving (before ++ b)) ∷ hs) else None) (and_both (is_name h.token h.token) (same_kind FileKind h.kind) (same_component_refl h.token) file),
+  subst (λ bytes. Says top base (with_state h (Receiving (before ++ b)) ∷ hs) (map (λ c. TextDeltaChunk h.token c) bs) [] (with_state h (Receiving bytes) ∷ hs)) (append_assoc before b (joined_bytes bs)) (says_chunks top base h hs (before ++ b) bs file),
+  refl,
+)
+
+-- a delta in any pieces, of a document that has the text over what the client has
+pub says_text : (top : PathValue) (base : PathValue → List ℕ) (h : OpenEntry) (hs : List OpenEntry) (pieces : List (List ℕ)) (text : List ℕ) → same_kind FileKind h.kind ≡ true → text_of h.base (joined_bytes pieces) ≡ Ok text
+    → Says top base (with_state h Unchanged ∷ hs) (ApplyTextDelta h.token None ∷ (map (λ b. TextDeltaChunk h.token b) pieces ++ TextDeltaEnd h.token ∷ [])) (TextAt h.path text ∷ []) (with_state h (Received text) ∷ hs)
+says_text top base h hs pieces text file is = (
+  [],
+  with_state h (Receiving []) ∷ hs,
+  TextAt h.path text ∷ [],
+  ap (λ x. if x then Some ([], with_state h (Receiving []) ∷ hs) else None) (and_both (is_name h.token h.token) (same_kind FileKind h.kind) (same_component_refl h.token) file),
+  says_append top base (with_state h (Receiving []) ∷ hs) (with_state h (Receiving (joined_bytes pieces)) ∷ hs) (with_state h (Received text) ∷ hs) (map (λ b. TextDeltaChunk h.token b) pieces) (TextDeltaEnd h.token ∷ []) [] (TextAt h.path text ∷ [])
+      (says_chunks top base h hs [] pieces file) (
+        TextAt h.path text ∷ [],
+        with_state h (Received text) ∷ hs,
+        [],
+        ap (λ x. if x then text_received (text_of h.base (joined_bytes pieces)) (with_state h (Receiving (joined_bytes pieces))) hs else None) (and_both (is_name h.token h.token) (same_kind FileKind h.kind) (same_component_refl h.token) file)
+            ∙ ap (λ r. text_received r (with_state h (Receiving (joined_bytes pieces))) hs) is,
+        (refl, refl),
+        refl,
+      ),
+  refl,
+)
+
+-- ---- an entry
+
+pub reads_entry : (top : PathValue) (hs : List OpenEntry) (p : PathValue) (parent token base : List ℕ) (kind : EntryKind) (step : Step) → is_placed top hs p parent ≡ true → is_open token hs ≡ false
+    → entered top hs p parent token kind base step ≡ Some (step ∷ [], record { token = token; path = p; kind = kind; base = base; state = Unchanged } ∷ hs)
+reads_entry top hs p parent token base kind step fit new =
+    ap (λ x. if x then Some (step ∷ [], record { token = token; path = p; kind = kind; base = base; state = Unchanged } ∷ hs) else None)
+    (and_both (is_placed top hs p parent) (not (is_open token hs)) fit (ap not new))
+
+pub reads_close : (top : PathValue) (base : PathValue → List ℕ) (h : OpenEntry) (hs : List OpenEntry) → same_kind DirectoryKind h.kind ≡ true → said_by top base (h ∷ hs) (CloseDirectory h.token) ≡ Some ([], hs)
+reads_close top base h hs dir = ap (λ x. if x then Some ([], hs) else None) (and_both (is_name h.token h.token) (same_kind DirectoryKind h.kind) (same_component_refl h.token) dir)
+
+-- an entry from its opening to its close, with what is said of it and below it
+pub says_entry : (top : PathValue) (base : PathValue → List ℕ) (hs : List OpenEntry) (first close : EditorCommand) (step : Step) (new last : OpenEntry) (inner : List EditorCommand) (steps : List Step)
+    → said_by top base hs first ≡ Some (step ∷ [], new ∷ hs) → Says top base (new ∷ hs) inner steps (last ∷ hs) → said_by top base (last ∷ hs) close ≡ Some ([], hs)
+    → Says top base hs (first ∷ (inner ++ close ∷ [])) (step ∷ steps) hs
+says_entry top base hs first close step new last inner steps opens says closes = (
+  step ∷ [],
+  new ∷ hs,
+  steps,
+  opens,
+  subst (λ s. Says top base (new ∷ hs) (inner ++ close ∷ []) s hs) (append-nil steps)
+      (says_append top base (new ∷ hs) (last ∷ hs) hs inner (close ∷ []) steps [] says ([], hs, [], closes, (refl, refl), refl)),
+  refl,
+)

@@ -1,0 +1,4 @@
+pub mod Saying
+pub mod EntryProperties
+pub mod Sent
+pub mod Reporting

@@ -1,0 +1,173 @@
+-- What the commands of a drive say, by their tokens: depth first, each of what was opened last.
+use Rattle.std.specs.Prelude.{◌≡◌, ℕ, Bool, true, false, not, ◌&&◌, is_some, List, [], ◌∷◌, ◌++◌, Option, Some, None, Result, Ok, Err, if◌then◌else◌}
+use Rattle.std.specs.List.{list_any}
+use Rattle.hex.specs.Hex.{encode_lower}
+use Rattle.md5.specs.Md5.{md5}
+use Rattle.svnpath.specs.Paths.{PathValue}
+use Rattle.svnpath.specs.Texts.{components_of}
+use Rattle.svndiff0.specs.Document.{text_of}
+use Rattle.svndiff0.specs.declared.fault.DiffFault.{DiffFault}
+use Rattle.forms.specs.Forms.{is_name}
+use Rattle.edit_commands.specs.declared.editing.AddedEntry.{AddedEntry}
+use Rattle.edit_commands.specs.declared.editing.EditorCommand.{EditorCommand}
+use Rattle.edit_commands.specs.declared.editing.EditorCommand.TheVariants.{TargetRevision, OpenRoot, DeleteEntry, AddDirectory, AddFile, OpenDirectory, OpenFile, AbsentDirectory, AbsentFile, ChangeDirectoryProperty, ChangeFileProperty, ApplyTextDelta, TextDeltaChunk, TextDeltaEnd, CloseDirectory, CloseFile, CloseEdit, AbortEdit}
+use Rattle.edit_commands.specs.declared.editing.OpenedEntry.{OpenedEntry}
+use Rattle.edit_commands.specs.declared.editing.PropertyChange.{PropertyChange}
+use Rattle.drives.specs.Places.{is_in_directory}
+use Rattle.drives.specs.Steps.{EntryKind, Step}
+use Rattle.drives.specs.Steps.EntryKind.{DirectoryKind, FileKind}
+use Rattle.drives.specs.Steps.Step.{OpenAt, AddAt, DeleteAt, PropertyAt, TextAt}
+
+-- what was sent of a file's text: nothing, some bytes of a delta, or a whole delta, with its text
+pub data TextState : Type 0 where
+  Unchanged : TextState
+  Receiving : List ℕ → TextState
+  Received : List ℕ → TextState
+
+-- what is open under a token: its path and kind, the text that the client has of it, and what was
+-- sent of its text
+pub record OpenEntry : Type 0 where
+  pub token : List ℕ
+  pub path : PathValue
+  pub kind : EntryKind
+  pub base : List ℕ
+  pub state : TextState
+
+-- a directory's kind
+abbrev pub is_directory_kind : EntryKind → Bool
+is_directory_kind DirectoryKind = true
+is_directory_kind FileKind = false
+
+-- both are directories, or both files
+abbrev pub same_kind : EntryKind → EntryKind → Bool
+same_kind DirectoryKind kind = is_directory_kind kind
+same_kind FileKind kind = not (is_directory_kind kind)
+
+-- something is open under the token
+abbrev pub is_open : List ℕ → List OpenEntry → Bool
+is_open token hs = list_any (λ h. is_name h.token token) hs
+
+-- what a command says, and what is open after it, where it has its place
+abbrev pub Said : Type 0
+Said = Option (List Step × List OpenEntry)
+
+-- these steps are said, and this is open, where the test holds
+abbrev pub when : Bool → List Step → List OpenEntry → Said
+when holds steps hs = if holds then Some (steps, hs) else None
+
+-- ---- places
+
+-- the path is in the directory that was opened last, and this is the directory's token
+abbrev pub is_placed : PathValue → List OpenEntry → PathValue → List ℕ → Bool
+is_placed top [] p parent = false
+is_placed top (h ∷ hs) p parent =
+    is_name h.token parent && is_directory_kind h.kind && is_in_directory top h.path p
+
+-- an entry is opened or added, under a token that is not open
+abbrev pub entered : PathValue → List OpenEntry → PathValue → List ℕ → List ℕ → EntryKind → List ℕ
+    → Step → Said
+entered top hs p parent token kind base step =
+    when (is_placed top hs p parent && not (is_open token hs)) (step ∷ [])
+    (record { token = token; path = p; kind = kind; base = base; state = Unchanged } ∷ hs)
+
+-- an entry is opened, over the text that the client has of it
+abbrev pub opened : PathValue → List OpenEntry → OpenedEntry → EntryKind → List ℕ → Said
+opened top hs e kind base =
+    entered top hs (components_of e.path) e.parent e.token kind base
+    (OpenAt (components_of e.path) kind)
+
+-- an entry is added; a drive names no source of a copy
+abbrev pub added : PathValue → List OpenEntry → AddedEntry → EntryKind → Said
+added top hs e kind =
+    if is_some e.source
+    then None
+    else entered top hs (components_of e.path) e.parent e.token kind []
+    (AddAt (components_of e.path) kind)
+
+-- ---- what was opened last
+
+-- what is said of what was opened last, if it is of this token and kind
+abbrev pub of_newest : List OpenEntry → List ℕ → EntryKind
+    → (OpenEntry → List OpenEntry → Said) → Said
+of_newest [] token kind f = None
+of_newest (h ∷ hs) token kind f =
+    if is_name h.token token && same_kind kind h.kind then f h hs else None
+
+-- a property of it has a value now, or is taken out
+abbrev pub property_said : List OpenEntry → PropertyChange → EntryKind → Said
+property_said hs p kind =
+    of_newest hs p.token kind (λ h rest. Some (PropertyAt h.path p.name p.value ∷ [], h ∷ rest))
+
+-- a delta begins, once
+abbrev pub delta_begun : TextState → OpenEntry → List OpenEntry → Said
+delta_begun Unchanged h hs = Some ([], record h { state = Receiving [] } ∷ hs)
+delta_begun _ h hs = None
+
+-- the next bytes of a delta
+abbrev pub delta_more : List ℕ → TextState → OpenEntry → List OpenEntry → Said
+delta_more bytes (Receiving before) h hs =
+    Some ([], record h { state = Receiving (before ++ bytes) } ∷ hs)
+delta_more bytes _ h hs = None
+
+-- the text that a delta brings
+abbrev pub text_received : Result (List ℕ) DiffFault → OpenEntry → List OpenEntry → Said
+text_received (Ok text) h hs =
+    Some (TextAt h.path text ∷ [], record h { state = Received text } ∷ hs)
+text_received (Err fault) h hs = None
+
+-- a delta ends: it is read over the text that the client has
+abbrev pub delta_ended : TextState → OpenEntry → List OpenEntry → Said
+delta_ended (Receiving document) h hs = text_received (text_of h.base document) h hs
+delta_ended _ h hs = None
+
+-- a checksum is that of the text, where there is one
+abbrev pub is_checksum : List ℕ → Option (List ℕ) → Bool
+is_checksum text None = true
+is_checksum text (Some digits) = is_name digits (encode_lower (md5 text))
+
+-- a file is closed: its checksum is that of the text that was sent, or that the client has
+abbrev pub file_closed : Option (List ℕ) → TextState → OpenEntry → List OpenEntry → Said
+file_closed checksum Unchanged h hs = when (is_checksum h.base checksum) [] hs
+file_closed checksum (Receiving document) h hs = None
+file_closed checksum (Received text) h hs = when (is_checksum text checksum) [] hs
+
+-- ---- commands
+
+-- What a command says, and what is open after it, where it has its place. The top is the target,
+-- and the base the text that the client has of a file.
+abbrev pub said_by : PathValue → (PathValue → List ℕ) → List OpenEntry → EditorCommand → Said
+said_by top base hs (TargetRevision n) = None
+said_by top base hs (OpenRoot revision token) = None
+said_by top base hs (DeleteEntry e) =
+    when (is_placed top hs (components_of e.path) e.parent)
+    (DeleteAt (components_of e.path) ∷ []) hs
+said_by top base hs (AddDirectory e) = added top hs e DirectoryKind
+said_by top base hs (AddFile e) = added top hs e FileKind
+said_by top base hs (OpenDirectory e) = opened top hs e DirectoryKind []
+said_by top base hs (OpenFile e) = opened top hs e FileKind (base (components_of e.path))
+said_by top base hs (AbsentDirectory e) = None
+said_by top base hs (AbsentFile e) = None
+said_by top base hs (ChangeDirectoryProperty p) = property_said hs p DirectoryKind
+said_by top base hs (ChangeFileProperty p) = property_said hs p FileKind
+said_by top base hs (ApplyTextDelta token checksum) =
+    of_newest hs token FileKind
+    (λ h rest. if is_checksum h.base checksum then delta_begun h.state h rest else None)
+said_by top base hs (TextDeltaChunk token bytes) =
+    of_newest hs token FileKind (λ h rest. delta_more bytes h.state h rest)
+said_by top base hs (TextDeltaEnd token) =
+    of_newest hs token FileKind (λ h rest. delta_ended h.state h rest)
+said_by top base hs (CloseDirectory token) =
+    of_newest hs token DirectoryKind (λ h rest. Some ([], rest))
+said_by top base hs (CloseFile token checksum) =
+    of_newest hs token FileKind (λ h rest. file_closed checksum h.state h rest)
+said_by top base hs CloseEdit = None
+said_by top base hs AbortEdit = None
+
+-- from what is open, the commands say these steps, and then this is open
+abbrev pub Says : PathValue → (PathValue → List ℕ) → List OpenEntry → List EditorCommand
+    → List Step → List OpenEntry → Type 0
+Says top base hs [] steps end = (steps ≡ []) × (end ≡ hs)
+Says top base hs (c ∷ cs) steps end =
+    (now : List Step) × (mid : List OpenEntry) × (later : List Step)
+    × (said_by top base hs c ≡ Some (now, mid)) × Says top base mid cs later end
+    × (steps ≡ now ++ later)

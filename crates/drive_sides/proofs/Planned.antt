@@ -1,0 +1,120 @@
+-- The plan of a drive.
+use Rattle.std.proofs.Common.{◌≡◌, ◌==◌, ◌+◌, ◌++◌, not, option_map, Bool, true, false, cond, ◌&&◌, List, [], ◌∷◌, length, drop, Option, Some, None, Ok, refl, sym, ap, ◌∙◌, subst}
+use Rattle.std.proofs.lemmas.Bool.{false≢true}
+use Rattle.std.proofs.lemmas.List.{append-nil}
+use Rattle.drives.proofs.Joined.{or_right}
+use Rattle.std.specs.Prelude.{ok_or, IsSomeAnd, IsTrue}
+use Rattle.svnpath.specs.Paths.{PathValue, is_at_or_under, same_path}
+use Rattle.svnpath.specs.PathLaws.{same_path_refl}
+use Rattle.refusals.specs.declared.Refusal.TheVariants as refusals
+use Rattle.repo_api.specs.Soundness.{AreTrees}
+use Rattle.repo_api.specs.States.{RepoState, trees_in}
+use Rattle.repo_api.specs.Trees.{is_directory}
+use Rattle.repo_api.specs.declared.entry.Entry.{Entry}
+use Rattle.drives.specs.Places.{is_in_directory}
+use Rattle.drives.specs.Scopes.{scope_of, under}
+use Rattle.drive_commands.specs.Sent.{seen_by}
+use Rattle.entry_news.specs.News.{own_of}
+use Rattle.reporter.specs.Nesting.{AreNested, has_directory}
+use Rattle.reporter.specs.Visits.{IsRightPlan}
+use Rattle.reporter.specs.Walks.{BothHold}
+use Rattle.reporter.specs.declared.visit.Visit.{Visit}
+use Rattle.reporter.specs.declared.visit.Visit.TheVariants.{Open}
+use Rattle.reports.proofs.Drives.{both_hold}
+use Rattle.reports.specs.Refusing.{OpenState, ◌>>=◌, unless, has_goal, has_anchor, is_directory_there, finish_root}
+use Rattle.reports.specs.Reported.{ReportedEntry, entries_of}
+use Rattle.reports.specs.Reported as reported
+use Rattle.reports.specs.Targets.{WholeReport, client_tree, drive_scope, limit_of, target_tree, reported_tree, old_tree, new_tree, stale_in}
+use Rattle.reports.specs.declared.report.ReportRoot.{ReportRoot}
+use Rattle.drive_sides.specs.Plans.{IsPlan, whole}
+
+-- ---- what is known of a report that has come to its end
+
+and_first : (a b : Bool) → (a && b) ≡ true → a ≡ true
+and_first true b h = refl
+and_first false b h = absurd (false≢true h)
+
+and_second : (a b : Bool) → (a && b) ≡ true → b ≡ true
+and_second true b h = h
+and_second false b h = absurd (false≢true h)
+
+pub anchored : (c : RepoState) (report : OpenState) (root : ReportRoot) → finish_root c report ≡ Ok root → has_anchor c report.ask report.grafts ≡ true
+anchored c report root h = by report.root (has_goal c report.ask report.ask.purpose) (has_anchor c report.ask report.grafts) h
+  where
+    by : (o : Option ReportRoot) (a b : Bool) → (ok_or o refusals.MalformedData >>= (λ r. unless (a && b) refusals.NotFound >>= (λ _. Ok r))) ≡ Ok root → b ≡ true
+    by None a b h = cc
+    by (Some r) true true h = refl
+    by (Some r) true false h = cc
+    by (Some r) false b h = cc
+
+both_anchors : (c : RepoState) (report : OpenState) (root : ReportRoot) → finish_root c report ≡ Ok root → same_path report.ask.target [] ≡ true
+    → (is_directory_there (trees_in c.revisions report.ask.revision report.ask.goal) && reported.has_directory (reported_tree c report.ask report.grafts [])) ≡ true
+both_anchors c report root h top =
+    sym (ap (λ b. cond b (is_directory_there (trees_in c.revisions report.ask.revision report.ask.goal) && reported.has_directory (reported_tree c report.ask report.grafts []))
+    (is_directory_there (trees_in c.revisions report.ask.revision report.ask.anchor))) top)
+    ∙ anchored c report root h
+
+-- the root stands on both sides where there is no target
+scope_root : (c : RepoState) (report : OpenState) (root : ReportRoot) → report.ask.target ≡ [] → drive_scope c (whole report root) [] ≡ true
+scope_root c report root is =
+    ap (λ (t : PathValue). scope_of (limit_of (client_tree c (whole report root)) root report.ask.depth) (entries_of (client_tree c (whole report root))) (target_tree c report.ask) t []) is
+
+same_root : (target : PathValue) → target ≡ [] → same_path target [] ≡ true
+same_root target is = ap (λ t. same_path t []) is
+
+of_entries : (o : Option ReportedEntry) → reported.has_directory o ≡ true → has_directory (option_map (λ (h : ReportedEntry). h.entry) o) ≡ true
+of_entries None h = h
+of_entries (Some x) h = h
+
+of_there : (o : Option Entry) → is_directory_there o ≡ true → has_directory o ≡ true
+of_there None h = h
+of_there (Some x) h = h
+
+pub root_old : (c : RepoState) (report : OpenState) (root : ReportRoot) → finish_root c report ≡ Ok root → report.ask.target ≡ [] → has_directory (old_tree c (whole report root) []) ≡ true
+root_old c report root done is =
+    ap (λ b. has_directory (cond b (entries_of (client_tree c (whole report root)) []) None)) (scope_root c report root is)
+    ∙ of_entries (client_tree c (whole report root) []) (and_second (is_directory_there (trees_in c.revisions report.ask.revision report.ask.goal)) (reported.has_directory (reported_tree c report.ask report.grafts [])) (both_anchors c report root done (same_root report.ask.target is)))
+
+pub root_new : (c : RepoState) (report : OpenState) (root : ReportRoot) → finish_root c report ≡ Ok root → report.ask.target ≡ [] → has_directory (new_tree c (whole report root) []) ≡ true
+root_new c report root done is =
+    ap (λ b. has_directory (cond b (target_tree c report.ask []) None)) (scope_root c report root is)
+    ∙ ap (λ (t : PathValue). has_directory (cond (is_at_or_under [] t) (trees_in c.revisions report.ask.revision (report.ask.goal ++ drop (length t) [])) None)) is
+    ∙ ap (λ p. has_directory (trees_in c.revisions report.ask.revision p)) (append-nil report.ask.goal)
+    ∙ of_there (trees_in c.revisions report.ask.revision report.ask.goal) (and_first (is_directory_there (trees_in c.revisions report.ask.revision report.ask.goal)) (reported.has_directory (reported_tree c report.ask report.grafts [])) (both_anchors c report root done (same_root report.ask.target is)))
+
+pub directory_of : (o : Option Entry) → has_directory o ≡ true → IsSomeAnd o (λ e. IsTrue (is_directory e))
+directory_of None h = absurd (false≢true h)
+directory_of (Some e) h = h
+
+-- ---- plans
+
+abbrev IsRightFor : RepoState → WholeReport → PathValue → List Visit → Type 0
+IsRightFor c report top visits = IsRightPlan (seen_by report.ask.purpose) (under top) (stale_in c report) (old_tree c report) (new_tree c report) (own_of c report) visits
+
+pub both_sides : (c : RepoState) (report : WholeReport) → AreTrees c.revisions → BothHold (old_tree c report) (new_tree c report) report.ask.target
+both_sides c report trees = record { old_holds = (both_hold c report trees).0; new_holds = (both_hold c report trees).1 }
+
+-- of the whole tree
+pub root_plan : (c : RepoState) (report : WholeReport) (visits : List Visit) → AreTrees c.revisions → report.ask.target ≡ [] → (BothHold (old_tree c report) (new_tree c report) [] → IsRightFor c report [] (Open [] ∷ visits))
+    → AreNested (new_tree c report) [] [] visits → IsPlan c report visits
+root_plan c report visits trees is right nests = record {
+  right = subst (λ (t : PathValue). IsRightFor c report t (cond (same_path t []) (Open [] ∷ visits) visits)) (sym is) (right (subst (BothHold (old_tree c report) (new_tree c report)) is (both_sides c report trees)));
+  nests = subst (λ (t : PathValue). AreNested (new_tree c report) t [] visits) (sym is) nests;
+}
+
+-- of a target
+pub target_plan : (c : RepoState) (report : WholeReport) (visits : List Visit) → AreTrees c.revisions → same_path report.ask.target [] ≡ false
+    → (BothHold (old_tree c report) (new_tree c report) report.ask.target → IsRightFor c report report.ask.target visits)
+    → ((d : PathValue) → is_in_directory report.ask.target d report.ask.target ≡ true → AreNested (new_tree c report) report.ask.target d visits) → IsPlan c report visits
+target_plan c report visits trees apart right nests = record {
+  right = subst (λ b. IsRightFor c report report.ask.target (cond b (Open [] ∷ visits) visits)) (sym apart) (right (both_sides c report trees));
+  nests = nests [] inside;
+}
+  where
+    inside : is_in_directory report.ask.target [] report.ask.target ≡ true
+    inside = or_right (is_at_or_under report.ask.target [] && (length report.ask.target == 0 + 1)) (same_path report.ask.target report.ask.target && not (same_path report.ask.target []))
+        (ap (λ b. b && not (same_path report.ask.target [])) (same_path_refl report.ask.target) ∙ ap not apart)
+
+pub not_root : (target : PathValue) (b : Bool) → (target ≡ [] → b ≡ true) → b ≡ false → same_path target [] ≡ false
+not_root [] b h e = absurd (false≢true (sym e ∙ h refl))
+not_root (c ∷ target) b h e = refl

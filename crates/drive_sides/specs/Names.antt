@@ -1,0 +1,23 @@
+-- Names of what stands straight beneath a path.
+use Rattle.std.specs.Prelude.{◌≡◌, Bool, false, List, [], ◌∷◌, ◌++◌, map}
+use Rattle.std.specs.List.{list_any}
+use Rattle.svnpath.specs.Paths.{PathValue, Component, same_component}
+use Rattle.repo_api.specs.Readings.{names_among}
+use Rattle.reports.specs.declared.graft.Graft.{Graft}
+
+-- the name is one of these
+abbrev pub is_among : List Component → Component → Bool
+is_among names c = list_any (same_component c) names
+
+-- no name is there twice
+abbrev pub AreDistinct : List Component → Type 0
+AreDistinct [] = Unit {0}
+AreDistinct (c ∷ names) = (is_among names c ≡ false) × AreDistinct names
+
+-- the names of the grafts that stand straight beneath a path
+abbrev pub graft_names : PathValue → List Graft → List Component
+graft_names p grafts = names_among p (map (λ g. g.path) grafts)
+
+-- the paths of these names beneath a path
+abbrev pub children_of : PathValue → List Component → List PathValue
+children_of p names = map (λ c. p ++ c ∷ []) names

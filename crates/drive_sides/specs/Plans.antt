@@ -1,0 +1,31 @@
+-- The plans of drives.
+use Rattle.std.specs.Prelude.{◌≡◌, List, [], ◌∷◌, Some, if◌then◌else◌}
+use Rattle.svnpath.specs.Paths.{PathValue, same_path}
+use Rattle.repo_api.specs.States.{RepoState}
+use Rattle.drives.specs.Scopes.{under}
+use Rattle.reporter.specs.Nesting.{walk}
+use Rattle.reporter.specs.Visits.{IsRightPlan}
+use Rattle.reporter.specs.declared.visit.Visit.{Visit}
+use Rattle.reporter.specs.declared.visit.Visit.TheVariants.{Open}
+use Rattle.reports.specs.Refusing.{OpenState}
+use Rattle.reports.specs.Targets.{WholeReport, old_tree, new_tree, stale_in}
+use Rattle.reports.specs.declared.ask.DriveAsk.{DriveAsk}
+use Rattle.reports.specs.declared.report.ReportRoot.{ReportRoot}
+use Rattle.drive_commands.specs.Sent.{seen_by}
+use Rattle.entry_news.specs.News.{own_of}
+
+-- a report that has come to its end
+abbrev pub whole : OpenState → ReportRoot → WholeReport
+whole report root = record { ask = report.ask; root = root; grafts = report.grafts }
+
+-- the root itself stands before the visits where there is no target
+abbrev pub from_top : DriveAsk → List Visit → List Visit
+from_top ask visits = if same_path ask.target [] then Open [] ∷ visits else visits
+
+-- visits from the open root on, which lead from what the client has to what it is to have
+pub record IsPlan (c : RepoState) (report : WholeReport) (visits : List Visit) : Type 0 where
+  pub right : IsRightPlan (seen_by report.ask.purpose) (under report.ask.target)
+      (stale_in c report) (old_tree c report) (new_tree c report) (own_of c report)
+      (from_top report.ask visits)
+  pub nests : (ds : List PathValue)
+      → walk (new_tree c report) report.ask.target ([] ∷ ds) visits ≡ Some ([] ∷ ds)

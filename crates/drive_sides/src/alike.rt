@@ -1,0 +1,61 @@
+//! What a client has whole.
+ghost use Rattle.std.specs.Prelude.{◌≡◌, true, false};
+ghost use Rattle.std.specs.List.{list_any};
+ghost use Rattle.repo_api.specs.Readings.{IsSameAt};
+ghost use Rattle.drives.specs.Scopes.{below};
+ghost use Rattle.drives.specs.declared.depth.Depth.TheVariants.{Infinity};
+
+use drives::Depth;
+use repo_api::Repository;
+use reports::{Graft, ReportedPlace};
+use svnpath::Path;
+
+/// Whether a graft stands beneath a path.
+fn is_beneath(graft: &Graft, path: &Path) -> bool
+    ensures { result ≡ below path.now graft.now.path }
+{
+    graft.path.is_at_or_under(path) && path != &graft.path
+}
+
+/// Whether some graft stands beneath a path.
+pub(crate) fn has_beneath(grafts: &[Graft], path: &Path) -> bool
+    ensures { result ≡ list_any (λ g. below path.now g.path) grafts.now }
+{
+    for graft in grafts {
+        if is_beneath(graft, path) {
+            return true;
+        }
+    }
+    false
+}
+
+/// Whether a client has all that stands at a place and beneath it.
+fn is_whole(place: &ReportedPlace<'_>) -> bool
+    ensures { result ≡ true → (place.now.starts_empty ≡ false) × (place.now.depth ≡ Infinity) }
+{
+    if place.starts_empty {
+        return false;
+    }
+    match place.depth {
+        Depth::Infinity => true,
+        Depth::Immediates => false,
+        Depth::Files => false,
+        Depth::Empty => false,
+    }
+}
+
+/// Whether a client has all of what is, as the repository can tell, the same as at a path of a
+/// revision and beneath it.
+pub(crate) fn has_same<R: Repository>(
+    view: &R,
+    place: &ReportedPlace<'_>,
+    revision: u64,
+    path: &Path,
+) -> bool
+    ensures whole { result ≡ true → (place.now.starts_empty ≡ false)
+        × (place.now.depth ≡ Infinity) }
+    ensures same { result ≡ true → IsSameAt (R.content view.now) place.now.revision
+        place.now.path revision path.now }
+{
+    is_whole(place) && view.is_same(place.revision, &place.path, revision, path)
+}

@@ -1,0 +1,14 @@
+//! The two trees of a drive over a repository, and the plan of a drive.
+#![tactic(auto)]
+
+mod alike;
+mod names;
+mod planning;
+mod scope;
+mod sides;
+mod telling;
+mod two_trees;
+mod views;
+
+pub use planning::plan;
+pub use two_trees::TwoTrees;

@@ -1,0 +1,77 @@
+//! The names of what a directory has on either side.
+ghost use Rattle.std.specs.Prelude.{◌≡◌, ◌||◌, IfOk, OnOk, option_copied};
+ghost use Rattle.svnpath.specs.Paths.{Component};
+ghost use Rattle.repo_api.specs.Readings.{name_in, names_at};
+ghost use Rattle.drive_sides.specs.Names.{children_of, graft_names, is_among, AreDistinct};
+
+use byte_string::ByteString;
+use repo_api::Repository;
+use reports::Graft;
+use std::alloc::{AllocError, Global};
+use std::collections::BTreeSet;
+use svnpath::Path;
+
+/// The names of a directory of a revision, put among others.
+pub(crate) fn put_names<R: Repository>(
+    view: &R,
+    revision: u64,
+    path: &Path,
+    names: &mut BTreeSet<ByteString>,
+) -> Result<(), AllocError>
+    ensures { OnOk result ((c : Component) → is_among names.new.keys c
+        ≡ (is_among names.old.keys c
+        || is_among (names_at (R.content view.now) revision path.now) c)) }
+{
+    let found = view.names(revision, path)?;
+    for name in &found {
+        names.insert((*name).clone()?)?;
+    }
+    Ok(())
+}
+
+/// The name of a path that stands straight beneath another, if it does.
+fn name_in<'a>(above: &Path, path: &'a Path) -> Option<&'a ByteString>
+    ensures { option_copied result ≡ name_in above.now path.now }
+{
+    if !path.is_at_or_under(above) {
+        return None;
+    }
+    match &path.components()[above.len()..] {
+        [name] => Some(name),
+        _ => None,
+    }
+}
+
+/// The names of the grafts that stand straight beneath a path, put among others.
+pub(crate) fn put_graft_names(
+    grafts: &[Graft],
+    path: &Path,
+    names: &mut BTreeSet<ByteString>,
+) -> Result<(), AllocError>
+    ensures { OnOk result ((c : Component) → is_among names.new.keys c
+        ≡ (is_among names.old.keys c || is_among (graft_names path.now grafts.now) c)) }
+{
+    for graft in grafts {
+        let Some(name) = name_in(path, &graft.path) else {
+            continue;
+        };
+        names.insert(name.clone()?)?;
+    }
+    Ok(())
+}
+
+/// The paths of these names beneath a path.
+pub(crate) fn children_of(
+    alloc: Global,
+    path: &Path,
+    names: BTreeSet<ByteString>,
+) -> Result<Vec<Path>, AllocError>
+    ensures paths { IfOk result (λ v. v.items ≡ children_of path.now names.keys) }
+    ensures distinct { IfOk result (λ v. AreDistinct names.keys) }
+{
+    let mut children = Vec::new(alloc);
+    for name in names {
+        children.push(path.child(alloc, name)?)?;
+    }
+    Ok(children)
+}

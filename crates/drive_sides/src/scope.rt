@@ -1,0 +1,168 @@
+//! The paths that a drive is of.
+ghost use Rattle.std.specs.Prelude.{◌≡◌, true, Option, IfOk};
+ghost use Rattle.svnpath.specs.Paths.{is_at_or_under};
+ghost use Rattle.repo_api.specs.Kinds.{kind_of};
+ghost use Rattle.repo_api.specs.declared.entry.Entry.{Entry};
+ghost use Rattle.drives.specs.Scopes.{brings_in, keeps_old, lets_in, said_by, said_or, top_limit};
+ghost use Rattle.drives.specs.declared.depth.Depth.TheVariants.{Infinity};
+ghost use Rattle.reports.specs.Reported.{entries_of};
+ghost use Rattle.reports.specs.Targets.{client_tree, drive_scope, limit_of, reported_depth, target_tree};
+ghost use Rattle.reports.specs.declared.ask.DepthAsked.TheVariants.{Given};
+ghost use Rattle.drive_sides.specs.Plans.{whole};
+
+use crate::two_trees::TwoTrees;
+use drives::Depth;
+use repo_api::{NodeKind, Repository};
+use reports::DepthAsked;
+use std::alloc::{AllocError, Global};
+use svnpath::Path;
+
+/// Whether a directory of this depth brings in a child, by what it was and what it is to be.
+fn brings_in(depth: Depth, old: NodeKind, new: NodeKind) -> bool
+    ensures { (e f : Option Entry) → old ≡ kind_of e → new ≡ kind_of f
+        → result ≡ brings_in depth e f }
+{
+    match depth {
+        Depth::Empty => false,
+        Depth::Files => old == NodeKind::File || new == NodeKind::File,
+        Depth::Immediates => true,
+        Depth::Infinity => true,
+    }
+}
+
+/// The depth that was said of a directory, or else what its parent's depth leaves it.
+fn said_or(said: Option<Depth>, above: Depth) -> Depth
+    ensures { result ≡ said_or said above }
+{
+    match said {
+        Some(depth) => depth,
+        None => match above {
+            Depth::Infinity => Depth::Infinity,
+            Depth::Immediates => Depth::Empty,
+            Depth::Files => Depth::Empty,
+            Depth::Empty => Depth::Empty,
+        },
+    }
+}
+
+/// Whether everything is asked for.
+fn is_to_the_end(depth: DepthAsked) -> bool
+    ensures { result ≡ true → depth ≡ Given Infinity }
+{
+    match depth {
+        DepthAsked::AsReported => false,
+        DepthAsked::Given(given) => match given {
+            Depth::Infinity => true,
+            Depth::Immediates => false,
+            Depth::Files => false,
+            Depth::Empty => false,
+        },
+    }
+}
+
+impl<'a, R: Repository> TwoTrees<'a, R> {
+    /// The depth that was reported of a directory.
+    fn reported_depth(&self, alloc: Global, path: &Path) -> Result<Option<Depth>, AllocError>
+        ensures { IfOk result (λ depth. depth ≡ reported_depth (client_tree
+            (R.content self.now.view.now) (whole self.now.report.now self.now.root)) path.now) }
+    {
+        match self.client_place(alloc, path)? {
+            None => Ok(None),
+            Some(place) => {
+                if self.view.kind(place.revision, &place.path) == NodeKind::Directory {
+                    Ok(Some(place.depth))
+                } else {
+                    Ok(None)
+                }
+            }
+        }
+    }
+
+    /// The depth that was said of a directory.
+    fn said_by(&self, alloc: Global, path: &Path) -> Result<Option<Depth>, AllocError>
+        ensures { IfOk result (λ depth. depth ≡ said_by (limit_of (client_tree
+            (R.content self.now.view.now) (whole self.now.report.now self.now.root)) self.now.root
+            self.now.report.now.ask.depth) path.now) }
+    {
+        match self.report.ask.depth {
+            DepthAsked::Given(_) => Ok(None),
+            DepthAsked::AsReported => self.reported_depth(alloc, path),
+        }
+    }
+
+    /// The depth of the top.
+    fn top_limit(&self, alloc: Global) -> Result<Depth, AllocError>
+        ensures { IfOk result (λ depth. depth ≡ top_limit (limit_of (client_tree
+            (R.content self.now.view.now) (whole self.now.report.now self.now.root)) self.now.root
+            self.now.report.now.ask.depth) self.now.report.now.ask.target) }
+    {
+        match self.report.ask.depth {
+            DepthAsked::Given(depth) => Ok(depth),
+            DepthAsked::AsReported => {
+                match self.reported_depth(alloc, &self.report.ask.target)? {
+                    Some(depth) => Ok(depth),
+                    None => Ok(self.root.depth),
+                }
+            }
+        }
+    }
+
+    /// Whether a drive as deep as was reported is of a path because the client has it.
+    fn keeps_old(&self, old: NodeKind) -> bool
+        ensures { (e : Option Entry) → old ≡ kind_of e → result ≡ keeps_old (limit_of (client_tree
+            (R.content self.now.view.now) (whole self.now.report.now self.now.root)) self.now.root
+            self.now.report.now.ask.depth) e }
+    {
+        match self.report.ask.depth {
+            DepthAsked::Given(_) => false,
+            DepthAsked::AsReported => old != NodeKind::Absent,
+        }
+    }
+
+    /// Whether a directory of this depth lets its child of this path into the scope.
+    fn lets_in(&self, alloc: Global, depth: Depth, child: &Path) -> Result<bool, AllocError>
+        ensures { IfOk result (λ answer. answer ≡ lets_in (limit_of (client_tree
+            (R.content self.now.view.now) (whole self.now.report.now self.now.root)) self.now.root
+            self.now.report.now.ask.depth) (entries_of (client_tree
+            (R.content self.now.view.now) (whole self.now.report.now self.now.root)))
+            (target_tree (R.content self.now.view.now) self.now.report.now.ask) depth child.now) }
+    {
+        let old = self.client_kind(alloc, child)?;
+        let new = self.target_kind(alloc, child)?;
+        Ok(brings_in(depth, old, new) || self.keeps_old(old))
+    }
+
+    /// Whether the names from the target down to a path stay in scope.
+    fn is_reached(&self, alloc: Global, path: &Path) -> Result<bool, AllocError>
+        requires { is_at_or_under path.now self.now.report.now.ask.target ≡ true }
+        ensures { IfOk result (λ answer. answer ≡ drive_scope (R.content self.now.view.now)
+            (whole self.now.report.now self.now.root) path.now) }
+    {
+        let target = &self.report.ask.target;
+        let mut depth = self.top_limit(alloc)?;
+        let mut here = target.clone()?;
+        for name in &path.components()[target.len()..] {
+            here = here.child(alloc, name.clone()?)?;
+            if !self.lets_in(alloc, depth, &here)? {
+                return Ok(false);
+            }
+            depth = said_or(self.said_by(alloc, &here)?, depth);
+        }
+        Ok(true)
+    }
+
+    /// Whether a drive is of a path.
+    pub(crate) fn is_in_scope(&self, alloc: Global, path: &Path) -> Result<bool, AllocError>
+        ensures { IfOk result (λ answer. answer ≡ drive_scope (R.content self.now.view.now)
+            (whole self.now.report.now self.now.root) path.now) }
+    {
+        let ask = &self.report.ask;
+        if !path.is_at_or_under(&ask.target) {
+            return Ok(false);
+        }
+        if is_to_the_end(ask.depth) {
+            return Ok(true);
+        }
+        self.is_reached(alloc, path)
+    }
+}

@@ -1,0 +1,153 @@
+//! The two trees of a drive, as a walk over them asks.
+use crate::alike::{has_beneath, has_same};
+use crate::names::{children_of, put_graft_names, put_names};
+use crate::two_trees::TwoTrees;
+use byte_string::ByteString;
+use entry_news::{Place, entries_differ};
+use repo_api::{NodeKind, Repository};
+use reporter::{Kinds, Sides};
+use std::alloc::{AllocError, Global};
+use std::collections::BTreeSet;
+use svnpath::Path;
+
+impl<'a, R: Repository> TwoTrees<'a, R> {
+    ghost use Rattle.std.specs.Prelude.{◌≡◌, ◌∷◌, ◌++◌, [], false, true, is_some, IfOk, OnOk};
+    ghost use Rattle.svnpath.specs.Paths.{Component, is_at_or_under};
+    ghost use Rattle.reports.specs.Places.{is_grafted_over};
+    ghost use Rattle.reports.specs.Targets.{client_tree, drive_scope, new_tree, old_tree, target_tree};
+    ghost use Rattle.drive_sides.specs.Names.{is_among};
+    ghost use Rattle.entry_news.specs.Places.{Compares};
+    ghost use Rattle.drive_sides.specs.Plans.{whole};
+
+    /// The names of what is to stand straight beneath a path.
+    fn target_names(&self, alloc: Global, path: &Path) -> Result<BTreeSet<ByteString>, AllocError>
+        ensures { IfOk result (λ names. (c : Component)
+            → is_at_or_under path.now self.now.report.now.ask.target ≡ true
+            → is_some (target_tree (R.content self.now.view.now) self.now.report.now.ask
+            (path.now ++ c ∷ [])) ≡ true → is_among names.keys c ≡ true) }
+    {
+        let ask = &self.report.ask;
+        let mut names = BTreeSet::new(alloc);
+        if !path.is_at_or_under(&ask.target) {
+            return Ok(names);
+        }
+        let goal = self.goal_path(alloc, path)?;
+        put_names(self.view, ask.revision, &goal, &mut names)?;
+        Ok(names)
+    }
+
+    /// The names of what the client has straight beneath a path, but for those of grafts there, put
+    /// among others.
+    fn put_client_names(
+        &self,
+        alloc: Global,
+        path: &Path,
+        names: &mut BTreeSet<ByteString>,
+    ) -> Result<(), AllocError>
+        ensures keeps { OnOk result ((c : Component) → is_among names.old.keys c ≡ true
+            → is_among names.new.keys c ≡ true) }
+        ensures adds { OnOk result ((c : Component)
+            → is_grafted_over self.now.report.now.grafts path.now (path.now ++ c ∷ []) ≡ false
+            → is_some (client_tree (R.content self.now.view.now)
+            (whole self.now.report.now self.now.root) path.now) ≡ true
+            → is_some (client_tree (R.content self.now.view.now)
+            (whole self.now.report.now self.now.root) (path.now ++ c ∷ [])) ≡ true
+            → is_among names.new.keys c ≡ true) }
+    {
+        match self.client_place(alloc, path)? {
+            None => Ok(()),
+            Some(place) => put_names(self.view, place.revision, &place.path, names),
+        }
+    }
+
+    /// Whether an entry of the drive differs on both sides.
+    fn differs(&self, alloc: Global, path: &Path) -> Result<bool, AllocError>
+        requires { drive_scope (R.content self.now.view.now)
+            (whole self.now.report.now self.now.root) path.now ≡ true }
+        ensures { IfOk result (λ answer. Compares answer
+            (old_tree (R.content self.now.view.now) (whole self.now.report.now self.now.root)
+            path.now)
+            (new_tree (R.content self.now.view.now) (whole self.now.report.now self.now.root)
+            path.now)) }
+    {
+        let goal = self.goal_path(alloc, path)?;
+        let revision = self.report.ask.revision;
+        match self.client_place(alloc, path)? {
+            None => Ok(self.view.kind(revision, &goal) != NodeKind::Absent),
+            Some(place) => entries_differ(
+                alloc,
+                self.view,
+                Place {
+                    revision: place.revision,
+                    path: &place.path,
+                },
+                Place {
+                    revision,
+                    path: &goal,
+                },
+            ),
+        }
+    }
+}
+
+impl<'a, R: Repository> Sides for TwoTrees<'a, R> {
+    ghost use Rattle.reports.specs.Targets.{old_tree, new_tree, stale_in};
+    ghost use Rattle.drive_commands.specs.Sent.{seen_by};
+    ghost use Rattle.entry_news.specs.News.{own_of};
+    ghost use Rattle.drive_sides.specs.Bounds.{path_bound};
+    ghost use Rattle.drive_sides.specs.BoundLaws.{new_is_shorter};
+    ghost use Rattle.drive_sides.specs.LeadLaws.{news_leads};
+    ghost use Rattle.drive_sides.specs.Plans.{whole};
+
+    ghost old = { λ s. old_tree (R.content s.view.now) (whole s.report.now s.root) };
+
+    ghost new = { λ s. new_tree (R.content s.view.now) (whole s.report.now s.root) };
+
+    ghost stale = { λ s. stale_in (R.content s.view.now) (whole s.report.now s.root) };
+
+    ghost seen = { λ s. seen_by s.report.now.ask.purpose };
+
+    ghost own = { λ s. own_of (R.content s.view.now) (whole s.report.now s.root) };
+
+    ghost bound = { λ s. path_bound (R.content s.view.now) s.report.now.ask };
+
+    ghost ends = { λ s. new_is_shorter (R.content s.view.now) (whole s.report.now s.root) };
+
+    ghost leads = { λ s. news_leads (R.content s.view.now) (whole s.report.now s.root) };
+
+    fn kinds(&self, alloc: Global, path: &Path) -> Result<Kinds, AllocError> {
+        Ok(Kinds {
+            old: self.old_kind(alloc, path)?,
+            new: self.new_kind(alloc, path)?,
+        })
+    }
+
+    fn children(&self, alloc: Global, path: &Path) -> Result<Vec<Path>, AllocError> {
+        let mut names = self.target_names(alloc, path)?;
+        self.put_client_names(alloc, path, &mut names)?;
+        put_graft_names(self.report.grafts.as_slice(), path, &mut names)?;
+        children_of(alloc, path, names)
+    }
+
+    fn is_alike(&self, alloc: Global, path: &Path) -> Result<bool, AllocError> {
+        let report = self.report;
+        if !path.is_at_or_under(&report.ask.target) {
+            return Ok(false);
+        }
+        if has_beneath(report.grafts.as_slice(), path) || self.is_stale(alloc, path)? {
+            return Ok(false);
+        }
+        let goal = self.goal_path(alloc, path)?;
+        match self.client_place(alloc, path)? {
+            None => Ok(false),
+            Some(place) => Ok(has_same(self.view, &place, report.ask.revision, &goal)),
+        }
+    }
+
+    fn is_due(&self, alloc: Global, path: &Path) -> Result<bool, AllocError> {
+        if !self.is_in_scope(alloc, path)? {
+            return Ok(false);
+        }
+        Ok(self.is_stale_in(alloc, path)? || self.differs(alloc, path)?)
+    }
+}

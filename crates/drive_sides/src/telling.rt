@@ -1,0 +1,166 @@
+//! What the entries of a drive are told, and what else is to be known of them.
+ghost use Rattle.std.specs.Prelude.{◌≡◌, ◌&&◌, true, IfOk, option_and_then, option_map};
+ghost use Rattle.svnpath.specs.Paths.{same_path};
+ghost use Rattle.repo_api.specs.Kinds.{kind_of};
+ghost use Rattle.reports.specs.Targets.{client_tree, drive_scope, is_stale, new_tree, old_tree, stale_in};
+ghost use Rattle.entry_news.specs.News.{is_top_alone, news_at, news_of, starts_empty_at};
+ghost use Rattle.entry_news.specs.Places.{entry_at};
+ghost use Rattle.drive_sides.specs.Plans.{whole};
+
+use crate::two_trees::TwoTrees;
+use entry_news::{News, Place, Sight, news_of};
+use repo_api::{NodeKind, Repository};
+use reports::Graft;
+use std::alloc::{AllocError, Global};
+use svnpath::Path;
+
+/// Whether a graft at this path has its top alone.
+fn is_top_alone(graft: &Graft, path: &Path) -> bool
+    ensures { result
+        ≡ (same_path graft.now.path path.now && is_top_alone graft.now.subtree) }
+{
+    match &graft.subtree {
+        None => false,
+        Some(subtree) => &graft.path == path && subtree.starts_empty,
+    }
+}
+
+/// Whether the client reports no more than the top of what it has at a path.
+fn starts_empty_at(grafts: &[Graft], path: &Path) -> bool
+    ensures { result ≡ starts_empty_at grafts.now path.now }
+{
+    for graft in grafts {
+        if is_top_alone(graft, path) {
+            return true;
+        }
+    }
+    false
+}
+
+impl<'a, R: Repository> TwoTrees<'a, R> {
+    /// The kind of what the client has, of the paths of the drive.
+    pub(crate) fn old_kind(&self, alloc: Global, path: &Path) -> Result<NodeKind, AllocError>
+        ensures { IfOk result (λ kind. kind ≡ kind_of (old_tree (R.content self.now.view.now)
+            (whole self.now.report.now self.now.root) path.now)) }
+    {
+        if !self.is_in_scope(alloc, path)? {
+            return Ok(NodeKind::Absent);
+        }
+        self.client_kind(alloc, path)
+    }
+
+    /// The kind of what the client is to have, of the paths of the drive.
+    pub fn new_kind(&self, alloc: Global, path: &Path) -> Result<NodeKind, AllocError>
+        ensures { IfOk result (λ kind. kind ≡ kind_of (new_tree (R.content self.now.view.now)
+            (whole self.now.report.now self.now.root) path.now)) }
+    {
+        if !self.is_in_scope(alloc, path)? {
+            return Ok(NodeKind::Absent);
+        }
+        self.target_kind(alloc, path)
+    }
+
+    /// Whether the client's token of a path is stale.
+    pub(crate) fn is_stale(&self, alloc: Global, path: &Path) -> Result<bool, AllocError>
+        ensures { IfOk result (λ answer. answer ≡ is_stale (R.content self.now.view.now)
+            (whole self.now.report.now self.now.root) path.now) }
+    {
+        let Some(place) = self.client_place(alloc, path)? else {
+            return Ok(false);
+        };
+        let Some(token) = place.token else {
+            return Ok(false);
+        };
+        if self.target_kind(alloc, path)? == NodeKind::Absent {
+            return Ok(false);
+        }
+        let goal = self.goal_path(alloc, path)?;
+        match self.view.lock_at(&goal) {
+            None => Ok(true),
+            Some(lock) => Ok(&lock.token != token),
+        }
+    }
+
+    /// Whether the client's token of a path of the drive is stale.
+    pub(crate) fn is_stale_in(&self, alloc: Global, path: &Path) -> Result<bool, AllocError>
+        ensures { IfOk result (λ answer. answer ≡ stale_in (R.content self.now.view.now)
+            (whole self.now.report.now self.now.root) path.now) }
+    {
+        if !self.is_in_scope(alloc, path)? {
+            return Ok(false);
+        }
+        self.is_stale(alloc, path)
+    }
+
+    /// The revision that the client reports of what it has at a path.
+    pub fn reported_revision(&self, alloc: Global, path: &Path) -> Result<Option<u64>, AllocError>
+        ensures { IfOk result (λ found. found ≡ option_map (λ h. h.revision) (client_tree
+            (R.content self.now.view.now) (whole self.now.report.now self.now.root) path.now)) }
+    {
+        match self.client_place(alloc, path)? {
+            None => Ok(None),
+            Some(place) => Ok(Some(place.revision)),
+        }
+    }
+
+    /// What an entry of the drive is told of itself, beside what a place has, if there is one.
+    fn news_beside(
+        &self,
+        alloc: Global,
+        path: &Path,
+        old: Option<Place<'_>>,
+    ) -> Result<Option<News>, AllocError>
+        requires { drive_scope (R.content self.now.view.now)
+            (whole self.now.report.now self.now.root) path.now ≡ true }
+        ensures { IfOk result (λ found. found ≡ option_map (news_of (R.content self.now.view.now)
+            self.now.report.now.ask.purpose (stale_in (R.content self.now.view.now)
+            (whole self.now.report.now self.now.root) path.now)
+            (starts_empty_at self.now.report.now.grafts path.now)
+            (option_and_then (entry_at (R.content self.now.view.now)) old.entry)) (new_tree
+            (R.content self.now.view.now) (whole self.now.report.now self.now.root) path.now)) }
+    {
+        let ask = &self.report.ask;
+        let goal = self.goal_path(alloc, path)?;
+        let is_stale = self.is_stale(alloc, path)?;
+        let sight = Sight {
+            purpose: ask.purpose,
+            is_stale,
+            tells_all: starts_empty_at(self.report.grafts.as_slice(), path),
+            old,
+            new: Place {
+                revision: ask.revision,
+                path: &goal,
+            },
+        };
+        news_of(alloc, self.view, sight)
+    }
+
+    /// What an entry is told of itself, opened or anew.
+    pub fn news(
+        &self,
+        alloc: Global,
+        path: &Path,
+        is_anew: bool,
+    ) -> Result<Option<News>, AllocError>
+        ensures { IfOk result (λ found. found ≡ option_map (news_at (R.content self.now.view.now)
+            (whole self.now.report.now self.now.root) path.now is_anew) (new_tree
+            (R.content self.now.view.now) (whole self.now.report.now self.now.root) path.now)) }
+    {
+        if !self.is_in_scope(alloc, path)? {
+            return Ok(None);
+        }
+        if is_anew {
+            return self.news_beside(alloc, path, None);
+        }
+        match self.client_place(alloc, path)? {
+            None => self.news_beside(alloc, path, None),
+            Some(place) => {
+                let old = Place {
+                    revision: place.revision,
+                    path: &place.path,
+                };
+                self.news_beside(alloc, path, Some(old))
+            }
+        }
+    }
+}

@@ -1,0 +1,80 @@
+//! What stands on either side, whether the drive is of it or not.
+ghost use Rattle.std.specs.Prelude.{◌≡◌, ◌++◌, [], true, false, List, option_and_then, is_some, IfOk, IfSome};
+ghost use Rattle.svnpath.specs.Paths.{Component, is_at_or_under};
+ghost use Rattle.repo_api.specs.Kinds.{kind_of};
+ghost use Rattle.repo_api.specs.States.{trees_in};
+ghost use Rattle.reports.specs.Places.{in_place, is_grafted_over};
+ghost use Rattle.reports.specs.Reported.{entries_of};
+ghost use Rattle.reports.specs.Targets.{client_tree, goal_path, target_tree};
+ghost use Rattle.drive_sides.specs.Plans.{whole};
+
+use crate::two_trees::TwoTrees;
+use repo_api::{NodeKind, Repository};
+use reports::{ReportedPlace, reported_at};
+use std::alloc::{AllocError, Global};
+use svnpath::Path;
+
+impl<'a, R: Repository> TwoTrees<'a, R> {
+    /// Where what the client has at a path comes from, if it has something.
+    pub(crate) fn client_place(
+        &self,
+        alloc: Global,
+        path: &Path,
+    ) -> Result<Option<ReportedPlace<'a>>, AllocError>
+        ensures here { IfOk result (λ found.
+            client_tree (R.content self.now.view.now) (whole self.now.report.now self.now.root)
+            path.now ≡ option_and_then (λ place.
+            in_place (trees_in (R.content self.now.view.now).revisions) place []) found) }
+        ensures stands { IfOk result (λ found. is_some found ≡ is_some
+            (client_tree (R.content self.now.view.now) (whole self.now.report.now self.now.root)
+            path.now)) }
+        ensures beneath { IfOk result (λ found. (rest : List Component)
+            → is_grafted_over self.now.report.now.grafts path.now (path.now ++ rest) ≡ false
+            → IfSome found (λ place.
+            client_tree (R.content self.now.view.now) (whole self.now.report.now self.now.root)
+            (path.now ++ rest)
+            ≡ in_place (trees_in (R.content self.now.view.now).revisions) place rest)) }
+    {
+        let report = self.report;
+        reported_at(
+            alloc,
+            self.view,
+            &report.ask.target,
+            report.grafts.as_slice(),
+            path,
+        )
+    }
+
+    /// The kind of what the client has at a path.
+    pub(crate) fn client_kind(&self, alloc: Global, path: &Path) -> Result<NodeKind, AllocError>
+        ensures { IfOk result (λ kind. kind ≡ kind_of (entries_of (client_tree
+            (R.content self.now.view.now) (whole self.now.report.now self.now.root)) path.now)) }
+    {
+        match self.client_place(alloc, path)? {
+            None => Ok(NodeKind::Absent),
+            Some(place) => Ok(self.view.kind(place.revision, &place.path)),
+        }
+    }
+
+    /// The path of the repository that a path at or under the target is to stand for.
+    pub(crate) fn goal_path(&self, alloc: Global, path: &Path) -> Result<Path, AllocError>
+        requires { is_at_or_under path.now self.now.report.now.ask.target ≡ true }
+        ensures { IfOk result (λ goal. goal ≡ goal_path self.now.report.now.ask path.now) }
+    {
+        let ask = &self.report.ask;
+        path.rebased(alloc, &ask.target, &ask.goal)
+    }
+
+    /// The kind of what is to stand at a path.
+    pub(crate) fn target_kind(&self, alloc: Global, path: &Path) -> Result<NodeKind, AllocError>
+        ensures { IfOk result (λ kind. kind ≡ kind_of (target_tree
+            (R.content self.now.view.now) self.now.report.now.ask path.now)) }
+    {
+        let ask = &self.report.ask;
+        if !path.is_at_or_under(&ask.target) {
+            return Ok(NodeKind::Absent);
+        }
+        let goal = self.goal_path(alloc, path)?;
+        Ok(self.view.kind(ask.revision, &goal))
+    }
+}

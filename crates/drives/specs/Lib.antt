@@ -1,0 +1,4 @@
+pub mod Steps
+pub mod Drives
+pub mod Scopes
+pub mod Places

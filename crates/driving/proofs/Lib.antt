@@ -1,0 +1,9 @@
+pub mod Tokens
+pub mod Entries
+pub mod Plans
+pub mod Told
+pub mod Drives
+pub mod Finished
+pub mod Written
+pub mod Spelled
+pub mod Roots

@@ -1,0 +1,60 @@
+-- A new token is not open.
+use Rattle.std.proofs.Common.{arith, add-one, ◌≡◌, ◌<◌, ◌≤◌, ◌+◌, ◌^◌, ℕ, Bool, true, false, ◌||◌, List, [], ◌∷◌, length, refl, sym, ap, ◌∙◌, subst}
+use Rattle.std.proofs.lemmas.Fmt.{decimal_injective}
+use Rattle.svnpath.specs.Paths.{PathValue}
+use Rattle.svnpath.specs.PathLaws.{same_component_is}
+use Rattle.forms.specs.Forms.{is_name}
+use Rattle.drives.specs.Steps.{EntryKind}
+use Rattle.drives.specs.Steps.EntryKind.{DirectoryKind, FileKind}
+use Rattle.drive_commands.specs.Saying.{OpenEntry, is_open}
+use Rattle.drive_commands.specs.Saying.TextState.{Unchanged}
+use Rattle.driving.specs.Tokens.{token_of}
+
+-- what is open under the token of an entry that was entered while so many were open
+abbrev pub entry_at : EntryKind → ℕ → PathValue → List ℕ → OpenEntry
+entry_at kind count p base = record { token = token_of kind count; path = p; kind = kind; base = base; state = Unchanged }
+
+-- directories that are open, the innermost first
+abbrev pub open_directories : List PathValue → List OpenEntry
+open_directories [] = []
+open_directories (d ∷ ds) = entry_at DirectoryKind (length ds) d [] ∷ open_directories ds
+
+abbrev tail_of : List ℕ → List ℕ
+tail_of [] = []
+tail_of (b ∷ bs) = bs
+
+abbrev head_of : List ℕ → ℕ
+head_of [] = 0
+head_of (b ∷ bs) = b
+
+not_same : (b : Bool) → (b ≡ true → ⊥) → b ≡ false
+not_same true no_way = absurd (no_way refl)
+not_same false no_way = refl
+
+less_differs : (m n : ℕ) → m < n → m ≡ n → ⊥
+less_differs m n less same = omega (arith, less, same)
+
+letters_differ : ◌≡◌ {A = ℕ} 100 99 → ⊥
+letters_differ e = omega (arith, e)
+
+one_differs : (kind : EntryKind) (m n : ℕ) → m < n → n < 2 ^ 64 → is_name (token_of DirectoryKind m) (token_of kind n) ≡ false
+one_differs DirectoryKind m n less bound =
+    not_same (is_name (token_of DirectoryKind m) (token_of DirectoryKind n))
+    (λ e. less_differs m n less (decimal_injective m n (omega (arith, less, bound)) bound (ap tail_of (same_component_is (token_of DirectoryKind m) (token_of DirectoryKind n) e))))
+one_differs FileKind m n less bound =
+    not_same (is_name (token_of DirectoryKind m) (token_of FileKind n))
+    (λ e. letters_differ (ap head_of (same_component_is (token_of DirectoryKind m) (token_of FileKind n) e)))
+
+either_false : (a b : Bool) → a ≡ false → b ≡ false → (a || b) ≡ false
+either_false a b x y = ap (λ z. z || b) x ∙ y
+
+pub grown : (d : PathValue) (ds : List PathValue) → length (d ∷ ds) ≡ length ds + 1
+grown d ds = sym (add-one (length ds))
+
+pub none_open : (kind : EntryKind) (n : ℕ) (ds : List PathValue) → length ds ≤ n → n < 2 ^ 64 → is_open (token_of kind n) (open_directories ds) ≡ false
+none_open kind n [] within bound = refl
+none_open kind n (d ∷ ds) within bound =
+    let less : length ds < n = subst (λ k. k ≤ n) (grown d ds ∙ add-one (length ds)) within in
+    either_false (is_name (token_of DirectoryKind (length ds)) (token_of kind n)) (is_open (token_of kind n) (open_directories ds))
+    (one_differs kind (length ds) n less bound)
+    (none_open kind n ds (omega (arith, less)) bound)

@@ -1,0 +1,31 @@
+-- What is written of a drive.
+use Rattle.std.specs.Prelude.{ℕ, List, [], ◌∷◌, map, ◌⊎◌}
+use Rattle.repo_api.specs.States.{RepoState}
+use Rattle.edit_commands.specs.declared.editing.EditorCommand.{EditorCommand}
+use Rattle.replies.specs.Replies.{print}
+use Rattle.replies.specs.Sinks.{WritesPart}
+use Rattle.replies.specs.declared.reply.Reply.{Reply}
+use Rattle.replies.specs.declared.reply.Reply.TheVariants as replies
+use Rattle.reports.specs.Targets.{WholeReport}
+use Rattle.drive_commands.specs.Sent.{IsDrive}
+
+-- the bytes of commands
+abbrev pub command_bytes : List EditorCommand → List ℕ
+command_bytes commands = print (map replies.Edit commands)
+
+-- what a client is told at the end of a report: a login request that asks for nothing, and the
+-- drive
+abbrev pub drive_replies : List EditorCommand → List Reply
+drive_replies drive = replies.NoLogin ∷ map replies.Edit drive
+
+-- a drive that may be sent was written
+abbrev pub DriveWritten : RepoState → WholeReport → (List ℕ → Type 0) → Type 0
+DriveWritten c report writes =
+    (drive : List EditorCommand) × IsDrive c report drive × writes (print (drive_replies drive))
+
+-- nothing was written, or a part of a drive that may be sent
+abbrev pub DriveLost : RepoState → WholeReport → (List ℕ → Type 0) → Type 0
+DriveLost c report writes =
+    writes []
+    ⊎ ((drive : List EditorCommand) × IsDrive c report drive
+    × WritesPart writes (print (drive_replies drive)))

@@ -1,0 +1,4 @@
+pub mod Tokens
+pub mod Commands
+pub mod Sending
+pub mod Driving

@@ -1,0 +1,5 @@
+pub mod Parts
+pub mod Changes
+pub mod Leading
+pub mod Told
+pub mod Seen

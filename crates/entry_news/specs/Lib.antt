@@ -1,0 +1,3 @@
+pub mod News
+pub mod Parts
+pub mod Places

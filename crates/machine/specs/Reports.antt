@@ -1,0 +1,54 @@
+-- What the commands of a report are answered, and the client's answer to a drive.
+use Rattle.std.specs.Prelude.{◌≡◌, ℕ, Bool, true, false, List, [], ◌∷◌, map, Option, Some, None}
+use Rattle.items.specs.Values.{ItemValue}
+use Rattle.refusals.specs.declared.Refusal.TheVariants as refusals
+use Rattle.repo_api.specs.States.{RepoState}
+use Rattle.edit_commands.specs.declared.editing.EditorCommand.TheVariants as edits
+use Rattle.replies.specs.declared.reply.Reply.TheVariants as replies
+use Rattle.report_commands.specs.declared.asking.DriveRequest.{DriveRequest}
+use Rattle.reports.specs.Refusing.{ask_of, begun}
+use Rattle.reports.specs.declared.ask.Purpose.{Purpose}
+use Rattle.reports.specs.declared.graft.Graft.{Graft}
+use Rattle.drive_commands.specs.Reporting.{Drawn, ReportStep}
+use Rattle.drive_commands.specs.Reporting.Drawn.{GoesOn, GivenUp, Fails, Drives, Malformed}
+use Rattle.machine.specs.Settings.{Settings}
+use Rattle.machine.specs.Answers.{Answer, says, serves, malformed}
+use Rattle.machine.specs.declared.env.Env.{Env}
+use Rattle.machine.specs.declared.phase.Client.{Client}
+use Rattle.machine.specs.declared.phase.OpenReporting.{OpenReporting}
+use Rattle.machine.specs.declared.phase.Phase.TheVariants.{Serving, Reporting, Driven}
+
+-- a report, as the machine has it
+abbrev pub MachineReport : Type 0
+MachineReport = OpenReporting (List Graft)
+
+-- what a command of a report draws, as an answer
+abbrev pub drawn_answer : Env → Client → Drawn → Answer
+drawn_answer env client (GoesOn report) =
+    says env (Reporting (record { client = client; report = report })) []
+drawn_answer env client GivenUp = says env (Serving client) []
+drawn_answer env client (Fails r) =
+    says env (Serving client) (replies.NoLogin ∷ replies.Failure r ∷ [])
+drawn_answer env client (Drives drive) =
+    says env (Driven client) (replies.NoLogin ∷ map replies.Edit drive)
+drawn_answer env client Malformed = malformed env
+
+-- a report begins, with its refusal if there is one
+abbrev pub report_begins : Settings → Env → RepoState → Client → Purpose → DriveRequest
+    → Option (List ℕ) → Answer
+report_begins s env c client purpose request url =
+    drawn_answer env client (GoesOn (begun (ask_of c s.name client.path purpose request url)))
+
+-- a command of a report
+abbrev pub ReportingStep : Settings → Env → RepoState → MachineReport → ItemValue → Answer → Type 0
+ReportingStep s env c reporting item a =
+    (d : Drawn) × ReportStep c s.name reporting.report item d
+    × (a ≡ drawn_answer env reporting.client d)
+
+-- the client's answer to a drive: it was taken, or the drive is given up
+abbrev pub driven_answer : Env → Client → Option Bool → Answer
+driven_answer env client None = malformed env
+driven_answer env client (Some true) = serves env client replies.Success
+driven_answer env client (Some false) =
+    says env (Serving client)
+    (replies.Edit edits.AbortEdit ∷ replies.Failure refusals.EditAborted ∷ [])

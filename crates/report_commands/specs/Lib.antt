@@ -1,0 +1,4 @@
+pub mod Depths
+pub mod Parameters
+pub mod Asking
+pub mod Reporting

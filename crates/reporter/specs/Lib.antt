@@ -1,0 +1,4 @@
+pub mod Visits
+pub mod Nesting
+pub mod Walks
+pub mod Own

@@ -1,0 +1,120 @@
+-- What a walk over two trees needs to know of them.
+use Rattle.std.specs.Prelude.{◌≡◌, ◌<◌, ℕ, Bool, true, false, not, if◌then◌else◌, is_some, List, [], ◌∷◌, ◌++◌, Option, Some, None, IsSome, ◌⊎◌, length, All, option_map, filter, map}
+use Rattle.std.specs.List.{list_any}
+use Rattle.svnpath.specs.Paths.{PathValue, Component, is_at_or_under}
+use Rattle.repo_api.specs.Trees.{Tree, HasFile, is_directory}
+use Rattle.repo_api.specs.declared.entry.Entry.{Entry}
+use Rattle.drives.specs.Steps.{Node, node_at, all_meet, after_steps, has_step, is_text, empty_content, no_properties, IsOwn}
+use Rattle.drives.specs.Drives.{Differs, created_revision, IsOfOneKind, HasOtherText}
+use Rattle.drives.specs.Scopes.{below, without, HoldsTogether}
+use Rattle.reporter.specs.declared.visit.Visit.{Visit}
+use Rattle.reporter.specs.declared.visit.Visit.TheVariants.{Delete}
+use Rattle.reporter.specs.Visits.{OwnSteps, entry_kind}
+
+-- ---- lists of paths
+
+-- q is at or under one of the paths
+abbrev pub any_under : List PathValue → PathValue → Bool
+any_under ps q = list_any (λ p. is_at_or_under q p) ps
+
+-- none of the paths is at or under another
+abbrev pub AreApart : List PathValue → Type 0
+AreApart [] = Unit {0}
+AreApart (x ∷ xs) =
+    ((q : PathValue) → is_at_or_under q x ≡ true → any_under xs q ≡ false) × AreApart xs
+
+-- x is p and one name more
+abbrev pub IsChild : PathValue → PathValue → Type 0
+IsChild p x = (c : Component) × (x ≡ p ++ c ∷ [])
+
+-- the paths are each one name longer than p, and each is there once
+pub record AreChildren (p : PathValue) (xs : List PathValue) : Type 0 where
+  pub each : All (IsChild p) xs
+  pub apart : AreApart xs
+
+-- what stands below p is at or under one of the paths
+abbrev pub AreAll : Tree → PathValue → List PathValue → Type 0
+AreAll t p xs = (q : PathValue) → below p q ≡ true → any_under xs q ≡ false → t q ≡ None
+
+-- no entry has a path this long
+abbrev pub IsShorter : Tree → ℕ → Type 0
+IsShorter t bound = (q : PathValue) → is_some (t q) ≡ true → length q < bound
+
+-- ---- what goes
+
+-- an entry goes, or comes anew as another kind
+abbrev pub goes : Option Entry → Option Entry → Bool
+goes None new = false
+goes (Some e) None = true
+goes (Some e) (Some f) = if is_directory e then not (is_directory f) else is_directory f
+
+-- the paths of what goes
+abbrev pub going : Tree → Tree → List PathValue → List PathValue
+going old new ps = filter (λ p. goes (old p) (new p)) ps
+
+-- the tree with nothing at or under any of the paths
+abbrev pub without_all : List PathValue → Tree → Tree
+without_all [] t = t
+without_all (p ∷ ps) t = without_all ps (without p t)
+
+-- what is left of the old tree: nothing, where the entry comes anew
+abbrev pub old_side : Bool → Tree → Tree
+old_side true old = λ _. None
+old_side false old = old
+
+-- what is left of the old tree once what goes among these paths was taken out
+abbrev pub left_of : Bool → Tree → Tree → List PathValue → Tree
+left_of true old new ps = λ _. None
+left_of false old new ps = without_all (going old new ps) old
+
+-- the visits of what goes
+abbrev pub deletes_of : Bool → Tree → Tree → List PathValue → List Visit
+deletes_of true old new ps = []
+deletes_of false old new ps = map Delete (going old new ps)
+
+-- ---- what stays
+
+-- from the path on, what stands in either tree stands in a directory of it
+pub record BothHold (old new : Tree) (p : PathValue) : Type 0 where
+  pub old_holds : HoldsTogether p old
+  pub new_holds : HoldsTogether p new
+
+-- nothing has changed at the path itself
+pub record IsSame (old new : Tree) (stale : PathValue → Bool) (p : PathValue) : Type 0 where
+  pub node : node_at old p ≡ node_at new p
+  pub created : created_revision old p ≡ created_revision new p
+  pub fresh : stale p ≡ false
+
+-- at the path and under it both trees have the same, and no token is stale
+abbrev pub AreAlike : Tree → Tree → (PathValue → Bool) → PathValue → Type 0
+AreAlike old new stale p =
+    (q : PathValue) → is_at_or_under q p ≡ true → (old q ≡ new q) × (stale q ≡ false)
+
+-- the path is named: it is the root, or something below it is, or something is to be said of the
+-- entry itself
+abbrev pub IsNeeded : {X : Type 0} → List X → Tree → Tree → (PathValue → Bool) → PathValue → Type 0
+IsNeeded rest old new stale p =
+    (p ≡ []) ⊎ ((rest ≡ [] → ⊥) ⊎ (Differs old new p ⊎ (stale p ≡ true)))
+
+-- ---- an entry's own steps
+
+-- a new entry, of the kind of what is to stand there
+abbrev pub blank : Option Entry → Option Node
+blank e = Some (empty_content (entry_kind e), no_properties)
+
+-- Own steps lead an entry that is opened from what it was, and one that is added from a new entry,
+-- to what it is to be; they find what they need, and say the text where it is another.
+pub record LeadsOver (seen : Node → Node) (old new : Tree) (own : OwnSteps) : Type 0 where
+  pub here : (p : PathValue) (anew : Bool) → IsOwn p (own p anew)
+  pub open_meets : (p : PathValue) → IsOfOneKind old new p
+      → all_meet p (node_at old p) (own p false) ≡ true
+  pub open_leads : (p : PathValue) → IsOfOneKind old new p
+      → option_map seen (after_steps p (node_at old p) (own p false))
+      ≡ option_map seen (node_at new p)
+  pub open_text : (p : PathValue) → HasOtherText old new p
+      → has_step is_text p (own p false) ≡ true
+  pub add_meets : (p : PathValue) → IsSome (new p) → all_meet p (blank (new p)) (own p true) ≡ true
+  pub add_text : (p : PathValue) → HasFile new p → has_step is_text p (own p true) ≡ true
+  pub add_leads : (p : PathValue) → IsSome (new p)
+      → option_map seen (after_steps p (blank (new p)) (own p true))
+      ≡ option_map seen (node_at new p)

@@ -1,0 +1,5 @@
+pub mod Holding
+pub mod Drives
+pub mod Deciding
+pub mod Whole
+pub mod Parts

@@ -1,0 +1,6 @@
+pub mod Reported
+pub mod Places
+pub mod Targets
+pub mod Depths
+pub mod Refusing
+pub mod Judging

@@ -1,0 +1,25 @@
+//! What a report puts at a path.
+use byte_string::ByteString;
+use drives::Depth;
+use svnpath::Path;
+
+/// What stands at and under a path of the repository in a revision, as much of it as is reported.
+#[derive(Debug, Drop)]
+pub struct Subtree {
+    pub revision: u64,
+    /// Whether the client has its top alone.
+    pub starts_empty: bool,
+    pub depth: Depth,
+    /// The token of the lock that the client has of its top.
+    pub token: Option<ByteString>,
+}
+
+/// What a report puts at a path, in the place of what stood there: a subtree, or nothing.
+#[derive(Debug, Drop)]
+pub struct Graft {
+    /// The path, from the anchor on.
+    pub path: Path,
+    /// The path in the repository that it stands for from now on.
+    pub from: Path,
+    pub subtree: Option<Subtree>,
+}

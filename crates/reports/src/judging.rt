@@ -1,0 +1,112 @@
+//! The rules by which a command of a report is refused, each by itself.
+ghost use Rattle.std.specs.Prelude.{◌≡◌, is_some, option_copied};
+ghost use Rattle.svnpath.specs.Texts.{joined};
+ghost use Rattle.repo_api.specs.States.{trees_in};
+ghost use Rattle.reports.specs.Depths.{graft_depth, depth_asked};
+ghost use Rattle.reports.specs.Judging.{Judges};
+ghost use Rattle.reports.specs.Refusing.{unless, or_refusal, url_or, revision_read, is_directory_there};
+
+use crate::ask::DepthAsked;
+use crate::fault::ReportFault;
+use byte_string::ByteString;
+use drives::Depth;
+use refusals::Refusal;
+use repo_api::{NodeKind, Repository};
+use report_commands::DepthWord;
+use std::alloc::Global;
+use std::mem::drop;
+use svnpath::Path;
+
+/// What does not hold is refused so.
+pub(crate) fn judge(holds: bool, refusal: Refusal) -> Result<(), ReportFault>
+    ensures { Judges result (unless holds refusal) }
+{
+    if holds {
+        Ok(())
+    } else {
+        Err(ReportFault::Refused(refusal))
+    }
+}
+
+/// The path that a text names beneath another.
+pub(crate) fn path_named(alloc: Global, base: &Path, text: &ByteString) -> Result<Path, ReportFault>
+    ensures { Judges result (or_refusal (joined base.now text.now)) }
+{
+    Ok(base.join(alloc, text.as_slice())?)
+}
+
+/// The path of a URL, or another path where there is no URL.
+pub(crate) fn url_or(
+    alloc: Global,
+    name: &str,
+    own: Path,
+    url: Option<&ByteString>,
+) -> Result<Path, ReportFault>
+    ensures { Judges result (url_or name.now own (option_copied url.entry)) }
+{
+    match url {
+        None => Ok(own),
+        Some(url) => {
+            drop(own);
+            Ok(Path::from_url(alloc, url.as_slice(), name)?)
+        }
+    }
+}
+
+/// The revision that is named, or the youngest; one above it is refused.
+pub(crate) fn revision_read<R: Repository>(
+    view: &R,
+    revision: Option<u64>,
+) -> Result<u64, ReportFault>
+    ensures { Judges result (revision_read (R.content view.now) revision) }
+{
+    let youngest = view.youngest();
+    match revision {
+        None => Ok(youngest),
+        Some(n) => {
+            if youngest < n {
+                Err(ReportFault::Refused(Refusal::NoSuchRevision))
+            } else {
+                Ok(n)
+            }
+        }
+    }
+}
+
+/// The depth of what is reported: everything, or it is refused.
+pub(crate) fn graft_depth(word: Option<DepthWord>) -> Result<Depth, ReportFault>
+    ensures { Judges result (graft_depth word) }
+{
+    match word {
+        None | Some(DepthWord::Unknown) | Some(DepthWord::Known(Depth::Infinity)) => {
+            Ok(Depth::Infinity)
+        }
+        Some(_) => Err(ReportFault::Refused(Refusal::NotSupported)),
+    }
+}
+
+/// How deep a drive is to go: to the end, or it is refused.
+pub(crate) fn depth_asked(recurse: bool, word: Option<DepthWord>) -> Result<DepthAsked, ReportFault>
+    ensures { Judges result (depth_asked recurse word) }
+{
+    if recurse {
+        Ok(DepthAsked::Given(graft_depth(word)?))
+    } else {
+        Err(ReportFault::Refused(Refusal::NotSupported))
+    }
+}
+
+/// Whether something stands at a path of a revision.
+pub(crate) fn is_there<R: Repository>(view: &R, revision: u64, path: &Path) -> bool
+    ensures { result ≡ is_some (trees_in (R.content view.now).revisions revision path.now) }
+{
+    view.kind(revision, path) != NodeKind::Absent
+}
+
+/// Whether a directory stands at a path of a revision.
+pub(crate) fn is_directory_there<R: Repository>(view: &R, revision: u64, path: &Path) -> bool
+    ensures { result
+        ≡ is_directory_there (trees_in (R.content view.now).revisions revision path.now) }
+{
+    view.kind(revision, path) == NodeKind::Directory
+}

@@ -1,0 +1,27 @@
+//! What a client reports to have, what a drive is to lead to, and why a report is refused.
+#![tactic(auto)]
+
+mod applying;
+mod ask;
+mod asking;
+mod fault;
+mod graft;
+mod grafts;
+mod judging;
+mod laws;
+mod report;
+mod reported;
+mod sources;
+
+pub use applying::{Link, delete_path, finish, set_path};
+pub use ask::{DepthAsked, DriveAsk, Purpose};
+pub use asking::{Anchor, Errand, ask_of, begin};
+pub use fault::ReportFault;
+pub use graft::{Graft, Subtree};
+pub use grafts::Grafts;
+pub use laws::{
+    drive_trees_hold_together, reported_trees_hold_together, revisions_hold_together,
+    whole_reports_are_revisions,
+};
+pub use report::{OpenReport, Report, ReportRoot};
+pub use reported::{ReportedPlace, reported_at};

@@ -1,0 +1,27 @@
+//! A report on its way.
+use crate::ask::DriveAsk;
+use drives::Depth;
+use refusals::Refusal;
+
+/// The revision and the depth of the path that is reported first, the target.
+#[derive(Clone, Copy, Debug, PartialEq, Eq)]
+pub struct ReportRoot {
+    pub revision: u64,
+    pub depth: Depth,
+}
+
+/// A report that goes on: what is asked, the path that was reported first, once there is one, and
+/// what was put so far, in its order.
+#[derive(Drop)]
+pub struct OpenReport<G> {
+    pub ask: DriveAsk,
+    pub root: Option<ReportRoot>,
+    pub grafts: G,
+}
+
+/// A report on its way. A refusal is told at its end.
+#[derive(Drop)]
+pub enum Report<G> {
+    Refused(Refusal),
+    Open(OpenReport<G>),
+}

@@ -1,0 +1,73 @@
+//! Which paths of the repository the paths of a report stand for.
+ghost use Rattle.std.specs.Prelude.{◌≡◌, ◌++◌, IfOk};
+ghost use Rattle.reports.specs.Judging.{Judges};
+ghost use Rattle.reports.specs.Refusing.{report_path};
+ghost use Rattle.reports.specs.Reported.{above, origin, own_source};
+
+use crate::ask::DriveAsk;
+use crate::fault::ReportFault;
+use crate::graft::Graft;
+use crate::judging::path_named;
+use byte_string::ByteString;
+use std::alloc::{AllocError, Global};
+use svnpath::Path;
+
+/// A path of a report as a path of the repository: beneath the anchor.
+fn anchored(alloc: Global, anchor: &Path, path: &Path) -> Result<Path, AllocError>
+    ensures { IfOk result (λ p. p ≡ anchor.now ++ path.now) }
+{
+    path.rebased(alloc, &Path::root(alloc), anchor)
+}
+
+/// The path that a text names beneath the target, from the anchor on.
+pub(crate) fn report_path(
+    alloc: Global,
+    ask: &DriveAsk,
+    text: &ByteString,
+) -> Result<Path, ReportFault>
+    ensures { Judges result (report_path ask.now text.now) }
+{
+    let own = anchored(alloc, &ask.anchor, &ask.target)?;
+    let path = path_named(alloc, &own, text)?;
+    Ok(path.rebased(alloc, &ask.anchor, &Path::root(alloc))?)
+}
+
+/// The path above; of the root the root.
+pub(crate) fn above(alloc: Global, path: &Path) -> Result<Path, AllocError>
+    ensures { IfOk result (λ p. p ≡ above path.now) }
+{
+    match path.parent(alloc)? {
+        Some(parent) => Ok(parent),
+        None => Ok(Path::root(alloc)),
+    }
+}
+
+/// What a path stands for: by the last graft at or above it, or else by the anchor.
+fn origin(alloc: Global, anchor: &Path, grafts: &[Graft], path: &Path) -> Result<Path, AllocError>
+    ensures { IfOk result (λ p. p ≡ origin anchor.now grafts.now path.now) }
+{
+    let mut from = anchored(alloc, anchor, path)?;
+    for graft in grafts {
+        if path.is_at_or_under(&graft.path) {
+            from = path.rebased(alloc, &graft.path, &graft.from)?;
+        }
+    }
+    Ok(from)
+}
+
+/// What a path that is set stands for from then on.
+pub(crate) fn own_source(
+    alloc: Global,
+    ask: &DriveAsk,
+    grafts: &[Graft],
+    path: &Path,
+) -> Result<Path, AllocError>
+    ensures { IfOk result (λ p. p ≡ own_source ask.now.anchor ask.now.target grafts.now path.now) }
+{
+    if path == &ask.target {
+        return anchored(alloc, &ask.anchor, &ask.target);
+    }
+    let above = above(alloc, path)?;
+    let from = origin(alloc, &ask.anchor, grafts, &above)?;
+    path.rebased(alloc, &above, &from)
+}

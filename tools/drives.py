@@ -1,0 +1,689 @@
+"""A plain model of reports, and of the drives that answer them.
+
+By a report a client says what it has: subtrees of revisions at paths, each in the place of what stood there. A drive leads
+from that to what the client is to have. Both are dicts from paths to entries here, and nothing is shared. `Report` makes the
+one drive that this project's server sends; `Judge` says of any drive what is wrong with it, by the rules alone, so that the
+two do not share an error. Paths are relative to the session's: names with slashes between them, the root empty.
+"""
+
+from functools import cached_property
+from typing import NamedTuple, Optional
+from urllib.parse import unquote_to_bytes, urlsplit
+
+from spelling import (
+    ABORT_REPORT,
+    CLOSE_EDIT,
+    FINISH_REPORT,
+    NO_LOGIN,
+    NO_TEXT,
+    UUID,
+    add_directory,
+    add_file,
+    close_directory,
+    close_file,
+    date,
+    delete_entry,
+    delete_path,
+    delta,
+    digest,
+    directory_property,
+    file_property,
+    items,
+    link_path,
+    open_directory,
+    open_file,
+    open_root,
+    optional,
+    refused,
+    set_path,
+    status,
+    switch,
+    target_revision,
+    update,
+    whole_text,
+)
+
+BAD_PATH, NO_REVISION, NOT_FOUND, NOT_SUPPORTED = 160005, 160006, 160013, 200007
+UNKNOWN, MALFORMED, NO_REPOSITORY = 210001, 210004, 210005
+
+ROOT_URL = "svn://h/r"
+DEPTH = 64
+LONGEST_NAME = 255
+
+# the properties that tell an entry of itself, in the order in which this server sends them
+TELLING = "svn:entry:"
+COMMITTED, DATED, BY, OF, LOCK_TOKEN = (
+    TELLING + name for name in ("committed-rev", "committed-date", "last-author", "uuid", "lock-token")
+)
+
+
+class Refused(Exception):
+    """A command is refused by a number."""
+
+    def __init__(self, number):
+        self.number = number
+
+
+class Node(NamedTuple):
+    """A directory, or a file with a text. `last` is the revision of the last change at or under it, and the path at which
+    that mark was made."""
+
+    text: Optional[bytes]
+    properties: tuple
+    last: tuple
+
+
+class Revisions:
+    """What a drive asks of a repository: the tree of each revision, when each was made (by a count of microseconds, a text,
+    or None) and by whom, and the tokens of locks by the paths at which they stand."""
+
+    def __init__(self, trees, made, tokens, uuid=UUID):
+        self.trees = trees
+        self.made = made
+        self.tokens = tokens
+        self.uuid = uuid
+
+    @property
+    def youngest(self):
+        return len(self.trees) - 1
+
+    def told_of(self, node):
+        """What an entry is told of itself."""
+        moment, author = self.made[node.last[0]]
+        dated = date(moment) if isinstance(moment, int) else moment
+        return [(COMMITTED, str(node.last[0])), (DATED, dated), (BY, author), (OF, self.uuid)]
+
+
+# Paths.
+
+
+def is_at_or_under(path, top):
+    """Whether a path is another or beneath it."""
+    return top == "" or path == top or path.startswith(top + "/")
+
+
+def joined(path, rest):
+    """What a path beneath another is."""
+    return "/".join(filter(None, [path, rest]))
+
+
+def beyond(path, top):
+    """The rest of a path beneath another."""
+    return path[len(top) :].strip("/")
+
+
+def parent_of(path):
+    """The path of the directory in which an entry stands."""
+    return path.rpartition("/")[0]
+
+
+def checked(names):
+    """The path of these names, if it is one."""
+    for name in names:
+        if name in (b"", b".", b"..") or len(name) > LONGEST_NAME or set(name) & set(b"\0\n/"):
+            raise Refused(BAD_PATH)
+    if len(names) > DEPTH:
+        raise Refused(BAD_PATH)
+    try:
+        return b"/".join(names).decode()
+    except UnicodeDecodeError:
+        raise Refused(BAD_PATH) from None
+
+
+def path_of(base, text):
+    """The path that a client names by a text that is relative to another."""
+    text = text.removeprefix("/").removesuffix("/")
+    names = [*base.encode().split(b"/"), *text.encode().split(b"/")]
+    return checked(names[not base :] if text else names[not base : -1])
+
+
+def path_of_url(url):
+    """The path in the repository that a URL names."""
+    spelled = urlsplit(url)
+    first, *names = [unquote_to_bytes(name) for name in spelled.path.removeprefix("/").removesuffix("/").split("/")]
+    if spelled.scheme not in ("svn", "svn+ssh") or first != b"r":
+        raise Refused(NO_REPOSITORY)
+    return checked(names)
+
+
+def kind_of(node):
+    """What an entry is."""
+    return None if node is None else "dir" if node.text is None else "file"
+
+
+# What a client has.
+
+
+class Had(NamedTuple):
+    """What a client has at a path: an entry of a revision, and the token of a lock."""
+
+    node: Node
+    revision: int
+    token: Optional[str] = None
+
+
+class Report:
+    """A report, from the command that begins it to its end. Each method is a command of it, is kept as it is spelled, and
+    changes what the client has, or is refused. The first refusal is kept, and answers in the end."""
+
+    def __init__(self, revisions, purpose="update", target="", revision=None, *, anchor="", url=None, recurse=True, depth=None):
+        self.revisions = revisions
+        self.purpose = purpose
+        self.anchor = anchor
+        self.refusal = None
+        self.first = None
+        # each path that was reported, with the path of the repository that it stands for, in their order
+        self.places = []
+        self.had = {}
+        # the paths that were ever reported to start empty
+        self.bare = set()
+        self.sent = [self.beginning(target, revision, url, recurse, depth)]
+        self.attempt(lambda: self.begin(target, revision, url, recurse, depth))
+
+    def beginning(self, target, revision, url, recurse, depth):
+        """The command that begins it."""
+        number = b"" if revision is None else b"%d " % revision
+        word = b"" if depth is None else depth.encode() + b" "
+        if self.purpose == "update":
+            return update(target, number, recurse, word and word + b"false ")
+        if self.purpose == "switch":
+            return switch(url, target, number, recurse, word)
+        told = b"" if revision is None and not word else b"( " + number + b") "
+        return status(target, recurse, told + word)
+
+    def begin(self, target, revision, url, recurse, depth):
+        """What it is to lead to is fixed at its beginning."""
+        own = path_of(self.anchor, target)
+        self.goal = own if url is None else path_of_url(url)
+        self.target = beyond(own, self.anchor)
+        self.revision = self.known(self.revisions.youngest if revision is None else revision)
+        if not recurse or depth not in (None, "infinity", "unknown"):
+            raise Refused(NOT_SUPPORTED)
+
+    def attempt(self, act):
+        """Does something, if nothing was refused before."""
+        if self.refusal is None:
+            try:
+                act()
+            except Refused as refused_by:
+                self.refusal = refused_by.number
+
+    def known(self, revision):
+        """A revision that is there."""
+        if revision > self.revisions.youngest:
+            raise Refused(NO_REVISION)
+        return revision
+
+    # The commands.
+
+    def set_path(self, text, revision, starts_empty=False, token=None, depth=None, url=None):
+        """At a path, or by a URL at a link, the client has what a revision has there."""
+        rest = b"" if token is None and depth is None else optional(token) + (b"" if depth is None else depth.encode() + b" ")
+        if url is None:
+            self.sent.append(set_path(text, revision, starts_empty, rest))
+        else:
+            self.sent.append(link_path(text, url, revision, starts_empty, rest))
+        self.attempt(lambda: self.set(text, revision, starts_empty, token, depth, url))
+        return self
+
+    def link_path(self, text, url, revision, starts_empty=False, token=None, depth=None):
+        """At a path the client has what a revision has at a URL."""
+        return self.set_path(text, revision, starts_empty, token, depth, url)
+
+    def delete_path(self, text):
+        """At a path the client has nothing."""
+        self.sent.append(delete_path(text))
+        self.attempt(lambda: self.delete(text))
+        return self
+
+    def other(self, sent):
+        """A command that reports have not."""
+        self.sent.append(sent)
+        self.attempt(self.refuse_unknown)
+        return self
+
+    def refuse_unknown(self):
+        raise Refused(UNKNOWN)
+
+    def path(self, text):
+        """The path that a client names, from the session's on."""
+        return beyond(path_of(joined(self.anchor, self.target), text), self.anchor)
+
+    def set(self, text, revision, starts_empty, token, depth, url):
+        if self.first is None and (url is not None or not self.names_top(text)):
+            raise Refused(MALFORMED)
+        path = self.path(text)
+        source = self.source(path) if url is None else path_of_url(url)
+        self.known(revision)
+        if depth not in (None, "infinity", "unknown"):
+            raise Refused(NOT_SUPPORTED)
+        if path != self.target and not self.is_directory(parent_of(path)):
+            raise Refused(NOT_FOUND)
+        tree = self.revisions.trees[revision]
+        may_lack = self.first is None and self.target != ""
+        if source not in tree and not may_lack:
+            raise Refused(NOT_FOUND)
+        self.put(path, source)
+        if starts_empty:
+            self.bare.add(path)
+        for place, node in tree.items():
+            if place == source:
+                self.had[path] = Had(node, revision, token)
+            elif is_at_or_under(place, source) and not starts_empty:
+                self.had[joined(path, beyond(place, source))] = Had(node, revision)
+        if self.first is None:
+            self.first = revision
+
+    def names_top(self, text):
+        """Whether a text names the target; one that names no path does not."""
+        try:
+            return self.path(text) == self.target
+        except Refused:
+            return False
+
+    def delete(self, text):
+        if self.first is None:
+            raise Refused(MALFORMED)
+        path = self.path(text)
+        if path == "":
+            raise Refused(MALFORMED)
+        self.put(path, self.source(path))
+
+    def put(self, path, source):
+        """What stood at a path is gone, and it stands for another path of the repository."""
+        self.had = {there: had for there, had in self.had.items() if not is_at_or_under(there, path)}
+        self.places.append((path, source))
+
+    def is_directory(self, path):
+        """Whether the client has a directory there."""
+        return path in self.had and self.had[path].node.text is None
+
+    def source(self, path):
+        """The path of the repository that a path stands for by that of its directory."""
+        if path == self.target:
+            return joined(self.anchor, path)
+        parent = parent_of(path)
+        for top, source in reversed(self.places):
+            if is_at_or_under(parent, top):
+                return joined(source, beyond(path, top))
+        return joined(self.anchor, path)
+
+    # The end.
+
+    @cached_property
+    def tree(self):
+        """What the client is to have."""
+        tree = self.revisions.trees[self.revision]
+        return {
+            joined(self.target, beyond(place, self.goal)): node for place, node in tree.items() if is_at_or_under(place, self.goal)
+        }
+
+    def end_refusal(self):
+        """Why there is no drive, if there is none."""
+        if self.refusal is None and self.first is None:
+            return MALFORMED
+        if self.refusal is not None:
+            return self.refusal
+        tree = self.revisions.trees[self.revision]
+        has_goal = self.purpose != "switch" or self.goal in tree
+        if self.target:
+            has_anchor = kind_of(tree.get(self.anchor)) == "dir"
+        else:
+            has_anchor = kind_of(tree.get(self.goal)) == "dir" and self.is_directory("")
+        return None if has_goal and has_anchor else NOT_FOUND
+
+    def finished(self):
+        """How a client ends it, and what it is told: a drive, or why there is none."""
+        number = self.end_refusal()
+        return FINISH_REPORT, refused(number) if number else NO_LOGIN + b"".join(Drive(self).commands)
+
+    def aborted(self):
+        """How a client gives it up, and what it is told."""
+        return ABORT_REPORT, b""
+
+    def is_stale(self, path):
+        """Whether the client has a token of an entry that it is to have, and no lock there has that token."""
+        token = self.had[path].token if path in self.had else None
+        place = joined(self.goal, beyond(path, self.target))
+        return token is not None and path in self.tree and self.revisions.tokens.get(place) != token
+
+    def judge(self, told):
+        """What is wrong with an answer to the end of this report, a line each."""
+        number = self.end_refusal()
+        if number or not told.startswith(NO_LOGIN):
+            return [] if number and told == refused(number) else ["it is not told what it should be"]
+        return Judge(self, told[len(NO_LOGIN) :]).complaints
+
+
+# The drive that the server sends.
+
+
+class Drive:
+    """The commands of the drive of a report: what is to be told, and nothing else.
+
+    Right drives differ, and this is the one that the server chooses: what is told of an entry comes first, then its properties,
+    then what is to be deleted, and then what else is in it, names by their bytes. Tokens are a letter and how many entries are
+    open, so that a token comes again once what was open under it is closed.
+    An entry is opened with the revision at which it was reported, and deleted with none. A text is sent whole, its head and each
+    window in a chunk, without the digest of the text before. What changed nowhere but in the path of a mark is not named."""
+
+    def __init__(self, report):
+        self.report = report
+        self.tree = report.tree
+        self.named = self.all_named()
+        root = "d0"
+        self.commands = [target_revision(report.revision), open_root(root, b"%d " % report.first)]
+        if report.target:
+            self.entries("", root, [report.target], False)
+        else:
+            self.tell("", root, directory_property, False)
+            self.entries("", root, self.children(""), False)
+        self.commands += [close_directory(root), CLOSE_EDIT]
+
+    def all_named(self):
+        """The paths at or under which there is something to tell."""
+        named = set()
+        for path in {*self.tree, *self.report.had}:
+            if self.is_due(path):
+                while path not in named:
+                    named.add(path)
+                    path = parent_of(path)
+        return named
+
+    def is_due(self, path):
+        """Whether there is something to tell of an entry itself."""
+        new, had = self.tree.get(path), self.report.had.get(path)
+        if new is None or had is None:
+            return new is not had
+        old = had.node
+        is_same = (old.text, old.properties, old.last[0]) == (new.text, new.properties, new.last[0])
+        return not is_same or self.report.is_stale(path)
+
+    def children(self, path):
+        """The paths of what stands in a directory now or then, by the bytes of the names."""
+        there = {place for place in {*self.tree, *self.report.had} if place and parent_of(place) == path}
+        return sorted(there, key=lambda place: place.rpartition("/")[2].encode())
+
+    def old(self, path, is_anew):
+        """What the client has at a path, where it does not come anew."""
+        return None if is_anew or path not in self.report.had else self.report.had[path].node
+
+    def entries(self, directory, token, paths, is_anew):
+        """What is to be told of these entries of a directory."""
+        for path in paths:
+            old = self.old(path, is_anew)
+            if old and kind_of(old) != kind_of(self.tree.get(path)):
+                self.commands.append(delete_entry(path, token))
+        for path in paths:
+            if path in self.tree and (is_anew or path in self.named):
+                old = self.old(path, is_anew)
+                self.entry(path, token, old is None or kind_of(old) != kind_of(self.tree[path]))
+
+    def entry(self, path, parent, is_anew):
+        """What is to be told at a path and under it."""
+        is_directory = self.tree[path].text is None
+        token = f"{'d' if is_directory else 'c'}{int(parent[1:]) + 1}"
+        if is_anew:
+            self.commands.append((add_directory if is_directory else add_file)(path, parent, token))
+        else:
+            revision = b"( %d ) " % self.report.had[path].revision
+            self.commands.append((open_directory if is_directory else open_file)(path, parent, token, revision))
+        self.tell(path, token, directory_property if is_directory else file_property, is_anew)
+        if is_directory:
+            self.entries(path, token, self.children(path), is_anew)
+            self.commands.append(close_directory(token))
+        else:
+            self.commands += self.text(path, token, is_anew)
+
+    def tell(self, path, token, change, is_anew):
+        """What an entry is told of itself, and its properties."""
+        told = self.report.revisions.told_of(self.tree[path])
+        if self.report.is_stale(path):
+            told.append((LOCK_TOKEN, None))
+        old, new = self.old(path, is_anew), dict(self.tree[path].properties)
+        before = dict(old.properties) if old else {}
+        # the properties of what starts empty are told as if it had none: a client that checks a directory out, or whose
+        # checkout was interrupted, has none of them
+        is_bare = old is not None and path in self.report.bare
+        names = sorted({*before, *new}, key=str.encode)
+        told += [(name, new.get(name)) for name in names if before.get(name) != new.get(name) or is_bare]
+        self.commands += [change(token, name, value) for name, value in told]
+
+    def text(self, path, token, is_anew):
+        """What a file is told of its text, up to its close."""
+        old, text = self.old(path, is_anew), self.tree[path].text
+        if old and old.text == text:
+            return [close_file(token)]
+        if self.report.purpose == "status":
+            return [*delta(token, NO_TEXT), close_file(token)]
+        return [*delta(token, *whole_text(text)), close_file(token, digest(text))]
+
+
+# What is right.
+
+
+class Wrong(Exception):
+    """A drive breaks a rule."""
+
+
+class Open(NamedTuple):
+    """What is open under a token."""
+
+    token: bytes
+    path: str
+    is_directory: bool
+
+
+def text_of(base, content):
+    """The text of an svndiff document over another text."""
+    if content[:4] != NO_TEXT:
+        raise Wrong("a document without its head")
+    place, text = 4, b""
+
+    def number():
+        nonlocal place
+        value = 0
+        while True:
+            byte = content[place]
+            place += 1
+            value = value * 128 + byte % 128
+            if byte < 128:
+                return value
+
+    while place < len(content):
+        offset, length, wanted, instructions, data = (number() for _ in range(5))
+        view, made = base[offset : offset + length], b""
+        if len(view) != length:
+            raise Wrong("a window that goes beyond the text it is over")
+        end = place + instructions
+        new = end
+        while place < end:
+            kind, size = divmod(content[place], 64)
+            place += 1
+            size = size or number()
+            if kind == 0:
+                begin = number()
+                made += view[begin : begin + size]
+            elif kind == 2:
+                made += content[new : new + size]
+                new += size
+            else:
+                raise Wrong("an instruction of another kind")
+        if place != end or new != end + data or len(made) != wanted:
+            raise Wrong("a window whose lengths differ")
+        place, text = new, text + made
+    return text
+
+
+class Judge:
+    """Follows a drive over what the client has, command by command, and compares with what it is to have."""
+
+    def __init__(self, report, told):
+        self.report = report
+        self.goal = report.tree
+        self.now = {path: [had.node.text, dict(had.node.properties)] for path, had in report.had.items()}
+        self.held = []
+        self.opened, self.added, self.deleted, self.texts = set(), set(), set(), set()
+        self.named = set()
+        self.told = {}
+        self.documents = {}
+        self.complaints = []
+        try:
+            self.follow(items(told))
+        except (Wrong, KeyError, ValueError, IndexError, TypeError, AttributeError) as wrong:
+            self.complaints.append(f"{type(wrong).__name__}: {wrong}")
+        else:
+            self.compare()
+
+    def follow(self, commands):
+        first, second, *others, last = commands
+        self.want(first == ["target-rev", [self.report.revision]], "the revision of the target")
+        name, (revision, token) = second
+        self.want((name, revision) == ("open-root", [self.report.first]), "the root, and the revision that was reported first")
+        self.want(last == ["close-edit", []], "the end of the edit")
+        self.held.append(Open(token, "", True))
+        if not self.report.target:
+            self.name("", self.opened)
+        for name, parameters in others:
+            getattr(self, name.replace("-", "_"))(*parameters)
+        self.want(not self.held, "everything closed")
+
+    def want(self, holds, what):
+        if not holds:
+            raise Wrong("this is not " + what)
+
+    def name(self, path, how):
+        self.want(is_at_or_under(path, self.report.target), f"a path that was asked for: {path}")
+        self.named.add(path)
+        how.add(path)
+
+    def place(self, spelled, parent):
+        """The path of an entry in the directory that was opened last, which has this token."""
+        path, directory = spelled.decode(), self.held[-1]
+        self.want(directory.is_directory and directory.token == parent, f"the token of what was opened last: {path}")
+        is_child = path and parent_of(path) == directory.path and path != directory.path
+        is_target = directory.path == "" and path == self.report.target
+        self.want(is_child or is_target, f"an entry of that directory: {path}")
+        return path
+
+    def of_last(self, token, is_directory):
+        self.want(self.held[-1].token == token and self.held[-1].is_directory == is_directory, "the token of what was opened last")
+        return self.held[-1].path
+
+    def enter(self, spelled, parent, token, is_directory):
+        path = self.place(spelled, parent)
+        self.want(all(held.token != token for held in self.held), f"a token of its own: {path}")
+        self.held.append(Open(token, path, is_directory))
+        return path
+
+    def add(self, spelled, parent, token, source, is_directory):
+        path = self.enter(spelled, parent, token, is_directory)
+        self.want(source == [], f"an entry that is told without a source: {path}")
+        self.want(path not in self.now, f"a place at which nothing stands: {path}")
+        self.now[path] = [None if is_directory else b"", {}]
+        self.name(path, self.added)
+
+    def add_dir(self, spelled, parent, token, source):
+        self.add(spelled, parent, token, source, True)
+
+    def add_file(self, spelled, parent, token, source):
+        self.add(spelled, parent, token, source, False)
+
+    def open(self, spelled, parent, token, is_directory):
+        path = self.enter(spelled, parent, token, is_directory)
+        self.want(path in self.now and (self.now[path][0] is None) == is_directory, f"what the client has: {path}")
+        self.name(path, self.opened)
+
+    def open_dir(self, spelled, parent, token, revision):
+        self.open(spelled, parent, token, True)
+
+    def open_file(self, spelled, parent, token, revision):
+        self.open(spelled, parent, token, False)
+
+    def delete_entry(self, spelled, revision, parent):
+        path = self.place(spelled, parent)
+        self.want(path in self.now, f"what the client has: {path}")
+        self.now = {there: node for there, node in self.now.items() if not is_at_or_under(there, path)}
+        self.name(path, self.deleted)
+
+    def change(self, path, name, value):
+        name = name.decode()
+        if name.startswith(TELLING):
+            self.told.setdefault(path, {})[name] = value[0].decode() if value else None
+        elif value:
+            self.now[path][1][name] = value[0].decode()
+        else:
+            self.now[path][1].pop(name, None)
+        # of the root nothing may be said where there is a target
+        self.want(path or not self.report.target, "a property of what is asked for")
+
+    def change_dir_prop(self, token, name, value):
+        self.change(self.of_last(token, True), name, value)
+
+    def change_file_prop(self, token, name, value):
+        self.change(self.of_last(token, False), name, value)
+
+    def apply_textdelta(self, token, checksum):
+        path = self.of_last(token, False)
+        self.want(path not in self.texts and path not in self.documents, f"the only delta of {path}")
+        self.want(not checksum or checksum[0].decode() == digest(self.now[path][0]), f"the digest of the text that the client has: {path}")
+        self.documents[path] = b""
+
+    def textdelta_chunk(self, token, content):
+        self.documents[self.of_last(token, False)] += content
+
+    def textdelta_end(self, token):
+        path = self.of_last(token, False)
+        self.now[path][0] = text_of(self.now[path][0], self.documents.pop(path))
+        self.texts.add(path)
+
+    def close_dir(self, token):
+        self.of_last(token, True)
+        self.held.pop()
+
+    def close_file(self, token, checksum):
+        path = self.of_last(token, False)
+        self.want(path not in self.documents, f"a delta with its end: {path}")
+        self.want(not checksum or checksum[0].decode() == digest(self.now[path][0]), f"the digest of {path}")
+        self.held.pop()
+
+    # What it led to, and what it named.
+
+    def compare(self):
+        report, old, new = self.report, {path: had.node for path, had in self.report.had.items()}, self.goal
+        without_texts = report.purpose == "status"
+        for path in sorted({*old, *new, *self.now}):
+            made, wanted = self.now.get(path), new.get(path)
+            is_right = (made is None) == (wanted is None)
+            if is_right and made:
+                is_right = (made[0] is None) == (wanted.text is None) and made[1] == dict(wanted.properties)
+                is_right = is_right and (without_texts or made[0] == wanted.text)
+            self.judge(is_right, f"what is made of it is not what it should be: {path!r}")
+            is_in_both = path in old and path in new
+            is_due = is_in_both and (old[path].last[0] != new[path].last[0] or report.is_stale(path))
+            self.judge(path in self.named or not is_due, f"nothing is told of it: {path!r}")
+            wants_text = path in new and new[path].text is not None and (path not in old or old[path].text != new[path].text)
+            self.judge(path in self.texts or not wants_text, f"its text is not told: {path!r}")
+            is_of_one_kind = is_in_both and kind_of(old[path]) == kind_of(new[path])
+            is_kept = path in self.opened and path not in self.added | self.deleted
+            self.judge(path not in self.named or not is_of_one_kind or is_kept, f"it is not opened: {path!r}")
+        for path in sorted(self.named):
+            reasons = (
+                old.get(place) is None
+                or new.get(place) is None
+                or old[place][:2] != new[place][:2]
+                or old[place].last != new[place].last
+                or report.is_stale(place)
+                for place in {*old, *new}
+                if is_at_or_under(place, path)
+            )
+            self.judge(path == "" or any(reasons), f"it is named without a reason: {path!r}")
+        for path in sorted(self.opened | self.added):
+            told = dict(report.revisions.told_of(new[path])) if path in new else None
+            if told and report.is_stale(path):
+                told[LOCK_TOKEN] = None
+            self.judge(self.told.get(path) == told, f"it is not told what it should be of itself: {path!r}")
+
+    def judge(self, holds, complaint):
+        if not holds:
+            self.complaints.append(complaint)
