@@ -13,7 +13,7 @@ use Rattle.machine.specs.Stages.{Stage}
 use Rattle.machine.specs.Answers.{no_effect, Answer, says, serves, behind, Behind}
 use Rattle.machine.specs.Commands.{commit_begins, reparented}
 use Rattle.machine.specs.Steps.{AnswerWritten, StepWritten, StepOrNothing}
-use Rattle.machine.specs.declared.asked.Asked.{Asked}
+use Rattle.machine.specs.declared.commit_parameters.CommitParameters.{CommitParameters}
 use Rattle.machine.specs.declared.env.Env.{Env}
 use Rattle.reports.specs.Refusing.{ReportState}
 use Rattle.machine.specs.declared.phase.Phase.TheVariants.{Serving, Reporting}
@@ -21,7 +21,7 @@ use Rattle.machine.specs.declared.phase.Client.{Client}
 use Rattle.telling.proofs.Steps.{said, said_part}
 
 -- the beginning of a commit changes nothing
-pub begins : (s : Settings) (env : Env) (client : Client) (asked : Result Asked Refusal) → (commit_begins s env client asked).effect ≡ no_effect
+pub begins : (s : Settings) (env : Env) (client : Client) (asked : Result CommitParameters Refusal) → (commit_begins s env client asked).effect ≡ no_effect
 begins s env client (Ok asked) = refl
 begins s env client (Err r) = refl
 

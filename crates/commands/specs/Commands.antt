@@ -170,8 +170,8 @@ limit_at_end none = Some 0
 limit_at_end items = option_map (λ first. first.0) (number_first items)
 
 -- `( ( path ... ) [ start ] [ end ] changed-paths strict-node ? limit )`
-abbrev pub log : ItemValues → Option MainCommand
-log params = do
+abbrev pub log_command : ItemValues → Option MainCommand
+log_command params = do
   (paths, rest) ← list_first params
   paths ← strings paths
   (start, rest) ← revision_first rest
@@ -251,7 +251,7 @@ command_with names.GetDatedRev params = get_dated_rev params
 command_with names.RevProp params = rev_prop params
 command_with names.ChangeRevProp params = change_rev_prop params
 command_with names.Reparent params = reparent params
-command_with names.Log params = log params
+command_with names.Log params = log_command params
 command_with names.GetLocations params = get_locations params
 command_with names.Update params = option_map Update (update params)
 command_with names.Switch params = option_map (λ p. Switch p.0 p.1) (switch params)

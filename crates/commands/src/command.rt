@@ -4,7 +4,7 @@ ghost use Rattle.std.specs.Prelude.{◌≡◌, option_copied, option_map};
 ghost use Rattle.std.specs.List.{find};
 ghost use Rattle.forms.specs.Answering.{Answers, Reads};
 ghost use Rattle.forms.specs.Forms.{is_name};
-ghost use Rattle.commands.specs.Commands.{main_command, command_name, name_text, command_with, check_path, rev_proplist, locks_first, properties_at_end, commit, lock, unlock, get_lock, get_locks, path_first, get_file, get_dir, has_fields, stat, get_dated_rev, rev_prop, change_rev_prop, reparent, limit_at_end, log, get_locations};
+ghost use Rattle.commands.specs.Commands.{main_command, command_name, name_text, command_with, check_path, rev_proplist, locks_first, properties_at_end, commit, lock, unlock, get_lock, get_locks, path_first, get_file, get_dir, has_fields, stat, get_dated_rev, rev_prop, change_rev_prop, reparent, limit_at_end, log_command, get_locations};
 
 use crate::login::are_words;
 use byte_string::ByteString;
@@ -535,7 +535,7 @@ fn read_limit(items: &[Item]) -> Option<u64>
 
 /// `( ( path ... ) [ start ] [ end ] changed-paths strict-node ? limit )`
 fn read_log(alloc: Global, params: &[Item]) -> Result<MainCommand, CommandFault>
-    ensures { Reads result (log (values_of params.now)) }
+    ensures { Reads result (log_command (values_of params.now)) }
 {
     let (paths, rest) = read_list(params).ok_or(BadParameters)?;
     let (start, rest) = read_revision(rest).ok_or(BadParameters)?;

@@ -5,7 +5,7 @@ ghost use Rattle.dates.specs.Dates.{IsDateText};
 ghost use Rattle.dates.specs.declared.TheConstants.{LAST_MOMENT};
 ghost use Rattle.repo_api.specs.States.{IsBeginning};
 ghost use Rattle.edit_commands.specs.Editing.{editor_command, ends_edit};
-ghost use Rattle.edit_rules.specs.Editor.{IfRefused, Applies, finished, RestsOn};
+ghost use Rattle.edit_rules.specs.Editor.{IfEditRefused, Applies, finished, RestsOn};
 ghost use Rattle.edit_rules.specs.Edits.{new_edit};
 ghost use Rattle.edit_rules.specs.Soundness.{IsSoundEdit};
 ghost use Rattle.edit_rules.specs.Refusing.{edit_refusal};
@@ -27,7 +27,7 @@ use edit_rules::EditFault;
 use editor::CommitEditor;
 use forms::CommandFault;
 use items::Item;
-use machine::{Asked, Client, Ending, OpenEdit, Options, Phase, Turn, ending_of};
+use machine::{Client, CommitParameters, Ending, OpenEdit, Options, Phase, Turn, ending_of};
 use refusals::Refusal;
 use replies::{Reply, ReplySink};
 use repo_api::{ChangeFault, CommitAsk, Repository};
@@ -129,7 +129,7 @@ fn apply_now<R: Repository, A: RepoAccess<View = R>>(
     ensures ok { OnOk result (
         (edit_refusal (content_of (A.point access.new)) editor.old command.now ≡ None)
         × Applies (content_of (A.point access.new)) editor.old command.now editor.new) }
-    ensures err { IfErr result (λ fault. IfRefused fault
+    ensures err { IfErr result (λ fault. IfEditRefused fault
         (λ r. edit_refusal (content_of (A.point access.new)) editor.old command.now ≡ Some r)) }
     ensures later { A.rules.between (A.point access.old) (A.point access.new) }
 {
@@ -169,12 +169,12 @@ fn edit<R: Repository, A: RepoAccess<View = R>, S: ReplySink>(
 fn commit_ask(
     alloc: Global,
     client: &Client,
-    asked: Asked,
+    asked: CommitParameters,
     date: &ByteString,
 ) -> Result<CommitAsk, AllocError>
     ensures { IfOk result (λ ask. ask ≡ commit_ask client.now asked date.now) }
 {
-    let Asked {
+    let CommitParameters {
         message,
         properties,
         tokens,
@@ -280,7 +280,7 @@ fn tell_commit<R: Repository, S: ReplySink>(
 /// Commits a transaction.
 fn commit<R: Repository, A: RepoAccess<View = R>, S: ReplySink>(
     client: Client,
-    asked: Asked,
+    asked: CommitParameters,
     txn: R::Txn,
     access: &mut A,
     turn: &mut Turn<S>,

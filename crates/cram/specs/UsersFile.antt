@@ -60,12 +60,12 @@ pub record IsFirstWrong (file : List Line) (number : ℕ) : Type 0 where
   pub counted : number ≡ length before + 1
 
 -- which fault a file has
-abbrev pub IsFaultOf : List Line → CramFault → Type 0
-IsFaultOf file (faults.BadUsers number) = IsFirstWrong file number
-IsFaultOf file faults.NoMemory = Unit {0}
-IsFaultOf file faults.MalformedAnswer = ⊥
-IsFaultOf file faults.UnknownUser = ⊥
-IsFaultOf file faults.WrongPassword = ⊥
+abbrev pub IsFileFault : List Line → CramFault → Type 0
+IsFileFault file (faults.BadUsers number) = IsFirstWrong file number
+IsFileFault file faults.NoMemory = Unit {0}
+IsFileFault file faults.MalformedAnswer = ⊥
+IsFileFault file faults.UnknownUser = ⊥
+IsFileFault file faults.WrongPassword = ⊥
 
 -- what these lines say together: whether one is the header, and the users
 pub record IsSaidBy (before : List Line) (headed : Bool) (logins : List Login) : Type 0 where

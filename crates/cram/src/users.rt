@@ -79,7 +79,7 @@ impl Model for Users {
 impl Users {
     ghost use Rattle.std.specs.Prelude.{◌≡◌, ◌++◌, ◌∷◌, [], IfOk, IfErr, OnOk, option_copied};
     ghost use Rattle.cram.specs.Login.{password_of};
-    ghost use Rattle.cram.specs.UsersFile.{AreRight, IsFaultOf, file_lines, logins_of};
+    ghost use Rattle.cram.specs.UsersFile.{AreRight, IsFileFault, file_lines, logins_of};
 
     /// Reads a file of users: a line `[users]`, and behind it lines `name = password`. The blanks (spaces
     /// and tabs) round the first `=` are dropped. A name and a password have 1 to 255 bytes, and a name
@@ -89,7 +89,7 @@ impl Users {
     pub fn read(alloc: Global, bytes: &[u8]) -> Result<Users, CramFault>
         ensures users { IfOk result (λ users.
             AreRight (file_lines bytes.now) × (users ≡ logins_of (file_lines bytes.now))) }
-        ensures fault { IfErr result (λ fault. IsFaultOf (file_lines bytes.now) fault) }
+        ensures fault { IfErr result (λ fault. IsFileFault (file_lines bytes.now) fault) }
     {
         let mut draft = Draft::new(alloc);
         let mut rest = bytes;

@@ -4,7 +4,7 @@ use Rattle.std.proofs.lemmas.List.{append-nil, append_assoc}
 use Rattle.std.specs.Prelude.{Ok}
 use Rattle.svnpath.specs.Paths.{PathValue}
 use Rattle.svnpath.specs.PathLaws.{same_component_refl}
-use Rattle.svndiff0.specs.Document.{text_of}
+use Rattle.svndiff0.specs.Document.{document_text}
 use Rattle.forms.specs.Forms.{is_name}
 use Rattle.edit_commands.specs.declared.editing.EditorCommand.{EditorCommand}
 use Rattle.edit_commands.specs.declared.editing.EditorCommand.TheVariants.{ChangeDirectoryProperty, ChangeFileProperty, ApplyTextDelta, TextDeltaChunk, TextDeltaEnd, CloseDirectory}
@@ -12,7 +12,7 @@ use Rattle.drives.specs.Steps.{EntryKind, Step}
 use Rattle.drives.specs.Steps.EntryKind.{DirectoryKind, FileKind}
 use Rattle.drives.specs.Steps.Step.{PropertyAt, TextAt}
 use Rattle.drives.proofs.Joined.{and_both}
-use Rattle.drive_commands.specs.Saying.{OpenEntry, TextState, Says, said_by, same_kind, text_received, entered, is_placed, is_open}
+use Rattle.drive_commands.specs.Saying.{OpenEntry, TextState, Says, steps_said, same_kind, text_received, enters_entry, is_in_place, is_open_token}
 use Rattle.drive_commands.specs.Saying.TextState.{Unchanged, Receiving, Received}
 use Rattle.drive_commands.proofs.Joining.{says_append}
 
@@ -26,7 +26,7 @@ property_command DirectoryKind token c = ChangeDirectoryProperty (record { token
 property_command FileKind token c = ChangeFileProperty (record { token = token; name = c.0; value = c.1 })
 
 reads_property : (top : PathValue) (base : PathValue → List ℕ) (h : OpenEntry) (hs : List OpenEntry) (c : List ℕ × Option (List ℕ)) (k : EntryKind) → same_kind k h.kind ≡ true
-    → said_by top base (h ∷ hs) (property_command k h.token c) ≡ Some (PropertyAt h.path c.0 c.1 ∷ [], h ∷ hs)
+    → steps_said top base (h ∷ hs) (property_command k h.token c) ≡ Some (PropertyAt h.path c.0 c.1 ∷ [], h ∷ hs)
 reads_property top base h hs c DirectoryKind e = ap (λ b. if b then Some (PropertyAt h.path c.0 c.1 ∷ [], h ∷ hs) else None) (and_both (is_name h.token h.token) (same_kind DirectoryKind h.kind) (same_component_refl h.token) e)
 reads_property top base h hs c FileKind e = ap (λ b. if b then Some (PropertyAt h.path c.0 c.1 ∷ [], h ∷ hs) else None) (and_both (is_name h.token h.token) (same_kind FileKind h.kind) (same_component_refl h.token) e)
 
@@ -58,7 +58,7 @@ says_chunks top base h hs before (b ∷ bs) file = (
 )
 
 -- a delta in any pieces, of a document that has the text over what the client has
-pub says_text : (top : PathValue) (base : PathValue → List ℕ) (h : OpenEntry) (hs : List OpenEntry) (pieces : List (List ℕ)) (text : List ℕ) → same_kind FileKind h.kind ≡ true → text_of h.base (joined_bytes pieces) ≡ Ok text
+pub says_text : (top : PathValue) (base : PathValue → List ℕ) (h : OpenEntry) (hs : List OpenEntry) (pieces : List (List ℕ)) (text : List ℕ) → same_kind FileKind h.kind ≡ true → document_text h.base (joined_bytes pieces) ≡ Ok text
     → Says top base (with_state h Unchanged ∷ hs) (ApplyTextDelta h.token None ∷ (map (λ b. TextDeltaChunk h.token b) pieces ++ TextDeltaEnd h.token ∷ [])) (TextAt h.path text ∷ []) (with_state h (Received text) ∷ hs)
 says_text top base h hs pieces text file is = (
   [],
@@ -70,7 +70,7 @@ says_text top base h hs pieces text file is = (
         TextAt h.path text ∷ [],
         with_state h (Received text) ∷ hs,
         [],
-        ap (λ x. if x then text_received (text_of h.base (joined_bytes pieces)) (with_state h (Receiving (joined_bytes pieces))) hs else None) (and_both (is_name h.token h.token) (same_kind FileKind h.kind) (same_component_refl h.token) file)
+        ap (λ x. if x then text_received (document_text h.base (joined_bytes pieces)) (with_state h (Receiving (joined_bytes pieces))) hs else None) (and_both (is_name h.token h.token) (same_kind FileKind h.kind) (same_component_refl h.token) file)
             ∙ ap (λ r. text_received r (with_state h (Receiving (joined_bytes pieces))) hs) is,
         (refl, refl),
         refl,
@@ -80,18 +80,18 @@ says_text top base h hs pieces text file is = (
 
 -- ---- an entry
 
-pub reads_entry : (top : PathValue) (hs : List OpenEntry) (p : PathValue) (parent token base : List ℕ) (kind : EntryKind) (step : Step) → is_placed top hs p parent ≡ true → is_open token hs ≡ false
-    → entered top hs p parent token kind base step ≡ Some (step ∷ [], record { token = token; path = p; kind = kind; base = base; state = Unchanged } ∷ hs)
+pub reads_entry : (top : PathValue) (hs : List OpenEntry) (p : PathValue) (parent token base : List ℕ) (kind : EntryKind) (step : Step) → is_in_place top hs p parent ≡ true → is_open_token token hs ≡ false
+    → enters_entry top hs p parent token kind base step ≡ Some (step ∷ [], record { token = token; path = p; kind = kind; base = base; state = Unchanged } ∷ hs)
 reads_entry top hs p parent token base kind step fit new =
     ap (λ x. if x then Some (step ∷ [], record { token = token; path = p; kind = kind; base = base; state = Unchanged } ∷ hs) else None)
-    (and_both (is_placed top hs p parent) (not (is_open token hs)) fit (ap not new))
+    (and_both (is_in_place top hs p parent) (not (is_open_token token hs)) fit (ap not new))
 
-pub reads_close : (top : PathValue) (base : PathValue → List ℕ) (h : OpenEntry) (hs : List OpenEntry) → same_kind DirectoryKind h.kind ≡ true → said_by top base (h ∷ hs) (CloseDirectory h.token) ≡ Some ([], hs)
+pub reads_close : (top : PathValue) (base : PathValue → List ℕ) (h : OpenEntry) (hs : List OpenEntry) → same_kind DirectoryKind h.kind ≡ true → steps_said top base (h ∷ hs) (CloseDirectory h.token) ≡ Some ([], hs)
 reads_close top base h hs dir = ap (λ x. if x then Some ([], hs) else None) (and_both (is_name h.token h.token) (same_kind DirectoryKind h.kind) (same_component_refl h.token) dir)
 
 -- an entry from its opening to its close, with what is said of it and below it
 pub says_entry : (top : PathValue) (base : PathValue → List ℕ) (hs : List OpenEntry) (first close : EditorCommand) (step : Step) (new last : OpenEntry) (inner : List EditorCommand) (steps : List Step)
-    → said_by top base hs first ≡ Some (step ∷ [], new ∷ hs) → Says top base (new ∷ hs) inner steps (last ∷ hs) → said_by top base (last ∷ hs) close ≡ Some ([], hs)
+    → steps_said top base hs first ≡ Some (step ∷ [], new ∷ hs) → Says top base (new ∷ hs) inner steps (last ∷ hs) → steps_said top base (last ∷ hs) close ≡ Some ([], hs)
     → Says top base hs (first ∷ (inner ++ close ∷ [])) (step ∷ steps) hs
 says_entry top base hs first close step new last inner steps opens says closes = (
   step ∷ [],

@@ -14,7 +14,7 @@ use Rattle.report_commands.specs.declared.report.ReportCommand.{ReportCommand}
 use Rattle.report_commands.specs.declared.report.ReportCommand.TheVariants.{SetPath, DeletePath, LinkPath, FinishReport, AbortReport}
 use Rattle.report_commands.specs.declared.report.ReportName.{ReportName}
 use Rattle.report_commands.specs.declared.report.ReportName.TheVariants as names
-use Rattle.reports.specs.Refusing.{OpenState, ReportState, set_path_answer, delete_path_answer, finish_answer, kept}
+use Rattle.reports.specs.Refusing.{OpenState, ReportState, set_path_answer, delete_path_answer, finish_answer, kept_report}
 use Rattle.reports.specs.Targets.{WholeReport}
 use Rattle.reports.specs.declared.report.Report.TheVariants.{Refused, Open}
 use Rattle.drive_commands.specs.Sent.{IsDrive}
@@ -40,11 +40,11 @@ Finishes c (Ok report) d =
 abbrev pub OpenStep : RepoState → List ℕ → OpenState → Result ReportCommand CommandFault → Drawn
     → Type 0
 OpenStep c name report (Ok (SetPath reported)) d =
-    d ≡ GoesOn (kept (set_path_answer c name report reported None))
+    d ≡ GoesOn (kept_report (set_path_answer c name report reported None))
 OpenStep c name report (Ok (LinkPath reported url)) d =
-    d ≡ GoesOn (kept (set_path_answer c name report reported (Some url)))
+    d ≡ GoesOn (kept_report (set_path_answer c name report reported (Some url)))
 OpenStep c name report (Ok (DeletePath path)) d =
-    d ≡ GoesOn (kept (delete_path_answer report path))
+    d ≡ GoesOn (kept_report (delete_path_answer report path))
 OpenStep c name report (Ok FinishReport) d = Finishes c (finish_answer c (Open report)) d
 OpenStep c name report (Ok AbortReport) d = d ≡ GivenUp
 OpenStep c name report (Err UnknownName) d = d ≡ GoesOn (Refused refusals.UnknownCommand)

@@ -5,7 +5,7 @@ use Rattle.hex.specs.Hex.{encode_lower}
 use Rattle.md5.specs.Md5.{md5}
 use Rattle.svnpath.specs.Paths.{PathValue}
 use Rattle.svnpath.specs.Texts.{components_of}
-use Rattle.svndiff0.specs.Document.{text_of}
+use Rattle.svndiff0.specs.Document.{document_text}
 use Rattle.svndiff0.specs.declared.fault.DiffFault.{DiffFault}
 use Rattle.forms.specs.Forms.{is_name}
 use Rattle.edit_commands.specs.declared.editing.AddedEntry.{AddedEntry}
@@ -44,8 +44,8 @@ same_kind DirectoryKind kind = is_directory_kind kind
 same_kind FileKind kind = not (is_directory_kind kind)
 
 -- something is open under the token
-abbrev pub is_open : List ℕ → List OpenEntry → Bool
-is_open token hs = list_any (λ h. is_name h.token token) hs
+abbrev pub is_open_token : List ℕ → List OpenEntry → Bool
+is_open_token token hs = list_any (λ h. is_name h.token token) hs
 
 -- what a command says, and what is open after it, where it has its place
 abbrev pub Said : Type 0
@@ -58,30 +58,30 @@ when holds steps hs = if holds then Some (steps, hs) else None
 -- ---- places
 
 -- the path is in the directory that was opened last, and this is the directory's token
-abbrev pub is_placed : PathValue → List OpenEntry → PathValue → List ℕ → Bool
-is_placed top [] p parent = false
-is_placed top (h ∷ hs) p parent =
+abbrev pub is_in_place : PathValue → List OpenEntry → PathValue → List ℕ → Bool
+is_in_place top [] p parent = false
+is_in_place top (h ∷ hs) p parent =
     is_name h.token parent && is_directory_kind h.kind && is_in_directory top h.path p
 
 -- an entry is opened or added, under a token that is not open
-abbrev pub entered : PathValue → List OpenEntry → PathValue → List ℕ → List ℕ → EntryKind → List ℕ
-    → Step → Said
-entered top hs p parent token kind base step =
-    when (is_placed top hs p parent && not (is_open token hs)) (step ∷ [])
+abbrev pub enters_entry : PathValue → List OpenEntry → PathValue → List ℕ → List ℕ → EntryKind
+    → List ℕ → Step → Said
+enters_entry top hs p parent token kind base step =
+    when (is_in_place top hs p parent && not (is_open_token token hs)) (step ∷ [])
     (record { token = token; path = p; kind = kind; base = base; state = Unchanged } ∷ hs)
 
 -- an entry is opened, over the text that the client has of it
-abbrev pub opened : PathValue → List OpenEntry → OpenedEntry → EntryKind → List ℕ → Said
-opened top hs e kind base =
-    entered top hs (components_of e.path) e.parent e.token kind base
+abbrev pub opens_entry : PathValue → List OpenEntry → OpenedEntry → EntryKind → List ℕ → Said
+opens_entry top hs e kind base =
+    enters_entry top hs (components_of e.path) e.parent e.token kind base
     (OpenAt (components_of e.path) kind)
 
 -- an entry is added; a drive names no source of a copy
-abbrev pub added : PathValue → List OpenEntry → AddedEntry → EntryKind → Said
-added top hs e kind =
+abbrev pub adds_entry : PathValue → List OpenEntry → AddedEntry → EntryKind → Said
+adds_entry top hs e kind =
     if is_some e.source
     then None
-    else entered top hs (components_of e.path) e.parent e.token kind []
+    else enters_entry top hs (components_of e.path) e.parent e.token kind []
     (AddAt (components_of e.path) kind)
 
 -- ---- what was opened last
@@ -117,7 +117,7 @@ text_received (Err fault) h hs = None
 
 -- a delta ends: it is read over the text that the client has
 abbrev pub delta_ended : TextState → OpenEntry → List OpenEntry → Said
-delta_ended (Receiving document) h hs = text_received (text_of h.base document) h hs
+delta_ended (Receiving document) h hs = text_received (document_text h.base document) h hs
 delta_ended _ h hs = None
 
 -- a checksum is that of the text, where there is one
@@ -135,33 +135,33 @@ file_closed checksum (Received text) h hs = when (is_checksum text checksum) [] 
 
 -- What a command says, and what is open after it, where it has its place. The top is the target,
 -- and the base the text that the client has of a file.
-abbrev pub said_by : PathValue → (PathValue → List ℕ) → List OpenEntry → EditorCommand → Said
-said_by top base hs (TargetRevision n) = None
-said_by top base hs (OpenRoot revision token) = None
-said_by top base hs (DeleteEntry e) =
-    when (is_placed top hs (components_of e.path) e.parent)
+abbrev pub steps_said : PathValue → (PathValue → List ℕ) → List OpenEntry → EditorCommand → Said
+steps_said top base hs (TargetRevision n) = None
+steps_said top base hs (OpenRoot revision token) = None
+steps_said top base hs (DeleteEntry e) =
+    when (is_in_place top hs (components_of e.path) e.parent)
     (DeleteAt (components_of e.path) ∷ []) hs
-said_by top base hs (AddDirectory e) = added top hs e DirectoryKind
-said_by top base hs (AddFile e) = added top hs e FileKind
-said_by top base hs (OpenDirectory e) = opened top hs e DirectoryKind []
-said_by top base hs (OpenFile e) = opened top hs e FileKind (base (components_of e.path))
-said_by top base hs (AbsentDirectory e) = None
-said_by top base hs (AbsentFile e) = None
-said_by top base hs (ChangeDirectoryProperty p) = property_said hs p DirectoryKind
-said_by top base hs (ChangeFileProperty p) = property_said hs p FileKind
-said_by top base hs (ApplyTextDelta token checksum) =
+steps_said top base hs (AddDirectory e) = adds_entry top hs e DirectoryKind
+steps_said top base hs (AddFile e) = adds_entry top hs e FileKind
+steps_said top base hs (OpenDirectory e) = opens_entry top hs e DirectoryKind []
+steps_said top base hs (OpenFile e) = opens_entry top hs e FileKind (base (components_of e.path))
+steps_said top base hs (AbsentDirectory e) = None
+steps_said top base hs (AbsentFile e) = None
+steps_said top base hs (ChangeDirectoryProperty p) = property_said hs p DirectoryKind
+steps_said top base hs (ChangeFileProperty p) = property_said hs p FileKind
+steps_said top base hs (ApplyTextDelta token checksum) =
     of_newest hs token FileKind
     (λ h rest. if is_checksum h.base checksum then delta_begun h.state h rest else None)
-said_by top base hs (TextDeltaChunk token bytes) =
+steps_said top base hs (TextDeltaChunk token bytes) =
     of_newest hs token FileKind (λ h rest. delta_more bytes h.state h rest)
-said_by top base hs (TextDeltaEnd token) =
+steps_said top base hs (TextDeltaEnd token) =
     of_newest hs token FileKind (λ h rest. delta_ended h.state h rest)
-said_by top base hs (CloseDirectory token) =
+steps_said top base hs (CloseDirectory token) =
     of_newest hs token DirectoryKind (λ h rest. Some ([], rest))
-said_by top base hs (CloseFile token checksum) =
+steps_said top base hs (CloseFile token checksum) =
     of_newest hs token FileKind (λ h rest. file_closed checksum h.state h rest)
-said_by top base hs CloseEdit = None
-said_by top base hs AbortEdit = None
+steps_said top base hs CloseEdit = None
+steps_said top base hs AbortEdit = None
 
 -- from what is open, the commands say these steps, and then this is open
 abbrev pub Says : PathValue → (PathValue → List ℕ) → List OpenEntry → List EditorCommand
@@ -169,5 +169,5 @@ abbrev pub Says : PathValue → (PathValue → List ℕ) → List OpenEntry → 
 Says top base hs [] steps end = (steps ≡ []) × (end ≡ hs)
 Says top base hs (c ∷ cs) steps end =
     (now : List Step) × (mid : List OpenEntry) × (later : List Step)
-    × (said_by top base hs c ≡ Some (now, mid)) × Says top base mid cs later end
+    × (steps_said top base hs c ≡ Some (now, mid)) × Says top base mid cs later end
     × (steps ≡ now ++ later)

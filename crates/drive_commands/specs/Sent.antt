@@ -7,7 +7,7 @@ use Rattle.repo_api.specs.Trees.{Tree}
 use Rattle.edit_commands.specs.declared.editing.EditorCommand.{EditorCommand}
 use Rattle.edit_commands.specs.declared.editing.EditorCommand.TheVariants.{TargetRevision, OpenRoot, CloseEdit}
 use Rattle.drives.specs.Drives.{IsRight}
-use Rattle.drives.specs.Steps.{Step, Node, has_step, is_opening, is_adding, is_entry_property, whole, but_text}
+use Rattle.drives.specs.Steps.{Step, Node, has_step, is_opening, is_adding, is_entry_property, as_it_is, but_text}
 use Rattle.drives.specs.Steps.EntryKind.{DirectoryKind}
 use Rattle.drives.specs.Steps.Step.{OpenAt}
 use Rattle.reports.specs.Targets.{WholeReport, old_tree, new_tree, drive_scope, stale_in}
@@ -20,22 +20,22 @@ use Rattle.drive_commands.specs.Saying.TextState.{Unchanged}
 
 -- a status sends no texts
 abbrev pub seen_by : Purpose → Node → Node
-seen_by Update = whole
-seen_by Switch = whole
+seen_by Update = as_it_is
+seen_by Switch = as_it_is
 seen_by Status = but_text
 
 -- the text, or an empty one
-abbrev pub or_empty : Option (List ℕ) → List ℕ
-or_empty None = []
-or_empty (Some text) = text
+abbrev pub or_no_text : Option (List ℕ) → List ℕ
+or_no_text None = []
+or_no_text (Some text) = text
 
 -- the text that the client has of a file
 abbrev pub base_of : Tree → PathValue → List ℕ
-base_of old q = or_empty (text_of (old q))
+base_of old q = or_no_text (text_of (old q))
 
 -- the root, which is open from the first command on
-abbrev pub open_root : List ℕ → OpenEntry
-open_root token = record {
+abbrev pub open_root_entry : List ℕ → OpenEntry
+open_root_entry token = record {
   token = token;
   path = [];
   kind = DirectoryKind;
@@ -79,7 +79,8 @@ pub record IsDrive (c : RepoState) (report : WholeReport) (drive : List EditorCo
   pub commands : List EditorCommand
   pub is : drive ≡ framed report root commands
   pub body : List Step
-  pub says : Says report.ask.target (base_of (old_tree c report)) (open_root root ∷ []) commands
+  pub says : Says report.ask.target (base_of (old_tree c report)) (open_root_entry root ∷ [])
+      commands
       body []
   pub right : LeadsToTarget c report (from_root report.ask body)
   pub tells : TellsEach c report (from_root report.ask body)

@@ -23,7 +23,7 @@ use Rattle.reports.specs.Targets.{WholeReport, client_tree, drive_scope, goal_pa
 use Rattle.reports.specs.declared.ask.DriveAsk.{DriveAsk}
 use Rattle.reports.specs.declared.graft.Graft.{Graft}
 use Rattle.reports.specs.declared.reported.ReportedPlace.{ReportedPlace}
-use Rattle.drive_sides.specs.Names.{is_among, graft_names}
+use Rattle.drive_sides.specs.Names.{is_name_among, graft_names}
 use Rattle.drive_sides.proofs.Naming.{among_there, among_grafts, is_named, name_of_child}
 
 -- ---- what is to stand there
@@ -34,7 +34,7 @@ goal_child ask p c up =
     ∙ sym (append_assoc ask.goal (drop (length ask.target) p) (c ∷ []))
 
 -- a name that is to stand beneath a path is among those of its goal
-pub among_target : (s : RepoState) (ask : DriveAsk) (p : PathValue) (c : Component) → is_at_or_under p ask.target ≡ true → is_some (target_tree s ask (p ++ c ∷ [])) ≡ true → is_among (names_at s ask.revision (goal_path ask p)) c ≡ true
+pub among_target : (s : RepoState) (ask : DriveAsk) (p : PathValue) (c : Component) → is_at_or_under p ask.target ≡ true → is_some (target_tree s ask (p ++ c ∷ [])) ≡ true → is_name_among (names_at s ask.revision (goal_path ask p)) c ≡ true
 among_target s ask p c up some = among_there (tree_at s ask.revision) (goal_path ask p) c (subst (λ q. IsSome (get (tree_at s ask.revision) q)) (goal_child ask p c up) (by (is_at_or_under (p ++ c ∷ []) ask.target) some))
   where
     by : (b : Bool) → is_some (cond b (trees_in s.revisions ask.revision (goal_path ask (p ++ c ∷ []))) None) ≡ true → IsSome (get (tree_at s ask.revision) (goal_path ask (p ++ c ∷ [])))
@@ -66,7 +66,7 @@ placed_there trees place c h = by place.starts_empty h
 
 -- a name that the client has beneath a place is among those of the place
 pub among_place : (s : RepoState) (place : ReportedPlace) (had : Option ReportedEntry) (c : Component) → had ≡ in_place (trees_in s.revisions) place (c ∷ []) → is_some had ≡ true
-    → is_among (names_at s place.revision place.path) c ≡ true
+    → is_name_among (names_at s place.revision place.path) c ≡ true
 among_place s place had c is some = among_there (tree_at s place.revision) place.path c (placed_there (trees_in s.revisions) place c (sym (ap is_some is) ∙ some))
 
 -- ---- grafts
@@ -81,7 +81,7 @@ one_longer p k c low up = under_is (p ++ c ∷ []) k up ∙ ap (λ r. k ++ r) (n
         let long : length p < length k = below_longer p k low in
         omega (whole, one, long, arith)
 
-pub among_over : (grafts : List Graft) (p : PathValue) (c : Component) → is_grafted_over grafts p (p ++ c ∷ []) ≡ true → is_among (graft_names p grafts) c ≡ true
+pub among_over : (grafts : List Graft) (p : PathValue) (c : Component) → is_grafted_over grafts p (p ++ c ∷ []) ≡ true → is_name_among (graft_names p grafts) c ≡ true
 among_over grafts p c over = among_grafts p grafts c ∙ each grafts over
   where
     named : (k : PathValue) (a b : Bool) → below p k ≡ a → is_at_or_under (p ++ c ∷ []) k ≡ b → (a && b) ≡ true → is_named c (name_in p k) ≡ true
@@ -135,25 +135,25 @@ under_target s ask q some = by (is_at_or_under q ask.target) some
 
 -- the names of the old side are all
 pub old_named : (s : RepoState) (report : WholeReport) (p : PathValue) (mid after : List Component)
-    → ((c : Component) → is_grafted_over report.grafts p (p ++ c ∷ []) ≡ false → is_some (client_tree s report p) ≡ true → is_some (client_tree s report (p ++ c ∷ [])) ≡ true → is_among mid c ≡ true)
-    → ((c : Component) → is_among after c ≡ (is_among mid c || is_among (graft_names p report.grafts) c))
-    → HoldsTogether p (old_tree s report) → (c : Component) → IsSome (old_tree s report (p ++ c ∷ [])) → is_among after c ≡ true
+    → ((c : Component) → is_grafted_over report.grafts p (p ++ c ∷ []) ≡ false → is_some (client_tree s report p) ≡ true → is_some (client_tree s report (p ++ c ∷ [])) ≡ true → is_name_among mid c ≡ true)
+    → ((c : Component) → is_name_among after c ≡ (is_name_among mid c || is_name_among (graft_names p report.grafts) c))
+    → HoldsTogether p (old_tree s report) → (c : Component) → IsSome (old_tree s report (p ++ c ∷ [])) → is_name_among after c ≡ true
 old_named s report p mid after adds grafts holds c some = by (is_grafted_over report.grafts p (p ++ c ∷ [])) refl
   where
-    by : (b : Bool) → is_grafted_over report.grafts p (p ++ c ∷ []) ≡ b → is_among after c ≡ true
-    by true over = grafts c ∙ or_right (is_among mid c) (is_among (graft_names p report.grafts) c) (among_over report.grafts p c over)
+    by : (b : Bool) → is_grafted_over report.grafts p (p ++ c ∷ []) ≡ b → is_name_among after c ≡ true
+    by true over = grafts c ∙ or_right (is_name_among mid c) (is_name_among (graft_names p report.grafts) c) (among_over report.grafts p c over)
     by false free =
-        grafts c ∙ or_left (is_among mid c) (is_among (graft_names p report.grafts) c)
+        grafts c ∙ or_left (is_name_among mid c) (is_name_among (graft_names p report.grafts) c)
         (adds c free (in_old s report p (above_child (old_tree s report) p c holds some)) (in_old s report (p ++ c ∷ []) some))
 
 -- the names of the new side are all
 pub new_named : (s : RepoState) (report : WholeReport) (p : PathValue) (first mid after : List Component)
-    → ((c : Component) → is_at_or_under p report.ask.target ≡ true → is_some (target_tree s report.ask (p ++ c ∷ [])) ≡ true → is_among first c ≡ true)
-    → ((c : Component) → is_among first c ≡ true → is_among mid c ≡ true)
-    → ((c : Component) → is_among after c ≡ (is_among mid c || is_among (graft_names p report.grafts) c))
-    → HoldsTogether p (new_tree s report) → (c : Component) → IsSome (new_tree s report (p ++ c ∷ [])) → is_among after c ≡ true
+    → ((c : Component) → is_at_or_under p report.ask.target ≡ true → is_some (target_tree s report.ask (p ++ c ∷ [])) ≡ true → is_name_among first c ≡ true)
+    → ((c : Component) → is_name_among first c ≡ true → is_name_among mid c ≡ true)
+    → ((c : Component) → is_name_among after c ≡ (is_name_among mid c || is_name_among (graft_names p report.grafts) c))
+    → HoldsTogether p (new_tree s report) → (c : Component) → IsSome (new_tree s report (p ++ c ∷ [])) → is_name_among after c ≡ true
 new_named s report p first mid after target keeps grafts holds c some =
-    grafts c ∙ or_left (is_among mid c) (is_among (graft_names p report.grafts) c)
+    grafts c ∙ or_left (is_name_among mid c) (is_name_among (graft_names p report.grafts) c)
     (keeps c (target c (under_target s report.ask p (in_new s report p (above_child (new_tree s report) p c holds some))) (in_new s report (p ++ c ∷ []) some)))
 
 pub if_ok : {T E : Type 0} {P Q : T → Type 0} → ((x : T) → P x → Q x) → (r : Result T E) → IfOk r P → IfOk r Q

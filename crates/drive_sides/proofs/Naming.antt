@@ -15,7 +15,7 @@ use Rattle.drives.proofs.Joined.{or_left, or_right}
 use Rattle.repo_api.specs.Readings.{only, name_in, names_among, names_in}
 use Rattle.repo_api.specs.States.{TreeMap}
 use Rattle.drive_sides.specs.BoundLaws.{key_found}
-use Rattle.drive_sides.specs.Names.{is_among, graft_names, AreDistinct}
+use Rattle.drive_sides.specs.Names.{is_name_among, graft_names, AreDistinct}
 use Rattle.reports.specs.declared.graft.Graft.{Graft}
 use Rattle.std.proofs.lemmas.Map.Keys.{sorted_head, sorted_tail}
 use Rattle.std.specs.List.{AllByRecursion}
@@ -39,22 +39,22 @@ or_behind : (a b c : Bool) → (a || (b || c)) ≡ ((a || b) || c)
 or_behind true b c = refl
 or_behind false b c = refl
 
-among_one : (x : Component) (names : List Component) (c : Component) → is_among (x ∷ names) c ≡ (same_component c x || is_among names c)
+among_one : (x : Component) (names : List Component) (c : Component) → is_name_among (x ∷ names) c ≡ (same_component c x || is_name_among names c)
 among_one x names c = refl
 
 -- what an insertion adds
-pub among_inserted : (names : List Component) (x c : Component) → is_among (insert_key (slice_cmp nat_cmp) names x) c ≡ (is_among names c || same_component c x)
+pub among_inserted : (names : List Component) (x c : Component) → is_name_among (insert_key (slice_cmp nat_cmp) names x) c ≡ (is_name_among names c || same_component c x)
 among_inserted [] x c = or_swap (same_component c x) false
 among_inserted (y ∷ names) x c = by (slice_cmp nat_cmp x y) refl (among_inserted names x c)
   where
-    by : (o : Ordering) → slice_cmp nat_cmp x y ≡ o → is_among (insert_key (slice_cmp nat_cmp) names x) c ≡ (is_among names c || same_component c x)
-        → is_among (match_ordering o (x ∷ y ∷ names) (y ∷ names) (y ∷ insert_key (slice_cmp nat_cmp) names x)) c ≡ ((same_component c y || is_among names c) || same_component c x)
-    by Less is rest = or_swap (same_component c x) (same_component c y || is_among names c)
+    by : (o : Ordering) → slice_cmp nat_cmp x y ≡ o → is_name_among (insert_key (slice_cmp nat_cmp) names x) c ≡ (is_name_among names c || same_component c x)
+        → is_name_among (match_ordering o (x ∷ y ∷ names) (y ∷ names) (y ∷ insert_key (slice_cmp nat_cmp) names x)) c ≡ ((same_component c y || is_name_among names c) || same_component c x)
+    by Less is rest = or_swap (same_component c x) (same_component c y || is_name_among names c)
     by Equal is rest =
-        or_twice (same_component c y) (is_among names c)
-        ∙ ap (λ t. (same_component c y || is_among names c) || same_component c t) (sym (same_component_is x y (texts_ties x y ∙ ap is_eq is)))
+        or_twice (same_component c y) (is_name_among names c)
+        ∙ ap (λ t. (same_component c y || is_name_among names c) || same_component c t) (sym (same_component_is x y (texts_ties x y ∙ ap is_eq is)))
     by Greater is rest =
-        ap (λ b. same_component c y || b) rest ∙ or_behind (same_component c y) (is_among names c) (same_component c x)
+        ap (λ b. same_component c y || b) rest ∙ or_behind (same_component c y) (is_name_among names c) (same_component c x)
 
 -- ---- names of paths
 
@@ -63,7 +63,7 @@ name_of_child p c =
     ap (λ b. only (cond b (drop (length p) (p ++ c ∷ [])) [])) (under_append p (c ∷ [])) ∙ ap only (rest_append p (c ∷ []))
 
 -- a path that is among others has its name among theirs
-pub among_names : (p : PathValue) (c : Component) (paths : List PathValue) → list_any (same_path (p ++ c ∷ [])) paths ≡ true → is_among (names_among p paths) c ≡ true
+pub among_names : (p : PathValue) (c : Component) (paths : List PathValue) → list_any (same_path (p ++ c ∷ [])) paths ≡ true → is_name_among (names_among p paths) c ≡ true
 among_names p c [] h = absurd (false≢true h)
 among_names p c (q ∷ qs) h = by (same_path (p ++ c ∷ []) q) refl (name_in p q) refl h (among_names p c qs)
   where
@@ -71,21 +71,21 @@ among_names p c (q ∷ qs) h = by (same_path (p ++ c ∷ []) q) refl (name_in p 
     with o = cons_option o (names_among p qs)
 
     by : (b : Bool) → same_path (p ++ c ∷ []) q ≡ b → (o : Option Component) → name_in p q ≡ o → (b || list_any (same_path (p ++ c ∷ [])) qs) ≡ true
-        → (list_any (same_path (p ++ c ∷ [])) qs ≡ true → is_among (names_among p qs) c ≡ true) → is_among (with (name_in p q)) c ≡ true
+        → (list_any (same_path (p ++ c ∷ [])) qs ≡ true → is_name_among (names_among p qs) c ≡ true) → is_name_among (with (name_in p q)) c ≡ true
     by true e o is h more =
-        ap (λ x. is_among (with x) c) (ap (name_in p) (sym (same_path_is (p ++ c ∷ []) q e)) ∙ name_of_child p c)
-        ∙ or_left (same_component c c) (is_among (names_among p qs) c) (same_component_refl c)
-    by false e None is h more = ap (λ x. is_among (with x) c) is ∙ more h
-    by false e (Some d) is h more = ap (λ x. is_among (with x) c) is ∙ or_right (same_component c d) (is_among (names_among p qs) c) (more h)
+        ap (λ x. is_name_among (with x) c) (ap (name_in p) (sym (same_path_is (p ++ c ∷ []) q e)) ∙ name_of_child p c)
+        ∙ or_left (same_component c c) (is_name_among (names_among p qs) c) (same_component_refl c)
+    by false e None is h more = ap (λ x. is_name_among (with x) c) is ∙ more h
+    by false e (Some d) is h more = ap (λ x. is_name_among (with x) c) is ∙ or_right (same_component c d) (is_name_among (names_among p qs) c) (more h)
 
 -- what stands in a tree straight beneath a path has its name among those of the path
-pub among_there : (m : TreeMap) (p : PathValue) (c : Component) → IsSome (get m (p ++ c ∷ [])) → is_among (names_in m p) c ≡ true
+pub among_there : (m : TreeMap) (p : PathValue) (c : Component) → IsSome (get m (p ++ c ∷ [])) → is_name_among (names_in m p) c ≡ true
 among_there m p c some = among_names p c (keys m) (key_found m (p ++ c ∷ []) some)
 
 -- ---- lists of names
 
 -- names that are lent
-pub among_lent : (names : List (Bor Component)) (c : Component) → list_any (λ (n : Bor Component). same_component c n.now) names ≡ is_among (map (λ (n : Bor Component). n.now) names) c
+pub among_lent : (names : List (Bor Component)) (c : Component) → list_any (λ (n : Bor Component). same_component c n.now) names ≡ is_name_among (map (λ (n : Bor Component). n.now) names) c
 among_lent [] c = refl
 among_lent (n ∷ names) c = ap (λ b. same_component c n.now || b) (among_lent names c)
 
@@ -94,11 +94,11 @@ is_named c None = false
 is_named c (Some d) = same_component c d
 
 -- the names of grafts, one after another
-pub among_grafts : (p : PathValue) (grafts : List Graft) (c : Component) → is_among (graft_names p grafts) c ≡ list_any (λ (g : Graft). is_named c (name_in p g.path)) grafts
+pub among_grafts : (p : PathValue) (grafts : List Graft) (c : Component) → is_name_among (graft_names p grafts) c ≡ list_any (λ (g : Graft). is_named c (name_in p g.path)) grafts
 among_grafts p [] c = refl
 among_grafts p (g ∷ grafts) c = by (name_in p g.path) ∙ ap (λ b. is_named c (name_in p g.path) || b) (among_grafts p grafts c)
   where
-    by : (o : Option Component) → is_among (cons_option o (graft_names p grafts)) c ≡ (is_named c o || is_among (graft_names p grafts) c)
+    by : (o : Option Component) → is_name_among (cons_option o (graft_names p grafts)) c ≡ (is_named c o || is_name_among (graft_names p grafts) c)
     by None = refl
     by (Some d) = refl
 
@@ -116,9 +116,9 @@ with_none a b d e is none = is ∙ ap (λ x. b || x) (sym (or_none d) ∙ ap (λ
 
 -- ---- names in order are distinct
 
-not_among : (c : Component) (names : List Component) → AllByRecursion (λ k. slice_cmp nat_cmp c k ≡ Less) names → is_among names c ≡ false
+not_among : (c : Component) (names : List Component) → AllByRecursion (λ k. slice_cmp nat_cmp c k ≡ Less) names → is_name_among names c ≡ false
 not_among c [] less = refl
-not_among c (x ∷ names) less = ap (λ b. b || is_among names c) (texts_ties c x ∙ ap is_eq less.0) ∙ not_among c names less.1
+not_among c (x ∷ names) less = ap (λ b. b || is_name_among names c) (texts_ties c x ∙ ap is_eq less.0) ∙ not_among c names less.1
 
 pub ordered_distinct : (names : List Component) → IsStrictlySortedBy (slice_cmp nat_cmp) names → AreDistinct names
 ordered_distinct [] s = tt

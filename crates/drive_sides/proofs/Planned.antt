@@ -9,19 +9,19 @@ use Rattle.svnpath.specs.PathLaws.{same_path_refl}
 use Rattle.refusals.specs.declared.Refusal.TheVariants as refusals
 use Rattle.repo_api.specs.Soundness.{AreTrees}
 use Rattle.repo_api.specs.States.{RepoState, trees_in}
-use Rattle.repo_api.specs.Trees.{is_directory}
+use Rattle.repo_api.specs.Trees.{is_directory, is_directory_there}
 use Rattle.repo_api.specs.declared.entry.Entry.{Entry}
 use Rattle.drives.specs.Places.{is_in_directory}
 use Rattle.drives.specs.Scopes.{scope_of, under}
 use Rattle.drive_commands.specs.Sent.{seen_by}
-use Rattle.entry_news.specs.News.{own_of}
-use Rattle.reporter.specs.Nesting.{AreNested, has_directory}
+use Rattle.entry_news.specs.News.{own_steps_of}
+use Rattle.reporter.specs.Nesting.{AreNested}
 use Rattle.reporter.specs.Visits.{IsRightPlan}
 use Rattle.reporter.specs.Walks.{BothHold}
 use Rattle.reporter.specs.declared.visit.Visit.{Visit}
 use Rattle.reporter.specs.declared.visit.Visit.TheVariants.{Open}
 use Rattle.reports.proofs.Drives.{both_hold}
-use Rattle.reports.specs.Refusing.{OpenState, ◌>>=◌, unless, has_goal, has_anchor, is_directory_there, finish_root}
+use Rattle.reports.specs.Refusing.{OpenState, ◌>>=◌, unless, has_goal, has_anchor, finish_root}
 use Rattle.reports.specs.Reported.{ReportedEntry, entries_of}
 use Rattle.reports.specs.Reported as reported
 use Rattle.reports.specs.Targets.{WholeReport, client_tree, drive_scope, limit_of, target_tree, reported_tree, old_tree, new_tree, stale_in}
@@ -62,34 +62,30 @@ scope_root c report root is =
 same_root : (target : PathValue) → target ≡ [] → same_path target [] ≡ true
 same_root target is = ap (λ t. same_path t []) is
 
-of_entries : (o : Option ReportedEntry) → reported.has_directory o ≡ true → has_directory (option_map (λ (h : ReportedEntry). h.entry) o) ≡ true
+of_entries : (o : Option ReportedEntry) → reported.has_directory o ≡ true → is_directory_there (option_map (λ (h : ReportedEntry). h.entry) o) ≡ true
 of_entries None h = h
 of_entries (Some x) h = h
 
-of_there : (o : Option Entry) → is_directory_there o ≡ true → has_directory o ≡ true
-of_there None h = h
-of_there (Some x) h = h
-
-pub root_old : (c : RepoState) (report : OpenState) (root : ReportRoot) → finish_root c report ≡ Ok root → report.ask.target ≡ [] → has_directory (old_tree c (whole report root) []) ≡ true
+pub root_old : (c : RepoState) (report : OpenState) (root : ReportRoot) → finish_root c report ≡ Ok root → report.ask.target ≡ [] → is_directory_there (old_tree c (whole report root) []) ≡ true
 root_old c report root done is =
-    ap (λ b. has_directory (cond b (entries_of (client_tree c (whole report root)) []) None)) (scope_root c report root is)
+    ap (λ b. is_directory_there (cond b (entries_of (client_tree c (whole report root)) []) None)) (scope_root c report root is)
     ∙ of_entries (client_tree c (whole report root) []) (and_second (is_directory_there (trees_in c.revisions report.ask.revision report.ask.goal)) (reported.has_directory (reported_tree c report.ask report.grafts [])) (both_anchors c report root done (same_root report.ask.target is)))
 
-pub root_new : (c : RepoState) (report : OpenState) (root : ReportRoot) → finish_root c report ≡ Ok root → report.ask.target ≡ [] → has_directory (new_tree c (whole report root) []) ≡ true
+pub root_new : (c : RepoState) (report : OpenState) (root : ReportRoot) → finish_root c report ≡ Ok root → report.ask.target ≡ [] → is_directory_there (new_tree c (whole report root) []) ≡ true
 root_new c report root done is =
-    ap (λ b. has_directory (cond b (target_tree c report.ask []) None)) (scope_root c report root is)
-    ∙ ap (λ (t : PathValue). has_directory (cond (is_at_or_under [] t) (trees_in c.revisions report.ask.revision (report.ask.goal ++ drop (length t) [])) None)) is
-    ∙ ap (λ p. has_directory (trees_in c.revisions report.ask.revision p)) (append-nil report.ask.goal)
-    ∙ of_there (trees_in c.revisions report.ask.revision report.ask.goal) (and_first (is_directory_there (trees_in c.revisions report.ask.revision report.ask.goal)) (reported.has_directory (reported_tree c report.ask report.grafts [])) (both_anchors c report root done (same_root report.ask.target is)))
+    ap (λ b. is_directory_there (cond b (target_tree c report.ask []) None)) (scope_root c report root is)
+    ∙ ap (λ (t : PathValue). is_directory_there (cond (is_at_or_under [] t) (trees_in c.revisions report.ask.revision (report.ask.goal ++ drop (length t) [])) None)) is
+    ∙ ap (λ p. is_directory_there (trees_in c.revisions report.ask.revision p)) (append-nil report.ask.goal)
+    ∙ and_first (is_directory_there (trees_in c.revisions report.ask.revision report.ask.goal)) (reported.has_directory (reported_tree c report.ask report.grafts [])) (both_anchors c report root done (same_root report.ask.target is))
 
-pub directory_of : (o : Option Entry) → has_directory o ≡ true → IsSomeAnd o (λ e. IsTrue (is_directory e))
+pub directory_of : (o : Option Entry) → is_directory_there o ≡ true → IsSomeAnd o (λ e. IsTrue (is_directory e))
 directory_of None h = absurd (false≢true h)
 directory_of (Some e) h = h
 
 -- ---- plans
 
 abbrev IsRightFor : RepoState → WholeReport → PathValue → List Visit → Type 0
-IsRightFor c report top visits = IsRightPlan (seen_by report.ask.purpose) (under top) (stale_in c report) (old_tree c report) (new_tree c report) (own_of c report) visits
+IsRightFor c report top visits = IsRightPlan (seen_by report.ask.purpose) (under top) (stale_in c report) (old_tree c report) (new_tree c report) (own_steps_of c report) visits
 
 pub both_sides : (c : RepoState) (report : WholeReport) → AreTrees c.revisions → BothHold (old_tree c report) (new_tree c report) report.ask.target
 both_sides c report trees = record { old_holds = (both_hold c report trees).0; new_holds = (both_hold c report trees).1 }

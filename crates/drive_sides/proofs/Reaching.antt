@@ -4,7 +4,7 @@ use Rattle.std.proofs.lemmas.Bool.{false≢true}
 use Rattle.svnpath.specs.Paths.{PathValue, Component, is_at_or_under}
 use Rattle.repo_api.specs.Trees.{Tree}
 use Rattle.drives.specs.declared.depth.Depth.{Depth}
-use Rattle.drives.specs.Scopes.{DepthLimit, is_reached, lets_in, said_by, said_or, scope_of, top_limit}
+use Rattle.drives.specs.Scopes.{DepthLimit, stays_in_scope, lets_in, depth_said, said_or, scope_of, top_limit}
 use Rattle.drives.specs.Scopes.DepthLimit.{Given}
 use Rattle.drives.specs.declared.depth.Depth.TheVariants.{Infinity}
 use Rattle.repo_api.specs.States.{RepoState}
@@ -12,28 +12,28 @@ use Rattle.reports.specs.Reported.{entries_of}
 use Rattle.reports.specs.Targets.{WholeReport, client_tree, drive_scope, limit_of, target_tree}
 use Rattle.reports.specs.declared.ask.DepthAsked.TheVariants as asks
 
-all_reached : (old new : Tree) (here : PathValue) (names : List Component) → is_reached (Given Infinity) old new here Infinity names ≡ true
+all_reached : (old new : Tree) (here : PathValue) (names : List Component) → stays_in_scope (Given Infinity) old new here Infinity names ≡ true
 all_reached old new here [] = refl
 all_reached old new here (c ∷ names) = all_reached old new (here ++ c ∷ []) names
 
 -- a drive to the end is of all that is at or under its top
 pub all_in_scope : (old new : Tree) (top q : PathValue) → is_at_or_under q top ≡ true → scope_of (Given Infinity) old new top q ≡ true
-all_in_scope old new top q up = ap (λ b. b && is_reached (Given Infinity) old new top Infinity (drop (length top) q)) up ∙ all_reached old new top (drop (length top) q)
+all_in_scope old new top q up = ap (λ b. b && stays_in_scope (Given Infinity) old new top Infinity (drop (length top) q)) up ∙ all_reached old new top (drop (length top) q)
 
 -- ---- one name after another
 
 -- so far down nothing has left the scope
 abbrev pub IsSoFar : DepthLimit → Tree → Tree → PathValue → PathValue → PathValue → Depth → List Component → Type 0
-IsSoFar limit old new top q here depth names = is_reached limit old new top (top_limit limit top) (drop (length top) q) ≡ is_reached limit old new here depth names
+IsSoFar limit old new top q here depth names = stays_in_scope limit old new top (top_limit limit top) (drop (length top) q) ≡ stays_in_scope limit old new here depth names
 
 next_name : (names : List Component) (i : ℕ) (x : Component) → i < length names → x ≡ get_or names i x → drop i names ≡ x ∷ drop (i + 1) names
 next_name names i x h is = (rw (add-one, drop-cons names i x) refl) ∙ ap (λ y. y ∷ drop (i + 1) names) (sym is)
 
 next_step : (limit : DepthLimit) (old new : Tree) (here child : PathValue) (depth : Depth) (names : List Component) (i : ℕ) (x : Component) → i < length names → x ≡ get_or names i x → child ≡ here ++ x ∷ []
-    → is_reached limit old new here depth (drop i names) ≡ (lets_in limit old new depth child && is_reached limit old new child (said_or (said_by limit child) depth) (drop (i + 1) names))
+    → stays_in_scope limit old new here depth (drop i names) ≡ (lets_in limit old new depth child && stays_in_scope limit old new child (said_or (depth_said limit child) depth) (drop (i + 1) names))
 next_step limit old new here child depth names i x lt is child_is =
-    ap (is_reached limit old new here depth) (next_name names i x lt is)
-    ∙ ap (λ p. lets_in limit old new depth p && is_reached limit old new p (said_or (said_by limit p) depth) (drop (i + 1) names)) (sym child_is)
+    ap (stays_in_scope limit old new here depth) (next_name names i x lt is)
+    ∙ ap (λ p. lets_in limit old new depth p && stays_in_scope limit old new p (said_or (depth_said limit p) depth) (drop (i + 1) names)) (sym child_is)
 
 pub was_false : (b : Bool) → not b ≡ true → b ≡ false
 was_false true h = absurd (false≢true h)
@@ -47,17 +47,17 @@ pub stops : (limit : DepthLimit) (old new : Tree) (top q here child : PathValue)
     → IsSoFar limit old new top q here depth (drop i names) → i < length names → x ≡ get_or names i x → child ≡ here ++ x ∷ [] → b ≡ lets_in limit old new depth child → b ≡ false
     → false ≡ scope_of limit old new top q
 stops limit old new top q here child depth names i x b up far lt is child_is lets none =
-    sym (ap (λ u. u && is_reached limit old new top (top_limit limit top) (drop (length top) q)) up
+    sym (ap (λ u. u && stays_in_scope limit old new top (top_limit limit top) (drop (length top) q)) up
     ∙ far ∙ next_step limit old new here child depth names i x lt is child_is
-    ∙ ap (λ u. u && is_reached limit old new child (said_or (said_by limit child) depth) (drop (i + 1) names)) (sym lets ∙ none))
+    ∙ ap (λ u. u && stays_in_scope limit old new child (said_or (depth_said limit child) depth) (drop (i + 1) names)) (sym lets ∙ none))
 
 pub goes_on : (limit : DepthLimit) (old new : Tree) (top q here child : PathValue) (depth next : Depth) (names : List Component) (i : ℕ) (x : Component) (b : Bool)
     → IsSoFar limit old new top q here depth (drop i names) → i < length names → x ≡ get_or names i x → child ≡ here ++ x ∷ [] → b ≡ lets_in limit old new depth child → b ≡ true
-    → next ≡ said_or (said_by limit child) depth → IsSoFar limit old new top q child next (drop (i + 1) names)
+    → next ≡ said_or (depth_said limit child) depth → IsSoFar limit old new top q child next (drop (i + 1) names)
 goes_on limit old new top q here child depth next names i x b far lt is child_is lets some next_is =
     far ∙ next_step limit old new here child depth names i x lt is child_is
-    ∙ ap (λ u. u && is_reached limit old new child (said_or (said_by limit child) depth) (drop (i + 1) names)) (sym lets ∙ some)
-    ∙ ap (λ d. is_reached limit old new child d (drop (i + 1) names)) (sym next_is)
+    ∙ ap (λ u. u && stays_in_scope limit old new child (said_or (depth_said limit child) depth) (drop (i + 1) names)) (sym lets ∙ some)
+    ∙ ap (λ d. stays_in_scope limit old new child d (drop (i + 1) names)) (sym next_is)
 
 no_more : (names : List Component) (i : ℕ) → length names ≤ i → drop i names ≡ []
 no_more [] zero le = refl
@@ -68,8 +68,8 @@ no_more (x ∷ names) (suc i) le = no_more names i (omega (le, arith))
 pub ends : (limit : DepthLimit) (old new : Tree) (top q here : PathValue) (depth : Depth) (names : List Component) (i : ℕ) → is_at_or_under q top ≡ true
     → IsSoFar limit old new top q here depth (drop i names) → length names ≤ i → true ≡ scope_of limit old new top q
 ends limit old new top q here depth names i up far le =
-    sym (ap (λ u. u && is_reached limit old new top (top_limit limit top) (drop (length top) q)) up
-    ∙ far ∙ ap (is_reached limit old new here depth) (no_more names i le))
+    sym (ap (λ u. u && stays_in_scope limit old new top (top_limit limit top) (drop (length top) q)) up
+    ∙ far ∙ ap (stays_in_scope limit old new here depth) (no_more names i le))
 
 pub whole_scope : (c : RepoState) (report : WholeReport) (q : PathValue) → report.ask.depth ≡ asks.Given Infinity → is_at_or_under q report.ask.target ≡ true → true ≡ drive_scope c report q
 whole_scope c report q is up =

@@ -6,13 +6,13 @@ use Rattle.repo_api.specs.Readings.{names_among}
 use Rattle.reports.specs.declared.graft.Graft.{Graft}
 
 -- the name is one of these
-abbrev pub is_among : List Component → Component → Bool
-is_among names c = list_any (same_component c) names
+abbrev pub is_name_among : List Component → Component → Bool
+is_name_among names c = list_any (same_component c) names
 
 -- no name is there twice
 abbrev pub AreDistinct : List Component → Type 0
 AreDistinct [] = Unit {0}
-AreDistinct (c ∷ names) = (is_among names c ≡ false) × AreDistinct names
+AreDistinct (c ∷ names) = (is_name_among names c ≡ false) × AreDistinct names
 
 -- the names of the grafts that stand straight beneath a path
 abbrev pub graft_names : PathValue → List Graft → List Component

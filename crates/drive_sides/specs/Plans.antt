@@ -12,7 +12,7 @@ use Rattle.reports.specs.Targets.{WholeReport, old_tree, new_tree, stale_in}
 use Rattle.reports.specs.declared.ask.DriveAsk.{DriveAsk}
 use Rattle.reports.specs.declared.report.ReportRoot.{ReportRoot}
 use Rattle.drive_commands.specs.Sent.{seen_by}
-use Rattle.entry_news.specs.News.{own_of}
+use Rattle.entry_news.specs.News.{own_steps_of}
 
 -- a report that has come to its end
 abbrev pub whole : OpenState → ReportRoot → WholeReport
@@ -25,7 +25,7 @@ from_top ask visits = if same_path ask.target [] then Open [] ∷ visits else vi
 -- visits from the open root on, which lead from what the client has to what it is to have
 pub record IsPlan (c : RepoState) (report : WholeReport) (visits : List Visit) : Type 0 where
   pub right : IsRightPlan (seen_by report.ask.purpose) (under report.ask.target)
-      (stale_in c report) (old_tree c report) (new_tree c report) (own_of c report)
+      (stale_in c report) (old_tree c report) (new_tree c report) (own_steps_of c report)
       (from_top report.ask visits)
   pub nests : (ds : List PathValue)
       → walk (new_tree c report) report.ask.target ([] ∷ ds) visits ≡ Some ([] ∷ ds)

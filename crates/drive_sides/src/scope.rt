@@ -3,7 +3,7 @@ ghost use Rattle.std.specs.Prelude.{◌≡◌, true, Option, IfOk};
 ghost use Rattle.svnpath.specs.Paths.{is_at_or_under};
 ghost use Rattle.repo_api.specs.Kinds.{kind_of};
 ghost use Rattle.repo_api.specs.declared.entry.Entry.{Entry};
-ghost use Rattle.drives.specs.Scopes.{brings_in, keeps_old, lets_in, said_by, said_or, top_limit};
+ghost use Rattle.drives.specs.Scopes.{brings_in, keeps_old, lets_in, depth_said, said_or, top_limit};
 ghost use Rattle.drives.specs.declared.depth.Depth.TheVariants.{Infinity};
 ghost use Rattle.reports.specs.Reported.{entries_of};
 ghost use Rattle.reports.specs.Targets.{client_tree, drive_scope, limit_of, reported_depth, target_tree};
@@ -80,7 +80,7 @@ impl<'a, R: Repository> TwoTrees<'a, R> {
 
     /// The depth that was said of a directory.
     fn said_by(&self, alloc: Global, path: &Path) -> Result<Option<Depth>, AllocError>
-        ensures { IfOk result (λ depth. depth ≡ said_by (limit_of (client_tree
+        ensures { IfOk result (λ depth. depth ≡ depth_said (limit_of (client_tree
             (R.content self.now.view.now) (whole self.now.report.now self.now.root)) self.now.root
             self.now.report.now.ask.depth) path.now) }
     {

@@ -15,7 +15,7 @@ impl<'a, R: Repository> TwoTrees<'a, R> {
     ghost use Rattle.svnpath.specs.Paths.{Component, is_at_or_under};
     ghost use Rattle.reports.specs.Places.{is_grafted_over};
     ghost use Rattle.reports.specs.Targets.{client_tree, drive_scope, new_tree, old_tree, target_tree};
-    ghost use Rattle.drive_sides.specs.Names.{is_among};
+    ghost use Rattle.drive_sides.specs.Names.{is_name_among};
     ghost use Rattle.entry_news.specs.Places.{Compares};
     ghost use Rattle.drive_sides.specs.Plans.{whole};
 
@@ -24,7 +24,7 @@ impl<'a, R: Repository> TwoTrees<'a, R> {
         ensures { IfOk result (λ names. (c : Component)
             → is_at_or_under path.now self.now.report.now.ask.target ≡ true
             → is_some (target_tree (R.content self.now.view.now) self.now.report.now.ask
-            (path.now ++ c ∷ [])) ≡ true → is_among names.keys c ≡ true) }
+            (path.now ++ c ∷ [])) ≡ true → is_name_among names.keys c ≡ true) }
     {
         let ask = &self.report.ask;
         let mut names = BTreeSet::new(alloc);
@@ -44,15 +44,15 @@ impl<'a, R: Repository> TwoTrees<'a, R> {
         path: &Path,
         names: &mut BTreeSet<ByteString>,
     ) -> Result<(), AllocError>
-        ensures keeps { OnOk result ((c : Component) → is_among names.old.keys c ≡ true
-            → is_among names.new.keys c ≡ true) }
+        ensures keeps { OnOk result ((c : Component) → is_name_among names.old.keys c ≡ true
+            → is_name_among names.new.keys c ≡ true) }
         ensures adds { OnOk result ((c : Component)
             → is_grafted_over self.now.report.now.grafts path.now (path.now ++ c ∷ []) ≡ false
             → is_some (client_tree (R.content self.now.view.now)
             (whole self.now.report.now self.now.root) path.now) ≡ true
             → is_some (client_tree (R.content self.now.view.now)
             (whole self.now.report.now self.now.root) (path.now ++ c ∷ [])) ≡ true
-            → is_among names.new.keys c ≡ true) }
+            → is_name_among names.new.keys c ≡ true) }
     {
         match self.client_place(alloc, path)? {
             None => Ok(()),
@@ -93,7 +93,7 @@ impl<'a, R: Repository> TwoTrees<'a, R> {
 impl<'a, R: Repository> Sides for TwoTrees<'a, R> {
     ghost use Rattle.reports.specs.Targets.{old_tree, new_tree, stale_in};
     ghost use Rattle.drive_commands.specs.Sent.{seen_by};
-    ghost use Rattle.entry_news.specs.News.{own_of};
+    ghost use Rattle.entry_news.specs.News.{own_steps_of};
     ghost use Rattle.drive_sides.specs.Bounds.{path_bound};
     ghost use Rattle.drive_sides.specs.BoundLaws.{new_is_shorter};
     ghost use Rattle.drive_sides.specs.LeadLaws.{news_leads};
@@ -107,7 +107,7 @@ impl<'a, R: Repository> Sides for TwoTrees<'a, R> {
 
     ghost seen = { λ s. seen_by s.report.now.ask.purpose };
 
-    ghost own = { λ s. own_of (R.content s.view.now) (whole s.report.now s.root) };
+    ghost own = { λ s. own_steps_of (R.content s.view.now) (whole s.report.now s.root) };
 
     ghost bound = { λ s. path_bound (R.content s.view.now) s.report.now.ask };
 

@@ -8,10 +8,10 @@ use Rattle.svnpath.specs.Paths.{PathValue, is_at_or_under, same_path}
 use Rattle.svnpath.specs.PathLaws.{same_path_is, same_path_refl, under_itself, under_is, under_append}
 use Rattle.repo_api.specs.Trees.{Tree, HasFile, is_directory}
 use Rattle.repo_api.specs.declared.entry.Entry.{Entry}
-use Rattle.drives.specs.Steps.{EntryKind, Step, Node, node_of, node_at, after_step, after_steps, meets, all_meet, is_of_kind, is_named, has_step, is_opening, adds_or_deletes, is_text, empty_content, no_properties, reaches, IsOwn}
+use Rattle.drives.specs.Steps.{EntryKind, Step, Node, node_of, node_at, after_step, after_steps, meets, all_meet, is_of_kind, is_named, has_step, is_opening, adds_or_deletes, is_text, empty_content, no_properties, may_change, IsOwn}
 use Rattle.drives.specs.Steps.Step.{OpenAt, AddAt, DeleteAt}
 use Rattle.drives.specs.Drives.{IsRight, HasReason, Differs, IsOfOneKind, HasOtherText, IsInBoth, created_revision}
-use Rattle.drives.specs.Scopes.{under, below, without}
+use Rattle.drives.specs.Scopes.{under, below, tree_without}
 use Rattle.drives.proofs.Joined.{or_cases, or_left, or_right, and_front, and_both, apart_same, reach_named, either, Spares, IsDisjoint, joined, same_under, none_some}
 
 pub no_length : {X : Type 0} (xs : List X) → length xs ≡ 0 → xs ≡ []
@@ -78,7 +78,7 @@ below_spares p cs within q at = reach_named cs q (λ x named. by x (within x nam
 
 -- the first step and the entry's own, joined with what is below
 pub around : (seen : Node → Node) (stale : PathValue → Bool) (r t : Tree) (p : PathValue) (xs cs : List Step)
-    → ((q : PathValue) → same_path p q ≡ false → list_any (reaches q) xs ≡ false)
+    → ((q : PathValue) → same_path p q ≡ false → list_any (may_change q) xs ≡ false)
     → IsRight seen (same_path p) stale r t xs → IsRight seen (below p) stale r t cs → IsRight seen (under p) stale r t (xs ++ cs)
 around seen stale r t p xs cs far head rest =
     rescoped (at_and_below p)
@@ -127,8 +127,8 @@ pub fresh : (seen : Node → Node) (stale : PathValue → Bool) (r t : Tree) (p 
     → IsRight seen (below p) stale r t cs → IsRight seen (under p) stale r t (AddAt p kind ∷ os ++ cs)
 fresh seen stale r t p kind os cs none some own met leads text rest = around seen stale r t p (AddAt p kind ∷ os) cs far head rest
   where
-    far : (q : PathValue) → same_path p q ≡ false → list_any (reaches q) (AddAt p kind ∷ os) ≡ false
-    far q h = ap (λ b. b || list_any (reaches q) os) h ∙ own.far q h
+    far : (q : PathValue) → same_path p q ≡ false → list_any (may_change q) (AddAt p kind ∷ os) ≡ false
+    far q h = ap (λ b. b || list_any (may_change q) os) h ∙ own.far q h
 
     at : (q : PathValue) → is_named q (AddAt p kind ∷ os) ≡ true → same_path p q ≡ true
     at q named = ⊎_elim (λ h. and_front (same_path p q) true h) (λ h. own.here q h) (or_cases (same_path p q && true) (is_named q os) named)
@@ -161,17 +161,17 @@ pub record IsCut (r t : Tree) (p : PathValue) : Type 0 where
   pub differ : Differs r t p
   pub lone : (q : PathValue) → below p q ≡ true → (r q ≡ None) ⊎ (t q ≡ None)
 
-without_node : (r : Tree) (p q : PathValue) → node_at (without p r) q ≡ cond (is_at_or_under q p) None (node_at r q)
+without_node : (r : Tree) (p q : PathValue) → node_at (tree_without p r) q ≡ cond (is_at_or_under q p) None (node_at r q)
 without_node r p q = by (is_at_or_under q p)
   where
     by : (b : Bool) → option_map node_of (cond b None (r q)) ≡ cond b None (option_map node_of (r q))
     by true = refl
     by false = refl
 
-pub kept : (r : Tree) (p q : PathValue) → is_at_or_under q p ≡ false → without p r q ≡ r q
+pub kept : (r : Tree) (p q : PathValue) → is_at_or_under q p ≡ false → tree_without p r q ≡ r q
 kept r p q h = ap (λ b. cond b None (r q)) h
 
-pub left_out : (r : Tree) (p q : PathValue) → is_at_or_under q p ≡ true → without p r q ≡ None
+pub left_out : (r : Tree) (p q : PathValue) → is_at_or_under q p ≡ true → tree_without p r q ≡ None
 left_out r p q h = ap (λ b. cond b None (r q)) h
 
 -- a path is p, below p, or elsewhere
@@ -200,7 +200,7 @@ mapped_some (Some x) s = refl
 -- a delete, and then a drive from what is left
 pub cut : (seen : Node → Node) (scope stale : PathValue → Bool) (r t : Tree) (p : PathValue) (cs : List Step)
     → ((q : PathValue) → under p q ≡ true → scope q ≡ true) → IsCut r t p
-    → IsRight seen scope stale (without p r) t cs → IsRight seen scope stale r t (DeleteAt p ∷ cs)
+    → IsRight seen scope stale (tree_without p r) t cs → IsRight seen scope stale r t (DeleteAt p ∷ cs)
 cut seen scope stale r t p cs covers c right = record {
   ends = λ q h. ap (λ n. option_map seen (after_steps q n cs)) (sym (without_node r p q)) ∙ right.ends q h;
   texts = λ q h other. or_right (same_path p q && false) (has_step is_text q cs) (right.texts q h (other.0, λ e. differs_left q other (is_at_or_under q p) refl e));
@@ -211,10 +211,10 @@ cut seen scope stale r t p cs covers c right = record {
   meets = λ q h. and_both (meets q (node_at r q) (DeleteAt p)) (all_meet q (after_step q (node_at r q) (DeleteAt p)) cs) (stands q (same_path p q) refl) (ap (λ n. all_meet q n cs) (sym (without_node r p q)) ∙ right.meets q h);
 }
   where
-    both_left : (q : PathValue) → is_at_or_under q p ≡ false → IsInBoth r t q → IsInBoth (without p r) t q
+    both_left : (q : PathValue) → is_at_or_under q p ≡ false → IsInBoth r t q → IsInBoth (tree_without p r) t q
     both_left q out both = (subst IsSome (sym (kept r p q out)) both.0, both.1)
 
-    old_left : (q : PathValue) → is_at_or_under q p ≡ false → (created_revision r q ≡ created_revision t q → ⊥) ⊎ (stale q ≡ true) → (created_revision (without p r) q ≡ created_revision t q → ⊥) ⊎ (stale q ≡ true)
+    old_left : (q : PathValue) → is_at_or_under q p ≡ false → (created_revision r q ≡ created_revision t q → ⊥) ⊎ (stale q ≡ true) → (created_revision (tree_without p r) q ≡ created_revision t q → ⊥) ⊎ (stale q ≡ true)
     old_left q out (inl o) = inl (λ e. o (sym (ap (option_map _) (kept r p q out)) ∙ e))
     old_left q out (inr s) = inr s
 
@@ -225,18 +225,18 @@ cut seen scope stale r t p cs covers c right = record {
         by None k g = k
         by (Some y) k g = false≢true (ap is_some g)
 
-    differs_left : (q : PathValue) → HasOtherText r t q → (b : Bool) → is_at_or_under q p ≡ b → option_map (λ (n : Node). n.0) (node_at (without p r) q) ≡ option_map (λ (n : Node). n.0) (node_at t q) → ⊥
+    differs_left : (q : PathValue) → HasOtherText r t q → (b : Bool) → is_at_or_under q p ≡ b → option_map (λ (n : Node). n.0) (node_at (tree_without p r) q) ≡ option_map (λ (n : Node). n.0) (node_at t q) → ⊥
     differs_left q other true u e = file_there q other.0 (sym (ap (λ o. option_map (λ (n : Node). n.0) (option_map node_of o)) (left_out r p q u)) ∙ e)
     differs_left q other false u e = other.1 (sym (ap (λ o. option_map (λ (n : Node). n.0) (option_map node_of o)) (kept r p q u)) ∙ e)
 
-    moved : (w : PathValue) → Differs (without p r) t w → Differs r t w
+    moved : (w : PathValue) → Differs (tree_without p r) t w → Differs r t w
     moved w d = ⊎_elim (λ at. subst (Differs r t) (same_path_is p w at) c.differ) (λ far. ⊎_elim (λ low. lower low (c.lone w low)) (λ out. λ same. d (ap (option_map node_of) (kept r p w out) ∙ same.0, ap (option_map (λ (e : Entry). e.last)) (kept r p w out) ∙ same.1)) far) (place_of p w)
       where
         lower : below p w ≡ true → (r w ≡ None) ⊎ (t w ≡ None) → Differs r t w
         lower low (inl n) same = d (ap (option_map node_of) (left_out r p w (below_under p w low) ∙ sym n) ∙ same.0, ap (option_map (λ (e : Entry). e.last)) (left_out r p w (below_under p w low) ∙ sym n) ∙ same.1)
         lower low (inr n) same = d (ap (option_map node_of) (left_out r p w (below_under p w low) ∙ sym n), ap (option_map (λ (e : Entry). e.last)) (left_out r p w (below_under p w low) ∙ sym n))
 
-    reason : (q : PathValue) → HasReason stale (without p r) t q → HasReason stale r t q
+    reason : (q : PathValue) → HasReason stale (tree_without p r) t q → HasReason stale r t q
     reason q (inl e) = inl e
     reason q (inr w) = ⊎_elim (λ d. inr (w.0, w.1, inl (moved w.0 d))) (λ s. inr (w.0, w.1, inr s)) w.2
 

@@ -7,7 +7,7 @@ use Rattle.std.specs.List.{list_any}
 use Rattle.svnpath.specs.Paths.{PathValue, is_at_or_under, same_path}
 use Rattle.svnpath.specs.PathLaws.{same_path_is, same_path_refl, under_itself}
 use Rattle.repo_api.specs.Trees.{Tree}
-use Rattle.drives.specs.Steps.{Step, Node, node_at, after_step, after_steps, meets, all_meet, is_of_kind, step_path, is_named, has_step, is_opening, adds_or_deletes, is_text, is_entry_property, with_property_value, empty_content, no_properties, reaches}
+use Rattle.drives.specs.Steps.{Step, Node, node_at, after_step, after_steps, meets, all_meet, is_of_kind, step_path, is_named, has_step, is_opening, adds_or_deletes, is_text, is_entry_property, with_property_value, empty_content, no_properties, may_change}
 use Rattle.drives.specs.Steps.EntryKind.{FileKind}
 use Rattle.drives.specs.Steps.Step.{OpenAt, AddAt, DeleteAt, PropertyAt, TextAt}
 use Rattle.drives.specs.Drives.{IsRight, IsInBoth, created_revision}
@@ -44,7 +44,7 @@ apart_same p q apart = by (same_path p q) refl
     by true e = absurd (false≢true (sym apart ∙ ap (λ x. is_at_or_under x p) (sym (same_path_is p q e)) ∙ under_itself p))
     by false e = refl
 
-pub untouched : (q : PathValue) (n : Option Node) (c : Step) → reaches q c ≡ false → after_step q n c ≡ n
+pub untouched : (q : PathValue) (n : Option Node) (c : Step) → may_change q c ≡ false → after_step q n c ≡ n
 untouched q n (OpenAt p kind) h = refl
 untouched q n (AddAt p kind) h = ap (λ b. cond b (Some (empty_content kind, no_properties)) n) h
 untouched q n (DeleteAt p) h = ap (λ b. cond b None n) h
@@ -56,13 +56,13 @@ pub or_false : (a b : Bool) → (a || b) ≡ false → (a ≡ false) × (b ≡ f
 or_false true b h = absurd (false≢true (sym h))
 or_false false b h = (refl, h)
 
-pub all_untouched : (cs : List Step) (q : PathValue) (n : Option Node) → list_any (reaches q) cs ≡ false → after_steps q n cs ≡ n
+pub all_untouched : (cs : List Step) (q : PathValue) (n : Option Node) → list_any (may_change q) cs ≡ false → after_steps q n cs ≡ n
 all_untouched [] q n h = refl
 all_untouched (c ∷ cs) q n h =
     ap (λ m. after_steps q m cs) (untouched q n c (or_false _ _ h).0) ∙ all_untouched cs q n (or_false _ _ h).1
 
 -- a step reaches only what is at or under its path
-reach_under : (q : PathValue) (c : Step) → is_at_or_under q (step_path c) ≡ false → reaches q c ≡ false
+reach_under : (q : PathValue) (c : Step) → is_at_or_under q (step_path c) ≡ false → may_change q c ≡ false
 reach_under q (OpenAt p kind) h = refl
 reach_under q (AddAt p kind) h = apart_same p q h
 reach_under q (DeleteAt p) h = h
@@ -72,10 +72,10 @@ reach_under q (TextAt p text) h = apart_same p q h
 named_head : (c : Step) (cs : List Step) → is_named (step_path c) (c ∷ cs) ≡ true
 named_head c cs = or_left _ (is_named (step_path c) cs) (ap (λ b. b && true) (same_path_refl (step_path c)))
 
-pub reach_named : (cs : List Step) (q : PathValue) → ((p : PathValue) → is_named p cs ≡ true → is_at_or_under q p ≡ false) → list_any (reaches q) cs ≡ false
+pub reach_named : (cs : List Step) (q : PathValue) → ((p : PathValue) → is_named p cs ≡ true → is_at_or_under q p ≡ false) → list_any (may_change q) cs ≡ false
 reach_named [] q apart = refl
 reach_named (c ∷ cs) q apart =
-    ap (λ b. b || list_any (reaches q) cs) (reach_under q c (apart (step_path c) (named_head c cs)))
+    ap (λ b. b || list_any (may_change q) cs) (reach_under q c (apart (step_path c) (named_head c cs)))
     ∙ reach_named cs q (λ p named. apart p (or_right _ (is_named p cs) named))
 
 abbrev pub either : (PathValue → Bool) → (PathValue → Bool) → PathValue → Bool
@@ -83,7 +83,7 @@ either one other q = one q || other q
 
 -- no step of the list makes something of a path in the scope
 abbrev pub Spares : List Step → (PathValue → Bool) → Type 0
-Spares cs scope = (q : PathValue) → scope q ≡ true → list_any (reaches q) cs ≡ false
+Spares cs scope = (q : PathValue) → scope q ≡ true → list_any (may_change q) cs ≡ false
 
 abbrev pub IsDisjoint : (PathValue → Bool) → (PathValue → Bool) → Type 0
 IsDisjoint one other = (q : PathValue) → one q ≡ true → other q ≡ false

@@ -10,7 +10,7 @@ use Rattle.repo_api.specs.declared.entry.Entry.{Entry}
 use Rattle.drives.specs.declared.depth.Depth.{Depth}
 use Rattle.drives.specs.Steps.{Step, Node, node_of}
 use Rattle.drives.specs.Drives.{IsRight, HasReason, Differs}
-use Rattle.drives.specs.Scopes.{under, HoldsTogether, DepthLimit, scope_of, within, is_reached, brings_in, keeps_old, said_by, said_or, top_limit}
+use Rattle.drives.specs.Scopes.{under, HoldsTogether, DepthLimit, scope_of, within, stays_in_scope, brings_in, keeps_old, depth_said, said_or, top_limit}
 use Rattle.drives.proofs.Joined.{and_front, and_both}
 use Rattle.drives.proofs.Entries.{below_under, below_apart}
 
@@ -43,17 +43,17 @@ and_back true b h = h
 and_back false b h = absurd (false≢true h)
 
 -- what is reached is reached through what is in scope
-reached_front : (limit : DepthLimit) (r t : Tree) (here : PathValue) (depth : Depth) (xs ys : List Component) → is_reached limit r t here depth (xs ++ ys) ≡ true → is_reached limit r t here depth xs ≡ true
+reached_front : (limit : DepthLimit) (r t : Tree) (here : PathValue) (depth : Depth) (xs ys : List Component) → stays_in_scope limit r t here depth (xs ++ ys) ≡ true → stays_in_scope limit r t here depth xs ≡ true
 reached_front limit r t here depth [] ys h = refl
 reached_front limit r t here depth (c ∷ xs) ys h =
-    and_both (brings_in depth (r (here ++ c ∷ [])) (t (here ++ c ∷ [])) || keeps_old limit (r (here ++ c ∷ []))) _ (and_front _ (is_reached limit r t (here ++ c ∷ []) (said_or (said_by limit (here ++ c ∷ [])) depth) (xs ++ ys)) h)
-    (reached_front limit r t (here ++ c ∷ []) (said_or (said_by limit (here ++ c ∷ [])) depth) xs ys (and_back (brings_in depth (r (here ++ c ∷ [])) (t (here ++ c ∷ [])) || keeps_old limit (r (here ++ c ∷ []))) _ h))
+    and_both (brings_in depth (r (here ++ c ∷ [])) (t (here ++ c ∷ [])) || keeps_old limit (r (here ++ c ∷ []))) _ (and_front _ (stays_in_scope limit r t (here ++ c ∷ []) (said_or (depth_said limit (here ++ c ∷ [])) depth) (xs ++ ys)) h)
+    (reached_front limit r t (here ++ c ∷ []) (said_or (depth_said limit (here ++ c ∷ [])) depth) xs ys (and_back (brings_in depth (r (here ++ c ∷ [])) (t (here ++ c ∷ [])) || keeps_old limit (r (here ++ c ∷ []))) _ h))
 
 scope_above : (limit : DepthLimit) (r t : Tree) (top p q : PathValue) → is_at_or_under p top ≡ true → is_at_or_under q p ≡ true → scope_of limit r t top q ≡ true → scope_of limit r t top p ≡ true
 scope_above limit r t top p q at up h =
-    and_both (is_at_or_under p top) (is_reached limit r t top (top_limit limit top) (drop (length top) p)) at
+    and_both (is_at_or_under p top) (stays_in_scope limit r t top (top_limit limit top) (drop (length top) p)) at
     (reached_front limit r t top (top_limit limit top) (drop (length top) p) (drop (length p) q)
-    (subst (λ cs. is_reached limit r t top (top_limit limit top) cs ≡ true) rest_is (and_back (is_at_or_under q top) (is_reached limit r t top (top_limit limit top) (drop (length top) q)) h)))
+    (subst (λ cs. stays_in_scope limit r t top (top_limit limit top) cs ≡ true) rest_is (and_back (is_at_or_under q top) (stays_in_scope limit r t top (top_limit limit top) (drop (length top) q)) h)))
   where
     rest_is : drop (length top) q ≡ drop (length top) p ++ drop (length p) q
     rest_is =
@@ -90,7 +90,7 @@ in_scope seen limit a b top stale r t cs known x = record {
     scope = scope_of limit a b top
 
     at_top : (q : PathValue) → scope_of limit a b top q ≡ true → is_at_or_under q top ≡ true
-    at_top q h = and_front (is_at_or_under q top) (is_reached limit a b top (top_limit limit top) (drop (length top) q)) h
+    at_top q h = and_front (is_at_or_under q top) (stays_in_scope limit a b top (top_limit limit top) (drop (length top) q)) h
 
     differs_in : (w : PathValue) (s : Bool) → scope_of limit a b top w ≡ s → Differs (within (scope_of limit a b top) r) (within (scope_of limit a b top) t) w → scope_of limit a b top w ≡ true
     differs_in w true h d = h
@@ -102,6 +102,6 @@ in_scope seen limit a b top stale r t cs known x = record {
 
     reached : (q : PathValue) → is_at_or_under q top ≡ true → HasReason stale (within (scope_of limit a b top) r) (within (scope_of limit a b top) t) q → scope_of limit a b top q ≡ true
     reached q at (inl e) =
-        and_both (is_at_or_under q top) (is_reached limit a b top (top_limit limit top) (drop (length top) q)) at
-        (ap (λ y. is_reached limit a b top (top_limit limit top) y) (ap (drop (length top)) e ∙ drop_nil (length top)))
+        and_both (is_at_or_under q top) (stays_in_scope limit a b top (top_limit limit top) (drop (length top) q)) at
+        (ap (λ y. stays_in_scope limit a b top (top_limit limit top) y) (ap (drop (length top)) e ∙ drop_nil (length top)))
     reached q at (inr w) = scope_above limit a b top q w.0 at w.1 (⊎_elim (λ d. differs_in w.0 (scope_of limit a b top w.0) refl d) (λ s. known w.0 s) w.2)

@@ -19,8 +19,8 @@ abbrev pub within : (PathValue → Bool) → Tree → Tree
 within scope t q = if scope q then t q else None
 
 -- the tree with nothing at or under the path
-abbrev pub without : PathValue → Tree → Tree
-without p t q = if is_at_or_under q p then None else t q
+abbrev pub tree_without : PathValue → Tree → Tree
+tree_without p t q = if is_at_or_under q p then None else t q
 
 -- a file stands there
 abbrev pub is_file : Option Entry → Bool
@@ -55,9 +55,9 @@ pub data DepthLimit : Type 0 where
   Reported : (PathValue → Option Depth) → Depth → DepthLimit
 
 -- the depth that was reported of a directory
-abbrev pub said_by : DepthLimit → PathValue → Option Depth
-said_by (Given depth) q = None
-said_by (Reported said top) q = said q
+abbrev pub depth_said : DepthLimit → PathValue → Option Depth
+depth_said (Given depth) q = None
+depth_said (Reported said top) q = said q
 
 -- a drive as deep as was reported is of every path of the old tree
 abbrev pub keeps_old : DepthLimit → Option Entry → Bool
@@ -81,18 +81,18 @@ lets_in limit old new depth child =
     brings_in depth (old child) (new child) || keeps_old limit (old child)
 
 -- whether the names, gone down one by one from a directory of this depth, stay in scope
-abbrev pub is_reached : DepthLimit → Tree → Tree → PathValue → Depth → List Component → Bool
-is_reached limit old new here depth [] = true
-is_reached limit old new here depth (c ∷ rest) =
+abbrev pub stays_in_scope : DepthLimit → Tree → Tree → PathValue → Depth → List Component → Bool
+stays_in_scope limit old new here depth [] = true
+stays_in_scope limit old new here depth (c ∷ rest) =
     let child = here ++ c ∷ [] in
     lets_in limit old new depth child
-    && is_reached limit old new child (said_or (said_by limit child) depth) rest
+    && stays_in_scope limit old new child (said_or (depth_said limit child) depth) rest
 
 -- the paths of a drive from this top, so deep
 abbrev pub scope_of : DepthLimit → Tree → Tree → PathValue → PathValue → Bool
 scope_of limit old new top q =
     is_at_or_under q top
-    && is_reached limit old new top (top_limit limit top) (drop (length top) q)
+    && stays_in_scope limit old new top (top_limit limit top) (drop (length top) q)
 
 -- from the top on, what stands below a path stands in a directory
 abbrev pub HoldsTogether : PathValue → Tree → Type 0

@@ -148,24 +148,24 @@ abbrev pub is_named : PathValue → List Step → Bool
 is_named q cs = has_step (λ _. true) q cs
 
 -- a step may change what stands at q
-abbrev pub reaches : PathValue → Step → Bool
-reaches q (OpenAt p kind) = false
-reaches q (AddAt p kind) = same_path p q
-reaches q (DeleteAt p) = is_at_or_under q p
-reaches q (PropertyAt p name value) = same_path p q
-reaches q (TextAt p text) = same_path p q
+abbrev pub may_change : PathValue → Step → Bool
+may_change q (OpenAt p kind) = false
+may_change q (AddAt p kind) = same_path p q
+may_change q (DeleteAt p) = is_at_or_under q p
+may_change q (PropertyAt p name value) = same_path p q
+may_change q (TextAt p text) = same_path p q
 
 -- the steps are all of p, change nothing elsewhere, and neither add nor delete
 pub record IsOwn (p : PathValue) (cs : List Step) : Type 0 where
   pub here : (q : PathValue) → is_named q cs ≡ true → same_path p q ≡ true
-  pub far : (q : PathValue) → same_path p q ≡ false → list_any (reaches q) cs ≡ false
+  pub far : (q : PathValue) → same_path p q ≡ false → list_any (may_change q) cs ≡ false
   pub adds_nothing : (q : PathValue) → has_step adds_or_deletes q cs ≡ false
 
 -- ---- what is seen of an entry
 
 -- a drive of texts shows everything
-abbrev pub whole : Node → Node
-whole n = n
+abbrev pub as_it_is : Node → Node
+as_it_is n = n
 
 -- a file as one with no text
 abbrev pub without_text : Content → Content

@@ -26,10 +26,10 @@ use Rattle.reports.specs.Reported.{entries_of}
 use Rattle.reports.specs.Targets.{WholeReport, client_tree, target_tree, limit_of, drive_scope, is_stale, old_tree, new_tree, stale_in}
 use Rattle.drive_commands.specs.EntryProperties.{entry_property, told_by, told}
 use Rattle.drive_commands.specs.Saying.{Says}
-use Rattle.drive_commands.specs.Sent.{IsDrive, LeadsToTarget, TellsEach, base_of, or_empty, enters, from_root, seen_by}
+use Rattle.drive_commands.specs.Sent.{IsDrive, LeadsToTarget, TellsEach, base_of, or_no_text, enters, from_root, seen_by}
 use Rattle.drive_commands.proofs.Joining.{says_append}
 use Rattle.drive_commands.proofs.Writing.{reads_close}
-use Rattle.entry_news.specs.News.{news_at, news_steps, steps_if, own_of, old_entry, starts_empty_at}
+use Rattle.entry_news.specs.News.{news_at, news_steps, steps_if, own_steps_of, old_entry, starts_empty_at}
 use Rattle.entry_news.specs.declared.news.News.{News}
 use Rattle.drive_sides.specs.Plans.{IsPlan, from_top}
 use Rattle.driving.specs.Commands.{news_commands, news_told, root_commands, plan_commands, body_commands, drive_of}
@@ -110,18 +110,18 @@ module _ (c : RepoState) (report : WholeReport) where
   New = new_tree c report
 
   abbrev Steps : List Visit → List Step
-  Steps visits = plan_steps New (own_of c report) visits
+  Steps visits = plan_steps New (own_steps_of c report) visits
 
   abbrev VisitSteps : Visit → List Step
-  VisitSteps v = visit_steps New (own_of c report) v
+  VisitSteps v = visit_steps New (own_steps_of c report) v
 
   visit_enters : (q : PathValue) (v : Visit) → enters q (VisitSteps v) ≡ is_of q v
   visit_enters q (Open p) =
-      enters_append q (OpenAt p (entry_kind (New p)) ∷ []) (own_of c report p false)
+      enters_append q (OpenAt p (entry_kind (New p)) ∷ []) (own_steps_of c report p false)
       ∙ ap (λ b. enters q (OpenAt p (entry_kind (New p)) ∷ []) || b) (if_enter_none q p (option_map (news_at c report p false) (New p)))
       ∙ or_none (enters q (OpenAt p (entry_kind (New p)) ∷ [])) ∙ one_opens (same_path p q)
   visit_enters q (Add p) =
-      enters_append q (AddAt p (entry_kind (New p)) ∷ []) (own_of c report p true)
+      enters_append q (AddAt p (entry_kind (New p)) ∷ []) (own_steps_of c report p true)
       ∙ ap (λ b. enters q (AddAt p (entry_kind (New p)) ∷ []) || b) (if_enter_none q p (option_map (news_at c report p true) (New p)))
       ∙ or_none (enters q (AddAt p (entry_kind (New p)) ∷ [])) ∙ one_adds (same_path p q)
   visit_enters q (Delete p) = ap (λ b. (b || false) || ((same_path p q && false) || false)) (never (same_path p q)) ∙ ap (λ b. b || false) (never (same_path p q))
@@ -177,12 +177,12 @@ module _ (c : RepoState) (report : WholeReport) where
     other_steps p other None before = refl
     other_steps p other (Some news) before = other_news q name p other news before
 
-    own_told : (p : PathValue) (anew : Bool) (before : Option (Option (List ℕ))) → Last before (own_of c report p anew) ≡ (if same_path p q then option_or Due before else before)
+    own_told : (p : PathValue) (anew : Bool) (before : Option (Option (List ℕ))) → Last before (own_steps_of c report p anew) ≡ (if same_path p q then option_or Due before else before)
     own_told p anew before = by (same_path p q) refl
       where
-        by : (b : Bool) → same_path p q ≡ b → Last before (own_of c report p anew) ≡ (if b then option_or Due before else before)
+        by : (b : Bool) → same_path p q ≡ b → Last before (own_steps_of c report p anew) ≡ (if b then option_or Due before else before)
         by true h =
-            ap (λ x. Last before (own_of c report x anew)) (same_path_is p q h)
+            ap (λ x. Last before (own_steps_of c report x anew)) (same_path_is p q h)
             ∙ ap (λ o. Last before (steps_if q (option_map (news_at c report q anew) o))) is
             ∙ own_news q name c (stale_in c report q) e special report.ask.purpose (starts_empty_at report.grafts q) (old_entry anew (old_tree c report) q) before
         by false h = other_steps p h (option_map (news_at c report p anew) (New p)) before
@@ -236,27 +236,27 @@ module _ (c : RepoState) (report : WholeReport) where
   Base = base_of (old_tree c report)
 
   abbrev Body : List Visit → List Step
-  Body vs = (if same_path report.ask.target [] then own_of c report [] false else []) ++ Steps vs
+  Body vs = (if same_path report.ask.target [] then own_steps_of c report [] false else []) ++ Steps vs
 
-  says_root : RootStands → Says Top Base (open_directories ([] ∷ [])) (root_commands c report) (if same_path report.ask.target [] then own_of c report [] false else []) (open_directories ([] ∷ []))
+  says_root : RootStands → Says Top Base (open_directories ([] ∷ [])) (root_commands c report) (if same_path report.ask.target [] then own_steps_of c report [] false else []) (open_directories ([] ∷ []))
   says_root root = by (same_path report.ask.target []) refl
     where
       by : (b : Bool) → same_path report.ask.target [] ≡ b
-          → Says Top Base (open_directories ([] ∷ [])) (if b then news_commands report.ask.purpose DirectoryKind (token_of DirectoryKind 0) (news_told c report [] false) else []) (if b then own_of c report [] false else []) (open_directories ([] ∷ []))
+          → Says Top Base (open_directories ([] ∷ [])) (if b then news_commands report.ask.purpose DirectoryKind (token_of DirectoryKind 0) (news_told c report [] false) else []) (if b then own_steps_of c report [] false else []) (open_directories ([] ∷ []))
       by true h =
           let silent : (news_told c report [] false).text ≡ None = news_silent c report [] false (New []) (root h).1 in
           subst (λ s. Says Top Base (open_directories ([] ∷ [])) (news_commands report.ask.purpose DirectoryKind (token_of DirectoryKind 0) (news_told c report [] false)) s (open_directories ([] ∷ [])))
           (sym (steps_told [] (option_map (news_at c report [] false) (New []))))
           (says_news Top Base report.ask.purpose DirectoryKind [] [] [] (news_told c report [] false) (λ _. refl) (λ _. silent)
-          (subst (λ t. length (or_empty t) ≤ limit) (sym silent) nothing_short))
+          (subst (λ t. length (or_no_text t) ≤ limit) (sym silent) nothing_short))
       by false h = (refl, refl)
 
-  steps_from : (vs : List Visit) → RootStands → plan_steps New (own_of c report) (from_top report.ask vs) ≡ from_root report.ask (Body vs)
+  steps_from : (vs : List Visit) → RootStands → plan_steps New (own_steps_of c report) (from_top report.ask vs) ≡ from_root report.ask (Body vs)
   steps_from vs root = by (same_path report.ask.target []) refl
     where
       by : (b : Bool) → same_path report.ask.target [] ≡ b → Steps (if b then Open [] ∷ vs else vs)
-          ≡ (if b then OpenAt [] DirectoryKind ∷ ((if b then own_of c report [] false else []) ++ Steps vs) else ((if b then own_of c report [] false else []) ++ Steps vs))
-      by true h = ap (λ k. OpenAt [] k ∷ (own_of c report [] false ++ Steps vs)) (root h).1
+          ≡ (if b then OpenAt [] DirectoryKind ∷ ((if b then own_steps_of c report [] false else []) ++ Steps vs) else ((if b then own_steps_of c report [] false else []) ++ Steps vs))
+      by true h = ap (λ k. OpenAt [] k ∷ (own_steps_of c report [] false ++ Steps vs)) (root h).1
       by false h = refl
 
   top_stands : (vs : List Visit) → RootStands → All Stands vs → All Stands (from_top report.ask vs)
@@ -289,7 +289,7 @@ module _ (c : RepoState) (report : WholeReport) where
       says : Says Top Base (open_directories ([] ∷ [])) (body_commands c report vs) (Body vs) []
       says =
           says_append Top Base (open_directories ([] ∷ [])) (open_directories ([] ∷ [])) [] (root_commands c report) (plan_commands c report 0 vs ++ CloseDirectory (token_of DirectoryKind 0) ∷ [])
-          (if same_path report.ask.target [] then own_of c report [] false else []) (Steps vs) (says_root root) visited
+          (if same_path report.ask.target [] then own_steps_of c report [] false else []) (Steps vs) (says_root root) visited
 
       right : LeadsToTarget c report (Steps (from_top report.ask vs))
       right =

@@ -4,11 +4,11 @@ use Rattle.std.specs.Int.{div_ceil}
 use Rattle.std.specs.Prelude.{Ok}
 use Rattle.svnpath.specs.Paths.{PathValue}
 use Rattle.svnpath.specs.PathLaws.{same_component_refl}
-use Rattle.svndiff0.specs.Document.{header, text_of}
+use Rattle.svndiff0.specs.Document.{header, document_text}
 use Rattle.svndiff0.specs.Full.{full_window, full_windows, full_document}
 use Rattle.svndiff0.specs.Window.{limit}
 use Rattle.svndiff0.proofs.Fulls.{full_again}
-use Rattle.drive_commands.specs.Sent.{or_empty}
+use Rattle.drive_commands.specs.Sent.{or_no_text}
 use Rattle.forms.specs.Forms.{is_name}
 use Rattle.edit_commands.specs.declared.editing.EditorCommand.TheVariants.{CloseFile}
 use Rattle.drives.specs.Steps.{EntryKind}
@@ -36,8 +36,8 @@ windows_joined (suc n) text = ap (λ rest. full_window (take 65536 text) ++ rest
 chunks_joined : (text : List ℕ) → joined_bytes (chunks text) ≡ full_document text
 chunks_joined text = ap (λ rest. header ++ rest) (windows_joined (div_ceil (length text) 65536) text)
 
-chunks_again : (base text : List ℕ) → length text ≤ limit → text_of base (joined_bytes (chunks text)) ≡ Ok text
-chunks_again base text short = ap (text_of base) (chunks_joined text) ∙ full_again base text short
+chunks_again : (base text : List ℕ) → length text ≤ limit → document_text base (joined_bytes (chunks text)) ≡ Ok text
+chunks_again base text short = ap (document_text base) (chunks_joined text) ∙ full_again base text short
 
 -- the checksum is right
 nothing_sent : (purpose : Purpose) → checksum_sent purpose None ≡ None
@@ -67,7 +67,7 @@ module _ (top : PathValue) (base : PathValue → List ℕ) (purpose : Purpose) w
     refl,
   )
 
-  says_end : (count : ℕ) (p : PathValue) (own : List ℕ) (hs : List OpenEntry) (text : Option (List ℕ)) → length (or_empty text) ≤ limit
+  says_end : (count : ℕ) (p : PathValue) (own : List ℕ) (hs : List OpenEntry) (text : Option (List ℕ)) → length (or_no_text text) ≤ limit
       → Says top base (entry_at FileKind count p own ∷ hs) (text_commands (token_of FileKind count) text ++ CloseFile (token_of FileKind count) (checksum_sent purpose text) ∷ []) (text_steps p text) hs
   says_end count p own hs None short =
       closes (entry_at FileKind count p own) hs (checksum_sent purpose None) refl
@@ -81,7 +81,7 @@ module _ (top : PathValue) (base : PathValue → List ℕ) (purpose : Purpose) w
 
   -- an entry that was entered is told its news
   pub says_news : (kind : EntryKind) (ds : List PathValue) (p : PathValue) (own : List ℕ) (news : News) → (kind ≡ DirectoryKind → own ≡ []) → (kind ≡ DirectoryKind → news.text ≡ None)
-      → length (or_empty news.text) ≤ limit
+      → length (or_no_text news.text) ≤ limit
       → Says top base (entry_at kind (length ds) p own ∷ open_directories ds) (news_commands purpose kind (token_of kind (length ds)) news) (news_steps p news) (open_directories (after_entry kind p ds))
   says_news DirectoryKind ds p own news bare silent short =
       subst (λ b. Says top base (entry_at DirectoryKind (length ds) p b ∷ open_directories ds) (news_commands purpose DirectoryKind (token_of DirectoryKind (length ds)) news) (news_steps p news) (open_directories (p ∷ ds)))

@@ -1,5 +1,6 @@
 -- Where there is no target, a directory is to stand at the root of a drive.
 use Rattle.std.proofs.Common.{◌≡◌, ◌<◌, ◌^◌, List, Bool, true, false, ◌&&◌, [], ◌++◌, append-nil, length, drop, Option, Some, None, refl, sym, ap, ◌∙◌, subst, if◌then◌else◌}
+use Rattle.repo_api.specs.Trees.{is_directory_there}
 use Rattle.std.proofs.lemmas.Bool.{false≢true}
 use Rattle.std.specs.Prelude.{All, Result, Ok, Err, ok_or, is_some}
 use Rattle.svnpath.specs.Paths.{PathValue, same_path, is_at_or_under}
@@ -8,11 +9,11 @@ use Rattle.refusals.specs.declared.Refusal.{Refusal}
 use Rattle.refusals.specs.declared.Refusal.TheVariants as refusals
 use Rattle.repo_api.specs.States.{RepoState, trees_in}
 use Rattle.repo_api.specs.declared.entry.Entry.{Entry}
-use Rattle.drives.specs.Scopes.{is_reached, top_limit}
+use Rattle.drives.specs.Scopes.{stays_in_scope, top_limit}
 use Rattle.drives.specs.Steps.EntryKind.{DirectoryKind}
 use Rattle.drives.proofs.Joined.{and_front}
 use Rattle.reporter.specs.Visits.{entry_kind, kind_if}
-use Rattle.reports.specs.Refusing.{◌>>=◌, unless, OpenState, has_goal, has_anchor, finish_root, is_directory_there}
+use Rattle.reports.specs.Refusing.{◌>>=◌, unless, OpenState, has_goal, has_anchor, finish_root}
 use Rattle.reports.specs.Reported.{entries_of, has_directory}
 use Rattle.reports.specs.Targets.{WholeReport, client_tree, reported_tree, target_tree, limit_of, new_tree}
 use Rattle.reports.specs.declared.report.ReportRoot.{ReportRoot}
@@ -58,7 +59,7 @@ module _ (c : RepoState) (report : OpenState) (root : ReportRoot) where
   -- what is to stand at the root, by the target
   abbrev root_entry : PathValue → Option Entry
   root_entry top =
-      if is_at_or_under [] top && is_reached (limit_of (client_tree c Whole) root report.ask.depth) (entries_of (client_tree c Whole)) (target_tree c report.ask) top (top_limit (limit_of (client_tree c Whole) root report.ask.depth) top) (drop (length top) [])
+      if is_at_or_under [] top && stays_in_scope (limit_of (client_tree c Whole) root report.ask.depth) (entries_of (client_tree c Whole)) (target_tree c report.ask) top (top_limit (limit_of (client_tree c Whole) root report.ask.depth) top) (drop (length top) [])
       then (if is_at_or_under [] top then trees_in c.revisions report.ask.revision (report.ask.goal ++ drop (length top) []) else None)
       else None
 

@@ -9,7 +9,7 @@ use Rattle.svnpath.specs.PathLaws.{same_component_refl}
 use Rattle.svndiff0.specs.Window.{limit}
 use Rattle.repo_api.specs.Kinds.{text_of, content_text}
 use Rattle.repo_api.specs.States.{RepoState}
-use Rattle.repo_api.specs.Trees.{Tree, is_directory, is_directory_content}
+use Rattle.repo_api.specs.Trees.{Tree, is_directory, is_directory_content, is_directory_there}
 use Rattle.repo_api.specs.declared.entry.Content.{Content}
 use Rattle.repo_api.specs.declared.entry.Content.TheVariants.{Directory, File}
 use Rattle.repo_api.specs.declared.entry.Entry.{Entry}
@@ -19,7 +19,7 @@ use Rattle.drives.specs.Places.{is_in_directory}
 use Rattle.drives.specs.Steps.{EntryKind, Step}
 use Rattle.drives.specs.Steps.EntryKind.{DirectoryKind, FileKind}
 use Rattle.drives.specs.Steps.Step.{OpenAt, AddAt, DeleteAt}
-use Rattle.reporter.specs.Nesting.{has_directory, walk}
+use Rattle.reporter.specs.Nesting.{walk}
 use Rattle.reporter.specs.Visits.{entry_kind, kind_if, plan_steps}
 use Rattle.reporter.specs.declared.visit.Visit.{Visit}
 use Rattle.reporter.specs.declared.visit.Visit.TheVariants.{Open, Add, Delete, Close}
@@ -27,14 +27,14 @@ use Rattle.reports.specs.Targets.{WholeReport, old_tree, new_tree}
 use Rattle.reports.specs.declared.ask.Purpose.{Purpose}
 use Rattle.reports.specs.declared.ask.Purpose.TheVariants.{Update, Switch, Status}
 use Rattle.drive_commands.specs.Saying as saying
-use Rattle.drive_commands.specs.Saying.{OpenEntry, Says, said_by, is_placed, when, is_open}
-use Rattle.drive_commands.specs.Sent.{base_of, or_empty}
+use Rattle.drive_commands.specs.Saying.{Says, steps_said, is_in_place, when, is_open_token}
+use Rattle.drive_commands.specs.Sent.{base_of, or_no_text}
 use Rattle.drive_commands.proofs.Joining.{says_append}
 use Rattle.drive_commands.proofs.Writing.{reads_entry, reads_close}
-use Rattle.entry_news.specs.News.{news_at, news_steps, steps_if, own_of, other_text, text_sent, old_entry}
+use Rattle.entry_news.specs.News.{news_at, news_steps, steps_if, own_steps_of, other_text, text_sent, old_entry}
 use Rattle.entry_news.specs.declared.news.News.{News}
 use Rattle.driving.specs.Commands.{open_command, add_command, opened_entry, added_entry, news_commands, news_told, or_no_news, plan_commands, deeper_by}
-use Rattle.driving.specs.Sending.{IsSpelled, IsTellable, IsSendable}
+use Rattle.driving.specs.Sending.{IsSpelledPath, IsTellable, IsSendable}
 use Rattle.driving.specs.Tokens.{token_of}
 use Rattle.driving.proofs.Tokens.{entry_at, open_directories, grown, none_open}
 use Rattle.driving.proofs.Entries.{after_entry, says_news}
@@ -51,7 +51,7 @@ by_kind : (b : Bool) (p : PathValue) (ds : List PathValue) → (if b then p ∷ 
 by_kind true p ds = refl
 by_kind false p ds = refl
 
-walked_kind : (e : Option Entry) (p : PathValue) (ds : List PathValue) → (if has_directory e then p ∷ ds else ds) ≡ after_entry (entry_kind e) p ds
+walked_kind : (e : Option Entry) (p : PathValue) (ds : List PathValue) → (if is_directory_there e then p ∷ ds else ds) ≡ after_entry (entry_kind e) p ds
 walked_kind None p ds = refl
 walked_kind (Some e) p ds = by_kind (is_directory e) p ds
 
@@ -81,7 +81,7 @@ pub steps_told : (p : PathValue) (o : Option News) → steps_if p o ≡ news_ste
 steps_told p None = refl
 steps_told p (Some news) = refl
 
-pub nothing_short : length (or_empty None) ≤ limit
+pub nothing_short : length (or_no_text None) ≤ limit
 nothing_short = omega arith
 
 sent_short : (purpose : Purpose) (text : List ℕ) → length text ≤ limit → length (text_sent purpose text) ≤ limit
@@ -89,12 +89,12 @@ sent_short Update text short = short
 sent_short Switch text short = short
 sent_short Status text short = nothing_short
 
-told_short : (purpose : Purpose) (old : Option (List ℕ)) (text : Option (List ℕ)) → length (or_empty text) ≤ limit → length (or_empty (option_map (text_sent purpose) (other_text old text))) ≤ limit
+told_short : (purpose : Purpose) (old : Option (List ℕ)) (text : Option (List ℕ)) → length (or_no_text text) ≤ limit → length (or_no_text (option_map (text_sent purpose) (other_text old text))) ≤ limit
 told_short purpose old None short = nothing_short
 told_short purpose None (Some text) short = sent_short purpose text short
 told_short purpose (Some before) (Some text) short = by (is_name before text)
   where
-    by : (b : Bool) → length (or_empty (option_map (text_sent purpose) (if b then None else Some text))) ≤ limit
+    by : (b : Bool) → length (or_no_text (option_map (text_sent purpose) (if b then None else Some text))) ≤ limit
     by true = nothing_short
     by false = sent_short purpose text short
 
@@ -116,7 +116,7 @@ module _ (c : RepoState) (report : WholeReport) where
   abbrev New : Tree
   New = new_tree c report
 
-  news_short : (p : PathValue) (anew : Bool) (e : Option Entry) → length (or_empty (text_of e)) ≤ limit → length (or_empty (or_no_news (option_map (news_at c report p anew) e)).text) ≤ limit
+  news_short : (p : PathValue) (anew : Bool) (e : Option Entry) → length (or_no_text (text_of e)) ≤ limit → length (or_no_text (or_no_news (option_map (news_at c report p anew) e)).text) ≤ limit
   news_short p anew None short = nothing_short
   news_short p anew (Some e) short = told_short report.ask.purpose (text_of (old_entry anew (old_tree c report) p)) (content_text e.content) short
 
@@ -126,10 +126,10 @@ module _ (c : RepoState) (report : WholeReport) where
 
   -- ---- what is entered
 
-  placed : (d : PathValue) (ds : List PathValue) (p : PathValue) → is_in_directory Top d p ≡ true → is_placed Top (open_directories (d ∷ ds)) p (token_of DirectoryKind (length ds)) ≡ true
+  placed : (d : PathValue) (ds : List PathValue) (p : PathValue) → is_in_directory Top d p ≡ true → is_in_place Top (open_directories (d ∷ ds)) p (token_of DirectoryKind (length ds)) ≡ true
   placed d ds p inside = ap (λ b. (b && true) && is_in_directory Top d p) (same_component_refl (token_of DirectoryKind (length ds))) ∙ inside
 
-  new_token : (kind : EntryKind) (d : PathValue) (ds : List PathValue) → length ds + 1 < 2 ^ 64 → is_open (token_of kind (length ds + 1)) (open_directories (d ∷ ds)) ≡ false
+  new_token : (kind : EntryKind) (d : PathValue) (ds : List PathValue) → length ds + 1 < 2 ^ 64 → is_open_token (token_of kind (length ds + 1)) (open_directories (d ∷ ds)) ≡ false
   new_token kind d ds bound = none_open kind (length ds + 1) (d ∷ ds) (omega (arith, grown d ds)) bound
 
   -- the text that the client has of what is opened
@@ -141,46 +141,46 @@ module _ (c : RepoState) (report : WholeReport) where
   bare DirectoryKind p e = refl
   bare FileKind p e = absurd (false≢true (ap is_directory_kind e))
 
-  reads_open : (kind : EntryKind) (d : PathValue) (ds : List PathValue) (p : PathValue) → is_in_directory Top d p ≡ true → IsSpelled p → length ds + 1 < 2 ^ 64
-      → said_by Top Base (open_directories (d ∷ ds)) (open_command kind (opened_entry c report (length ds) p kind))
+  reads_open : (kind : EntryKind) (d : PathValue) (ds : List PathValue) (p : PathValue) → is_in_directory Top d p ≡ true → IsSpelledPath p → length ds + 1 < 2 ^ 64
+      → steps_said Top Base (open_directories (d ∷ ds)) (open_command kind (opened_entry c report (length ds) p kind))
       ≡ Some (OpenAt p kind ∷ [], entry_at kind (length ds + 1) p (base_at kind p) ∷ open_directories (d ∷ ds))
   reads_open DirectoryKind d ds p inside spelled bound =
-      ap (λ q. saying.entered Top (open_directories (d ∷ ds)) q (token_of DirectoryKind (length ds)) (token_of DirectoryKind (length ds + 1)) DirectoryKind [] (OpenAt q DirectoryKind)) spelled
+      ap (λ q. saying.enters_entry Top (open_directories (d ∷ ds)) q (token_of DirectoryKind (length ds)) (token_of DirectoryKind (length ds + 1)) DirectoryKind [] (OpenAt q DirectoryKind)) spelled
       ∙ reads_entry Top (open_directories (d ∷ ds)) p (token_of DirectoryKind (length ds)) (token_of DirectoryKind (length ds + 1)) [] DirectoryKind (OpenAt p DirectoryKind)
       (placed d ds p inside) (new_token DirectoryKind d ds bound)
   reads_open FileKind d ds p inside spelled bound =
-      ap (λ q. saying.entered Top (open_directories (d ∷ ds)) q (token_of DirectoryKind (length ds)) (token_of FileKind (length ds + 1)) FileKind (Base q) (OpenAt q FileKind)) spelled
+      ap (λ q. saying.enters_entry Top (open_directories (d ∷ ds)) q (token_of DirectoryKind (length ds)) (token_of FileKind (length ds + 1)) FileKind (Base q) (OpenAt q FileKind)) spelled
       ∙ reads_entry Top (open_directories (d ∷ ds)) p (token_of DirectoryKind (length ds)) (token_of FileKind (length ds + 1)) (Base p) FileKind (OpenAt p FileKind)
       (placed d ds p inside) (new_token FileKind d ds bound)
 
-  reads_add : (kind : EntryKind) (d : PathValue) (ds : List PathValue) (p : PathValue) → is_in_directory Top d p ≡ true → IsSpelled p → length ds + 1 < 2 ^ 64
-      → said_by Top Base (open_directories (d ∷ ds)) (add_command kind (added_entry (length ds) p kind))
+  reads_add : (kind : EntryKind) (d : PathValue) (ds : List PathValue) (p : PathValue) → is_in_directory Top d p ≡ true → IsSpelledPath p → length ds + 1 < 2 ^ 64
+      → steps_said Top Base (open_directories (d ∷ ds)) (add_command kind (added_entry (length ds) p kind))
       ≡ Some (AddAt p kind ∷ [], entry_at kind (length ds + 1) p [] ∷ open_directories (d ∷ ds))
   reads_add DirectoryKind d ds p inside spelled bound =
-      ap (λ q. saying.entered Top (open_directories (d ∷ ds)) q (token_of DirectoryKind (length ds)) (token_of DirectoryKind (length ds + 1)) DirectoryKind [] (AddAt q DirectoryKind)) spelled
+      ap (λ q. saying.enters_entry Top (open_directories (d ∷ ds)) q (token_of DirectoryKind (length ds)) (token_of DirectoryKind (length ds + 1)) DirectoryKind [] (AddAt q DirectoryKind)) spelled
       ∙ reads_entry Top (open_directories (d ∷ ds)) p (token_of DirectoryKind (length ds)) (token_of DirectoryKind (length ds + 1)) [] DirectoryKind (AddAt p DirectoryKind)
       (placed d ds p inside) (new_token DirectoryKind d ds bound)
   reads_add FileKind d ds p inside spelled bound =
-      ap (λ q. saying.entered Top (open_directories (d ∷ ds)) q (token_of DirectoryKind (length ds)) (token_of FileKind (length ds + 1)) FileKind [] (AddAt q FileKind)) spelled
+      ap (λ q. saying.enters_entry Top (open_directories (d ∷ ds)) q (token_of DirectoryKind (length ds)) (token_of FileKind (length ds + 1)) FileKind [] (AddAt q FileKind)) spelled
       ∙ reads_entry Top (open_directories (d ∷ ds)) p (token_of DirectoryKind (length ds)) (token_of FileKind (length ds + 1)) [] FileKind (AddAt p FileKind)
       (placed d ds p inside) (new_token FileKind d ds bound)
 
   -- the visits say their steps, from what is open before to what is open after them
   abbrev SaysPlan : List PathValue → ℕ → List Visit → List PathValue → Type 0
-  SaysPlan ds around vs end = Says Top Base (open_directories ds) (plan_commands c report around vs) (plan_steps New (own_of c report) vs) (open_directories end)
+  SaysPlan ds around vs end = Says Top Base (open_directories ds) (plan_commands c report around vs) (plan_steps New (own_steps_of c report) vs) (open_directories end)
 
   -- an entry, and what comes behind it
   with_entry : (kind : EntryKind) (first : EditorCommand) (step : Step) (own : List ℕ) (news : News) (d : PathValue) (ds : List PathValue) (p : PathValue) (vs : List Visit) (end : List PathValue)
-      → said_by Top Base (open_directories (d ∷ ds)) first ≡ Some (step ∷ [], entry_at kind (length ds + 1) p own ∷ open_directories (d ∷ ds))
-      → (kind ≡ DirectoryKind → own ≡ []) → (kind ≡ DirectoryKind → news.text ≡ None) → length (or_empty news.text) ≤ limit
+      → steps_said Top Base (open_directories (d ∷ ds)) first ≡ Some (step ∷ [], entry_at kind (length ds + 1) p own ∷ open_directories (d ∷ ds))
+      → (kind ≡ DirectoryKind → own ≡ []) → (kind ≡ DirectoryKind → news.text ≡ None) → length (or_no_text news.text) ≤ limit
       → SaysPlan (after_entry kind p (d ∷ ds)) (deeper_by kind (length ds)) vs end
       → Says Top Base (open_directories (d ∷ ds))
       ((first ∷ news_commands report.ask.purpose kind (token_of kind (length ds + 1)) news) ++ plan_commands c report (deeper_by kind (length ds)) vs)
-      ((step ∷ news_steps p news) ++ plan_steps New (own_of c report) vs) (open_directories end)
+      ((step ∷ news_steps p news) ++ plan_steps New (own_steps_of c report) vs) (open_directories end)
   with_entry kind first step own news d ds p vs end said bare quiet short rest =
       says_append Top Base (open_directories (d ∷ ds)) (open_directories (after_entry kind p (d ∷ ds))) (open_directories end)
       (first ∷ news_commands report.ask.purpose kind (token_of kind (length ds + 1)) news) (plan_commands c report (deeper_by kind (length ds)) vs)
-      (step ∷ news_steps p news) (plan_steps New (own_of c report) vs)
+      (step ∷ news_steps p news) (plan_steps New (own_steps_of c report) vs)
       (step ∷ [], entry_at kind (length ds + 1) p own ∷ open_directories (d ∷ ds), news_steps p news, said, inner, refl) rest
     where
       inner : Says Top Base (entry_at kind (length ds + 1) p own ∷ open_directories (d ∷ ds)) (news_commands report.ask.purpose kind (token_of kind (length ds + 1)) news) (news_steps p news) (open_directories (after_entry kind p (d ∷ ds)))
@@ -203,8 +203,8 @@ module _ (c : RepoState) (report : WholeReport) where
   says_plan (Open p ∷ vs) d ds end sendable bound walked =
       let kind = entry_kind (New p) in
       let tellable : IsTellable New p = All-head (IsSendable New) (Open p) vs sendable in
-      let on = goes_on (is_in_directory Top d p) (if has_directory (New p) then p ∷ d ∷ ds else d ∷ ds) (λ mid. walk New Top mid vs) end walked in
-      subst (λ s. Says Top Base (open_directories (d ∷ ds)) (plan_commands c report (length ds) (Open p ∷ vs)) ((OpenAt p kind ∷ s) ++ plan_steps New (own_of c report) vs) (open_directories end))
+      let on = goes_on (is_in_directory Top d p) (if is_directory_there (New p) then p ∷ d ∷ ds else d ∷ ds) (λ mid. walk New Top mid vs) end walked in
+      subst (λ s. Says Top Base (open_directories (d ∷ ds)) (plan_commands c report (length ds) (Open p ∷ vs)) ((OpenAt p kind ∷ s) ++ plan_steps New (own_steps_of c report) vs) (open_directories end))
       (sym (steps_told p (option_map (news_at c report p false) (New p))))
       (with_entry kind (open_command kind (opened_entry c report (length ds) p kind)) (OpenAt p kind) (base_at kind p) (news_told c report p false) d ds p vs end
       (reads_open kind d ds p on.0 tellable.spelled (next_bound (length ds) (length vs) (length (Open p ∷ vs)) (one_more (Open p) vs) bound))
@@ -216,8 +216,8 @@ module _ (c : RepoState) (report : WholeReport) where
   says_plan (Add p ∷ vs) d ds end sendable bound walked =
       let kind = entry_kind (New p) in
       let tellable : IsTellable New p = All-head (IsSendable New) (Add p) vs sendable in
-      let on = goes_on (is_in_directory Top d p) (if has_directory (New p) then p ∷ d ∷ ds else d ∷ ds) (λ mid. walk New Top mid vs) end walked in
-      subst (λ s. Says Top Base (open_directories (d ∷ ds)) (plan_commands c report (length ds) (Add p ∷ vs)) ((AddAt p kind ∷ s) ++ plan_steps New (own_of c report) vs) (open_directories end))
+      let on = goes_on (is_in_directory Top d p) (if is_directory_there (New p) then p ∷ d ∷ ds else d ∷ ds) (λ mid. walk New Top mid vs) end walked in
+      subst (λ s. Says Top Base (open_directories (d ∷ ds)) (plan_commands c report (length ds) (Add p ∷ vs)) ((AddAt p kind ∷ s) ++ plan_steps New (own_steps_of c report) vs) (open_directories end))
       (sym (steps_told p (option_map (news_at c report p true) (New p))))
       (with_entry kind (add_command kind (added_entry (length ds) p kind)) (AddAt p kind) [] (news_told c report p true) d ds p vs end
       (reads_add kind d ds p on.0 tellable.spelled (next_bound (length ds) (length vs) (length (Add p ∷ vs)) (one_more (Add p) vs) bound))
@@ -227,12 +227,12 @@ module _ (c : RepoState) (report : WholeReport) where
       (λ w. says_plan vs d ds end (All-tail (IsSendable New) (Add p) vs sendable) (flat_bound (length ds) (length vs) (length (Add p ∷ vs)) (one_more (Add p) vs) bound) w)
       (ap (λ mid. walk New Top mid vs) (sym (walked_kind (New p) p (d ∷ ds))) ∙ on.1)))
   says_plan (Delete p ∷ vs) d ds end sendable bound walked =
-      let spelled : IsSpelled p = All-head (IsSendable New) (Delete p) vs sendable in
+      let spelled : IsSpelledPath p = All-head (IsSendable New) (Delete p) vs sendable in
       let on = goes_on (is_in_directory Top d p) (d ∷ ds) (λ mid. walk New Top mid vs) end walked in (
         DeleteAt p ∷ [],
         open_directories (d ∷ ds),
-        plan_steps New (own_of c report) vs,
-        ap (λ q. when (is_placed Top (open_directories (d ∷ ds)) q (token_of DirectoryKind (length ds))) (DeleteAt q ∷ []) (open_directories (d ∷ ds))) spelled
+        plan_steps New (own_steps_of c report) vs,
+        ap (λ q. when (is_in_place Top (open_directories (d ∷ ds)) q (token_of DirectoryKind (length ds))) (DeleteAt q ∷ []) (open_directories (d ∷ ds))) spelled
             ∙ ap (λ b. when b (DeleteAt p ∷ []) (open_directories (d ∷ ds))) (placed d ds p on.0),
         says_plan vs d ds end (All-tail (IsSendable New) (Delete p) vs sendable) (flat_bound (length ds) (length vs) (length (Delete p ∷ vs)) (one_more (Delete p) vs) bound) on.1,
         refl,
@@ -241,7 +241,7 @@ module _ (c : RepoState) (report : WholeReport) where
   says_plan (Close ∷ vs) d (e ∷ ds) end sendable bound walked = (
     [],
     open_directories (e ∷ ds),
-    plan_steps New (own_of c report) vs,
+    plan_steps New (own_steps_of c report) vs,
     reads_close Top Base (entry_at DirectoryKind (length (e ∷ ds)) d []) (open_directories (e ∷ ds)) refl,
     subst (λ n. SaysPlan (e ∷ ds) n vs end) (shrunk (length (e ∷ ds)) (length ds) (grown e ds))
         (says_plan vs e ds end (All-tail (IsSendable New) Close vs sendable) (left_bound (length (e ∷ ds)) (length ds) (length vs) (length (Close ∷ vs)) (grown e ds) (one_more Close vs) bound) walked),

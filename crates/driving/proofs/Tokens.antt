@@ -6,7 +6,7 @@ use Rattle.svnpath.specs.PathLaws.{same_component_is}
 use Rattle.forms.specs.Forms.{is_name}
 use Rattle.drives.specs.Steps.{EntryKind}
 use Rattle.drives.specs.Steps.EntryKind.{DirectoryKind, FileKind}
-use Rattle.drive_commands.specs.Saying.{OpenEntry, is_open}
+use Rattle.drive_commands.specs.Saying.{OpenEntry, is_open_token}
 use Rattle.drive_commands.specs.Saying.TextState.{Unchanged}
 use Rattle.driving.specs.Tokens.{token_of}
 
@@ -51,10 +51,10 @@ either_false a b x y = ap (λ z. z || b) x ∙ y
 pub grown : (d : PathValue) (ds : List PathValue) → length (d ∷ ds) ≡ length ds + 1
 grown d ds = sym (add-one (length ds))
 
-pub none_open : (kind : EntryKind) (n : ℕ) (ds : List PathValue) → length ds ≤ n → n < 2 ^ 64 → is_open (token_of kind n) (open_directories ds) ≡ false
+pub none_open : (kind : EntryKind) (n : ℕ) (ds : List PathValue) → length ds ≤ n → n < 2 ^ 64 → is_open_token (token_of kind n) (open_directories ds) ≡ false
 none_open kind n [] within bound = refl
 none_open kind n (d ∷ ds) within bound =
     let less : length ds < n = subst (λ k. k ≤ n) (grown d ds ∙ add-one (length ds)) within in
-    either_false (is_name (token_of DirectoryKind (length ds)) (token_of kind n)) (is_open (token_of kind n) (open_directories ds))
+    either_false (is_name (token_of DirectoryKind (length ds)) (token_of kind n)) (is_open_token (token_of kind n) (open_directories ds))
     (one_differs kind (length ds) n less bound)
     (none_open kind n ds (omega (arith, less)) bound)

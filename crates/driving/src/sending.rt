@@ -6,9 +6,9 @@ ghost use Rattle.svndiff0.specs.Window.{limit};
 ghost use Rattle.repo_api.specs.Kinds.{kind_of, text_of};
 ghost use Rattle.repo_api.specs.declared.entry.Entry.{Entry};
 ghost use Rattle.reports.specs.Targets.{new_tree, target_tree};
-ghost use Rattle.drive_commands.specs.Sent.{or_empty};
+ghost use Rattle.drive_commands.specs.Sent.{or_no_text};
 ghost use Rattle.drive_sides.specs.Plans.{whole};
-ghost use Rattle.driving.specs.Sending.{is_misspelled, IsSendable, IsSpelled, IsTellable};
+ghost use Rattle.driving.specs.Sending.{is_misspelled, IsSendable, IsSpelledPath, IsTellable};
 
 use byte_string::ByteString;
 use drive_sides::TwoTrees;
@@ -52,7 +52,7 @@ fn any_misspelled(components: &[ByteString]) -> bool
 
 /// Whether the text of a path names it.
 fn is_spelled(path: &Path) -> bool
-    ensures { result ≡ true → IsSpelled path.now }
+    ensures { result ≡ true → IsSpelledPath path.now }
 {
     !any_misspelled(path.components())
 }
@@ -75,7 +75,7 @@ fn is_short<R: Repository>(
     ask: &DriveAsk,
     path: &Path,
 ) -> Result<bool, AllocError>
-    ensures { IfOk result (λ short. short ≡ true → length (or_empty (text_of
+    ensures { IfOk result (λ short. short ≡ true → length (or_no_text (text_of
         (target_tree (R.content view.now) ask.now path.now))) ≤ limit) }
 {
     if !path.is_at_or_under(&ask.target) {

@@ -3,7 +3,7 @@ use Rattle.std.specs.Prelude.{ℕ, Bool, ◌||◌, List, Option, Some, None, opt
 use Rattle.std.specs.Option.{option_map_or}
 use Rattle.items.specs.Values.{ItemValue, ItemValues}
 use Rattle.forms.specs.Forms.{◌>>=◌, is_name, command_form, number_first, string_first, list_first, optional_number}
-use Rattle.edit_commands.specs.Places.{added, opened, deleted, absent}
+use Rattle.edit_commands.specs.Places.{added_entry_of, opened_entry_of, deleted_entry_of, absent}
 use Rattle.edit_commands.specs.Texts.{property, with_checksum, chunk, token_alone}
 use Rattle.edit_commands.specs.declared.editing.EditorCommand.{EditorCommand}
 use Rattle.edit_commands.specs.declared.editing.EditorCommand.TheVariants.{TargetRevision, OpenRoot, DeleteEntry, AddDirectory, AddFile, OpenDirectory, OpenFile, AbsentDirectory, AbsentFile, ChangeDirectoryProperty, ChangeFileProperty, ApplyTextDelta, TextDeltaChunk, TextDeltaEnd, CloseDirectory, CloseFile, CloseEdit, AbortEdit}
@@ -57,15 +57,15 @@ open_root params = do
 abbrev pub command_with : CommandName → ItemValues → Option EditorCommand
 command_with names.TargetRevision params = target_revision params
 command_with names.OpenRoot params = open_root params
-command_with names.DeleteEntry params = option_map DeleteEntry (deleted params)
-command_with names.AddDirectory params = option_map AddDirectory (added params)
-command_with names.OpenDirectory params = option_map OpenDirectory (opened params)
+command_with names.DeleteEntry params = option_map DeleteEntry (deleted_entry_of params)
+command_with names.AddDirectory params = option_map AddDirectory (added_entry_of params)
+command_with names.OpenDirectory params = option_map OpenDirectory (opened_entry_of params)
 command_with names.ChangeDirectoryProperty params =
     option_map ChangeDirectoryProperty (property params)
 command_with names.CloseDirectory params = option_map CloseDirectory (token_alone params)
 command_with names.AbsentDirectory params = option_map AbsentDirectory (absent params)
-command_with names.AddFile params = option_map AddFile (added params)
-command_with names.OpenFile params = option_map OpenFile (opened params)
+command_with names.AddFile params = option_map AddFile (added_entry_of params)
+command_with names.OpenFile params = option_map OpenFile (opened_entry_of params)
 command_with names.ChangeFileProperty params = option_map ChangeFileProperty (property params)
 command_with names.ApplyTextDelta params =
     option_map (λ p. ApplyTextDelta p.0 p.1) (with_checksum params)

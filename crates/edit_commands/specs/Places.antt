@@ -24,29 +24,29 @@ optional_source items = do
   Some (Some (path, revision))
 
 -- `( path parent token [ copy-path copy-rev ] )`
-abbrev pub added : ItemValues → Option AddedEntry
-added params = do
+abbrev pub added_entry_of : ItemValues → Option AddedEntry
+added_entry_of params = do
   (path, parent, token, rest) ← place params
   (source, _) ← list_first rest
   source ← optional_source source
   Some (record { path = path; parent = parent; token = token; source = source })
 
 -- `[ rev ]` in front; a bare number is also read
-abbrev pub revision_first : ItemValues → Option (Option ℕ)
-revision_first (more (list items) rest) = optional_number items
-revision_first (more (number n) rest) = Some (Some n)
-revision_first _ = None
+abbrev pub any_revision_first : ItemValues → Option (Option ℕ)
+any_revision_first (more (list items) rest) = optional_number items
+any_revision_first (more (number n) rest) = Some (Some n)
+any_revision_first _ = None
 
 -- `( path parent token [ rev ] )`
-abbrev pub opened : ItemValues → Option OpenedEntry
-opened params = do
+abbrev pub opened_entry_of : ItemValues → Option OpenedEntry
+opened_entry_of params = do
   (path, parent, token, rest) ← place params
-  revision ← revision_first rest
+  revision ← any_revision_first rest
   Some (record { path = path; parent = parent; token = token; revision = revision })
 
 -- `( path [ rev ] parent )`
-abbrev pub deleted : ItemValues → Option DeletedEntry
-deleted params = do
+abbrev pub deleted_entry_of : ItemValues → Option DeletedEntry
+deleted_entry_of params = do
   (path, rest) ← string_first params
   (revision, rest) ← list_first rest
   revision ← optional_number revision

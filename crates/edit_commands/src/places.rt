@@ -2,7 +2,7 @@
 ghost use Rattle.std.specs.Prelude.{◌≡◌, option_map, IfOk};
 ghost use Rattle.items.specs.View.{values_of};
 ghost use Rattle.forms.specs.Answering.{Reads};
-ghost use Rattle.edit_commands.specs.Places.{place, added, optional_source, opened, revision_first, deleted, absent};
+ghost use Rattle.edit_commands.specs.Places.{place, added_entry_of, optional_source, opened_entry_of, any_revision_first, deleted_entry_of, absent};
 
 use crate::editing::{AbsentEntry, AddedEntry, DeletedEntry, OpenedEntry};
 use byte_string::ByteString;
@@ -37,7 +37,7 @@ fn read_place(items: &[Item]) -> Option<Place<'_>>
 
 /// `( path parent token [ copy-path copy-rev ] )`
 pub fn read_added(params: &[Item]) -> Result<AddedEntry, CommandFault>
-    ensures { Reads result (added (values_of params.now)) }
+    ensures { Reads result (added_entry_of (values_of params.now)) }
 {
     let place = read_place(params).ok_or(BadParameters)?;
     let (source, _) = read_list(place.rest).ok_or(BadParameters)?;
@@ -73,7 +73,7 @@ fn copy_source(source: Option<(&ByteString, u64)>) -> Result<Option<(ByteString,
 
 /// `( path parent token [ rev ] )`
 pub fn read_opened(params: &[Item]) -> Result<OpenedEntry, CommandFault>
-    ensures { Reads result (opened (values_of params.now)) }
+    ensures { Reads result (opened_entry_of (values_of params.now)) }
 {
     let place = read_place(params).ok_or(BadParameters)?;
     let revision = read_revision(place.rest).ok_or(BadParameters)?;
@@ -87,7 +87,7 @@ pub fn read_opened(params: &[Item]) -> Result<OpenedEntry, CommandFault>
 
 /// `[ rev ]`, or a bare number.
 fn read_revision(items: &[Item]) -> Option<Option<u64>>
-    ensures { result ≡ revision_first (values_of items.now) }
+    ensures { result ≡ any_revision_first (values_of items.now) }
 {
     match items {
         [Item::List(revision), ..] => read_optional_number(revision.as_slice()),
@@ -98,7 +98,7 @@ fn read_revision(items: &[Item]) -> Option<Option<u64>>
 
 /// `( path [ rev ] parent )`
 pub fn read_deleted(params: &[Item]) -> Result<DeletedEntry, CommandFault>
-    ensures { Reads result (deleted (values_of params.now)) }
+    ensures { Reads result (deleted_entry_of (values_of params.now)) }
 {
     let (path, rest) = read_string(params).ok_or(BadParameters)?;
     let (revision, rest) = read_list(rest).ok_or(BadParameters)?;

@@ -24,7 +24,7 @@ use Rattle.edit_rules.specs.Edits.{EditState, standing, created, open_in}
 use Rattle.edit_rules.specs.Refusing.{age_refusal, delete_refusal, add_refusal, place_refusal, parent_refusal, room_refusal, source_refusal, adding_refusal, add_entry_refusal, delete_entry_refusal, open_under}
 use Rattle.edit_rules.specs.Editor.{added_edit, copy_edit, property_edit}
 use Rattle.edit_rules.specs.Soundness.{StandsIn, IsSoundIn, IsSoundEdit, IsRightIn}
-use Rattle.edit_rules.specs.declared.opened.Delta.{Delta}
+use Rattle.edit_rules.specs.declared.opened.DeltaState.{DeltaState}
 use Rattle.edit_rules.specs.declared.opened.Opened.{Opened}
 use Rattle.edit_rules.specs.declared.opened.Opened.TheVariants.{Directory, File}
 use Rattle.edit_rules.proofs.Sound.{first_none, found_under, beneath_there, placed_there, nothing_there, stands_some, right_source, holds, both_true}
@@ -127,7 +127,7 @@ right_property c e token o name value sound at =
     in_txn c e (property_edit (path_of o) name value) sound (has_open e.txn e.tokens token o at)
     (λ t same s. property_right (trees_in c.revisions) (tree_of t.tree) (path_of o) name value (stands_there (tree_of t.tree) o (open_stands e token o t same s at)))
 
-pub right_text : (c : RepoState) (e : EditState) (token : List ℕ) (p : PathValue) (delta : Delta) (text : List ℕ) → IsSoundEdit e → open_under e token ≡ Some (File p delta)
+pub right_text : (c : RepoState) (e : EditState) (token : List ℕ) (p : PathValue) (delta : DeltaState) (text : List ℕ) → IsSoundEdit e → open_under e token ≡ Some (File p delta)
     → IsRightIn c e.txn (edits.SetText p text)
 right_text c e token p delta text sound at =
     in_txn c e (edits.SetText p text) sound (has_open e.txn e.tokens token (File p delta) at)

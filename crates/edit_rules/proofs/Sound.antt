@@ -50,8 +50,8 @@ use Rattle.edit_rules.specs.Soundness.{StandsIn, IsSoundIn, IsSoundEdit}
 use Rattle.edit_rules.specs.declared.opened.OpenedDirectory.{OpenedDirectory}
 use Rattle.edit_rules.specs.declared.opened.Opened.{Opened}
 use Rattle.edit_rules.specs.declared.opened.Opened.TheVariants.{Directory, File}
-use Rattle.edit_rules.specs.declared.opened.Delta.{Delta}
-use Rattle.edit_rules.specs.declared.opened.Delta.TheVariants.{Untouched, Reading, Made}
+use Rattle.edit_rules.specs.declared.opened.DeltaState.{DeltaState}
+use Rattle.edit_rules.specs.declared.opened.DeltaState.TheVariants.{NotBegun, Reading, Ended}
 
 -- ---- what is open
 
@@ -360,10 +360,10 @@ opened_directory_in None tokens token d sound e = cc
 opened_directory_in (Some t) tokens token d sound e =
     (sound.0, all_inserted (StandsIn (tree_of t.tree)) (slice_cmp nat_cmp) tokens token (Directory d) (directory_there (get t.tree d.path) e) sound.1, sound.2)
 
-opened_file_in : (txn : Option TxnState) (tokens : Tokens) (token : List ℕ) (p : PathValue) (age : Option Refusal) → IsSoundIn txn tokens → file_refusal (standing txn p) age ≡ None → IsSoundIn txn (with_token tokens token (File p Untouched))
+opened_file_in : (txn : Option TxnState) (tokens : Tokens) (token : List ℕ) (p : PathValue) (age : Option Refusal) → IsSoundIn txn tokens → file_refusal (standing txn p) age ≡ None → IsSoundIn txn (with_token tokens token (File p NotBegun))
 opened_file_in None tokens token p age sound e = cc
 opened_file_in (Some t) tokens token p age sound e =
-    (sound.0, all_inserted (StandsIn (tree_of t.tree)) (slice_cmp nat_cmp) tokens token (File p Untouched) (file_there (get t.tree p) age e) sound.1, sound.2)
+    (sound.0, all_inserted (StandsIn (tree_of t.tree)) (slice_cmp nat_cmp) tokens token (File p NotBegun) (file_there (get t.tree p) age e) sound.1, sound.2)
 
 closed_in : (txn : Option TxnState) (tokens : Tokens) (token : List ℕ) → IsSoundIn txn tokens → IsSoundIn txn (without_token tokens token)
 closed_in None tokens token sound = ap (λ (ts : Tokens). without_token ts token) sound
@@ -376,7 +376,7 @@ changed_in (Some t) tokens token o o' at stands sound =
     let u : Tree = tree_of t.tree in
     (sound.0, all_changed (StandsIn u) (is_at (slice_cmp nat_cmp token)) tokens o' (stands u (found_under (StandsIn u) tokens token o sound.1 at)) sound.1, sound.2)
 
-begun_delta_in : (txn : Option TxnState) (tokens : Tokens) (token : List ℕ) (e : EditState) (checksum : Option (List ℕ)) (o : Opened) (delta : Delta) → begin_delta_refusal e checksum (open_in txn tokens token) ≡ None → opened_under tokens token ≡ Some o → IsSoundIn txn tokens → IsSoundIn txn (with_change tokens token (File (path_of o) delta))
+begun_delta_in : (txn : Option TxnState) (tokens : Tokens) (token : List ℕ) (e : EditState) (checksum : Option (List ℕ)) (o : Opened) (delta : DeltaState) → begin_delta_refusal e checksum (open_in txn tokens token) ≡ None → opened_under tokens token ≡ Some o → IsSoundIn txn tokens → IsSoundIn txn (with_change tokens token (File (path_of o) delta))
 begun_delta_in None tokens token e checksum o delta none at sound = cc
 begun_delta_in (Some t) tokens token e checksum o delta none at sound =
     let here : begin_delta_refusal e checksum (Some o) ≡ None = subst (λ (x : Option Opened). begin_delta_refusal e checksum x ≡ None) at none in
@@ -392,7 +392,7 @@ opens_directory old new entry sound none (p, named, is) =
     let kind = first_none (place_refusal old entry.parent entry.token p) (directory_refusal (standing old.txn p)) here in
     subst IsSoundEdit (sym is) (opened_directory_in old.txn old.tokens entry.token (opened_directory p entry.revision (copies_under old.tokens entry.parent)) sound kind.1)
 
-opens_file : (old new : EditState) (entry : OpenedEntry) → IsSoundEdit old → open_file_refusal old entry (joined old.path entry.path) ≡ None → Named old entry.path (λ p. Opens old entry.token (File p Untouched) new) → IsSoundEdit new
+opens_file : (old new : EditState) (entry : OpenedEntry) → IsSoundEdit old → open_file_refusal old entry (joined old.path entry.path) ≡ None → Named old entry.path (λ p. Opens old entry.token (File p NotBegun) new) → IsSoundEdit new
 opens_file old new entry sound none (p, named, is) =
     let age : Option Refusal = age_refusal entry.revision (created old.txn p) in
     let here : open_file_refusal old entry (Ok p) ≡ None = named_none (open_file_refusal old entry) (joined old.path entry.path) p named none in
@@ -475,17 +475,17 @@ module _ (begins : (t : Tree) → IsTree t → IsTree (begun t))
       let others : All (OfOpened (StandsIn (edited (trees_in c.revisions) t op))) old.tokens = All-weaker (OfOpened (StandsIn t)) (OfOpened (StandsIn (edited (trees_in c.revisions) t op))) (λ e h. stays_added t p contents.Directory free e.1 h) old.tokens s.1 in
       after c old new op tokens a marked rests tt s.2 is_tree (all_inserted (StandsIn (edited (trees_in c.revisions) t op)) (slice_cmp nat_cmp) old.tokens token opening (new_stands t p contents.Directory) others)
 
-  adds_file : (c : RepoState) (old new : EditState) (token : List ℕ) (p : PathValue) (a : Edits c old (edits.AddFile p) (with_token old.tokens token (File p Untouched)) new)
+  adds_file : (c : RepoState) (old new : EditState) (token : List ℕ) (p : PathValue) (a : Edits c old (edits.AddFile p) (with_token old.tokens token (File p NotBegun)) new)
       → AreMarked (trees_in c.revisions) → RestsOn old c → IsSoundEdit old → HasParent (tree_of a.before.tree) p → tree_of a.before.tree p ≡ None → IsSoundEdit new
   adds_file c old new token p a marked rests sound up free =
       let op : EditOp = edits.AddFile p in
-      let tokens : Tokens = with_token old.tokens token (File p Untouched) in
+      let tokens : Tokens = with_token old.tokens token (File p NotBegun) in
       let t : Tree = tree_of a.before.tree in
       let s = before c old new op tokens a sound in
       let beneath : p ≡ up.directory ++ up.name ∷ [] = up.is in
       let is_tree : IsTree (edited (trees_in c.revisions) t op) = subst (λ (q : PathValue). IsTree (edited (trees_in c.revisions) t (edits.AddFile q))) (sym beneath) (adds_files (trees_in c.revisions) t up.directory up.name s.0 up.is_directory (ap t (sym beneath) ∙ free)) in
       let others : All (OfOpened (StandsIn (edited (trees_in c.revisions) t op))) old.tokens = All-weaker (OfOpened (StandsIn t)) (OfOpened (StandsIn (edited (trees_in c.revisions) t op))) (λ e h. stays_added t p (contents.File []) free e.1 h) old.tokens s.1 in
-      after c old new op tokens a marked rests tt s.2 is_tree (all_inserted (StandsIn (edited (trees_in c.revisions) t op)) (slice_cmp nat_cmp) old.tokens token (File p Untouched) (new_stands t p (contents.File [])) others)
+      after c old new op tokens a marked rests tt s.2 is_tree (all_inserted (StandsIn (edited (trees_in c.revisions) t op)) (slice_cmp nat_cmp) old.tokens token (File p NotBegun) (new_stands t p (contents.File [])) others)
 
   adds_new : (is_file : Bool) (kind : NodeKind) (c : RepoState) (old new : EditState) (token : List ℕ) (p : PathValue)
       (a : Edits c old (added_edit is_file kind p None) (with_token old.tokens token (added_opened is_file p None)) new)
@@ -600,13 +600,13 @@ module _ (begins : (t : Tree) → IsTree t → IsTree (begun t))
   ends_delta : (c : RepoState) (old new : EditState) (token : List ℕ) → AreMarked (trees_in c.revisions) → RestsOn old c → IsSoundEdit old → EndsDelta c old token new → IsSoundEdit new
   ends_delta c old new token marked rests sound (p, r, at, (text, is_text, a)) =
       let op : EditOp = edits.SetText p text in
-      let tokens : Tokens = with_change old.tokens token (File p Made) in
+      let tokens : Tokens = with_change old.tokens token (File p Ended) in
       let t : Tree = tree_of a.before.tree in
       let s = before c old new op tokens a sound in
       let file : HasFile t p = found_under (StandsIn t) old.tokens token (File p (Reading r)) s.1 at in
       let stays : (o : Opened) → StandsIn t o → StandsIn (edited (trees_in c.revisions) t op) o = stays_revised t p (with_text text) (λ kind. stays_written text kind (t p) file) in
       let others : All (OfOpened (StandsIn (edited (trees_in c.revisions) t op))) old.tokens = All-weaker (OfOpened (StandsIn t)) (OfOpened (StandsIn (edited (trees_in c.revisions) t op))) (λ e h. stays e.1 h) old.tokens s.1 in
-      after c old new op tokens a marked rests tt s.2 (writes (trees_in c.revisions) t p text s.0 file) (all_changed (StandsIn (edited (trees_in c.revisions) t op)) (is_at (slice_cmp nat_cmp token)) old.tokens (File p Made) (stays (File p Made) file) others)
+      after c old new op tokens a marked rests tt s.2 (writes (trees_in c.revisions) t p text s.0 file) (all_changed (StandsIn (edited (trees_in c.revisions) t op)) (is_at (slice_cmp nat_cmp token)) old.tokens (File p Ended) (stays (File p Ended) file) others)
 
   by_command : (c : RepoState) (old new : EditState) (command : EditorCommand) → AreSound c.revisions → RestsOn old c → IsSoundEdit old → command_refusal c old command ≡ None → Applies c old command new → IsSoundEdit new
   by_command c old new (TargetRevision revision) trees rests sound none applies = unchanged old new sound applies

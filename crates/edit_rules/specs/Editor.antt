@@ -24,7 +24,7 @@ use Rattle.edit_rules.specs.declared.fault.EditFault.TheVariants as edit_faults
 use Rattle.edit_rules.specs.declared.opened.OpenedDirectory.{OpenedDirectory}
 use Rattle.edit_rules.specs.declared.opened.Opened.{Opened}
 use Rattle.edit_rules.specs.declared.opened.Opened.TheVariants.{Directory, File}
-use Rattle.edit_rules.specs.declared.opened.Delta.TheVariants.{Untouched, Reading, Made}
+use Rattle.edit_rules.specs.declared.opened.DeltaState.TheVariants.{NotBegun, Reading, Ended}
 
 -- an edit that is refused: its transaction is dropped
 abbrev pub given_up : EditState → EditState
@@ -76,7 +76,7 @@ added_edit is_file kind p (Some source) = copy_edit kind p source
 
 abbrev pub added_opened : Bool → PathValue → Option Source → Opened
 added_opened is_file p source =
-    if is_file then File p Untouched else Directory (opened_directory p None (is_some source))
+    if is_file then File p NotBegun else Directory (opened_directory p None (is_some source))
 
 -- what is open once this is: where a copy takes its place, what was open there is closed
 abbrev pub tokens_added : Tokens → List ℕ → Opened → Option Source → Tokens
@@ -134,7 +134,7 @@ FeedsDelta old token bytes new =
 abbrev pub EndsDelta : RepoState → EditState → List ℕ → EditState → Type 0
 EndsDelta c old token new =
     ReadsUnder old token (λ p a. (text : List ℕ) × (outcome a.reading ≡ Ok text)
-    × Edits c old (edits.SetText p text) (with_change old.tokens token (File p Made)) new)
+    × Edits c old (edits.SetText p text) (with_change old.tokens token (File p Ended)) new)
 
 abbrev pub Closes : EditState → List ℕ → EditState → Type 0
 Closes old token new = new ≡ record old { tokens = without_token old.tokens token }
@@ -152,7 +152,7 @@ Applies c old (OpenDirectory entry) new =
     (Directory (opened_directory p entry.revision (copies_under old.tokens entry.parent)))
     new)
 Applies c old (OpenFile entry) new =
-    Named old entry.path (λ p. Opens old entry.token (File p Untouched) new)
+    Named old entry.path (λ p. Opens old entry.token (File p NotBegun) new)
 Applies c old (AbsentDirectory entry) new = new ≡ old
 Applies c old (AbsentFile entry) new = new ≡ old
 Applies c old (ChangeDirectoryProperty change) new = ChangesProperty c old change new
@@ -173,9 +173,9 @@ NotApplied c old command (edit_faults.Refused r) new =
 NotApplied c old command edit_faults.NoMemory new = new ≡ old
 
 -- what is known of a refusal
-abbrev pub IfRefused : EditFault → (Refusal → Type 0) → Type 0
-IfRefused (edit_faults.Refused r) P = P r
-IfRefused edit_faults.NoMemory P = Unit {0}
+abbrev pub IfEditRefused : EditFault → (Refusal → Type 0) → Type 0
+IfEditRefused (edit_faults.Refused r) P = P r
+IfEditRefused edit_faults.NoMemory P = Unit {0}
 
 -- ---- the end of an edit
 

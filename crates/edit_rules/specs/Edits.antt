@@ -36,13 +36,13 @@ abbrev pub or_nothing : Option (List ℕ) → List ℕ
 or_nothing None = []
 or_nothing (Some text) = text
 
-abbrev pub text_at : Option TxnState → PathValue → List ℕ
-text_at None p = []
-text_at (Some t) p = or_nothing (text_in t p)
+abbrev pub txn_text_at : Option TxnState → PathValue → List ℕ
+txn_text_at None p = []
+txn_text_at (Some t) p = or_nothing (text_in t p)
 
 -- the text of the file at a path
 abbrev pub file_text : EditState → PathValue → List ℕ
-file_text e p = text_at e.txn p
+file_text e p = txn_text_at e.txn p
 
 -- what is open under a token, nothing before the root is
 abbrev pub open_in : Option TxnState → Tokens → List ℕ → Option Opened

@@ -8,17 +8,17 @@ use Rattle.edit_rules.specs.declared.fault.EditFault.{EditFault}
 use Rattle.edit_rules.specs.declared.fault.EditFault.TheVariants as edit_faults
 use Rattle.edit_rules.specs.Edits.{EditState}
 use Rattle.edit_rules.specs.Refusing.{path_fault}
-use Rattle.edit_rules.specs.Editor.{IfRefused, given_up}
+use Rattle.edit_rules.specs.Editor.{IfEditRefused, given_up}
 
 -- it goes on where nothing is refused, and ends by what is
 abbrev pub Judges : {T : Type 0} → Result T EditFault → Option Refusal → Type 0
 Judges (Ok _) refusal = refusal ≡ None
-Judges (Err fault) refusal = IfRefused fault (λ r. refusal ≡ Some r)
+Judges (Err fault) refusal = IfEditRefused fault (λ r. refusal ≡ Some r)
 
 -- it is what is wanted, or ends by what refuses it
 abbrev pub Names : {T : Type 0} → Result T EditFault → Result T PathFault → Type 0
 Names (Ok value) wanted = wanted ≡ Ok value
-Names (Err fault) wanted = IfRefused fault (λ r. path_fault wanted ≡ Some r)
+Names (Err fault) wanted = IfEditRefused fault (λ r. path_fault wanted ≡ Some r)
 
 -- a fault of a path, as an edit's
 abbrev pub fault_of_path : PathFault → EditFault

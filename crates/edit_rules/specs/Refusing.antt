@@ -1,10 +1,10 @@
 -- Which commands of an edit are refused.
-use Rattle.std.specs.Prelude.{ℕ, ◌-◌, Bool, true, false, not, ◌&&◌, ◌||◌, ◌==◌, nat_lt, nat_le, is_some, List, length, Option, Some, None, Result, Ok, Err, if◌then◌else◌, codes}
+use Rattle.std.specs.Prelude.{ℕ, ◌-◌, Bool, true, false, not, ◌&&◌, ◌||◌, ◌==◌, nat_le, is_some, List, length, Option, Some, None, Result, Ok, Err, if◌then◌else◌, codes}
 use Rattle.std.specs.List.{starts_with}
 use Rattle.md5.specs.Md5.{md5}
 use Rattle.hex.specs.Hex.{encode_lower}
 use Rattle.svnpath.specs.declared.component.TheConstants.{DEPTH_LIMIT}
-use Rattle.edit_rules.specs.declared.judging.TheConstants.{PROPERTY_NAME_LIMIT}
+use Rattle.repo_api.specs.Judging.{is_older, is_property_name}
 use Rattle.svnpath.specs.Paths.{PathValue}
 use Rattle.svnpath.specs.Texts.{parsed, joined, starts_with_slash}
 use Rattle.svnpath.specs.Urls.{path_of_text}
@@ -31,8 +31,8 @@ use Rattle.edit_rules.specs.Tokens.{directory_of, copies_under, is_within, is_pl
 use Rattle.edit_rules.specs.Edits.{EditState, standing, created, file_text, open_in}
 use Rattle.edit_rules.specs.declared.opened.Opened.{Opened}
 use Rattle.edit_rules.specs.declared.opened.Opened.TheVariants.{Directory, File}
-use Rattle.edit_rules.specs.declared.opened.Delta.{Delta}
-use Rattle.edit_rules.specs.declared.opened.Delta.TheVariants as deltas
+use Rattle.edit_rules.specs.declared.opened.DeltaState.{DeltaState}
+use Rattle.edit_rules.specs.declared.opened.DeltaState.TheVariants as deltas
 
 -- the first refusal, if there is one
 abbrev pub first : Option Refusal → Option Refusal → Option Refusal
@@ -62,14 +62,9 @@ is_absent kinds.Absent = true
 is_absent kinds.File = false
 is_absent kinds.Directory = false
 
-abbrev pub is_below : Option ℕ → Option ℕ → Bool
-is_below None made = false
-is_below (Some revision) None = false
-is_below (Some revision) (Some made) = nat_lt revision made
-
 -- the revision that the client has is below the one in which the entry was last changed
 abbrev pub age_refusal : Option ℕ → Option ℕ → Option Refusal
-age_refusal revision made = unless (not (is_below revision made)) refusals.OutOfDate
+age_refusal revision made = unless (not (is_older revision made)) refusals.OutOfDate
 
 abbrev pub file_refusal : NodeKind → Option Refusal → Option Refusal
 file_refusal kinds.Absent age = Some refusals.NotFound
@@ -144,10 +139,6 @@ source_refusal c is_file p source =
 abbrev pub is_reserved : List ℕ → Bool
 is_reserved name =
     starts_with ◌==◌ name (codes "svn:entry:") || starts_with ◌==◌ name (codes "svn:wc:")
-
--- a property's name has 1 to 255 bytes
-abbrev pub is_property_name : List ℕ → Bool
-is_property_name name = nat_lt 0 (length name) && nat_le (length name) PROPERTY_NAME_LIMIT
 
 abbrev pub may_be_named : List ℕ → Bool
 may_be_named name = is_property_name name && not (is_reserved name)
@@ -233,24 +224,24 @@ file_property_refusal name None = Some refusals.MalformedData
 
 -- a file has one text delta
 abbrev pub begin_delta_refusal : EditState → Option (List ℕ) → Option Opened → Option Refusal
-begin_delta_refusal e checksum (Some (File p deltas.Untouched)) =
+begin_delta_refusal e checksum (Some (File p deltas.NotBegun)) =
     checksum_refusal checksum (file_text e p)
 begin_delta_refusal e checksum (Some (File p (deltas.Reading a))) = Some refusals.MalformedData
-begin_delta_refusal e checksum (Some (File p deltas.Made)) = Some refusals.MalformedData
+begin_delta_refusal e checksum (Some (File p deltas.Ended)) = Some refusals.MalformedData
 begin_delta_refusal e checksum (Some (Directory d)) = Some refusals.MalformedData
 begin_delta_refusal e checksum None = Some refusals.MalformedData
 
 abbrev pub chunk_refusal : List ℕ → Option Opened → Option Refusal
 chunk_refusal bytes (Some (File p (deltas.Reading a))) = reading_refusal (fed a bytes).reading
-chunk_refusal bytes (Some (File p deltas.Untouched)) = Some refusals.MalformedData
-chunk_refusal bytes (Some (File p deltas.Made)) = Some refusals.MalformedData
+chunk_refusal bytes (Some (File p deltas.NotBegun)) = Some refusals.MalformedData
+chunk_refusal bytes (Some (File p deltas.Ended)) = Some refusals.MalformedData
 chunk_refusal bytes (Some (Directory d)) = Some refusals.MalformedData
 chunk_refusal bytes None = Some refusals.MalformedData
 
 abbrev pub end_delta_refusal : Option Opened → Option Refusal
 end_delta_refusal (Some (File p (deltas.Reading a))) = outcome_refusal (outcome a.reading)
-end_delta_refusal (Some (File p deltas.Untouched)) = Some refusals.MalformedData
-end_delta_refusal (Some (File p deltas.Made)) = Some refusals.MalformedData
+end_delta_refusal (Some (File p deltas.NotBegun)) = Some refusals.MalformedData
+end_delta_refusal (Some (File p deltas.Ended)) = Some refusals.MalformedData
 end_delta_refusal (Some (Directory d)) = Some refusals.MalformedData
 end_delta_refusal None = Some refusals.MalformedData
 
@@ -260,10 +251,10 @@ close_directory_refusal (Some (File p delta)) = Some refusals.MalformedData
 close_directory_refusal None = Some refusals.MalformedData
 
 -- its text delta has ended, and its text has this checksum
-abbrev pub closed_text_refusal : EditState → Option (List ℕ) → PathValue → Delta → Option Refusal
+abbrev pub closed_text_refusal : EditState → Option (List ℕ) → PathValue → DeltaState → Option Refusal
 closed_text_refusal e checksum p (deltas.Reading a) = Some refusals.MalformedData
-closed_text_refusal e checksum p deltas.Untouched = checksum_refusal checksum (file_text e p)
-closed_text_refusal e checksum p deltas.Made = checksum_refusal checksum (file_text e p)
+closed_text_refusal e checksum p deltas.NotBegun = checksum_refusal checksum (file_text e p)
+closed_text_refusal e checksum p deltas.Ended = checksum_refusal checksum (file_text e p)
 
 abbrev pub close_file_refusal : EditState → Option (List ℕ) → Option Opened → Option Refusal
 close_file_refusal e checksum (Some (File p delta)) = closed_text_refusal e checksum p delta

@@ -7,7 +7,7 @@ use Rattle.repo_api.specs.declared.edit.EditOp.{EditOp}
 use Rattle.repo_api.specs.declared.edit.EditOp.TheVariants.{SetText}
 use Rattle.edit_rules.specs.declared.opened.Opened.{Opened}
 use Rattle.edit_rules.specs.declared.opened.Opened.TheVariants.{File}
-use Rattle.edit_rules.specs.declared.opened.Delta.TheVariants.{Reading}
+use Rattle.edit_rules.specs.declared.opened.DeltaState.TheVariants.{Reading}
 
 -- a file is open whose delta is being read, and the document's text is what the edit makes the
 -- file's

@@ -8,8 +8,8 @@ use Rattle.std.specs.Ordering.{nat_cmp}
 use Rattle.svnpath.specs.Paths.{PathValue, is_at_or_under}
 use Rattle.edit_rules.specs.declared.opened.Opened.{Opened}
 use Rattle.edit_rules.specs.declared.opened.Opened.TheVariants.{Directory, File}
-use Rattle.edit_rules.specs.declared.opened.Delta.{Delta}
-use Rattle.edit_rules.specs.declared.opened.Delta.TheVariants.{Untouched, Reading, Made}
+use Rattle.edit_rules.specs.declared.opened.DeltaState.{DeltaState}
+use Rattle.edit_rules.specs.declared.opened.DeltaState.TheVariants.{NotBegun, Reading, Ended}
 
 -- a token with what is open under it, by the tokens' bytes
 abbrev pub Tokens : Type 0
@@ -63,10 +63,10 @@ abbrev pub others_closed_beneath : Tokens → PathValue → List ℕ → Tokens
 others_closed_beneath tokens p token =
     filter (λ e. pointwise ◌==◌ token e.0 || not (is_at_or_under (path_of e.1) p)) tokens
 
-abbrev pub is_reading_delta : Delta → Bool
-is_reading_delta Untouched = false
+abbrev pub is_reading_delta : DeltaState → Bool
+is_reading_delta NotBegun = false
 is_reading_delta (Reading applier) = true
-is_reading_delta Made = false
+is_reading_delta Ended = false
 
 -- whether it is a file whose text delta has not ended
 abbrev pub is_unfinished : Opened → Bool

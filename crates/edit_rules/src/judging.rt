@@ -1,15 +1,15 @@
 //! The rules by which a command of an edit is refused, each by itself.
 ghost use Rattle.std.specs.Prelude.{◌≡◌, option_copied, string_bytes};
-ghost use Rattle.svnpath.specs.Components.{Answers};
+ghost use Rattle.svnpath.specs.Components.{AnswersPath};
 ghost use Rattle.svnpath.specs.Texts.{joined};
 ghost use Rattle.edit_rules.specs.Tokens.{is_within};
-ghost use Rattle.edit_rules.specs.Refusing.{add_refusal, age_refusal, delete_refusal, directory_refusal, file_refusal, is_absent, is_below, is_property_name, is_reserved, may_be_named, name_refusal, room_refusal, source_kind_refusal, source_of, source_path, unless};
+ghost use Rattle.edit_rules.specs.Refusing.{add_refusal, age_refusal, delete_refusal, directory_refusal, file_refusal, is_absent, is_reserved, may_be_named, name_refusal, room_refusal, source_kind_refusal, source_of, source_path, unless};
 ghost use Rattle.edit_rules.specs.Judging.{Judges, Names};
 
 use crate::fault::EditFault;
 use byte_string::ByteString;
 use refusals::Refusal;
-use repo_api::{NodeKind, Source};
+use repo_api::{NodeKind, Source, is_older, is_property_name};
 use std::alloc::Global;
 use svnpath::{Path, PathFault};
 
@@ -46,24 +46,11 @@ pub fn judge_absence(kind: NodeKind) -> Result<(), EditFault>
     }
 }
 
-/// Whether the revision that the client has is below the one in which an entry was last changed.
-fn is_below(revision: Option<u64>, made: Option<u64>) -> bool
-    ensures { result ≡ is_below revision made }
-{
-    match revision {
-        None => false,
-        Some(revision) => match made {
-            None => false,
-            Some(made) => revision < made,
-        },
-    }
-}
-
 /// The entry may not have changed since the revision that the client has.
 pub fn judge_age(revision: Option<u64>, made: Option<u64>) -> Result<(), EditFault>
     ensures { Judges result (age_refusal revision made) }
 {
-    judge(!is_below(revision, made), Refusal::OutOfDate)
+    judge(!is_older(revision, made), Refusal::OutOfDate)
 }
 
 /// A file has to stand there, unchanged since the revision that the client has.
@@ -107,16 +94,6 @@ fn may_be_named(name: &[u8]) -> bool
     ensures { result ≡ may_be_named name.now }
 {
     is_property_name(name) && !is_reserved(name)
-}
-
-/// The most bytes of a property's name.
-pub const PROPERTY_NAME_LIMIT: usize = 255;
-
-/// Whether a property may have this name: it has 1 to 255 bytes.
-pub fn is_property_name(name: &[u8]) -> bool
-    ensures { result ≡ is_property_name name.now }
-{
-    0 < name.len() && name.len() <= PROPERTY_NAME_LIMIT
 }
 
 /// Whether the name belongs to clients or to this protocol.
@@ -178,7 +155,7 @@ pub fn source_named(
 
 /// The path of a copy's source.
 fn source_path(alloc: Global, name: &str, text: &[u8]) -> Result<Path, PathFault>
-    ensures { Answers result (source_path name.now text.now) }
+    ensures { AnswersPath result (source_path name.now text.now) }
 {
     if text.starts_with(b"/".as_slice()) {
         Path::parse(alloc, text)

@@ -13,7 +13,7 @@ ghost use Rattle.edit_rules.specs.Editor.{Applies, RestsOn, added_edit, property
 ghost use Rattle.repo_api.specs.Soundness.{AreSound};
 ghost use Rattle.edit_rules.specs.Soundness.{IsSoundEdit, IsRightIn};
 ghost use Rattle.edit_rules.specs.Tokens.{path_of};
-ghost use Rattle.edit_rules.specs.declared.opened.Delta.{Delta};
+ghost use Rattle.edit_rules.specs.declared.opened.DeltaState.{DeltaState};
 ghost use Rattle.edit_rules.specs.declared.opened.Opened.{Opened};
 ghost use Rattle.edit_rules.specs.declared.opened.Opened.TheVariants.{File};
 
@@ -42,6 +42,6 @@ pub fn edits_are_right()
         → IsRightIn c e.txn (added_edit is_file (standing e.txn p) p source) }
     ensures sets_properties { (c : RepoState) (e : EditState) (token : List ℕ) (o : Opened) (name : List ℕ) (value : Option (List ℕ))
         → IsSoundEdit e → open_under e token ≡ Some o → IsRightIn c e.txn (property_edit (path_of o) name value) }
-    ensures sets_texts { (c : RepoState) (e : EditState) (token : List ℕ) (p : PathValue) (delta : Delta) (text : List ℕ)
+    ensures sets_texts { (c : RepoState) (e : EditState) (token : List ℕ) (p : PathValue) (delta : DeltaState) (text : List ℕ)
         → IsSoundEdit e → open_under e token ≡ Some (File p delta) → IsRightIn c e.txn (SetText p text) }
 {}

@@ -13,11 +13,11 @@ mod tokens;
 pub use checksums::judge_checksum;
 pub use fault::EditFault;
 pub use judging::{
-    is_property_name, is_within, judge, judge_absence, judge_age, judge_directory, judge_file,
-    judge_name, judge_presence, judge_room, judge_source_kind, path_named, source_named,
+    is_within, judge, judge_absence, judge_age, judge_directory, judge_file, judge_name,
+    judge_presence, judge_room, judge_source_kind, path_named, source_named,
 };
 pub use laws::{edits_are_right, edits_keep_trees};
-pub use opened::{Delta, Opened, OpenedDirectory};
+pub use opened::{DeltaState, Opened, OpenedDirectory};
 pub use texts::text_edit_under;
 pub use tokens::{
     close_beneath, close_others_beneath, copies_under, directory_under, feed_under, has_unfinished,

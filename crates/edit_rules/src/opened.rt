@@ -7,13 +7,13 @@ use svnpath::Path;
 
 /// What has come of a file's text delta.
 #[derive(Drop)]
-pub enum Delta {
+pub enum DeltaState {
     /// None has begun.
-    Untouched,
+    NotBegun,
     /// Its document is being read.
     Reading(Applier),
     /// It has ended.
-    Made,
+    Ended,
 }
 
 /// A directory that is open: where it is, the revision that the client has of it, and whether it was added with a
@@ -31,15 +31,15 @@ pub enum Opened {
     /// A directory.
     Directory(OpenedDirectory),
     /// A file.
-    File(Path, Delta),
+    File(Path, DeltaState),
 }
 
-impl Delta {
+impl DeltaState {
     /// Whether the document has not ended.
     pub fn is_reading(&self) -> bool
         ensures { result ≡ is_reading_delta self.now }
     {
-        matches!(self, Delta::Reading(_))
+        matches!(self, DeltaState::Reading(_))
     }
 }
 

@@ -8,10 +8,10 @@ ghost use Rattle.edit_rules.specs.Tokens.{opened_under};
 ghost use Rattle.edit_rules.specs.Refusing.{end_delta_refusal};
 ghost use Rattle.edit_rules.specs.Judging.{Judges};
 ghost use Rattle.edit_rules.specs.declared.opened.Opened.TheVariants.{File};
-ghost use Rattle.edit_rules.specs.declared.opened.Delta.TheVariants.{Reading};
+ghost use Rattle.edit_rules.specs.declared.opened.DeltaState.TheVariants.{Reading};
 
 use crate::fault::EditFault;
-use crate::opened::{Delta, Opened};
+use crate::opened::{DeltaState, Opened};
 use byte_string::ByteString;
 use refusals::Refusal;
 use repo_api::{EditOp, FileText};
@@ -51,19 +51,19 @@ fn text_edit(opened: &mut Opened) -> Result<EditOp, EditFault>
 }
 
 /// The text that a delta makes.
-fn shared_text(delta: &mut Delta) -> Result<FileText, EditFault>
+fn shared_text(delta: &mut DeltaState) -> Result<FileText, EditFault>
     ensures judged { (p : PathValue) → Judges result (end_delta_refusal (Some (File p delta.old))) }
     ensures text { IfOk result (λ text. (a : Applying) × (delta.old ≡ Reading a)
         × (outcome a.reading ≡ Ok text)) }
     ensures same { delta.new ≡ delta.old }
 {
     match delta {
-        Delta::Reading(applier) => match applier.share_text() {
+        DeltaState::Reading(applier) => match applier.share_text() {
             Ok(text) => Ok(FileText::from_shared(text)),
             Err(DiffFault::NoMemory) => Err(EditFault::NoMemory),
             Err(_) => Err(EditFault::Refused(Refusal::BadSvndiff)),
         },
-        Delta::Untouched => Err(EditFault::Refused(Refusal::MalformedData)),
-        Delta::Made => Err(EditFault::Refused(Refusal::MalformedData)),
+        DeltaState::NotBegun => Err(EditFault::Refused(Refusal::MalformedData)),
+        DeltaState::Ended => Err(EditFault::Refused(Refusal::MalformedData)),
     }
 }

@@ -6,10 +6,10 @@ ghost use Rattle.edit_rules.specs.Tokens.{opened_under, directory_of, copies_und
 ghost use Rattle.edit_rules.specs.Refusing.{chunk_refusal};
 ghost use Rattle.edit_rules.specs.Judging.{Judges, IfNoMemory};
 ghost use Rattle.edit_rules.specs.declared.opened.Opened.TheVariants.{File};
-ghost use Rattle.edit_rules.specs.declared.opened.Delta.TheVariants.{Reading};
+ghost use Rattle.edit_rules.specs.declared.opened.DeltaState.TheVariants.{Reading};
 
 use crate::fault::EditFault;
-use crate::opened::{Delta, Opened};
+use crate::opened::{DeltaState, Opened};
 use byte_string::ByteString;
 use refusals::Refusal;
 use std::collections::BTreeMap;
@@ -65,8 +65,8 @@ pub fn close_others_beneath(
 }
 
 /// Another delta of the file that is open under the token. It takes no memory.
-pub fn set_delta(tokens: &mut BTreeMap<ByteString, Opened>, token: &ByteString, delta: Delta)
-    ensures { (p : PathValue) (old : Delta)
+pub fn set_delta(tokens: &mut BTreeMap<ByteString, Opened>, token: &ByteString, delta: DeltaState)
+    ensures { (p : PathValue) (old : DeltaState)
         → opened_under tokens.old.entries token.now ≡ Some (File p old)
         → tokens.new.entries ≡ with_change tokens.old.entries token.now (File p delta) }
 {
@@ -76,8 +76,8 @@ pub fn set_delta(tokens: &mut BTreeMap<ByteString, Opened>, token: &ByteString, 
 }
 
 /// Another delta of a file.
-fn replace_delta(opened: &mut Opened, delta: Delta)
-    ensures { (p : PathValue) (old : Delta) → opened.old ≡ File p old → opened.new ≡ File p delta }
+fn replace_delta(opened: &mut Opened, delta: DeltaState)
+    ensures { (p : PathValue) (old : DeltaState) → opened.old ≡ File p old → opened.new ≡ File p delta }
 {
     if let Opened::File(_, slot) = opened {
         *slot = delta;
@@ -119,7 +119,7 @@ fn feed_opened(opened: &mut Opened, bytes: &[u8]) -> Result<(), EditFault>
 }
 
 /// Reads the next bytes of a text delta.
-fn feed(delta: &mut Delta, bytes: &[u8]) -> Result<(), EditFault>
+fn feed(delta: &mut DeltaState, bytes: &[u8]) -> Result<(), EditFault>
     ensures judged { (p : PathValue) → Judges result
         (chunk_refusal bytes.now (Some (File p delta.old))) }
     ensures ok { OnOk result ((a : Applying) × (delta.old ≡ Reading a)
@@ -127,12 +127,12 @@ fn feed(delta: &mut Delta, bytes: &[u8]) -> Result<(), EditFault>
     ensures err { IfErr result (λ fault. IfNoMemory fault (delta.new ≡ delta.old)) }
 {
     match delta {
-        Delta::Reading(applier) => match applier.feed(bytes) {
+        DeltaState::Reading(applier) => match applier.feed(bytes) {
             Ok(()) => Ok(()),
             Err(DiffFault::NoMemory) => Err(EditFault::NoMemory),
             Err(_) => Err(EditFault::Refused(Refusal::BadSvndiff)),
         },
-        Delta::Untouched => Err(EditFault::Refused(Refusal::MalformedData)),
-        Delta::Made => Err(EditFault::Refused(Refusal::MalformedData)),
+        DeltaState::NotBegun => Err(EditFault::Refused(Refusal::MalformedData)),
+        DeltaState::Ended => Err(EditFault::Refused(Refusal::MalformedData)),
     }
 }

@@ -8,7 +8,7 @@ use Rattle.repo_api.specs.declared.edit.EditOp.{EditOp}
 use Rattle.repo_api.specs.declared.edit.EditOp.TheVariants as edits
 use Rattle.edit_rules.specs.declared.opened.Opened.{Opened}
 use Rattle.edit_rules.specs.declared.opened.Opened.TheVariants.{File}
-use Rattle.edit_rules.specs.declared.opened.Delta.TheVariants.{Untouched, Reading, Made}
+use Rattle.edit_rules.specs.declared.opened.DeltaState.TheVariants.{NotBegun, Reading, Ended}
 use Rattle.edit_rules.specs.Tokens.{Tokens, opened_under, with_change}
 use Rattle.edit_rules.specs.Edits.{EditState, file_text, open_in}
 use Rattle.edit_rules.specs.Refusing.{open_under}
@@ -25,23 +25,23 @@ is_unread a text is_base is_read =
     let is_reading : a.reading ≡ read text [] = is_read ∙ ap (λ (b : List ℕ). read b []) is_base in
     λ i. record { base = is_base i; reading = is_reading i }
 
-pub begins : (now old : EditState) (token : List ℕ) (p : PathValue) (a : Applying) (tokens : Tokens) → now ≡ old → open_under old token ≡ Some (File p Untouched)
-    → (opened_under now.tokens token ≡ Some (File p Untouched) → tokens ≡ with_change now.tokens token (File p (Reading a))) → a ≡ unread (file_text old p)
+pub begins : (now old : EditState) (token : List ℕ) (p : PathValue) (a : Applying) (tokens : Tokens) → now ≡ old → open_under old token ≡ Some (File p NotBegun)
+    → (opened_under now.tokens token ≡ Some (File p NotBegun) → tokens ≡ with_change now.tokens token (File p (Reading a))) → a ≡ unread (file_text old p)
     → BeginsDelta old token (record now { tokens = tokens })
 begins now old token p a tokens same is change is_new =
-    subst (λ (o : EditState). open_under o token ≡ Some (File p Untouched) → a ≡ unread (file_text o p) → BeginsDelta o token (record now { tokens = tokens })) same here is is_new
+    subst (λ (o : EditState). open_under o token ≡ Some (File p NotBegun) → a ≡ unread (file_text o p) → BeginsDelta o token (record now { tokens = tokens })) same here is is_new
   where
-    here : open_under now token ≡ Some (File p Untouched) → a ≡ unread (file_text now p) → BeginsDelta now token (record now { tokens = tokens })
+    here : open_under now token ≡ Some (File p NotBegun) → a ≡ unread (file_text now p) → BeginsDelta now token (record now { tokens = tokens })
     here stands fresh =
-        let is_under = under now.txn now.tokens token (File p Untouched) stands in (
-          File p Untouched,
+        let is_under = under now.txn now.tokens token (File p NotBegun) stands in (
+          File p NotBegun,
           is_under,
           ap (λ (ts : Tokens). record now { tokens = ts }) (change is_under ∙ (λ i. with_change now.tokens token (File p (Reading (fresh i))))),
         )
 
 pub ends : (c : RepoState) (old mid now : EditState) (op : EditOp) (token : List ℕ) (p : PathValue) (a : Applying) (text : List ℕ) (tokens : Tokens) → open_under old token ≡ Some (File p (Reading a))
     → outcome a.reading ≡ Ok text → op ≡ edits.SetText p text → Edits c old op old.tokens mid → now ≡ mid
-    → (opened_under now.tokens token ≡ Some (File p (Reading a)) → tokens ≡ with_change now.tokens token (File p Made))
+    → (opened_under now.tokens token ≡ Some (File p (Reading a)) → tokens ≡ with_change now.tokens token (File p Ended))
     → EndsDelta c old token (record now { tokens = tokens })
 ends c old mid now op token p a text tokens is has_text is_op h same change =
     let is_under = under old.txn old.tokens token (File p (Reading a)) is in
@@ -50,5 +50,5 @@ ends c old mid now op token p a text tokens is has_text is_op h same change =
       p,
       a,
       is_under,
-      (text, has_text, reopened c old mid now op (edits.SetText p text) old.tokens tokens (with_change old.tokens token (File p Made)) h same is_op (changed ∙ (λ i. with_change (is_tokens i) token (File p Made)))),
+      (text, has_text, reopened c old mid now op (edits.SetText p text) old.tokens tokens (with_change old.tokens token (File p Ended)) h same is_op (changed ∙ (λ i. with_change (is_tokens i) token (File p Ended)))),
     )

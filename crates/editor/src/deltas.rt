@@ -10,12 +10,12 @@ ghost use Rattle.edit_rules.specs.Editor.{BeginsDelta, FeedsDelta, EndsDelta, Cl
 ghost use Rattle.edit_rules.specs.Judging.{Judges, Leaves};
 ghost use Rattle.edit_rules.specs.Soundness.{IsSoundEdit};
 ghost use Rattle.edit_rules.specs.declared.opened.Opened.TheVariants.{File};
-ghost use Rattle.edit_rules.specs.declared.opened.Delta.TheVariants as deltas;
+ghost use Rattle.edit_rules.specs.declared.opened.DeltaState.TheVariants as deltas;
 
 use crate::editor::CommitEditor;
 use byte_string::ByteString;
 use edit_rules::{
-    Delta, EditFault, Opened, edits_are_right, feed_under, judge_checksum, set_delta,
+    DeltaState, EditFault, Opened, edits_are_right, feed_under, judge_checksum, set_delta,
     text_edit_under,
 };
 use refusals::Refusal;
@@ -42,7 +42,7 @@ impl<R: Repository> CommitEditor<R> {
         set_delta(
             &mut self.tokens,
             token,
-            Delta::Reading(Applier::new(self.alloc, base)),
+            DeltaState::Reading(Applier::new(self.alloc, base)),
         );
         Ok(())
     }
@@ -57,19 +57,21 @@ impl<R: Repository> CommitEditor<R> {
         requires { RestsOn self.now (R.content repository.now) }
         ensures judged { Judges result (begin_delta_refusal self.now checksum.now
             (open_under self.now token.now)) }
-        ensures base { IfOk result (λ base. (p : PathValue) × (open_under self.now token.now ≡ Some (File p deltas.Untouched))
+        ensures base { IfOk result (λ base. (p : PathValue) × (open_under self.now token.now ≡ Some (File p deltas.NotBegun))
             × ((arc_value base).items ≡ file_text self.now p)) }
     {
         match self.open_under(token) {
-            Some(Opened::File(path, Delta::Untouched)) => {
+            Some(Opened::File(path, DeltaState::NotBegun)) => {
                 let base = self.shared_text(path, repository)?;
                 self.judge_text_at(path, checksum, repository)?;
                 Ok(base)
             }
-            Some(Opened::File(_, Delta::Reading(_))) => {
+            Some(Opened::File(_, DeltaState::Reading(_))) => {
                 Err(EditFault::Refused(Refusal::MalformedData))
             }
-            Some(Opened::File(_, Delta::Made)) => Err(EditFault::Refused(Refusal::MalformedData)),
+            Some(Opened::File(_, DeltaState::Ended)) => Err(EditFault::Refused(
+                Refusal::MalformedData,
+            )),
             Some(Opened::Directory(_)) => Err(EditFault::Refused(Refusal::MalformedData)),
             None => Err(EditFault::Refused(Refusal::MalformedData)),
         }
@@ -103,7 +105,7 @@ impl<R: Repository> CommitEditor<R> {
         let op = self.text_edit(token)?;
         edits_are_right();
         self.edit(op, repository)?;
-        set_delta(&mut self.tokens, token, Delta::Made);
+        set_delta(&mut self.tokens, token, DeltaState::Ended);
         Ok(())
     }
 
@@ -160,7 +162,7 @@ impl<R: Repository> CommitEditor<R> {
     fn judge_text(
         &self,
         path: &Path,
-        delta: &Delta,
+        delta: &DeltaState,
         checksum: &Option<ByteString>,
         repository: &R,
     ) -> Result<(), EditFault>

@@ -9,15 +9,16 @@ ghost use Rattle.edit_rules.specs.Editor.{OpensRoot, Edits, Named, Opens, Adds, 
 ghost use Rattle.edit_rules.specs.Judging.{Judges, Leaves};
 ghost use Rattle.edit_rules.specs.Soundness.{IsSoundEdit, IsRightIn};
 ghost use Rattle.edit_rules.specs.declared.opened.Opened.TheVariants.{Directory, File};
-ghost use Rattle.edit_rules.specs.declared.opened.Delta.TheVariants.{Untouched};
+ghost use Rattle.edit_rules.specs.declared.opened.DeltaState.TheVariants.{NotBegun};
 
 use crate::editor::CommitEditor;
 use byte_string::ByteString;
 use edit_commands::{AbsentEntry, AddedEntry, DeletedEntry, OpenedEntry};
 use edit_rules::{
-    Delta, EditFault, Opened, OpenedDirectory, close_beneath, close_others_beneath, copies_under,
-    directory_under, edits_are_right, is_within, judge, judge_absence, judge_directory, judge_file,
-    judge_presence, judge_room, judge_source_kind, path_named, source_named,
+    DeltaState, EditFault, Opened, OpenedDirectory, close_beneath, close_others_beneath,
+    copies_under, directory_under, edits_are_right, is_within, judge, judge_absence,
+    judge_directory, judge_file, judge_presence, judge_room, judge_source_kind, path_named,
+    source_named,
 };
 use refusals::Refusal;
 use repo_api::{EditOp, NodeKind, Repository, Source};
@@ -37,11 +38,11 @@ fn opened_directory(path: Path, revision: Option<u64>, in_copy: bool) -> Opened
 
 /// What is open once it is added, new or a copy.
 fn added_opened(is_file: bool, path: Path, in_copy: bool) -> Opened
-    ensures { result ≡ (if is_file then File path Untouched
+    ensures { result ≡ (if is_file then File path NotBegun
         else Directory (opened_directory path None in_copy)) }
 {
     if is_file {
-        Opened::File(path, Delta::Untouched)
+        Opened::File(path, DeltaState::NotBegun)
     } else {
         opened_directory(path, None, in_copy)
     }
@@ -434,14 +435,14 @@ impl<R: Repository> CommitEditor<R> {
         ensures judged { Judges result (open_file_refusal self.old entry.now
             (joined self.old.path entry.now.path)) }
         ensures ok { OnOk result (Named self.old entry.now.path
-            (λ p. Opens self.old entry.now.token (File p Untouched) self.new)) }
+            (λ p. Opens self.old entry.now.token (File p NotBegun) self.new)) }
         ensures err { OnErr result (self.new ≡ self.old) }
     {
         let path = path_named(self.alloc, &self.path, &entry.path)?;
         self.judge_open_file(entry, &path, repository)?;
         let token = entry.token.clone()?;
         self.tokens
-            .insert(token, Opened::File(path, Delta::Untouched))?;
+            .insert(token, Opened::File(path, DeltaState::NotBegun))?;
         Ok(())
     }
 

@@ -14,7 +14,7 @@ use Rattle.svnpath.specs.PathLaws.{same_component_is, same_component_refl}
 use Rattle.repo_api.specs.Properties.{PropertyList, with_property}
 use Rattle.drives.specs.Steps.{is_entry_property, property_values}
 use Rattle.drives.proofs.Joined.{or_false}
-use Rattle.reporter.specs.Own.{Change, is_changed, LeadTo}
+use Rattle.reporter.specs.Own.{Change, changes_name, LeadTo}
 use Rattle.reporter.proofs.Owning.{Agrees}
 use Rattle.drive_commands.specs.EntryProperties.{property_value}
 use Rattle.entry_news.specs.News.{names_in_both, is_same_value, is_told, property_changes}
@@ -103,19 +103,19 @@ value_at ps name e = ap (λ b. cond b None (property_value ps name)) e
 
 -- a name that is told where it stands, and is not among the changes, does not stand there
 unnamed : (told : List ℕ → Bool) (value : List ℕ → Option (List ℕ)) (ns : List (List ℕ)) (name : List ℕ) → told name ≡ true
-    → is_changed (map (λ n. (n, value n)) (filter told ns)) name ≡ false → any_named name ns ≡ false
+    → changes_name (map (λ n. (n, value n)) (filter told ns)) name ≡ false → any_named name ns ≡ false
 unnamed told value [] name on none = refl
 unnamed told value (n ∷ ns) name on none = by (same_component n name) refl (told n) refl none (unnamed told value ns name on)
   where
-    by : (b : Bool) → same_component n name ≡ b → (t : Bool) → told n ≡ t → is_changed (map (λ m. (m, value m)) (cond t (n ∷ filter told ns) (filter told ns))) name ≡ false
-        → (is_changed (map (λ m. (m, value m)) (filter told ns)) name ≡ false → any_named name ns ≡ false) → (same_component n name || any_named name ns) ≡ false
+    by : (b : Bool) → same_component n name ≡ b → (t : Bool) → told n ≡ t → changes_name (map (λ m. (m, value m)) (cond t (n ∷ filter told ns) (filter told ns))) name ≡ false
+        → (changes_name (map (λ m. (m, value m)) (filter told ns)) name ≡ false → any_named name ns ≡ false) → (same_component n name || any_named name ns) ≡ false
     by b e true h out rest =
-        let m : (same_component n name ≡ false) × (is_changed (map (λ m. (m, value m)) (filter told ns)) name ≡ false) = or_false (same_component n name) _ out in
+        let m : (same_component n name ≡ false) × (changes_name (map (λ m. (m, value m)) (filter told ns)) name ≡ false) = or_false (same_component n name) _ out in
         ap (λ x. x || any_named name ns) m.0 ∙ rest m.1
     by true e false h out rest = absurd (false≢true (sym h ∙ ap told (same_component_is n name e) ∙ on))
     by false e false h out rest = ap (λ x. x || any_named name ns) e ∙ rest out
 
-covers : (all : Bool) (old new : PropertyList) (name : List ℕ) → is_changed (property_changes all old new) name ≡ false → property_values old name ≡ property_values new name
+covers : (all : Bool) (old new : PropertyList) (name : List ℕ) → changes_name (property_changes all old new) name ≡ false → property_values old name ≡ property_values new name
 covers all old new name none = by (is_entry_property name) refl (is_told all old new name) refl
   where
     by : (b : Bool) → is_entry_property name ≡ b → (t : Bool) → is_told all old new name ≡ t → property_values old name ≡ property_values new name
@@ -173,7 +173,7 @@ pub none_changed : (old new : PropertyList) (cs : List Change) → cs ≡ proper
 none_changed old new cs is = (same, none)
   where
     same : (length cs == 0) ≡ true → property_values old ≡ property_values new
-    same h = λ i name. covers false old new name (ap (λ xs. is_changed xs name) (sym is ∙ empty_from_length cs h)) i
+    same h = λ i name. covers false old new name (ap (λ xs. changes_name xs name) (sym is ∙ empty_from_length cs h)) i
 
     none : property_values old ≡ property_values new → (length cs == 0) ≡ true
     none e = ap (λ xs. length xs == 0) (is ∙ ap (map (λ n. (n, property_value new n))) (none_kept (is_told false old new) (untold_at old new e) (names_in_both old new)))

@@ -19,7 +19,7 @@ use Rattle.drives.specs.Steps.Step.{PropertyAt}
 use Rattle.drives.proofs.Joined.{any_append, and_front, or_right}
 use Rattle.reports.specs.declared.ask.Purpose.{Purpose}
 use Rattle.reports.specs.declared.ask.Purpose.TheVariants.{Update, Switch, Status}
-use Rattle.reporter.specs.Own.{Change, property_steps, text_steps, own_steps, with_text, LeadTo}
+use Rattle.reporter.specs.Own.{Change, property_steps, text_steps, own_steps, content_with_text, LeadTo}
 use Rattle.reporter.specs.Visits.{kind_if}
 use Rattle.reporter.specs.Walks.{LeadsOver, blank}
 use Rattle.reporter.proofs.Owning.{own_becomes, own_is, own_meets}
@@ -75,18 +75,18 @@ sent Switch text values = refl
 sent Status text values = refl
 
 opened_content : (purpose : Purpose) (a b : Content) (values : PropertyValues) → is_directory_content a ≡ is_directory_content b
-    → seen_by purpose (with_text (text_told purpose (content_text a) b) a, values) ≡ seen_by purpose (b, values)
+    → seen_by purpose (content_with_text (text_told purpose (content_text a) b) a, values) ≡ seen_by purpose (b, values)
 opened_content purpose Directory Directory values one = refl
 opened_content purpose Directory (File t) values one = absurd (false≢true (sym one))
 opened_content purpose (File s) Directory values one = absurd (false≢true one)
 opened_content purpose (File s) (File t) values one = by (is_name s t) refl
   where
-    by : (b : Bool) → is_name s t ≡ b → seen_by purpose (with_text (option_map (text_sent purpose) (cond b None (Some t))) (File s), values) ≡ seen_by purpose (File t, values)
+    by : (b : Bool) → is_name s t ≡ b → seen_by purpose (content_with_text (option_map (text_sent purpose) (cond b None (Some t))) (File s), values) ≡ seen_by purpose (File t, values)
     by true e = ap (λ x. seen_by purpose (File x, values)) (same_component_is s t e)
     by false e = sent purpose t values
 
 added_content : (purpose : Purpose) (b : Content) (values : PropertyValues)
-    → seen_by purpose (with_text (text_told purpose None b) (empty_content (kind_if (is_directory_content b))), values) ≡ seen_by purpose (b, values)
+    → seen_by purpose (content_with_text (text_told purpose None b) (empty_content (kind_if (is_directory_content b))), values) ≡ seen_by purpose (b, values)
 added_content purpose Directory values = refl
 added_content purpose (File t) values = sent purpose t values
 
@@ -132,7 +132,7 @@ own_here p None = own_is p [] [] None
 own_here p (Some news) = own_is p news.changes [] news.text
 
 leads : (seen : Node → Node) (p : PathValue) (a b : Content) (old new : PropertyValues) (known changes : List Change) (text : Option (List ℕ))
-    → All Known known → LeadTo old new changes → seen (with_text text a, new) ≡ seen (b, new)
+    → All Known known → LeadTo old new changes → seen (content_with_text text a, new) ≡ seen (b, new)
     → option_map seen (after_steps p (Some (a, old)) (property_steps p (known ++ changes) ++ text_steps p text)) ≡ Some (seen (b, new))
 leads seen p a b old new known changes text facts lead same =
     ap (λ cs. option_map seen (after_steps p (Some (a, old)) cs)) (as_own p known changes text)

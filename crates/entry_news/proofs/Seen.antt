@@ -7,7 +7,7 @@ use Rattle.repo_api.specs.declared.entry.Entry.{Entry}
 use Rattle.drives.specs.Drives.{Differs}
 use Rattle.reporter.specs.Walks.{IsSame}
 use Rattle.reports.specs.Targets.{WholeReport, old_tree, new_tree, stale_in}
-use Rattle.entry_news.specs.News.{news_of, news_at, old_entry, own_of, starts_empty_at, steps_if}
+use Rattle.entry_news.specs.News.{news_of, news_at, old_entry, own_steps_of, starts_empty_at, steps_if}
 use Rattle.entry_news.specs.Places.{AreLike, AreUnlike, entry_at, news_seen, old_seen}
 use Rattle.entry_news.specs.declared.news.Sight.{Sight}
 
@@ -25,7 +25,7 @@ sight_news c report p anew sight is =
     λ i. option_map (news_of c (is.purpose i) (is.stale i) (is.all i) (is.old i)) (is.new i)
 
 pub sight_steps : (c : RepoState) (report : WholeReport) (p : PathValue) (anew : Bool) (sight : Sight) → IsSightOf c report p anew sight
-    → steps_if p (news_seen c sight) ≡ own_of c report p anew
+    → steps_if p (news_seen c sight) ≡ own_steps_of c report p anew
 sight_steps c report p anew sight is = ap (steps_if p) (sight_news c report p anew sight is)
 
 -- ---- of two trees

@@ -113,5 +113,6 @@ steps_if p None = []
 steps_if p (Some news) = news_steps p news
 
 -- the steps of what each entry is told
-abbrev pub own_of : RepoState → WholeReport → OwnSteps
-own_of c report p anew = steps_if p (option_map (news_at c report p anew) (new_tree c report p))
+abbrev pub own_steps_of : RepoState → WholeReport → OwnSteps
+own_steps_of c report p anew =
+    steps_if p (option_map (news_at c report p anew) (new_tree c report p))

@@ -25,8 +25,8 @@ news_seen c sight =
     (entry_at c sight.new)
 
 -- a directory, or a file with its text, where something stands
-abbrev pub content_of : Option Entry → Option Content
-content_of e = option_map (λ (x : Entry). x.content) e
+abbrev pub entry_content : Option Entry → Option Content
+entry_content e = option_map (λ (x : Entry). x.content) e
 
 -- presence, kind, text, properties or the last change differ
 abbrev pub AreUnlike : Option Entry → Option Entry → Type 0

@@ -1,7 +1,7 @@
 //! Whether two entries differ.
 ghost use Rattle.std.specs.Prelude.{◌≡◌, true, Decides, IfOk, option_map};
 ghost use Rattle.drives.specs.Steps.{node_of};
-ghost use Rattle.entry_news.specs.Places.{Compares, content_of, entry_at};
+ghost use Rattle.entry_news.specs.Places.{Compares, entry_content, entry_at};
 
 use crate::news::Place;
 use crate::property_changes::are_same_properties;
@@ -61,8 +61,8 @@ fn is_same_node<R: Repository>(
 
 /// Whether both are directories, or files of one text, or nothing stands at either.
 fn is_same_content<R: Repository>(view: &R, old: Place<'_>, new: Place<'_>) -> bool
-    ensures { Decides result (content_of (entry_at (R.content view.now) old.entry)
-        ≡ content_of (entry_at (R.content view.now) new.entry)) }
+    ensures { Decides result (entry_content (entry_at (R.content view.now) old.entry)
+        ≡ entry_content (entry_at (R.content view.now) new.entry)) }
 {
     let old_text = view.text(old.revision, old.path);
     let new_text = view.text(new.revision, new.path);

@@ -9,12 +9,12 @@ ghost use Rattle.reporter.specs.Walks.{LeadsOver};
 ghost use Rattle.repo_api.specs.States.{RepoState};
 ghost use Rattle.reports.specs.Targets.{WholeReport, old_tree, new_tree};
 ghost use Rattle.drive_commands.specs.Sent.{seen_by};
-ghost use Rattle.entry_news.specs.News.{news_of, news_steps, own_of};
+ghost use Rattle.entry_news.specs.News.{news_of, news_steps, own_steps_of};
 
 /// What entries are told leads from what the client has of each to what it is to have.
 pub fn news_lead()
     ensures { (c : RepoState) (report : WholeReport) → LeadsOver (seen_by report.ask.purpose)
-        (old_tree c report) (new_tree c report) (own_of c report) }
+        (old_tree c report) (new_tree c report) (own_steps_of c report) }
 {}
 
 /// What an entry is told by an entry property is what is due.

@@ -1,6 +1,6 @@
 //! A commit, path by path: what conflicts, and the entry that comes out.
 ghost use Rattle.std.specs.Prelude.{◌≡◌, IfOk, option_copied};
-ghost use Rattle.repo_api.specs.Merge.{is_changed, is_one_directory, is_in_conflict, is_untouched, has_open_last, closed, sealed, joined, merged_entry};
+ghost use Rattle.repo_api.specs.Merge.{is_changed, is_one_directory, is_in_conflict, is_untouched, has_open_last, closed, sealed, changed_beneath, merged_entry};
 ghost use Rattle.repo_api.specs.declared.entry.Mark.TheVariants.{Made};
 
 use crate::entries::with_marks;
@@ -96,7 +96,7 @@ fn joined(
     youngest: &Entry,
 ) -> Result<Entry, AllocError>
     ensures { IfOk result (λ e. e
-        ≡ joined revision path.now (option_copied txn.entry) youngest.now) }
+        ≡ changed_beneath revision path.now (option_copied txn.entry) youngest.now) }
 {
     if has_open_last(txn) {
         return made_last(revision, path, youngest);

@@ -17,7 +17,7 @@ use Rattle.repo_api.specs.declared.entry.Entry.{Entry}
 use Rattle.repo_api.specs.declared.entry.Content.TheVariants.{Directory}
 use Rattle.flat_parts.specs.Found.{is_added, kept_at, part_at}
 use Rattle.flat_trees.specs.Adding.{with_room}
-use Rattle.flat_trees.specs.Perhaps.{map_of}
+use Rattle.flat_trees.specs.Perhaps.{map_or_empty}
 use Rattle.repo_api.specs.StateLaws.{same_tree}
 
 some_first : {X : Type 0} (o y : Option X) → is_some o ≡ true → o ≡ option_or o y
@@ -175,7 +175,7 @@ begun_empty q = get-empty path_cmp q ∙ by (is_at_or_under [] q)
     by false = sym (get-empty path_cmp q)
 
 -- the tree of a revision that there may be none of
-pub map_of_tree : (o : Option Revision) → map_of (option_map (λ r. r.tree) o) ≡ tree_in o
+pub map_of_tree : (o : Option Revision) → map_or_empty (option_map (λ r. r.tree) o) ≡ tree_in o
 map_of_tree None = refl
 map_of_tree (Some r) = refl
 

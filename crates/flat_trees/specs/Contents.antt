@@ -21,8 +21,8 @@ abbrev pub properties_of : FlatContent → List PropertyList
 properties_of c = values c.properties.items
 
 -- what is held, with no locks
-abbrev pub content_of : FlatContent → RepoState
-content_of c =
+abbrev pub flat_state : FlatContent → RepoState
+flat_state c =
     record {
       uuid = c.uuid;
       revisions = revisions_of c;

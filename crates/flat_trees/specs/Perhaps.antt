@@ -4,6 +4,6 @@ use Rattle.std.specs.FinMap.{empty}
 use Rattle.repo_api.specs.States.{TreeMap}
 
 -- it has no entries
-abbrev pub map_of : Option TreeMap → TreeMap
-map_of None = empty
-map_of (Some m) = m
+abbrev pub map_or_empty : Option TreeMap → TreeMap
+map_or_empty None = empty
+map_or_empty (Some m) = m

@@ -5,7 +5,7 @@ ghost use Rattle.repo_api.specs.Histories.{changes_in};
 ghost use Rattle.repo_api.specs.Kinds.{or_empty};
 ghost use Rattle.repo_api.specs.RevisionProperties.{property_changed, with_changed_property};
 ghost use Rattle.repo_api.specs.Opening.{new_repository, opening_tree};
-ghost use Rattle.flat_trees.specs.Contents.{fixed_of, values, revisions_of, properties_of, content_of};
+ghost use Rattle.flat_trees.specs.Contents.{fixed_of, values, revisions_of, properties_of, flat_state};
 
 use crate::change_list::ChangeList;
 use crate::flat_tree::FlatTree;
@@ -47,7 +47,7 @@ pub struct FlatContent {
 impl FlatContent {
     /// Revision 0 alone, with its date.
     pub fn opened(alloc: Global, uuid: u128, date: ByteString) -> Result<Self, AllocError>
-        ensures { IfOk result (λ c. content_of c ≡ new_repository uuid date) }
+        ensures { IfOk result (λ c. flat_state c ≡ new_repository uuid date) }
     {
         Ok(FlatContent {
             uuid,
@@ -106,8 +106,8 @@ impl FlatContent {
         name: ByteString,
         value: Option<ByteString>,
     ) -> Result<Self, AllocError>
-        ensures { IfOk result (λ c. content_of c
-            ≡ with_changed_property (content_of self.now) revision name value) }
+        ensures { IfOk result (λ c. flat_state c
+            ≡ with_changed_property (flat_state self.now) revision name value) }
     {
         Ok(FlatContent {
             uuid: self.uuid,

@@ -15,7 +15,7 @@ ghost use Rattle.repo_api.specs.Properties.{with_property, without_property};
 ghost use Rattle.flat_parts.specs.Found.{found, with_properties, landed};
 ghost use Rattle.flat_trees.specs.Merging.{conflict_at, merged_at, put_over};
 ghost use Rattle.flat_trees.specs.Adding.{with_room};
-ghost use Rattle.flat_trees.specs.Perhaps.{map_of};
+ghost use Rattle.flat_trees.specs.Perhaps.{map_or_empty};
 
 use byte_string::ByteString;
 use flat_parts::{
@@ -224,7 +224,7 @@ impl FlatTree {
         to: &Path,
     ) -> Result<FlatTree, AllocError>
         ensures { IfOk result (λ t. (q : PathValue)
-            → get t q ≡ copied (tree_of (map_of (option_copied source.entry))) from.now
+            → get t q ≡ copied (tree_of (map_or_empty (option_copied source.entry))) from.now
             (tree_of self.now) to.now q) }
     {
         let mut entries = self.entries.clone()?;
@@ -235,8 +235,8 @@ impl FlatTree {
 
     /// Whether a path of the base or of this tree, the transaction's, is in conflict.
     pub fn has_conflict(&self, base: Option<&FlatTree>, youngest: Option<&FlatTree>) -> bool
-        ensures { result ≡ has_conflict (map_of (option_copied base.entry)) self.now
-            (map_of (option_copied youngest.entry)) }
+        ensures { result ≡ has_conflict (map_or_empty (option_copied base.entry)) self.now
+            (map_or_empty (option_copied youngest.entry)) }
     {
         self.conflicts_among(base, base, youngest)
             || self.conflicts_among(Some(self), base, youngest)
@@ -250,8 +250,8 @@ impl FlatTree {
         youngest: Option<&FlatTree>,
     ) -> bool
         ensures { result ≡ list_any
-            (conflict_at (map_of (option_copied base.entry)) self.now (map_of (option_copied youngest.entry)))
-            (keys (map_of (option_copied paths.entry))) }
+            (conflict_at (map_or_empty (option_copied base.entry)) self.now (map_or_empty (option_copied youngest.entry)))
+            (keys (map_or_empty (option_copied paths.entry))) }
     {
         let Some(paths) = paths else {
             return false;
@@ -269,8 +269,8 @@ impl FlatTree {
         base: Option<&FlatTree>,
         youngest: Option<&FlatTree>,
     ) -> bool
-        ensures { result ≡ conflict_at (map_of (option_copied base.entry)) self.now
-            (map_of (option_copied youngest.entry)) path.now }
+        ensures { result ≡ conflict_at (map_or_empty (option_copied base.entry)) self.now
+            (map_or_empty (option_copied youngest.entry)) path.now }
     {
         is_in_conflict(
             entry_at(base, path),
@@ -288,8 +288,8 @@ impl FlatTree {
         youngest: Option<&FlatTree>,
     ) -> Result<FlatTree, AllocError>
         ensures { IfOk result (λ t. t
-            ≡ merged_map revision (map_of (option_copied base.entry)) self.now
-            (map_of (option_copied youngest.entry))) }
+            ≡ merged_map revision (map_or_empty (option_copied base.entry)) self.now
+            (map_or_empty (option_copied youngest.entry))) }
     {
         let mut entries = BTreeMap::new(alloc);
         self.put_merged(&mut entries, Some(self), revision, base, youngest)?;
@@ -307,8 +307,9 @@ impl FlatTree {
         youngest: Option<&FlatTree>,
     ) -> Result<(), AllocError>
         ensures { OnOk result ((q : PathValue)
-            → found entries.new.entries q ≡ put_over (map_of (option_copied paths.entry))
-            (merged_at revision (map_of (option_copied base.entry)) self.now (map_of (option_copied youngest.entry))) (found entries.old.entries) q) }
+            → found entries.new.entries q ≡ put_over (map_or_empty (option_copied paths.entry))
+            (merged_at revision (map_or_empty (option_copied base.entry)) self.now
+            (map_or_empty (option_copied youngest.entry))) (found entries.old.entries) q) }
     {
         let Some(paths) = paths else {
             return Ok(());
@@ -329,8 +330,8 @@ impl FlatTree {
         youngest: Option<&FlatTree>,
     ) -> Result<Option<Entry>, AllocError>
         ensures { IfOk result (λ o. o
-            ≡ merged_at revision (map_of (option_copied base.entry)) self.now
-            (map_of (option_copied youngest.entry)) path.now) }
+            ≡ merged_at revision (map_or_empty (option_copied base.entry)) self.now
+            (map_or_empty (option_copied youngest.entry)) path.now) }
     {
         merged_entry(
             revision,
@@ -344,7 +345,7 @@ impl FlatTree {
 
 /// What stands at the path of a tree that there may be none of.
 pub fn entry_at<'a>(tree: Option<&'a FlatTree>, path: &Path) -> Option<&'a Entry>
-    ensures { option_copied result ≡ get (map_of (option_copied tree.entry)) path.now }
+    ensures { option_copied result ≡ get (map_or_empty (option_copied tree.entry)) path.now }
 {
     match tree {
         Some(tree) => tree.get(path),
@@ -361,7 +362,7 @@ fn graft(
     to: &Path,
 ) -> Result<(), AllocError>
     ensures { OnOk result ((q : PathValue)
-        → found entries.new.entries q ≡ option_or (landed (tree_of (map_of (option_copied source.entry))) from.now to.now q)
+        → found entries.new.entries q ≡ option_or (landed (tree_of (map_or_empty (option_copied source.entry))) from.now to.now q)
         (found entries.old.entries q)) }
 {
     match source {

@@ -7,7 +7,7 @@ ghost use Rattle.repo_api.specs.Edits.{begun};
 ghost use Rattle.repo_api.specs.Kinds.{kind_of, has_deeper, created_of, node_properties, text_of};
 ghost use Rattle.repo_api.specs.Readings.{names_in};
 ghost use Rattle.repo_api.specs.States.{tree_of};
-ghost use Rattle.flat_trees.specs.Perhaps.{map_of};
+ghost use Rattle.flat_trees.specs.Perhaps.{map_or_empty};
 
 use crate::flat_tree::{FlatTree, entry_at};
 use byte_string::ByteString;
@@ -17,7 +17,7 @@ use svnpath::Path;
 
 /// What stands at the path of the tree.
 pub fn kind_at(tree: Option<&FlatTree>, path: &Path) -> NodeKind
-    ensures { result ≡ kind_of (get (map_of (option_copied tree.entry)) path.now) }
+    ensures { result ≡ kind_of (get (map_or_empty (option_copied tree.entry)) path.now) }
 {
     match entry_at(tree, path) {
         Some(entry) => entry.kind(),
@@ -27,7 +27,7 @@ pub fn kind_at(tree: Option<&FlatTree>, path: &Path) -> NodeKind
 
 /// Whether something stands more than so many names beneath the path of the tree.
 pub fn has_deeper(tree: Option<&FlatTree>, path: &Path, names: usize) -> bool
-    ensures { result ≡ has_deeper (map_of (option_copied tree.entry)) path.now names }
+    ensures { result ≡ has_deeper (map_or_empty (option_copied tree.entry)) path.now names }
 {
     match tree {
         Some(tree) => tree.has_deeper(path, names),
@@ -42,7 +42,7 @@ pub fn names<'a>(
     path: &Path,
 ) -> Result<Vec<&'a ByteString>, AllocError>
     ensures { IfOk result (λ names. map deref names.items
-        ≡ names_in (map_of (option_copied tree.entry)) path.now) }
+        ≡ names_in (map_or_empty (option_copied tree.entry)) path.now) }
 {
     match tree {
         Some(tree) => tree.names(alloc, path),
@@ -89,7 +89,7 @@ pub fn text(entry: Option<&Entry>) -> Option<&FileText>
 /// The tree of a transaction that begins from this one.
 pub fn begun_tree(alloc: Global, tree: Option<&FlatTree>) -> Result<FlatTree, AllocError>
     ensures { IfOk result (λ t. (q : PathValue)
-        → get t q ≡ begun (tree_of (map_of (option_copied tree.entry))) q) }
+        → get t q ≡ begun (tree_of (map_or_empty (option_copied tree.entry))) q) }
 {
     match tree {
         Some(tree) => tree.begun(alloc),

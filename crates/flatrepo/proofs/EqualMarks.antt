@@ -9,7 +9,7 @@ use Rattle.repo_api.specs.Marks.{AreMarked, last_of}
 use Rattle.repo_api.specs.Merge.{has_open_last}
 use Rattle.repo_api.specs.Readings.{IsSameAt}
 use Rattle.repo_api.specs.States.{RepoState, trees_in}
-use Rattle.repo_api.specs.Trees.{Tree, is_open}
+use Rattle.repo_api.specs.Trees.{Tree, is_open_mark}
 use Rattle.repo_api.specs.declared.entry.Entry.{Entry}
 use Rattle.repo_api.specs.declared.entry.Mark.{Mark}
 use Rattle.repo_api.specs.declared.entry.Mark.TheVariants.{Open, Made}
@@ -22,7 +22,7 @@ open_last (Some e) is = ap open_mark is
   where
     open_mark : Option Mark → Bool
     open_mark None = false
-    open_mark (Some mark) = is_open mark
+    open_mark (Some mark) = is_open_mark mark
 
 pub same_marks : (trees : ℕ → Tree) → AreMarked trees → (n m : ℕ) (p q : PathValue) → HaveSameMark (trees n p) (trees m q)
     → (rest : PathValue) → trees n (p ++ rest) ≡ trees m (q ++ rest)

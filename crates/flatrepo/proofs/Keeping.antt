@@ -14,8 +14,8 @@ use Rattle.repo_api.specs.declared.ask.CommitAsk.{CommitAsk}
 use Rattle.history.specs.Quiet.{IsMarkedBy}
 use Rattle.history.specs.Sound.{IsSoundRepo, IsSoundTxn}
 use Rattle.history.proofs.Staying.{changed_sound}
-use Rattle.flat_trees.specs.Contents.{revisions_of, content_of}
-use Rattle.flat_trees.specs.Perhaps.{map_of}
+use Rattle.flat_trees.specs.Contents.{revisions_of, flat_state}
+use Rattle.flat_trees.specs.Perhaps.{map_or_empty}
 use Rattle.flat_trees.specs.declared.flat_content.FlatContent.{FlatContent}
 use Rattle.flat_trees.proofs.Rules.{map_of_tree}
 use Rattle.flatrepo.specs.Open.{txn_of}
@@ -32,22 +32,22 @@ same_revisions c d same s = record {
 pub begun_is : (held shown : FlatContent) (locks : LockMap) (base : ℕ) (found : Option TreeMap) (tree : TreeMap) (changes : ChangeMap)
     → shown ≡ held → base ≡ length (revisions_of held) - 1
     → found ≡ option_map (λ r. r.tree) (slice_get (revisions_of held) base)
-    → ((q : PathValue) → get tree q ≡ begun (tree_of (map_of found)) q) → changes ≡ empty
+    → ((q : PathValue) → get tree q ≡ begun (tree_of (map_or_empty found)) q) → changes ≡ empty
     → IsBegun (state_of held locks) (txn_of shown base tree changes)
 begun_is held shown locks base found tree changes same base_is found_is tree_is changes_are = record {
   shown = ap revisions_of same;
   base = base_is;
   tree = λ q.
       tree_is q
-      ∙ ap (λ (m : TreeMap). begun (tree_of m) q) (ap map_of (found_is ∙ ap (λ n. option_map (λ r. r.tree) (slice_get (revisions_of held) n)) base_is)
+      ∙ ap (λ (m : TreeMap). begun (tree_of m) q) (ap map_or_empty (found_is ∙ ap (λ n. option_map (λ r. r.tree) (slice_get (revisions_of held) n)) base_is)
       ∙ map_of_tree (slice_get (revisions_of held) (length (revisions_of held) - 1)));
   changes = λ q. ap (λ (m : ChangeMap). get m q) changes_are ∙ get-empty path_cmp q;
 }
 
 pub commit_keeps : (old new : FlatContent) (locks : LockMap) (ask : CommitAsk) (t : TxnState)
     → IsBeginning t.shown (revisions_of old) → commit_refusal (state_of old locks) ask t ≡ None
-    → content_of new ≡ committed (content_of old) ask t
-    → ∥ IsSoundTxn t ∥₁ → ∥ IsSoundRepo (content_of old) ∥₁ → ∥ IsSoundRepo (content_of new) ∥₁
+    → flat_state new ≡ committed (flat_state old) ask t
+    → ∥ IsSoundTxn t ∥₁ → ∥ IsSoundRepo (flat_state old) ∥₁ → ∥ IsSoundRepo (flat_state new) ∥₁
 commit_keeps old new locks ask t begins accepted is txn held = ∥∥₁_map₂ txn held (λ x s.
-    same_revisions (committed (state_of old locks) ask t) (content_of new) (ap (λ c. c.revisions) is)
-    (changed_sound (state_of old locks) (Commits ask t) (same_revisions (content_of old) (state_of old locks) refl s) accepted (begins, x)))
+    same_revisions (committed (state_of old locks) ask t) (flat_state new) (ap (λ c. c.revisions) is)
+    (changed_sound (state_of old locks) (Commits ask t) (same_revisions (flat_state old) (state_of old locks) refl s) accepted (begins, x)))

@@ -1,6 +1,6 @@
 -- What the values of this crate stand for.
 use Rattle.repo_api.specs.States.{LockMap, RepoState, TxnState}
-use Rattle.flat_trees.specs.Contents.{content_of}
+use Rattle.flat_trees.specs.Contents.{flat_state}
 use Rattle.flat_trees.specs.declared.flat_content.FlatContent.{FlatContent}
 use Rattle.flatrepo.specs.Open.{txn_of}
 use Rattle.flatrepo.specs.declared.flat_repo.FlatRepo.{FlatRepo}
@@ -11,7 +11,7 @@ with_locks c locks = record c { locks = locks }
 
 -- what is held, with these locks
 abbrev pub state_of : FlatContent → LockMap → RepoState
-state_of c locks = with_locks (content_of c) locks
+state_of c locks = with_locks (flat_state c) locks
 
 abbrev pub repo_content : FlatRepo → RepoState
 repo_content r = state_of r.content.value r.locks.value

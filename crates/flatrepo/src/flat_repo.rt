@@ -1,6 +1,6 @@
 //! What a repository in memory has.
 ghost use Rattle.history.specs.Sound.{IsSoundRepo};
-ghost use Rattle.flat_trees.specs.Contents.{content_of};
+ghost use Rattle.flat_trees.specs.Contents.{flat_state};
 
 use flat_trees::FlatContent;
 use pathlocks::Locks;
@@ -14,5 +14,5 @@ pub struct FlatRepo {
     pub(crate) alloc: Global,
     pub(crate) content: Arc<FlatContent>,
     pub(crate) locks: Arc<Locks>,
-    ghost sound: { ∥ IsSoundRepo (content_of content.value) ∥₁ },
+    ghost sound: { ∥ IsSoundRepo (flat_state content.value) ∥₁ },
 }

@@ -2,7 +2,7 @@
 ghost use Rattle.std.specs.Prelude.{◌≡◌, true, option_copied};
 ghost use Rattle.repo_api.specs.Readings.{IsSameAt};
 ghost use Rattle.history.specs.Sound.{IsSoundRepo};
-ghost use Rattle.flat_trees.specs.Contents.{content_of};
+ghost use Rattle.flat_trees.specs.Contents.{flat_state};
 ghost use Rattle.flatrepo.specs.Sameness.{HaveSameMark};
 
 use flat_trees::{FlatContent, entry_at};
@@ -29,9 +29,9 @@ pub(crate) fn is_same_in(
     other: u64,
     other_path: &Path,
 ) -> bool
-    requires { ∥ IsSoundRepo (content_of content.now) ∥₁ }
+    requires { ∥ IsSoundRepo (flat_state content.now) ∥₁ }
     ensures { result ≡ true
-        → IsSameAt (content_of content.now) revision path.now other other_path.now }
+        → IsSameAt (flat_state content.now) revision path.now other other_path.now }
 {
     let entry = entry_at(content.tree(revision), path);
     let other_entry = entry_at(content.tree(other), other_path);

@@ -10,7 +10,7 @@ ghost use Rattle.repo_api.specs.Commits.{commit_refusal, committed, revision_pro
 ghost use Rattle.repo_api.specs.Accepted.{IfRefused, IsOfMemory};
 ghost use Rattle.repo_api.specs.Kinds.{kind_at, created_at};
 ghost use Rattle.repo_api.specs.Locking.{check_refusal, current_refusal, with_lock};
-ghost use Rattle.repo_api.specs.RevisionProperties.{name_refusal, property_refusal, with_changed_property};
+ghost use Rattle.repo_api.specs.RevisionProperties.{property_name_refusal, property_refusal, with_changed_property};
 ghost use Rattle.repo_api.specs.Edits.{edited, copied, deleted};
 ghost use Rattle.repo_api.specs.Opening.{new_repository};
 ghost use Rattle.repo_api.specs.MergedMaps.{has_conflict, merged_map};
@@ -18,7 +18,7 @@ ghost use Rattle.repo_api.specs.declared.ask.CommitAsk.{CommitAsk};
 ghost use Rattle.repo_api.specs.States.{IsBeginning, IsEdited, tree_of, tree_at, trees_in, changes_of, youngest};
 ghost use Rattle.repo_api.specs.RightEdits.{IsRightEdit};
 ghost use Rattle.history.specs.Sound.{IsSoundRepo};
-ghost use Rattle.flat_trees.specs.Contents.{fixed_of, content_of, revisions_of, properties_of};
+ghost use Rattle.flat_trees.specs.Contents.{fixed_of, flat_state, revisions_of, properties_of};
 ghost use Rattle.flatrepo.specs.Whole.{state_of, repo_content, txn_state_of};
 
 use crate::flat_repo::FlatRepo;
@@ -39,7 +39,7 @@ use pathlocks::Locks;
 use refusals::Refusal;
 use repo_api::{
     Change, ChangeFault, CommitAsk, Content, EditOp, FileText, Lock, LockAsk, LockTokens, NodeKind,
-    PROPERTY_NAME_LIMIT, Properties, REVISION_LIMIT, Repository, Source, UnlockAsk,
+    Properties, REVISION_LIMIT, Repository, Source, UnlockAsk, is_property_name,
 };
 use std::alloc::{AllocError, Global};
 use std::sync::Arc;
@@ -227,7 +227,7 @@ impl Repository for FlatRepo {
 
 /// A client cannot have seen a revision above the youngest.
 fn current_refusal(content: &FlatContent, current: Option<u64>) -> Option<Refusal>
-    ensures { result ≡ current_refusal (youngest (content_of content.now)) current }
+    ensures { result ≡ current_refusal (youngest (flat_state content.now)) current }
 {
     match current {
         Some(current) if current > content.youngest() => Some(Refusal::NoSuchRevision),
@@ -238,19 +238,19 @@ fn current_refusal(content: &FlatContent, current: Option<u64>) -> Option<Refusa
 /// Why a change of a property of a revision is refused: there is no such revision, or none has such a
 /// name.
 fn property_refusal(content: &FlatContent, revision: u64, name: &ByteString) -> Option<Refusal>
-    ensures { result ≡ property_refusal (content_of content.now) revision name.now }
+    ensures { result ≡ property_refusal (flat_state content.now) revision name.now }
 {
     if revision > content.youngest() {
         return Some(Refusal::NoSuchRevision);
     }
-    name_refusal(name.as_slice())
+    property_name_refusal(name.as_slice())
 }
 
 /// A property's name has 1 to 255 bytes.
-fn name_refusal(name: &[u8]) -> Option<Refusal>
-    ensures { result ≡ name_refusal name.now }
+fn property_name_refusal(name: &[u8]) -> Option<Refusal>
+    ensures { result ≡ property_name_refusal name.now }
 {
-    if 0 < name.len() && name.len() <= PROPERTY_NAME_LIMIT {
+    if is_property_name(name) {
         None
     } else {
         Some(Refusal::NotSupported)
@@ -265,8 +265,8 @@ fn with_property(
     name: ByteString,
     value: Option<ByteString>,
 ) -> Result<Arc<FlatContent>, AllocError>
-    ensures { IfOk result (λ c. content_of c.value
-        ≡ with_changed_property (content_of content.now) revision name value) }
+    ensures { IfOk result (λ c. flat_state c.value
+        ≡ with_changed_property (flat_state content.now) revision name value) }
 {
     let changed = content.with_property(alloc, revision, name, value)?;
     Ok(Arc::new(alloc, changed)?)
@@ -275,9 +275,9 @@ fn with_property(
 /// What stands at the path in the youngest revision, and the revision of its last change.
 fn standing(content: &FlatContent, path: &Path) -> (NodeKind, Option<u64>)
     ensures kind { result.0
-        ≡ kind_at (content_of content.now) (youngest (content_of content.now)) path.now }
+        ≡ kind_at (flat_state content.now) (youngest (flat_state content.now)) path.now }
     ensures created { result.1
-        ≡ created_at (content_of content.now) (youngest (content_of content.now)) path.now }
+        ≡ created_at (flat_state content.now) (youngest (flat_state content.now)) path.now }
 {
     let tree = content.tree(content.youngest());
     (kind_at(tree, path), created(entry_at(tree, path)))
@@ -301,7 +301,7 @@ fn edit_txn(
     txn: &mut FlatTxn,
     op: &EditOp,
 ) -> Result<(), AllocError>
-    requires sound { ∥ IsSoundRepo (content_of content.now.value) ∥₁ }
+    requires sound { ∥ IsSoundRepo (flat_state content.now.value) ∥₁ }
     requires rests { IsBeginning (txn_state_of txn.old).shown (revisions_of content.now.value) }
     requires right { IsRightEdit (trees_in (revisions_of content.now.value))
         (tree_of (txn_state_of txn.old).tree) op.now }
@@ -441,8 +441,8 @@ fn check_locks(
 
 /// Whether the tree of a transaction from this base is in conflict with the youngest revision's.
 fn has_conflict(content: &FlatContent, base: u64, tree: &FlatTree) -> bool
-    ensures { result ≡ has_conflict (tree_at (content_of content.now) base) tree.now
-        (tree_at (content_of content.now) (youngest (content_of content.now))) }
+    ensures { result ≡ has_conflict (tree_at (flat_state content.now) base) tree.now
+        (tree_at (flat_state content.now) (youngest (flat_state content.now))) }
 {
     tree.has_conflict(content.tree(base), content.tree(content.youngest()))
 }
@@ -456,7 +456,8 @@ fn next_tree(
 ) -> Result<FlatTree, AllocError>
     requires { length (revisions_of content.now) < REVISION_LIMIT }
     ensures { IfOk result (λ t. t ≡ merged_map (length (revisions_of content.now))
-        (tree_at (content_of content.now) base) tree.now (tree_at (content_of content.now) (youngest (content_of content.now)))) }
+        (tree_at (flat_state content.now) base) tree.now
+        (tree_at (flat_state content.now) (youngest (flat_state content.now)))) }
 {
     let revision = content.count() as u32;
     let youngest = content.tree(content.youngest());
@@ -471,8 +472,8 @@ fn with_commit(
     txn: FlatTxn,
 ) -> Result<Arc<FlatContent>, AllocError>
     requires { length (revisions_of content.now) < REVISION_LIMIT }
-    ensures { IfOk result (λ c. content_of c.value
-        ≡ committed (content_of content.now) ask (txn_state_of txn)) }
+    ensures { IfOk result (λ c. flat_state c.value
+        ≡ committed (flat_state content.now) ask (txn_state_of txn)) }
 {
     let tree = next_tree(alloc, content, txn.base, &txn.tree)?;
     with_revision(alloc, content, ask, tree, txn.changes)

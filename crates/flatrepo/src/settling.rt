@@ -7,7 +7,7 @@ ghost use Rattle.repo_api.specs.States.{tree_of};
 ghost use Rattle.history.specs.Quiet.{own_revision};
 ghost use Rattle.history.specs.Settling.{or_zero};
 ghost use Rattle.history.specs.Sound.{IsSoundRepo};
-ghost use Rattle.flat_trees.specs.Contents.{content_of};
+ghost use Rattle.flat_trees.specs.Contents.{flat_state};
 ghost use Rattle.flatrepo.specs.Settling.{IsNewestOwn, IsNewestMark};
 
 use byte_string::ByteString;
@@ -20,9 +20,9 @@ use svnpath::Path;
 /// revision, else the revision. It is the revision too where nothing stands at the path, and where
 /// there is no memory for the paths above it.
 pub(crate) fn settled_in(alloc: Global, content: &FlatContent, revision: u64, path: &Path) -> u64
-    requires { ∥ IsSoundRepo (content_of content.now) ∥₁ }
+    requires { ∥ IsSoundRepo (flat_state content.now) ∥₁ }
     ensures within { result ≤ revision }
-    ensures quiet { IsQuietSince (history_of (content_of content.now)) path.now result revision }
+    ensures quiet { IsQuietSince (history_of (flat_state content.now)) path.now result revision }
 {
     let Some(tree) = content.tree(revision) else {
         return revision;

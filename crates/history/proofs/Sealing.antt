@@ -4,10 +4,10 @@ use Rattle.std.proofs.lemmas.Bool.{false≢true}
 use Rattle.std.specs.Prelude.{if◌then◌else◌, IsSome}
 use Rattle.svnpath.specs.Paths.{PathValue, same_path, is_at_or_under}
 use Rattle.svnpath.specs.PathLaws.{same_path_is, under_is}
-use Rattle.repo_api.specs.Trees.{Tree, same_mark, is_open, revision_of}
+use Rattle.repo_api.specs.Trees.{Tree, same_mark, is_open_mark, revision_of}
 use Rattle.repo_api.specs.Kinds.{created_of}
 use Rattle.repo_api.specs.Changes.{Changes}
-use Rattle.repo_api.specs.Merge.{closed, sealed, is_changed, is_untouched, has_open_last, joined, merged}
+use Rattle.repo_api.specs.Merge.{closed, sealed, is_changed, is_untouched, has_open_last, changed_beneath, merged}
 use Rattle.repo_api.specs.Marks.{own_of, last_of, has_open_own, MeetWell}
 use Rattle.repo_api.specs.declared.entry.Entry.{Entry}
 use Rattle.repo_api.specs.declared.entry.Mark.{Mark}
@@ -54,7 +54,7 @@ mapped_some : (f : Entry → Entry) (o : Option Entry) → IsSome (option_map f 
 mapped_some f None h = h
 mapped_some f (Some e) h = refl
 
-joined_created : (n : ℕ) (p : PathValue) (s o : Option Entry) → has_open_last s ≡ true → IsSome (option_map (joined n p s) o) → created_of (option_map (joined n p s) o) ≡ Some n
+joined_created : (n : ℕ) (p : PathValue) (s o : Option Entry) → has_open_last s ≡ true → IsSome (option_map (changed_beneath n p s) o) → created_of (option_map (changed_beneath n p s) o) ≡ Some n
 joined_created n p s None opened some = absurd (false≢true some)
 joined_created n p s (Some e) opened some = ap (λ (b : Bool). created_of (Some (if b then record e { last = Made n p } else e))) opened
 
@@ -67,9 +67,9 @@ sealed_own n p (Some e) opened = by e.own refl
   where
     by : (m : Mark) → e.own ≡ m → own_revision (option_map (sealed n p) (Some e)) ≡ Some n
     by Open is = ap (λ (m : Mark). revision_of (closed n p m)) is
-    by (Made r q) is = absurd (false≢true (sym (ap is_open is) ∙ opened))
+    by (Made r q) is = absurd (false≢true (sym (ap is_open_mark is) ∙ opened))
 
-shut_differs : (x y : Mark) → is_open x ≡ false → is_open y ≡ true → same_mark x y ≡ false
+shut_differs : (x y : Mark) → is_open_mark x ≡ false → is_open_mark y ≡ true → same_mark x y ≡ false
 shut_differs Open y shut opened = absurd (false≢true (sym shut))
 shut_differs (Made r p) Open shut opened = refl
 shut_differs (Made r p) (Made s q) shut opened = absurd (false≢true opened)
@@ -78,7 +78,7 @@ shut_differs (Made r p) (Made s q) shut opened = absurd (false≢true opened)
 open_is_touched : (a s : Option Entry) → has_open_own a ≡ false → has_open_own s ≡ true → is_untouched a s ≡ false
 open_is_touched a None shut opened = absurd (false≢true opened)
 open_is_touched None (Some s) shut opened = refl
-open_is_touched (Some a) (Some s) shut opened = ap (λ (b : Bool). b && (same_mark a.last s.last || is_open s.last)) (shut_differs a.own s.own shut opened)
+open_is_touched (Some a) (Some s) shut opened = ap (λ (b : Bool). b && (same_mark a.last s.last || is_open_mark s.last)) (shut_differs a.own s.own shut opened)
 
 abbrev mark_or : Mark → Option Mark → Mark
 mark_or m None = m
@@ -93,8 +93,8 @@ opened_beneath : (a s : Option Entry) → IsSome a → own_of s ≡ own_of a →
 opened_beneath a None some_a same opened = absurd (false≢true opened)
 opened_beneath None (Some s) some_a same opened = absurd (false≢true some_a)
 opened_beneath (Some a) (Some s) some_a same opened =
-    ap (λ (m : Mark). same_mark a.own m && (same_mark a.last s.last || is_open s.last)) (ap (mark_or s.own) same)
-    ∙ ap (λ (b : Bool). b && (same_mark a.last s.last || is_open s.last)) (same_mark_refl a.own)
+    ap (λ (m : Mark). same_mark a.own m && (same_mark a.last s.last || is_open_mark s.last)) (ap (mark_or s.own) same)
+    ∙ ap (λ (b : Bool). b && (same_mark a.last s.last || is_open_mark s.last)) (same_mark_refl a.own)
     ∙ ap (λ (b : Bool). same_mark a.last s.last || b) opened
     ∙ or_true (same_mark a.last s.last)
   where
@@ -114,7 +114,7 @@ module _ (trees : ℕ → Tree) (n b y : ℕ) (txn : Tree) (w : MeetWell trees b
   abbrev result : Tree
   result = merged n base txn youngest
 
-  left_alone : (p : PathValue) → is_untouched (base p) (txn p) ≡ true → result p ≡ option_map (joined n p (txn p)) (youngest p)
+  left_alone : (p : PathValue) → is_untouched (base p) (txn p) ≡ true → result p ≡ option_map (changed_beneath n p (txn p)) (youngest p)
   left_alone p h = merged_if n base txn youngest p true h
 
   touched_by : (p : PathValue) → is_untouched (base p) (txn p) ≡ false → result p ≡ option_map (sealed n p) (txn p)
@@ -164,7 +164,7 @@ module _ (trees : ℕ → Tree) (n b y : ℕ) (txn : Tree) (w : MeetWell trees b
       stays same (Some e) h = seals (ap is_some h)
       stays same None h =
           left_alone p (ap (λ (o : Option Entry). is_untouched o (txn p)) h ∙ ap (is_untouched None) none)
-          ∙ ap (option_map (joined n p (txn p))) (sym same ∙ h)
+          ∙ ap (option_map (changed_beneath n p (txn p))) (sym same ∙ h)
 
       from : IsSome (base p) ⊎ IsMadeAbove cs p → result p ≡ None
       from (inl some) = seals some
@@ -236,7 +236,7 @@ module _ (trees : ℕ → Tree) (n b y : ℕ) (txn : Tree) (w : MeetWell trees b
 
       by : (u : Bool) → is_untouched (base p) (txn p) ≡ u → (own_revision (result p) ≡ Some n) ⊎ (own_revision (result p) ≡ own_revision (youngest p))
       by true u =
-          inr (ap own_revision (left_alone p u) ∙ own_by (option_map (joined n p (txn p)) (youngest p)) ∙ ap revision_in (joined_own n p (txn p) (youngest p))
+          inr (ap own_revision (left_alone p u) ∙ own_by (option_map (changed_beneath n p (txn p)) (youngest p)) ∙ ap revision_in (joined_own n p (txn p) (youngest p))
           ∙ sym (own_by (youngest p)))
       by false u =
           let there : IsSome (txn p) = mapped_some (sealed n p) (txn p) (subst IsSome (touched_by p u) some) in

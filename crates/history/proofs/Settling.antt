@@ -5,7 +5,7 @@ use Rattle.std.specs.FinMap.{get}
 use Rattle.std.specs.Prelude.{IsSome}
 use Rattle.svnpath.specs.Paths.{PathValue, is_at_or_under}
 use Rattle.svnpath.specs.PathLaws.{same_path_is, under_is}
-use Rattle.repo_api.specs.Trees.{Tree, IsTree, is_open, revision_of}
+use Rattle.repo_api.specs.Trees.{Tree, IsTree, is_open_mark, revision_of}
 use Rattle.repo_api.specs.Kinds.{created_of}
 use Rattle.repo_api.specs.Merge.{has_open_last}
 use Rattle.repo_api.specs.Marks.{IsClosed, has_open_own}
@@ -21,7 +21,7 @@ use Rattle.history.proofs.Above.{stands_above}
 use Rattle.history.proofs.Settled.{lead_back}
 use Rattle.history.proofs.Staying.{tree_where}
 
-mark_up_to : (k : ℕ) (m : Mark) → is_open m ≡ false → or_zero (revision_of m) ≤ k → IsUpTo k (revision_of m)
+mark_up_to : (k : ℕ) (m : Mark) → is_open_mark m ≡ false → or_zero (revision_of m) ≤ k → IsUpTo k (revision_of m)
 mark_up_to k Open shut low = absurd (false≢true (sym shut))
 mark_up_to k (Made r p) shut low = (r, refl, low)
 

@@ -118,14 +118,14 @@ walked_to h strict low p next is high here =
     ap (listed h low) is ∙ listed_by h low p (traced h strict next) true test
 
 -- where a location is found, step by step
-pub located_on : (h : History) (n : ℕ) (p next : Place) → trace h false p ≡ p ∷ traced h false (Some next) → n < p.revision → location_back h next n ≡ location_back h p n
-located_on h n p next is lower = sym (path_past h false n p (trace h false next) is lower)
+pub goes_on_to : (h : History) (n : ℕ) (p next : Place) → trace h false p ≡ p ∷ traced h false (Some next) → n < p.revision → location_back h next n ≡ location_back h p n
+goes_on_to h n p next is lower = sym (path_past h false n p (trace h false next) is lower)
 
-pub located_end : (h : History) (n : ℕ) (p : Place) → trace h false p ≡ p ∷ traced h false None → n < p.revision → location_back h p n ≡ None
-located_end h n p is lower = path_past h false n p [] is lower
+pub ends_at : (h : History) (n : ℕ) (p : Place) → trace h false p ≡ p ∷ traced h false None → n < p.revision → location_back h p n ≡ None
+ends_at h n p is lower = path_past h false n p [] is lower
 
-pub located_here : (h : History) (n : ℕ) (p : Place) → p.revision ≡ n → location_back h p n ≡ Some p.path
-located_here h n p same = path_here h false n p (trace_below h false p.revision (next_place false (h p.revision) p)) (trace_is h false p) same
+pub is_at : (h : History) (n : ℕ) (p : Place) → p.revision ≡ n → location_back h p n ≡ Some p.path
+is_at h n p same = path_here h false n p (trace_below h false p.revision (next_place false (h p.revision) p)) (trace_is h false p) same
 
-pub located_below : (h : History) (n : ℕ) (p : Place) → p.revision < n → location_back h p n ≡ None
-located_below h n p lower = no_path_below h false n p lower
+pub is_past : (h : History) (n : ℕ) (p : Place) → p.revision < n → location_back h p n ≡ None
+is_past h n p lower = no_path_below h false n p lower

@@ -21,9 +21,9 @@ above_heads [] = 0
 above_heads (head ∷ heads) = max (above_head head) (above_heads heads)
 
 -- one more than a number, 0 where there is none
-abbrev pub above : Option ℕ → ℕ
-above None = 0
-above (Some n) = suc n
+abbrev pub one_above : Option ℕ → ℕ
+one_above None = 0
+one_above (Some n) = suc n
 
 -- whether one of the walks has found the revision, or will find it
 abbrev pub is_coming : History → Bool → ℕ → List (Option Listed) → ℕ → Bool

@@ -107,7 +107,7 @@ fn only_same(path: Path, other: &Option<Path>) -> Option<Path>
 }
 
 /// The path of the place's trace in the revision.
-#[tactic(auto, using(crate::proofs::Steps::located_on, crate::proofs::Steps::located_end, crate::proofs::Steps::located_here, crate::proofs::Steps::located_below))]
+#[tactic(auto, using(crate::proofs::Steps::goes_on_to, crate::proofs::Steps::ends_at, crate::proofs::Steps::is_at, crate::proofs::Steps::is_past))]
 fn location_back<R: Repository>(
     alloc: Global,
     repository: &R,

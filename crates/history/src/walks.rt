@@ -2,7 +2,7 @@
 ghost use Rattle.std.specs.Prelude.{◌≡◌, ◌≤◌, suc, max, map, filter, IfOk, OnErr, Some, []};
 ghost use Rattle.repo_api.specs.Histories.{history_of};
 ghost use Rattle.history.specs.Logs.{IsNext, is_of_log, log_places, newest_asked, oldest_asked, place_at, revisions_down};
-ghost use Rattle.history.specs.Walks.{above, above_head, above_heads, of_walks, next_then, IsPast, ArePast, AreFirst};
+ghost use Rattle.history.specs.Walks.{one_above, above_head, above_heads, of_walks, next_then, IsPast, ArePast, AreFirst};
 
 use crate::listed::Listed;
 use crate::log_ask::LogAsk;
@@ -23,7 +23,7 @@ pub struct Walks {
 
 /// The newest revision that the walks have found.
 fn newest(heads: &[Option<Listed>]) -> Option<u64>
-    ensures { above result ≡ above_heads heads.now }
+    ensures { one_above result ≡ above_heads heads.now }
 {
     let mut newest = None;
     for head in heads {
@@ -33,7 +33,7 @@ fn newest(heads: &[Option<Listed>]) -> Option<u64>
 }
 
 fn newer(newest: Option<u64>, head: &Option<Listed>) -> Option<u64>
-    ensures { above result ≡ max (above newest) (above_head head.now) }
+    ensures { one_above result ≡ max (one_above newest) (above_head head.now) }
 {
     match (newest, head) {
         (newest, None) => newest,

@@ -46,7 +46,7 @@ use Rattle.machine.specs.Logins.{offer, chosen, wants_user, speaks, url_answer, 
 use Rattle.machine.specs.Machine.{InputStep, KnownCommand, MainStep, MachineEdit, JudgedEdit, CommitStep, CloseStep, CommandStep, EditingStep, ending_of, commit_ask, Release, IsReleaseOf, release_fails, release_effect, CommittedStep, skipping_answer}
 use Rattle.machine.specs.Reports.{drawn_answer, driven_answer}
 use Rattle.machine.specs.Machine.Release.{Stays, Released, Lacks, Fails}
-use Rattle.machine.specs.declared.asked.Asked.{Asked}
+use Rattle.machine.specs.declared.commit_parameters.CommitParameters.{CommitParameters}
 use Rattle.machine.specs.declared.env.Env.{Env}
 use Rattle.machine.specs.declared.ending.Ending.{Ending}
 use Rattle.machine.specs.declared.ending.Ending.TheVariants.{Commits as ToCommit, GivesUp}
@@ -166,7 +166,7 @@ quiet_greeting s env (Ok g) =
     quiet_if (speaks g) (url_answer s env path root) (says env Ended []) (quiet_url s env path root) refl
 quiet_greeting s env (Err fault) = refl
 
-quiet_begins : (s : Settings) (env : Env) (client : Client) (r : Result Asked Refusal) → Quiet (commit_begins s env client r)
+quiet_begins : (s : Settings) (env : Env) (client : Client) (r : Result CommitParameters Refusal) → Quiet (commit_begins s env client r)
 quiet_begins s env client (Ok asked) = refl
 quiet_begins s env client (Err r) = refl
 
@@ -367,7 +367,7 @@ fails_wanted true Released of fails = refl
 fails_wanted true Lacks of fails = refl
 fails_wanted true (Fails v) of fails = refl
 
-does_committed : {may : Bool} (env : Env) (c : RepoState) (client : Client) (asked : Asked) (t : TxnState) (date : List ℕ) (v : Verdict) (a : Answer)
+does_committed : {may : Bool} (env : Env) (c : RepoState) (client : Client) (asked : CommitParameters) (t : TxnState) (date : List ℕ) (v : Verdict) (a : Answer)
     → commit_refusal c (commit_ask client asked date) t ≡ None → CommittedStep env c client (commit_ask client asked date) t v a → Does may false c a
 does_committed env c client asked t date Written a judged (release, of, is) =
     let ask = commit_ask client asked date in
@@ -385,13 +385,13 @@ does_committed env c client asked t date Written a judged (release, of, is) =
 does_committed env c client asked t date NotWritten a judged is = is_quiet false c a _ is refl
 does_committed env c client asked t date Unknown a judged is = is_quiet false c a _ is refl
 
-does_commit : {may : Bool} (halted : Bool) (env : Env) (c : RepoState) (client : Client) (asked : Asked) (t : TxnState) (date : List ℕ) (r : Option Refusal) (a : Answer)
+does_commit : {may : Bool} (halted : Bool) (env : Env) (c : RepoState) (client : Client) (asked : CommitParameters) (t : TxnState) (date : List ℕ) (r : Option Refusal) (a : Answer)
     → commit_refusal c (commit_ask client asked date) t ≡ r → CommitStep halted env c client (commit_ask client asked date) t r a → Does may halted c a
 does_commit true env c client asked t date r a judged is = is_quiet true c a _ is refl
 does_commit false env c client asked t date (Some r) a judged is = is_quiet false c a _ is refl
 does_commit false env c client asked t date None a judged (v, step) = does_committed env c client asked t date v a judged step
 
-does_close : {may : Bool} (halted : Bool) (env : Env) (c : RepoState) (client : Client) (asked : Asked) (r : Result TxnState Refusal) (a : Answer)
+does_close : {may : Bool} (halted : Bool) (env : Env) (c : RepoState) (client : Client) (asked : CommitParameters) (r : Result TxnState Refusal) (a : Answer)
     → CloseStep halted env c client asked r a → Does may halted c a
 does_close halted env c client asked (Ok t) a (date, is_date, step) =
     does_commit halted env c client asked t date (commit_refusal c (commit_ask client asked date) t) a refl step

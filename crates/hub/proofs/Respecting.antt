@@ -20,7 +20,7 @@ use Rattle.hub.specs.Runs.{Event, HubStep, HubRun, with_rest}
 use Rattle.hub.specs.Runs.Event.{Drops}
 use Rattle.hub.specs.Calls.{CallStep, CallRun}
 use Rattle.hub.specs.Laws.IsToldChange.{Committed, Locked, Unlocked, Revised}
-use Rattle.hub.specs.Laws.{IsToldChange, changes_of, AllHoldLocks, RespectLocks, TellsNewToken, MakesNewTokens, CallMakesNewTokens, CallsMakeNewTokens}
+use Rattle.hub.specs.Laws.{IsToldChange, told_changes, AllHoldLocks, RespectLocks, TellsNewToken, MakesNewTokens, CallMakesNewTokens, CallsMakeNewTokens}
 use Rattle.hub.specs.declared.hub.HubFault.TheVariants.{NoSession, NoMemory, Halted, Full}
 use Rattle.hub.specs.declared.calls.Call.{Call}
 use Rattle.hub.specs.declared.calls.Call.TheVariants.{Connect, Feed, Disconnect}
@@ -61,20 +61,20 @@ module _ (holds : (c : RepoState) (ask : CommitAsk) (t : TxnState) → commit_re
 
   -- ---- an event
 
-  change_respects : (old new : RepoState) (told : List Reply) (change : IsToldChange old told new) → RespectLocks old (changes_of old told new change) new
+  change_respects : (old new : RepoState) (told : List Reply) (change : IsToldChange old told new) → RespectLocks old (told_changes old told new change) new
   change_respects old new told change =
-      let es = changes_of old told new change in
+      let es = told_changes old told new change in
       let by = told_accepted old new told change in
       subst (λ (x : RepoState). RespectLocks old es x) (sym by.1) (respects old es by.0)
 
   pub event_respects : (old new : HubState) (env after : Env) (e : Event) (told : List Reply) → HubStep old env e told new after
       → (new.content ≡ old.content)
-      ⊎ ((change : IsToldChange old.content told new.content) × RespectLocks old.content (changes_of old.content told new.content change) new.content)
+      ⊎ ((change : IsToldChange old.content told new.content) × RespectLocks old.content (told_changes old.content told new.content change) new.content)
   event_respects old new env after e told h = by (event_changes old new env after e told h)
     where
       by : (new.content ≡ old.content) ⊎ IsToldChange old.content told new.content
           → (new.content ≡ old.content)
-          ⊎ ((change : IsToldChange old.content told new.content) × RespectLocks old.content (changes_of old.content told new.content change) new.content)
+          ⊎ ((change : IsToldChange old.content told new.content) × RespectLocks old.content (told_changes old.content told new.content change) new.content)
       by (inl same) = inl same
       by (inr change) = inr (change, change_respects old.content new.content told change)
 
@@ -84,7 +84,7 @@ module _ (holds : (c : RepoState) (ask : CommitAsk) (t : TxnState) → commit_re
   release_new c ask true = tt
   release_new c ask false = tt
 
-  change_new : (old new : RepoState) (told : List Reply) (change : IsToldChange old told new) → TellsNewToken old.locks told → HaveNewTokens old (changes_of old told new change)
+  change_new : (old new : RepoState) (told : List Reply) (change : IsToldChange old told new) → TellsNewToken old.locks told → HaveNewTokens old (told_changes old told new change)
   change_new old new told (Committed c) fresh =
       release_new (committed old c.ask c.txn) c.ask (wants_release c.ask (committed old c.ask c.txn) && not c.fails)
   change_new old new told (Locked l) fresh = (fresh l.ask.path (lock_of l.ask) l.lock, tt)

@@ -91,7 +91,7 @@ pub record IsToldUnlock (old : RepoState) (told : List Reply) (new : RepoState) 
   pub success : EndsWith told Success
 
 -- a change of a property of a revision that the rules accept, and that is answered by success
-pub record IsToldRevised (old : RepoState) (told : List Reply) (new : RepoState) : Type 0 where
+pub record IsToldPropertyChange (old : RepoState) (told : List Reply) (new : RepoState) : Type 0 where
   pub revision : ℕ
   pub name : List ℕ
   pub value : Option (List ℕ)
@@ -104,15 +104,15 @@ pub data IsToldChange (old : RepoState) (told : List Reply) (new : RepoState) : 
   Committed : IsToldCommit old told new → IsToldChange old told new
   Locked : IsToldLock old told new → IsToldChange old told new
   Unlocked : IsToldUnlock old told new → IsToldChange old told new
-  Revised : IsToldRevised old told new → IsToldChange old told new
+  Revised : IsToldPropertyChange old told new → IsToldChange old told new
 
 -- the changes that were told
-abbrev pub changes_of : (old : RepoState) (told : List Reply) (new : RepoState)
+abbrev pub told_changes : (old : RepoState) (told : List Reply) (new : RepoState)
     → IsToldChange old told new → List Accepted
-changes_of old told new (Committed c) = commit_changes old c.ask c.txn c.fails
-changes_of old told new (Locked l) = Locks l.ask ∷ []
-changes_of old told new (Unlocked u) = Unlocks u.ask ∷ []
-changes_of old told new (Revised r) = ChangesProperty r.revision r.name r.value ∷ []
+told_changes old told new (Committed c) = commit_changes old c.ask c.txn c.fails
+told_changes old told new (Locked l) = Locks l.ask ∷ []
+told_changes old told new (Unlocked u) = Unlocks u.ask ∷ []
+told_changes old told new (Revised r) = ChangesProperty r.revision r.name r.value ∷ []
 
 -- what nothing changes: the settings, and the repository's name among all repositories
 pub record KeepsConstants (old new : HubState) : Type 0 where

@@ -10,7 +10,7 @@ ghost use Rattle.replies.specs.declared.reply.Reply.{Reply};
 ghost use Rattle.access.specs.Points.{last_count};
 ghost use Rattle.machine.specs.Hearing.{Input, Yields};
 ghost use Rattle.machine.specs.Settings.{Settings};
-ghost use Rattle.hub.specs.Laws.{TellsFailure, IsToldChange, changes_of, KeepsConstants, KeepsProperties, KeepsOtherProperties, IsUnbroken, new_hub, OverwritesNothing, KeepsAll, RespectLocks, MakesNewTokens, CallsMakeNewTokens};
+ghost use Rattle.hub.specs.Laws.{TellsFailure, IsToldChange, told_changes, KeepsConstants, KeepsProperties, KeepsOtherProperties, IsUnbroken, new_hub, OverwritesNothing, KeepsAll, RespectLocks, MakesNewTokens, CallsMakeNewTokens};
 ghost use Rattle.machine.specs.declared.env.Env.{Env};
 ghost use Rattle.hub.specs.State.{HubState, HasTrees};
 ghost use Rattle.hub.specs.Runs.{Event, HubStep, HubRun};
@@ -63,7 +63,7 @@ pub fn locks_are_respected()
     ensures event { (old new : HubState) (env after : Env) (event : Event) (told : List Reply)
         → HubStep old env event told new after
         → (new.content ≡ old.content) ⊎ ((change : IsToldChange old.content told new.content)
-        × RespectLocks old.content (changes_of old.content told new.content change) new.content) }
+        × RespectLocks old.content (told_changes old.content told new.content change) new.content) }
     ensures events { (old new : HubState) (env after : Env) (events : List Event) (told : List Reply)
         → HubRun old env events told new after
         → (changes : List Accepted) × AreAccepted old.content changes
@@ -120,7 +120,7 @@ pub fn revision_properties_stay()
     ensures event { (old new : HubState) (env after : Env) (event : Event) (told : List Reply)
         → HubStep old env event told new after
         → (new.content ≡ old.content) ⊎ ((change : IsToldChange old.content told new.content)
-        × KeepsOtherProperties old.content (changes_of old.content told new.content change)
+        × KeepsOtherProperties old.content (told_changes old.content told new.content change)
         new.content) }
     ensures events { (old new : HubState) (env after : Env) (events : List Event)
         (told : List Reply) → HubRun old env events told new after

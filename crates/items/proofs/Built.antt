@@ -4,7 +4,7 @@ use Rattle.std.specs.Char.{is_ascii_digit, is_ascii_alphabetic}
 use Rattle.items.specs.Word.{EachPasses, IsSpace, IsDigit, IsWord, is_space, is_word_byte}
 use Rattle.items.specs.Values.{ItemValue, word, number, string, list, ItemValues, none, more, limits, IsWithin, AreWithin}
 use Rattle.items.specs.Spelling.{value_behind, IsNumeral, Spaced, IsBody, AreSpelled}
-use Rattle.items.specs.Build.{behind_spaces, word_len, numeral_at, behind_numeral, listed, read_with, with_item, row_turn, row_with, read, row_reader}
+use Rattle.items.specs.Build.{behind_spaces, word_len, numeral_at, behind_numeral, as_list, read_with, with_item, row_turn, row_with, read, row_reader}
 use Rattle.items.proofs.Classes.{space-no_word, space-no_digit, space-no_colon, digit-no_space, digit-no_opening, digit-no_closing, letter-no_space, letter-no_opening, letter-no_closing, letter-no_digit, value-grows}
 
 pub take-front : (xs ys : List ℕ) → take (length xs) (xs ++ ys) ≡ xs
@@ -80,7 +80,7 @@ string-behind : (x : List ℕ) (last : ℕ) (rest : List ℕ) → behind_numeral
 unfolding behind_numeral
 string-behind x last rest = ap₂ (λ a b. (string a, b)) (take-front x (last ∷ rest)) (drop-front x last rest)
 
-read-opening : (row : List ℕ → ItemValues × List ℕ) (opening : ℕ) (bytes : List ℕ) → read_with row (40 ∷ opening ∷ bytes) ≡ listed (row bytes)
+read-opening : (row : List ℕ → ItemValues × List ℕ) (opening : ℕ) (bytes : List ℕ) → read_with row (40 ∷ opening ∷ bytes) ≡ as_list (row bytes)
 unfolding read_with
 read-opening row opening bytes = refl
 
@@ -158,7 +158,7 @@ mutual
       ap (λ y. read_with (row_reader (suc d)) (y ++ (last ∷ rest))) b.whole
       ∙ ap (λ y. read_with (row_reader (suc d)) (40 ∷ b.opening ∷ y)) (simp append_assoc)
       ∙ read-opening (row_reader (suc d)) b.opening inside
-      ∙ ap listed (read-row (suc o) d ts (length inside) b.inner b.gap last rest (omega arith) b.middle h.1 b.spaces long)
+      ∙ ap as_list (read-row (suc o) d ts (length inside) b.inner b.gap last rest (omega arith) b.middle h.1 b.spaces long)
 
   read-row : (o d : ℕ) (ts : ItemValues) (n : ℕ) (inner gap : List ℕ) (last : ℕ) (rest : List ℕ) → o + d ≡ 64 → AreSpelled ts inner → AreWithin limits o ts → EachPasses IsSpace gap → length inner < n
       → row_with (read d) n (inner ++ (gap ++ (41 ∷ last ∷ rest))) ≡ (ts, rest)

@@ -5,7 +5,7 @@ use Rattle.std.specs.Char.{is_ascii_digit, is_ascii_alphabetic}
 use Rattle.items.specs.Word.{EachPasses, IsWord, is_word_byte}
 use Rattle.items.specs.Values.{ItemValue, word, number, string, list, ItemValues, limits}
 use Rattle.items.specs.Stream.{IsItem}
-use Rattle.items.specs.Build.{behind_spaces, word_len, numeral_at, behind_numeral, listed, word_at, read_with, read, row_reader, StartsWord}
+use Rattle.items.specs.Build.{behind_spaces, word_len, numeral_at, behind_numeral, as_list, word_at, read_with, read, row_reader, StartsWord}
 use Rattle.items.proofs.Classes.{letter-no_opening, letter-no_digit}
 use Rattle.items.proofs.Built.{read-is, read-item}
 
@@ -23,13 +23,13 @@ with_nothing row (b ∷ bs) h = let never : ⊥ = omega arith in absurd never
 pub read_nothing : (d : ℕ) (bytes skipped : List ℕ) → skipped ≡ behind_spaces bytes → length skipped ≡ 0 → (number 0, skipped) ≡ read d bytes
 read_nothing d bytes skipped e h = with_nothing (row_reader d) skipped h ∙ at_first (row_reader d) d bytes skipped e
 
-with_list : (row : List ℕ → ItemValues × List ℕ) (skipped : List ℕ) → 0 < length skipped → get_or skipped 0 0 ≡ 40 → listed (row (drop 1 (drop 1 skipped))) ≡ read_with row skipped
+with_list : (row : List ℕ → ItemValues × List ℕ) (skipped : List ℕ) → 0 < length skipped → get_or skipped 0 0 ≡ 40 → as_list (row (drop 1 (drop 1 skipped))) ≡ read_with row skipped
 unfolding read_with
 with_list row [] h e = let never : ⊥ = omega arith in absurd never
 with_list row (b ∷ bs) h e = let opens : (b == 40) ≡ true = grind (arith, nat_tests) in rw opens
 
 pub read_list : (d : ℕ) (bytes skipped : List ℕ) (ts : ItemValues) (behind : List ℕ) → skipped ≡ behind_spaces bytes → 0 < length skipped → get_or skipped 0 0 ≡ 40 → (ts, behind) ≡ row_reader d (drop 1 (drop 1 skipped)) → (list ts, behind) ≡ read d bytes
-read_list d bytes skipped ts behind e h b r = ap listed r ∙ with_list (row_reader d) skipped h b ∙ at_first (row_reader d) d bytes skipped e
+read_list d bytes skipped ts behind e h b r = ap as_list r ∙ with_list (row_reader d) skipped h b ∙ at_first (row_reader d) d bytes skipped e
 
 with_number : (row : List ℕ → ItemValues × List ℕ) (skipped : List ℕ) → 0 < length skipped → get_or skipped 0 0 ≢ 40 → is_ascii_digit (get_or skipped 0 0) ≡ true
     → (let n = numeral_at 0 skipped in behind_numeral n.0 n.1) ≡ read_with row skipped

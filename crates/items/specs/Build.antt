@@ -28,8 +28,8 @@ behind_numeral n [] = (number n, [])
 behind_numeral n (b ∷ bs) =
     if b == 58 then (string (take n bs), drop (n + 1) bs) else (number n, bs)
 
-abbrev pub listed : ItemValues × List ℕ → ItemValue × List ℕ
-listed p = (list p.0, p.1)
+abbrev pub as_list : ItemValues × List ℕ → ItemValue × List ℕ
+as_list p = (list p.0, p.1)
 
 -- a word of that first letter
 abbrev pub word_at : ℕ → List ℕ → ItemValue × List ℕ
@@ -44,7 +44,7 @@ StartsWord (b ∷ bs) = IsTrue (is_ascii_alphabetic b)
 unfoldable pub read_with : (List ℕ → ItemValues × List ℕ) → List ℕ → ItemValue × List ℕ
 read_with row [] = (number 0, [])
 read_with row (b ∷ bs) =
-    if b == 40 then listed (row (drop 1 bs))
+    if b == 40 then as_list (row (drop 1 bs))
     else if is_ascii_digit b then (let n = numeral_at 0 (b ∷ bs) in behind_numeral n.0 n.1)
     else if is_ascii_alphabetic b then word_at b bs
     else (number 0, bs)

@@ -5,7 +5,7 @@ ghost use Rattle.replies.specs.Replies.{print};
 ghost use Rattle.replies.specs.Sinks.{WritesPart};
 ghost use Rattle.access.specs.Points.{content_of};
 ghost use Rattle.machine.specs.Answers.{serves, behind, Behind};
-ghost use Rattle.machine.specs.Commands.{LockStep, without_token};
+ghost use Rattle.machine.specs.Commands.{LockStep, env_without_token};
 ghost use Rattle.machine.specs.Steps.{AnswerWritten, StepWritten, StepOrNothing};
 ghost use Rattle.telling.specs.Telling.{told_before};
 ghost use Rattle.locking.specs.Asked.{LockAsked};
@@ -30,7 +30,7 @@ fn tell_lock<R: Repository, S: ReplySink>(
     turn: &mut Turn<S>,
 ) -> Result<SessionPhase<R>, AllocError>
     ensures ok { IfOk result (λ phase. AnswerWritten (behind (told_before preface)
-        (serves (without_token turn.old.env) client (Reply.Lock made.path made.lock)))
+        (serves (env_without_token turn.old.env) client (Reply.Lock made.path made.lock)))
         phase turn.new.env (S.writes turn.old.out turn.new.out)) }
     ensures err { OnErr result (WritesPart (S.writes turn.old.out turn.new.out)
         (print (told_before preface ++ Reply.Lock made.path made.lock ∷ []))) }

@@ -5,7 +5,7 @@ ghost use Rattle.replies.specs.declared.reply.Reply.{Reply};
 ghost use Rattle.replies.specs.Replies.{print};
 ghost use Rattle.replies.specs.Sinks.{WritesPart};
 ghost use Rattle.machine.specs.Answers.{says};
-ghost use Rattle.machine.specs.Logins.{challenge_of, without_nonce, challenges, logins_of};
+ghost use Rattle.machine.specs.Logins.{challenge_of, without_nonce, challenges, logins_or_none};
 ghost use Rattle.machine.specs.Steps.{AnswerWritten};
 ghost use Rattle.machine.specs.declared.phase.Phase.TheVariants.{Challenged};
 
@@ -109,7 +109,7 @@ pub fn user_of(
     answer: &[u8],
 ) -> Result<Option<ByteString>, AllocError>
     ensures { IfOk result (λ user.
-        IsAnswerOf challenge.now (logins_of options.now.users) answer.now user) }
+        IsAnswerOf challenge.now (logins_or_none options.now.users) answer.now user) }
 {
     let Some(users) = options.users() else {
         return Ok(None);

@@ -36,11 +36,11 @@ use Rattle.edit_rules.specs.Edits.{new_edit}
 use Rattle.machine.specs.Settings.{Settings}
 use Rattle.machine.specs.Stages.{Stage}
 use Rattle.machine.specs.Answers.{Verdict, Answer, says, change_answer, ChangeStep, behind, Behind}
-use Rattle.machine.specs.Commands.{OwnStep, asked_by, lock_tokens, commit_begins, without_token, lock_ask, unlock_ask, lock_answer, LockStep, UnlockStep, PropertyStep, reparented, login_request}
+use Rattle.machine.specs.Commands.{OwnStep, asked_by, lock_tokens, commit_begins, env_without_token, lock_ask, unlock_ask, lock_answer, LockStep, UnlockStep, PropertyStep, reparented, login_request}
 use Rattle.machine.specs.Reports.{drawn_answer, driven_answer}
 use Rattle.machine.specs.Logins.{offer, chosen, wants_user, speaks, url_answer, greeting_answer, LoggedIn, ChoiceStep, LoginStep, with_user, OutcomeStep, ChallengeStep}
 use Rattle.machine.specs.Machine.{InputStep, KnownCommand, MainStep, skipping_answer}
-use Rattle.machine.specs.declared.asked.Asked.{Asked}
+use Rattle.machine.specs.declared.commit_parameters.CommitParameters.{CommitParameters}
 use Rattle.machine.specs.declared.env.Env.{Env}
 use Rattle.machine.specs.declared.login.Mechanism.{Mechanism}
 use Rattle.machine.specs.declared.login.Mechanism.TheVariants as mechanisms
@@ -141,7 +141,7 @@ quiet_step s false env client (Some r) answer a quiet is = quiet_is s a _ is (pl
 quiet_step s false env client None answer a quiet (v, is) = quiet_is s a _ is (quiet v)
 
 quiet_locked : (s : Settings) (env : Env) (client : Client) (ask : LockAsk) (v : Verdict) → IsQuiet s (lock_answer env client ask v)
-quiet_locked s env client ask Written = quiet_change s (without_token env) client (Locks ask) _ Written refl
+quiet_locked s env client ask Written = quiet_change s (env_without_token env) client (Locks ask) _ Written refl
 quiet_locked s env client ask NotWritten = quiet_change s env client (Locks ask) [] NotWritten refl
 quiet_locked s env client ask Unknown = quiet_change s env client (Locks ask) [] Unknown refl
 
@@ -170,7 +170,7 @@ quiet_property s true halted env c client command a step =
 
 -- ---- commands
 
-quiet_begins : (s : Settings) (env : Env) (client : Client) (r : Result Asked Refusal) → IsQuiet s (commit_begins s env client r)
+quiet_begins : (s : Settings) (env : Env) (client : Client) (r : Result CommitParameters Refusal) → IsQuiet s (commit_begins s env client r)
 quiet_begins s env client (Ok asked) = record { kept = tt; new = refl }
 quiet_begins s env client (Err r) = plain s env client _
 

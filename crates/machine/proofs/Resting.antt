@@ -28,7 +28,7 @@ use Rattle.machine.specs.Answers.{Verdict, Effect, Answer, content_after}
 use Rattle.machine.specs.Machine.{InputStep, MachineEdit, JudgedEdit, CommitStep, CloseStep, CommandStep, EditingStep, ending_of, commit_ask, release_effect, phase_after, CommittedStep}
 use Rattle.machine.specs.Answers.Verdict.{Written, NotWritten, Unknown}
 use Rattle.machine.specs.Steps.{input_step, StepAt, StepWritten, StepOrNothing, AddsAll, Stores, EffectAt}
-use Rattle.machine.specs.declared.asked.Asked.{Asked}
+use Rattle.machine.specs.declared.commit_parameters.CommitParameters.{CommitParameters}
 use Rattle.machine.specs.declared.env.Env.{Env}
 use Rattle.machine.specs.declared.ending.Ending.{Ending}
 use Rattle.machine.specs.declared.ending.Ending.TheVariants.{Commits as ToCommit, GivesUp}
@@ -142,7 +142,7 @@ rests_commit true env c client ask t r a is = rests_is c a _ is tt
 rests_commit false env c client ask t (Some r) a is = rests_is c a _ is tt
 rests_commit false env c client ask t None a (v, step) = rests_committed env c client ask t v a step
 
-rests_close : (halted : Bool) (env : Env) (c : RepoState) (client : Client) (asked : Asked) (r : Result TxnState Refusal) (a : Answer)
+rests_close : (halted : Bool) (env : Env) (c : RepoState) (client : Client) (asked : CommitParameters) (r : Result TxnState Refusal) (a : Answer)
     → CloseStep halted env c client asked r a → EditRests a.phase c
 rests_close halted env c client asked (Ok t) a (date, is_date, step) =
     rests_commit halted env c client (commit_ask client asked date) t (commit_refusal c (commit_ask client asked date) t) a step

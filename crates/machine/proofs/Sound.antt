@@ -33,7 +33,7 @@ use Rattle.machine.specs.Answers.{Verdict, Answer, content_after}
 use Rattle.machine.specs.Machine.{InputStep, MachineEdit, JudgedEdit, CommitStep, CloseStep, CommandStep, EditingStep, ending_of, commit_ask, Release, release_effect, phase_after, made_answer, CommittedStep}
 use Rattle.machine.specs.Machine.Release.{Stays, Released, Lacks, Fails}
 use Rattle.machine.specs.Answers.Verdict.{Written, NotWritten, Unknown}
-use Rattle.machine.specs.declared.asked.Asked.{Asked}
+use Rattle.machine.specs.declared.commit_parameters.CommitParameters.{CommitParameters}
 use Rattle.machine.specs.declared.env.Env.{Env}
 use Rattle.machine.specs.declared.ending.Ending.{Ending}
 use Rattle.machine.specs.declared.ending.Ending.TheVariants.{Commits as ToCommit, GivesUp}
@@ -161,7 +161,7 @@ module _ (begins : (path : PathValue) (name : List ℕ) → IsSoundEdit (new_edi
       let met = meets c ask t trees.1 (youngest_tree c t trees.0 b m) b m tree judged in
       leaves_committed env c client ask t v a trees met step
 
-  leaves_close : (halted : Bool) (env : Env) (c : RepoState) (client : Client) (asked : Asked) (edit : EditState) (r : Result TxnState Refusal) (a : Answer)
+  leaves_close : (halted : Bool) (env : Env) (c : RepoState) (client : Client) (asked : CommitParameters) (edit : EditState) (r : Result TxnState Refusal) (a : Answer)
       → AreSound c.revisions → RestsOn edit c → IsSoundEdit edit → finished edit ≡ r → CloseStep halted env c client asked r a → LeavesTrees c a
   leaves_close halted env c client asked edit (Ok t) a trees rests sound is (date, is_date, step) =
       let here : edit.txn ≡ Some t = finished_is edit.refused edit.txn edit.tokens t is in

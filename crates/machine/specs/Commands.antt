@@ -30,7 +30,7 @@ use Rattle.replies.specs.declared.reply.Reply.{Reply}
 use Rattle.replies.specs.declared.reply.Reply.TheVariants as replies
 use Rattle.reports.specs.declared.ask.Purpose.TheVariants as purposes
 use Rattle.edit_rules.specs.Edits.{new_edit}
-use Rattle.edit_rules.specs.Refusing.{is_property_name}
+use Rattle.repo_api.specs.Judging.{is_property_name}
 use Rattle.machine.specs.Settings.{Settings}
 use Rattle.machine.specs.Answers.{Verdict, Answer, says, serves, change_answer, ChangeStep}
 use Rattle.machine.specs.Answers.Verdict.{Written, NotWritten, Unknown}
@@ -38,7 +38,7 @@ use Rattle.machine.specs.Histories.{all_joined, log_replies, locations_replies}
 use Rattle.machine.specs.Readings.{place_read, file_replies, directory_reply, stat_reply, dated_reply, property_reply}
 use Rattle.machine.specs.Reports.{report_begins}
 use Rattle.machine.specs.declared.env.Env.{Env}
-use Rattle.machine.specs.declared.asked.Asked.{Asked}
+use Rattle.machine.specs.declared.commit_parameters.CommitParameters.{CommitParameters}
 use Rattle.machine.specs.declared.phase.Phase.TheVariants.{Serving, Editing}
 use Rattle.machine.specs.declared.phase.Client.{Client}
 
@@ -86,7 +86,7 @@ set_all ps [] = ps
 set_all ps (pair ∷ pairs) = set_all (with_property ps pair.0 pair.1) pairs
 
 -- what a commit asks for, or why it is refused
-abbrev pub asked_by : CommitCommand → Result LockTokens PathFault → Result Asked Refusal
+abbrev pub asked_by : CommitCommand → Result LockTokens PathFault → Result CommitParameters Refusal
 asked_by command (Err fault) = Err (path_refusal fault)
 asked_by command (Ok tokens) =
     if are_named command.properties
@@ -94,7 +94,7 @@ asked_by command (Ok tokens) =
     else Err refusals.NotSupported
 
 -- an edit begins, or is refused in its place
-abbrev pub commit_begins : Settings → Env → Client → Result Asked Refusal → Answer
+abbrev pub commit_begins : Settings → Env → Client → Result CommitParameters Refusal → Answer
 commit_begins s env client (Ok asked) =
     says env (Editing (record { client = client; asked = asked; editor = new_edit client.path s.name })) (replies.Success ∷ [])
 commit_begins s env client (Err r) = serves env client (replies.Failure r)
@@ -114,8 +114,8 @@ abbrev pub token_text : ℕ → List ℕ
 token_text word = codes "opaquelocktoken:" ++ uuid_text word
 
 -- the words that are left once the token is used: the next one, and 0 behind the greatest
-abbrev pub without_token : Env → Env
-without_token env = record env { token = (env.token + 1) % 2 ^ 128 }
+abbrev pub env_without_token : Env → Env
+env_without_token env = record env { token = (env.token + 1) % 2 ^ 128 }
 
 -- what is asked of a path by a lock of this date, and by an unlock
 abbrev pub lock_ask : Env → Client → LockCommand → PathValue → List ℕ → LockAsk
@@ -140,7 +140,7 @@ unlock_ask client command path = record {
 -- a lock that is made uses the token, and is told
 abbrev pub lock_answer : Env → Client → LockAsk → Verdict → Answer
 lock_answer env client ask Written =
-    change_answer (without_token env) client (Locks ask)
+    change_answer (env_without_token env) client (Locks ask)
     (replies.Lock ask.path (lock_of ask) ∷ []) Written
 lock_answer env client ask NotWritten = change_answer env client (Locks ask) [] NotWritten
 lock_answer env client ask Unknown = change_answer env client (Locks ask) [] Unknown

@@ -23,7 +23,7 @@ use Rattle.replies.specs.Replies.{logged_change}
 use Rattle.replies.specs.declared.histories.LoggedChange.{LoggedChange}
 use Rattle.replies.specs.declared.reply.Reply.{Reply}
 use Rattle.replies.specs.declared.reply.Reply.TheVariants as replies
-use Rattle.machine.specs.Readings.{author_of, date_of, revision_value}
+use Rattle.machine.specs.Readings.{author_of, revision_date, revision_value}
 
 -- ---- the end of what is listed
 
@@ -105,7 +105,7 @@ revision_told c wants_changes n = replies.LogEntry (record {
   changes = changes_told c wants_changes n;
   revision = n;
   author = author_of c n;
-  date = date_of c n;
+  date = revision_date c n;
   message = message_of c n;
 })
 

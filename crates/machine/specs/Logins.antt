@@ -123,9 +123,9 @@ LoginStep halted s env c login (Err fault) a = a ≡ malformed env
 
 -- ---- a challenge is answered
 
-abbrev pub logins_of : Option (List Login) → List Login
-logins_of None = []
-logins_of (Some users) = users
+abbrev pub logins_or_none : Option (List Login) → List Login
+logins_or_none None = []
+logins_or_none (Some users) = users
 
 abbrev pub with_user : Client → List ℕ → Client
 with_user client name = record client { user = Some name }
@@ -143,5 +143,5 @@ abbrev pub ChallengeStep : Bool → Settings → Env → RepoState → OpenChall
     → Answer → Type 0
 ChallengeStep halted s env c pending None a = a ≡ malformed env
 ChallengeStep halted s env c pending (Some text) a =
-    (user : Option (List ℕ)) × IsAnswerOf pending.challenge (logins_of s.users) text user
+    (user : Option (List ℕ)) × IsAnswerOf pending.challenge (logins_or_none s.users) text user
     × OutcomeStep halted s env c pending.login user a

@@ -32,7 +32,7 @@ use Rattle.machine.specs.Commands.{login_request, OwnStep}
 use Rattle.machine.specs.Reports.{ReportingStep, driven_answer}
 use Rattle.machine.specs.Logins.{asks, wants_user, greeting_answer, LoginStep, ChallengeStep}
 use Rattle.machine.specs.declared.env.Env.{Env}
-use Rattle.machine.specs.declared.asked.Asked.{Asked}
+use Rattle.machine.specs.declared.commit_parameters.CommitParameters.{CommitParameters}
 use Rattle.machine.specs.declared.ending.Ending.{Ending}
 use Rattle.machine.specs.declared.ending.Ending.TheVariants.{Commits, GivesUp}
 use Rattle.machine.specs.declared.phase.OpenEdit.{OpenEdit}
@@ -82,7 +82,7 @@ EditStep env c edit command a = JudgedEdit env c edit command (edit_refusal c ed
 
 -- ---- the end of an edit
 
-abbrev pub commit_ask : Client → Asked → List ℕ → CommitAsk
+abbrev pub commit_ask : Client → CommitParameters → List ℕ → CommitAsk
 commit_ask client asked date = record {
   date = date;
   author = client.user;
@@ -163,7 +163,7 @@ CommitStep false env c client ask t None a =
     (v : Verdict) × CommittedStep env c client ask t v a
 
 -- the edit's transaction is committed, if it has one: dated by the moment, and then judged
-abbrev pub CloseStep : Bool → Env → RepoState → Client → Asked → Result TxnState Refusal → Answer
+abbrev pub CloseStep : Bool → Env → RepoState → Client → CommitParameters → Result TxnState Refusal → Answer
     → Type 0
 CloseStep halted env c client asked (Ok t) a = (date : List ℕ) × IsDateText env.moment date
     × (let ask = commit_ask client asked date in

@@ -49,8 +49,8 @@ abbrev pub revision_value : RepoState → List ℕ → ℕ → Option (List ℕ)
 revision_value c name n = value_of_property name (properties_at c n)
 
 -- the date and the author of a revision
-abbrev pub date_of : RepoState → ℕ → Option (List ℕ)
-date_of c n = revision_value c (codes "svn:date") n
+abbrev pub revision_date : RepoState → ℕ → Option (List ℕ)
+revision_date c n = revision_value c (codes "svn:date") n
 
 abbrev pub author_of : RepoState → ℕ → Option (List ℕ)
 author_of c n = revision_value c (codes "svn:author") n
@@ -91,7 +91,7 @@ node_info c n p = record {
   size = size_at c n p;
   has_properties = are_any (entry_properties c n p);
   created = changed_at c n p;
-  date = date_of c (changed_at c n p);
+  date = revision_date c (changed_at c n p);
   author = author_of c (changed_at c n p);
 }
 
@@ -105,7 +105,7 @@ with_optional name (Some value) ps = with_property ps name value
 abbrev pub with_revision : RepoState → ℕ → PropertyList → PropertyList
 with_revision c n ps =
     with_optional (codes "svn:entry:last-author") (author_of c n)
-    (with_optional (codes "svn:entry:committed-date") (date_of c n)
+    (with_optional (codes "svn:entry:committed-date") (revision_date c n)
     (with_property (with_property ps (codes "svn:entry:committed-rev") (decimal n))
     (codes "svn:entry:uuid") (uuid_text c.uuid)))
 

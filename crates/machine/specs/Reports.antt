@@ -6,7 +6,7 @@ use Rattle.repo_api.specs.States.{RepoState}
 use Rattle.edit_commands.specs.declared.editing.EditorCommand.TheVariants as edits
 use Rattle.replies.specs.declared.reply.Reply.TheVariants as replies
 use Rattle.report_commands.specs.declared.asking.DriveRequest.{DriveRequest}
-use Rattle.reports.specs.Refusing.{ask_of, begun}
+use Rattle.reports.specs.Refusing.{ask_of, begun_report}
 use Rattle.reports.specs.declared.ask.Purpose.{Purpose}
 use Rattle.reports.specs.declared.graft.Graft.{Graft}
 use Rattle.drive_commands.specs.Reporting.{Drawn, ReportStep}
@@ -37,7 +37,8 @@ drawn_answer env client Malformed = malformed env
 abbrev pub report_begins : Settings → Env → RepoState → Client → Purpose → DriveRequest
     → Option (List ℕ) → Answer
 report_begins s env c client purpose request url =
-    drawn_answer env client (GoesOn (begun (ask_of c s.name client.path purpose request url)))
+    drawn_answer env client
+    (GoesOn (begun_report (ask_of c s.name client.path purpose request url)))
 
 -- a command of a report
 abbrev pub ReportingStep : Settings → Env → RepoState → MachineReport → ItemValue → Answer → Type 0

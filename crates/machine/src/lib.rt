@@ -1,7 +1,7 @@
 //! The machine of one session: where it stands, and what each input does there.
 #![tactic(auto)]
 
-mod asked;
+mod commit_parameters;
 mod ending;
 mod env;
 mod laws;
@@ -10,7 +10,7 @@ mod options;
 mod phase;
 mod turn;
 
-pub use asked::Asked;
+pub use commit_parameters::CommitParameters;
 pub use ending::{Ending, ending_of};
 pub use env::Env;
 pub use laws::{one_hearing, steps_keep_trees, steps_rest};

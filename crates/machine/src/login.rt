@@ -1,6 +1,6 @@
 //! A login that is under way.
 ghost use Rattle.std.specs.Prelude.{◌≡◌, option_map};
-ghost use Rattle.machine.specs.Commands.{without_token};
+ghost use Rattle.machine.specs.Commands.{env_without_token};
 ghost use Rattle.machine.specs.Logins.{offer, offers_anonymous, offers_user, chosen, without_nonce};
 
 use crate::env::Env;
@@ -83,7 +83,7 @@ impl Env {
 
     /// The words that are left once the token is used.
     pub fn without_token(self) -> Env
-        ensures { result ≡ without_token self }
+        ensures { result ≡ env_without_token self }
     {
         Env {
             moment: self.moment,

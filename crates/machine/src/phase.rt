@@ -2,7 +2,7 @@
 ghost use Rattle.std.specs.Prelude.{◌≡◌};
 ghost use Rattle.machine.specs.Stages.{is_open};
 
-use crate::asked::Asked;
+use crate::commit_parameters::CommitParameters;
 use crate::login::{OpenChallenge, OpenLogin};
 use byte_string::ByteString;
 use reports::Report;
@@ -21,7 +21,7 @@ pub struct Client {
 #[derive(Drop)]
 pub struct OpenEdit<E> {
     pub client: Client,
-    pub asked: Asked,
+    pub asked: CommitParameters,
     pub editor: E,
 }
 

@@ -9,10 +9,10 @@ use Rattle.repo_api.specs.States.{ChangeMap, LockMap}
 use Rattle.repo_api.specs.declared.lock.Lock.{Lock}
 use Rattle.svnpath.specs.Listings.{listing_permutation}
 use Rattle.svnpath.specs.Paths.{PathValue}
-use Rattle.repo_api.specs.Locking.{Tokens, is_in_the_way, in_the_way, is_handed_in, way_refusal, check_refusal}
+use Rattle.repo_api.specs.Locking.{HandedTokens, is_in_the_way, in_the_way, is_handed_in, way_refusal, check_refusal}
 use Rattle.pathlocks.proofs.Held.{held, none_refuses, not_refused}
 
-pub all_held : (locks : LockMap) (changes : ChangeMap) (user : Option (List ℕ)) (tokens : Tokens) → check_refusal locks changes user tokens ≡ None
+pub all_held : (locks : LockMap) (changes : ChangeMap) (user : Option (List ℕ)) (tokens : HandedTokens) → check_refusal locks changes user tokens ≡ None
     → (p : PathValue) (l : Lock) → get locks p ≡ Some l → is_in_the_way changes p ≡ true → (user ≡ Some l.owner) × (is_handed_in tokens l.token ≡ true)
 all_held locks changes user tokens none p l at way =
     held user (is_handed_in tokens l.token) l

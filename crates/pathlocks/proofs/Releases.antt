@@ -13,7 +13,7 @@ use Rattle.svnpath.specs.Paths.{PathValue, same_path, path_cmp, path_cmp_total, 
 use Rattle.svnpath.specs.PathLaws.{at_is_same, same_path_is, same_path_refl}
 use Rattle.repo_api.specs.States.{LockMap}
 use Rattle.repo_api.specs.declared.lock.Lock.{Lock}
-use Rattle.repo_api.specs.Locking.{LockList, Tokens, is_held, is_released, released, after_release, releases}
+use Rattle.repo_api.specs.Locking.{LockList, HandedTokens, is_held, is_released, released, after_release, releases}
 
 or_false : (b : Bool) → (b || false) ≡ b
 or_false true = refl
@@ -26,14 +26,14 @@ get_kept : (locks : LockMap) (f : PathValue → Bool) (q : PathValue) → get (r
 get_kept locks f q = get-retain_keys locks f q (λ x tie. ap f (sym (path_cmp-IsAntisymmetric q x tie)))
 
 module _ (user : Option (List ℕ)) (old : LockMap) where
-  one_more : (ts : Tokens) (t : PathValue × List ℕ) (q : PathValue)
+  one_more : (ts : HandedTokens) (t : PathValue × List ℕ) (q : PathValue)
       → is_released user (ts ++ t ∷ []) old q ≡ (is_released user ts old q || (same_path t.0 q && is_held user t.1 (get old q)))
   one_more ts t q =
       list_any-append (λ t. same_path t.0 q && is_held user t.1 (get old q)) ts (t ∷ [])
       ∙ ap (λ b. is_released user ts old q || b) (or_false (same_path t.0 q && is_held user t.1 (get old q)))
 
   -- what no pair names is not released
-  pub not_named : (o : Option Lock) (q : PathValue) (ts : Tokens) → list_any (λ t. same_path t.0 q) ts ≡ false → list_any (λ t. same_path t.0 q && is_held user t.1 o) ts ≡ false
+  pub not_named : (o : Option Lock) (q : PathValue) (ts : HandedTokens) → list_any (λ t. same_path t.0 q) ts ≡ false → list_any (λ t. same_path t.0 q && is_held user t.1 o) ts ≡ false
   not_named o q [] h = refl
   not_named o q (t ∷ ts) h = by (same_path t.0 q) h (not_named o q ts)
     where
@@ -43,7 +43,7 @@ module _ (user : Option (List ℕ)) (old : LockMap) where
       by false h rest = rest h
 
   -- what is left after the pairs so far
-  pub left_at : (ts : Tokens) (q : PathValue) → get (after_release user ts old) q ≡ cond (not (is_released user ts old q)) (get old q) None
+  pub left_at : (ts : HandedTokens) (q : PathValue) → get (after_release user ts old) q ≡ cond (not (is_released user ts old q)) (get old q) None
   left_at ts q = get_kept old (λ p. not (is_released user ts old p)) q
 
   none_gone : (r : Bool) (o : Option Lock) → cond r o None ≡ None → cond (not r) o None ≡ o
@@ -51,7 +51,7 @@ module _ (user : Option (List ℕ)) (old : LockMap) where
   none_gone false o h = refl
 
   -- where nothing is taken all is left
-  pub all_left : (ts : Tokens) → released user ts old ≡ empty → after_release user ts old ≡ old
+  pub all_left : (ts : HandedTokens) → released user ts old ≡ empty → after_release user ts old ≡ old
   all_left ts none =
       same_map path_cmp_total path_cmp-IsAntisymmetric (after_release user ts old) old
       (λ q. left_at ts q
@@ -59,7 +59,7 @@ module _ (user : Option (List ℕ)) (old : LockMap) where
       (sym (get_kept old (is_released user ts old) q) ∙ ap (λ (k : LockMap). get k q) none ∙ get-empty path_cmp q))
 
   -- where no pair's lock is held none is released
-  not_held : (q : PathValue) (ts : Tokens) → releases user ts old ≡ false → is_released user ts old q ≡ false
+  not_held : (q : PathValue) (ts : HandedTokens) → releases user ts old ≡ false → is_released user ts old q ≡ false
   not_held q [] h = refl
   not_held q (t ∷ ts) h = by (same_path t.0 q) refl (is_held user t.1 (get old t.0)) refl h (not_held q ts)
     where
@@ -71,7 +71,7 @@ module _ (user : Option (List ℕ)) (old : LockMap) where
           ap (λ x. x || is_released user ts old q) ((λ i. is_held user t.1 (get old (sym (same_path_is t.0 q same) i))) ∙ held) ∙ rest h
       by false same false held h rest = rest h
 
-  pub none_left_out : (ts : Tokens) → releases user ts old ≡ false → after_release user ts old ≡ old
+  pub none_left_out : (ts : HandedTokens) → releases user ts old ≡ false → after_release user ts old ≡ old
   none_left_out ts none =
       same_map path_cmp_total path_cmp-IsAntisymmetric (after_release user ts old) old
       (λ q. left_at ts q ∙ ap (λ b. cond (not b) (get old q) None) (not_held q ts none))
@@ -90,12 +90,12 @@ module _ (user : Option (List ℕ)) (old : LockMap) where
   not_yet token true o h = absurd (false≢true h)
   not_yet token false o h = refl
 
-  held_at : (ts : Tokens) (t : PathValue × List ℕ) (m : LockMap) → m ≡ after_release user ts old → is_held user t.1 (get m t.0) ≡ true
+  held_at : (ts : HandedTokens) (t : PathValue × List ℕ) (m : LockMap) → m ≡ after_release user ts old → is_held user t.1 (get m t.0) ≡ true
       → (q : PathValue) → same_path t.0 q ≡ true → is_held user t.1 (cond (not (is_released user ts old q)) (get old q) None) ≡ true
   held_at ts t m is held q same =
       ap (is_held user t.1) (sym (left_at ts q) ∙ (λ i. get (sym is i) (sym (same_path_is t.0 q same) i))) ∙ held
 
-  left_hit : (ts : Tokens) (t : PathValue × List ℕ) (m : LockMap) → m ≡ after_release user ts old → is_held user t.1 (get m t.0) ≡ true
+  left_hit : (ts : HandedTokens) (t : PathValue × List ℕ) (m : LockMap) → m ≡ after_release user ts old → is_held user t.1 (get m t.0) ≡ true
       → remove m t.0 ≡ after_release user (ts ++ t ∷ []) old
   left_hit ts t m is held =
       same_map path_cmp_total path_cmp-IsAntisymmetric (remove m t.0) (after_release user (ts ++ t ∷ []) old)
@@ -112,7 +112,7 @@ module _ (user : Option (List ℕ)) (old : LockMap) where
       by q true same = gone t.1 (is_released user ts old q) (get old q) (held_at ts t m is held q same)
       by q false same = ap (λ b. cond (not b) (get old q) None) (sym (or_false (is_released user ts old q)))
 
-  taken_hit : (ts : Tokens) (t : PathValue × List ℕ) (m : LockMap) (l : Lock) (xs : LockList) → m ≡ after_release user ts old → is_held user t.1 (get m t.0) ≡ true
+  taken_hit : (ts : HandedTokens) (t : PathValue × List ℕ) (m : LockMap) (l : Lock) (xs : LockList) → m ≡ after_release user ts old → is_held user t.1 (get m t.0) ≡ true
       → get m t.0 ≡ Some l → from_entries xs ≡ released user ts old → from_entries (xs ++ (t.0, l) ∷ []) ≡ released user (ts ++ t ∷ []) old
   taken_hit ts t m l xs is held at so =
       from_entries_push path_cmp_total path_cmp-IsAntisymmetric xs t.0 l
@@ -140,7 +140,7 @@ module _ (user : Option (List ℕ)) (old : LockMap) where
   or_not token true o h = refl
   or_not token false o h = h
 
-  same_released : (ts : Tokens) (t : PathValue × List ℕ) (m : LockMap) → m ≡ after_release user ts old → is_held user t.1 (get m t.0) ≡ false
+  same_released : (ts : HandedTokens) (t : PathValue × List ℕ) (m : LockMap) → m ≡ after_release user ts old → is_held user t.1 (get m t.0) ≡ false
       → (q : PathValue) → is_released user ts old q ≡ is_released user (ts ++ t ∷ []) old q
   same_released ts t m is held q = sym (one_more ts t q ∙ by (same_path t.0 q) refl)
     where
@@ -150,21 +150,21 @@ module _ (user : Option (List ℕ)) (old : LockMap) where
           (ap (is_held user t.1) (sym (left_at ts q) ∙ (λ i. get (sym is i) (sym (same_path_is t.0 q same) i))) ∙ held)
       by false same = or_false (is_released user ts old q)
 
-  left_miss : (ts : Tokens) (t : PathValue × List ℕ) (m : LockMap) → m ≡ after_release user ts old → is_held user t.1 (get m t.0) ≡ false
+  left_miss : (ts : HandedTokens) (t : PathValue × List ℕ) (m : LockMap) → m ≡ after_release user ts old → is_held user t.1 (get m t.0) ≡ false
       → m ≡ after_release user (ts ++ t ∷ []) old
   left_miss ts t m is held = is ∙ ap (retain_keys old) (λ i p. not (same_released ts t m is held p i))
 
-  taken_miss : (ts : Tokens) (t : PathValue × List ℕ) (m : LockMap) (k : LockMap) → m ≡ after_release user ts old → is_held user t.1 (get m t.0) ≡ false
+  taken_miss : (ts : HandedTokens) (t : PathValue × List ℕ) (m : LockMap) (k : LockMap) → m ≡ after_release user ts old → is_held user t.1 (get m t.0) ≡ false
       → k ≡ released user ts old → k ≡ released user (ts ++ t ∷ []) old
   taken_miss ts t m k is held so = so ∙ ap (retain_keys old) (λ i p. same_released ts t m is held p i)
 
   -- ---- all that a release keeps as it goes
 
   -- these locks are left, and these were taken, after the pairs so far
-  abbrev pub Releases : Tokens → LockMap → LockList → Type 0
+  abbrev pub Releases : HandedTokens → LockMap → LockList → Type 0
   Releases ts m xs = (m ≡ after_release user ts old) × (from_entries xs ≡ released user ts old) × (length xs + len m ≡ len old)
 
-  pub same_releases : {ts ts' : Tokens} {m m' : LockMap} {xs xs' : LockList} → ts ≡ ts' → m ≡ m' → xs ≡ xs' → Releases ts m xs → Releases ts' m' xs'
+  pub same_releases : {ts ts' : HandedTokens} {m m' : LockMap} {xs xs' : LockList} → ts ≡ ts' → m ≡ m' → xs ≡ xs' → Releases ts m xs → Releases ts' m' xs'
   same_releases p q r so = subst (λ X. X) (λ i. Releases (p i) (q i) (r i)) so
 
   pub begins : Releases [] old []
@@ -195,7 +195,7 @@ module _ (user : Option (List ℕ)) (old : LockMap) where
   counted : (xs : LockList) (e : PathValue × Lock) (m n k : ℕ) → length xs + m ≡ k → n + 1 ≡ m → length (xs ++ e ∷ []) + n ≡ k
   counted xs e m n k so less = let more = length_push xs e in omega arith
 
-  pub hit : (ts : Tokens) (t : PathValue × List ℕ) (m : LockMap) (xs : LockList) (e : PathValue × Lock) → Releases ts m xs → is_held user t.1 (get m t.0) ≡ true
+  pub hit : (ts : HandedTokens) (t : PathValue × List ℕ) (m : LockMap) (xs : LockList) (e : PathValue × Lock) → Releases ts m xs → is_held user t.1 (get m t.0) ≡ true
       → option_map (λ l. (t.0, l)) (get m t.0) ≡ Some e → Releases (ts ++ t ∷ []) (remove m t.0) (xs ++ e ∷ [])
   hit ts t m xs e so held at =
       let found = entry_is (get m t.0) t.0 e at in (
@@ -204,7 +204,7 @@ module _ (user : Option (List ℕ)) (old : LockMap) where
         counted xs e (len m) (len (remove m t.0)) (len old) so.2 (one_less m t.0 found.0 found.1),
       )
 
-  pub miss : (ts : Tokens) (t : PathValue × List ℕ) (m : LockMap) (xs : LockList) → Releases ts m xs → is_held user t.1 (get m t.0) ≡ false
+  pub miss : (ts : HandedTokens) (t : PathValue × List ℕ) (m : LockMap) (xs : LockList) → Releases ts m xs → is_held user t.1 (get m t.0) ≡ false
       → Releases (ts ++ t ∷ []) m xs
   miss ts t m xs so held = (left_miss ts t m so.0 held, taken_miss ts t m (from_entries xs) so.0 held so.1, so.2)
 

@@ -5,7 +5,7 @@ ghost use Rattle.std.specs.List.{list_any};
 ghost use Rattle.svnpath.specs.Paths.{PathValue, same_path};
 ghost use Rattle.repo_api.specs.States.{ChangeMap, LockMap, RepoState, TxnState};
 ghost use Rattle.repo_api.specs.declared.lock.Lock.{Lock};
-ghost use Rattle.repo_api.specs.Locking.{Tokens, is_in_the_way, is_handed_in, check_refusal, released, after_release, releases};
+ghost use Rattle.repo_api.specs.Locking.{HandedTokens, is_in_the_way, is_handed_in, check_refusal, released, after_release, releases};
 ghost use Rattle.repo_api.specs.Accepted.{Accepted, changed_all};
 ghost use Rattle.repo_api.specs.Commits.{commit_refusal};
 ghost use Rattle.repo_api.specs.LockRuns.{names_lock, HaveOwnTokens, HaveNewTokens};
@@ -13,7 +13,8 @@ ghost use Rattle.repo_api.specs.declared.ask.CommitAsk.{CommitAsk};
 
 /// Where no lock refuses a commit, each lock in its way is its user's, and its token was handed in.
 pub fn locks_in_the_way_are_held()
-    ensures { (locks : LockMap) (changes : ChangeMap) (user : Option (List ℕ)) (tokens : Tokens)
+    ensures { (locks : LockMap) (changes : ChangeMap) (user : Option (List ℕ))
+        (tokens : HandedTokens)
         → check_refusal locks changes user tokens ≡ None → (p : PathValue) (l : Lock)
         → get locks p ≡ Some l → is_in_the_way changes p ≡ true
         → (user ≡ Some l.owner) × IsTrue (is_handed_in tokens l.token) }
@@ -25,16 +26,17 @@ pub fn other_locks_stay()
         → get (insert locks p l) q ≡ get locks q }
     ensures unlocks { (locks : LockMap) (p q : PathValue) → same_path p q ≡ false
         → get (remove locks p) q ≡ get locks q }
-    ensures releases { (locks : LockMap) (user : Option (List ℕ)) (tokens : Tokens) (q : PathValue)
+    ensures releases { (locks : LockMap) (user : Option (List ℕ)) (tokens : HandedTokens)
+        (q : PathValue)
         → list_any (λ t. same_path t.0 q) tokens ≡ false
         → get (after_release user tokens locks) q ≡ get locks q }
 {}
 
 /// A release that takes no lock changes nothing.
 pub fn a_release_of_none_changes_nothing()
-    ensures asked { (locks : LockMap) (user : Option (List ℕ)) (tokens : Tokens)
+    ensures asked { (locks : LockMap) (user : Option (List ℕ)) (tokens : HandedTokens)
         → releases user tokens locks ≡ false → after_release user tokens locks ≡ locks }
-    ensures taken { (locks : LockMap) (user : Option (List ℕ)) (tokens : Tokens)
+    ensures taken { (locks : LockMap) (user : Option (List ℕ)) (tokens : HandedTokens)
         → released user tokens locks ≡ empty → after_release user tokens locks ≡ locks }
 {}
 

@@ -1,12 +1,12 @@
 //! What refuses the use of a lock.
 ghost use Rattle.std.specs.Prelude.{◌≡◌, ℕ, List, IfOk, map, option_copied};
 ghost use Rattle.std.specs.Map.Iter.{deref_pair};
-ghost use Rattle.pathlocks.specs.Handed.{is_among};
-ghost use Rattle.repo_api.specs.Locking.{holder_refusal, is_handed_in, way_refusal, first_refusal, user_refusal, is_below, entry_refusal, place_refusal, owner_of, lock_of, is_token, taking_refusal, is_held};
+ghost use Rattle.pathlocks.specs.Handed.{is_lent};
+ghost use Rattle.repo_api.specs.Locking.{holder_refusal, is_handed_in, way_refusal, first_refusal, user_refusal, entry_refusal, lock_place_refusal, owner_of, lock_of, is_token, taking_refusal, is_held};
 
 use byte_string::ByteString;
 use refusals::Refusal;
-use repo_api::{LOCK_LIMIT, Lock, LockAsk, NodeKind, UnlockAsk};
+use repo_api::{LOCK_LIMIT, Lock, LockAsk, NodeKind, UnlockAsk, is_older};
 use std::alloc::{AllocError, Global};
 use std::collections::BTreeSet;
 use svnpath::Path;
@@ -33,7 +33,7 @@ pub(crate) fn handed_in<'a>(
     tokens: &'a [(Path, ByteString)],
 ) -> Result<BTreeSet<&'a [u8]>, AllocError>
     ensures { IfOk result (λ set. (token : List ℕ)
-        → is_among set.keys token ≡ is_handed_in tokens.now token) }
+        → is_lent set.keys token ≡ is_handed_in tokens.now token) }
 {
     let mut set = BTreeSet::new(alloc);
     for pair in tokens {
@@ -44,14 +44,14 @@ pub(crate) fn handed_in<'a>(
 
 /// Whether the token is in the set.
 fn has_token(set: &BTreeSet<&[u8]>, token: &ByteString) -> bool
-    ensures { result ≡ is_among set.now.keys token.now }
+    ensures { result ≡ is_lent set.now.keys token.now }
 {
     set.contains(token.as_slice())
 }
 
 /// Why a lock in the way refuses a commit with these tokens.
 fn way_refusal(user: Option<&ByteString>, tokens: &BTreeSet<&[u8]>, lock: &Lock) -> Option<Refusal>
-    ensures { result ≡ way_refusal (option_copied user.entry) (is_among tokens.now.keys) lock.now }
+    ensures { result ≡ way_refusal (option_copied user.entry) (is_lent tokens.now.keys) lock.now }
 {
     holder_refusal(user, has_token(tokens, &lock.token), lock)
 }
@@ -63,7 +63,8 @@ pub(crate) fn first_refusal(
     tokens: &BTreeSet<&[u8]>,
 ) -> Option<Refusal>
     ensures { result
-        ≡ first_refusal (option_copied user.entry) (is_among tokens.now.keys) (map deref_pair locks.now) }
+        ≡ first_refusal (option_copied user.entry) (is_lent tokens.now.keys)
+        (map deref_pair locks.now) }
 {
     for pair in locks {
         if let Some(refusal) = way_refusal(user, tokens, pair.1) {
@@ -106,16 +107,6 @@ pub(crate) fn user_refusal(user: Option<&ByteString>) -> Option<Refusal>
     }
 }
 
-/// Whether the client has seen a revision before the last change.
-fn is_below(current: Option<u64>, created: Option<u64>) -> bool
-    ensures { result ≡ is_below current created }
-{
-    match (current, created) {
-        (Some(current), Some(created)) => current < created,
-        _ => false,
-    }
-}
-
 /// Why what stands at a path, last changed at this revision, is not locked by a client that has seen it
 /// at that one.
 pub(crate) fn entry_refusal(
@@ -129,7 +120,7 @@ pub(crate) fn entry_refusal(
         NodeKind::Absent => Some(Refusal::NotFound),
         NodeKind::Directory => Some(Refusal::NotAFile),
         NodeKind::File => {
-            if is_below(current, created) {
+            if is_older(current, created) {
                 Some(Refusal::LockOutOfDate)
             } else {
                 None
@@ -140,7 +131,7 @@ pub(crate) fn entry_refusal(
 
 /// Why no lock is put where this one stands or none does, and so many stand in all.
 pub(crate) fn place_refusal(steals: bool, lock: Option<&Lock>, count: usize) -> Option<Refusal>
-    ensures { result ≡ place_refusal steals (option_copied lock.entry) count }
+    ensures { result ≡ lock_place_refusal steals (option_copied lock.entry) count }
 {
     match lock {
         None => {

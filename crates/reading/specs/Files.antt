@@ -5,6 +5,6 @@ use Rattle.replies.specs.declared.reply.Reply.{Reply}
 use Rattle.replies.specs.declared.reply.Reply.TheVariants as replies
 
 -- the text, if it is sent, and that it is whole
-abbrev pub text_sent : Option (List ℕ) → List Reply
-text_sent None = []
-text_sent (Some text) = contents text ++ replies.Success ∷ []
+abbrev pub text_replies : Option (List ℕ) → List Reply
+text_replies None = []
+text_replies (Some text) = contents text ++ replies.Success ∷ []

@@ -9,7 +9,7 @@ ghost use Rattle.replies.specs.Sinks.{WritesPart};
 ghost use Rattle.replies.specs.declared.reply.Reply.{Reply};
 ghost use Rattle.access.specs.Points.{content_of};
 ghost use Rattle.machine.specs.Readings.{file_at, file_replies, file_told, no_file, place_read, text_told};
-ghost use Rattle.reading.specs.Files.{text_sent};
+ghost use Rattle.reading.specs.Files.{text_replies};
 
 use crate::entries::shown_properties;
 use crate::places::place_read;
@@ -35,11 +35,11 @@ pub struct FileAnswer {
 impl Model for FileAnswer {
     ghost use Rattle.std.specs.Prelude.{List, ◌∷◌};
     ghost use Rattle.replies.specs.declared.reply.Reply.{Reply};
-    ghost use Rattle.reading.specs.Files.{text_sent};
+    ghost use Rattle.reading.specs.Files.{text_replies};
 
     ghost Value = { List Reply };
 
-    ghost view = { λ a. a.told ∷ text_sent a.text };
+    ghost view = { λ a. a.told ∷ text_replies a.text };
 }
 
 impl FileAnswer {
@@ -65,9 +65,9 @@ impl FileAnswer {
 
 /// Writes a text, if it is sent, and that it is whole.
 fn say_sent<S: ReplySink>(text: &Option<FileText>, out: &mut S) -> Result<(), AllocError>
-    ensures ok { OnOk result (S.writes out.old out.new (print (text_sent text.now))) }
+    ensures ok { OnOk result (S.writes out.old out.new (print (text_replies text.now))) }
     ensures err { OnErr result (WritesPart (S.writes out.old out.new)
-        (print (text_sent text.now))) }
+        (print (text_replies text.now))) }
 {
     match text {
         Some(text) => say_text(text, out),
@@ -167,7 +167,7 @@ fn digest_text(alloc: Global, text: &FileText) -> Result<ByteString, AllocError>
 
 /// The text, where it is wanted.
 fn text_told(wanted: bool, text: &FileText) -> Result<Option<FileText>, AllocError>
-    ensures { IfOk result (λ sent. text_sent sent ≡ text_told wanted text.now) }
+    ensures { IfOk result (λ sent. text_replies sent ≡ text_told wanted text.now) }
 {
     if wanted {
         Ok(Some(text.clone()?))

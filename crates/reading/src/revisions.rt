@@ -2,7 +2,7 @@
 ghost use Rattle.std.specs.Prelude.{◌≡◌, IfOk, option_copied};
 ghost use Rattle.repo_api.specs.Kinds.{properties_at};
 ghost use Rattle.access.specs.Points.{content_of};
-ghost use Rattle.machine.specs.Readings.{author_of, date_of, dated_reply, property_reply, revision_value, value_of_property};
+ghost use Rattle.machine.specs.Readings.{author_of, revision_date, dated_reply, property_reply, revision_value, value_of_property};
 
 use crate::places::revision_read;
 use access::RepoAccess;
@@ -65,7 +65,7 @@ fn rev_prop<R: Repository>(view: &R, revision: u64, name: &[u8]) -> Result<Reply
 
 /// The date of a revision.
 pub fn date_of<R: Repository>(view: &R, revision: u64) -> Result<Option<ByteString>, AllocError>
-    ensures { IfOk result (λ date. date ≡ date_of (R.content view.now) revision) }
+    ensures { IfOk result (λ date. date ≡ revision_date (R.content view.now) revision) }
 {
     revision_value(view, b"svn:date", revision)
 }

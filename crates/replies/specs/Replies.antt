@@ -148,8 +148,8 @@ log_entry entry =
     (list (optional_string_trees entry.message))))))
 
 -- `( rev path )`: where something was in a revision
-abbrev pub location : ℕ → PathValue → ItemValue
-location revision path = list (both (number revision) (string (path_text path)))
+abbrev pub location_item : ℕ → PathValue → ItemValue
+location_item revision path = list (both (number revision) (string (path_text path)))
 
 -- `( path token owner [ comment ] created ( ) )`: a lock at a path; no lock has an end
 abbrev pub lock_tree : PathValue → LockValue → ItemValue
@@ -203,7 +203,7 @@ reply_item (DirectoryInfo info) = directory_info info
 reply_item (Stat node) = success (only (list (stat_trees node)))
 reply_item (RevisionProperty value) = success (only (list (optional_string_trees value)))
 reply_item (LogEntry entry) = log_entry entry
-reply_item (Location revision path) = location revision path
+reply_item (Location revision path) = location_item revision path
 reply_item (Edit command) = command_item command
 reply_item Done = word (codes "done")
 reply_item (Failure refusal) =

@@ -3,7 +3,7 @@ ghost use Rattle.std.specs.Prelude.{◌≡◌, ◌++◌, ◌∷◌, [], IfOk, On
 ghost use Rattle.items.specs.View.{value_of};
 ghost use Rattle.items.specs.Values.{list, more, string, word};
 ghost use Rattle.items.specs.Word.{IsWord};
-ghost use Rattle.replies.specs.Replies.{action_word, boolean_name, both, change_tree, change_trees, kind_word, location, log_entry, logged_change, source_trees};
+ghost use Rattle.replies.specs.Replies.{action_word, boolean_name, both, change_tree, change_trees, kind_word, location_item, log_entry, logged_change, source_trees};
 
 use crate::build::{
     boolean_item, kind_name, list_item, number_item, optional_string_item, path_item, string_item,
@@ -176,7 +176,7 @@ fn source_item(alloc: Global, source: &Option<Source>) -> Result<Item, AllocErro
 
 /// `( rev path )`
 pub(crate) fn location_item(alloc: Global, revision: u64, path: &Path) -> Result<Item, AllocError>
-    ensures { IfOk result (λ item. value_of item ≡ location revision path.now) }
+    ensures { IfOk result (λ item. value_of item ≡ location_item revision path.now) }
 {
     let path = path_item(alloc, path)?;
     list_item(alloc, [number_item(revision), path])

@@ -4,8 +4,8 @@ use Rattle.std.proofs.lemmas.Bool.{false≢true}
 use Rattle.std.specs.Prelude.{if◌then◌else◌, IsSome}
 use Rattle.svnpath.specs.Paths.{PathValue}
 use Rattle.repo_api.specs.Properties.{PropertyList}
-use Rattle.repo_api.specs.Trees.{Tree, is_open}
-use Rattle.repo_api.specs.Merge.{sealed, is_changed, is_one_directory, is_untouched, has_open_last, joined, merged, HasNoConflict}
+use Rattle.repo_api.specs.Trees.{Tree, is_open_mark}
+use Rattle.repo_api.specs.Merge.{sealed, is_changed, is_one_directory, is_untouched, has_open_last, changed_beneath, merged, HasNoConflict}
 use Rattle.repo_api.specs.Marks.{shown, own_of, last_of, has_open_own, MeetWell}
 use Rattle.repo_api.specs.declared.entry.Entry.{Entry}
 use Rattle.repo_api.specs.declared.entry.Content.{Content}
@@ -44,10 +44,10 @@ same_entry (Some e) (Some f) s o l =
 shut_own : (x s : Option Entry) → own_of x ≡ own_of s → has_open_own x ≡ false → has_open_own s ≡ false
 shut_own x None same h = refl
 shut_own None (Some s) same h = absurd (false≢true (ap is_some same))
-shut_own (Some x) (Some s) same h = let e : x.own ≡ s.own = cc in sym (ap is_open e) ∙ h
+shut_own (Some x) (Some s) same h = let e : x.own ≡ s.own = cc in sym (ap is_open_mark e) ∙ h
 
 -- an open `last` on a present entry
-joined_last : (n : ℕ) (p : PathValue) (s o : Option Entry) → has_open_last s ≡ true → IsSome o → last_of (option_map (joined n p s) o) ≡ Some (Made n p)
+joined_last : (n : ℕ) (p : PathValue) (s o : Option Entry) → has_open_last s ≡ true → IsSome o → last_of (option_map (changed_beneath n p s) o) ≡ Some (Made n p)
 joined_last n p s None h some = absurd (false≢true some)
 joined_last n p s (Some t) h some = ap (λ (b : Bool). Some (if b then record t { last = Made n p } else t).last) h
 
@@ -65,14 +65,14 @@ module _ (trees : ℕ → Tree) (n b : ℕ) (txn : Tree) (w : MeetWell trees b t
   pub merged_alone : (p : PathValue) → merged n (trees b) txn (trees b) p ≡ option_map (sealed n p) (txn p)
   merged_alone p = by (is_untouched (trees b p) (txn p)) refl
     where
-      joins : is_untouched (trees b p) (txn p) ≡ true → (h : Bool) → has_open_last (txn p) ≡ h → option_map (joined n p (txn p)) (trees b p) ≡ option_map (sealed n p) (txn p)
+      joins : is_untouched (trees b p) (txn p) ≡ true → (h : Bool) → has_open_last (txn p) ≡ h → option_map (changed_beneath n p (txn p)) (trees b p) ≡ option_map (sealed n p) (txn p)
       joins e false h =
           let same : trees b p ≡ txn p = here trees n b b txn w (trees b) txn p (to_txn trees n b b txn w p (left_unchanged (trees b p) (txn p) e h)) in
           joined_left n p (txn p) (trees b p) h ∙ same ∙ sym (sealed_shut n p (txn p) (sym (ap has_open_own same) ∙ (w.marked.closed b p).0) h)
       joins e true h =
           let own : own_of (trees b p) ≡ own_of (txn p) = untouched_own (trees b p) (txn p) e in
           let shut : has_open_own (trees b p) ≡ false = (w.marked.closed b p).0 in
-          same_entry (option_map (joined n p (txn p)) (trees b p)) (option_map (sealed n p) (txn p))
+          same_entry (option_map (changed_beneath n p (txn p)) (trees b p)) (option_map (sealed n p) (txn p))
           (joined_shown n p (txn p) (trees b p) ∙ same_look trees (trees b) txn p (w.marked.named b) w.is_of.named shut own ∙ sym (sealed_shown n p (txn p)))
           (joined_own n p (txn p) (trees b p) ∙ own ∙ sym (sealed_own_shut n p (txn p) (shut_own (trees b p) (txn p) own shut)))
           (joined_last n p (txn p) (trees b p) h (some_by_own (trees b p) (txn p) own (open_last_some (txn p) h)) ∙ sym (sealed_last_open n p (txn p) h))

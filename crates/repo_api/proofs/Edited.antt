@@ -4,7 +4,7 @@ use Rattle.std.proofs.lemmas.Bool.{false≢true}
 use Rattle.std.specs.Prelude.{if◌then◌else◌, IsSome, not}
 use Rattle.svnpath.specs.Paths.{PathValue, same_path, is_at_or_under}
 use Rattle.svnpath.specs.PathLaws.{under_is, under_append, rest_append}
-use Rattle.repo_api.specs.Trees.{Tree, is_open}
+use Rattle.repo_api.specs.Trees.{Tree, is_open_mark}
 use Rattle.repo_api.specs.Edits.{touched, with_open_mark, touched_above, new_entry, added, revised, grafted, deleted, copy_of, copied, begun}
 use Rattle.repo_api.specs.Merge.{is_changed, has_open_last}
 use Rattle.repo_api.specs.Marks.{shown, own_of, last_of, has_open_own, MarksName, IsClosed, IsTransactionOf}
@@ -25,7 +25,7 @@ open_not_made n q h = false≢true (sym (ap is_open_or h))
   where
     is_open_or : Option Mark → Bool
     is_open_or None = false
-    is_open_or (Some m) = is_open m
+    is_open_or (Some m) = is_open_mark m
 
 none_not_made : (m : Mark) → ◌≡◌ {A = Option Mark} None (Some m) → ⊥
 none_not_made m h = false≢true (ap is_some h)
@@ -45,11 +45,11 @@ new_own (Some e) n q new h = open_not_made n q (ap (λ m. Some m) (sym new.0) �
 
 new_opens : (o : Option Entry) → IsNew o → has_open_own o ≡ true → has_open_last o ≡ true
 new_opens None new h = h
-new_opens (Some e) new h = ap is_open new.1
+new_opens (Some e) new h = ap is_open_mark new.1
 
 new_is_open : (o : Option Entry) → IsNew o → IsSome o → has_open_own o ≡ true
 new_is_open None new some = some
-new_is_open (Some e) new some = ap is_open new.0
+new_is_open (Some e) new some = ap is_open_mark new.0
 
 open_some : (o : Option Entry) → has_open_own o ≡ true → IsSome o
 open_some None h = h

@@ -5,8 +5,8 @@ use Rattle.std.proofs.lemmas.List.Elements.{Contains-append_left, Contains-appen
 use Rattle.std.specs.Prelude.{if◌then◌else◌, IsSome, Contains}
 use Rattle.svnpath.specs.Paths.{PathValue, Component}
 use Rattle.repo_api.specs.Properties.{PropertyList}
-use Rattle.repo_api.specs.Trees.{Tree, IsTree, HasDirectory, is_directory, is_directory_content, same_mark, is_open}
-use Rattle.repo_api.specs.Merge.{sealed, is_changed, is_one_directory, is_untouched, has_open_last, joined, merged}
+use Rattle.repo_api.specs.Trees.{Tree, IsTree, HasDirectory, is_directory, is_directory_content, same_mark, is_open_mark}
+use Rattle.repo_api.specs.Merge.{sealed, is_changed, is_one_directory, is_untouched, has_open_last, changed_beneath, merged}
 use Rattle.repo_api.specs.Marks.{shown, own_of, has_open_own, MarksName, MeetWell}
 use Rattle.repo_api.specs.declared.entry.Entry.{Entry}
 use Rattle.repo_api.specs.declared.entry.Mark.{Mark}
@@ -44,7 +44,7 @@ pub untouched_own : (a s : Option Entry) → is_untouched a s ≡ true → own_o
 untouched_own None None h = refl
 untouched_own None (Some s) h = absurd (false≢true h)
 untouched_own (Some a) None h = absurd (false≢true h)
-untouched_own (Some a) (Some s) h = ap (λ m. Some m) (same_mark_is a.own s.own (both_of (same_mark a.own s.own) (same_mark a.last s.last || is_open s.last) h).0)
+untouched_own (Some a) (Some s) h = ap (λ m. Some m) (same_mark_is a.own s.own (both_of (same_mark a.own s.own) (same_mark a.last s.last || is_open_mark s.last) h).0)
 
 same_own_some : (a s : Option Entry) → own_of a ≡ own_of s → IsSome a → IsSome s
 same_own_some None s h some = absurd (false≢true some)
@@ -68,7 +68,7 @@ same_look trees x y p nx ny shut same = by (x p) refl
     none None h = refl
     none (Some e) h = absurd (false≢true (ap is_some h))
 
-    marks : (m : Mark) → own_of (x p) ≡ Some m → is_open m ≡ false → shown (x p) ≡ shown (y p)
+    marks : (m : Mark) → own_of (x p) ≡ Some m → is_open_mark m ≡ false → shown (x p) ≡ shown (y p)
     marks Open own h = absurd (false≢true (sym h))
     marks (Made k at) own h = one_look trees x y p p k at nx ny own (sym same ∙ own)
 
@@ -76,7 +76,7 @@ same_look trees x y p nx ny shut same = by (x p) refl
     by None e = ap shown e ∙ none (y p) (sym (ap own_of e) ∙ same)
     by (Some a) e = marks a.own (ap own_of e) (sym (ap has_open_own e) ∙ shut)
 
-joined_content : (n : ℕ) (p : PathValue) (s : Option Entry) (t : Entry) → (joined n p s t).content ≡ t.content
+joined_content : (n : ℕ) (p : PathValue) (s : Option Entry) (t : Entry) → (changed_beneath n p s t).content ≡ t.content
 joined_content n p s t = by (has_open_last s)
   where
     by : (b : Bool) → (if b then record t { last = Made n p } else t).content ≡ t.content
@@ -107,7 +107,7 @@ module _ (trees : ℕ → Tree) (n b y : ℕ) (txn : Tree) (w : MeetWell trees b
   touched : (p : PathValue) → is_untouched (a p) (txn p) ≡ false → r p ≡ option_map (sealed n p) (txn p)
   touched p h = merged_if n a txn t p false h
 
-  untouched : (p : PathValue) → is_untouched (a p) (txn p) ≡ true → r p ≡ option_map (joined n p (txn p)) (t p)
+  untouched : (p : PathValue) → is_untouched (a p) (txn p) ≡ true → r p ≡ option_map (changed_beneath n p (txn p)) (t p)
   untouched p h = merged_if n a txn t p true h
 
   -- what the others changed is as they left it
@@ -131,7 +131,7 @@ module _ (trees : ℕ → Tree) (n b y : ℕ) (txn : Tree) (w : MeetWell trees b
           shut_as : (x s : Option Entry) → own_of x ≡ own_of s → has_open_own x ≡ false → has_open_own s ≡ false
           shut_as x None same h = refl
           shut_as None (Some s) same h = absurd (false≢true (ap is_some same))
-          shut_as (Some x) (Some s) same h = let e : x.own ≡ s.own = cc in sym (ap is_open e) ∙ h
+          shut_as (Some x) (Some s) same h = let e : x.own ≡ s.own = cc in sym (ap is_open_mark e) ∙ h
 
       by : (is_changed (a p) (txn p) ≡ false) ⊎ ((is_changed (a p) (t p) ≡ false) ⊎ (is_one_directory (a p) (txn p) (t p) ≡ true)) → (shown (r p) ≡ shown (t p)) × (own_of (r p) ≡ own_of (t p))
       by (inl same) = as_theirs (same_is_theirs n a txn t p (like_txn p same) (w.marked.closed b p).1)
@@ -157,13 +157,13 @@ module _ (trees : ℕ → Tree) (n b y : ℕ) (txn : Tree) (w : MeetWell trees b
   -- ---- a merge is a tree
 
   joined_dir : (p : PathValue) → is_untouched (a p) (txn p) ≡ true → HasDirectory t p → HasDirectory r p
-  joined_dir p h dir = subst IsDirectoryAt (sym (untouched p h)) (renewed_directory (joined n p (txn p)) (joined_content n p (txn p)) (t p) dir)
+  joined_dir p h dir = subst IsDirectoryAt (sym (untouched p h)) (renewed_directory (changed_beneath n p (txn p)) (joined_content n p (txn p)) (t p) dir)
 
   sealed_dir : (p : PathValue) → is_untouched (a p) (txn p) ≡ false → HasDirectory txn p → HasDirectory r p
   sealed_dir p h dir = subst IsDirectoryAt (sym (touched p h)) (renewed_directory (sealed n p) (λ e. refl) (txn p) dir)
 
   joined_some : (p : PathValue) → is_untouched (a p) (txn p) ≡ true → IsSome (r p) → IsSome (t p)
-  joined_some p h some = some_renewed (joined n p (txn p)) (t p) (subst IsSome (untouched p h) some)
+  joined_some p h some = some_renewed (changed_beneath n p (txn p)) (t p) (subst IsSome (untouched p h) some)
 
   sealed_some : (p : PathValue) → is_untouched (a p) (txn p) ≡ false → IsSome (r p) → IsSome (txn p)
   sealed_some p h some = some_renewed (sealed n p) (txn p) (subst IsSome (touched p h) some)

@@ -4,8 +4,8 @@ use Rattle.std.proofs.lemmas.Bool.{false≢true}
 use Rattle.std.specs.Prelude.{if◌then◌else◌}
 use Rattle.svnpath.specs.Paths.{PathValue, is_at_or_under}
 use Rattle.svnpath.specs.PathLaws.{under_is}
-use Rattle.repo_api.specs.Trees.{Tree, is_directory, same_mark, is_open}
-use Rattle.repo_api.specs.Merge.{closed, sealed, is_changed, is_one_directory, is_in_conflict, is_untouched, has_open_last, joined, merged}
+use Rattle.repo_api.specs.Trees.{Tree, is_directory, same_mark, is_open_mark}
+use Rattle.repo_api.specs.Merge.{closed, sealed, is_changed, is_one_directory, is_in_conflict, is_untouched, has_open_last, changed_beneath, merged}
 use Rattle.repo_api.specs.Marks.{shown, own_of, last_of, has_open_own, MarksName, IsClosed, MeetWell, KeepsTrees}
 use Rattle.repo_api.specs.declared.entry.Entry.{Entry}
 use Rattle.repo_api.specs.declared.entry.Mark.{Mark}
@@ -19,7 +19,7 @@ Shut o = (has_open_own o ≡ false) × (has_open_last o ≡ false)
 
 pub untouched_refl : (o : Option Entry) → is_untouched o o ≡ true
 untouched_refl None = refl
-untouched_refl (Some e) = ap (λ b. b && (same_mark e.last e.last || is_open e.last)) (same_mark_refl e.own) ∙ ap (λ b. b || is_open e.last) (same_mark_refl e.last)
+untouched_refl (Some e) = ap (λ b. b && (same_mark e.last e.last || is_open_mark e.last)) (same_mark_refl e.own) ∙ ap (λ b. b || is_open_mark e.last) (same_mark_refl e.last)
 
 -- what the transaction neither touched nor changed beneath is as in the base
 pub left_unchanged : (a s : Option Entry) → is_untouched a s ≡ true → has_open_last s ≡ false → is_changed a s ≡ false
@@ -33,7 +33,7 @@ left_unchanged (Some a) (Some s) h shut = ap not (by (same_mark a.own s.own) (sa
     by true false h = h
     by false c h = absurd (false≢true h)
 
-shut_is_not_open : (x y : Mark) → is_open x ≡ false → is_open y ≡ true → same_mark x y ≡ false
+shut_is_not_open : (x y : Mark) → is_open_mark x ≡ false → is_open_mark y ≡ true → same_mark x y ≡ false
 shut_is_not_open Open y shut open_y = absurd (false≢true (sym shut))
 shut_is_not_open (Made r p) Open shut open_y = refl
 shut_is_not_open (Made r p) (Made s q) shut open_y = absurd (false≢true open_y)
@@ -63,15 +63,15 @@ apart (Some a) (Some s) t own last_open ao al none = by t none
     by None h = subst (λ b. ((not b && true) && true) ≡ false) last_differs h
     by (Some t) h = only (not (same_mark a.last t.last)) (is_one_directory (Some a) (Some s) (Some t)) (subst (λ b. ((not b && not (same_mark a.last t.last)) && not (is_one_directory (Some a) (Some s) (Some t))) ≡ false) last_differs h) (never (is_directory a && is_directory s && is_directory t) (same_mark a.own s.own) (same_mark a.own t.own) own_differs)
 
-pub closed_shut : (n : ℕ) (p : PathValue) (m : Mark) → is_open m ≡ false → closed n p m ≡ m
+pub closed_shut : (n : ℕ) (p : PathValue) (m : Mark) → is_open_mark m ≡ false → closed n p m ≡ m
 closed_shut n p Open h = absurd (false≢true (sym h))
 closed_shut n p (Made r q) h = refl
 
-closed_open : (n : ℕ) (p : PathValue) (m : Mark) → is_open m ≡ true → closed n p m ≡ Made n p
+closed_open : (n : ℕ) (p : PathValue) (m : Mark) → is_open_mark m ≡ true → closed n p m ≡ Made n p
 closed_open n p Open h = refl
 closed_open n p (Made r q) h = absurd (false≢true h)
 
-closed_is_shut : (n : ℕ) (p : PathValue) (m : Mark) → is_open (closed n p m) ≡ false
+closed_is_shut : (n : ℕ) (p : PathValue) (m : Mark) → is_open_mark (closed n p m) ≡ false
 closed_is_shut n p Open = refl
 closed_is_shut n p (Made r q) = refl
 
@@ -105,17 +105,17 @@ sealed_is_closed n p None = (refl, refl)
 sealed_is_closed n p (Some e) = (closed_is_shut n p e.own, closed_is_shut n p e.last)
 
 -- what is joined where nothing beneath was changed
-pub joined_left : (n : ℕ) (p : PathValue) (s o : Option Entry) → has_open_last s ≡ false → option_map (joined n p s) o ≡ o
+pub joined_left : (n : ℕ) (p : PathValue) (s o : Option Entry) → has_open_last s ≡ false → option_map (changed_beneath n p s) o ≡ o
 joined_left n p s None h = refl
 joined_left n p s (Some t) h = ap (λ (b : Bool). Some (if b then record t { last = Made n p } else t)) h
 
-pub joined_last_open : (n : ℕ) (p : PathValue) (s o : Option Entry) (m : Mark) → has_open_last s ≡ true → last_of (option_map (joined n p s) o) ≡ Some m → m ≡ Made n p
+pub joined_last_open : (n : ℕ) (p : PathValue) (s o : Option Entry) (m : Mark) → has_open_last s ≡ true → last_of (option_map (changed_beneath n p s) o) ≡ Some m → m ≡ Made n p
 joined_last_open n p s None m h is = absurd (false≢true (ap is_some is))
 joined_last_open n p s (Some t) m h is =
-    let here : last_of (option_map (joined n p s) (Some t)) ≡ Some (Made n p) = ap (λ (b : Bool). Some (if b then record t { last = Made n p } else t).last) h in
+    let here : last_of (option_map (changed_beneath n p s) (Some t)) ≡ Some (Made n p) = ap (λ (b : Bool). Some (if b then record t { last = Made n p } else t).last) h in
     let one : Some m ≡ Some (Made n p) = sym is ∙ here in cc
 
-pub joined_own : (n : ℕ) (p : PathValue) (s o : Option Entry) → own_of (option_map (joined n p s) o) ≡ own_of o
+pub joined_own : (n : ℕ) (p : PathValue) (s o : Option Entry) → own_of (option_map (changed_beneath n p s) o) ≡ own_of o
 joined_own n p s None = refl
 joined_own n p s (Some t) = by (has_open_last s)
   where
@@ -123,7 +123,7 @@ joined_own n p s (Some t) = by (has_open_last s)
     by true = refl
     by false = refl
 
-pub joined_shown : (n : ℕ) (p : PathValue) (s o : Option Entry) → shown (option_map (joined n p s) o) ≡ shown o
+pub joined_shown : (n : ℕ) (p : PathValue) (s o : Option Entry) → shown (option_map (changed_beneath n p s) o) ≡ shown o
 joined_shown n p s None = refl
 joined_shown n p s (Some t) = by (has_open_last s)
   where
@@ -131,19 +131,19 @@ joined_shown n p s (Some t) = by (has_open_last s)
     by true = refl
     by false = refl
 
-joined_is_closed : (n : ℕ) (p : PathValue) (s o : Option Entry) → Shut o → Shut (option_map (joined n p s) o)
+joined_is_closed : (n : ℕ) (p : PathValue) (s o : Option Entry) → Shut o → Shut (option_map (changed_beneath n p s) o)
 joined_is_closed n p s None shut = shut
 joined_is_closed n p s (Some t) shut = by (has_open_last s)
   where
-    by : (b : Bool) → (is_open (if b then record t { last = Made n p } else t).own ≡ false) × (is_open (if b then record t { last = Made n p } else t).last ≡ false)
+    by : (b : Bool) → (is_open_mark (if b then record t { last = Made n p } else t).own ≡ false) × (is_open_mark (if b then record t { last = Made n p } else t).last ≡ false)
     by true = (shut.0, refl)
     by false = shut
 
 -- ---- one path
 
 module _ (n : ℕ) (base txn youngest : Tree) where
-  pub merged_if : (p : PathValue) (u : Bool) → is_untouched (base p) (txn p) ≡ u → merged n base txn youngest p ≡ (if u then option_map (joined n p (txn p)) (youngest p) else option_map (sealed n p) (txn p))
-  merged_if p u h = ap (λ (b : Bool). if b then option_map (joined n p (txn p)) (youngest p) else option_map (sealed n p) (txn p)) h
+  pub merged_if : (p : PathValue) (u : Bool) → is_untouched (base p) (txn p) ≡ u → merged n base txn youngest p ≡ (if u then option_map (changed_beneath n p (txn p)) (youngest p) else option_map (sealed n p) (txn p))
+  merged_if p u h = ap (λ (b : Bool). if b then option_map (changed_beneath n p (txn p)) (youngest p) else option_map (sealed n p) (txn p)) h
 
   -- the others' where the transaction is as the base
   pub same_is_theirs : (p : PathValue) → base p ≡ txn p → has_open_last (base p) ≡ false → merged n base txn youngest p ≡ youngest p
@@ -255,7 +255,7 @@ module _ (trees : ℕ → Tree) (n b y : ℕ) (txn : Tree) (w : MeetWell trees b
 
         by : (u : Bool) → is_untouched (base p) (txn p) ≡ u → shown (result p) ≡ shown (later k at)
         by true e =
-            let is : result p ≡ option_map (joined n p (txn p)) (youngest p) = merged_if n base txn youngest p true e in
+            let is : result p ≡ option_map (changed_beneath n p (txn p)) (youngest p) = merged_if n base txn youngest p true e in
             let theirs : own_of (youngest p) ≡ Some (Made k at) = sym (joined_own n p (txn p) (youngest p)) ∙ sym (ap own_of is) ∙ o in
             ap shown is ∙ joined_shown n p (txn p) (youngest p) ∙ (named_later trees later youngest keeps (w.marked.named y)).by_own p k at theirs
         by false e = seals e (has_open_own (txn p)) refl

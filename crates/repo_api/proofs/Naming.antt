@@ -5,7 +5,7 @@ use Rattle.std.proofs.lemmas.Cmp.{nat_eq_equiv}
 use Rattle.std.specs.Prelude.{IsSome, IsSomeAnd, IsTrue, ◌==◌}
 use Rattle.svnpath.specs.Paths.{PathValue, same_path}
 use Rattle.svnpath.specs.PathLaws.{same_path_is, same_path_refl}
-use Rattle.repo_api.specs.Trees.{Tree, IsTree, is_directory, same_mark, is_open}
+use Rattle.repo_api.specs.Trees.{Tree, IsTree, is_directory, same_mark, is_open_mark}
 use Rattle.repo_api.specs.Merge.{is_changed, has_open_last}
 use Rattle.repo_api.specs.Marks.{shown, own_of, last_of, MarksName, IsClosed, KeepsTrees}
 use Rattle.repo_api.specs.declared.entry.Entry.{Entry}
@@ -54,7 +54,7 @@ module _ (trees : ℕ → Tree) where
   pub unchanged_is : (x y : Tree) (p : PathValue) → MarksName trees x → MarksName trees y → IsTree x → IsTree y → IsClosed x → is_changed (x p) (y p) ≡ false → (rest : PathValue) → x (p ++ rest) ≡ y (p ++ rest)
   unchanged_is x y p nx ny tx ty closed same rest = by (x p) refl (y p) refl same
     where
-      marks : (m n : Mark) → last_of (x p) ≡ Some m → last_of (y p) ≡ Some n → is_open m ≡ false → not (same_mark m n) ≡ false → x (p ++ rest) ≡ y (p ++ rest)
+      marks : (m n : Mark) → last_of (x p) ≡ Some m → last_of (y p) ≡ Some n → is_open_mark m ≡ false → not (same_mark m n) ≡ false → x (p ++ rest) ≡ y (p ++ rest)
       marks Open n xl yl shut h = absurd (false≢true (sym shut))
       marks (Made r at) n xl yl shut h = one_subtree x y p p r at nx ny xl (yl ∙ ap (λ m. Some m) (sym (same_mark_is (Made r at) n (unnot (same_mark (Made r at) n) h)))) rest
         where

@@ -3,7 +3,7 @@ use Rattle.std.specs.Prelude.{◌≡◌, ℕ, true, List, [], ◌∷◌, Option,
 use Rattle.refusals.specs.declared.Refusal.{Refusal}
 use Rattle.repo_api.specs.States.{RepoState, TxnState}
 use Rattle.repo_api.specs.Commits.{commit_refusal, committed}
-use Rattle.repo_api.specs.Locking.{Tokens, lock_refusal, locked, unlock_refusal, unlocked, releases, without_released}
+use Rattle.repo_api.specs.Locking.{HandedTokens, lock_refusal, locked, unlock_refusal, unlocked, releases, without_released}
 use Rattle.repo_api.specs.RevisionProperties.{property_refusal, with_changed_property}
 use Rattle.repo_api.specs.declared.ask.CommitAsk.{CommitAsk}
 use Rattle.repo_api.specs.declared.fault.ChangeFault.{ChangeFault}
@@ -17,7 +17,7 @@ pub data Accepted : Type 0 where
   Commits : CommitAsk → TxnState → Accepted
   Locks : LockAsk → Accepted
   Unlocks : UnlockAsk → Accepted
-  Releases : Option (List ℕ) → Tokens → Accepted
+  Releases : Option (List ℕ) → HandedTokens → Accepted
   ChangesProperty : ℕ → List ℕ → Option (List ℕ) → Accepted
 
 abbrev pub changed : RepoState → Accepted → RepoState

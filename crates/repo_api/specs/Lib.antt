@@ -15,6 +15,7 @@ pub mod Marks
 pub mod Transactions
 pub mod Accepted
 pub mod LockRuns
+pub mod Judging
 pub mod Kinds
 pub mod Histories
 pub mod Readings

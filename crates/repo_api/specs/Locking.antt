@@ -9,6 +9,7 @@ use Rattle.svnpath.specs.Paths.{PathValue, same_component, same_path, is_at_or_u
 use Rattle.refusals.specs.declared.Refusal.{Refusal}
 use Rattle.refusals.specs.declared.Refusal.TheVariants as refusals
 use Rattle.repo_api.specs.Kinds.{kind_at, created_at}
+use Rattle.repo_api.specs.Judging.{is_older}
 use Rattle.repo_api.specs.States.{ChangeMap, LockMap, RepoState, youngest}
 use Rattle.repo_api.specs.declared.change.Action.{Action}
 use Rattle.repo_api.specs.declared.change.Action.TheVariants.{Add, Delete, Replace, Modify}
@@ -25,8 +26,8 @@ abbrev pub LockList : Type 0
 LockList = List (PathValue × Lock)
 
 -- paths with tokens, as a commit hands them in
-abbrev pub Tokens : Type 0
-Tokens = List (PathValue × List ℕ)
+abbrev pub HandedTokens : Type 0
+HandedTokens = List (PathValue × List ℕ)
 
 -- ---- in the way
 
@@ -66,7 +67,7 @@ holder_refusal (Some user) is_right l =
     else Some refusals.NotTheLockOwner
 
 -- the token was handed in, under any path
-abbrev pub is_handed_in : Tokens → List ℕ → Bool
+abbrev pub is_handed_in : HandedTokens → List ℕ → Bool
 is_handed_in tokens token = list_any (λ t. same_component t.1 token) tokens
 
 -- why a lock in the way refuses a commit with these tokens
@@ -81,7 +82,7 @@ first_refusal user handed_in (e ∷ es) =
 
 -- why the locks refuse a commit of the changes: the first in the way that does, by the bytes of its
 -- path
-abbrev pub check_refusal : LockMap → ChangeMap → Option (List ℕ) → Tokens → Option Refusal
+abbrev pub check_refusal : LockMap → ChangeMap → Option (List ℕ) → HandedTokens → Option Refusal
 check_refusal locks changes user tokens =
     first_refusal user (is_handed_in tokens) (in_the_way locks changes)
 
@@ -91,32 +92,26 @@ abbrev pub user_refusal : Option (List ℕ) → Option Refusal
 user_refusal None = Some refusals.NoUser
 user_refusal (Some user) = None
 
--- the client has seen a revision before the last change
-abbrev pub is_below : Option ℕ → Option ℕ → Bool
-is_below None created = false
-is_below (Some current) None = false
-is_below (Some current) (Some created) = nat_lt current created
-
 -- why what stands at a path, last changed at this revision, is not locked: only files are, and only
 -- as the client has seen them
 abbrev pub entry_refusal : Option ℕ → NodeKind → Option ℕ → Option Refusal
 entry_refusal current kinds.Absent created = Some refusals.NotFound
 entry_refusal current kinds.Directory created = Some refusals.NotAFile
 entry_refusal current kinds.File created =
-    if is_below current created then Some refusals.LockOutOfDate else None
+    if is_older current created then Some refusals.LockOutOfDate else None
 
 -- why no lock is put where one stands or none does, and so many stand in all
-abbrev pub place_refusal : Bool → Option Lock → ℕ → Option Refusal
-place_refusal steals None count =
+abbrev pub lock_place_refusal : Bool → Option Lock → ℕ → Option Refusal
+lock_place_refusal steals None count =
     if nat_le LOCK_LIMIT count then Some refusals.NotSupported else None
-place_refusal steals (Some l) count = if steals then None else Some refusals.AlreadyLocked
+lock_place_refusal steals (Some l) count = if steals then None else Some refusals.AlreadyLocked
 
 -- why a lock is refused where an entry of this kind stands, last changed at this revision, beside
 -- these locks
 abbrev pub lock_refusal_at : NodeKind → Option ℕ → LockMap → LockAsk → Option Refusal
 lock_refusal_at kind created locks ask =
     option_or (user_refusal ask.user) (option_or (entry_refusal ask.current kind created)
-    (place_refusal ask.steals (get locks ask.path) (len locks)))
+    (lock_place_refusal ask.steals (get locks ask.path) (len locks)))
 
 -- a client cannot have seen a revision above the youngest
 abbrev pub current_refusal : ℕ → Option ℕ → Option Refusal
@@ -182,21 +177,21 @@ is_held user token None = false
 is_held user token (Some l) = is_none (holder_refusal user (same_component token l.token) l)
 
 -- the lock at the path is the user's, and was handed in: its path, with its token
-abbrev pub is_released : Option (List ℕ) → Tokens → LockMap → PathValue → Bool
+abbrev pub is_released : Option (List ℕ) → HandedTokens → LockMap → PathValue → Bool
 is_released user tokens locks p =
     list_any (λ t. same_path t.0 p && is_held user t.1 (get locks p)) tokens
 
 -- the locks that a release takes, and those that it leaves
-abbrev pub released : Option (List ℕ) → Tokens → LockMap → LockMap
+abbrev pub released : Option (List ℕ) → HandedTokens → LockMap → LockMap
 released user tokens locks = retain_keys locks (is_released user tokens locks)
 
-abbrev pub after_release : Option (List ℕ) → Tokens → LockMap → LockMap
+abbrev pub after_release : Option (List ℕ) → HandedTokens → LockMap → LockMap
 after_release user tokens locks = retain_keys locks (λ p. not (is_released user tokens locks p))
 
 -- a release takes some lock
-abbrev pub releases : Option (List ℕ) → Tokens → LockMap → Bool
+abbrev pub releases : Option (List ℕ) → HandedTokens → LockMap → Bool
 releases user tokens locks = list_any (λ t. is_held user t.1 (get locks t.0)) tokens
 
 -- the repository after a release
-abbrev pub without_released : RepoState → Option (List ℕ) → Tokens → RepoState
+abbrev pub without_released : RepoState → Option (List ℕ) → HandedTokens → RepoState
 without_released c user tokens = record c { locks = after_release user tokens c.locks }

@@ -2,7 +2,7 @@
 use Rattle.std.specs.Prelude.{◌≡◌, ◌==◌, ℕ, Bool, true, false, ◌++◌, Option, Some, None, option_map, IsSome, if◌then◌else◌}
 use Rattle.svnpath.specs.Paths.{PathValue, is_at_or_under}
 use Rattle.repo_api.specs.Properties.{PropertyList}
-use Rattle.repo_api.specs.Trees.{Tree, IsTree, is_open}
+use Rattle.repo_api.specs.Trees.{Tree, IsTree, is_open_mark}
 use Rattle.repo_api.specs.RightEdits.{IsThere}
 use Rattle.repo_api.specs.Merge.{is_changed, has_open_last, HasNoConflict}
 use Rattle.repo_api.specs.declared.entry.Entry.{Entry}
@@ -25,7 +25,7 @@ last_of o = option_map (λ e. e.last) o
 -- the transaction changed it itself
 abbrev pub has_open_own : Option Entry → Bool
 has_open_own None = false
-has_open_own (Some e) = is_open e.own
+has_open_own (Some e) = is_open_mark e.own
 
 -- each closed mark of the tree names what stands at its path of its revision's tree: a `last` all
 -- that is at and

@@ -1,7 +1,7 @@
 -- A commit, path by path: what conflicts, and the tree that comes out.
 use Rattle.std.specs.Prelude.{◌≡◌, ℕ, Bool, true, false, ◌&&◌, ◌||◌, not, if◌then◌else◌, Option, Some, None, option_map}
 use Rattle.svnpath.specs.Paths.{PathValue}
-use Rattle.repo_api.specs.Trees.{Tree, is_directory, same_mark, is_open}
+use Rattle.repo_api.specs.Trees.{Tree, is_directory, same_mark, is_open_mark}
 use Rattle.repo_api.specs.declared.entry.Entry.{Entry}
 use Rattle.repo_api.specs.declared.entry.Mark.{Mark}
 use Rattle.repo_api.specs.declared.entry.Mark.TheVariants.{Open, Made}
@@ -37,7 +37,7 @@ is_untouched None None = true
 is_untouched None (Some s) = false
 is_untouched (Some a) None = false
 is_untouched (Some a) (Some s) =
-    same_mark a.own s.own && (same_mark a.last s.last || is_open s.last)
+    same_mark a.own s.own && (same_mark a.last s.last || is_open_mark s.last)
 
 -- the mark of revision n at p in an open mark's place
 abbrev pub closed : ℕ → PathValue → Mark → Mark
@@ -50,16 +50,16 @@ sealed n p e = record e { own = closed n p e.own; last = closed n p e.last }
 -- the transaction changed it, or something beneath it
 abbrev pub has_open_last : Option Entry → Bool
 has_open_last None = false
-has_open_last (Some s) = is_open s.last
+has_open_last (Some s) = is_open_mark s.last
 
 -- the youngest entry, where the transaction changed only beneath it
-abbrev pub joined : ℕ → PathValue → Option Entry → Entry → Entry
-joined n p s t = if has_open_last s then record t { last = Made n p } else t
+abbrev pub changed_beneath : ℕ → PathValue → Option Entry → Entry → Entry
+changed_beneath n p s t = if has_open_last s then record t { last = Made n p } else t
 
 -- the youngest entry where the transaction left it alone, else the transaction's
 abbrev pub merged_entry : ℕ → PathValue → Option Entry → Option Entry → Option Entry → Option Entry
 merged_entry n p a s t =
-    if is_untouched a s then option_map (joined n p s) t else option_map (sealed n p) s
+    if is_untouched a s then option_map (changed_beneath n p s) t else option_map (sealed n p) s
 
 -- the tree of revision n
 abbrev pub merged : ℕ → Tree → Tree → Tree → Tree

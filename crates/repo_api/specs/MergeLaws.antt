@@ -12,7 +12,7 @@ use Rattle.std.specs.Prelude.{if◌then◌else◌, IsSome, Contains}
 use Rattle.svnpath.specs.Paths.{PathValue, path_cmp, path_cmp_total}
 use Rattle.svnpath.specs.PathLaws.{at_is}
 use Rattle.repo_api.specs.Trees.{Tree}
-use Rattle.repo_api.specs.Merge.{is_in_conflict, is_untouched, joined, sealed, merged_entry, merged, HasNoConflict}
+use Rattle.repo_api.specs.Merge.{is_in_conflict, is_untouched, changed_beneath, sealed, merged_entry, merged, HasNoConflict}
 use Rattle.repo_api.specs.MergedMaps.{has_conflict, with_entry, map_of, merged_map}
 use Rattle.repo_api.specs.States.{TreeMap, tree_of}
 use Rattle.repo_api.specs.declared.entry.Entry.{Entry}
@@ -63,8 +63,8 @@ some_mapped f (Some x) h = refl
 merged_some : (n : ℕ) (p : PathValue) (a s t : Option Entry) → IsSome (merged_entry n p a s t) → IsSome s ⊎ IsSome t
 merged_some n p a s t = by (is_untouched a s)
   where
-    by : (u : Bool) → IsSome (if u then option_map (joined n p s) t else option_map (sealed n p) s) → IsSome s ⊎ IsSome t
-    by true h = inr (some_mapped (joined n p s) t h)
+    by : (u : Bool) → IsSome (if u then option_map (changed_beneath n p s) t else option_map (sealed n p) s) → IsSome s ⊎ IsSome t
+    by true h = inr (some_mapped (changed_beneath n p s) t h)
     by false h = inl (some_mapped (sealed n p) s h)
 
 -- the merged map has at each path what the merge has

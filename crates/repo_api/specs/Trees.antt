@@ -18,6 +18,11 @@ is_directory_content (File text) = false
 abbrev pub is_directory : Entry → Bool
 is_directory e = is_directory_content e.content
 
+-- a directory stands there
+abbrev pub is_directory_there : Option Entry → Bool
+is_directory_there None = false
+is_directory_there (Some e) = is_directory e
+
 abbrev pub HasDirectory : Tree → PathValue → Type 0
 HasDirectory t p = IsSomeAnd (t p) (λ e. IsTrue (is_directory e))
 
@@ -36,9 +41,9 @@ same_mark Open (Made r p) = false
 same_mark (Made r p) Open = false
 same_mark (Made r p) (Made s q) = (r == s) && same_path p q
 
-abbrev pub is_open : Mark → Bool
-is_open Open = true
-is_open (Made r p) = false
+abbrev pub is_open_mark : Mark → Bool
+is_open_mark Open = true
+is_open_mark (Made r p) = false
 
 -- the revision in which the mark was made
 abbrev pub revision_of : Mark → Option ℕ

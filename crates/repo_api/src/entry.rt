@@ -1,7 +1,7 @@
 //! An entry of a tree.
 ghost use Rattle.std.specs.Prelude.{◌≡◌};
 ghost use Rattle.repo_api.specs.Kinds.{content_kind};
-ghost use Rattle.repo_api.specs.Trees.{same_mark, is_open, is_directory};
+ghost use Rattle.repo_api.specs.Trees.{same_mark, is_open_mark, is_directory};
 
 use crate::file_text::FileText;
 use crate::properties::Properties;
@@ -53,7 +53,7 @@ impl Mark {
     }
 
     pub fn is_open(&self) -> bool
-        ensures { result ≡ is_open self.now }
+        ensures { result ≡ is_open_mark self.now }
     {
         matches!(self, Mark::Open)
     }

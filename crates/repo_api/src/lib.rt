@@ -8,6 +8,7 @@ mod edit;
 mod entry;
 mod fault;
 mod file_text;
+mod judging;
 mod laws;
 mod limits;
 mod lock;
@@ -21,6 +22,7 @@ pub use edit::EditOp;
 pub use entry::{Content, Entry, Mark, NodeKind};
 pub use fault::ChangeFault;
 pub use file_text::FileText;
+pub use judging::{is_older, is_property_name};
 pub use laws::{
     accepted_commits_meet_well, beginnings_are_marked, beginnings_are_trees,
     changes_of_locks_keep_revisions, changes_of_properties_keep_revisions, commits_keep_both_sides,

@@ -6,12 +6,12 @@ use Rattle.std.proofs.lemmas.List.Elements.{All-head, All-tail}
 use Rattle.std.specs.Prelude.{is_some, All, option_and_then}
 use Rattle.svnpath.specs.Paths.{PathValue, is_at_or_under}
 use Rattle.svnpath.specs.PathLaws.{under_append}
-use Rattle.repo_api.specs.Trees.{Tree}
+use Rattle.repo_api.specs.Trees.{Tree, is_directory_there}
 use Rattle.drives.specs.Places.{is_in_directory}
 use Rattle.drives.proofs.Joined.{or_left, and_both}
 use Rattle.reporter.specs.declared.visit.Visit.{Visit}
 use Rattle.reporter.specs.declared.visit.Visit.TheVariants.{Delete, Close}
-use Rattle.reporter.specs.Nesting.{has_directory, entered, after_visit, walk, AreNested, entry_visits}
+use Rattle.reporter.specs.Nesting.{after_entry_visit, after_visit, walk, AreNested, entry_visits}
 use Rattle.reporter.specs.Walks.{IsChild, goes, going, deletes_of}
 
 no_some : {X : Type 0} (x : X) → ◌≡◌ {A = Option X} None (Some x) → ⊥
@@ -42,13 +42,13 @@ nested_delete t top d p vs inside nested ds =
     ap (λ b. option_and_then (λ m. walk t top m vs) (if b then Some (d ∷ ds) else None)) inside ∙ nested ds
 
 -- an entry in its directory, with what is below it
-pub nested_entry : (t : Tree) (top d p : PathValue) (v : Visit) (dir : Bool) (rest : List Visit) → ((ds : List PathValue) → after_visit t top ds v ≡ entered t top ds p) → dir ≡ has_directory (t p) → (dir ≡ false → rest ≡ [])
+pub nested_entry : (t : Tree) (top d p : PathValue) (v : Visit) (dir : Bool) (rest : List Visit) → ((ds : List PathValue) → after_visit t top ds v ≡ after_entry_visit t top ds p) → dir ≡ is_directory_there (t p) → (dir ≡ false → rest ≡ [])
     → is_in_directory top d p ≡ true → AreNested t top p rest → AreNested t top d (entry_visits dir v rest)
 nested_entry t top d p v true rest enters kind none inside nested ds =
-    ap (λ o. option_and_then (λ m. walk t top m (rest ++ Close ∷ [])) o) (enters (d ∷ ds) ∙ ap (λ b. if b then Some (if has_directory (t p) then p ∷ d ∷ ds else d ∷ ds) else None) inside ∙ ap (λ b. Some (if b then p ∷ d ∷ ds else d ∷ ds)) (sym kind))
+    ap (λ o. option_and_then (λ m. walk t top m (rest ++ Close ∷ [])) o) (enters (d ∷ ds) ∙ ap (λ b. if b then Some (if is_directory_there (t p) then p ∷ d ∷ ds else d ∷ ds) else None) inside ∙ ap (λ b. Some (if b then p ∷ d ∷ ds else d ∷ ds)) (sym kind))
     ∙ walk_append t top rest (Close ∷ []) (p ∷ d ∷ ds) (p ∷ d ∷ ds) (nested (d ∷ ds))
 nested_entry t top d p v false rest enters kind none inside nested ds =
-    ap (λ o. option_and_then (λ m. walk t top m rest) o) (enters (d ∷ ds) ∙ ap (λ b. if b then Some (if has_directory (t p) then p ∷ d ∷ ds else d ∷ ds) else None) inside ∙ ap (λ b. Some (if b then p ∷ d ∷ ds else d ∷ ds)) (sym kind))
+    ap (λ o. option_and_then (λ m. walk t top m rest) o) (enters (d ∷ ds) ∙ ap (λ b. if b then Some (if is_directory_there (t p) then p ∷ d ∷ ds else d ∷ ds) else None) inside ∙ ap (λ b. Some (if b then p ∷ d ∷ ds else d ∷ ds)) (sym kind))
     ∙ ap (λ vs. walk t top (d ∷ ds) vs) (none refl)
 
 -- a child has its place in its directory

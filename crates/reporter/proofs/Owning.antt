@@ -9,11 +9,11 @@ use Rattle.svnpath.specs.Paths.{PathValue, same_path, same_component}
 use Rattle.svnpath.specs.PathLaws.{same_path_refl, same_component_is}
 use Rattle.repo_api.specs.declared.entry.Content.{Content}
 use Rattle.repo_api.specs.declared.entry.Content.TheVariants.{File}
-use Rattle.drives.specs.Steps.{Step, Node, PropertyValues, is_entry_property, with_property_value, after_step, after_steps, meets, all_meet, is_of_kind, is_named, has_step, adds_or_deletes, reaches, IsOwn}
+use Rattle.drives.specs.Steps.{Step, Node, PropertyValues, is_entry_property, with_property_value, after_step, after_steps, meets, all_meet, is_of_kind, is_named, has_step, adds_or_deletes, may_change, IsOwn}
 use Rattle.drives.specs.Steps.EntryKind.{FileKind}
 use Rattle.drives.specs.Steps.Step.{PropertyAt, TextAt}
 use Rattle.drives.proofs.Joined.{or_cases, or_right, and_front, and_both, any_append, all_meet_append}
-use Rattle.reporter.specs.Own.{Change, property_steps, text_steps, own_steps, is_changed, LeadTo, with_text}
+use Rattle.reporter.specs.Own.{Change, property_steps, text_steps, own_steps, changes_name, LeadTo, content_with_text}
 
 abbrev pub Agrees : PropertyValues → Change → Type 0
 Agrees new c = (is_entry_property c.0 ≡ false) × (c.1 ≡ new c.0)
@@ -22,10 +22,10 @@ abbrev pub applied : PropertyValues → List Change → PropertyValues
 applied values cs = fold (λ v c. with_property_value v c.0 c.1) values cs
 
 -- a name has its new value once a change names it
-applied_at : (old new : PropertyValues) (cs : List Change) → All (Agrees new) cs → (name : List ℕ) → applied old cs name ≡ cond (is_changed cs name) (new name) (old name)
+applied_at : (old new : PropertyValues) (cs : List Change) → All (Agrees new) cs → (name : List ℕ) → applied old cs name ≡ cond (changes_name cs name) (new name) (old name)
 applied_at old new [] agree name = refl
 applied_at old new (c ∷ cs) agree name =
-    applied_at (with_property_value old c.0 c.1) new cs (All-tail (Agrees new) c cs agree) name ∙ by (same_component c.0 name) refl (is_changed cs name)
+    applied_at (with_property_value old c.0 c.1) new cs (All-tail (Agrees new) c cs agree) name ∙ by (same_component c.0 name) refl (changes_name cs name)
   where
     by : (b : Bool) → same_component c.0 name ≡ b → (d : Bool) → cond d (new name) (cond (same_component c.0 name) c.1 (old name)) ≡ cond (same_component c.0 name || d) (new name) (old name)
     by true e true = sym (ap (λ x. cond (x || true) (new name) (old name)) e)
@@ -35,9 +35,9 @@ applied_at old new (c ∷ cs) agree name =
     by false e false = ap (λ x. cond x c.1 (old name)) e ∙ sym (ap (λ x. cond (x || false) (new name) (old name)) e)
 
 pub changes_lead : (old new : PropertyValues) (cs : List Change) → LeadTo old new cs → applied old cs ≡ new
-changes_lead old new cs lead = λ i name. (applied_at old new cs lead.agree name ∙ by name (is_changed cs name) refl) i
+changes_lead old new cs lead = λ i name. (applied_at old new cs lead.agree name ∙ by name (changes_name cs name) refl) i
   where
-    by : (name : List ℕ) (b : Bool) → is_changed cs name ≡ b → cond b (new name) (old name) ≡ new name
+    by : (name : List ℕ) (b : Bool) → changes_name cs name ≡ b → cond b (new name) (old name) ≡ new name
     by name true e = refl
     by name false e = lead.covers name e
 
@@ -57,13 +57,13 @@ changes_become p content new old (c ∷ cs) agree =
     ∙ ap (λ b. after_steps p (cond (b && not false) (Some (content, with_property_value old c.0 c.1)) (Some (content, old))) (property_steps p cs)) (same_path_refl p)
     ∙ changes_become p content new (with_property_value old c.0 c.1) cs (All-tail (Agrees new) c cs agree)
 
-text_becomes : (p : PathValue) (content : Content) (values : PropertyValues) (text : Option (List ℕ)) → after_steps p (Some (content, values)) (text_steps p text) ≡ Some (with_text text content, values)
+text_becomes : (p : PathValue) (content : Content) (values : PropertyValues) (text : Option (List ℕ)) → after_steps p (Some (content, values)) (text_steps p text) ≡ Some (content_with_text text content, values)
 text_becomes p content values None = refl
 text_becomes p content values (Some text) = ap (λ b. cond b (Some (File text, values)) (Some (content, values))) (same_path_refl p)
 
 -- facts, changes that lead to the new values, and a text where there is one
 pub own_becomes : (p : PathValue) (content : Content) (old new : PropertyValues) (facts changes : List Change) (text : Option (List ℕ)) → All (λ c. is_entry_property c.0 ≡ true) facts → LeadTo old new changes
-    → after_steps p (Some (content, old)) (own_steps p facts changes text) ≡ Some (with_text text content, new)
+    → after_steps p (Some (content, old)) (own_steps p facts changes text) ≡ Some (content_with_text text content, new)
 own_becomes p content old new facts changes text known lead =
     fold-append (after_step p) (Some (content, old)) (property_steps p facts) (property_steps p changes ++ text_steps p text)
     ∙ ap (λ n. after_steps p n (property_steps p changes ++ text_steps p text)) (facts_stay p (Some (content, old)) facts known)
@@ -76,7 +76,7 @@ own_becomes p content old new facts changes text known lead =
 own_append : (p : PathValue) (xs ys : List Step) → IsOwn p xs → IsOwn p ys → IsOwn p (xs ++ ys)
 own_append p xs ys x y = record {
   here = λ q named. ⊎_elim (λ h. x.here q h) (λ h. y.here q h) (or_cases (is_named q xs) (is_named q ys) (sym (any_append _ xs ys) ∙ named));
-  far = λ q out. any_append (reaches q) xs ys ∙ ap (λ b. b || list_any (reaches q) ys) (x.far q out) ∙ y.far q out;
+  far = λ q out. any_append (may_change q) xs ys ∙ ap (λ b. b || list_any (may_change q) ys) (x.far q out) ∙ y.far q out;
   adds_nothing = λ q. any_append _ xs ys ∙ ap (λ b. b || has_step adds_or_deletes q ys) (x.adds_nothing q) ∙ y.adds_nothing q;
 }
 
@@ -91,7 +91,7 @@ properties_own p (c ∷ cs) = by (properties_own p cs)
     by : IsOwn p (property_steps p cs) → IsOwn p (property_steps p (c ∷ cs))
     by rest = record {
       here = λ q named. ⊎_elim (λ h. and_front (same_path p q) true h) (λ h. rest.here q h) (or_cases (same_path p q && true) (is_named q (property_steps p cs)) named);
-      far = λ q out. ap (λ b. b || list_any (reaches q) (property_steps p cs)) out ∙ rest.far q out;
+      far = λ q out. ap (λ b. b || list_any (may_change q) (property_steps p cs)) out ∙ rest.far q out;
       adds_nothing = λ q. ap (λ b. b || has_step adds_or_deletes q (property_steps p cs)) (and_no (same_path p q)) ∙ rest.adds_nothing q;
     }
 

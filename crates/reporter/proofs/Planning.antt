@@ -7,16 +7,16 @@ use Rattle.std.specs.Prelude.{IsTrue, IsSome, IsSomeAnd, is_some, All, IfOk, Res
 use Rattle.std.specs.List.{list_any}
 use Rattle.svnpath.specs.Paths.{PathValue, is_at_or_under, same_path}
 use Rattle.svnpath.specs.PathLaws.{same_path_is, same_path_refl, under_itself, under_is, under_append}
-use Rattle.repo_api.specs.Trees.{Tree, HasDirectory, is_directory}
+use Rattle.repo_api.specs.Trees.{Tree, HasDirectory, is_directory, is_directory_there}
 use Rattle.repo_api.specs.declared.entry.Entry.{Entry}
-use Rattle.drives.specs.Steps.{Step, Node, node_of, node_at, is_named, reaches}
+use Rattle.drives.specs.Steps.{Step, Node, node_of, node_at, may_change}
 use Rattle.drives.specs.Drives.{IsRight, IsInBoth, created_revision}
-use Rattle.drives.specs.Scopes.{under, below, without, HoldsTogether}
+use Rattle.drives.specs.Scopes.{under, below, tree_without, HoldsTogether}
 use Rattle.drives.proofs.Joined.{or_cases, or_left, or_right, or_false, and_front, any_append, reach_named, joined, nothing, none_some}
 use Rattle.drives.proofs.Entries.{rescoped, under_more, below_under, IsCut, cut, kept, left_out}
 use Rattle.reporter.specs.declared.visit.Visit.{Visit}
 use Rattle.reporter.specs.declared.visit.Visit.TheVariants.{Open, Delete, Close}
-use Rattle.reporter.specs.Nesting.{has_directory, AreNested, entry_visits}
+use Rattle.reporter.specs.Nesting.{AreNested, entry_visits}
 use Rattle.reporter.specs.Visits.{plan_steps, visit_steps}
 use Rattle.reporter.specs.Walks.{any_under, BothHold, LeadsOver, AreApart, IsChild, AreChildren, AreAll, AreAlike, goes, going, without_all, old_side, left_of, deletes_of}
 use Rattle.reporter.proofs.Visiting.{false_or, entry_opened}
@@ -155,7 +155,7 @@ none_going r t p x xs q each child u stays = false_or (any_under (going r t xs) 
 
 pub without_all_at : (ds : List PathValue) (r : Tree) (q : PathValue) → without_all ds r q ≡ cond (any_under ds q) None (r q)
 without_all_at [] r q = refl
-without_all_at (d ∷ ds) r q = without_all_at ds (without d r) q ∙ by (is_at_or_under q d) (any_under ds q)
+without_all_at (d ∷ ds) r q = without_all_at ds (tree_without d r) q ∙ by (is_at_or_under q d) (any_under ds q)
   where
     by : (a b : Bool) → cond b None (cond a None (r q)) ≡ cond (a || b) None (r q)
     by true true = refl
@@ -218,7 +218,7 @@ all_children seen stale s t p xs cs children all_s all_t right =
         by true true h = sym h
         by false true h = sym h
 
-    reasons : (q : PathValue) → (below p q && not (any_under xs q)) ≡ true → list_any (reaches q) cs ≡ false
+    reasons : (q : PathValue) → (below p q && not (any_under xs q)) ≡ true → list_any (may_change q) cs ≡ false
     reasons q h = reach_named cs q (λ y named. false_or (is_at_or_under q y) (λ u. false≢true (sym (apart q h) ∙ any_more xs q y (right.within y named) u)))
 
     none : (q : PathValue) → (below p q && not (any_under xs q)) ≡ true → (s q ≡ None) × (t q ≡ None)
@@ -289,7 +289,7 @@ goes_cut r t top p at old new g = record {
         by false b xa yb g = inl (none_below r q old low (λ d. false≢true (sym xa ∙ subst (λ e. IsSomeAnd e (λ z. IsTrue (is_directory z))) ro d)))
 
 -- what is a cut stays one when another was taken out
-cut_without : (r t : Tree) (d e : PathValue) → is_at_or_under e d ≡ false → IsCut r t e → IsCut (without d r) t e
+cut_without : (r t : Tree) (d e : PathValue) → is_at_or_under e d ≡ false → IsCut r t e → IsCut (tree_without d r) t e
 cut_without r t d e out c = record {
   stood = subst IsSome (sym (kept r d e out)) c.stood;
   other = λ k. c.other (subst (λ o. IsSomeAnd o (λ a. IsSomeAnd (t e) (λ b. is_directory a ≡ is_directory b))) (kept r d e out) k);
@@ -307,7 +307,7 @@ pub cuts : (seen : Node → Node) (scope stale : PathValue → Bool) (t : Tree) 
 cuts seen scope stale t own rest [] r covers apart each right = right
 cuts seen scope stale t own rest (d ∷ ds) r covers apart each right =
     cut seen scope stale r t d (plan_steps t own (map Delete ds ++ rest)) (λ q u. covers d q (or_left (same_path d d) (has ds d) (same_path_refl d)) u) (each d (or_left (same_path d d) (has ds d) (same_path_refl d)))
-    (cuts seen scope stale t own rest ds (without d r) (λ e q h u. covers e q (or_right (same_path d e) (has ds e) h) u) apart.1
+    (cuts seen scope stale t own rest ds (tree_without d r) (λ e q h u. covers e q (or_right (same_path d e) (has ds e) h) u) apart.1
     (λ e h. cut_without r t d e (false_or (is_at_or_under e d) (λ u. false≢true (sym (apart.0 e u) ∙ has_under ds e h))) (each e (or_right (same_path d e) (has ds e) h))) right)
 
 -- the deletes of what goes, before the visits of what is to be there
@@ -379,7 +379,7 @@ pub top_cut : (seen : Node → Node) (stale : PathValue → Bool) (r t : Tree) (
     → IsRight seen (under p) stale (old_side true r) t (plan_steps t own rest) → IsRight seen (under p) stale r t (plan_steps t own (Delete p ∷ rest))
 top_cut seen stale r t own p rest g sound right =
     cut seen (under p) stale r t p (plan_steps t own rest) (λ q u. u) (goes_cut r t p p (under_itself p) sound.old_holds sound.new_holds g)
-    (reseated seen (under p) stale (λ _. None) (without p r) t (plan_steps t own rest) (λ q w h u. under_more w q p u h) (λ q h. sym (left_out r p q h)) right)
+    (reseated seen (under p) stale (λ _. None) (tree_without p r) t (plan_steps t own rest) (λ q w h u. under_more w q p u h) (λ q h. sym (left_out r p q h)) right)
 
 -- a close says no step
 pub entry_steps : (t : Tree) (own : Own) (dir : Bool) (v : Visit) (rest : List Visit) → plan_steps t own (v ∷ rest) ≡ plan_steps t own (entry_visits dir v rest)
@@ -389,12 +389,12 @@ entry_steps t own false v rest = refl
 
 -- ---- files
 
-lacks_directory : (o : Option Entry) → has_directory o ≡ false → IsSomeAnd o (λ y. IsTrue (is_directory y)) → ⊥
+lacks_directory : (o : Option Entry) → is_directory_there o ≡ false → IsSomeAnd o (λ y. IsTrue (is_directory y)) → ⊥
 lacks_directory None e k = k
 lacks_directory (Some x) e k = false≢true (sym e ∙ k)
 
 -- where no directory stands, nothing stands below
-none_below : (u : Tree) (p q : PathValue) → HoldsTogether p u → has_directory (u p) ≡ false → below p q ≡ true → u q ≡ None
+none_below : (u : Tree) (p q : PathValue) → HoldsTogether p u → is_directory_there (u p) ≡ false → below p q ≡ true → u q ≡ None
 none_below u p q holds none low = by (u q) refl
   where
     by : (o : Option Entry) → u q ≡ o → o ≡ None
@@ -402,7 +402,7 @@ none_below u p q holds none low = by (u q) refl
     by (Some x) e = absurd (lacks_directory (u p) none (holds p q (under_itself p) low (ap is_some e)))
 
 -- what stays where a file is to stand is no directory
-no_directory : (o n : Option Entry) → goes o n ≡ false → is_some n ≡ true → has_directory n ≡ false → has_directory o ≡ false
+no_directory : (o n : Option Entry) → goes o n ≡ false → is_some n ≡ true → is_directory_there n ≡ false → is_directory_there o ≡ false
 no_directory None n h some file = refl
 no_directory (Some x) None h some file = absurd (false≢true some)
 no_directory (Some x) (Some y) h some file = by (is_directory x) (is_directory y) h file
@@ -413,7 +413,7 @@ no_directory (Some x) (Some y) h some file = by (is_directory x) (is_directory y
     by true false g e = absurd (false≢true (sym g))
 
 -- nothing is below a file
-pub nothing_below : (seen : Node → Node) (stale : PathValue → Bool) (anew : Bool) (r t : Tree) (p : PathValue) → is_some (t p) ≡ true → has_directory (t p) ≡ false → (anew ≡ false → Goes r t p ≡ false) → BothHold r t p
+pub nothing_below : (seen : Node → Node) (stale : PathValue → Bool) (anew : Bool) (r t : Tree) (p : PathValue) → is_some (t p) ≡ true → is_directory_there (t p) ≡ false → (anew ≡ false → Goes r t p ≡ false) → BothHold r t p
     → IsRight seen (below p) stale (old_side anew r) t []
 nothing_below seen stale anew r t p some file stays sound =
     nothing seen (below p) stale (old_side anew r) t (λ q low. (ap (option_map node_of) (old q low anew refl ∙ sym (new q low)), λ both. absurd (none_some (new q low) both.1)))

@@ -26,16 +26,16 @@ own_steps p told changes text =
     property_steps p told ++ (property_steps p changes ++ text_steps p text)
 
 -- one of the changes is of this name
-abbrev pub is_changed : List Change → List ℕ → Bool
-is_changed changes name = list_any (λ c. same_component c.0 name) changes
+abbrev pub changes_name : List Change → List ℕ → Bool
+changes_name changes name = list_any (λ c. same_component c.0 name) changes
 
 -- the changes lead from these values to those: each gives a name its new value, and what no change
 -- names has its new value already
 pub record LeadTo (old new : PropertyValues) (changes : List Change) : Type 0 where
   pub agree : All (λ c. (is_entry_property c.0 ≡ false) × (c.1 ≡ new c.0)) changes
-  pub covers : (name : List ℕ) → is_changed changes name ≡ false → old name ≡ new name
+  pub covers : (name : List ℕ) → changes_name changes name ≡ false → old name ≡ new name
 
 -- an entry with this text, if there is one
-abbrev pub with_text : Option (List ℕ) → Content → Content
-with_text None content = content
-with_text (Some text) content = File text
+abbrev pub content_with_text : Option (List ℕ) → Content → Content
+content_with_text None content = content
+content_with_text (Some text) content = File text

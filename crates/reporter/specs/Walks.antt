@@ -6,7 +6,7 @@ use Rattle.repo_api.specs.Trees.{Tree, HasFile, is_directory}
 use Rattle.repo_api.specs.declared.entry.Entry.{Entry}
 use Rattle.drives.specs.Steps.{Node, node_at, all_meet, after_steps, has_step, is_text, empty_content, no_properties, IsOwn}
 use Rattle.drives.specs.Drives.{Differs, created_revision, IsOfOneKind, HasOtherText}
-use Rattle.drives.specs.Scopes.{below, without, HoldsTogether}
+use Rattle.drives.specs.Scopes.{below, tree_without, HoldsTogether}
 use Rattle.reporter.specs.declared.visit.Visit.{Visit}
 use Rattle.reporter.specs.declared.visit.Visit.TheVariants.{Delete}
 use Rattle.reporter.specs.Visits.{OwnSteps, entry_kind}
@@ -55,7 +55,7 @@ going old new ps = filter (λ p. goes (old p) (new p)) ps
 -- the tree with nothing at or under any of the paths
 abbrev pub without_all : List PathValue → Tree → Tree
 without_all [] t = t
-without_all (p ∷ ps) t = without_all ps (without p t)
+without_all (p ∷ ps) t = without_all ps (tree_without p t)
 
 -- what is left of the old tree: nothing, where the entry comes anew
 abbrev pub old_side : Bool → Tree → Tree

@@ -1,9 +1,9 @@
 //! What stands at a path on both sides.
 ghost use Rattle.std.specs.Prelude.{◌≡◌, ◌||◌, not, Option, is_some};
+ghost use Rattle.repo_api.specs.Trees.{is_directory_there};
 ghost use Rattle.repo_api.specs.Kinds.{kind_of};
 ghost use Rattle.repo_api.specs.declared.entry.Entry.{Entry};
 ghost use Rattle.drives.specs.Scopes.{is_file};
-ghost use Rattle.reporter.specs.Nesting.{has_directory};
 ghost use Rattle.reporter.specs.Walks.{goes};
 
 use repo_api::NodeKind;
@@ -28,7 +28,7 @@ pub(crate) fn is_there(kind: NodeKind) -> bool
 
 /// Whether a directory stands there.
 pub(crate) fn is_directory(kind: NodeKind) -> bool
-    ensures { (e : Option Entry) → kind ≡ kind_of e → result ≡ has_directory e }
+    ensures { (e : Option Entry) → kind ≡ kind_of e → result ≡ is_directory_there e }
 {
     match kind {
         NodeKind::Absent => false,

@@ -1,11 +1,11 @@
 //! The plan of a drive: which paths it names.
 ghost use Rattle.std.specs.Prelude.{◌≡◌, ◌||◌, List, [], ◌∷◌, false, true, IfOk, is_some};
 ghost use Rattle.svnpath.specs.Paths.{PathValue};
-ghost use Rattle.repo_api.specs.Trees.{HasDirectory};
+ghost use Rattle.repo_api.specs.Trees.{HasDirectory, is_directory_there};
 ghost use Rattle.drives.specs.Places.{is_in_directory};
 ghost use Rattle.drives.specs.Scopes.{under, below};
 ghost use Rattle.reporter.specs.declared.visit.Visit.TheVariants.{Open};
-ghost use Rattle.reporter.specs.Nesting.{AreNested, entry_visits, has_directory};
+ghost use Rattle.reporter.specs.Nesting.{AreNested, entry_visits};
 ghost use Rattle.reporter.specs.Visits.{IsRightPlan};
 ghost use Rattle.reporter.specs.Walks.{BothHold, goes, old_side, IsSame, IsNeeded, deletes_of};
 
@@ -93,7 +93,7 @@ fn plan_entry<S: Sides>(
     is_directory: bool,
 ) -> Result<Vec<Visit>, AllocError>
     requires stands { is_some (S.new sides.now path.now) ≡ true }
-    requires kind { is_directory ≡ has_directory (S.new sides.now path.now) }
+    requires kind { is_directory ≡ is_directory_there (S.new sides.now path.now) }
     requires stood { is_anew ≡ false → is_some (S.old sides.now path.now) ≡ true }
     requires stays { is_anew ≡ false
         → goes (S.old sides.now path.now) (S.new sides.now path.now) ≡ false }
@@ -123,7 +123,7 @@ fn plan_below<S: Sides>(
     is_directory: bool,
 ) -> Result<Vec<Visit>, AllocError>
     requires stands { is_some (S.new sides.now path.now) ≡ true }
-    requires kind { is_directory ≡ has_directory (S.new sides.now path.now) }
+    requires kind { is_directory ≡ is_directory_there (S.new sides.now path.now) }
     requires stays { is_anew ≡ false
         → goes (S.old sides.now path.now) (S.new sides.now path.now) ≡ false }
     ensures right { IfOk result (λ v. BothHold (S.old sides.now) (S.new sides.now) path.now

@@ -4,7 +4,7 @@ use Rattle.std.specs.Prelude.{Result, Ok, Err, IfOk, OnErr}
 use Rattle.refusals.specs.declared.Refusal.{Refusal}
 use Rattle.repo_api.specs.States.{RepoState}
 use Rattle.edit_commands.specs.declared.editing.EditorCommand.{EditorCommand}
-use Rattle.reports.specs.Judging.{Judges}
+use Rattle.reports.specs.Judging.{JudgesReport}
 use Rattle.reports.specs.Refusing.{◌>>=◌, OpenState, finish_root, finish_answer}
 use Rattle.reports.specs.declared.fault.ReportFault.{ReportFault}
 use Rattle.reports.specs.declared.fault.ReportFault.TheVariants as faults
@@ -75,6 +75,6 @@ module _ (rules : AccessRules) (env : Env) (client : Client) (report : OpenState
 
 -- a report that leads to no drive, and nothing was written
 pub undriven : (c : RepoState) (report : OpenState) (writes : List ℕ → Type 0) (fault : ReportFault) → writes []
-    → Judges {T = ReportRoot} (Err fault) (finish_root c report) → IsUnanswered c report writes fault
+    → JudgesReport {T = ReportRoot} (Err fault) (finish_root c report) → IsUnanswered c report writes fault
 undriven c report writes (faults.Refused r) nothing is = (is, nothing)
 undriven c report writes faults.NoMemory nothing is = inl nothing

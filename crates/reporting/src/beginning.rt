@@ -2,7 +2,7 @@
 ghost use Rattle.std.specs.Prelude.{◌≡◌, ◌++◌, [], IfOk, OnErr, option_copied};
 ghost use Rattle.replies.specs.Replies.{print};
 ghost use Rattle.replies.specs.Sinks.{WritesPart};
-ghost use Rattle.reports.specs.Refusing.{ReportState, ask_of, begun};
+ghost use Rattle.reports.specs.Refusing.{ReportState, ask_of, begun_report};
 ghost use Rattle.access.specs.Points.{content_of};
 ghost use Rattle.machine.specs.Answers.{says, behind};
 ghost use Rattle.machine.specs.Steps.{AnswerWritten};
@@ -26,7 +26,8 @@ pub fn begun_report<R: Repository, A: RepoAccess<View = R>>(
     errand: Errand<'_>,
     access: &mut A,
 ) -> Result<Report<Grafts>, AllocError>
-    ensures ok { IfOk result (λ report. report ≡ begun (ask_of (content_of (A.point access.new))
+    ensures ok { IfOk result (λ report. report ≡ begun_report
+        (ask_of (content_of (A.point access.new))
         options.now.name client.now.path errand.entry.purpose errand.entry.request.now
         (option_copied errand.entry.url))) }
     ensures later { A.rules.between (A.point access.old) (A.point access.new) }

@@ -1,7 +1,7 @@
 //! The commands of a report that goes on.
 ghost use Rattle.std.specs.Prelude.{◌≡◌, Ok, IfOk, OnErr, option_copied};
 ghost use Rattle.repo_api.specs.Soundness.{AreSound};
-ghost use Rattle.reports.specs.Refusing.{delete_path_answer, kept, set_path_answer};
+ghost use Rattle.reports.specs.Refusing.{delete_path_answer, kept_report, set_path_answer};
 ghost use Rattle.drive_commands.specs.Reporting.{Drawn, OpenStep};
 ghost use Rattle.access.specs.Points.{content_of};
 ghost use Rattle.machine.specs.Reports.{drawn_answer};
@@ -29,7 +29,7 @@ fn set_path_now<R: Repository, A: RepoAccess<View = R>>(
     access: &mut A,
 ) -> Result<Report<Grafts>, AllocError>
     requires trees { AreSound (content_of (A.point access.old)).revisions }
-    ensures next { IfOk result (λ next. next ≡ kept (set_path_answer
+    ensures next { IfOk result (λ next. next ≡ kept_report (set_path_answer
         (content_of (A.point access.new)) name.now report link.entry.reported.now
         (option_copied link.entry.url))) }
     ensures later { A.rules.between (A.point access.old) (A.point access.new) }
@@ -54,7 +54,7 @@ fn set_path<R: Repository, A: RepoAccess<View = R>>(
     requires trees { AreSound (content_of (A.point access.old)).revisions }
     ensures next { IfOk result (λ phase. phase ≡ Reporting (record {
       client = errand.client;
-      report = kept (set_path_answer (content_of (A.point access.new)) options.now.name
+      report = kept_report (set_path_answer (content_of (A.point access.new)) options.now.name
           errand.report link.entry.reported.now (option_copied link.entry.url));
     })) }
     ensures later { A.rules.between (A.point access.old) (A.point access.new) }
@@ -77,7 +77,7 @@ fn delete_path<R: Repository>(
 ) -> Result<SessionPhase<R>, AllocError>
     ensures { IfOk result (λ phase. phase ≡ Reporting (record {
       client = errand.client;
-      report = kept (delete_path_answer errand.report text.now);
+      report = kept_report (delete_path_answer errand.report text.now);
     })) }
 {
     let OpenErrand { client, report } = errand;

@@ -13,7 +13,7 @@ use Rattle.drives.specs.Scopes.{below, HoldsTogether}
 use Rattle.drives.proofs.Joined.{or_false}
 use Rattle.drives.proofs.Entries.{under_more}
 use Rattle.reports.specs.Places.{AllHoldTogether, is_grafted_over}
-use Rattle.reports.specs.Reported.{ReportedEntry, ReportedTree, entries_of, in_subtree, in_graft, shown_by, has_directory, has_place, above, with_graft, is_surely_placed, reported}
+use Rattle.reports.specs.Reported.{ReportedEntry, ReportedTree, entries_of, in_subtree, in_graft, shown_by, has_directory, has_place, path_above, with_graft, is_surely_placed, reported}
 use Rattle.reports.specs.declared.graft.Graft.{Graft}
 use Rattle.reports.specs.declared.graft.Subtree.{Subtree}
 use Rattle.reports.proofs.Drives.{each_holds}
@@ -51,11 +51,11 @@ shows_placed trees top had g q up place =
     ∙ ap (λ b. cond b (in_graft trees g (drop (length g.path) q)) (had q)) up
     ∙ sym (ap (λ b. cond b (in_graft trees g (drop (length g.path) q)) None) up)
 
-length_above : (p : PathValue) → length (above p) ≡ length p - 1
+length_above : (p : PathValue) → length (path_above p) ≡ length p - 1
 length_above p = length-take-le (length p - 1) p (omega arith)
 
-over_above : (p : PathValue) → is_at_or_under p (above p) ≡ true
-over_above p = ap (λ n. same_path (above p) (take n p)) (length_above p) ∙ same_path_refl (above p)
+over_above : (p : PathValue) → is_at_or_under p (path_above p) ≡ true
+over_above p = ap (λ n. same_path (path_above p) (take n p)) (length_above p) ∙ same_path_refl (path_above p)
 
 under_length : (p q : PathValue) → is_at_or_under q p ≡ true → length p ≤ length q
 under_length p q up =
@@ -70,12 +70,12 @@ none_without_place top had p q holds at up none = by (had q) refl
     not_top : same_path p top ≡ false
     not_top = first (same_path p top) none
       where
-        first : (b : Bool) → (b || has_directory (had (above p))) ≡ false → b ≡ false
+        first : (b : Bool) → (b || has_directory (had (path_above p))) ≡ false → b ≡ false
         first true e = absurd (false≢true (sym e))
         first false e = refl
 
-    not_held : has_directory (had (above p)) ≡ false
-    not_held = ap (λ b. b || has_directory (had (above p))) (sym not_top) ∙ none
+    not_held : has_directory (had (path_above p)) ≡ false
+    not_held = ap (λ b. b || has_directory (had (path_above p))) (sym not_top) ∙ none
 
     lower : below top p ≡ true
     lower = ap (λ b. is_at_or_under p top && not b) (other (same_path top p) refl) ∙ ap (λ b. b && true) at
@@ -87,11 +87,11 @@ none_without_place top had p q holds at up none = by (had q) refl
             swap e = subst (λ x. same_path x top ≡ true) (same_path_is top p e) (same_path_refl top)
         other false e = refl
 
-    short : length (above p) < length p
+    short : length (path_above p) < length p
     short = let long : length top < length p = below_longer top p lower in omega (length_above p, long, arith)
 
-    held : below (above p) q ≡ true
-    held = longer_below (above p) q (omega (short, under_length p q up, arith)) (under_more q p (above p) up (over_above p))
+    held : below (path_above p) q ≡ true
+    held = longer_below (path_above p) q (omega (short, under_length p q up, arith)) (under_more q p (path_above p) up (over_above p))
 
     directory : (o : Option ReportedEntry) → IsSomeAnd (option_map (λ (h : ReportedEntry). h.entry) o) (λ e. IsTrue (is_directory e)) → has_directory o ≡ true
     directory None h = absurd h
@@ -100,7 +100,7 @@ none_without_place top had p q holds at up none = by (had q) refl
     by : (o : Option ReportedEntry) → had q ≡ o → o ≡ None
     by None e = refl
     by (Some x) e =
-        absurd (false≢true (sym not_held ∙ directory (had (above p)) (holds (above p) q (above_under top p lower) held (ap (λ o. is_some (option_map (λ (h : ReportedEntry). h.entry) o)) e))))
+        absurd (false≢true (sym not_held ∙ directory (had (path_above p)) (holds (path_above p) q (above_under top p lower) held (ap (λ o. is_some (option_map (λ (h : ReportedEntry). h.entry) o)) e))))
 
 -- a graft that is surely placed shows what is there
 pub shows_surely : (trees : ℕ → Tree) (top : PathValue) (gs : List Graft) (g : Graft) (q : PathValue) → ((n : ℕ) → HoldsTogether [] (trees n)) → is_at_or_under q g.path ≡ true → is_surely_placed top g ≡ true
@@ -127,7 +127,7 @@ shows_surely trees top gs g q hold up sure = by (has_place top (reported trees t
         ∙ sym (ap (λ b. cond b (in_graft trees g (drop (length g.path) q)) None) up ∙ nothing g.subtree both.0)
       where
         both : (not (is_some g.subtree) ≡ true) × (is_at_or_under g.path top ≡ true)
-        both = parts (same_path g.path top) (not (is_some g.subtree)) (is_at_or_under g.path top) sure (or_false (same_path g.path top) (has_directory (had (above g.path))) none).0
+        both = parts (same_path g.path top) (not (is_some g.subtree)) (is_at_or_under g.path top) sure (or_false (same_path g.path top) (has_directory (had (path_above g.path))) none).0
 
 -- the tree after so many grafts, by the last of them
 pub by_last : (trees : ℕ → Tree) (top : PathValue) (gs : List Graft) (n : ℕ) (g : Graft) (q : PathValue) → 0 < n → n ≤ length gs → g ≡ get_or gs (n - 1) g
@@ -220,18 +220,18 @@ pub none_shown : (trees : ℕ → Tree) (top : PathValue) (gs : List Graft) (p :
 none_shown trees top gs p n later none q up free = later q up free ∙ ap (λ m. reported trees top (take m gs) q) none
 
 -- a graft has its place in a directory, whether or not it is surely placed
-pub placed_in : (top : PathValue) (had : ReportedTree) (g : Graft) → has_directory (had (above g.path)) ≡ true → has_place top had g.path ≡ true
+pub placed_in : (top : PathValue) (had : ReportedTree) (g : Graft) → has_directory (had (path_above g.path)) ≡ true → has_place top had g.path ≡ true
 placed_in top had g dir = by (same_path g.path top)
   where
-    by : (b : Bool) → (b || has_directory (had (above g.path))) ≡ true
+    by : (b : Bool) → (b || has_directory (had (path_above g.path))) ≡ true
     by true = refl
     by false = dir
 
-pub unplaced_in : (top : PathValue) (had : ReportedTree) (g : Graft) → is_surely_placed top g ≡ false → has_directory (had (above g.path)) ≡ false → has_place top had g.path ≡ false
+pub unplaced_in : (top : PathValue) (had : ReportedTree) (g : Graft) → is_surely_placed top g ≡ false → has_directory (had (path_above g.path)) ≡ false → has_place top had g.path ≡ false
 unplaced_in top had g unsure none =
-    ap (λ b. b || has_directory (had (above g.path))) (or_false (same_path g.path top) (not (is_some g.subtree) && is_at_or_under g.path top) unsure).0 ∙ none
+    ap (λ b. b || has_directory (had (path_above g.path))) (or_false (same_path g.path top) (not (is_some g.subtree) && is_at_or_under g.path top) unsure).0 ∙ none
 
 -- whether it is in a directory, by the graft that says what the client has there
-pub held_by : (trees : ℕ → Tree) (top : PathValue) (gs : List Graft) (g : Graft) (p : PathValue) (found : Option Graft) (b : Bool) → p ≡ above g.path → reported trees top gs p ≡ shown_by trees p found
-    → b ≡ has_directory (shown_by trees p found) → has_directory (reported trees top gs (above g.path)) ≡ b
+pub held_by : (trees : ℕ → Tree) (top : PathValue) (gs : List Graft) (g : Graft) (p : PathValue) (found : Option Graft) (b : Bool) → p ≡ path_above g.path → reported trees top gs p ≡ shown_by trees p found
+    → b ≡ has_directory (shown_by trees p found) → has_directory (reported trees top gs (path_above g.path)) ≡ b
 held_by trees top gs g p found b is here answers = ap (λ x. has_directory (reported trees top gs x)) (sym is) ∙ ap has_directory here ∙ sym answers

@@ -12,7 +12,7 @@ use Rattle.drives.specs.declared.depth.Depth.{Depth}
 use Rattle.drives.specs.declared.depth.Depth.TheVariants.{Empty, Files, Immediates, Infinity}
 use Rattle.drives.proofs.Joined.{or_cases}
 use Rattle.drives.proofs.Entries.{under_more, below_under, below_apart, under_both, no_length}
-use Rattle.reports.specs.Reported.{ReportedEntry, ReportedTree, entries_of, left_by, in_subtree, in_graft, has_directory, has_place, above, with_graft, reported}
+use Rattle.reports.specs.Reported.{ReportedEntry, ReportedTree, entries_of, left_by, in_subtree, in_graft, has_directory, has_place, path_above, with_graft, reported}
 use Rattle.reports.specs.declared.graft.Graft.{Graft}
 use Rattle.reports.specs.declared.graft.Subtree.{Subtree}
 
@@ -55,7 +55,7 @@ below_longer p k low = ⊎_elim (λ le. absurd (false≢true (sym (below_apart p
         sym (under_is k p (below_under p k low) ∙ ap (λ rest. p ++ rest) (no_length (drop (length p) k) (omega (le, long, arith))) ∙ append-nil p)
 
 -- a directory above what has its place
-pub above_under : (p k : PathValue) → below p k ≡ true → is_at_or_under (above k) p ≡ true
+pub above_under : (p k : PathValue) → below p k ≡ true → is_at_or_under (path_above k) p ≡ true
 above_under p k low = ap (same_path p) (take_take (length p) (length k - 1) k (omega (below_longer p k low, arith))) ∙ below_under p k low
 
 some_length : (c : Component) (rest : List Component) → 0 < length (c ∷ rest)
@@ -180,15 +180,15 @@ step_holds trees top had g hold old p q at low some = by (has_place top had g.pa
     -- the graft lies below the path
     over : below p k ≡ true → has_place top had k ≡ true → IsDirectory (After trees had g true p)
     over under place =
-        elsewhere (not_under (is_at_or_under p k) apart) (⊎_elim (λ same. absurd (apart (subst (λ x. is_at_or_under p x ≡ true) (sym (same_path_is k top same)) at))) (λ d. directory d (same_path p (above k)) refl) (or_cases (same_path k top) (has_directory (had (above k))) place))
+        elsewhere (not_under (is_at_or_under p k) apart) (⊎_elim (λ same. absurd (apart (subst (λ x. is_at_or_under p x ≡ true) (sym (same_path_is k top same)) at))) (λ d. directory d (same_path p (path_above k)) refl) (or_cases (same_path k top) (has_directory (had (path_above k))) place))
       where
         apart : is_at_or_under p k ≡ true → ⊥
         apart u = false≢true (sym (below_apart p k under) ∙ ap (same_path p) (sym (under_both p k u (below_under p k under))) ∙ same_path_refl p)
 
-        directory : has_directory (had (above k)) ≡ true → (b : Bool) → same_path p (above k) ≡ b → IsDirectory (option_map (λ (h : ReportedEntry). h.entry) (had p))
-        directory d true e = subst (λ x. IsDirectory (option_map (λ (h : ReportedEntry). h.entry) (had x))) (sym (same_path_is p (above k) e)) (dir_is (had (above k)) d)
+        directory : has_directory (had (path_above k)) ≡ true → (b : Bool) → same_path p (path_above k) ≡ b → IsDirectory (option_map (λ (h : ReportedEntry). h.entry) (had p))
+        directory d true e = subst (λ x. IsDirectory (option_map (λ (h : ReportedEntry). h.entry) (had x))) (sym (same_path_is p (path_above k) e)) (dir_is (had (path_above k)) d)
         directory d false e =
-            old p (above k) at (ap (λ a. a && not (same_path p (above k))) (above_under p k under) ∙ ap (λ a. true && not a) e) (some_dir (option_map (λ (h : ReportedEntry). h.entry) (had (above k))) (dir_is (had (above k)) d))
+            old p (path_above k) at (ap (λ a. a && not (same_path p (path_above k))) (above_under p k under) ∙ ap (λ a. true && not a) e) (some_dir (option_map (λ (h : ReportedEntry). h.entry) (had (path_above k))) (dir_is (had (path_above k)) d))
 
     placed : has_place top had k ≡ true → (u : Bool) → is_at_or_under q k ≡ u → IsSome (option_map (λ (h : ReportedEntry). h.entry) (cond (true && u) (in_graft trees g (drop (length k) q)) (had q))) → IsDirectory (After trees had g true p)
     placed place true uk h = ⊎_elim (λ u. inside u h) (λ b. over b place) (comparable p k q up uk)

@@ -8,19 +8,19 @@ use Rattle.reports.specs.declared.fault.ReportFault.{ReportFault}
 use Rattle.reports.specs.declared.fault.ReportFault.TheVariants as faults
 
 -- the result is what is wanted, or memory ran out
-abbrev pub Judges : {T : Type 0} → Result T ReportFault → Result T Refusal → Type 0
-Judges (Ok value) wanted = wanted ≡ Ok value
-Judges (Err (faults.Refused r)) wanted = wanted ≡ Err r
-Judges (Err faults.NoMemory) wanted = Unit {0}
+abbrev pub JudgesReport : {T : Type 0} → Result T ReportFault → Result T Refusal → Type 0
+JudgesReport (Ok value) wanted = wanted ≡ Ok value
+JudgesReport (Err (faults.Refused r)) wanted = wanted ≡ Err r
+JudgesReport (Err faults.NoMemory) wanted = Unit {0}
 
 -- a fault of a path, as a report's
-abbrev pub fault_of_path : PathFault → ReportFault
-fault_of_path path_faults.EmptyComponent =
+abbrev pub report_fault_of_path : PathFault → ReportFault
+report_fault_of_path path_faults.EmptyComponent =
     faults.Refused (path_refusal path_faults.EmptyComponent)
-fault_of_path path_faults.ForbiddenComponent =
+report_fault_of_path path_faults.ForbiddenComponent =
     faults.Refused (path_refusal path_faults.ForbiddenComponent)
-fault_of_path path_faults.TooLong = faults.Refused (path_refusal path_faults.TooLong)
-fault_of_path path_faults.TooDeep = faults.Refused (path_refusal path_faults.TooDeep)
-fault_of_path path_faults.NotThisRepository =
+report_fault_of_path path_faults.TooLong = faults.Refused (path_refusal path_faults.TooLong)
+report_fault_of_path path_faults.TooDeep = faults.Refused (path_refusal path_faults.TooDeep)
+report_fault_of_path path_faults.NotThisRepository =
     faults.Refused (path_refusal path_faults.NotThisRepository)
-fault_of_path path_faults.NoMemory = faults.NoMemory
+report_fault_of_path path_faults.NoMemory = faults.NoMemory

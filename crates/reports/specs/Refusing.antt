@@ -9,8 +9,7 @@ use Rattle.refusals.specs.Refusing.{path_refusal}
 use Rattle.refusals.specs.declared.Refusal.{Refusal}
 use Rattle.refusals.specs.declared.Refusal.TheVariants as refusals
 use Rattle.repo_api.specs.States.{RepoState, youngest, trees_in}
-use Rattle.repo_api.specs.Trees.{is_directory}
-use Rattle.repo_api.specs.declared.entry.Entry.{Entry}
+use Rattle.repo_api.specs.Trees.{is_directory_there}
 use Rattle.drives.specs.declared.depth.Depth.{Depth}
 use Rattle.report_commands.specs.declared.asking.DriveRequest.{DriveRequest}
 use Rattle.report_commands.specs.declared.report.ReportedPath.{ReportedPath}
@@ -82,9 +81,9 @@ ask_of c name anchor purpose request url = do
   })
 
 -- a report that begins, with its refusal if there is one
-abbrev pub begun : Result DriveAsk Refusal → ReportState
-begun (Ok ask) = Open (record { ask = ask; root = None; grafts = [] })
-begun (Err r) = Refused r
+abbrev pub begun_report : Result DriveAsk Refusal → ReportState
+begun_report (Ok ask) = Open (record { ask = ask; root = None; grafts = [] })
+begun_report (Err r) = Refused r
 
 -- ---- a path of a report
 
@@ -115,8 +114,8 @@ root_after None revision depth = record { revision = revision; depth = depth }
 root_after (Some root) revision depth = root
 
 -- the report with one graft more
-abbrev pub grafted : OpenState → Option ReportRoot → Graft → ReportState
-grafted report root g =
+abbrev pub report_with_graft : OpenState → Option ReportRoot → Graft → ReportState
+report_with_graft report root g =
     Open (record { ask = report.ask; root = root; grafts = report.grafts ++ g ∷ [] })
 
 -- the graft of a path that is set: what stands at a path of the repository in a revision
@@ -155,7 +154,7 @@ abbrev pub set_path_answer : RepoState → List ℕ → OpenState → ReportedPa
     → Result ReportState Refusal
 set_path_answer c name report reported url = do
   (root, g) ← set_path_graft c name report reported url
-  Ok (grafted report (Some root) g)
+  Ok (report_with_graft report (Some root) g)
 
 -- the graft of a path at which nothing is
 abbrev pub empty_graft : OpenState → PathValue → Graft
@@ -177,19 +176,14 @@ delete_path_graft report text = do
 abbrev pub delete_path_answer : OpenState → List ℕ → Result ReportState Refusal
 delete_path_answer report text = do
   g ← delete_path_graft report text
-  Ok (grafted report report.root g)
+  Ok (report_with_graft report report.root g)
 
 -- the first refusal is kept
-abbrev pub kept : Result ReportState Refusal → ReportState
-kept (Ok report) = report
-kept (Err r) = Refused r
+abbrev pub kept_report : Result ReportState Refusal → ReportState
+kept_report (Ok report) = report
+kept_report (Err r) = Refused r
 
 -- ---- the end
-
--- a directory stands there
-abbrev pub is_directory_there : Option Entry → Bool
-is_directory_there None = false
-is_directory_there (Some e) = is_directory e
 
 -- something stands at the URL of a switch
 abbrev pub has_goal : RepoState → DriveAsk → Purpose → Bool

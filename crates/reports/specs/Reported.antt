@@ -77,12 +77,12 @@ has_directory None = false
 has_directory (Some h) = is_directory h.entry
 
 -- the path above; of the root the root
-abbrev pub above : PathValue → PathValue
-above p = take (length p - 1) p
+abbrev pub path_above : PathValue → PathValue
+path_above p = take (length p - 1) p
 
 -- a path has its place at the top of the report, and in a directory that is there
 abbrev pub has_place : PathValue → ReportedTree → PathValue → Bool
-has_place top had p = same_path p top || has_directory (had (above p))
+has_place top had p = same_path p top || has_directory (had (path_above p))
 
 -- a graft that has its place stands there, in the place of what stood at its path and under it
 abbrev pub with_graft : (ℕ → Tree) → PathValue → ReportedTree → Graft → ReportedTree
@@ -119,4 +119,4 @@ abbrev pub own_source : PathValue → PathValue → List Graft → PathValue →
 own_source anchor top grafts p =
     if same_path p top
     then anchor ++ top
-    else origin anchor grafts (above p) ++ drop (length p - 1) p
+    else origin anchor grafts (path_above p) ++ drop (length p - 1) p

@@ -1,8 +1,8 @@
 //! What the commands of a report make of it.
 ghost use Rattle.std.specs.Prelude.{◌≡◌, Some, option_copied, IfOk};
 ghost use Rattle.repo_api.specs.Soundness.{AreTrees};
-ghost use Rattle.reports.specs.Judging.{Judges};
-ghost use Rattle.reports.specs.Refusing.{may_come, may_lack, root_after, graft_of, set_path_graft, set_path_answer, delete_path_graft, delete_path_answer, grafted, kept, has_goal, has_anchor, finish_root};
+ghost use Rattle.reports.specs.Judging.{JudgesReport};
+ghost use Rattle.reports.specs.Refusing.{may_come, may_lack, root_after, graft_of, set_path_graft, set_path_answer, delete_path_graft, delete_path_answer, report_with_graft, kept_report, has_goal, has_anchor, finish_root};
 
 use crate::ask::{DriveAsk, Purpose};
 use crate::fault::ReportFault;
@@ -96,7 +96,7 @@ fn set_path_graft<R: Repository>(
     link: Link<'_>,
 ) -> Result<(ReportRoot, Graft), ReportFault>
     requires { AreTrees (R.content view.now).revisions }
-    ensures { Judges result (set_path_graft (R.content view.now) name.now report.now
+    ensures { JudgesReport result (set_path_graft (R.content view.now) name.now report.now
         link.entry.reported.now (option_copied link.entry.url)) }
 {
     let ask = &report.ask;
@@ -123,7 +123,7 @@ fn delete_path_graft(
     report: &OpenReport<Grafts>,
     text: &ByteString,
 ) -> Result<Graft, ReportFault>
-    ensures { Judges result (delete_path_graft report.now text.now) }
+    ensures { JudgesReport result (delete_path_graft report.now text.now) }
 {
     judge(report.root.is_some(), Refusal::MalformedData)?;
     let path = report_path(alloc, &report.ask, text)?;
@@ -142,7 +142,7 @@ fn grafted(
     root: Option<ReportRoot>,
     graft: Graft,
 ) -> Result<Report<Grafts>, AllocError>
-    ensures { IfOk result (λ next. next ≡ grafted report root graft) }
+    ensures { IfOk result (λ next. next ≡ report_with_graft report root graft) }
 {
     report.grafts.push(graft)?;
     report.root = root;
@@ -158,7 +158,7 @@ pub fn set_path<R: Repository>(
     link: Link<'_>,
 ) -> Result<Report<Grafts>, AllocError>
     requires { AreTrees (R.content view.now).revisions }
-    ensures { IfOk result (λ next. next ≡ kept (set_path_answer (R.content view.now) name.now
+    ensures { IfOk result (λ next. next ≡ kept_report (set_path_answer (R.content view.now) name.now
         report link.entry.reported.now (option_copied link.entry.url))) }
 {
     match set_path_graft(alloc, view, name, &report, link) {
@@ -180,7 +180,7 @@ pub fn delete_path(
     report: OpenReport<Grafts>,
     text: &ByteString,
 ) -> Result<Report<Grafts>, AllocError>
-    ensures { IfOk result (λ next. next ≡ kept (delete_path_answer report text.now)) }
+    ensures { IfOk result (λ next. next ≡ kept_report (delete_path_answer report text.now)) }
 {
     match delete_path_graft(alloc, &report, text) {
         Ok(graft) => {
@@ -243,7 +243,7 @@ pub fn finish<R: Repository>(
     report: &OpenReport<Grafts>,
 ) -> Result<ReportRoot, ReportFault>
     requires { AreTrees (R.content view.now).revisions }
-    ensures { Judges result (finish_root (R.content view.now) report.now) }
+    ensures { JudgesReport result (finish_root (R.content view.now) report.now) }
 {
     let root = report
         .root

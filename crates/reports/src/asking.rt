@@ -1,7 +1,7 @@
 //! What an update, a switch or a status asks for.
 ghost use Rattle.std.specs.Prelude.{◌≡◌, option_copied, IfOk};
-ghost use Rattle.reports.specs.Judging.{Judges};
-ghost use Rattle.reports.specs.Refusing.{ask_of, begun};
+ghost use Rattle.reports.specs.Judging.{JudgesReport};
+ghost use Rattle.reports.specs.Refusing.{ask_of, begun_report};
 
 use crate::ask::{DriveAsk, Purpose};
 use crate::fault::ReportFault;
@@ -36,7 +36,7 @@ pub fn ask_of<R: Repository>(
     anchor: Anchor<'_>,
     errand: Errand<'_>,
 ) -> Result<DriveAsk, ReportFault>
-    ensures { Judges result (ask_of (R.content view.now) anchor.entry.name.now
+    ensures { JudgesReport result (ask_of (R.content view.now) anchor.entry.name.now
         anchor.entry.path.now errand.entry.purpose errand.entry.request.now
         (option_copied errand.entry.url)) }
 {
@@ -62,7 +62,7 @@ pub fn begin<R: Repository>(
     anchor: Anchor<'_>,
     errand: Errand<'_>,
 ) -> Result<Report<Grafts>, AllocError>
-    ensures { IfOk result (λ report. report ≡ begun (ask_of (R.content view.now)
+    ensures { IfOk result (λ report. report ≡ begun_report (ask_of (R.content view.now)
         anchor.entry.name.now anchor.entry.path.now errand.entry.purpose errand.entry.request.now
         (option_copied errand.entry.url))) }
 {

@@ -36,9 +36,9 @@ impl<T: Drop> From<AllocFailed<T>> for ReportFault {
 
 impl From<PathFault> for ReportFault {
     ghost use Rattle.std.specs.Prelude.{◌≡◌};
-    ghost use Rattle.reports.specs.Judging.{fault_of_path};
+    ghost use Rattle.reports.specs.Judging.{report_fault_of_path};
 
-    ghost from_gives = { λ path_fault fault. fault ≡ fault_of_path path_fault };
+    ghost from_gives = { λ path_fault fault. fault ≡ report_fault_of_path path_fault };
 
     fn from(fault: PathFault) -> Self {
         match fault {

@@ -1,10 +1,11 @@
 //! The rules by which a command of a report is refused, each by itself.
 ghost use Rattle.std.specs.Prelude.{◌≡◌, is_some, option_copied};
+ghost use Rattle.repo_api.specs.Trees.{is_directory_there};
 ghost use Rattle.svnpath.specs.Texts.{joined};
 ghost use Rattle.repo_api.specs.States.{trees_in};
 ghost use Rattle.reports.specs.Depths.{graft_depth, depth_asked};
-ghost use Rattle.reports.specs.Judging.{Judges};
-ghost use Rattle.reports.specs.Refusing.{unless, or_refusal, url_or, revision_read, is_directory_there};
+ghost use Rattle.reports.specs.Judging.{JudgesReport};
+ghost use Rattle.reports.specs.Refusing.{unless, or_refusal, url_or, revision_read};
 
 use crate::ask::DepthAsked;
 use crate::fault::ReportFault;
@@ -19,7 +20,7 @@ use svnpath::Path;
 
 /// What does not hold is refused so.
 pub(crate) fn judge(holds: bool, refusal: Refusal) -> Result<(), ReportFault>
-    ensures { Judges result (unless holds refusal) }
+    ensures { JudgesReport result (unless holds refusal) }
 {
     if holds {
         Ok(())
@@ -30,7 +31,7 @@ pub(crate) fn judge(holds: bool, refusal: Refusal) -> Result<(), ReportFault>
 
 /// The path that a text names beneath another.
 pub(crate) fn path_named(alloc: Global, base: &Path, text: &ByteString) -> Result<Path, ReportFault>
-    ensures { Judges result (or_refusal (joined base.now text.now)) }
+    ensures { JudgesReport result (or_refusal (joined base.now text.now)) }
 {
     Ok(base.join(alloc, text.as_slice())?)
 }
@@ -42,7 +43,7 @@ pub(crate) fn url_or(
     own: Path,
     url: Option<&ByteString>,
 ) -> Result<Path, ReportFault>
-    ensures { Judges result (url_or name.now own (option_copied url.entry)) }
+    ensures { JudgesReport result (url_or name.now own (option_copied url.entry)) }
 {
     match url {
         None => Ok(own),
@@ -58,7 +59,7 @@ pub(crate) fn revision_read<R: Repository>(
     view: &R,
     revision: Option<u64>,
 ) -> Result<u64, ReportFault>
-    ensures { Judges result (revision_read (R.content view.now) revision) }
+    ensures { JudgesReport result (revision_read (R.content view.now) revision) }
 {
     let youngest = view.youngest();
     match revision {
@@ -75,7 +76,7 @@ pub(crate) fn revision_read<R: Repository>(
 
 /// The depth of what is reported: everything, or it is refused.
 pub(crate) fn graft_depth(word: Option<DepthWord>) -> Result<Depth, ReportFault>
-    ensures { Judges result (graft_depth word) }
+    ensures { JudgesReport result (graft_depth word) }
 {
     match word {
         None | Some(DepthWord::Unknown) | Some(DepthWord::Known(Depth::Infinity)) => {
@@ -87,7 +88,7 @@ pub(crate) fn graft_depth(word: Option<DepthWord>) -> Result<Depth, ReportFault>
 
 /// How deep a drive is to go: to the end, or it is refused.
 pub(crate) fn depth_asked(recurse: bool, word: Option<DepthWord>) -> Result<DepthAsked, ReportFault>
-    ensures { Judges result (depth_asked recurse word) }
+    ensures { JudgesReport result (depth_asked recurse word) }
 {
     if recurse {
         Ok(DepthAsked::Given(graft_depth(word)?))

@@ -1,8 +1,8 @@
 //! Which paths of the repository the paths of a report stand for.
 ghost use Rattle.std.specs.Prelude.{◌≡◌, ◌++◌, IfOk};
-ghost use Rattle.reports.specs.Judging.{Judges};
+ghost use Rattle.reports.specs.Judging.{JudgesReport};
 ghost use Rattle.reports.specs.Refusing.{report_path};
-ghost use Rattle.reports.specs.Reported.{above, origin, own_source};
+ghost use Rattle.reports.specs.Reported.{path_above, origin, own_source};
 
 use crate::ask::DriveAsk;
 use crate::fault::ReportFault;
@@ -25,7 +25,7 @@ pub(crate) fn report_path(
     ask: &DriveAsk,
     text: &ByteString,
 ) -> Result<Path, ReportFault>
-    ensures { Judges result (report_path ask.now text.now) }
+    ensures { JudgesReport result (report_path ask.now text.now) }
 {
     let own = anchored(alloc, &ask.anchor, &ask.target)?;
     let path = path_named(alloc, &own, text)?;
@@ -34,7 +34,7 @@ pub(crate) fn report_path(
 
 /// The path above; of the root the root.
 pub(crate) fn above(alloc: Global, path: &Path) -> Result<Path, AllocError>
-    ensures { IfOk result (λ p. p ≡ above path.now) }
+    ensures { IfOk result (λ p. p ≡ path_above path.now) }
 {
     match path.parent(alloc)? {
         Some(parent) => Ok(parent),

@@ -4,4 +4,6 @@
 #[cfg(test)]
 mod locks;
 #[cfg(test)]
+mod stdio;
+#[cfg(test)]
 mod tests;

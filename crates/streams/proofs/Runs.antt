@@ -9,7 +9,7 @@ use Rattle.hub.specs.declared.hub.HubFault.{HubFault}
 use Rattle.hub.specs.Calls.{ConnectsAs, FeedsAs, FeedBreaks}
 use Rattle.streams.specs.declared.fault.ServeFault.{ServeFault}
 use Rattle.streams.specs.declared.fault.ServeFault.TheVariants.{Read, Write, Hub}
-use Rattle.streams.specs.Stream.{Piece, bytes_of, GivesAll, Scene, scene, HearsPieces, is_hearing, IsServed, HearsUntil, Answered, Answers, ServesStreams, HubFails, IfRead, IfHub}
+use Rattle.streams.specs.Stream.{Piece, bytes_of, GivesAll, Scene, scene, HearsPieces, is_hearing, IsServed, HearsUntil, Answered, AnswersStream, ServesStreams, HubFails, IfRead, IfHub}
 use Rattle.streams.proofs.Joining.{fed_piece, draws_more}
 
 -- a piece more was handed in
@@ -126,7 +126,7 @@ module _ {E T : Type 0} (gives : E → Env → E → Type 0) (n : ℕ) (old gree
   then_serves (Ok x) h served = (n, all new h, served)
   then_serves (Err e) h served = tt
 
-  pub then_answers : (r : Result T ServeFault) → IfRead r (HearsPieces gives n greeted new) → IfRead r (Answers gives old new)
+  pub then_answers : (r : Result T ServeFault) → IfRead r (HearsPieces gives n greeted new) → IfRead r (AnswersStream gives old new)
   then_answers (Ok x) h = tt
   then_answers (Err (Read error)) h = (n, all new h)
   then_answers (Err (Write error)) h = tt

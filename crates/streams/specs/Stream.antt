@@ -139,8 +139,8 @@ pub record Answered {E : Type 0} (gives : E → Env → E
   pub written : Appends old.output new.output (greeting ++ answers)
 
 -- A session was connected and greeted, and all of the input that was read is answered.
-abbrev pub Answers : {E : Type 0} → (E → Env → E → Type 0) → Scene E → Scene E → Type 0
-Answers gives old new = (n : ℕ) × Answered gives n old new
+abbrev pub AnswersStream : {E : Type 0} → (E → Env → E → Type 0) → Scene E → Scene E → Type 0
+AnswersStream gives old new = (n : ℕ) × Answered gives n old new
 
 -- So it was, and the input was read to its end, or as far as it was heard.
 abbrev pub ServesStreams : {E : Type 0} → (E → Env → E → Type 0) → Scene E → Scene E → Type 0

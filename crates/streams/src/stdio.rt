@@ -3,7 +3,7 @@ ghost use Rattle.std.specs.Prelude.{OnOk};
 ghost use Rattle.hub.specs.Calls.{FeedsTo, FeedBreaks};
 ghost use Rattle.std.specs.Io.{ReadsAtMost};
 ghost use Rattle.std.specs.Io.KnownBytes.{Appends, ReadConsumes};
-ghost use Rattle.streams.specs.Stream.{scene, Answers, HearsPieces, HearsUntil, HubFails, IfHub, IfRead, IsServed, ServesStreams};
+ghost use Rattle.streams.specs.Stream.{scene, AnswersStream, HearsPieces, HearsUntil, HubFails, IfHub, IfRead, IsServed, ServesStreams};
 
 use crate::envs::EnvSource;
 use crate::fault::ServeFault;
@@ -74,7 +74,7 @@ fn answer_piece<A: SoleAccess, W: Write>(
     }
 }
 
-/// Answers pieces of the input, each before the next is read, until it ends or the session isn't open any more.
+/// AnswersStream pieces of the input, each before the next is read, until it ends or the session isn't open any more.
 fn serve_pieces<A: SoleAccess, R: Read, W: Write, E: EnvSource>(
     hub: &mut Hub<A>,
     number: SessionId,
@@ -120,7 +120,7 @@ pub fn run_stdio<A: SoleAccess, R: Read, W: Write, E: EnvSource>(
     ensures served { OnOk result (ServesStreams E.gives
         (scene hub.old (R.remaining input.old) (W.contents output.old) envs.old)
         (scene hub.new (R.remaining input.new) (W.contents output.new) envs.new)) }
-    ensures answered { IfRead result (Answers E.gives
+    ensures answered { IfRead result (AnswersStream E.gives
         (scene hub.old (R.remaining input.old) (W.contents output.old) envs.old)
         (scene hub.new (R.remaining input.new) (W.contents output.new) envs.new)) }
     ensures stopped { IfHub result (λ fault. HubFails E.gives fault

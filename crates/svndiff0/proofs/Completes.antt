@@ -11,7 +11,7 @@ use Rattle.svndiff0.specs.Read.{◌>>=◌}
 use Rattle.svndiff0.specs.Integer.{integer_behind, integer_at, bounded_at}
 use Rattle.svndiff0.specs.Instruction.{length_at, copy_at, new_data_at, instruction_at, before, with_others, instructions_of, total, new_total}
 use Rattle.svndiff0.specs.Window.{limit, head_at, body_at, window_at}
-use Rattle.svndiff0.specs.Document.{header, behind, header_at, going, with_windows, windows_of, opened, outcome, text_of}
+use Rattle.svndiff0.specs.Document.{header, bytes_behind, header_at, going, with_windows, windows_of, after_header, outcome, document_text}
 use Rattle.svndiff0.specs.Format.{AreGroups, IsInteger, IsLength, IsCopy, IsNewData, IsInstruction, AreInstructions, AreIntegers, IsWindow, AreWindows, IsDocument}
 use Rattle.svndiff0.proofs.Sections.{section_step, section_none}
 use Rattle.svndiff0.proofs.Documents.{judged_at, body_is, windows_step, windows_none}
@@ -118,7 +118,7 @@ window_is base before t front rest w =
     ap (λ x. x ++ rest) w.whole ∙ (append_assoc w.head (w.section ++ w.fresh) rest ∙ ap (λ x. w.head ++ x) (append_assoc w.section w.fresh rest)) in
     let there : length w.section + length w.fresh ≤ length bytes = omega (arith, length-append w.section (w.fresh ++ rest), length-append w.fresh rest) in
     let section : take (length w.section) bytes ≡ w.section = take-append_seam w.section (w.fresh ++ rest) in
-    let behind : drop (length w.section) bytes ≡ w.fresh ++ rest = drop-append_seam w.section (w.fresh ++ rest) in
+    let bytes_behind : drop (length w.section) bytes ≡ w.fresh ++ rest = drop-append_seam w.section (w.fresh ++ rest) in
     let fresh : take (length w.fresh) (w.fresh ++ rest) ≡ w.fresh = take-append_seam w.fresh rest in
     let left : drop (length w.section + length w.fresh) bytes ≡ rest = drop-append-add w.section (w.fresh ++ rest) (length w.fresh) ∙ drop-append_seam w.fresh rest in
     let given : total w.is ≡ w.size = w.all_given in
@@ -128,7 +128,7 @@ window_is base before t front rest w =
     ap (λ x. head_at before x >>= λ h. body_at base h.0 h.1) g
     ∙ (ap (λ v. v >>= λ h. body_at base h.0 h.1) (integers_are before w.offset w.view w.size (length w.section) (length w.fresh) w.head bytes w.integers w.text_fits w.section_fits w.fresh_fits)
     ∙ (body_is base head bytes w.in_base there
-    ∙ rw (section, behind, fresh, left, sections_are w.view w.is w.section w.instructions, a, b) (ap (λ x. Ok (Some (x, rest))) (sym w.gives))))
+    ∙ rw (section, bytes_behind, fresh, left, sections_are w.view w.is w.section w.instructions, a, b) (ap (λ x. Ok (Some (x, rest))) (sym w.gives))))
 
 pub windows_are : (base text : List ℕ) (ts : List (List ℕ)) (bytes : List ℕ) → AreWindows base (length text) ts bytes → windows_of base text bytes ≡ going (text ++ flat_map (λ t. t) ts) []
 windows_are base text [] bytes a = ap (windows_of base text) a ∙ (windows_none base text ∙ ap (λ t. going t []) (sym (append-nil text)))
@@ -139,13 +139,13 @@ windows_are base text (t ∷ ts) bytes a =
     ∙ (windows_are base (text ++ t) ts a.rest (subst P (sym (length-append text t)) a.others)
     ∙ ap (λ u. going u []) (append_assoc text t (flat_map (λ t. t) ts))))
 
-behind_is : (ws rest : List ℕ) → behind ws (ws ++ rest) ≡ Ok (Some rest)
+behind_is : (ws rest : List ℕ) → bytes_behind ws (ws ++ rest) ≡ Ok (Some rest)
 behind_is [] rest = refl
-behind_is (w ∷ ws) rest = let t : (w == w) ≡ true = eq-eqb w w refl in ap (λ v. cond v (behind ws (ws ++ rest)) (Err BadHeader)) t ∙ behind_is ws rest
+behind_is (w ∷ ws) rest = let t : (w == w) ≡ true = eq-eqb w w refl in ap (λ v. cond v (bytes_behind ws (ws ++ rest)) (Err BadHeader)) t ∙ behind_is ws rest
 
-pub document_is : (base document text : List ℕ) → IsDocument base document text → text_of base document ≡ Ok text
+pub document_is : (base document text : List ℕ) → IsDocument base document text → document_text base document ≡ Ok text
 unfolding header_at
 document_is base document text d =
-    ap (text_of base) d.whole
-    ∙ (ap (λ v. outcome (opened base (header ++ d.windows) v)) (behind_is header d.windows)
+    ap (document_text base) d.whole
+    ∙ (ap (λ v. outcome (after_header base (header ++ d.windows) v)) (behind_is header d.windows)
     ∙ (ap outcome (windows_are base [] d.targets d.windows d.are_windows) ∙ ap Ok (sym d.gives)))

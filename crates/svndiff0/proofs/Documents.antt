@@ -10,7 +10,7 @@ use Rattle.svndiff0.specs.Read.{Read, ◌>>=◌}
 use Rattle.svndiff0.specs.Integer.{integer_at, bounded_at}
 use Rattle.svndiff0.specs.Instruction.{instructions_of}
 use Rattle.svndiff0.specs.Window.{limit, head_at, judged, and_rest, body_at, window_at}
-use Rattle.svndiff0.specs.Document.{header, behind, header_at, Reading, going, broken, with_windows, windows_within, windows_of, opened, read}
+use Rattle.svndiff0.specs.Document.{header, bytes_behind, header_at, Reading, going, broken, with_windows, windows_within, windows_of, after_header, read}
 use Rattle.svndiff0.specs.Applying.{Applying, HasRead, with_more, go_on, fed}
 use Rattle.svndiff0.proofs.Steady.{Front, Steady, same_found, steady_then, steady_give, steady_integer, steady_bounded, weaker}
 use Rattle.svndiff0.proofs.Windows.{body_beyond, body_short}
@@ -161,12 +161,12 @@ pub record Reached (base old bytes text rest : List ℕ) : Type 0 where
 pub reached_start : (base old bytes : List ℕ) → Reached base old bytes old bytes
 reached_start base old bytes = record { same = refl; front = ([], refl) }
 
-pub reached_more : (base old bytes text rest t behind later : List ℕ) → Reached base old bytes text rest → window_at base (length text) rest ≡ Ok (Some (t, behind)) → later ≡ text ++ t → Reached base old bytes later behind
-reached_more base old bytes text rest t behind later r e s =
-    let f = (steady_window base (length text)).fronts rest behind t e in
+pub reached_more : (base old bytes text rest t bytes_behind later : List ℕ) → Reached base old bytes text rest → window_at base (length text) rest ≡ Ok (Some (t, bytes_behind)) → later ≡ text ++ t → Reached base old bytes later bytes_behind
+reached_more base old bytes text rest t bytes_behind later r e s =
+    let f = (steady_window base (length text)).fronts rest bytes_behind t e in
     record {
-      same = r.same ∙ (windows_step base text rest ∙ (ap (λ v. with_windows text rest v (λ u w. windows_of base u w)) e ∙ ap (λ u. windows_of base u behind) (sym s)));
-      front = (r.front.0 ++ f.front, r.front.1 ∙ (ap (λ w. r.front.0 ++ w) f.whole ∙ sym (append_assoc r.front.0 f.front behind)));
+      same = r.same ∙ (windows_step base text rest ∙ (ap (λ v. with_windows text rest v (λ u w. windows_of base u w)) e ∙ ap (λ u. windows_of base u bytes_behind) (sym s)));
+      front = (r.front.0 ++ f.front, r.front.1 ∙ (ap (λ w. r.front.0 ++ w) f.whole ∙ sym (append_assoc r.front.0 f.front bytes_behind)));
     }
 
 pub reached_end : (base old bytes text rest : List ℕ) → Reached base old bytes text rest → window_at base (length text) rest ≡ Ok None → windows_of base old bytes ≡ going text rest
@@ -190,31 +190,31 @@ windows_more (suc n) base text bytes piece h (Ok (Some x)) e =
     ∙ (windows_more n base (text ++ x.0) x.1 piece (omega arith) (window_at base (length (text ++ x.0)) x.1) refl
     ∙ sym (windows_step base text (bytes ++ piece) ∙ ap (λ v. with_windows text (bytes ++ piece) v (λ u w. windows_of base u w)) ((steady_window base (length text)).finds bytes piece x.1 x.0 e)))
 
-behind_errs : (ws bytes piece : List ℕ) (f : DiffFault) → behind ws bytes ≡ Err f → behind ws (bytes ++ piece) ≡ Err f
+behind_errs : (ws bytes piece : List ℕ) (f : DiffFault) → bytes_behind ws bytes ≡ Err f → bytes_behind ws (bytes ++ piece) ≡ Err f
 behind_errs [] bytes piece f e = cc
 behind_errs (w ∷ ws) [] piece f e = cc
 behind_errs (w ∷ ws) (b ∷ bs) piece f e =
-    (elim (b == w) as (λ v. cond v (behind ws bs) (Err BadHeader) ≡ Err f → cond v (behind ws (bs ++ piece)) (Err BadHeader) ≡ Err f) [
+    (elim (b == w) as (λ v. cond v (bytes_behind ws bs) (Err BadHeader) ≡ Err f → cond v (bytes_behind ws (bs ++ piece)) (Err BadHeader) ≡ Err f) [
       | true ↦ λ h. behind_errs ws bs piece f h
       | false ↦ λ h. h
     ]) e
 
-behind_finds : (ws bytes piece rest : List ℕ) → behind ws bytes ≡ Ok (Some rest) → behind ws (bytes ++ piece) ≡ Ok (Some (rest ++ piece))
+behind_finds : (ws bytes piece rest : List ℕ) → bytes_behind ws bytes ≡ Ok (Some rest) → bytes_behind ws (bytes ++ piece) ≡ Ok (Some (rest ++ piece))
 behind_finds [] bytes piece rest e = let p : bytes ≡ rest = cc in ap (λ u. Ok (Some (u ++ piece))) p
 behind_finds (w ∷ ws) [] piece rest e = cc
 behind_finds (w ∷ ws) (b ∷ bs) piece rest e =
-    (elim (b == w) as (λ v. cond v (behind ws bs) (Err BadHeader) ≡ Ok (Some rest) → cond v (behind ws (bs ++ piece)) (Err BadHeader) ≡ Ok (Some (rest ++ piece))) [
+    (elim (b == w) as (λ v. cond v (bytes_behind ws bs) (Err BadHeader) ≡ Ok (Some rest) → cond v (bytes_behind ws (bs ++ piece)) (Err BadHeader) ≡ Ok (Some (rest ++ piece))) [
       | true ↦ λ h. behind_finds ws bs piece rest h
       | false ↦ λ h. cc
     ]) e
 
-read_by : (base document piece : List ℕ) (v : Result (Option (List ℕ)) DiffFault) → header_at document ≡ v → go_on base (with_more (opened base document v) piece) ≡ read base (document ++ piece)
+read_by : (base document piece : List ℕ) (v : Result (Option (List ℕ)) DiffFault) → header_at document ≡ v → go_on base (with_more (after_header base document v) piece) ≡ read base (document ++ piece)
 unfolding header_at
-read_by base document piece (Err f) e = sym (ap (opened base (document ++ piece)) (behind_errs header document piece f e))
+read_by base document piece (Err f) e = sym (ap (after_header base (document ++ piece)) (behind_errs header document piece f e))
 read_by base document piece (Ok None) e = refl
 read_by base document piece (Ok (Some rest)) e =
     windows_more (length rest) base [] rest piece (le_refl (length rest)) (window_at base 0 rest) refl
-    ∙ sym (ap (opened base (document ++ piece)) (behind_finds header document piece rest e))
+    ∙ sym (ap (after_header base (document ++ piece)) (behind_finds header document piece rest e))
 
 pub read_more : (base document piece : List ℕ) → go_on base (with_more (read base document) piece) ≡ read base (document ++ piece)
 read_more base document piece = read_by base document piece (header_at document) refl

@@ -14,7 +14,7 @@ use Rattle.svndiff0.specs.Read.{Read, ◌>>=◌}
 use Rattle.svndiff0.specs.Integer.{integer_behind, integer_at, bounded_at}
 use Rattle.svndiff0.specs.Instruction.{length_at, new_data_at, instruction_at, instructions_of, with_others, before}
 use Rattle.svndiff0.specs.Window.{limit, head_at, body_at, window_at}
-use Rattle.svndiff0.specs.Document.{behind, header_at, going, with_windows, windows_of, outcome, text_of}
+use Rattle.svndiff0.specs.Document.{bytes_behind, header_at, going, with_windows, windows_of, outcome, document_text}
 use Rattle.svndiff0.specs.Full.{integer_of, new_data_of, full_window, full_windows, full_document}
 use Rattle.svndiff0.proofs.Sections.{section_none, section_step}
 use Rattle.svndiff0.proofs.Documents.{below, windows_none, windows_step}
@@ -151,12 +151,12 @@ body_again base text more h =
     let there : nat_lt (length (code ++ (text ++ more))) (length code + length text) ≡ false =
     (let k : length code + length text ≤ length (code ++ (text ++ more)) = omega (arith, length-append code (text ++ more), length-append text more) in grind (arith, nat_tests)) in
     let section : take (length code) (code ++ (text ++ more)) ≡ code = take-append_seam code (text ++ more) in
-    let behind : drop (length code) (code ++ (text ++ more)) ≡ text ++ more = drop-append_seam code (text ++ more) in
+    let bytes_behind : drop (length code) (code ++ (text ++ more)) ≡ text ++ more = drop-append_seam code (text ++ more) in
     let fresh : take (length text) (text ++ more) ≡ text = take-append_seam text more in
     let rest : drop (length code + length text) (code ++ (text ++ more)) ≡ more = drop-append-add code (text ++ more) (length text) ∙ drop-append_seam text more in
     let all : (length text + 0 == length text) ≡ true = grind (arith, nat_tests) in
     let whole : take (length text) text ++ [] ≡ text = append-nil (take (length text) text) ∙ take-length text in
-    rw (beyond, there, section, behind, fresh, rest, section_again 0 (length text) h, all, whole) refl
+    rw (beyond, there, section, bytes_behind, fresh, rest, section_again 0 (length text) h, all, whole) refl
 
 pub window_again : (base : List ℕ) (before : ℕ) (text more : List ℕ) → 0 < length text → length text ≤ limit - before → window_at base before (full_window text ++ more) ≡ Ok (Some (text, more))
 unfolding window_at full_window
@@ -191,7 +191,7 @@ windows_again base (suc n) done text h k l =
     ∙ (windows_again base n (done ++ piece) left (omega (arith, length-drop 65536 text)) (omega (arith, length-drop 65536 text)) (omega (arith, length-append done piece))
     ∙ ap (λ t. going t []) (append_assoc done piece left ∙ ap (λ t. done ++ t) split)))
 
-pub full_again : (base text : List ℕ) → length text ≤ limit → text_of base (full_document text) ≡ Ok text
+pub full_again : (base text : List ℕ) → length text ≤ limit → document_text base (full_document text) ≡ Ok text
 unfolding header_at
 full_again base text h =
     let b = div_ceil_times (length text) 65536 (lit< tt) in
@@ -208,18 +208,18 @@ cut_min n xs =
     ]
 
 -- one window more is written
-pub written_more : (document rest whole front behind next : List ℕ) (left count last n : ℕ) → left + count ≡ last → count < last → document ++ full_windows left rest ≡ whole
-    → n ≡ min (length rest) 65536 → front ≡ take n rest → behind ≡ drop n rest → next ≡ document ++ full_window front
-    → (x : ℕ) × (x + (count + 1) ≡ last) × (next ++ full_windows x behind ≡ whole)
-written_more document rest whole front behind next zero count last n s l w m f b e = absurd (omega arith)
-written_more document rest whole front behind next (suc left) count last n s l w m f b e =
+pub written_more : (document rest whole front bytes_behind next : List ℕ) (left count last n : ℕ) → left + count ≡ last → count < last → document ++ full_windows left rest ≡ whole
+    → n ≡ min (length rest) 65536 → front ≡ take n rest → bytes_behind ≡ drop n rest → next ≡ document ++ full_window front
+    → (x : ℕ) × (x + (count + 1) ≡ last) × (next ++ full_windows x bytes_behind ≡ whole)
+written_more document rest whole front bytes_behind next zero count last n s l w m f b e = absurd (omega arith)
+written_more document rest whole front bytes_behind next (suc left) count last n s l w m f b e =
     let cut = cut_min 65536 rest in
     let f' : front ≡ take 65536 rest = f ∙ (ap (λ k. take k rest) m ∙ cut.0) in
-    let b' : behind ≡ drop 65536 rest = b ∙ (ap (λ k. drop k rest) m ∙ cut.1) in (
+    let b' : bytes_behind ≡ drop 65536 rest = b ∙ (ap (λ k. drop k rest) m ∙ cut.1) in (
       left,
       omega arith,
-      ap (λ t. t ++ full_windows left behind) e ∙ (append_assoc document (full_window front) (full_windows left behind)
-          ∙ (ap (λ t. document ++ (full_window t ++ full_windows left behind)) f' ∙ (ap (λ t. document ++ (full_window (take 65536 rest) ++ full_windows left t)) b' ∙ w))),
+      ap (λ t. t ++ full_windows left bytes_behind) e ∙ (append_assoc document (full_window front) (full_windows left bytes_behind)
+          ∙ (ap (λ t. document ++ (full_window t ++ full_windows left bytes_behind)) f' ∙ (ap (λ t. document ++ (full_window (take 65536 rest) ++ full_windows left t)) b' ∙ w))),
     )
 
 pub written_all : (document rest whole : List ℕ) (left count last : ℕ) → left + count ≡ last → last ≤ count → document ++ full_windows left rest ≡ whole → document ≡ whole

@@ -5,7 +5,7 @@ use Rattle.svndiff0.specs.declared.fault.DiffFault.TheVariants.{BadInstruction}
 use Rattle.svndiff0.specs.declared.instruction.Instruction.{Instruction}
 use Rattle.svndiff0.specs.Read.{Read}
 use Rattle.svndiff0.specs.Instruction.{instruction_at, before, with_others, instructions_within, instructions_of, size, new_size, total, new_total, given, target_of}
-use Rattle.svndiff0.specs.Sums.{counted, SumsUp, IsWithin, Starts, IsRunnable, Grows}
+use Rattle.svndiff0.specs.Sums.{summed, SumsUp, IsWithin, Starts, IsRunnable, SumsGrow}
 use Rattle.svndiff0.proofs.Steady.{instruction_fronts}
 
 -- these instructions in front of others
@@ -64,8 +64,8 @@ front_more seen i (Err f) = refl
 pub record Summed (view : ℕ) (section : List ℕ) (all new_data : ℕ) (rest : List ℕ) : Type 0 where
   pub seen : List Instruction
   pub front : instructions_of view section ≡ with_front seen (instructions_of view rest)
-  pub all_is : all ≡ counted (total seen)
-  pub new_data_is : new_data ≡ counted (new_total seen)
+  pub all_is : all ≡ summed (total seen)
+  pub new_data_is : new_data ≡ summed (new_total seen)
 
 total_more : (is : List Instruction) (i : Instruction) → total (is ++ (i ∷ [])) ≡ total is + size i
 total_more [] i = omega arith
@@ -82,7 +82,7 @@ front_none (Err f) = refl
 pub summed_start : (view : ℕ) (section : List ℕ) → Summed view section 0 0 section
 summed_start view section = record { seen = []; front = front_none (instructions_of view section); all_is = refl; new_data_is = refl }
 
-pub summed_more : (view : ℕ) (section : List ℕ) (all new_data : ℕ) (rest : List ℕ) (i : Instruction) (behind : List ℕ) → Summed view section all new_data rest → Starts view rest i behind → Summed view section (counted (all + size i)) (counted (new_data + new_size i)) behind
+pub summed_more : (view : ℕ) (section : List ℕ) (all new_data : ℕ) (rest : List ℕ) (i : Instruction) (behind : List ℕ) → Summed view section all new_data rest → Starts view rest i behind → Summed view section (summed (all + size i)) (summed (new_data + new_size i)) behind
 summed_more view section all new_data rest i behind s t = record {
   seen = s.seen ++ (i ∷ []);
   front = s.front ∙ (ap (with_front s.seen) t.step ∙ front_more s.seen i (instructions_of view behind));
@@ -158,5 +158,5 @@ left_all view section fresh old [] left now s z is e =
     sym (append-nil now) ∙ (ap (λ is. now ++ target_of view left is) (sym k) ∙ s.completes is e)
 left_all view section fresh old (b ∷ bs) left now s z is e = absurd (omega arith)
 
-pub grows_more : (old mid new added : List ℕ) → Grows old mid → new ≡ mid ++ added → Grows old new
+pub grows_more : (old mid new added : List ℕ) → SumsGrow old mid → new ≡ mid ++ added → SumsGrow old new
 grows_more old mid new added g e = (g.0 ++ added, e ∙ (ap (λ t. t ++ added) g.1 ∙ append_assoc old g.0 added))

@@ -14,7 +14,7 @@ use Rattle.svndiff0.specs.Read.{Read, ◌>>=◌}
 use Rattle.svndiff0.specs.Integer.{integer_behind, integer_at, bounded_at}
 use Rattle.svndiff0.specs.Instruction.{length_at, copy_at, new_data_at, instruction_at, before, with_others, instructions_of, total, new_total, target_of}
 use Rattle.svndiff0.specs.Window.{limit, head_at, judged, and_rest, body_at, window_at}
-use Rattle.svndiff0.specs.Document.{header, header_at, Reading, opening, going, broken, with_windows, windows_of, opened, read, outcome, text_of}
+use Rattle.svndiff0.specs.Document.{header, header_at, Reading, opening, going, broken, with_windows, windows_of, after_header, read, outcome, document_text}
 use Rattle.svndiff0.specs.Format.{AreGroups, IsInteger, IsLength, IsInstruction, AreInstructions, AreIntegers, IsWindow, AreWindows, IsDocument}
 use Rattle.svndiff0.proofs.Steady.{same_found}
 use Rattle.svndiff0.proofs.Sections.{section_step, section_none, shorter, before_ok}
@@ -327,7 +327,7 @@ outcome_found (going t []) text e = cc
 outcome_found (going t (b ∷ bs)) text e = cc
 outcome_found (broken f) text e = cc
 
-document_by : (base document text : List ℕ) (v : Result (Option (List ℕ)) DiffFault) → header_at document ≡ v → opened base document v ≡ going text [] → IsDocument base document text
+document_by : (base document text : List ℕ) (v : Result (Option (List ℕ)) DiffFault) → header_at document ≡ v → after_header base document v ≡ going text [] → IsDocument base document text
 unfolding header_at
 document_by base document text (Err f) e w = cc
 document_by base document text (Ok None) e w = cc
@@ -335,5 +335,5 @@ document_by base document text (Ok (Some rest)) e w =
     let r = windows_found (length rest) base [] rest text (le_refl (length rest)) (window_at base 0 rest) refl w in
     record { targets = r.targets; windows = rest; are_windows = r.are; whole = behind_front header document rest e; gives = r.gives }
 
-pub document_found : (base document text : List ℕ) → text_of base document ≡ Ok text → IsDocument base document text
+pub document_found : (base document text : List ℕ) → document_text base document ≡ Ok text → IsDocument base document text
 document_found base document text e = document_by base document text (header_at document) refl (outcome_found (read base document) text e)

@@ -6,15 +6,15 @@ use Rattle.svndiff0.specs.declared.fault.DiffFault.{DiffFault}
 use Rattle.svndiff0.specs.declared.fault.DiffFault.TheVariants.{BadHeader, TargetCopy, BadInstruction, CopyBeyondView, ViewBeyondBase, LengthsDisagree, Truncated, TooLarge, NoMemory}
 use Rattle.svndiff0.specs.declared.stage.Stage.{Stage}
 use Rattle.svndiff0.specs.declared.stage.Stage.TheVariants.{Header, Windows, Broken}
-use Rattle.svndiff0.specs.Document.{header, behind, header_at, Reading, broken, opened, windows_of}
+use Rattle.svndiff0.specs.Document.{header, bytes_behind, header_at, Reading, broken, after_header, windows_of}
 use Rattle.svndiff0.specs.Applying.{Applying, with_more, go_on, fed, IsSound, Feeds}
 use Rattle.svndiff0.specs.Stages.{reading_of, HasTextOf}
 
-pub behind_front : (ws bytes rest : List ℕ) → behind ws bytes ≡ Ok (Some rest) → bytes ≡ ws ++ rest
+pub behind_front : (ws bytes rest : List ℕ) → bytes_behind ws bytes ≡ Ok (Some rest) → bytes ≡ ws ++ rest
 behind_front [] bytes rest e = cc
 behind_front (w ∷ ws) [] rest e = cc
 behind_front (w ∷ ws) (b ∷ bs) rest e =
-    (elim (b == w) as (λ v. (b == w) ≡ v → cond v (behind ws bs) (Err BadHeader) ≡ Ok (Some rest) → b ∷ bs ≡ w ∷ (ws ++ rest)) [
+    (elim (b == w) as (λ v. (b == w) ≡ v → cond v (bytes_behind ws bs) (Err BadHeader) ≡ Ok (Some rest) → b ∷ bs ≡ w ∷ (ws ++ rest)) [
       | true ↦ λ t h. let p : b ≡ w = eqb-true b w t in let q = behind_front ws bs rest h in cc
       | false ↦ λ t h. cc
     ]) refl e
@@ -29,7 +29,7 @@ unfolding header_at
 begins_header base old bytes windows stage t s e =
     let none : old ≡ [] = let P : Stage → Type 0 = λ u. HasTextOf u old in subst P s t in
     record {
-      same = ap (λ u. go_on base (reading_of u old bytes)) s ∙ (ap (opened base bytes) e ∙ ap (λ u. windows_of base u windows) (sym none));
+      same = ap (λ u. go_on base (reading_of u old bytes)) s ∙ (ap (after_header base bytes) e ∙ ap (λ u. windows_of base u windows) (sym none));
       front = (header, behind_front header bytes windows e);
     }
 

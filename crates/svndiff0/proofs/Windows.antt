@@ -10,7 +10,7 @@ use Rattle.svndiff0.specs.declared.window.Head.{Head}
 use Rattle.svndiff0.specs.Read.{Read, ◌>>=◌}
 use Rattle.svndiff0.specs.Instruction.{instructions_of, total, new_total, target_of}
 use Rattle.svndiff0.specs.Window.{limit, head_at, judged, and_rest, body_at, window_at}
-use Rattle.svndiff0.specs.Sums.{counted, sums_of, HasBounds}
+use Rattle.svndiff0.specs.Sums.{summed, sums_of, HasBounds}
 
 pub window_by_head : (base bytes : List ℕ) (n m : ℕ) → n ≡ m → (v : Read Head) → head_at n bytes ≡ v → window_at base m bytes ≡ (v >>= λ head. body_at base head.0 head.1)
 unfolding window_at
@@ -53,13 +53,13 @@ pub disagree : (head : Head) (view fresh : List ℕ) (is : List Instruction) (su
     → (sums.all ≢ head.target) ⊎ (sums.new_data ≢ head.new_data) → judged head view fresh (Ok is) ≡ Err LengthsDisagree
 disagree head view fresh is sums b n s (inl h) =
     let t : head.target ≤ limit = b.target in
-    let all : sums.all ≡ counted (total is) = ap (λ (x : Sums). x.all) s in
+    let all : sums.all ≡ summed (total is) = ap (λ (x : Sums). x.all) s in
     let ne : total is ≢ head.target = λ e. h (omega arith) in
     let test : (total is == head.target) ≡ false = grind (arith, nat_tests) in
     rw test refl
 disagree head view fresh is sums b n s (inr h) =
     let t : head.new_data ≤ limit = b.new_data in
-    let all : sums.new_data ≡ counted (new_total is) = ap (λ (x : Sums). x.new_data) s in
+    let all : sums.new_data ≡ summed (new_total is) = ap (λ (x : Sums). x.new_data) s in
     let ne : new_total is ≢ length fresh = λ e. h (omega arith) in
     let test : (new_total is == length fresh) ≡ false = grind (arith, nat_tests) in
     rw test (elim (total is == head.target) as (λ v. cond (v && false) (Ok (target_of view fresh is)) (Err LengthsDisagree) ≡ Err LengthsDisagree) [ true ↦ refl | false ↦ refl ])
@@ -69,8 +69,8 @@ pub agree : (head : Head) (view fresh : List ℕ) (is : List Instruction) (sums 
 agree head view fresh is sums b n s h k =
     let t : head.target ≤ limit = b.target in
     let u : head.new_data ≤ limit = b.new_data in
-    let all : sums.all ≡ counted (total is) = ap (λ (x : Sums). x.all) s in
-    let new : sums.new_data ≡ counted (new_total is) = ap (λ (x : Sums). x.new_data) s in
+    let all : sums.all ≡ summed (total is) = ap (λ (x : Sums). x.all) s in
+    let new : sums.new_data ≡ summed (new_total is) = ap (λ (x : Sums). x.new_data) s in
     let same : total is ≡ head.target = omega arith in
     let same' : new_total is ≡ length fresh = omega arith in
     let test : (total is == head.target) ≡ true = grind (arith, nat_tests) in

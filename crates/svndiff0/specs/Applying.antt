@@ -45,12 +45,12 @@ Feeds old piece (Err f) new = (new ≡ fed old piece) × (new.reading ≡ broken
 -- What applying the window at the front of the bytes gives: nothing yet; or its target view behind
 -- the text, and the
 -- bytes behind it; or the rule that it breaks, unless memory ran out.
-abbrev pub Applies : {X : Type 0} → (X → List ℕ) → List ℕ → List ℕ → List ℕ
+abbrev pub AppliesWindow : {X : Type 0} → (X → List ℕ) → List ℕ → List ℕ → List ℕ
     → Result (Option X) DiffFault → List ℕ → Type 0
-Applies view base text bytes (Err f) new = f ≢ NoMemory → window_at base (length text) bytes ≡ Err f
-Applies view base text bytes (Ok None) new =
+AppliesWindow view base text bytes (Err f) new = f ≢ NoMemory → window_at base (length text) bytes ≡ Err f
+AppliesWindow view base text bytes (Ok None) new =
     (window_at base (length text) bytes ≡ Ok None) × (new ≡ text)
-Applies view base text bytes (Ok (Some x)) new =
+AppliesWindow view base text bytes (Ok (Some x)) new =
     (target : List ℕ) × (window_at base (length text) bytes ≡ Ok (Some (target, view x)))
     × (new ≡ text ++ target)
 

@@ -10,13 +10,13 @@ abbrev pub header : List ℕ
 header = 83 ∷ 86 ∷ 78 ∷ 0 ∷ []
 
 -- the bytes behind these, or the first byte that differs
-abbrev pub behind : List ℕ → List ℕ → Result (Option (List ℕ)) DiffFault
-behind [] bytes = Ok (Some bytes)
-behind (w ∷ ws) [] = Ok None
-behind (w ∷ ws) (b ∷ bs) = if b == w then behind ws bs else Err BadHeader
+abbrev pub bytes_behind : List ℕ → List ℕ → Result (Option (List ℕ)) DiffFault
+bytes_behind [] bytes = Ok (Some bytes)
+bytes_behind (w ∷ ws) [] = Ok None
+bytes_behind (w ∷ ws) (b ∷ bs) = if b == w then bytes_behind ws bs else Err BadHeader
 
 unfoldable pub header_at : List ℕ → Result (Option (List ℕ)) DiffFault
-header_at bytes = behind header bytes
+header_at bytes = bytes_behind header bytes
 
 -- What is known of a document of which the beginning has come: less than a header; or the text of
 -- the whole windows,
@@ -44,14 +44,14 @@ unfoldable pub windows_of : List ℕ → List ℕ → List ℕ → Reading
 windows_of base text bytes = windows_within (length bytes) base text bytes
 
 -- the header, and the windows
-abbrev pub opened : List ℕ → List ℕ → Result (Option (List ℕ)) DiffFault → Reading
-opened base bytes (Err f) = broken f
-opened base bytes (Ok None) = opening bytes
-opened base bytes (Ok (Some rest)) = windows_of base [] rest
+abbrev pub after_header : List ℕ → List ℕ → Result (Option (List ℕ)) DiffFault → Reading
+after_header base bytes (Err f) = broken f
+after_header base bytes (Ok None) = opening bytes
+after_header base bytes (Ok (Some rest)) = windows_of base [] rest
 
 -- the document so far, over the base
 abbrev pub read : List ℕ → List ℕ → Reading
-read base document = opened base document (header_at document)
+read base document = after_header base document (header_at document)
 
 -- the text, where the document ends here
 abbrev pub outcome : Reading → Result (List ℕ) DiffFault
@@ -61,5 +61,5 @@ outcome (going text (b ∷ bs)) = Err Truncated
 outcome (broken f) = Err f
 
 -- the text of a document over a base, or the rule that it breaks first
-abbrev pub text_of : List ℕ → List ℕ → Result (List ℕ) DiffFault
-text_of base document = outcome (read base document)
+abbrev pub document_text : List ℕ → List ℕ → Result (List ℕ) DiffFault
+document_text base document = outcome (read base document)

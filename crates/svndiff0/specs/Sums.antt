@@ -9,11 +9,11 @@ use Rattle.svndiff0.specs.Instruction.{before, instructions_of, total, new_total
 use Rattle.svndiff0.specs.Window.{limit}
 
 -- a sum, as far as a usize counts
-abbrev pub counted : ℕ → ℕ
-counted n = min n 18446744073709551615
+abbrev pub summed : ℕ → ℕ
+summed n = min n 18446744073709551615
 
 abbrev pub sums_of : List Instruction → Sums
-sums_of is = record { all = counted (total is); new_data = counted (new_total is) }
+sums_of is = record { all = summed (total is); new_data = summed (new_total is) }
 
 -- the sums of a section's lengths, or the rule that an instruction breaks
 abbrev pub SumsUp : Result Sums DiffFault → Result (List Instruction) DiffFault → Type 0
@@ -32,8 +32,8 @@ pub record Starts (view : ℕ) (section : List ℕ) (i : Instruction) (rest : Li
   pub within : IsWithin view i
 
 -- the bytes stay, and some may follow
-abbrev pub Grows : List ℕ → List ℕ → Type 0
-Grows old new = (added : List ℕ) × (new ≡ old ++ added)
+abbrev pub SumsGrow : List ℕ → List ℕ → Type 0
+SumsGrow old new = (added : List ℕ) × (new ≡ old ++ added)
 
 -- the section breaks no rule, and no more new data is taken than there is
 pub record IsRunnable (view : ℕ) (section : List ℕ) (fresh : ℕ) : Type 0 where

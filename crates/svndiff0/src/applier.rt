@@ -37,7 +37,7 @@ impl Model for Applier {
 impl Applier {
     ghost use Rattle.std.specs.Prelude.{◌≡◌, ◌≢◌, ◌++◌, ℕ, List, [], MatchResult};
     ghost use Rattle.std.specs.Arc.{arc_value};
-    ghost use Rattle.svndiff0.specs.Document.{opening, outcome, text_of};
+    ghost use Rattle.svndiff0.specs.Document.{opening, outcome, document_text};
     ghost use Rattle.svndiff0.specs.Applying.{HasRead, fed, Feeds};
     ghost use Rattle.svndiff0.specs.declared.fault.DiffFault.TheVariants.{NoMemory};
 
@@ -103,7 +103,8 @@ impl Applier {
         ensures outcome { MatchResult result (λ text. outcome self.now.reading ≡ Ok text.now)
             (λ f. outcome self.now.reading ≡ Err f) }
         ensures text { (document : List ℕ) → HasRead self.now document
-            → MatchResult result (λ text. text_of self.now.base document ≡ Ok text.now) (λ f. text_of self.now.base document ≡ Err f) }
+            → MatchResult result (λ text. document_text self.now.base document ≡ Ok text.now)
+            (λ f. document_text self.now.base document ≡ Err f) }
     {
         match self.stage {
             Stage::Broken(fault) => Err(fault),
@@ -121,8 +122,9 @@ impl Applier {
         ensures outcome { MatchResult result (λ text. outcome self.old.reading ≡ Ok (arc_value text).items)
             (λ f. f ≢ NoMemory → outcome self.old.reading ≡ Err f) }
         ensures text { (document : List ℕ) → HasRead self.old document
-            → MatchResult result (λ text. text_of self.old.base document ≡ Ok (arc_value text).items)
-            (λ f. f ≢ NoMemory → text_of self.old.base document ≡ Err f) }
+            → MatchResult result
+            (λ text. document_text self.old.base document ≡ Ok (arc_value text).items)
+            (λ f. f ≢ NoMemory → document_text self.old.base document ≡ Err f) }
         ensures same { self.new ≡ self.old }
     {
         match self.stage {

@@ -3,7 +3,7 @@
 ghost use Rattle.std.specs.Prelude.{◌≡◌, ◌<◌, ◌≤◌, ◌^◌, ◌++◌, ℕ, List, Ok, length, IfOk, OnOk};
 ghost use Rattle.svndiff0.specs.Full.{integer_of, new_data_of, full_window, full_document};
 ghost use Rattle.svndiff0.specs.Window.{limit};
-ghost use Rattle.svndiff0.specs.Document.{text_of};
+ghost use Rattle.svndiff0.specs.Document.{document_text};
 
 use crate::reading::HEADER;
 use std::alloc::{AllocError, Global};
@@ -78,7 +78,7 @@ pub fn put_window(document: &mut Vec<u8>, text: &[u8]) -> Result<(), AllocError>
 pub fn encode_full(alloc: Global, text: &[u8]) -> Result<Vec<u8>, AllocError>
     ensures spelled { IfOk result (λ v. v.items ≡ full_document text.now) }
     ensures text { length text.now ≤ limit → IfOk result (λ v. (base : List ℕ)
-        → text_of base v.items ≡ Ok text.now) }
+        → document_text base v.items ≡ Ok text.now) }
 {
     let mut document = Vec::from_slice(alloc, &HEADER)?;
     let mut rest = text;

@@ -3,7 +3,7 @@
 ghost use Rattle.std.specs.Prelude.{◌≡◌, ◌++◌, ℕ, List, []};
 ghost use Rattle.svndiff0.specs.Read.{Gives};
 ghost use Rattle.svndiff0.specs.Document.{header_at};
-ghost use Rattle.svndiff0.specs.Sums.{Grows};
+ghost use Rattle.svndiff0.specs.Sums.{SumsGrow};
 ghost use Rattle.svndiff0.specs.Stages.{HasTextOf, ReadsOn, reading_of};
 
 use crate::fault::DiffFault;
@@ -42,7 +42,7 @@ pub fn read_on<'a>(
     requires { HasTextOf stage text.old.items }
     ensures reads { ReadsOn (λ x. x.now) base.now
         (reading_of stage text.old.items bytes.now) result bytes.now text.new.items }
-    ensures grows { Grows text.old.items text.new.items }
+    ensures grows { SumsGrow text.old.items text.new.items }
 {
     let windows = match stage {
         Stage::Header => match skip_header(bytes)? {

@@ -2,7 +2,7 @@
 
 ghost use Rattle.std.specs.Prelude.{◌≡◌, ◌<◌, ◌≤◌, ◌++◌, ℕ, List, Ok, Err, length, drop, OnOk, MatchResult};
 ghost use Rattle.svndiff0.specs.Instruction.{instructions_of, new_size, new_total, given, target_of};
-ghost use Rattle.svndiff0.specs.Sums.{SumsUp, Starts, Grows, IsRunnable, IsWithin};
+ghost use Rattle.svndiff0.specs.Sums.{SumsUp, Starts, SumsGrow, IsRunnable, IsWithin};
 
 use crate::fault::DiffFault;
 use crate::instruction::{Instruction, read_instruction};
@@ -82,7 +82,7 @@ pub fn carry_out(
     requires { IsRunnable (length view.now) section.now (length new_data.now) }
     ensures ok { OnOk result ((is : List Instruction) → instructions_of (length view.now) section.now ≡ Ok is
         → text.new.items ≡ text.old.items ++ target_of view.now new_data.now is) }
-    ensures grows { Grows text.old.items text.new.items }
+    ensures grows { SumsGrow text.old.items text.new.items }
 {
     let mut rest = section;
     let mut fresh = new_data;

@@ -3,8 +3,8 @@
 ghost use Rattle.std.specs.Prelude.{◌≡◌, ◌<◌, ◌≤◌, ◌^◌, ◌++◌, ℕ, List, length, MatchResult, IfOk, IfSome, OnOk};
 ghost use Rattle.svndiff0.specs.Read.{Gives};
 ghost use Rattle.svndiff0.specs.Window.{head_at, limit};
-ghost use Rattle.svndiff0.specs.Sums.{HasBounds, Grows};
-ghost use Rattle.svndiff0.specs.Applying.{Applies, AppliesAll};
+ghost use Rattle.svndiff0.specs.Sums.{HasBounds, SumsGrow};
+ghost use Rattle.svndiff0.specs.Applying.{AppliesWindow, AppliesAll};
 
 use crate::fault::DiffFault;
 use crate::integer::{read_bounded, read_integer};
@@ -59,15 +59,15 @@ fn read_head(before: usize, bytes: &[u8]) -> Result<Option<(Head, &[u8])>, DiffF
     Ok(Some((head, rest)))
 }
 
-/// Applies the window at the front to the end of the text, and gives the bytes behind it; `None` where it isn't whole.
+/// AppliesWindow the window at the front to the end of the text, and gives the bytes behind it; `None` where it isn't whole.
 /// An `Err` may leave more text.
 fn apply_window<'a>(
     base: &[u8],
     text: &mut Vec<u8>,
     bytes: &'a [u8],
 ) -> Result<Option<&'a [u8]>, DiffFault>
-    ensures applies { Applies (λ x. x.now) base.now text.old.items bytes.now result text.new.items }
-    ensures grows { Grows text.old.items text.new.items }
+    ensures applies { AppliesWindow (λ x. x.now) base.now text.old.items bytes.now result text.new.items }
+    ensures grows { SumsGrow text.old.items text.new.items }
 {
     let Some((head, rest)) = read_head(text.len(), bytes)? else {
         return Ok(None);
@@ -92,7 +92,7 @@ fn apply_window<'a>(
     Ok(Some(behind))
 }
 
-/// Applies the windows at the front, as many as are whole, and gives the bytes behind them. An `Err` may leave more text.
+/// AppliesWindow the windows at the front, as many as are whole, and gives the bytes behind them. An `Err` may leave more text.
 pub fn apply_windows<'a>(
     base: &[u8],
     text: &mut Vec<u8>,
@@ -100,7 +100,7 @@ pub fn apply_windows<'a>(
 ) -> Result<&'a [u8], DiffFault>
     ensures applies { AppliesAll (λ x. x.now) base.now text.old.items bytes.now result
         text.new.items }
-    ensures grows { Grows text.old.items text.new.items }
+    ensures grows { SumsGrow text.old.items text.new.items }
 {
     let mut rest = bytes;
     'windows: loop {

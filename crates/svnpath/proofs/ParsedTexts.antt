@@ -8,7 +8,7 @@ use Rattle.std.specs.Prelude.{◌==◌, nat_lt, if◌then◌else◌}
 use Rattle.std.specs.Str.{is_utf8}
 use Rattle.std.specs.List.{All, slice_split, onto_first, flat_map, list_any}
 use Rattle.svnpath.proofs.BeneathLemmas.{beneath_is, beneath_right, beneath_root, root_right}
-use Rattle.svnpath.specs.Components.{Answers, IsComponent, IsRightPath, beneath, is_forbidden, is_forbidden_byte}
+use Rattle.svnpath.specs.Components.{AnswersPath, IsComponent, IsRightPath, beneath, is_forbidden, is_forbidden_byte}
 use Rattle.svnpath.specs.Paths.{PathValue, Component, same_component}
 use Rattle.svnpath.specs.Texts.{is_slash, starts_with_slash, components_of, parsed, path_text}
 use Rattle.svnpath.specs.declared.fault.PathFault.{PathFault}
@@ -111,11 +111,11 @@ parsed-path_text ((b ∷ c) ∷ path) right =
 pub same_path_text : (p q : PathValue) → IsRightPath p → IsRightPath q → path_text p ≡ path_text q → p ≡ q
 same_path_text p q right other_right same = cc (sym (parsed-path_text p right) ∙ ap parsed same ∙ parsed-path_text q other_right)
 
-pub answer_text : (text : List ℕ) (r : Result PathValue PathFault) → Answers r (parsed text) → IfOk r (λ path. text ≡ path_text path)
+pub answer_text : (text : List ℕ) (r : Result PathValue PathFault) → AnswersPath r (parsed text) → IfOk r (λ path. text ≡ path_text path)
 answer_text text (Ok path) h = (parsed_text text path h).0
 answer_text text (Err fault) h = tt
 
-pub answer_refuses_text : (text : List ℕ) (r : Result PathValue PathFault) → Answers r (parsed text) → (path : PathValue) → IsRightPath path → text ≡ path_text path → IfErr r (λ fault. fault ≡ NoMemory)
+pub answer_refuses_text : (text : List ℕ) (r : Result PathValue PathFault) → AnswersPath r (parsed text) → (path : PathValue) → IsRightPath path → text ≡ path_text path → IfErr r (λ fault. fault ≡ NoMemory)
 answer_refuses_text text (Ok found) h path right is = tt
 answer_refuses_text text (Err fault) h path right is =
     elim h [

@@ -5,7 +5,7 @@ use Rattle.std.specs.Str.{is_utf8}
 use Rattle.url.specs.Parser.{parse_url, Parsed}
 use Rattle.url.specs.Parts.{Parts}
 use Rattle.svnpath.proofs.BeneathLemmas.{beneath_is, beneath_right, beneath_root, root_right}
-use Rattle.svnpath.specs.Components.{Answers, beneath, IsRightPath}
+use Rattle.svnpath.specs.Components.{AnswersPath, beneath, IsRightPath}
 use Rattle.svnpath.specs.Paths.{PathValue, Component, same_component}
 use Rattle.svnpath.specs.PathLaws.{same_component_refl, same_component_is}
 use Rattle.svnpath.specs.Texts.{starts_with_slash}
@@ -64,14 +64,14 @@ names_path text name path e =
     by true text_is (Ok url) is e = url_names text name url path text_is is e
 
 -- what is read of a URL's parts is read of its text
-pub answers_read : (text name : List ℕ) (url : Parts) (r : Result PathValue PathFault) → read_url text ≡ Ok url → Answers r (path_of_url name url) → Answers r (path_of_text text name)
-answers_read text name url r read h = subst (Answers r) (sym (ap (λ read. and_then read (path_of_url name)) read)) h
+pub answers_read : (text name : List ℕ) (url : Parts) (r : Result PathValue PathFault) → read_url text ≡ Ok url → AnswersPath r (path_of_url name url) → AnswersPath r (path_of_text text name)
+answers_read text name url r read h = subst (AnswersPath r) (sym (ap (λ read. and_then read (path_of_url name)) read)) h
 
-pub answer_names : (text name : List ℕ) (r : Result PathValue PathFault) → Answers r (path_of_text text name) → IfOk r (NamesPath text name)
+pub answer_names : (text name : List ℕ) (r : Result PathValue PathFault) → AnswersPath r (path_of_text text name) → IfOk r (NamesPath text name)
 answer_names text name (Ok path) h = names_path text name path h
 answer_names text name (Err fault) h = tt
 
-pub answer_refuses : (text name : List ℕ) (r : Result PathValue PathFault) → Answers r (path_of_text text name) → (path : PathValue) → NamesPath text name path → IfErr r (λ fault. fault ≡ NoMemory)
+pub answer_refuses : (text name : List ℕ) (r : Result PathValue PathFault) → AnswersPath r (path_of_text text name) → (path : PathValue) → NamesPath text name path → IfErr r (λ fault. fault ≡ NoMemory)
 answer_refuses text name (Ok found) h path named = tt
 answer_refuses text name (Err fault) h path named =
     elim h [

@@ -50,8 +50,8 @@ abbrev pub beneath : PathValue → List Component → Result PathValue PathFault
 beneath path cs = unless_fault (first_fault (length path) cs) (path ++ cs)
 
 -- the result is what is wanted, or memory ran out
-abbrev pub Answers : {T : Type 0} → Result T PathFault → Result T PathFault → Type 0
-Answers result wanted =
+abbrev pub AnswersPath : {T : Type 0} → Result T PathFault → Result T PathFault → Type 0
+AnswersPath result wanted =
     MatchResult result (λ value. wanted ≡ Ok value) (λ fault. (wanted ≡ Err fault)
     ⊎ (fault ≡ NoMemory))
 

@@ -3,7 +3,7 @@ ghost use Rattle.std.specs.Prelude.{◌≡◌, ◌+◌, ◌^◌, ◌<◌, ◌≤
 ghost use Rattle.std.specs.Cmp.{partial_order_from_agreeing_total, partial_equiv_from_equiv};
 ghost use Rattle.std.specs.Cmp.Lexicographic.{lists_equiv, lists_total, lists_ties, nat_list_eq_equiv, nat_list_cmp_total, texts_ties};
 ghost use Rattle.std.specs.List.{flat_map};
-ghost use Rattle.svnpath.specs.Components.{beneath, Answers, IsRightPath};
+ghost use Rattle.svnpath.specs.Components.{beneath, AnswersPath, IsRightPath};
 ghost use Rattle.svnpath.specs.Paths.{PathValue, is_at_or_under, same_path, path_cmp, path_cmp_total, path_ties};
 ghost use Rattle.svnpath.specs.Texts.{parsed, joined, parent, path_text, components_of, without_first_slash, without_last_slash};
 ghost use Rattle.svnpath.specs.Urls.{path_of_text, NamesPath};
@@ -55,7 +55,7 @@ impl Path {
     /// What refuses the first component from the left that is refused; `ForbiddenComponent` also for
     /// a text that does not begin with `/`; `NoMemory`.
     pub fn parse(alloc: Global, text: &[u8]) -> Result<Self, PathFault>
-        ensures value { Answers result (parsed text.now) }
+        ensures value { AnswersPath result (parsed text.now) }
         ensures right { IfOk result IsRightPath }
         ensures text { IfOk result (λ path. text.now ≡ path_text path) }
         ensures refuses { (path : PathValue) → IsRightPath path → text.now ≡ path_text path
@@ -74,7 +74,7 @@ impl Path {
     ///
     /// What refuses the first component of the text, from the left, that is refused; `NoMemory`.
     pub fn join(&self, alloc: Global, relative: &[u8]) -> Result<Self, PathFault>
-        ensures value { Answers result (joined self.now relative.now) }
+        ensures value { AnswersPath result (joined self.now relative.now) }
         ensures right { IsRightPath self.now → IfOk result IsRightPath }
     {
         self.extended(alloc, without_last_slash(without_first_slash(relative)))
@@ -90,7 +90,7 @@ impl Path {
     ///
     /// `NotThisRepository` for a text that is no such URL, whatever its components; else as for `parse`.
     pub fn from_url(alloc: Global, url: &[u8], name: &str) -> Result<Self, PathFault>
-        ensures value { Answers result (path_of_text url.now name.now) }
+        ensures value { AnswersPath result (path_of_text url.now name.now) }
         ensures names { IfOk result (NamesPath url.now name.now) }
         ensures refuses { (path : PathValue) → NamesPath url.now name.now path
             → IfErr result (λ fault. fault ≡ NoMemory) }
@@ -100,7 +100,7 @@ impl Path {
 
     /// This path, and beneath it the components of a text without outer slashes.
     fn extended(&self, alloc: Global, text: &[u8]) -> Result<Self, PathFault>
-        ensures value { Answers result (beneath self.now (components_of text.now)) }
+        ensures value { AnswersPath result (beneath self.now (components_of text.now)) }
         ensures right { IsRightPath self.now → IfOk result IsRightPath }
     {
         let above = self.copied()?;

@@ -2,7 +2,7 @@
 ghost use Rattle.std.specs.Prelude.{◌≡◌, ◌⊎◌, [], ◌∷◌, ◌++◌, map, List, Ok, Err, IfOk, MatchResult, MatchOption};
 ghost use Rattle.std.specs.List.{slice_split, position, list_all};
 ghost use Rattle.percent_encoding.specs.Percent.{percent_decode};
-ghost use Rattle.svnpath.specs.Components.{Answers, IsRightPath};
+ghost use Rattle.svnpath.specs.Components.{AnswersPath, IsRightPath};
 ghost use Rattle.svnpath.specs.Texts.{is_slash};
 ghost use Rattle.svnpath.specs.Urls.{read_url, path_of_text, root_of_text, path_of_url, path_of_segments, root_of_url, until_slash, is_before_query, is_root, names_root, root_of, NamesPath};
 ghost use Rattle.svnpath.specs.declared.fault.PathFault.TheVariants.{NoMemory};
@@ -51,7 +51,7 @@ impl RepositoryUrl {
 /// `NotThisRepository` for a text that is no URL; `NoMemory`. Whether the URL is one of this
 /// repository is the test of `Path::from_url`.
 pub fn root_url(alloc: Global, url: &[u8], name: &str) -> Result<ByteString, PathFault>
-    ensures { Answers result (root_of_text url.now name.now) }
+    ensures { AnswersPath result (root_of_text url.now name.now) }
 {
     let parsed = read_url(alloc, url)?;
     Ok(root_of(alloc, url, &parsed, name)?)
@@ -120,7 +120,7 @@ fn is_before_query(b: u8) -> bool
 }
 
 pub(crate) fn read_url(alloc: Global, text: &[u8]) -> Result<Url, PathFault>
-    ensures { Answers result (read_url text.now) }
+    ensures { AnswersPath result (read_url text.now) }
 {
     let Ok(text) = str::from_utf8(text) else {
         return Err(PathFault::NotThisRepository);
@@ -133,7 +133,7 @@ pub(crate) fn read_url(alloc: Global, text: &[u8]) -> Result<Url, PathFault>
 }
 
 pub(crate) fn path_of_url(alloc: Global, url: &Url, name: &str) -> Result<Path, PathFault>
-    ensures value { Answers result (path_of_url name.now url.now) }
+    ensures value { AnswersPath result (path_of_url name.now url.now) }
     ensures right { IfOk result IsRightPath }
 {
     if url.scheme() != "svn" && url.scheme() != "svn+ssh" {
@@ -147,7 +147,7 @@ pub(crate) fn path_of_url(alloc: Global, url: &Url, name: &str) -> Result<Path, 
 
 /// The path whose components follow the repository's name.
 fn path_of_segments(alloc: Global, text: &[u8], name: &str) -> Result<Path, PathFault>
-    ensures value { Answers result (path_of_segments name.now
+    ensures value { AnswersPath result (path_of_segments name.now
         (map percent_decode (slice_split is_slash text.now))) }
     ensures right { IfOk result IsRightPath }
 {

@@ -3,8 +3,6 @@
 
 mod envs;
 mod fault;
-#[cfg(test)]
-mod tests;
 
 use command_line::{CommandLineFault, Order, read_command_line};
 use envs::SystemEnvs;

@@ -6,6 +6,8 @@ const NAME: &str = "postoffice.reston.mci.net";
 
 const MESSAGE: &[u8] = b"<1896.697170952@postoffice.reston.mci.net>";
 
+const USERS: &[u8] = b"[users]\ntim = tanstaaftanstaaf\nann = other\n";
+
 // The vectors of RFC 2202, the first three of which are RFC 2104's too; RFC 2195's example; and what
 // Python's `hmac` says of keys as long as a block, or nearly so.
 #[test]
@@ -58,10 +60,7 @@ fn digests_messages(rt: HostRuntime) -> Result<(), Fail> {
 // RFC 2195's example, and answers that are wrong in one place.
 #[test]
 fn checks_answers(rt: HostRuntime) -> Result<(), Fail> {
-    let users = Users::read(
-        rt.alloc(),
-        b"[users]\ntim = tanstaaftanstaaf\nann = other\n",
-    )?;
+    let users = Users::read(rt.alloc(), USERS)?;
     let challenge = Challenge::new(rt.alloc(), 1896, 697170952, NAME)?;
     assert_eq!(rt; challenge.text().as_bytes(), MESSAGE);
     let tim = challenge.check(rt.alloc(), b"tim b913a602c7eda7a495b4e6e7334d3890", &users)?;
@@ -69,6 +68,18 @@ fn checks_answers(rt: HostRuntime) -> Result<(), Fail> {
     assert_eq!(rt; tim.into_name().as_slice(), b"tim".as_slice());
     let ann = challenge.check(rt.alloc(), b"ann 128c3ed34fb58bde905f34df2e9968fe", &users)?;
     assert_eq!(rt; ann.name(), b"ann".as_slice());
+    Ok(())
+}
+
+/// What refuses an answer to the example's challenge, if anything does.
+fn fault_of(alloc: Global, answer: &[u8]) -> Option<CramFault> {
+    let users = Users::read(alloc, USERS).ok()?;
+    let challenge = Challenge::new(alloc, 1896, 697170952, NAME).ok()?;
+    challenge.check(alloc, answer, &users).err()
+}
+
+#[test]
+fn refuses_answers(rt: HostRuntime) {
     let wrong: [(&[u8], CramFault); 17] = [
         (b"", CramFault::MalformedAnswer),
         (b"tim", CramFault::MalformedAnswer),
@@ -136,13 +147,8 @@ fn checks_answers(rt: HostRuntime) -> Result<(), Fail> {
         ),
     ];
     for (answer, fault) in wrong {
-        assert_eq!(rt;
-            challenge.check(rt.alloc(), answer, &users).err(),
-            Some(fault),
-            "{answer:?}"
-        );
+        assert_eq!(rt; fault_of(rt.alloc(), answer), Some(fault), "{answer:?}");
     }
-    Ok(())
 }
 
 // The answer of a user with this password.
@@ -157,6 +163,19 @@ fn answer_of(
     answer.push(b' ')?;
     answer.extend_from_slice(digits.as_bytes())?;
     Ok(answer)
+}
+
+// Whether the user of this name and password is let in, under that name.
+fn is_user(
+    alloc: Global,
+    challenge: &Challenge,
+    users: &Users,
+    name: &[u8],
+    password: &[u8],
+) -> Result<bool, CramFault> {
+    let answer = answer_of(alloc, challenge, name, password)?;
+    let user = challenge.check(alloc, answer.as_slice(), users)?;
+    Ok(user.name() == name)
 }
 
 // Each file with a user that it has.
@@ -181,13 +200,18 @@ fn reads_users(rt: HostRuntime) -> Result<(), Fail> {
     let challenge = Challenge::new(rt.alloc(), 1896, 697170952, NAME)?;
     for (file, name, password) in cases {
         let users = Users::read(rt.alloc(), file)?;
-        let right = answer_of(rt.alloc(), &challenge, name, password)?;
-        let user = challenge.check(rt.alloc(), right.as_slice(), &users)?;
-        assert_eq!(rt; user.name(), name, "{file:?}");
-        let nobody = answer_of(rt.alloc(), &challenge, b"nobody", password)?;
-        let fault = challenge.check(rt.alloc(), nobody.as_slice(), &users).err();
-        assert_eq!(rt; fault, Some(CramFault::UnknownUser), "{file:?}");
+        assert!(rt;
+            is_user(rt.alloc(), &challenge, &users, name, password)?,
+            "{file:?}"
+        );
+        let nobody = is_user(rt.alloc(), &challenge, &users, b"nobody", password).err();
+        assert_eq!(rt; nobody, Some(CramFault::UnknownUser), "{file:?}");
     }
+    Ok(())
+}
+
+#[test]
+fn reads_files_without_users(rt: HostRuntime) {
     for file in [
         b"".as_slice(),
         b"[users]",
@@ -196,7 +220,6 @@ fn reads_users(rt: HostRuntime) -> Result<(), Fail> {
     ] {
         assert_eq!(rt; Users::read(rt.alloc(), file).err(), None, "{file:?}");
     }
-    Ok(())
 }
 
 // Each file with its first line that breaks a rule.
@@ -235,28 +258,45 @@ fn file_of(alloc: Global, name: &[u8], password: &[u8]) -> Result<Vec<u8>, Alloc
     Ok(file)
 }
 
+// What refuses a file with this user, if anything does.
+fn file_fault(alloc: Global, name: &[u8], password: &[u8]) -> Option<CramFault> {
+    let file = file_of(alloc, name, password).ok()?;
+    Users::read(alloc, file.as_slice()).err()
+}
+
+// The answer of the longest name and password to the example's challenge, behind these bytes.
+fn longest_answer(alloc: Global, front: &[u8], name: &[u8]) -> Result<Vec<u8>, AllocError> {
+    let mut answer = Vec::from_slice(alloc, front)?;
+    answer.extend_from_slice(name)?;
+    answer.extend_from_slice(b" fb19044762ebfba52934bca1f141fa0f")?;
+    Ok(answer)
+}
+
+// How long the name is that an answer of the longest name lets in, or why it does not.
+fn longest_name(alloc: Global, front: &[u8]) -> Result<usize, CramFault> {
+    let letters = [b'k'; 255];
+    let file = file_of(alloc, &letters, &letters)?;
+    let users = Users::read(alloc, file.as_slice())?;
+    let challenge = Challenge::new(alloc, 1896, 697170952, NAME)?;
+    let answer = longest_answer(alloc, front, &letters)?;
+    let user = challenge.check(alloc, answer.as_slice(), &users)?;
+    Ok(user.name().len())
+}
+
 // A name and a password have at most 255 bytes.
 #[test]
-fn limits_lengths(rt: HostRuntime) -> Result<(), Fail> {
+fn limits_lengths(rt: HostRuntime) {
     let letters = [b'k'; 256];
-    let longest = &letters[..255];
-    let file = file_of(rt.alloc(), longest, longest)?;
-    let users = Users::read(rt.alloc(), file.as_slice())?;
     let cases: [(&[u8], &[u8]); 2] = [(&letters, b"x"), (b"tim", &letters)];
     for (name, password) in cases {
-        let file = file_of(rt.alloc(), name, password)?;
-        let fault = Users::read(rt.alloc(), file.as_slice()).err();
+        let fault = file_fault(rt.alloc(), name, password);
         assert_eq!(rt; fault, Some(CramFault::BadUsers(2)));
     }
-    let challenge = Challenge::new(rt.alloc(), 1896, 697170952, NAME)?;
-    let mut answer = Vec::from_slice(rt.alloc(), longest)?;
-    answer.extend_from_slice(b" fb19044762ebfba52934bca1f141fa0f")?;
-    let user = challenge.check(rt.alloc(), answer.as_slice(), &users)?;
-    assert_eq!(rt; user.name(), longest);
-    answer.insert(0, b'k')?;
-    let fault = challenge.check(rt.alloc(), answer.as_slice(), &users).err();
-    assert_eq!(rt; fault, Some(CramFault::MalformedAnswer));
-    Ok(())
+    assert_eq!(rt; longest_name(rt.alloc(), b""), Ok(255));
+    assert_eq!(rt;
+        longest_name(rt.alloc(), b"k"),
+        Err(CramFault::MalformedAnswer)
+    );
 }
 
 // The numbers of a challenge may be as large as they come, and the faults say nothing of a password.

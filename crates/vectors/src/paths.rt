@@ -135,44 +135,80 @@ fn joins_relative_texts(rt: HostRuntime) -> Result<(), PathFault> {
     Ok(())
 }
 
-#[test]
-fn keeps_the_limits(rt: HostRuntime) -> Result<(), PathFault> {
-    let alloc = rt.alloc();
-    let mut text = Vec::from_slice(alloc, b"/")?;
-    text.extend_from_slice([b'n'; 255].as_slice())?;
-    assert_eq!(rt; Path::parse(alloc, text.as_slice())?.len(), 1);
-    text.push(b'n')?;
-    let long = Path::parse(alloc, text.as_slice());
-    assert!(rt; is_answer(alloc, long, Err(PathFault::TooLong))?);
+/// How many components the path of this text has, or why there is no such path.
+fn depth_of(alloc: Global, text: &[u8]) -> Result<usize, PathFault> {
+    let path = Path::parse(alloc, text)?;
+    Ok(path.len())
+}
 
-    let deep = letters(alloc, b'd', 64)?;
+/// What joining this text to the path of so many names is, by the depth of the answer.
+fn depth_joined(alloc: Global, count: usize, text: &[u8]) -> Result<usize, PathFault> {
+    let deep = letters(alloc, b'd', count)?;
     let path = Path::parse(alloc, deep.as_slice())?;
-    assert_eq!(rt; path.len(), DEPTH_LIMIT);
-    let deeper = path.join(alloc, b"d");
-    assert!(rt; is_answer(alloc, deeper, Err(PathFault::TooDeep))?);
-    let refused = path.join(alloc, b"..");
-    assert!(rt; is_answer(alloc, refused, Err(PathFault::ForbiddenComponent))?);
-    let deepest = Path::parse(alloc, letters(alloc, b'd', 65)?.as_slice());
-    assert!(rt; is_answer(alloc, deepest, Err(PathFault::TooDeep))?);
-    Ok(())
+    let joined = path.join(alloc, text)?;
+    Ok(joined.len())
+}
+
+#[test]
+fn keeps_the_limits(rt: HostRuntime) {
+    let alloc = rt.alloc();
+    let mut long = [b'n'; 257];
+    long[0] = b'/';
+    assert_eq!(rt; depth_of(alloc, &long[..256]), Ok(1));
+    assert_eq!(rt; depth_of(alloc, &long), Err(PathFault::TooLong));
+    assert_eq!(rt; depth_joined(alloc, 64, b""), Ok(DEPTH_LIMIT));
+    assert_eq!(rt; depth_joined(alloc, 64, b"d"), Err(PathFault::TooDeep));
+    assert_eq!(rt;
+        depth_joined(alloc, 64, b".."),
+        Err(PathFault::ForbiddenComponent)
+    );
+    assert_eq!(rt; depth_joined(alloc, 65, b""), Err(PathFault::TooDeep));
+}
+
+/// Whether the child's parent is the root, which has none.
+fn has_parent(alloc: Global, root: &Path, a: &Path) -> Result<bool, PathFault> {
+    let above = a.parent(alloc)?;
+    Ok(above.is_some_and(|above| above == *root) && root.parent(alloc)?.is_none())
+}
+
+/// Whether the grandchild is moved to the root's child by taking the child out.
+fn is_moved(alloc: Global, root: &Path, a: &Path, below: &Path) -> Result<bool, PathFault> {
+    if !below.is_at_or_under(a) {
+        return Ok(false);
+    }
+    let moved = below.rebased(alloc, a, root)?;
+    Ok(is_answer(alloc, Ok(moved), Ok("/b"))?)
+}
+
+/// Whether a path and its copy are the same.
+fn is_copied(path: &Path) -> Result<bool, PathFault> {
+    let copy = path.clone()?;
+    Ok(copy == *path)
 }
 
 #[test]
 fn serves_trees(rt: HostRuntime) -> Result<(), PathFault> {
     let alloc = rt.alloc();
     let root = Path::root(alloc);
-    let name = ByteString::from_slice(alloc, b"a")?;
-    let a = root.child(alloc, name.clone()?)?;
+    let a = Path::parse(alloc, b"/a")?;
     let below = a.join(alloc, b"b")?;
     assert!(rt; root.is_root() && !a.is_root());
-    assert!(rt; a.parent(alloc)?.is_some_and(|above| above == root));
-    assert!(rt; root.parent(alloc)?.is_none());
+    assert!(rt; has_parent(alloc, &root, &a)?);
     assert!(rt; below.is_at_or_under(&a) && below.is_at_or_under(&below));
-    assert!(rt; !a.is_at_or_under(&below));
-    let moved = below.rebased(alloc, &a, &root)?;
-    assert!(rt; is_answer(alloc, Ok(moved), Ok("/b"))?);
-    assert!(rt; a.cmp(&below) == Ordering::Less && below.clone()? == below);
-    assert!(rt; a.components().first() == Some(&name));
+    assert!(rt; !a.is_at_or_under(&below) && a.cmp(&below) == Ordering::Less);
+    assert!(rt; is_moved(alloc, &root, &a, &below)?);
+    assert!(rt; is_copied(&below)?);
+    Ok(())
+}
+
+#[test]
+fn names_children(rt: HostRuntime) -> Result<(), PathFault> {
+    let alloc = rt.alloc();
+    let root = Path::root(alloc);
+    let a = root.child(alloc, ByteString::from_slice(alloc, b"a")?)?;
+    let names = a.components();
+    assert!(rt; names.len() == 1 && names.iter().all(|name| name.as_slice() == b"a".as_slice()));
+    let name = ByteString::from_slice(alloc, b"a")?;
     assert!(rt; name.into_vec().as_slice() == b"a".as_slice());
     Ok(())
 }
@@ -189,25 +225,54 @@ fn is_listed(alloc: Global, listed: &[(&Path, &&str)], texts: &[&str]) -> Result
     Ok(listed.len() == texts.len())
 }
 
-#[test]
-fn lists_by_the_bytes_of_texts(rt: HostRuntime) -> Result<(), PathFault> {
-    let alloc = rt.alloc();
+const TEXTS: [&str; 6] = ["/a.b", "/", "/ab", "/a/b", "/a", "/a-b"];
+
+const BY_TEXT: [&str; 6] = ["/", "/a", "/a-b", "/a.b", "/a/b", "/ab"];
+
+const BY_COMPONENTS: [&str; 6] = ["/", "/a", "/a/b", "/a-b", "/a.b", "/ab"];
+
+fn new_map(alloc: Global) -> Result<BTreeMap<Path, &'static str>, PathFault> {
     let mut map = BTreeMap::new(alloc);
-    let mut pairs = Vec::new(alloc);
-    for text in ["/a.b", "/", "/ab", "/a/b", "/a", "/a-b"] {
+    for text in TEXTS {
         map.insert(Path::parse(alloc, text.as_bytes())?, text)?;
+    }
+    Ok(map)
+}
+
+fn new_pairs(alloc: Global) -> Result<Vec<(Path, &'static str)>, PathFault> {
+    let mut pairs = Vec::new(alloc);
+    for text in TEXTS {
         pairs.push((Path::parse(alloc, text.as_bytes())?, text))?;
     }
-    let texts = ["/", "/a", "/a-b", "/a.b", "/a/b", "/ab"];
-    let by_components = ["/", "/a", "/a/b", "/a-b", "/a.b", "/ab"];
+    Ok(pairs)
+}
+
+#[test]
+fn sorts_by_the_bytes_of_texts(rt: HostRuntime) -> Result<(), PathFault> {
+    let alloc = rt.alloc();
+    let map = new_map(alloc)?;
     let mut found = map.iter().collect::<Vec<_>>(alloc)?;
-    assert!(rt; is_listed(alloc, found.as_slice(), by_components.as_slice())?);
+    assert!(rt; is_listed(alloc, found.as_slice(), &BY_COMPONENTS)?);
     sort_by_text(&mut found)?;
-    assert!(rt; is_listed(alloc, found.as_slice(), texts.as_slice())?);
+    assert!(rt; is_listed(alloc, found.as_slice(), &BY_TEXT)?);
+    Ok(())
+}
+
+#[test]
+fn lists_a_map_by_the_bytes_of_texts(rt: HostRuntime) -> Result<(), PathFault> {
+    let alloc = rt.alloc();
+    let map = new_map(alloc)?;
     let listed = by_text(alloc, &map)?;
-    assert!(rt; is_listed(alloc, listed.as_slice(), texts.as_slice())?);
+    assert!(rt; is_listed(alloc, listed.as_slice(), &BY_TEXT)?);
+    Ok(())
+}
+
+#[test]
+fn lists_pairs_by_the_bytes_of_texts(rt: HostRuntime) -> Result<(), PathFault> {
+    let alloc = rt.alloc();
+    let pairs = new_pairs(alloc)?;
     let listed = pairs_by_text(alloc, pairs.as_slice())?;
-    assert!(rt; is_listed(alloc, listed.as_slice(), texts.as_slice())?);
+    assert!(rt; is_listed(alloc, listed.as_slice(), &BY_TEXT)?);
     Ok(())
 }
 

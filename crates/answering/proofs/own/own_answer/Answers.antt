@@ -10,7 +10,7 @@ use Rattle.machine.specs.Answers.{says, serves}
 use Rattle.machine.specs.Commands.{check_path_reply, rev_proplist_reply, lock_at, locks_reply, lock_tokens, asked_by, commit_begins, reparented}
 use Rattle.machine.specs.Readings.{place_read, file_replies, directory_reply, stat_reply, dated_reply, property_reply}
 use Rattle.machine.specs.declared.phase.Phase.TheVariants.{Serving}
-use Rattle.reports.specs.Refusing.{ask_of, begun}
+use Rattle.reports.specs.Refusing.{ask_of, begun_report}
 use Rattle.reports.specs.declared.ask.Purpose.TheVariants as purposes
 use Rattle.answering.proofs.Answered.{begins, moves, answered, replied, replied_all, opened}
 use Rattle.telling.specs.Telling.{told_before}
@@ -139,7 +139,7 @@ returns-in-GetLocations g c = rw c.in-GetLocations.is c.tell_locations.ensures
 pub returns-in-Update : goal.returns-in-Update
 returns-in-Update g c =
     let now = content_of (g.A.RepoAccess.point c.begun_report-report.new.access) in
-    let report = begun (ask_of now c.args.options.now.name c.args.client.path purposes.Update c.in-Update.request None) in
+    let report = begun_report (ask_of now c.args.options.now.name c.args.client.path purposes.Update c.in-Update.request None) in
     rw c.in-Update.is
     (opened _ _ (told_before c.args.request.preface) c.begun_report-report.ensures.later c.args.turn.now.env c.args.client report refl
     _ c.begun_report-report.result c.open_report.result _ c.begun_report-report.ensures.ok c.open_report.ensures)
@@ -147,7 +147,7 @@ returns-in-Update g c =
 pub returns-in-Switch : goal.returns-in-Switch
 returns-in-Switch g c =
     let now = content_of (g.A.RepoAccess.point c.begun_report-report-in-Switch.new.access) in
-    let report = begun (ask_of now c.args.options.now.name c.args.client.path purposes.Switch c.in-Switch.request (Some c.in-Switch.url)) in
+    let report = begun_report (ask_of now c.args.options.now.name c.args.client.path purposes.Switch c.in-Switch.request (Some c.in-Switch.url)) in
     rw c.in-Switch.is
     (opened _ _ (told_before c.args.request.preface) c.begun_report-report-in-Switch.ensures.later c.args.turn.now.env c.args.client report refl
     _ c.begun_report-report-in-Switch.result c.open_report-in-Switch.result _ c.begun_report-report-in-Switch.ensures.ok c.open_report-in-Switch.ensures)
@@ -155,7 +155,7 @@ returns-in-Switch g c =
 pub returns-in-Status : goal.returns-in-Status
 returns-in-Status g c =
     let now = content_of (g.A.RepoAccess.point c.begun_report-report-in-Status.new.access) in
-    let report = begun (ask_of now c.args.options.now.name c.args.client.path purposes.Status c.in-Status.request None) in
+    let report = begun_report (ask_of now c.args.options.now.name c.args.client.path purposes.Status c.in-Status.request None) in
     rw c.in-Status.is
     (opened _ _ (told_before c.args.request.preface) c.begun_report-report-in-Status.ensures.later c.args.turn.now.env c.args.client report refl
     _ c.begun_report-report-in-Status.result c.open_report-in-Status.result _ c.begun_report-report-in-Status.ensures.ok c.open_report-in-Status.ensures)

@@ -1,8 +1,8 @@
 use Rattle.std.proofs.Common.{◌∙◌, sym, arith}
 use Rattle.repo_api.specs.Histories.{history_of}
-use Rattle.history.proofs.Steps.{located_below}
+use Rattle.history.proofs.Steps.{is_past}
 use Rattle.history.proofs.locating.location_back.Goals as goal
 
 pub returns-else-at-revision : goal.returns-else-at-revision
 returns-else-at-revision g c =
-    sym (located_below (history_of (g.R.Repository.content c.args.repository.now)) c.args.revision c.loop-at.at (omega arith)) ∙ c.loop-at.invariant
+    sym (is_past (history_of (g.R.Repository.content c.args.repository.now)) c.args.revision c.loop-at.at (omega arith)) ∙ c.loop-at.invariant

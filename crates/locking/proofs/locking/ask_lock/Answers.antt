@@ -2,7 +2,7 @@ use Rattle.std.proofs.Common.{[], ◌∷◌, refl}
 use Rattle.replies.specs.declared.reply.Reply.TheVariants as replies
 use Rattle.repo_api.specs.Accepted.Accepted.{Locks}
 use Rattle.repo_api.specs.Locking.{lock_refusal, lock_of}
-use Rattle.machine.specs.Commands.{lock_answer, without_token}
+use Rattle.machine.specs.Commands.{lock_answer, env_without_token}
 use Rattle.telling.specs.Telling.{told_before}
 use Rattle.telling.proofs.Steps.{stepped, not_asked}
 use Rattle.telling.proofs.Changes.{made, refused, failed, halted}
@@ -14,7 +14,7 @@ returns-in-Ok-lock g c =
     let env = c.args.turn.now.env in
     let said = rw c.in-Ok.ensures at c.tell_lock.ensures in
     stepped (made (λ x. lock_refusal x ask) (Locks ask) env c.args.client (told_before c.args.preface) (lock_answer env c.args.client ask) _ _ _
-    (without_token env) (replies.Lock ask.path (lock_of ask) ∷ []) _ refl c.in-Ok-lock.ensures)
+    (env_without_token env) (replies.Lock ask.path (lock_of ask) ∷ []) _ refl c.in-Ok-lock.ensures)
     _ c.tell_lock.result _ said
 
 pub returns-in-Err-Refused : goal.returns-in-Err-Refused

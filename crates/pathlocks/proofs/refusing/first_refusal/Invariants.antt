@@ -1,12 +1,12 @@
 use Rattle.std.proofs.Common.{◌≡◌, map, drop}
 use Rattle.std.specs.Map.Iter.{deref_pair}
 use Rattle.std.specs.Prelude.{option_copied}
-use Rattle.pathlocks.specs.Handed.{is_among}
+use Rattle.pathlocks.specs.Handed.{is_lent}
 use Rattle.repo_api.specs.Locking.{first_refusal}
 use Rattle.pathlocks.proofs.refusing.first_refusal.Given as goal
 
 -- none so far refuses
 abbrev pub invariant-loop-pair : goal.invariant-loop-pair
 invariant-loop-pair l =
-    first_refusal (option_copied l.user) (is_among l.tokens.keys) (map deref_pair l.locks)
-    ≡ first_refusal (option_copied l.user) (is_among l.tokens.keys) (map deref_pair (drop l.pair-index l.locks))
+    first_refusal (option_copied l.user) (is_lent l.tokens.keys) (map deref_pair l.locks)
+    ≡ first_refusal (option_copied l.user) (is_lent l.tokens.keys) (map deref_pair (drop l.pair-index l.locks))

@@ -1,5 +1,5 @@
 use Rattle.std.proofs.Common.{ap, ◌∙◌}
-use Rattle.svndiff0.specs.Document.{text_of}
+use Rattle.svndiff0.specs.Document.{document_text}
 use Rattle.svndiff0.proofs.Fulls.{full_again, written_more, written_all}
 use Rattle.svndiff0.proofs.full.encode_full.Goals as goal
 
@@ -9,4 +9,4 @@ loop-preserved c =
 
 pub returns-clause-text : goal.returns-clause-text
 returns-clause-text c = λ h base.
-    ap (text_of base) (written_all _ _ _ _ _ _ c.loop.invariant.1 c.loop-test.false c.loop.invariant.2) ∙ full_again base c.args.text.now h
+    ap (document_text base) (written_all _ _ _ _ _ _ c.loop.invariant.1 c.loop-test.false c.loop.invariant.2) ∙ full_again base c.args.text.now h

@@ -1,4 +1,4 @@
-use Rattle.edit_rules.specs.declared.opened.Delta.TheVariants.{Reading}
+use Rattle.edit_rules.specs.declared.opened.DeltaState.TheVariants.{Reading}
 use Rattle.editor.proofs.TextSteps.{ends}
 use Rattle.editor.proofs.editor.CommitEditor.end_delta.Goals as goal
 

@@ -9,16 +9,16 @@ use Rattle.repo_api.specs.MergeLaws.{get_merged_map}
 use Rattle.repo_api.specs.States.{tree_of}
 use Rattle.repo_api.specs.StateLaws.{same_tree, get_path}
 use Rattle.flat_parts.specs.Found.{found}
-use Rattle.flat_trees.specs.Perhaps.{map_of}
+use Rattle.flat_trees.specs.Perhaps.{map_or_empty}
 use Rattle.flat_trees.proofs.Merged.{put_both}
 use Rattle.flat_trees.proofs.flat_tree.FlatTree.merged.Goals as goal
 
 pub returns : goal.returns
 returns c =
     let n = c.args.revision in
-    let base = map_of (option_copied c.args.base) in
+    let base = map_or_empty (option_copied c.args.base) in
     let txn = c.args.self.now in
-    let youngest = map_of (option_copied c.args.youngest) in
+    let youngest = map_or_empty (option_copied c.args.youngest) in
     same_tree (from_entries {R = path_cmp} c.put_merged-2.new.entries.entries) (merged_map n base txn youngest) (λ q.
     get_path c.put_merged-2.new.entries.entries q ∙ c.in_ok-put_merged-2.ensures q
     ∙ ap (option_or (if is_some (get youngest q) then merged n (tree_of base) (tree_of txn) (tree_of youngest) q else None))

@@ -7,14 +7,14 @@ use Rattle.repo_api.specs.Edits.{touched, deleted}
 use Rattle.repo_api.specs.States.{tree_of}
 use Rattle.repo_api.specs.StateLaws.{get_path}
 use Rattle.flat_parts.specs.Found.{found, landed}
-use Rattle.flat_trees.specs.Perhaps.{map_of}
+use Rattle.flat_trees.specs.Perhaps.{map_or_empty}
 use Rattle.flat_trees.proofs.Landed.{copied_over}
 use Rattle.flat_parts.proofs.Seen.{seen_at}
 use Rattle.flat_trees.proofs.flat_tree.FlatTree.with_copy.Goals as goal
 
 pub returns : goal.returns
 returns c = λ q.
-    let source = tree_of (map_of (option_copied c.args.source)) in
+    let source = tree_of (map_or_empty (option_copied c.args.source)) in
     let from = c.args.from.now in
     let to = c.args.to.now in
     get_path c.graft.new.entries.entries q ∙ c.in_ok-graft.ensures q

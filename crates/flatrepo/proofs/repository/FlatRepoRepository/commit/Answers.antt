@@ -2,7 +2,7 @@ use Rattle.std.proofs.Common.{rules, ◌≡◌}
 use Rattle.std.specs.Prelude.{None}
 use Rattle.repo_api.specs.Commits.{commit_refusal, committed}
 use Rattle.history.specs.Sound.{IsSoundRepo}
-use Rattle.flat_trees.specs.Contents.{content_of}
+use Rattle.flat_trees.specs.Contents.{flat_state}
 use Rattle.flat_trees.specs.declared.flat_content.FlatContent.{FlatContent}
 use Rattle.flatrepo.specs.Whole.{state_of, txn_state_of}
 use Rattle.flatrepo.proofs.Keeping.{commit_keeps}
@@ -14,6 +14,6 @@ invariant_of-self-2 c =
     let locks = c.args.self.now.locks.value in
     let t = txn_state_of c.args.txn in
     let accepted : commit_refusal (state_of old locks) c.args.ask t ≡ None = search rules in
-    let keeps : (new : FlatContent) → content_of new ≡ committed (content_of old) c.args.ask t → ∥ IsSoundRepo (content_of new) ∥₁ =
+    let keeps : (new : FlatContent) → flat_state new ≡ committed (flat_state old) c.args.ask t → ∥ IsSoundRepo (flat_state new) ∥₁ =
     λ new is. commit_keeps old new locks c.args.ask t c.requires accepted is c.args.txn.sound c.args.self.now.sound in
     record { sound = search (keeps, rules) }

@@ -1,11 +1,17 @@
 //! The loop over a reader and a writer, byte by byte and where a stream fails.
 ghost use Rattle.std.specs.Prelude.{◌≡◌};
 
-use super::*;
+use access::SoleRepository;
+use flatrepo::FlatRepo;
+use hub::{Hub, Options};
+use std::alloc::Global;
 use std::io;
-use std::io::{Read, Write};
+use std::io::{ErrorKind, Read, Write};
 use std::test::Fail;
-use streams::{Env, EnvSource, ServeFault};
+use streams::{Env, EnvSource, ServeFault, run_stdio};
+
+/// The UUID of the repository.
+const UUID: u128 = 0x0000_0000_0000_4000_8000_0000_0000_0000;
 
 const INPUT: &[u8] =
     b"( 2 ( edit-pipeline ) 15:svn://h/r/trunk ) ( ANONYMOUS ( 0: ) ) ( get-latest-rev ( ) ) \
@@ -115,8 +121,15 @@ fn drip(bytes: &'static [u8], fails: bool) -> Dripping {
 }
 
 /// A hub of the repository `r`, where clients may change the properties of revisions or not.
-fn hub_of_r(alloc: Global, revprops: bool) -> Result<Hub<SoleRepository<FlatRepo>>, ProgramFault> {
-    empty_hub(alloc, options(alloc, "r", revprops)?)
+fn hub_of_r(alloc: Global, revprops: bool) -> Result<Hub<SoleRepository<FlatRepo>>, Fail> {
+    let repository = FlatRepo::new(alloc, UUID, 0)?;
+    let options = Options::new(alloc, "r")?;
+    let options = if revprops {
+        options.with_revprops()
+    } else {
+        options
+    };
+    Ok(Hub::over_new(alloc, repository, options)?)
 }
 
 #[test]
