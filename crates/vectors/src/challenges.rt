@@ -272,15 +272,15 @@ fn longest_answer(alloc: Global, front: &[u8], name: &[u8]) -> Result<Vec<u8>, A
     Ok(answer)
 }
 
-// How long the name is that an answer of the longest name lets in, or why it does not.
-fn longest_name(alloc: Global, front: &[u8]) -> Result<usize, CramFault> {
+// Whether an answer of the longest name, behind these bytes, lets in that name, or why it does not.
+fn lets_longest_in(alloc: Global, front: &[u8]) -> Result<bool, CramFault> {
     let letters = [b'k'; 255];
     let file = file_of(alloc, &letters, &letters)?;
     let users = Users::read(alloc, file.as_slice())?;
     let challenge = Challenge::new(alloc, 1896, 697170952, NAME)?;
     let answer = longest_answer(alloc, front, &letters)?;
     let user = challenge.check(alloc, answer.as_slice(), &users)?;
-    Ok(user.name().len())
+    Ok(user.name() == letters.as_slice())
 }
 
 // A name and a password have at most 255 bytes.
@@ -292,9 +292,9 @@ fn limits_lengths(rt: HostRuntime) {
         let fault = file_fault(rt.alloc(), name, password);
         assert_eq!(rt; fault, Some(CramFault::BadUsers(2)));
     }
-    assert_eq!(rt; longest_name(rt.alloc(), b""), Ok(255));
+    assert_eq!(rt; lets_longest_in(rt.alloc(), b""), Ok(true));
     assert_eq!(rt;
-        longest_name(rt.alloc(), b"k"),
+        lets_longest_in(rt.alloc(), b"k"),
         Err(CramFault::MalformedAnswer)
     );
 }
