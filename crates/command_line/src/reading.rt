@@ -111,6 +111,11 @@ mod tests {
     use super::*;
     use std::test::Fail;
 
+    const WITH_REVPROPS: [&str; 2] = [
+        "svnserved stdio - --name r --revprops",
+        "svnserved stdio --revprops --name=r -",
+    ];
+
     fn read(alloc: Global, line: &str) -> Result<Result<Order, CommandLineFault>, AllocError> {
         let mut words = Vec::new(alloc);
         for word in line.split(' ') {
@@ -142,11 +147,7 @@ mod tests {
 
     #[test]
     fn reads_whether_properties_of_revisions_may_be_changed(rt: HostRuntime) -> Result<(), Fail> {
-        let lines = [
-            "svnserved stdio - --name r --revprops",
-            "svnserved stdio --revprops --name=r -",
-        ];
-        for line in lines {
+        for line in WITH_REVPROPS {
             assert_eq!(rt; asks_for_r(rt.alloc(), line)?, Some(true), "{line}");
         }
         Ok(())

@@ -230,40 +230,40 @@ all_names =
     ∷ names.Log ∷ names.GetLocations ∷ names.Update ∷ names.Switch ∷ names.Status ∷ []
 
 -- the command that has this name
-abbrev pub command_name : List ℕ → Option CommandName
-command_name name = find (λ known. is_name name (name_text known)) all_names
+abbrev pub main_command_name : List ℕ → Option CommandName
+main_command_name name = find (λ known. is_name name (name_text known)) all_names
 
 -- the command of a name and its parameters, if they are of its form
-abbrev pub command_with : CommandName → ItemValues → Option MainCommand
-command_with names.GetLatestRev params = Some GetLatestRev
-command_with names.CheckPath params = check_path params
-command_with names.RevProplist params = rev_proplist params
-command_with names.Commit params = commit params
-command_with names.AbortEdit params = Some AbortEdit
-command_with names.Lock params = lock params
-command_with names.Unlock params = unlock params
-command_with names.GetLock params = get_lock params
-command_with names.GetLocks params = get_locks params
-command_with names.GetFile params = get_file params
-command_with names.GetDir params = get_dir params
-command_with names.Stat params = stat params
-command_with names.GetDatedRev params = get_dated_rev params
-command_with names.RevProp params = rev_prop params
-command_with names.ChangeRevProp params = change_rev_prop params
-command_with names.Reparent params = reparent params
-command_with names.Log params = log_command params
-command_with names.GetLocations params = get_locations params
-command_with names.Update params = option_map Update (update params)
-command_with names.Switch params = option_map (λ p. Switch p.0 p.1) (switch params)
-command_with names.Status params = option_map Status (status params)
+abbrev pub main_command_with : CommandName → ItemValues → Option MainCommand
+main_command_with names.GetLatestRev params = Some GetLatestRev
+main_command_with names.CheckPath params = check_path params
+main_command_with names.RevProplist params = rev_proplist params
+main_command_with names.Commit params = commit params
+main_command_with names.AbortEdit params = Some AbortEdit
+main_command_with names.Lock params = lock params
+main_command_with names.Unlock params = unlock params
+main_command_with names.GetLock params = get_lock params
+main_command_with names.GetLocks params = get_locks params
+main_command_with names.GetFile params = get_file params
+main_command_with names.GetDir params = get_dir params
+main_command_with names.Stat params = stat params
+main_command_with names.GetDatedRev params = get_dated_rev params
+main_command_with names.RevProp params = rev_prop params
+main_command_with names.ChangeRevProp params = change_rev_prop params
+main_command_with names.Reparent params = reparent params
+main_command_with names.Log params = log_command params
+main_command_with names.GetLocations params = get_locations params
+main_command_with names.Update params = option_map Update (update params)
+main_command_with names.Switch params = option_map (λ p. Switch p.0 p.1) (switch params)
+main_command_with names.Status params = option_map Status (status params)
 
 -- the command of a name and its parameters, or why there is none
-abbrev pub command_named : List ℕ → ItemValues → Result MainCommand CommandFault
-command_named name params =
-    option_map_or (λ known. ok_or (command_with known params) BadParameters)
-    (command_name name) (Err UnknownName)
+abbrev pub main_command_named : List ℕ → ItemValues → Result MainCommand CommandFault
+main_command_named name params =
+    option_map_or (λ known. ok_or (main_command_with known params) BadParameters)
+    (main_command_name name) (Err UnknownName)
 
 -- the command that an item is, or why it is none
 abbrev pub main_command : ItemValue → Result MainCommand CommandFault
 main_command item =
-    option_map_or (λ form. command_named form.0 form.1) (command_form item) (Err BadParameters)
+    option_map_or (λ form. main_command_named form.0 form.1) (command_form item) (Err BadParameters)

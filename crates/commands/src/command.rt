@@ -4,7 +4,7 @@ ghost use Rattle.std.specs.Prelude.{◌≡◌, option_copied, option_map};
 ghost use Rattle.std.specs.List.{find};
 ghost use Rattle.forms.specs.Answering.{Answers, Reads};
 ghost use Rattle.forms.specs.Forms.{is_name};
-ghost use Rattle.commands.specs.Commands.{main_command, command_name, name_text, command_with, check_path, rev_proplist, locks_first, properties_at_end, commit, lock, unlock, get_lock, get_locks, path_first, get_file, get_dir, has_fields, stat, get_dated_rev, rev_prop, change_rev_prop, reparent, limit_at_end, log_command, get_locations};
+ghost use Rattle.commands.specs.Commands.{main_command, main_command_name, name_text, main_command_with, check_path, rev_proplist, locks_first, properties_at_end, commit, lock, unlock, get_lock, get_locks, path_first, get_file, get_dir, has_fields, stat, get_dated_rev, rev_prop, change_rev_prop, reparent, limit_at_end, log_command, get_locations};
 
 use crate::login::are_words;
 use byte_string::ByteString;
@@ -173,7 +173,7 @@ impl MainCommand {
         ensures { Answers result (main_command (value_of item.now)) }
     {
         let (name, params) = read_form(item).ok_or(BadParameters)?;
-        let name = command_name(name).ok_or(UnknownName)?;
+        let name = main_command_name(name).ok_or(UnknownName)?;
         read_command(alloc, name, params)
     }
 }
@@ -230,8 +230,8 @@ const COMMAND_NAMES: [CommandName; 21] = [
 ];
 
 /// The command that has this name.
-fn command_name(name: &[u8]) -> Option<CommandName>
-    ensures { result ≡ command_name name.now }
+fn main_command_name(name: &[u8]) -> Option<CommandName>
+    ensures { result ≡ main_command_name name.now }
 {
     first_named(&COMMAND_NAMES, name).copied()
 }
@@ -286,7 +286,7 @@ fn read_command(
     name: CommandName,
     params: &[Item],
 ) -> Result<MainCommand, CommandFault>
-    ensures { Reads result (command_with name (values_of params.now)) }
+    ensures { Reads result (main_command_with name (values_of params.now)) }
 {
     match name {
         CommandName::GetLatestRev => Ok(MainCommand::GetLatestRev),

@@ -1,10 +1,10 @@
 -- A right answer is refused for no reason of its own.
 use Rattle.std.proofs.Common.{◌≡◌, ℕ, List, [], ◌∷◌, ◌++◌, length, Some, None, refl, sym, ap, ◌∙◌, arith, length-append}
 use Rattle.cram.specs.Login.{Login, password_of}
-use Rattle.cram.specs.Answer.{IsAnswer, IsRight, IsUnknown, IsWrong, digits_under}
+use Rattle.cram.specs.Answer.{IsAnswer, IsRightAnswer, IsUnknown, IsWrong, digits_under}
 use Rattle.cram.proofs.Digits.{length-digits_under, digits_under-lower}
 
-pub answer_from_right : (challenge : List ℕ) (users : List Login) (answer name : List ℕ) (h : IsRight challenge users answer name) → IsAnswer answer name (digits_under h.password challenge)
+pub answer_from_right : (challenge : List ℕ) (users : List Login) (answer name : List ℕ) (h : IsRightAnswer challenge users answer name) → IsAnswer answer name (digits_under h.password challenge)
 answer_from_right challenge users answer name h = record {
   whole = h.whole;
   named = h.named;
@@ -30,14 +30,14 @@ one_answer answer name other digits others h k =
     let tails = parts.1 in
     (parts.0, cc)
 
-pub known_from_right : (challenge : List ℕ) (users : List Login) (answer name : List ℕ) → IsRight challenge users answer name → IsUnknown users answer → ⊥
+pub known_from_right : (challenge : List ℕ) (users : List Login) (answer name : List ℕ) → IsRightAnswer challenge users answer name → IsUnknown users answer → ⊥
 known_from_right challenge users answer name h k =
     let same = one_answer answer name k.name _ k.digits (answer_from_right challenge users answer name h) k.form in
     let names = same.0 in
     let one : Some h.password ≡ None = sym h.known ∙ ap (λ n. password_of n users) names ∙ k.unknown in
     cc
 
-pub proved_from_right : (challenge : List ℕ) (users : List Login) (answer name : List ℕ) → IsRight challenge users answer name → IsWrong challenge users answer → ⊥
+pub proved_from_right : (challenge : List ℕ) (users : List Login) (answer name : List ℕ) → IsRightAnswer challenge users answer name → IsWrong challenge users answer → ⊥
 proved_from_right challenge users answer name h k =
     let same = one_answer answer name k.name _ k.digits (answer_from_right challenge users answer name h) k.form in
     let names = same.0 in

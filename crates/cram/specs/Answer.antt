@@ -6,7 +6,7 @@ use Rattle.cram.specs.declared.fault.CramFault.{CramFault}
 use Rattle.cram.specs.declared.fault.CramFault.TheVariants as faults
 use Rattle.cram.specs.Hmac.{hmac_of}
 use Rattle.cram.specs.Login.{Login, password_of}
-use Rattle.cram.specs.Line.{is_name}
+use Rattle.cram.specs.Line.{is_user_name}
 
 -- `<nonce.moment@name>`, the numbers in decimal
 abbrev pub challenge_text : ℕ → ℕ → List ℕ → List ℕ
@@ -20,7 +20,7 @@ is_lower_digit b = (nat_le 48 b && nat_le b 57) || (nat_le 97 b && nat_le b 102)
 -- a name, one space and 32 lower-case hexadecimal digits
 pub record IsAnswer (answer name digits : List ℕ) : Type 0 where
   pub whole : answer ≡ name ++ 32 ∷ digits
-  pub named : is_name name ≡ true
+  pub named : is_user_name name ≡ true
   pub counted : length digits ≡ 32
   pub lower : list_all is_lower_digit digits ≡ true
 
@@ -29,17 +29,17 @@ abbrev pub digits_under : List ℕ → List ℕ → List ℕ
 digits_under password challenge = encode_lower (hmac_of password challenge)
 
 -- the answer is the user's name, one space and the digits under the user's password
-pub record IsRight (challenge : List ℕ) (users : List Login) (answer name : List ℕ) : Type 0 where
+pub record IsRightAnswer (challenge : List ℕ) (users : List Login) (answer name : List ℕ) : Type 0 where
   pub password : List ℕ
   pub known : password_of name users ≡ Some password
-  pub named : is_name name ≡ true
+  pub named : is_user_name name ≡ true
   pub whole : answer ≡ name ++ 32 ∷ digits_under password challenge
 
 -- whose right answer it is: this user's, or nobody's
 abbrev pub IsAnswerOf : List ℕ → List Login → List ℕ → Option (List ℕ) → Type 0
-IsAnswerOf challenge users answer (Some name) = IsRight challenge users answer name
+IsAnswerOf challenge users answer (Some name) = IsRightAnswer challenge users answer name
 IsAnswerOf challenge users answer None =
-    (name : List ℕ) → IsRight challenge users answer name → ⊥
+    (name : List ℕ) → IsRightAnswer challenge users answer name → ⊥
 
 -- no user has the name
 pub record IsUnknown (users : List Login) (answer : List ℕ) : Type 0 where

@@ -13,8 +13,8 @@ abbrev pub has_right_length : List ℕ → Bool
 has_right_length bytes = nat_lt 0 (length bytes) && nat_lt (length bytes) 256
 
 -- 1 to 255 bytes, none of them a blank
-abbrev pub is_name : List ℕ → Bool
-is_name bytes = has_right_length bytes && not (list_any is_blank bytes)
+abbrev pub is_user_name : List ℕ → Bool
+is_user_name bytes = has_right_length bytes && not (list_any is_blank bytes)
 
 abbrev pub without_first_blanks : List ℕ → List ℕ
 without_first_blanks bytes = drop (prefix_len is_blank bytes) bytes
@@ -41,7 +41,7 @@ pub data Line : Type 0 where
 -- a pair, if its name and its password may be such
 abbrev pub pair_or_wrong : Login → Line
 pair_or_wrong login =
-    if is_name login.name && has_right_length login.password then pair login else wrong
+    if is_user_name login.name && has_right_length login.password then pair login else wrong
 
 -- blanks alone, `#` and anything, `[users]`, or `name = password`
 unfoldable pub line_of : List ℕ → Line

@@ -3,7 +3,7 @@ ghost use Rattle.std.specs.Prelude.{◌≡◌, ◌↔◌, List, ℕ, length, IsT
 ghost use Rattle.std.specs.List.{list_all};
 ghost use Rattle.cram.specs.Answer.{IsAnswer, is_lower_digit};
 
-use crate::line::is_name;
+use crate::line::is_user_name;
 
 /// The digits of a digest.
 pub const DIGITS_LEN: usize = 32;
@@ -21,7 +21,7 @@ pub fn split_answer(answer: &[u8]) -> Option<(&[u8], &[u8])>
     let space = answer.len() - DIGITS_LEN - 1;
     let name = &answer[..space];
     let digits = &answer[space + 1..];
-    if answer[space] == b' ' && is_name(name) && are_lower_digits(digits) {
+    if answer[space] == b' ' && is_user_name(name) && are_lower_digits(digits) {
         Some((name, digits))
     } else {
         None

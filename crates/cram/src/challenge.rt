@@ -22,7 +22,7 @@ impl Model for Challenge {
 
 impl Challenge {
     ghost use Rattle.std.specs.Prelude.{◌≡◌, List, ℕ, IfOk, IfErr, MatchResult};
-    ghost use Rattle.cram.specs.Answer.{IsAnswerFault, IsRight, challenge_text, digits_under};
+    ghost use Rattle.cram.specs.Answer.{IsAnswerFault, IsRightAnswer, challenge_text, digits_under};
 
     /// The challenge of a server of that name. The nonce and the moment, both in decimal, are to make
     /// it one that was never sent before. The only fault is `NoMemory`.
@@ -45,8 +45,8 @@ impl Challenge {
     /// challenge's HMAC-MD5 under the user's password. All digits are compared, wherever they differ. Of
     /// the faults the first of `CramFault` that holds is answered, but `BadUsers` never is.
     pub fn check(&self, alloc: Global, answer: &[u8], users: &Users) -> Result<User, CramFault>
-        ensures right { IfOk result (λ user. IsRight self.now users.now answer.now user) }
-        ensures accepts { (name : List ℕ) → IsRight self.now users.now answer.now name →
+        ensures right { IfOk result (λ user. IsRightAnswer self.now users.now answer.now user) }
+        ensures accepts { (name : List ℕ) → IsRightAnswer self.now users.now answer.now name →
             MatchResult result (λ user. user ≡ name) (λ fault. fault ≡ CramFault.NoMemory) }
         ensures fault { IfErr result (λ fault. IsAnswerFault self.now users.now answer.now fault) }
     {

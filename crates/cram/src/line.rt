@@ -1,7 +1,7 @@
 // One line of the users file.
 ghost use Rattle.std.specs.Prelude.{◌≡◌, ℕ, ◌<◌, ◌==◌, ◌∷◌, length, MatchOption};
 ghost use Rattle.std.specs.Str.Lines.{lines, strip_carriage_return};
-ghost use Rattle.cram.specs.Line.{is_blank, is_name, has_right_length, line_of, pair_of, pair_or_wrong, without_first_blanks, without_last_blanks};
+ghost use Rattle.cram.specs.Line.{is_blank, is_user_name, has_right_length, line_of, pair_of, pair_or_wrong, without_first_blanks, without_last_blanks};
 ghost use Rattle.cram.specs.Parts.{IsSplitAtFirst, IsWithout};
 ghost use Rattle.cram.specs.ParsedLine.{said_by};
 
@@ -72,7 +72,7 @@ fn parse_pair(line: &[u8]) -> ParsedLine<'_>
     };
     let name = without_last_blanks(name);
     let password = without_first_blanks(password);
-    if is_name(name) && has_right_length(password) {
+    if is_user_name(name) && has_right_length(password) {
         ParsedLine::Pair { name, password }
     } else {
         ParsedLine::Wrong
@@ -80,8 +80,8 @@ fn parse_pair(line: &[u8]) -> ParsedLine<'_>
 }
 
 /// Whether a user may have the name: 1 to 255 bytes, none of them a space or a tab.
-pub fn is_name(bytes: &[u8]) -> bool
-    ensures { result ≡ is_name bytes.now }
+pub fn is_user_name(bytes: &[u8]) -> bool
+    ensures { result ≡ is_user_name bytes.now }
 {
     has_right_length(bytes) && !bytes.iter().any(|b| is_blank(*b))
 }

@@ -18,7 +18,7 @@ use Rattle.drives.specs.declared.depth.Depth.{Depth}
 use Rattle.drives.specs.declared.depth.Depth.TheVariants.{Empty, Files, Immediates, Infinity}
 use Rattle.reports.proofs.Holding.{below_longer, longer_below}
 use Rattle.reports.specs.Places.{in_place, is_grafted_over, reported_subtree}
-use Rattle.reports.specs.Reported.{ReportedEntry, left_by, entries_of, reported_as}
+use Rattle.reports.specs.Reported.{ReportedEntry, left_by, reported_entries, reported_as}
 use Rattle.reports.specs.Targets.{WholeReport, client_tree, drive_scope, goal_path, new_tree, old_tree, target_tree}
 use Rattle.reports.specs.declared.ask.DriveAsk.{DriveAsk}
 use Rattle.reports.specs.declared.graft.Graft.{Graft}
@@ -115,7 +115,7 @@ above_child t p c holds some = some_of (t p) (holds p (p ++ c ∷ []) (subst (λ
 pub in_old : (s : RepoState) (report : WholeReport) (q : PathValue) → is_some (old_tree s report q) ≡ true → is_some (client_tree s report q) ≡ true
 in_old s report q some = by (drive_scope s report q) some
   where
-    by : (b : Bool) → is_some (cond b (entries_of (client_tree s report) q) None) ≡ true → is_some (client_tree s report q) ≡ true
+    by : (b : Bool) → is_some (cond b (reported_entries (client_tree s report) q) None) ≡ true → is_some (client_tree s report q) ≡ true
     by true h = mapped (λ (h : ReportedEntry). h.entry) (client_tree s report q) h
     by false h = absurd (false≢true h)
 

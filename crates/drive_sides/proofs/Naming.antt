@@ -12,7 +12,7 @@ use Rattle.std.specs.declared.cmp.Ordering.TheVariants.{Less, Equal, Greater}
 use Rattle.svnpath.specs.Paths.{PathValue, Component, same_path, same_component}
 use Rattle.svnpath.specs.PathLaws.{same_path_is, same_component_is, same_component_refl, under_append, rest_append}
 use Rattle.drives.proofs.Joined.{or_left, or_right}
-use Rattle.repo_api.specs.Readings.{only, name_in, names_among, names_in}
+use Rattle.repo_api.specs.Readings.{sole, name_in, names_among, names_in}
 use Rattle.repo_api.specs.States.{TreeMap}
 use Rattle.drive_sides.specs.BoundLaws.{key_found}
 use Rattle.drive_sides.specs.Names.{is_name_among, graft_names, AreDistinct}
@@ -60,7 +60,7 @@ among_inserted (y ∷ names) x c = by (slice_cmp nat_cmp x y) refl (among_insert
 
 pub name_of_child : (p : PathValue) (c : Component) → name_in p (p ++ c ∷ []) ≡ Some c
 name_of_child p c =
-    ap (λ b. only (cond b (drop (length p) (p ++ c ∷ [])) [])) (under_append p (c ∷ [])) ∙ ap only (rest_append p (c ∷ []))
+    ap (λ b. sole (cond b (drop (length p) (p ++ c ∷ [])) [])) (under_append p (c ∷ [])) ∙ ap sole (rest_append p (c ∷ []))
 
 -- a path that is among others has its name among theirs
 pub among_names : (p : PathValue) (c : Component) (paths : List PathValue) → list_any (same_path (p ++ c ∷ [])) paths ≡ true → is_name_among (names_among p paths) c ≡ true

@@ -21,8 +21,8 @@ use Rattle.reporter.specs.Walks.{BothHold}
 use Rattle.reporter.specs.declared.visit.Visit.{Visit}
 use Rattle.reporter.specs.declared.visit.Visit.TheVariants.{Open}
 use Rattle.reports.proofs.Drives.{both_hold}
-use Rattle.reports.specs.Refusing.{OpenState, ◌>>=◌, unless, has_goal, has_anchor, finish_root}
-use Rattle.reports.specs.Reported.{ReportedEntry, entries_of}
+use Rattle.reports.specs.Refusing.{OpenState, ◌>>=◌, ok_if, has_goal, has_anchor, finish_root}
+use Rattle.reports.specs.Reported.{ReportedEntry, reported_entries}
 use Rattle.reports.specs.Reported as reported
 use Rattle.reports.specs.Targets.{WholeReport, client_tree, drive_scope, limit_of, target_tree, reported_tree, old_tree, new_tree, stale_in}
 use Rattle.reports.specs.declared.report.ReportRoot.{ReportRoot}
@@ -41,7 +41,7 @@ and_second false b h = absurd (false≢true h)
 pub anchored : (c : RepoState) (report : OpenState) (root : ReportRoot) → finish_root c report ≡ Ok root → has_anchor c report.ask report.grafts ≡ true
 anchored c report root h = by report.root (has_goal c report.ask report.ask.purpose) (has_anchor c report.ask report.grafts) h
   where
-    by : (o : Option ReportRoot) (a b : Bool) → (ok_or o refusals.MalformedData >>= (λ r. unless (a && b) refusals.NotFound >>= (λ _. Ok r))) ≡ Ok root → b ≡ true
+    by : (o : Option ReportRoot) (a b : Bool) → (ok_or o refusals.MalformedData >>= (λ r. ok_if (a && b) refusals.NotFound >>= (λ _. Ok r))) ≡ Ok root → b ≡ true
     by None a b h = cc
     by (Some r) true true h = refl
     by (Some r) true false h = cc
@@ -57,7 +57,7 @@ both_anchors c report root h top =
 -- the root stands on both sides where there is no target
 scope_root : (c : RepoState) (report : OpenState) (root : ReportRoot) → report.ask.target ≡ [] → drive_scope c (whole report root) [] ≡ true
 scope_root c report root is =
-    ap (λ (t : PathValue). scope_of (limit_of (client_tree c (whole report root)) root report.ask.depth) (entries_of (client_tree c (whole report root))) (target_tree c report.ask) t []) is
+    ap (λ (t : PathValue). scope_of (limit_of (client_tree c (whole report root)) root report.ask.depth) (reported_entries (client_tree c (whole report root))) (target_tree c report.ask) t []) is
 
 same_root : (target : PathValue) → target ≡ [] → same_path target [] ≡ true
 same_root target is = ap (λ t. same_path t []) is
@@ -68,7 +68,7 @@ of_entries (Some x) h = h
 
 pub root_old : (c : RepoState) (report : OpenState) (root : ReportRoot) → finish_root c report ≡ Ok root → report.ask.target ≡ [] → is_directory_there (old_tree c (whole report root) []) ≡ true
 root_old c report root done is =
-    ap (λ b. is_directory_there (cond b (entries_of (client_tree c (whole report root)) []) None)) (scope_root c report root is)
+    ap (λ b. is_directory_there (cond b (reported_entries (client_tree c (whole report root)) []) None)) (scope_root c report root is)
     ∙ of_entries (client_tree c (whole report root) []) (and_second (is_directory_there (trees_in c.revisions report.ask.revision report.ask.goal)) (reported.has_directory (reported_tree c report.ask report.grafts [])) (both_anchors c report root done (same_root report.ask.target is)))
 
 pub root_new : (c : RepoState) (report : OpenState) (root : ReportRoot) → finish_root c report ≡ Ok root → report.ask.target ≡ [] → is_directory_there (new_tree c (whole report root) []) ≡ true

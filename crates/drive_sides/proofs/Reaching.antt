@@ -8,7 +8,7 @@ use Rattle.drives.specs.Scopes.{DepthLimit, stays_in_scope, lets_in, depth_said,
 use Rattle.drives.specs.Scopes.DepthLimit.{Given}
 use Rattle.drives.specs.declared.depth.Depth.TheVariants.{Infinity}
 use Rattle.repo_api.specs.States.{RepoState}
-use Rattle.reports.specs.Reported.{entries_of}
+use Rattle.reports.specs.Reported.{reported_entries}
 use Rattle.reports.specs.Targets.{WholeReport, client_tree, drive_scope, limit_of, target_tree}
 use Rattle.reports.specs.declared.ask.DepthAsked.TheVariants as asks
 
@@ -73,5 +73,5 @@ ends limit old new top q here depth names i up far le =
 
 pub whole_scope : (c : RepoState) (report : WholeReport) (q : PathValue) → report.ask.depth ≡ asks.Given Infinity → is_at_or_under q report.ask.target ≡ true → true ≡ drive_scope c report q
 whole_scope c report q is up =
-    sym (ap (λ d. scope_of (limit_of (client_tree c report) report.root d) (entries_of (client_tree c report)) (target_tree c report.ask) report.ask.target q) is
-    ∙ all_in_scope (entries_of (client_tree c report)) (target_tree c report.ask) report.ask.target q up)
+    sym (ap (λ d. scope_of (limit_of (client_tree c report) report.root d) (reported_entries (client_tree c report)) (target_tree c report.ask) report.ask.target q) is
+    ∙ all_in_scope (reported_entries (client_tree c report)) (target_tree c report.ask) report.ask.target q up)

@@ -17,7 +17,7 @@ use Rattle.drives.specs.declared.depth.Depth.TheVariants.{Infinity}
 use Rattle.reporter.specs.Walks.{AreAlike}
 use Rattle.reports.proofs.Whole.{in_whole}
 use Rattle.reports.specs.Places.{in_place, is_grafted_over, reported_subtree}
-use Rattle.reports.specs.Reported.{ReportedEntry, entries_of, left_by, reported_as}
+use Rattle.reports.specs.Reported.{ReportedEntry, reported_entries, left_by, reported_as}
 use Rattle.reports.specs.Targets.{WholeReport, client_tree, drive_scope, goal_path, is_stale, is_stale_token, new_tree, old_tree, stale_in, target_tree}
 use Rattle.reports.specs.declared.ask.DriveAsk.{DriveAsk}
 use Rattle.reports.specs.declared.graft.Graft.{Graft}
@@ -57,7 +57,7 @@ pub alike : (s : RepoState) (report : WholeReport) (p : PathValue) (place : Repo
 alike s report p place beneath none full deep equal up fresh q under =
     subst (λ x. (old_tree s report x ≡ new_tree s report x) × (stale_in s report x ≡ false)) (sym (under_is q p under)) (same (drop (length p) q), no_stale (drop (length p) q))
   where
-    entry : (rest : List Component) → entries_of (client_tree s report) (p ++ rest) ≡ target_tree s report.ask (p ++ rest)
+    entry : (rest : List Component) → reported_entries (client_tree s report) (p ++ rest) ≡ target_tree s report.ask (p ++ rest)
     entry rest =
         ap (option_map (λ (h : ReportedEntry). h.entry)) (beneath rest (none_over report.grafts p (p ++ rest) none))
         ∙ in_whole (trees_in s.revisions) place.path (reported_subtree place.revision place.starts_empty place.depth (option_copied place.token)) rest full deep

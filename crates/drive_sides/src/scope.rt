@@ -5,7 +5,7 @@ ghost use Rattle.repo_api.specs.Kinds.{kind_of};
 ghost use Rattle.repo_api.specs.declared.entry.Entry.{Entry};
 ghost use Rattle.drives.specs.Scopes.{brings_in, keeps_old, lets_in, depth_said, said_or, top_limit};
 ghost use Rattle.drives.specs.declared.depth.Depth.TheVariants.{Infinity};
-ghost use Rattle.reports.specs.Reported.{entries_of};
+ghost use Rattle.reports.specs.Reported.{reported_entries};
 ghost use Rattle.reports.specs.Targets.{client_tree, drive_scope, limit_of, reported_depth, target_tree};
 ghost use Rattle.reports.specs.declared.ask.DepthAsked.TheVariants.{Given};
 ghost use Rattle.drive_sides.specs.Plans.{whole};
@@ -25,8 +25,7 @@ fn brings_in(depth: Depth, old: NodeKind, new: NodeKind) -> bool
     match depth {
         Depth::Empty => false,
         Depth::Files => old == NodeKind::File || new == NodeKind::File,
-        Depth::Immediates => true,
-        Depth::Infinity => true,
+        Depth::Immediates | Depth::Infinity => true,
     }
 }
 
@@ -123,7 +122,7 @@ impl<'a, R: Repository> TwoTrees<'a, R> {
     fn lets_in(&self, alloc: Global, depth: Depth, child: &Path) -> Result<bool, AllocError>
         ensures { IfOk result (λ answer. answer ≡ lets_in (limit_of (client_tree
             (R.content self.now.view.now) (whole self.now.report.now self.now.root)) self.now.root
-            self.now.report.now.ask.depth) (entries_of (client_tree
+            self.now.report.now.ask.depth) (reported_entries (client_tree
             (R.content self.now.view.now) (whole self.now.report.now self.now.root)))
             (target_tree (R.content self.now.view.now) self.now.report.now.ask) depth child.now) }
     {

@@ -4,7 +4,7 @@ ghost use Rattle.svnpath.specs.Paths.{Component, is_at_or_under};
 ghost use Rattle.repo_api.specs.Kinds.{kind_of};
 ghost use Rattle.repo_api.specs.States.{trees_in};
 ghost use Rattle.reports.specs.Places.{in_place, is_grafted_over};
-ghost use Rattle.reports.specs.Reported.{entries_of};
+ghost use Rattle.reports.specs.Reported.{reported_entries};
 ghost use Rattle.reports.specs.Targets.{client_tree, goal_path, target_tree};
 ghost use Rattle.drive_sides.specs.Plans.{whole};
 
@@ -47,7 +47,7 @@ impl<'a, R: Repository> TwoTrees<'a, R> {
 
     /// The kind of what the client has at a path.
     pub(crate) fn client_kind(&self, alloc: Global, path: &Path) -> Result<NodeKind, AllocError>
-        ensures { IfOk result (λ kind. kind ≡ kind_of (entries_of (client_tree
+        ensures { IfOk result (λ kind. kind ≡ kind_of (reported_entries (client_tree
             (R.content self.now.view.now) (whole self.now.report.now self.now.root)) path.now)) }
     {
         match self.client_place(alloc, path)? {

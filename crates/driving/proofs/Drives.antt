@@ -22,7 +22,7 @@ use Rattle.reporter.specs.Own.{Change, property_steps, text_steps}
 use Rattle.reporter.specs.Visits.{entry_kind, plan_steps, visit_steps}
 use Rattle.reporter.specs.declared.visit.Visit.{Visit}
 use Rattle.reporter.specs.declared.visit.Visit.TheVariants.{Open, Add, Delete, Close}
-use Rattle.reports.specs.Reported.{entries_of}
+use Rattle.reports.specs.Reported.{reported_entries}
 use Rattle.reports.specs.Targets.{WholeReport, client_tree, target_tree, limit_of, drive_scope, is_stale, old_tree, new_tree, stale_in}
 use Rattle.drive_commands.specs.EntryProperties.{entry_property, told_by, told}
 use Rattle.drive_commands.specs.Saying.{Says}
@@ -293,6 +293,6 @@ module _ (c : RepoState) (report : WholeReport) where
 
       right : LeadsToTarget c report (Steps (from_top report.ask vs))
       right =
-          in_scope (seen_by report.ask.purpose) (limit_of (client_tree c report) report.root report.ask.depth) (entries_of (client_tree c report)) (target_tree c report.ask) report.ask.target (stale_in c report)
-          (entries_of (client_tree c report)) (target_tree c report.ask) (Steps (from_top report.ask vs))
+          in_scope (seen_by report.ask.purpose) (limit_of (client_tree c report) report.root report.ask.depth) (reported_entries (client_tree c report)) (target_tree c report.ask) report.ask.target (stale_in c report)
+          (reported_entries (client_tree c report)) (target_tree c report.ask) (Steps (from_top report.ask vs))
           (λ w s. and_front (drive_scope c report w) (is_stale c report w) s) plan.right

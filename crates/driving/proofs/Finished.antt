@@ -13,8 +13,8 @@ use Rattle.drives.specs.Scopes.{stays_in_scope, top_limit}
 use Rattle.drives.specs.Steps.EntryKind.{DirectoryKind}
 use Rattle.drives.proofs.Joined.{and_front}
 use Rattle.reporter.specs.Visits.{entry_kind, kind_if}
-use Rattle.reports.specs.Refusing.{◌>>=◌, unless, OpenState, has_goal, has_anchor, finish_root}
-use Rattle.reports.specs.Reported.{entries_of, has_directory}
+use Rattle.reports.specs.Refusing.{◌>>=◌, ok_if, OpenState, has_goal, has_anchor, finish_root}
+use Rattle.reports.specs.Reported.{reported_entries, has_directory}
 use Rattle.reports.specs.Targets.{WholeReport, client_tree, reported_tree, target_tree, limit_of, new_tree}
 use Rattle.reports.specs.declared.report.ReportRoot.{ReportRoot}
 use Rattle.drive_sides.specs.Plans.{whole}
@@ -25,7 +25,7 @@ use Rattle.driving.specs.Commands.{drive_of}
 use Rattle.driving.specs.Sending.{IsSendable}
 use Rattle.driving.proofs.Drives.{RootStands, is_drive}
 
-judged : (o : Option ReportRoot) (b : Bool) (root : ReportRoot) → ((ok_or o refusals.MalformedData) >>= (λ r. (unless b refusals.NotFound) >>= (λ _. Ok r))) ≡ Ok root → b ≡ true
+judged : (o : Option ReportRoot) (b : Bool) (root : ReportRoot) → ((ok_or o refusals.MalformedData) >>= (λ r. (ok_if b refusals.NotFound) >>= (λ _. Ok r))) ≡ Ok root → b ≡ true
 judged None b root e = absurd (err_is_ok e)
   where
     is_ok : Result ReportRoot Refusal → Bool
@@ -59,7 +59,7 @@ module _ (c : RepoState) (report : OpenState) (root : ReportRoot) where
   -- what is to stand at the root, by the target
   abbrev root_entry : PathValue → Option Entry
   root_entry top =
-      if is_at_or_under [] top && stays_in_scope (limit_of (client_tree c Whole) root report.ask.depth) (entries_of (client_tree c Whole)) (target_tree c report.ask) top (top_limit (limit_of (client_tree c Whole) root report.ask.depth) top) (drop (length top) [])
+      if is_at_or_under [] top && stays_in_scope (limit_of (client_tree c Whole) root report.ask.depth) (reported_entries (client_tree c Whole)) (target_tree c report.ask) top (top_limit (limit_of (client_tree c Whole) root report.ask.depth) top) (drop (length top) [])
       then (if is_at_or_under [] top then trees_in c.revisions report.ask.revision (report.ask.goal ++ drop (length top) []) else None)
       else None
 

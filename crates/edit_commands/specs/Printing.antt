@@ -1,20 +1,12 @@
 -- The items that commands of an edit are sent as.
 use Rattle.std.specs.Prelude.{ℕ, List, Option, Some, None, codes}
-use Rattle.items.specs.Values.{ItemValue, word, number, string, list, ItemValues, none, more}
+use Rattle.items.specs.Values.{ItemValue, word, number, string, list, ItemValues, none, more, only, both}
 use Rattle.edit_commands.specs.declared.editing.AbsentEntry.{AbsentEntry}
 use Rattle.edit_commands.specs.declared.editing.AddedEntry.{AddedEntry}
 use Rattle.edit_commands.specs.declared.editing.EditorCommand.{EditorCommand}
 use Rattle.edit_commands.specs.declared.editing.EditorCommand.TheVariants.{TargetRevision, OpenRoot, DeleteEntry, AddDirectory, AddFile, OpenDirectory, OpenFile, AbsentDirectory, AbsentFile, ChangeDirectoryProperty, ChangeFileProperty, ApplyTextDelta, TextDeltaChunk, TextDeltaEnd, CloseDirectory, CloseFile, CloseEdit, AbortEdit}
 use Rattle.edit_commands.specs.declared.editing.OpenedEntry.{OpenedEntry}
 use Rattle.edit_commands.specs.declared.editing.PropertyChange.{PropertyChange}
-
--- one item
-abbrev pub only : ItemValue → ItemValues
-only item = more item none
-
--- two items
-abbrev pub both : ItemValue → ItemValue → ItemValues
-both first second = more first (only second)
 
 -- `[ rev ]`
 abbrev pub revision_item : Option ℕ → ItemValue

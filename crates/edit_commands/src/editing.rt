@@ -1,8 +1,10 @@
 //! The commands of an edit.
-ghost use Rattle.std.specs.Prelude.{◌≡◌};
+ghost use Rattle.std.specs.Prelude.{◌≡◌, option_copied};
+ghost use Rattle.std.specs.List.{find};
 ghost use Rattle.items.specs.View.{value_of, values_of};
 ghost use Rattle.forms.specs.Answering.{Answers, Reads};
-ghost use Rattle.edit_commands.specs.Editing.{editor_command, command_name, command_with, target_revision, open_root, ends_edit, is_last};
+ghost use Rattle.forms.specs.Forms.{is_name};
+ghost use Rattle.edit_commands.specs.Editing.{editor_command, editor_command_name, editor_command_with, editor_name_text, target_revision, open_root, ends_edit, is_last};
 
 use crate::places::{read_absent, read_added, read_deleted, read_opened};
 use crate::texts::{read_chunk, read_property, read_token_alone, read_with_checksum};
@@ -106,7 +108,7 @@ impl EditorCommand {
         ensures { Answers result (editor_command (value_of item.now)) }
     {
         let (name, params) = read_form(item).ok_or(BadParameters)?;
-        let name = command_name(name).ok_or(UnknownName)?;
+        let name = editor_command_name(name).ok_or(UnknownName)?;
         read_command(name, params)
     }
 }
@@ -134,54 +136,79 @@ pub enum CommandName {
     AbortEdit,
 }
 
+/// The names of all commands.
+const COMMAND_NAMES: [CommandName; 18] = [
+    CommandName::TargetRevision,
+    CommandName::OpenRoot,
+    CommandName::DeleteEntry,
+    CommandName::AddDirectory,
+    CommandName::OpenDirectory,
+    CommandName::ChangeDirectoryProperty,
+    CommandName::CloseDirectory,
+    CommandName::AbsentDirectory,
+    CommandName::AddFile,
+    CommandName::OpenFile,
+    CommandName::ChangeFileProperty,
+    CommandName::ApplyTextDelta,
+    CommandName::TextDeltaChunk,
+    CommandName::TextDeltaEnd,
+    CommandName::CloseFile,
+    CommandName::AbsentFile,
+    CommandName::CloseEdit,
+    CommandName::AbortEdit,
+];
+
 /// The command of an edit that has this name.
-fn command_name(name: &[u8]) -> Option<CommandName>
-    ensures { result ≡ command_name name.now }
+fn editor_command_name(name: &[u8]) -> Option<CommandName>
+    ensures { result ≡ editor_command_name name.now }
 {
-    if name == b"target-rev".as_slice() {
-        Some(CommandName::TargetRevision)
-    } else if name == b"open-root".as_slice() {
-        Some(CommandName::OpenRoot)
-    } else if name == b"delete-entry".as_slice() {
-        Some(CommandName::DeleteEntry)
-    } else if name == b"add-dir".as_slice() {
-        Some(CommandName::AddDirectory)
-    } else if name == b"open-dir".as_slice() {
-        Some(CommandName::OpenDirectory)
-    } else if name == b"change-dir-prop".as_slice() {
-        Some(CommandName::ChangeDirectoryProperty)
-    } else if name == b"close-dir".as_slice() {
-        Some(CommandName::CloseDirectory)
-    } else if name == b"absent-dir".as_slice() {
-        Some(CommandName::AbsentDirectory)
-    } else if name == b"add-file".as_slice() {
-        Some(CommandName::AddFile)
-    } else if name == b"open-file".as_slice() {
-        Some(CommandName::OpenFile)
-    } else if name == b"change-file-prop".as_slice() {
-        Some(CommandName::ChangeFileProperty)
-    } else if name == b"apply-textdelta".as_slice() {
-        Some(CommandName::ApplyTextDelta)
-    } else if name == b"textdelta-chunk".as_slice() {
-        Some(CommandName::TextDeltaChunk)
-    } else if name == b"textdelta-end".as_slice() {
-        Some(CommandName::TextDeltaEnd)
-    } else if name == b"close-file".as_slice() {
-        Some(CommandName::CloseFile)
-    } else if name == b"absent-file".as_slice() {
-        Some(CommandName::AbsentFile)
-    } else if name == b"close-edit".as_slice() {
-        Some(CommandName::CloseEdit)
-    } else if name == b"abort-edit".as_slice() {
-        Some(CommandName::AbortEdit)
-    } else {
-        None
+    first_named(&COMMAND_NAMES, name).copied()
+}
+
+/// The first of these that has this name.
+fn first_named<'a>(names: &'a [CommandName], name: &[u8]) -> Option<&'a CommandName>
+    ensures { option_copied result
+        ≡ find (λ known. is_name name.now (editor_name_text known)) names.now }
+{
+    names.iter().find(|known| has_name(name, **known))
+}
+
+/// Whether the command has this name.
+fn has_name(name: &[u8], known: CommandName) -> bool
+    ensures { result ≡ is_name name.now (editor_name_text known) }
+{
+    name == editor_name_text(known)
+}
+
+/// The name of a command, as it is sent.
+fn editor_name_text(known: CommandName) -> &'static [u8]
+    ensures { result.now ≡ editor_name_text known }
+{
+    match known {
+        CommandName::TargetRevision => b"target-rev",
+        CommandName::OpenRoot => b"open-root",
+        CommandName::DeleteEntry => b"delete-entry",
+        CommandName::AddDirectory => b"add-dir",
+        CommandName::OpenDirectory => b"open-dir",
+        CommandName::ChangeDirectoryProperty => b"change-dir-prop",
+        CommandName::CloseDirectory => b"close-dir",
+        CommandName::AbsentDirectory => b"absent-dir",
+        CommandName::AddFile => b"add-file",
+        CommandName::OpenFile => b"open-file",
+        CommandName::ChangeFileProperty => b"change-file-prop",
+        CommandName::ApplyTextDelta => b"apply-textdelta",
+        CommandName::TextDeltaChunk => b"textdelta-chunk",
+        CommandName::TextDeltaEnd => b"textdelta-end",
+        CommandName::CloseFile => b"close-file",
+        CommandName::AbsentFile => b"absent-file",
+        CommandName::CloseEdit => b"close-edit",
+        CommandName::AbortEdit => b"abort-edit",
     }
 }
 
 /// The command of a name that is known.
 fn read_command(name: CommandName, params: &[Item]) -> Result<EditorCommand, CommandFault>
-    ensures { Reads result (command_with name (values_of params.now)) }
+    ensures { Reads result (editor_command_with name (values_of params.now)) }
 {
     match name {
         CommandName::TargetRevision => read_target_revision(params),

@@ -1,10 +1,10 @@
 //! The items that commands of an edit are sent as.
 ghost use Rattle.std.specs.Prelude.{◌≡◌, IfOk};
-ghost use Rattle.items.specs.Values.{word, string, list};
+ghost use Rattle.items.specs.Values.{word, string, list, only};
 ghost use Rattle.items.specs.View.{value_of, values_of};
 ghost use Rattle.items.specs.Word.{IsWord};
 ghost use Rattle.edit_commands.specs.declared.editing.EditorCommand.TheVariants.{DeleteEntry, OpenRoot, TextDeltaChunk};
-ghost use Rattle.edit_commands.specs.Printing.{command, command_item, absent_items, added_items, checksum_items, only, opened_items, property_items, revision_item, source_item, string_item};
+ghost use Rattle.edit_commands.specs.Printing.{command, command_item, absent_items, added_items, checksum_items, opened_items, property_items, revision_item, source_item, string_item};
 
 use crate::editing::{
     AbsentEntry, AddedEntry, DeletedEntry, EditorCommand, OpenedEntry, PropertyChange,

@@ -11,7 +11,7 @@ use Rattle.repo_api.specs.declared.entry.NodeKind.TheVariants as kinds
 use Rattle.repo_api.specs.declared.edit.EditOp.{EditOp}
 use Rattle.repo_api.specs.declared.edit.EditOp.TheVariants as edits
 use Rattle.svndiff0.specs.Applying.{Applying, fed}
-use Rattle.svndiff0.specs.Document.{read, outcome}
+use Rattle.svndiff0.specs.Document.{read_document, outcome}
 use Rattle.edit_commands.specs.declared.editing.EditorCommand.{EditorCommand}
 use Rattle.edit_commands.specs.declared.editing.EditorCommand.TheVariants.{TargetRevision, OpenRoot, DeleteEntry, AddDirectory, AddFile, OpenDirectory, OpenFile, AbsentDirectory, AbsentFile, ChangeDirectoryProperty, ChangeFileProperty, ApplyTextDelta, TextDeltaChunk, TextDeltaEnd, CloseDirectory, CloseFile, CloseEdit, AbortEdit}
 use Rattle.edit_commands.specs.declared.editing.AddedEntry.{AddedEntry}
@@ -109,7 +109,7 @@ ChangesProperty c old change new =
 
 -- a document that nothing has come of, over a base
 abbrev pub unread : List ℕ → Applying
-unread base = record { base = base; reading = read base [] }
+unread base = record { base = base; reading = read_document base [] }
 
 -- the delta is over the file's text as it stands
 abbrev pub BeginsDelta : EditState → List ℕ → EditState → Type 0

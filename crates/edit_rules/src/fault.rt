@@ -44,11 +44,7 @@ impl From<PathFault> for EditFault {
     fn from(fault: PathFault) -> Self {
         match fault {
             PathFault::NoMemory => EditFault::NoMemory,
-            PathFault::EmptyComponent
-            | PathFault::ForbiddenComponent
-            | PathFault::TooLong
-            | PathFault::TooDeep
-            | PathFault::NotThisRepository => EditFault::Refused(path_refusal(fault)),
+            _ => EditFault::Refused(path_refusal(fault)),
         }
     }
 }

@@ -23,10 +23,7 @@ pub fn directory_under<'a>(
 ) -> Option<&'a Path>
     ensures { option_copied result ≡ directory_of tokens.now.entries token.now }
 {
-    match tokens.get(token) {
-        None => None,
-        Some(opened) => opened.directory(),
-    }
+    tokens.get(token)?.directory()
 }
 
 /// Whether the directory that is open under the token was added with a copy, or opened beneath such a one.

@@ -2,7 +2,7 @@
 use Rattle.std.proofs.Common.{◌≡◌, ℕ, List, [], Option, Some, None, Ok, ap, subst, ◌∙◌}
 use Rattle.svnpath.specs.Paths.{PathValue}
 use Rattle.svndiff0.specs.Applying.{Applying}
-use Rattle.svndiff0.specs.Document.{read, outcome}
+use Rattle.svndiff0.specs.Document.{read_document, outcome}
 use Rattle.repo_api.specs.States.{RepoState, TxnState}
 use Rattle.repo_api.specs.declared.edit.EditOp.{EditOp}
 use Rattle.repo_api.specs.declared.edit.EditOp.TheVariants as edits
@@ -20,9 +20,9 @@ pub under : (txn : Option TxnState) (tokens : Tokens) (token : List ℕ) (o : Op
 under None tokens token o is = cc
 under (Some t) tokens token o is = is
 
-pub is_unread : (a : Applying) (text : List ℕ) → a.base ≡ text → a.reading ≡ read a.base [] → a ≡ unread text
+pub is_unread : (a : Applying) (text : List ℕ) → a.base ≡ text → a.reading ≡ read_document a.base [] → a ≡ unread text
 is_unread a text is_base is_read =
-    let is_reading : a.reading ≡ read text [] = is_read ∙ ap (λ (b : List ℕ). read b []) is_base in
+    let is_reading : a.reading ≡ read_document text [] = is_read ∙ ap (λ (b : List ℕ). read_document b []) is_base in
     λ i. record { base = is_base i; reading = is_reading i }
 
 pub begins : (now old : EditState) (token : List ℕ) (p : PathValue) (a : Applying) (tokens : Tokens) → now ≡ old → open_under old token ≡ Some (File p NotBegun)

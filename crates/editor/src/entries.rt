@@ -67,8 +67,7 @@ fn copy_edit(kind: NodeKind, path: &Path, source: &Source) -> Result<EditOp, All
     let from = source_of(source)?;
     Ok(match kind {
         NodeKind::Absent => EditOp::Copy(from, to),
-        NodeKind::File => EditOp::Replace(from, to),
-        NodeKind::Directory => EditOp::Replace(from, to),
+        NodeKind::File | NodeKind::Directory => EditOp::Replace(from, to),
     })
 }
 
@@ -215,9 +214,8 @@ impl<R: Repository> CommitEditor<R> {
     /// Nothing may stand where something new is added.
     fn judge_new(&self, entry: &AddedEntry, path: &Path, repository: &R) -> Result<(), EditFault>
         requires { RestsOn self.now (R.content repository.now) }
-        ensures { Judges result (first
-            (place_refusal self.now entry.now.parent entry.now.token path.now)
-            (add_refusal (standing self.now.txn path.now))) }
+        ensures { Judges result (first (place_refusal self.now entry.now.parent entry.now.token
+            path.now) (add_refusal (standing self.now.txn path.now))) }
     {
         self.judge_place(&entry.parent, &entry.token, path)?;
         judge_absence(self.standing(path, repository))?;

@@ -23,8 +23,7 @@ fn is_same_value(old: Option<&ByteString>, new: Option<&ByteString>) -> bool
 {
     match (old, new) {
         (None, None) => true,
-        (None, Some(_)) => false,
-        (Some(_), None) => false,
+        (None, Some(_)) | (Some(_), None) => false,
         (Some(old), Some(new)) => old == new,
     }
 }

@@ -20,8 +20,7 @@ pub(crate) fn are_same_texts(old: Option<&FileText>, new: Option<&FileText>) -> 
 {
     match (old, new) {
         (None, None) => true,
-        (None, Some(_)) => false,
-        (Some(_), None) => false,
+        (None, Some(_)) | (Some(_), None) => false,
         (Some(old), Some(new)) => is_same_text(old, new),
     }
 }

@@ -19,7 +19,7 @@ use Rattle.std.specs.declared.cmp.Ordering.TheVariants.{Less, Equal, Greater}
 use Rattle.std.specs.declared.ops.Bound.TheVariants.{Included, Unbounded}
 use Rattle.svnpath.specs.Paths.{PathValue, Component, same_component, is_at_or_under, path_cmp, path_cmp_total}
 use Rattle.svnpath.specs.PathLaws.{under_is}
-use Rattle.repo_api.specs.Readings.{only, rest_beneath, name_in, names_among}
+use Rattle.repo_api.specs.Readings.{sole, rest_beneath, name_in, names_among}
 use Rattle.flat_parts.specs.Beneath.{paths_from, from_child, parted, first_beneath, next_name}
 
 -- ---- names
@@ -97,7 +97,7 @@ parted_none : {A : Type 0} (xs : List A) → parted xs ≡ None → xs ≡ []
 parted_none [] h = refl
 parted_none (x ∷ xs) h = absurd (false≢true (sym (ap is_some h)))
 
-only_is : {A : Type 0} (xs : List A) (x : A) → only xs ≡ Some x → xs ≡ x ∷ []
+only_is : {A : Type 0} (xs : List A) (x : A) → sole xs ≡ Some x → xs ≡ x ∷ []
 only_is [] x h = absurd (false≢true (ap is_some h))
 only_is (y ∷ []) x h = λ i. unwrap_or (h i) x ∷ []
 only_is (y ∷ z ∷ zs) x h = absurd (false≢true (ap is_some h))
@@ -114,7 +114,7 @@ name_is : (p m : PathValue) (d : Component) → name_in p m ≡ Some d → m ≡
 name_is p m d h = rest_is p m d [] (only_is (rest_beneath p m) d h)
 
 outside : (p m : PathValue) → is_at_or_under m p ≡ false → name_in p m ≡ None
-outside p m out = ap (λ b. only (if b then drop (length p) m else [])) out
+outside p m out = ap (λ b. sole (if b then drop (length p) m else [])) out
 
 -- ---- where the first path from a child on lies
 
@@ -231,7 +231,7 @@ beneath_none p b ks sorted none = by (from_child p b ks) refl none
 
 abbrev IsStep : PathValue → Component → Component → List Component → List PathValue → Type 0
 IsStep p b c r ks =
-    (names_among p (from_child p b ks) ≡ cons_option (only (c ∷ r)) (names_among p (from_child p (next_name c) ks)))
+    (names_among p (from_child p b ks) ≡ cons_option (sole (c ∷ r)) (names_among p (from_child p (next_name c) ks)))
     × (length (from_child p (next_name c) ks) < length (from_child p b ks))
 
 -- or there is one, and those behind it are found from the next child on
@@ -243,7 +243,7 @@ beneath_some p b c r ks sorted some = by (from_child p b ks) refl some
     g = at_or_behind (p ++ next_name c ∷ [])
 
     step : (q : PathValue) (rest : List PathValue) → from_child p b ks ≡ q ∷ rest → rest_beneath p q ≡ c ∷ r
-        → (names_among p (q ∷ rest) ≡ cons_option (only (c ∷ r)) (names_among p (from_child p (next_name c) ks))) × (length (from_child p (next_name c) ks) < length (q ∷ rest))
+        → (names_among p (q ∷ rest) ≡ cons_option (sole (c ∷ r)) (names_among p (from_child p (next_name c) ks))) × (length (from_child p (next_name c) ks) < length (q ∷ rest))
     step q rest is beneath =
         let at : q ≡ p ++ c ∷ r = rest_is p q c r beneath in
         let le = first_from (p ++ b ∷ []) q ks rest is in
@@ -258,12 +258,12 @@ beneath_some p b c r ks sorted some = by (from_child p b ks) refl some
         ∙ ap (names_among p) (sym later) in
         let shorter : length (filter g rest) ≤ length rest = length_kept g rest in
         let same : length (from_child p (next_name c) ks) ≡ length (filter g rest) = ap length later in (
-          (λ i. cons_option (only (beneath i)) (named i)),
+          (λ i. cons_option (sole (beneath i)) (named i)),
           omega arith,
         )
 
     by : (L : List PathValue) → from_child p b ks ≡ L → first_beneath p L ≡ Some (c, r)
-        → (names_among p L ≡ cons_option (only (c ∷ r)) (names_among p (from_child p (next_name c) ks))) × (length (from_child p (next_name c) ks) < length L)
+        → (names_among p L ≡ cons_option (sole (c ∷ r)) (names_among p (from_child p (next_name c) ks))) × (length (from_child p (next_name c) ks) < length L)
     by [] is h = absurd (false≢true (ap is_some h))
     by (q ∷ rest) is h = step q rest is (parted_is (rest_beneath p q) r c h)
 
@@ -282,7 +282,7 @@ names_push d items x p b r ks all sorted some empty so =
     let more = names_among p (from_child p (next_name (d x)) ks) in
     ap (λ xs. xs ++ more) (map_push d items x)
     ∙ append_assoc (map d items) (d x ∷ []) more
-    ∙ ap (λ xs. map d items ++ xs) (sym ((beneath_some p b (d x) r ks sorted some).0 ∙ ap (λ s. cons_option (only (d x ∷ s)) more) (nothing_left r empty)))
+    ∙ ap (λ xs. map d items ++ xs) (sym ((beneath_some p b (d x) r ks sorted some).0 ∙ ap (λ s. cons_option (sole (d x ∷ s)) more) (nothing_left r empty)))
     ∙ so
 
 -- and passed over where something does
@@ -292,7 +292,7 @@ pub names_skip : (found : List Component) (p : PathValue) (b c : Component) (r :
 names_skip found p b c r ks all sorted some deeper so =
     ap (λ xs. found ++ xs) (sym ((beneath_some p b c r ks sorted some).0 ∙ by r (something_left r deeper))) ∙ so
   where
-    by : (s : List Component) → (s ≡ [] → ⊥) → cons_option (only (c ∷ s)) (names_among p (from_child p (next_name c) ks)) ≡ names_among p (from_child p (next_name c) ks)
+    by : (s : List Component) → (s ≡ [] → ⊥) → cons_option (sole (c ∷ s)) (names_among p (from_child p (next_name c) ks)) ≡ names_among p (from_child p (next_name c) ks)
     by [] h = absurd (h refl)
     by (x ∷ s) h = refl
 

@@ -96,9 +96,8 @@ impl FlatChanges {
 
     /// Notes that a property was changed at the path.
     pub fn note_property(&mut self, path: &Path) -> Result<(), AllocError>
-        ensures ok { OnOk result ((q : PathValue)
-            → get self.new q ≡ noted (changes_of self.old) path.now
-            (after_property (get self.old path.now)) q) }
+        ensures ok { OnOk result ((q : PathValue) → get self.new q
+            ≡ noted (changes_of self.old) path.now (after_property (get self.old path.now)) q) }
         ensures err { OnErr result (self.new ≡ self.old) }
     {
         make_modified(&mut self.changes, path)?;
@@ -108,9 +107,8 @@ impl FlatChanges {
 
     /// Notes that the text was changed at the path.
     pub fn note_text(&mut self, path: &Path) -> Result<(), AllocError>
-        ensures ok { OnOk result ((q : PathValue)
-            → get self.new q ≡ noted (changes_of self.old) path.now
-            (after_text (get self.old path.now)) q) }
+        ensures ok { OnOk result ((q : PathValue) → get self.new q
+            ≡ noted (changes_of self.old) path.now (after_text (get self.old path.now)) q) }
         ensures err { OnErr result (self.new ≡ self.old) }
     {
         make_modified(&mut self.changes, path)?;

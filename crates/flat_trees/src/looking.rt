@@ -54,22 +54,16 @@ pub fn names<'a>(
 pub fn properties(entry: Option<&Entry>) -> Option<&Properties>
     ensures { option_copied result ≡ node_properties (option_copied entry.entry) }
 {
-    match entry {
-        None => None,
-        Some(entry) => Some(&entry.properties),
-    }
+    Some(&entry?.properties)
 }
 
 /// The revision that last changed the entry, at or under its path.
 pub fn created(entry: Option<&Entry>) -> Option<u64>
     ensures { result ≡ created_of (option_copied entry.entry) }
 {
-    match entry {
-        None => None,
-        Some(entry) => match entry.last {
-            Mark::Open => None,
-            Mark::Made(revision, _) => Some(revision as u64),
-        },
+    match entry?.last {
+        Mark::Open => None,
+        Mark::Made(revision, _) => Some(revision as u64),
     }
 }
 
@@ -77,12 +71,9 @@ pub fn created(entry: Option<&Entry>) -> Option<u64>
 pub fn text(entry: Option<&Entry>) -> Option<&FileText>
     ensures { option_copied result ≡ text_of (option_copied entry.entry) }
 {
-    match entry {
-        None => None,
-        Some(entry) => match &entry.content {
-            Content::Directory => None,
-            Content::File(text) => Some(text),
-        },
+    match &entry?.content {
+        Content::Directory => None,
+        Content::File(text) => Some(text),
     }
 }
 

@@ -108,8 +108,7 @@ pub fn read_numbers(alloc: Global, items: &[Item]) -> Result<Numbers, CommandFau
 {
     let mut numbers = Numbers::new(alloc);
     for item in items {
-        let number = number_in(item).ok_or(CommandFault::BadParameters)?;
-        numbers.push(number)?;
+        numbers.push(number_in(item).ok_or(CommandFault::BadParameters)?)?;
     }
     Ok(numbers)
 }

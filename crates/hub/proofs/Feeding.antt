@@ -8,7 +8,7 @@ use Rattle.replies.proofs.Parts.{part_first}
 use Rattle.access.specs.Points.{Point, AccessRules, content_of}
 use Rattle.machine.specs.Settings.{Settings}
 use Rattle.machine.specs.Hearing.{HasNoMore}
-use Rattle.machine.specs.Stages.{SessionState, RestsOn, is_open}
+use Rattle.machine.specs.Stages.{SessionState, StandsOn, is_open}
 use Rattle.machine.specs.Steps.{FeedWritten, FeedLost}
 use Rattle.machine.specs.declared.env.Env.{Env}
 use Rattle.hub.specs.State.{HubState, AllOpen, HasTrees, Finds, hub_at, session_of, updated, without, kept}
@@ -47,7 +47,7 @@ is_entry h old n i entry view lives finds at =
     let found : session_of h.sessions n ≡ Some entry.1 = f.is ∙ ap (λ (x : ℕ × SessionState). Some x.1) (sym e) in
     record { number = ap (λ (x : ℕ × SessionState). x.0) e; found = found; lives = AllOpen-at h.sessions n entry.1 lives found }
 
-pub entry_rests : (h : HubState) (n : ℕ) (entry : ℕ × SessionState) → HasTrees h → IsEntry h.sessions n entry → RestsOn entry.1.phase h.content
+pub entry_rests : (h : HubState) (n : ℕ) (entry : ℕ × SessionState) → HasTrees h → IsEntry h.sessions n entry → StandsOn entry.1.phase h.content
 entry_rests h n entry trees e = HasTrees-at h n entry.1 trees e.found
 
 -- ---- a piece that it was fed
@@ -167,7 +167,7 @@ module _ (rules : AccessRules) (s : Settings) (alone : StandsAlone rules) (count
 -- what holds of the hub and its sessions holds on
 pub fed_holds : (s : Settings) (old : HubState) (f : Feed) → IsFed s old f
     → AllOpen f.sessions → HasTrees (hub_before s f)
-    → IsBeginning (content_of f.at).revisions (content_of f.at_after).revisions → RestsOn f.session_after.phase (content_of f.at_after)
+    → IsBeginning (content_of f.at).revisions (content_of f.at_after).revisions → StandsOn f.session_after.phase (content_of f.at_after)
     → AllOpen f.sessions_after × HasTrees (hub_after s f)
 fed_holds s old f is lives trees later rests = (
   subst AllOpen (sym is.after) (AllOpen-kept f.sessions f.number f.session_after lives),

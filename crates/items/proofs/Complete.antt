@@ -8,7 +8,7 @@ use Rattle.items.specs.declared.scan.Step.TheVariants as steps
 use Rattle.items.specs.Word.{EachPasses, IsSpace, IsDigit, IsWord, is_space, is_word_byte}
 use Rattle.items.specs.Values.{ItemValue, word, number, string, list, ItemValues, none, more, Limits, IsWithin, AreWithin}
 use Rattle.items.specs.Spelling.{value_behind, IsNumeral, Spaced, IsBody, AreSpelled}
-use Rattle.items.specs.Scan.{at, on, step_in, gap_step, number_step, after_step}
+use Rattle.items.specs.Scan.{at, on, step_in, gap_step, number_step, behind_body}
 use Rattle.items.specs.Run.{Outcome, whole, outcome_of, run}
 use Rattle.items.proofs.Classes.{space-no_word, space-no_digit, space-no_colon, digit-no_space, digit-no_opening, digit-no_closing, letter-no_space, letter-no_opening, letter-no_closing, letter-no_digit, le-test, value-grows}
 
@@ -16,8 +16,8 @@ use Rattle.items.proofs.Classes.{space-no_word, space-no_digit, space-no_colon, 
 abbrev pub onward : Limits → ℕ → List ℕ → Outcome
 onward l d rest = cond (d == 0) (whole rest) (run l rest (at d lexes.Gap))
 
-after : (l : Limits) (d b : ℕ) (rest : List ℕ) → IsSpace b → outcome_of (run l rest) (after_step d b) b rest ≡ onward l d rest
-unfolding after_step
+after : (l : Limits) (d b : ℕ) (rest : List ℕ) → IsSpace b → outcome_of (run l rest) (behind_body d b) b rest ≡ onward l d rest
+unfolding behind_body
 after l d b rest h =
     let e : is_space b ≡ true = h in
     rw e

@@ -9,7 +9,7 @@ use Rattle.items.specs.declared.scan.Step.{Step}
 use Rattle.items.specs.declared.scan.Step.TheVariants as steps
 use Rattle.items.specs.Word.{is_space, is_word_byte}
 use Rattle.items.specs.Values.{Limits}
-use Rattle.items.specs.Scan.{at, step_in, gap_step, number_step, after_step}
+use Rattle.items.specs.Scan.{at, step_in, gap_step, number_step, behind_body}
 
 pub data Shape (f : Limits → Step) : Type 0 where
   goes : (t : Scan) → ((l : Limits) → f l ≡ steps.On t) → Shape f
@@ -23,8 +23,8 @@ either : (x y : Limits → Step) (v : Bool) → Shape x → Shape y → Shape (�
 either x y true p q = p
 either x y false p q = q
 
-after-shape : (d b : ℕ) → Shape (λ l. after_step d b)
-unfolding after_step
+after-shape : (d b : ℕ) → Shape (λ l. behind_body d b)
+unfolding behind_body
 after-shape d b =
     either _ _ (is_space b)
     (either _ _ (d == 0) (Shape.ends (λ l. refl)) (Shape.goes (at d lexes.Gap) (λ l. refl)))

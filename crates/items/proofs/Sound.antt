@@ -8,7 +8,7 @@ use Rattle.items.specs.declared.scan.Step.TheVariants as steps
 use Rattle.items.specs.Word.{IsDigit, is_space, is_word_byte}
 use Rattle.items.specs.Values.{word, number, string, list, none, Limits}
 use Rattle.items.specs.Spelling.{value_behind, Bracketed, Counted, AreSpelled}
-use Rattle.items.specs.Scan.{at, on, step_in, gap_step, number_step, after_step}
+use Rattle.items.specs.Scan.{at, on, step_in, gap_step, number_step, behind_body}
 use Rattle.items.specs.Run.{whole, outcome_of, run}
 use Rattle.items.proofs.Steps.{split, AfterCase, GapCase, NumberCase, after-case, gap-case, number-case}
 use Rattle.items.proofs.Ahead.{Inside, After, First, Gaps, Ends, Opened, Letters, Strings, Digits, Goes, gap-space, next-body}
@@ -93,7 +93,7 @@ module _ (Q : List ℕ → Type 0) (l : Limits) (nine : 9 ≤ l.number) (rest : 
   in_number d n st (NumberCase.large e) c = let never : ⊥ = cc (comes st _ e c) in absurd never
   in_number d n st (NumberCase.long e) c = let never : ⊥ = cc (comes st _ e c) in absurd never
   in_number d n st (NumberCase.other e) c =
-      record { digits = []; tail = b ∷ bs; each = tt; most = λ h. h; goes = inl (behind d (after_step d b) (after-case d b) (comes st _ e c)); whole = refl }
+      record { digits = []; tail = b ∷ bs; each = tt; most = λ h. h; goes = inl (behind d (behind_body d b) (after-case d b) (comes st _ e c)); whole = refl }
 
   pub here : (d : ℕ) (lex : Lex) → Comes (step_in l d lex b) → Goes Q l d lex (b ∷ bs)
   unfolding step_in
@@ -105,11 +105,11 @@ module _ (Q : List ℕ → Type 0) (l : Limits) (nine : 9 ≤ l.number) (rest : 
   here d lexes.Word c =
       split (λ st. Comes st → Letters Q l d (b ∷ bs)) (is_word_byte b)
       (λ h c. let w : Letters Q l d bs = ahead d lexes.Word c in record { letters = b ∷ w.letters; tail = w.tail; each = (h, w.each); goes = w.goes; whole = ap (λ x. b ∷ x) w.whole })
-      (λ _ c. record { letters = []; tail = b ∷ bs; each = tt; goes = behind d (after_step d b) (after-case d b) c; whole = refl }) c
+      (λ _ c. record { letters = []; tail = b ∷ bs; each = tt; goes = behind d (behind_body d b) (after-case d b) c; whole = refl }) c
   here d (lexes.Number n) c = in_number d n (number_step l d n b) (number-case l d n b) c
   here d (lexes.Tail n) c =
       split (λ st. Comes st → Strings Q l d n (b ∷ bs)) (n == 0)
-      (λ h c. record { string = []; tail = b ∷ bs; count = grind (arith, nat_tests); goes = behind d (after_step d b) (after-case d b) c; whole = refl })
+      (λ h c. record { string = []; tail = b ∷ bs; count = grind (arith, nat_tests); goes = behind d (behind_body d b) (after-case d b) c; whole = refl })
       (λ h c. let s : Strings Q l d (n - 1) bs = ahead d (lexes.Tail (n - 1)) c in
       let positive : 0 < n = grind (arith, nat_tests) in
       record { string = b ∷ s.string; tail = s.tail; count = omega (arith, s.count); goes = s.goes; whole = ap (λ x. b ∷ x) s.whole }) c

@@ -8,7 +8,7 @@ use Rattle.items.specs.declared.scan.Step.{Step}
 use Rattle.items.specs.declared.scan.Step.TheVariants as steps
 use Rattle.items.specs.Word.{IsSpace, IsDigit, is_space}
 use Rattle.items.specs.Values.{Limits}
-use Rattle.items.specs.Scan.{on, gap_step, number_step, after_step}
+use Rattle.items.specs.Scan.{on, gap_step, number_step, behind_body}
 
 pub split : (P : Step → Type 0) {x y : Step} (v : Bool) → (v ≡ true → P x) → (v ≡ false → P y) → P (cond v x y)
 split P true f g = f refl
@@ -33,13 +33,13 @@ pub data NumberCase (l : Limits) (d n b : ℕ) (st : Step) : Type 0 where
   colon : b ≡ 58 → n ≤ l.string → st ≡ on d (lexes.Tail n) → NumberCase l d n b st
   large : st ≡ steps.Bad defects.NumberTooLarge → NumberCase l d n b st
   long : st ≡ steps.Bad defects.StringTooLong → NumberCase l d n b st
-  other : st ≡ after_step d b → NumberCase l d n b st
+  other : st ≡ behind_body d b → NumberCase l d n b st
 
 some_less : (d : ℕ) → (d == 0) ≡ false → d ≡ suc (d - 1)
 some_less d h = grind (arith, nat_tests)
 
-pub after-case : (d b : ℕ) → AfterCase d b (after_step d b)
-unfolding after_step
+pub after-case : (d b : ℕ) → AfterCase d b (behind_body d b)
+unfolding behind_body
 after-case d b =
     split (AfterCase d b) (is_space b)
     (λ h. split (AfterCase d b) (d == 0) (λ z. AfterCase.ends h (grind (arith, nat_tests)) refl) (λ z. AfterCase.goes (d - 1) h (some_less d z) refl))

@@ -18,8 +18,8 @@ abbrev pub on : ℕ → Lex → Step
 on depth lex = steps.On (at depth lex)
 
 -- the byte behind a body
-unfoldable pub after_step : ℕ → ℕ → Step
-after_step depth b =
+unfoldable pub behind_body : ℕ → ℕ → Step
+behind_body depth b =
     if is_space b then (if depth == 0 then steps.Whole else on depth lexes.Gap)
     else steps.Bad defects.Malformed
 
@@ -41,16 +41,16 @@ number_step l depth n b =
     then on depth (lexes.Number (10 * n + (b - 48))) else steps.Bad defects.NumberTooLarge)
     else if b == 58 then (if nat_le n l.string then on depth (lexes.Tail n)
     else steps.Bad defects.StringTooLong)
-    else after_step depth b
+    else behind_body depth b
 
 unfoldable pub step_in : Limits → ℕ → Lex → ℕ → Step
 step_in l depth lexes.Gap b = gap_step l depth b
 step_in l depth lexes.Open b =
     if is_space b then on depth lexes.Gap else steps.Bad defects.Malformed
-step_in l depth lexes.Word b = if is_word_byte b then on depth lexes.Word else after_step depth b
+step_in l depth lexes.Word b = if is_word_byte b then on depth lexes.Word else behind_body depth b
 step_in l depth (lexes.Number n) b = number_step l depth n b
 step_in l depth (lexes.Tail n) b =
-    if n == 0 then after_step depth b else on depth (lexes.Tail (n - 1))
+    if n == 0 then behind_body depth b else on depth (lexes.Tail (n - 1))
 
 abbrev pub step : Limits → Scan → ℕ → Step
 step l s b = step_in l s.depth s.lex b

@@ -13,6 +13,14 @@ mutual
     none : ItemValues
     more : ItemValue → ItemValues → ItemValues
 
+-- one item
+abbrev pub only : ItemValue → ItemValues
+only item = more item none
+
+-- two items
+abbrev pub both : ItemValue → ItemValue → ItemValues
+both first second = more first (only second)
+
 -- What an item may be: so many lists in one another, numbers and strings up to these.
 pub record Limits : Type 0 where
   pub depth : ℕ

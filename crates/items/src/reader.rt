@@ -102,10 +102,8 @@ impl ItemReader {
     /// Takes the next piece of the stream, which may be cut anywhere. It fails for want of memory
     /// only, and an `Err` changes nothing.
     pub fn feed(&mut self, piece: &[u8]) -> Result<(), ItemFault>
-        ensures ok { OnOk result (self.new ≡ record self.old {
-          rest = self.old.rest
-              ++ piece.now;
-        }) }
+        ensures ok { OnOk result (self.new
+            ≡ record self.old { rest = self.old.rest ++ piece.now }) }
         ensures memory { IfErr result (λ e. e ≡ ItemFault.NoMemory) }
         ensures err { OnErr result (self.new ≡ self.old) }
     {

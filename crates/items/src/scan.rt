@@ -1,7 +1,7 @@
 // The scanner: it goes over the bytes once, up to the end of an item or to a byte that is wrong.
 ghost use Rattle.std.specs.Prelude.{◌≡◌, ◌≤◌, IfSome, IfNone, length};
 ghost use Rattle.items.specs.Values.{limits};
-ghost use Rattle.items.specs.Scan.{step, after_step, gap_step, step_in, number_step, is_space, is_word_byte, StaysShallow};
+ghost use Rattle.items.specs.Scan.{step, behind_body, gap_step, step_in, number_step, is_space, is_word_byte, StaysShallow};
 ghost use Rattle.items.specs.Run.{IsScanned, EndsSo, Skips};
 ghost use Rattle.items.specs.declared.scan.TheConstants.{MAX_DEPTH};
 
@@ -138,10 +138,10 @@ fn on(depth: u64, lex: Lex) -> Step
     Step::On(Scan { depth, lex })
 }
 
-#[tactic(auto, unfolding(crate::specs::Scan::after_step))]
+#[tactic(auto, unfolding(crate::specs::Scan::behind_body))]
 fn behind_body(depth: u64, byte: u8) -> Step
     requires { depth ≤ MAX_DEPTH }
-    ensures step { result ≡ after_step depth byte }
+    ensures step { result ≡ behind_body depth byte }
     ensures shallow { StaysShallow result }
 {
     if !is_space(byte) {

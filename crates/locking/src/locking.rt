@@ -14,13 +14,13 @@ use crate::asking::{MadeLock, lock_asked_for, made_lock};
 use access::RepoAccess;
 use commands::LockCommand;
 use machine::{Client, Turn};
-use refusals::{Refusal, path_refusal};
+use refusals::path_refusal;
 use replies::{Reply, ReplySink};
-use repo_api::{ChangeFault, LockAsk, Repository};
+use repo_api::{LockAsk, Repository};
 use std::alloc::AllocError;
 use std::mem::drop;
 use svnpath::PathFault;
-use telling::{Preface, SessionPhase, end_halted, refuse, tell};
+use telling::{Preface, SessionPhase, refuse, tell, tell_fault};
 
 /// Tells of a lock that is made, and with it uses its token.
 fn tell_lock<R: Repository, S: ReplySink>(
@@ -62,22 +62,9 @@ fn ask_lock<R: Repository, A: RepoAccess<View = R>, S: ReplySink>(
     match made_lock(turn.alloc, &ask) {
         Ok(made) => match access.lock(ask) {
             Ok(()) => tell_lock(client, preface, made, turn),
-            Err(ChangeFault::Refused(refusal)) => {
+            Err(fault) => {
                 drop(made);
-                refuse(client, preface, refusal, turn)
-            }
-            Err(ChangeFault::StoreFailed) => {
-                drop(made);
-                refuse(client, preface, Refusal::StoreFailed, turn)
-            }
-            Err(ChangeFault::Halted) => {
-                drop(made);
-                end_halted(client, preface, turn)
-            }
-            Err(ChangeFault::NoMemory) => {
-                drop(made);
-                drop(client);
-                Err(AllocError)
+                tell_fault(client, preface, fault, turn)
             }
         },
         Err(error) => {

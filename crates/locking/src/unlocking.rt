@@ -12,13 +12,13 @@ use crate::asking::unlock_asked_for;
 use access::RepoAccess;
 use commands::UnlockCommand;
 use machine::{Client, Turn};
-use refusals::{Refusal, path_refusal};
+use refusals::path_refusal;
 use replies::{Reply, ReplySink};
-use repo_api::{ChangeFault, Repository, UnlockAsk};
+use repo_api::{Repository, UnlockAsk};
 use std::alloc::AllocError;
 use std::mem::drop;
 use svnpath::PathFault;
-use telling::{Preface, SessionPhase, end_halted, refuse, tell};
+use telling::{Preface, SessionPhase, refuse, tell, tell_fault};
 
 /// Asks for an unlock.
 fn ask_unlock<R: Repository, A: RepoAccess<View = R>, S: ReplySink>(
@@ -40,13 +40,7 @@ fn ask_unlock<R: Repository, A: RepoAccess<View = R>, S: ReplySink>(
 {
     match access.unlock(ask) {
         Ok(()) => tell(client, preface, Ok(Reply::Success), turn),
-        Err(ChangeFault::Refused(refusal)) => refuse(client, preface, refusal, turn),
-        Err(ChangeFault::StoreFailed) => refuse(client, preface, Refusal::StoreFailed, turn),
-        Err(ChangeFault::Halted) => end_halted(client, preface, turn),
-        Err(ChangeFault::NoMemory) => {
-            drop(client);
-            Err(AllocError)
-        }
+        Err(fault) => tell_fault(client, preface, fault, turn),
     }
 }
 

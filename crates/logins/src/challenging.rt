@@ -94,10 +94,7 @@ fn nobody_unless_memory(fault: CramFault) -> Result<Option<ByteString>, AllocErr
 {
     match fault {
         CramFault::NoMemory => Err(AllocError),
-        CramFault::MalformedAnswer => Ok(None),
-        CramFault::UnknownUser => Ok(None),
-        CramFault::WrongPassword => Ok(None),
-        CramFault::BadUsers(_) => Ok(None),
+        _ => Ok(None),
     }
 }
 

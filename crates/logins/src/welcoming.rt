@@ -18,7 +18,7 @@ use replies::{Reply, ReplySink};
 use repo_api::Repository;
 use std::alloc::AllocError;
 use std::mem::drop;
-use telling::{Preface, SessionPhase, say_both};
+use telling::{Preface, SessionPhase, say_new_behind};
 
 /// What a client is told of the repository that it has logged in to.
 fn repos_info<R: Repository, A: RepoAccess<View = R>>(
@@ -47,7 +47,7 @@ fn tell_welcome<R: Repository, A: RepoAccess<View = R>, S: ReplySink>(
     ensures later { A.rules.between (A.point access.old) (A.point access.new) }
 {
     let info = repos_info(root, access)?;
-    say_both(&Reply::Success, &info, out)
+    say_new_behind(Preface::Success, info, out)
 }
 
 /// Welcomes a client that has logged in. Its commands are awaited.

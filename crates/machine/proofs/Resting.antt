@@ -16,11 +16,11 @@ use Rattle.forms.specs.declared.fault.CommandFault.TheVariants.{UnknownName, Bad
 use Rattle.edit_rules.specs.Tokens.{Tokens}
 use Rattle.edit_rules.specs.Edits.{EditState}
 use Rattle.edit_rules.specs.Refusing.{edit_refusal}
-use Rattle.edit_rules.specs.Editor.{RestsIn, RestsOn as EditRestsOn, Edits as EditsTxn, Applies, finished}
+use Rattle.edit_rules.specs.Editor.{RestsIn, RestsOn, Edits as EditsTxn, Applies, finished}
 use Rattle.repo_api.specs.Soundness.{AreSound}
 use Rattle.access.specs.Points.{Point, AccessRules, content_of}
 use Rattle.machine.specs.Settings.{Settings}
-use Rattle.machine.specs.Stages.{Stage, EditRests, RestsOn}
+use Rattle.machine.specs.Stages.{Stage, EditRests, StandsOn}
 use Rattle.machine.specs.Soundness.{MeetBy}
 use Rattle.machine.specs.Hearing.{Input}
 use Rattle.machine.specs.Hearing.Input.{Whole, Broken}
@@ -48,7 +48,7 @@ rests_in_trans : (o : Option TxnState) (c d : RepoState) → RestsIn o c → IsB
 rests_in_trans None c d r b = tt
 rests_in_trans (Some t) c d r b = beginning_trans t.shown c.revisions d.revisions r b
 
-pub edit_rests : (e : EditState) (c d : RepoState) → EditRestsOn e c → IsBeginning c.revisions d.revisions → EditRestsOn e d
+pub edit_rests : (e : EditState) (c d : RepoState) → RestsOn e c → IsBeginning c.revisions d.revisions → RestsOn e d
 edit_rests e c d r b = rests_in_trans e.txn c d r b
 
 rests_trans : (phase : Stage) (c d : RepoState) → EditRests phase c → IsBeginning c.revisions d.revisions → EditRests phase d
@@ -73,7 +73,7 @@ rests_new s Greeted c new = tt
 rests_new s (LoggingIn login) c new = tt
 rests_new s (Challenged pending) c new = tt
 rests_new s (Serving client) c new = tt
-rests_new s (Editing edit) c new = subst (λ (e : EditState). EditRestsOn e c) (sym new) tt
+rests_new s (Editing edit) c new = subst (λ (e : EditState). RestsOn e c) (sym new) tt
 rests_new s (Skipping client) c new = tt
 rests_new s (Reporting reporting) c new = tt
 rests_new s (Driven client) c new = tt
@@ -85,22 +85,22 @@ rests_new s Ended c new = tt
 rests_shown : (c : RepoState) (t : TxnState) → t.shown ≡ c.revisions → RestsIn (Some t) c
 rests_shown c t e = record { more = []; is = sym e ∙ sym (append-nil t.shown) }
 
-rests_at : (c : RepoState) (e : EditState) (o : Option TxnState) → e.txn ≡ o → RestsIn o c → EditRestsOn e c
+rests_at : (c : RepoState) (e : EditState) (o : Option TxnState) → e.txn ≡ o → RestsIn o c → RestsOn e c
 rests_at c e o is r = subst (λ (x : Option TxnState). RestsIn x c) (sym is) r
 
 -- an edit that is as it was
-rests_same : (c : RepoState) (old new : EditState) → EditRestsOn old c → new ≡ old → EditRestsOn new c
-rests_same c old new r is = subst (λ (e : EditState). EditRestsOn e c) (sym is) r
+rests_same : (c : RepoState) (old new : EditState) → RestsOn old c → new ≡ old → RestsOn new c
+rests_same c old new r is = subst (λ (e : EditState). RestsOn e c) (sym is) r
 
 -- an edit with other tokens
-rests_opened : (c : RepoState) (old new : EditState) (tokens : Tokens) → EditRestsOn old c → new ≡ record old { tokens = tokens } → EditRestsOn new c
+rests_opened : (c : RepoState) (old new : EditState) (tokens : Tokens) → RestsOn old c → new ≡ record old { tokens = tokens } → RestsOn new c
 rests_opened c old new tokens r is = rests_at c new old.txn (ap (λ (e : EditState). e.txn) is) r
 
 -- an edit whose transaction is edited
-rests_edited : (c : RepoState) (old new : EditState) (op : EditOp) (tokens : Tokens) → EditsTxn c old op tokens new → EditRestsOn new c
+rests_edited : (c : RepoState) (old new : EditState) (op : EditOp) (tokens : Tokens) → EditsTxn c old op tokens new → RestsOn new c
 rests_edited c old new op tokens h = rests_at c new (Some h.after) (ap (λ (e : EditState). e.txn) h.is) (rests_shown c h.after h.edited.shown_now)
 
-rests_applied : (c : RepoState) (old new : EditState) (command : EditorCommand) → EditRestsOn old c → Applies c old command new → EditRestsOn new c
+rests_applied : (c : RepoState) (old new : EditState) (command : EditorCommand) → RestsOn old c → Applies c old command new → RestsOn new c
 rests_applied c old new (TargetRevision revision) r is = rests_same c old new r is
 rests_applied c old new (OpenRoot revision token) r h = rests_at c new (Some h.txn) (ap (λ (e : EditState). e.txn) h.is) (rests_shown c h.txn h.begun.shown)
 rests_applied c old new (DeleteEntry entry) r (p, named, h) = rests_edited c old new _ _ h
@@ -121,7 +121,7 @@ rests_applied c old new CloseEdit r h = absurd h
 rests_applied c old new AbortEdit r h = absurd h
 
 rests_edits : (env : Env) (c : RepoState) (edit : MachineEdit) (command : EditorCommand) (r : Option Refusal) (a : Answer)
-    → EditRestsOn edit.editor c → JudgedEdit env c edit command r a → EditRests a.phase c
+    → RestsOn edit.editor c → JudgedEdit env c edit command r a → EditRests a.phase c
 rests_edits env c edit command None a rests (after, applies, is) = rests_is c a _ is (rests_applied c edit.editor after command rests applies)
 rests_edits env c edit command (Some r) a rests is = rests_is c a _ is tt
 
@@ -149,13 +149,13 @@ rests_close halted env c client asked (Ok t) a (date, is_date, step) =
 rests_close halted env c client asked (Err r) a is = rests_is c a _ is tt
 
 rests_told : (halted : Bool) (env : Env) (c : RepoState) (edit : MachineEdit) (command : EditorCommand) (ending : Option Ending) (a : Answer)
-    → EditRestsOn edit.editor c → CommandStep halted env c edit command ending a → EditRests a.phase c
+    → RestsOn edit.editor c → CommandStep halted env c edit command ending a → EditRests a.phase c
 rests_told halted env c edit command None a rests step = rests_edits env c edit command (edit_refusal c edit.editor command) a rests step
 rests_told halted env c edit command (Some ToCommit) a rests step = rests_close halted env c edit.client edit.asked (finished edit.editor) a step
 rests_told halted env c edit command (Some GivesUp) a rests is = rests_is c a _ is tt
 
 rests_editing : (halted : Bool) (env : Env) (c : RepoState) (edit : MachineEdit) (r : Result EditorCommand CommandFault) (a : Answer)
-    → EditRestsOn edit.editor c → EditingStep halted env c edit r a → EditRests a.phase c
+    → RestsOn edit.editor c → EditingStep halted env c edit r a → EditRests a.phase c
 rests_editing halted env c edit (Ok command) a rests step = rests_told halted env c edit command (ending_of command) a rests step
 rests_editing halted env c edit (Err UnknownName) a rests is = rests_is c a _ is tt
 rests_editing halted env c edit (Err BadParameters) a rests is = rests_is c a _ is tt
@@ -217,8 +217,8 @@ module _ (rules : AccessRules)
   -- a session goes on to rest on what is there, as others go on too
   module _ (sound : (p q : Point) → rules.between p q → AreSound (content_of p).revisions → AreSound (content_of q).revisions)
       (step_keeps : (halted : Bool) (s : Settings) (env : Env) (c : RepoState) (phase : Stage) (input : Input) (a : Answer)
-      → RestsOn phase c → InputStep halted s env c phase input a → RestsOn a.phase (content_after c a.effect) × MeetBy c a.effect.changes) where
-    rests_later : (phase : Stage) (p q : Point) → rules.between p q → RestsOn phase (content_of p) → RestsOn phase (content_of q)
+      → StandsOn phase c → InputStep halted s env c phase input a → StandsOn a.phase (content_after c a.effect) × MeetBy c a.effect.changes) where
+    rests_later : (phase : Stage) (p q : Point) → rules.between p q → StandsOn phase (content_of p) → StandsOn phase (content_of q)
     rests_later phase p q later h = record {
       trees = sound p q later h.trees;
       rests = rests_trans phase (content_of p) (content_of q) h.rests (keeps p q later);
@@ -226,23 +226,23 @@ module _ (rules : AccessRules)
     }
 
     rests_after : (s : Settings) (env : Env) (p q : Point) (phase : Stage) (input : Input) (a : Answer)
-        → StepAt rules (input_step s env phase input) p a q → RestsOn phase (content_of p) → RestsOn a.phase (content_of q)
+        → StepAt rules (input_step s env phase input) p a q → StandsOn phase (content_of p) → StandsOn a.phase (content_of q)
     rests_after s env p q phase input a h rests =
         let before = rests_later phase p h.at h.later rests in
         let here = (step_keeps h.at.halted s env (content_of h.at) phase input a before h.step_is).0 in
-        subst (λ (c : RepoState). RestsOn a.phase c) (sym (moved h.at a.effect q h.moves)) here
+        subst (λ (c : RepoState). StandsOn a.phase c) (sym (moved h.at a.effect q h.moves)) here
 
     pub rests_served : (s : Settings) (env env' : Env) (p q : Point) (phase after : Stage) (input : Input) (writes : List ℕ → Type 0)
-        → StepWritten rules (input_step s env phase input) p q after env' writes → RestsOn phase (content_of p) → RestsOn after (content_of q)
+        → StepWritten rules (input_step s env phase input) p q after env' writes → StandsOn phase (content_of p) → StandsOn after (content_of q)
     rests_served s env env' p q phase after input writes h rests =
-        subst (λ (x : Stage). RestsOn x (content_of q)) (sym h.phase_after) (rests_after s env p q phase input h.answer h.happens rests)
+        subst (λ (x : Stage). StandsOn x (content_of q)) (sym h.phase_after) (rests_after s env p q phase input h.answer h.happens rests)
 
     -- for want of memory the session has ended, and the repository is sound
     pub trees_failed : (s : Settings) (env : Env) (p q : Point) (phase : Stage) (input : Input) (writes : List ℕ → Type 0)
-        → StepOrNothing rules (input_step s env phase input) p q writes → RestsOn phase (content_of p) → AreSound (content_of q).revisions
+        → StepOrNothing rules (input_step s env phase input) p q writes → StandsOn phase (content_of p) → AreSound (content_of q).revisions
     trees_failed s env p q phase input writes (inl (later, unwritten)) rests = sound p q later rests.trees
     trees_failed s env p q phase input writes (inr (a, serves, part)) rests = (rests_after s env p q phase input a serves rests).trees
 
 pub edit_rests_later : (rules : AccessRules) → ((p q : Point) → rules.between p q → IsBeginning (content_of p).revisions (content_of q).revisions)
-    → (e : EditState) (p q : Point) → EditRestsOn e (content_of p) → rules.between p q → EditRestsOn e (content_of q)
+    → (e : EditState) (p q : Point) → RestsOn e (content_of p) → rules.between p q → RestsOn e (content_of q)
 edit_rests_later rules keeps e p q rests later = edit_rests e (content_of p) (content_of q) rests (keeps p q later)

@@ -25,7 +25,7 @@ use Rattle.edit_rules.specs.Editor.{Applies, finished, finished_txn, RestsIn, Re
 use Rattle.repo_api.specs.Soundness.{AreTrees, AreSound}
 use Rattle.edit_rules.specs.Soundness.{IsSoundEdit, IsSoundIn}
 use Rattle.machine.specs.Settings.{Settings}
-use Rattle.machine.specs.Stages.{Stage, EditRests, EditIsSound, RestsOn as SessionRestsOn}
+use Rattle.machine.specs.Stages.{Stage, EditRests, EditIsSound, StandsOn}
 use Rattle.machine.specs.Soundness.{MeetBy}
 use Rattle.machine.specs.Hearing.{Input}
 use Rattle.machine.specs.Hearing.Input.{Whole, Broken}
@@ -205,8 +205,8 @@ module _ (begins : (path : PathValue) (name : List ℕ) → IsSoundEdit (new_edi
   leaves_trees halted s env c Ended input a trees rests sound is = leaves_is c a _ is (trees, tt, tt)
 
   pub keeps_rests : (halted : Bool) (s : Settings) (env : Env) (c : RepoState) (phase : Stage) (input : Input) (a : Answer)
-      → SessionRestsOn phase c → InputStep halted s env c phase input a
-      → SessionRestsOn a.phase (content_after c a.effect) × MeetBy c a.effect.changes
+      → StandsOn phase c → InputStep halted s env c phase input a
+      → StandsOn a.phase (content_after c a.effect) × MeetBy c a.effect.changes
   keeps_rests halted s env c phase input a h step =
       let kept = leaves_trees halted s env c phase input a h.trees h.rests h.sound step in
       (record { trees = kept.0; rests = rests_on halted s env c phase input a h.rests step; sound = kept.1 }, kept.2)

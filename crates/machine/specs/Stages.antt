@@ -2,7 +2,7 @@
 use Rattle.std.specs.Prelude.{ℕ, Bool, true, false, List}
 use Rattle.repo_api.specs.States.{RepoState}
 use Rattle.edit_rules.specs.Edits.{EditState}
-use Rattle.edit_rules.specs.Editor.{RestsOn as EditRestsOn}
+use Rattle.edit_rules.specs.Editor.{RestsOn}
 use Rattle.repo_api.specs.Soundness.{AreSound}
 use Rattle.edit_rules.specs.Soundness.{IsSoundEdit}
 use Rattle.reports.specs.declared.graft.Graft.{Graft}
@@ -31,7 +31,7 @@ EditRests Greeted c = Unit {0}
 EditRests (LoggingIn login) c = Unit {0}
 EditRests (Challenged pending) c = Unit {0}
 EditRests (Serving client) c = Unit {0}
-EditRests (Editing edit) c = EditRestsOn edit.editor c
+EditRests (Editing edit) c = RestsOn edit.editor c
 EditRests (Skipping client) c = Unit {0}
 EditRests (Reporting reporting) c = Unit {0}
 EditRests (Driven client) c = Unit {0}
@@ -52,7 +52,7 @@ EditIsSound Ended = Unit {0}
 -- what a session stands on: the repository's trees are sound, and so is the session's edit, if it
 -- has one, which has
 -- seen revisions that begin the repository's
-pub record RestsOn (phase : Stage) (c : RepoState) : Type 0 where
+pub record StandsOn (phase : Stage) (c : RepoState) : Type 0 where
   pub trees : AreSound c.revisions
   pub rests : EditRests phase c
   pub sound : EditIsSound phase

@@ -2,7 +2,7 @@
 ghost use Rattle.std.specs.Prelude.{◌≡◌, ℕ, List, Bool};
 ghost use Rattle.repo_api.specs.States.{RepoState};
 ghost use Rattle.machine.specs.Settings.{Settings};
-ghost use Rattle.machine.specs.Stages.{Stage, EditRests, RestsOn};
+ghost use Rattle.machine.specs.Stages.{Stage, EditRests, StandsOn};
 ghost use Rattle.machine.specs.Soundness.{MeetBy};
 ghost use Rattle.machine.specs.Answers.{Answer, content_after};
 ghost use Rattle.machine.specs.Machine.{InputStep};
@@ -35,8 +35,8 @@ pub fn steps_rest()
 /// youngest revision well.
 pub fn steps_keep_trees()
     ensures { (halted : Bool) (s : Settings) (env : Env) (c : RepoState) (phase : Stage) (input : Input) (a : Answer)
-        → RestsOn phase c → InputStep halted s env c phase input a
-        → RestsOn a.phase (content_after c a.effect) × MeetBy c a.effect.changes }
+        → StandsOn phase c → InputStep halted s env c phase input a
+        → StandsOn a.phase (content_after c a.effect) × MeetBy c a.effect.changes }
 {
     edit_rules::edits_keep_trees();
     repo_api::accepted_commits_meet_well();

@@ -58,9 +58,7 @@ pub enum Line {
 impl Line {
     /// The line that a text is.
     pub fn parse(alloc: Global, text: &[u8]) -> Result<Line, LineFault> {
-        let Ok(text) = str::from_utf8(text) else {
-            return Err(LineFault::Unknown);
-        };
+        let text = str::from_utf8(text).ok().ok_or(LineFault::Unknown)?;
         if text.starts_with('#') {
             return Ok(Line::Comment);
         }

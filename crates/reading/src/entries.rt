@@ -59,8 +59,9 @@ fn node_found<R: Repository>(view: &R, place: &Place) -> Result<Option<NodeInfo>
 {
     match view.kind(place.revision, &place.path) {
         NodeKind::Absent => Ok(None),
-        NodeKind::File => Ok(Some(node_info(view, place.revision, &place.path)?)),
-        NodeKind::Directory => Ok(Some(node_info(view, place.revision, &place.path)?)),
+        NodeKind::File | NodeKind::Directory => {
+            Ok(Some(node_info(view, place.revision, &place.path)?))
+        }
     }
 }
 

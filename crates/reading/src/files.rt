@@ -131,10 +131,11 @@ fn file_at<R: Repository>(
         (text_at (R.content view.now) place.now.revision place.now.path)) }
 {
     match view.text(place.revision, &place.path) {
-        Some(text) => Ok(FileAnswer {
-            told: file_told(alloc, view, command.wants_properties, place, text)?,
-            text: text_told(command.wants_contents, text)?,
-        }),
+        Some(text) => {
+            let sent = text_told(command.wants_contents, text)?;
+            let told = file_told(alloc, view, command.wants_properties, place, text)?;
+            Ok(FileAnswer { told, text: sent })
+        }
         None => Ok(FileAnswer::refused(no_file(view.kind(place.revision, &place.path)))),
     }
 }

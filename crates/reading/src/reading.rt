@@ -25,8 +25,7 @@ pub fn youngest_reply<R: Repository, A: RepoAccess<View = R>>(
         reply ≡ replies.Revision (youngest (content_of (A.point access.new)))) }
     ensures later { A.rules.between (A.point access.old) (A.point access.new) }
 {
-    let view = access.look()?;
-    Ok(Reply::Revision(view.youngest()))
+    Ok(Reply::Revision(access.look()?.youngest()))
 }
 
 /// What stands at a path.

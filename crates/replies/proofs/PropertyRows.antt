@@ -1,9 +1,9 @@
 -- The items of properties.
 use Rattle.std.proofs.Common.{◌≡◌, ℕ, List, [], ◌∷◌, map, ap, refl}
 use Rattle.repo_api.specs.Properties.{PropertyList}
-use Rattle.items.specs.Values.{ItemValue, string, list, more}
+use Rattle.items.specs.Values.{ItemValue, string, list, more, both}
 use Rattle.items.specs.View.{row_of}
-use Rattle.replies.specs.Replies.{both, property_trees}
+use Rattle.replies.specs.Replies.{property_trees}
 
 -- `( name value )`
 abbrev pub property_tree : List ℕ × List ℕ → ItemValue

@@ -5,7 +5,7 @@ use Rattle.std.specs.List.{flat_map}
 use Rattle.uuid.specs.Text.{hyphenated_text, lower}
 use Rattle.edit_commands.specs.Printing.{command_item}
 use Rattle.items.specs.Print.{printed}
-use Rattle.items.specs.Values.{ItemValue, word, number, string, list, ItemValues, none, more}
+use Rattle.items.specs.Values.{ItemValue, word, number, string, list, ItemValues, none, more, only, both}
 use Rattle.items.specs.View.{row_of}
 use Rattle.refusals.specs.Table.{refusal_number, refusal_text}
 use Rattle.refusals.specs.declared.Refusal.TheVariants as refusals
@@ -33,14 +33,6 @@ use Rattle.replies.specs.declared.reply.Reply.TheVariants.{Greeting, NoLogin, Lo
 -- the text of a number of 128 bits: `8-4-4-4-12` lower-case hexadecimal digits
 abbrev pub uuid_text : ℕ → List ℕ
 uuid_text n = hyphenated_text lower (to_be_bytes w128 n)
-
--- a list of one item
-abbrev pub only : ItemValue → ItemValues
-only t = more t none
-
--- a list of two items
-abbrev pub both : ItemValue → ItemValue → ItemValues
-both t u = more t (only u)
 
 -- `( success ( params ) )`
 abbrev pub success : ItemValues → ItemValue

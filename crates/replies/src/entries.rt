@@ -114,8 +114,7 @@ fn entries_item(alloc: Global, entries: &EntryList) -> Result<Item, AllocError>
 {
     let mut items = Vec::new(alloc);
     for (name, node) in entries.as_slice() {
-        let item = entry_item(alloc, name.as_slice(), node)?;
-        items.push(item).map_err(AllocError::from)?;
+        items = with_made(items, entry_item(alloc, name.as_slice(), node))?;
     }
     Ok(Item::List(items))
 }

@@ -1,9 +1,9 @@
 //! Logs, and where something was, as items.
 ghost use Rattle.std.specs.Prelude.{◌≡◌, ◌++◌, ◌∷◌, [], IfOk, OnOk, OnErr};
 ghost use Rattle.items.specs.View.{value_of};
-ghost use Rattle.items.specs.Values.{list, more, string, word};
+ghost use Rattle.items.specs.Values.{list, more, string, word, both};
 ghost use Rattle.items.specs.Word.{IsWord};
-ghost use Rattle.replies.specs.Replies.{action_word, boolean_name, both, change_tree, change_trees, kind_word, location_item, log_entry, logged_change, source_trees};
+ghost use Rattle.replies.specs.Replies.{action_word, boolean_name, change_tree, change_trees, kind_word, location_item, log_entry, logged_change, source_trees};
 
 use crate::build::{
     boolean_item, kind_name, list_item, number_item, optional_string_item, path_item, string_item,
@@ -151,9 +151,8 @@ fn change_item(alloc: Global, logged: &LoggedChange) -> Result<Item, AllocError>
 
 /// `( kind text-mods prop-mods )`
 fn facts_item(alloc: Global, kind: NodeKind, change: &Change) -> Result<Item, AllocError>
-    ensures { IfOk result (λ item. value_of item
-        ≡ list (more (string (kind_word kind)) (both (word (boolean_name change.now.text))
-        (word (boolean_name change.now.properties))))) }
+    ensures { IfOk result (λ item. value_of item ≡ list (more (string (kind_word kind))
+        (both (word (boolean_name change.now.text)) (word (boolean_name change.now.properties))))) }
 {
     let items = with_made(Vec::new(alloc), string_item(alloc, kind_name(kind)))?;
     let items = with_made(items, boolean_item(alloc, change.text))?;

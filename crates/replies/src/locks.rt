@@ -72,8 +72,7 @@ pub(crate) fn locks_item(alloc: Global, locks: &LockList) -> Result<Item, AllocE
 {
     let mut items = Vec::new(alloc);
     for (path, lock) in locks.as_slice() {
-        let item = lock_item(alloc, path, lock)?;
-        items.push(item).map_err(AllocError::from)?;
+        items = with_made(items, lock_item(alloc, path, lock))?;
     }
     Ok(Item::List(items))
 }

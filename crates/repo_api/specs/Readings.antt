@@ -6,10 +6,10 @@ use Rattle.svnpath.specs.Paths.{PathValue, Component, is_at_or_under}
 use Rattle.repo_api.specs.States.{TreeMap, RepoState, tree_at, trees_in}
 
 -- the item of a list of one
-abbrev pub only : {A : Type 0} → List A → Option A
-only [] = None
-only (x ∷ []) = Some x
-only (x ∷ y ∷ xs) = None
+abbrev pub sole : {A : Type 0} → List A → Option A
+sole [] = None
+sole (x ∷ []) = Some x
+sole (x ∷ y ∷ xs) = None
 
 -- the names that lead from p down to q, none where q does not lie beneath it
 abbrev pub rest_beneath : PathValue → PathValue → List Component
@@ -17,7 +17,7 @@ rest_beneath p q = if is_at_or_under q p then drop (length p) q else []
 
 -- the name of q in the directory p, none where it does not stand straight beneath it
 abbrev pub name_in : PathValue → PathValue → Option Component
-name_in p q = only (rest_beneath p q)
+name_in p q = sole (rest_beneath p q)
 
 -- the names of the paths that stand straight beneath p, in the order of the paths
 abbrev pub names_among : PathValue → List PathValue → List Component

@@ -67,22 +67,22 @@ delete_path params = do
   Some (DeletePath path)
 
 -- the command of a name and its parameters, if they are of its form
-abbrev pub command_with : ReportName → ItemValues → Option ReportCommand
-command_with names.SetPath params = set_path params
-command_with names.DeletePath params = delete_path params
-command_with names.LinkPath params = link_path params
-command_with names.FinishReport params = Some FinishReport
-command_with names.AbortReport params = Some AbortReport
+abbrev pub report_command_with : ReportName → ItemValues → Option ReportCommand
+report_command_with names.SetPath params = set_path params
+report_command_with names.DeletePath params = delete_path params
+report_command_with names.LinkPath params = link_path params
+report_command_with names.FinishReport params = Some FinishReport
+report_command_with names.AbortReport params = Some AbortReport
 
 -- ---- items
 
 -- the command of a name and its parameters, or why there is none
-abbrev pub command_named : List ℕ → ItemValues → Result ReportCommand CommandFault
-command_named name params =
-    option_map_or (λ known. ok_or (command_with known params) BadParameters)
+abbrev pub report_command_named : List ℕ → ItemValues → Result ReportCommand CommandFault
+report_command_named name params =
+    option_map_or (λ known. ok_or (report_command_with known params) BadParameters)
     (report_name name) (Err UnknownName)
 
 -- the command of a report that an item is, or why it is none
 abbrev pub report_command : ItemValue → Result ReportCommand CommandFault
 report_command item =
-    option_map_or (λ form. command_named form.0 form.1) (command_form item) (Err BadParameters)
+    option_map_or (λ form. report_command_named form.0 form.1) (command_form item) (Err BadParameters)

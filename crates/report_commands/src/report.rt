@@ -2,7 +2,7 @@
 ghost use Rattle.std.specs.Prelude.{◌≡◌, option_map};
 ghost use Rattle.items.specs.View.{value_of, values_of};
 ghost use Rattle.forms.specs.Answering.{Answers, Reads};
-ghost use Rattle.report_commands.specs.Reporting.{report_command, report_name, name_of, command_with, set_path, link_path, delete_path, reported_path};
+ghost use Rattle.report_commands.specs.Reporting.{report_command, report_name, name_of, report_command_with, set_path, link_path, delete_path, reported_path};
 
 use crate::depth_word::DepthWord;
 use crate::parameters::{read_last_depth, read_token};
@@ -92,7 +92,7 @@ pub fn read_name(item: &Item) -> Option<Option<ReportName>>
 
 /// The command of a name that is known.
 fn read_command(name: ReportName, params: &[Item]) -> Result<ReportCommand, CommandFault>
-    ensures { Reads result (command_with name (values_of params.now)) }
+    ensures { Reads result (report_command_with name (values_of params.now)) }
 {
     match name {
         ReportName::SetPath => read_set_path(params),

@@ -13,7 +13,7 @@ use Rattle.drives.specs.Scopes.{below, HoldsTogether}
 use Rattle.drives.proofs.Joined.{or_false}
 use Rattle.drives.proofs.Entries.{under_more}
 use Rattle.reports.specs.Places.{AllHoldTogether, is_grafted_over}
-use Rattle.reports.specs.Reported.{ReportedEntry, ReportedTree, entries_of, in_subtree, in_graft, shown_by, has_directory, has_place, path_above, with_graft, is_surely_placed, reported}
+use Rattle.reports.specs.Reported.{ReportedEntry, ReportedTree, reported_entries, in_subtree, in_graft, shown_by, has_directory, has_place, path_above, with_graft, is_surely_placed, reported}
 use Rattle.reports.specs.declared.graft.Graft.{Graft}
 use Rattle.reports.specs.declared.graft.Subtree.{Subtree}
 use Rattle.reports.proofs.Drives.{each_holds}
@@ -63,7 +63,7 @@ under_length p q up =
     omega (long, arith)
 
 -- where a graft of nothing has no place, nothing stands
-none_without_place : (top : PathValue) (had : ReportedTree) (p q : PathValue) → HoldsTogether top (entries_of had) → is_at_or_under p top ≡ true → is_at_or_under q p ≡ true → has_place top had p ≡ false
+none_without_place : (top : PathValue) (had : ReportedTree) (p q : PathValue) → HoldsTogether top (reported_entries had) → is_at_or_under p top ≡ true → is_at_or_under q p ≡ true → has_place top had p ≡ false
     → had q ≡ None
 none_without_place top had p q holds at up none = by (had q) refl
   where

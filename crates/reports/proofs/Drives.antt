@@ -12,7 +12,7 @@ use Rattle.repo_api.specs.States.{RepoState, Revision, tree_of, tree_in, trees_i
 use Rattle.drives.specs.Scopes.{below, HoldsTogether, DepthLimit}
 use Rattle.drives.proofs.Entries.{below_under}
 use Rattle.drives.proofs.Trees.{tree_holds, scope_holds}
-use Rattle.reports.specs.Reported.{entries_of}
+use Rattle.reports.specs.Reported.{reported_entries}
 use Rattle.reports.specs.Targets.{WholeReport, goal_path, target_tree, client_tree, limit_of, old_tree, new_tree}
 use Rattle.reports.specs.declared.ask.DriveAsk.{DriveAsk}
 use Rattle.reports.proofs.Holding.{all_hold, longer_below, below_longer}
@@ -56,9 +56,9 @@ target_holds c ask trees p q at low some = by (is_at_or_under q ask.target) some
 pub both_hold : (c : RepoState) (report : WholeReport) → AreTrees c.revisions
     → HoldsTogether report.ask.target (old_tree c report) × HoldsTogether report.ask.target (new_tree c report)
 both_hold c report trees = (
-  scope_holds limit (entries_of (client_tree c report)) (target_tree c report.ask) (entries_of (client_tree c report)) report.ask.target
+  scope_holds limit (reported_entries (client_tree c report)) (target_tree c report.ask) (reported_entries (client_tree c report)) report.ask.target
       (all_hold (trees_in c.revisions) report.ask.target report.grafts (revisions_hold c trees)),
-  scope_holds limit (entries_of (client_tree c report)) (target_tree c report.ask) (target_tree c report.ask) report.ask.target (target_holds c report.ask trees),
+  scope_holds limit (reported_entries (client_tree c report)) (target_tree c report.ask) (target_tree c report.ask) report.ask.target (target_holds c report.ask trees),
 )
   where
     limit : DepthLimit

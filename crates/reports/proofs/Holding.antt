@@ -12,7 +12,7 @@ use Rattle.drives.specs.declared.depth.Depth.{Depth}
 use Rattle.drives.specs.declared.depth.Depth.TheVariants.{Empty, Files, Immediates, Infinity}
 use Rattle.drives.proofs.Joined.{or_cases}
 use Rattle.drives.proofs.Entries.{under_more, below_under, below_apart, under_both, no_length}
-use Rattle.reports.specs.Reported.{ReportedEntry, ReportedTree, entries_of, left_by, in_subtree, in_graft, has_directory, has_place, path_above, with_graft, reported}
+use Rattle.reports.specs.Reported.{ReportedEntry, ReportedTree, reported_entries, left_by, in_subtree, in_graft, has_directory, has_place, path_above, with_graft, reported}
 use Rattle.reports.specs.declared.graft.Graft.{Graft}
 use Rattle.reports.specs.declared.graft.Subtree.{Subtree}
 
@@ -146,7 +146,7 @@ not_under : (b : Bool) → (b ≡ true → ⊥) → b ≡ false
 not_under true f = absurd (f refl)
 not_under false f = refl
 
-step_holds : (trees : ℕ → Tree) (top : PathValue) (had : ReportedTree) (g : Graft) → ((n : ℕ) → HoldsTogether [] (trees n)) → HoldsTogether top (entries_of had) → HoldsTogether top (entries_of (with_graft trees top had g))
+step_holds : (trees : ℕ → Tree) (top : PathValue) (had : ReportedTree) (g : Graft) → ((n : ℕ) → HoldsTogether [] (trees n)) → HoldsTogether top (reported_entries had) → HoldsTogether top (reported_entries (with_graft trees top had g))
 step_holds trees top had g hold old p q at low some = by (has_place top had g.path) refl some
   where
     k : PathValue
@@ -199,9 +199,9 @@ step_holds trees top had g hold old p q at low some = by (has_place top had g.pa
         subst (λ b. IsDirectory (After trees had g b p)) (sym is) (placed is (is_at_or_under q k) refl (subst (λ b. IsSome (After trees had g b q)) is h))
     by false is h = subst (λ b. IsDirectory (After trees had g b p)) (sym is) (old p q at low (subst (λ b. IsSome (After trees had g b q)) is h))
 
-fold_holds : (trees : ℕ → Tree) (top : PathValue) (gs : List Graft) (had : ReportedTree) → ((n : ℕ) → HoldsTogether [] (trees n)) → HoldsTogether top (entries_of had) → HoldsTogether top (entries_of (fold (with_graft trees top) had gs))
+fold_holds : (trees : ℕ → Tree) (top : PathValue) (gs : List Graft) (had : ReportedTree) → ((n : ℕ) → HoldsTogether [] (trees n)) → HoldsTogether top (reported_entries had) → HoldsTogether top (reported_entries (fold (with_graft trees top) had gs))
 fold_holds trees top [] had hold old = old
 fold_holds trees top (g ∷ gs) had hold old = fold_holds trees top gs (with_graft trees top had g) hold (step_holds trees top had g hold old)
 
-pub all_hold : (trees : ℕ → Tree) (top : PathValue) (grafts : List Graft) → ((n : ℕ) → HoldsTogether [] (trees n)) → HoldsTogether top (entries_of (reported trees top grafts))
+pub all_hold : (trees : ℕ → Tree) (top : PathValue) (grafts : List Graft) → ((n : ℕ) → HoldsTogether [] (trees n)) → HoldsTogether top (reported_entries (reported trees top grafts))
 all_hold trees top grafts hold = fold_holds trees top grafts (λ _. None) hold (λ p q at low some. absurd (false≢true some))

@@ -8,7 +8,7 @@ use Rattle.repo_api.specs.Trees.{Tree}
 use Rattle.repo_api.specs.declared.entry.Entry.{Entry}
 use Rattle.drives.specs.Scopes.{depth_below}
 use Rattle.drives.specs.declared.depth.Depth.TheVariants.{Infinity}
-use Rattle.reports.specs.Reported.{ReportedEntry, entries_of, has_directory, in_subtree, in_graft, left_by, reported_as, reported}
+use Rattle.reports.specs.Reported.{ReportedEntry, reported_entries, has_directory, in_subtree, in_graft, left_by, reported_as, reported}
 use Rattle.reports.specs.declared.graft.Graft.{Graft}
 use Rattle.reports.specs.declared.graft.Subtree.{Subtree}
 use Rattle.reports.proofs.Deciding.{shows_placed}
@@ -28,7 +28,7 @@ in_whole trees from s (c ∷ rest) full deep =
 
 -- what is reported as a whole has what its revision has
 pub whole_is_revision : (trees : ℕ → Tree) (g : Graft) (s : Subtree) (q : PathValue) → g.subtree ≡ Some s → s.starts_empty ≡ false → s.depth ≡ Infinity → is_at_or_under q g.path ≡ true
-    → entries_of (reported trees g.path (g ∷ [])) q ≡ trees s.revision (g.from ++ drop (length g.path) q)
+    → reported_entries (reported trees g.path (g ∷ [])) q ≡ trees s.revision (g.from ++ drop (length g.path) q)
 whole_is_revision trees g s q is full deep up =
     ap (option_map (λ (h : ReportedEntry). h.entry))
     (shows_placed trees g.path (λ _. None) g q up (ap (λ b. b || has_directory None) (same_path_refl g.path))

@@ -40,9 +40,9 @@ abbrev pub ◌>>=◌ : {A B : Type 0} → Result A Refusal → (A → Result B R
 (Err r) >>= next = Err r
 
 -- what does not hold is refused so
-abbrev pub unless : Bool → Refusal → Result Unit Refusal
-unless true r = Ok tt
-unless false r = Err r
+abbrev pub ok_if : Bool → Refusal → Result Unit Refusal
+ok_if true r = Ok tt
+ok_if false r = Err r
 
 -- ---- paths and revisions
 
@@ -139,14 +139,14 @@ graft_of p from n depth reported = record {
 abbrev pub set_path_graft : RepoState → List ℕ → OpenState → ReportedPath → Option (List ℕ)
     → Result (ReportRoot × Graft) Refusal
 set_path_graft c name report reported url = do
-  _ ← unless (may_come report reported.path url) refusals.MalformedData
+  _ ← ok_if (may_come report reported.path url) refusals.MalformedData
   p ← report_path report.ask reported.path
   from ← url_or name (own_source report.ask.anchor report.ask.target report.grafts p) url
   n ← revision_read c (Some reported.revision)
   depth ← graft_depth reported.depth
-  _ ← unless (has_place report.ask.target (reported_tree c report.ask report.grafts) p)
+  _ ← ok_if (has_place report.ask.target (reported_tree c report.ask report.grafts) p)
       refusals.NotFound
-  _ ← unless (is_some (trees_in c.revisions n from) || may_lack report) refusals.NotFound
+  _ ← ok_if (is_some (trees_in c.revisions n from) || may_lack report) refusals.NotFound
   Ok (root_after report.root n depth, graft_of p from n depth reported)
 
 -- what a path that is set, or linked to a URL, makes of a report
@@ -167,9 +167,9 @@ empty_graft report p = record {
 -- the graft of a path at which nothing is: the anchor itself cannot be taken away
 abbrev pub delete_path_graft : OpenState → List ℕ → Result Graft Refusal
 delete_path_graft report text = do
-  _ ← unless (is_some report.root) refusals.MalformedData
+  _ ← ok_if (is_some report.root) refusals.MalformedData
   p ← report_path report.ask text
-  _ ← unless (not (same_path p [])) refusals.MalformedData
+  _ ← ok_if (not (same_path p [])) refusals.MalformedData
   Ok (empty_graft report p)
 
 -- what a path at which nothing is makes of a report
@@ -203,7 +203,7 @@ has_anchor c ask grafts =
 abbrev pub finish_root : RepoState → OpenState → Result ReportRoot Refusal
 finish_root c report = do
   root ← ok_or report.root refusals.MalformedData
-  _ ← unless (has_goal c report.ask report.ask.purpose && has_anchor c report.ask report.grafts)
+  _ ← ok_if (has_goal c report.ask report.ask.purpose && has_anchor c report.ask report.grafts)
       refusals.NotFound
   Ok root
 

@@ -22,8 +22,8 @@ abbrev pub ReportedTree : Type 0
 ReportedTree = PathValue → Option ReportedEntry
 
 -- the entries alone
-abbrev pub entries_of : ReportedTree → Tree
-entries_of had q = option_map (λ h. h.entry) (had q)
+abbrev pub reported_entries : ReportedTree → Tree
+reported_entries had q = option_map (λ h. h.entry) (had q)
 
 -- ---- one subtree
 

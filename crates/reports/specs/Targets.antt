@@ -10,7 +10,7 @@ use Rattle.forms.specs.Forms.{is_name}
 use Rattle.drives.specs.Scopes.{DepthLimit, scope_of, within}
 use Rattle.drives.specs.Scopes.DepthLimit.{Given, Reported}
 use Rattle.drives.specs.declared.depth.Depth.{Depth}
-use Rattle.reports.specs.Reported.{ReportedTree, entries_of, has_directory, reported}
+use Rattle.reports.specs.Reported.{ReportedTree, reported_entries, has_directory, reported}
 use Rattle.reports.specs.declared.ask.DepthAsked.{DepthAsked}
 use Rattle.reports.specs.declared.ask.DepthAsked.TheVariants as asks
 use Rattle.reports.specs.declared.ask.DriveAsk.{DriveAsk}
@@ -78,11 +78,11 @@ limit_of had root asks.AsReported = Reported (reported_depth had) root.depth
 abbrev pub drive_scope : RepoState → WholeReport → PathValue → Bool
 drive_scope c report =
     scope_of (limit_of (client_tree c report) report.root report.ask.depth)
-    (entries_of (client_tree c report)) (target_tree c report.ask) report.ask.target
+    (reported_entries (client_tree c report)) (target_tree c report.ask) report.ask.target
 
 -- what the client has of these paths
 abbrev pub old_tree : RepoState → WholeReport → Tree
-old_tree c report = within (drive_scope c report) (entries_of (client_tree c report))
+old_tree c report = within (drive_scope c report) (reported_entries (client_tree c report))
 
 -- and what it is to have of them
 abbrev pub new_tree : RepoState → WholeReport → Tree

@@ -43,11 +43,7 @@ impl From<PathFault> for ReportFault {
     fn from(fault: PathFault) -> Self {
         match fault {
             PathFault::NoMemory => ReportFault::NoMemory,
-            PathFault::EmptyComponent
-            | PathFault::ForbiddenComponent
-            | PathFault::TooLong
-            | PathFault::TooDeep
-            | PathFault::NotThisRepository => ReportFault::Refused(path_refusal(fault)),
+            _ => ReportFault::Refused(path_refusal(fault)),
         }
     }
 }

@@ -5,7 +5,7 @@ ghost use Rattle.svnpath.specs.Texts.{joined};
 ghost use Rattle.repo_api.specs.States.{trees_in};
 ghost use Rattle.reports.specs.Depths.{graft_depth, depth_asked};
 ghost use Rattle.reports.specs.Judging.{JudgesReport};
-ghost use Rattle.reports.specs.Refusing.{unless, or_refusal, url_or, revision_read};
+ghost use Rattle.reports.specs.Refusing.{ok_if, or_refusal, url_or, revision_read};
 
 use crate::ask::DepthAsked;
 use crate::fault::ReportFault;
@@ -20,7 +20,7 @@ use svnpath::Path;
 
 /// What does not hold is refused so.
 pub(crate) fn judge(holds: bool, refusal: Refusal) -> Result<(), ReportFault>
-    ensures { JudgesReport result (unless holds refusal) }
+    ensures { JudgesReport result (ok_if holds refusal) }
 {
     if holds {
         Ok(())
@@ -79,9 +79,7 @@ pub(crate) fn graft_depth(word: Option<DepthWord>) -> Result<Depth, ReportFault>
     ensures { JudgesReport result (graft_depth word) }
 {
     match word {
-        None | Some(DepthWord::Unknown) | Some(DepthWord::Known(Depth::Infinity)) => {
-            Ok(Depth::Infinity)
-        }
+        None | Some(DepthWord::Unknown | DepthWord::Known(Depth::Infinity)) => Ok(Depth::Infinity),
         Some(_) => Err(ReportFault::Refused(Refusal::NotSupported)),
     }
 }

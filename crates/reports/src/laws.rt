@@ -7,7 +7,7 @@ ghost use Rattle.repo_api.specs.Trees.{Tree};
 ghost use Rattle.drives.specs.Scopes.{HoldsTogether};
 ghost use Rattle.drives.specs.declared.depth.Depth.TheVariants.{Infinity};
 ghost use Rattle.reports.specs.Places.{AllHoldTogether};
-ghost use Rattle.reports.specs.Reported.{reported, entries_of};
+ghost use Rattle.reports.specs.Reported.{reported, reported_entries};
 ghost use Rattle.reports.specs.Targets.{WholeReport, old_tree, new_tree};
 ghost use Rattle.reports.specs.declared.graft.Graft.{Graft};
 ghost use Rattle.reports.specs.declared.graft.Subtree.{Subtree};
@@ -22,7 +22,7 @@ pub fn revisions_hold_together()
 pub fn reported_trees_hold_together()
     ensures { (trees : ℕ → Tree) (top : PathValue) (grafts : List Graft)
         → ((n : ℕ) → HoldsTogether [] (trees n))
-        → HoldsTogether top (entries_of (reported trees top grafts)) }
+        → HoldsTogether top (reported_entries (reported trees top grafts)) }
 {}
 
 /// So it is in both trees of a drive, wherever each tree of the repository is a tree.
@@ -37,6 +37,6 @@ pub fn whole_reports_are_revisions()
     ensures { (trees : ℕ → Tree) (g : Graft) (s : Subtree) (q : PathValue)
         → g.subtree ≡ Some s → s.starts_empty ≡ false → s.depth ≡ Infinity
         → is_at_or_under q g.path ≡ true
-        → entries_of (reported trees g.path (g ∷ [])) q
+        → reported_entries (reported trees g.path (g ∷ [])) q
         ≡ trees s.revision (g.from ++ drop (length g.path) q) }
 {}

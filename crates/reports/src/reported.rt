@@ -131,9 +131,7 @@ fn depth_below(depth: Depth) -> Depth
 {
     match depth {
         Depth::Infinity => Depth::Infinity,
-        Depth::Immediates => Depth::Empty,
-        Depth::Files => Depth::Empty,
-        Depth::Empty => Depth::Empty,
+        Depth::Immediates | Depth::Files | Depth::Empty => Depth::Empty,
     }
 }
 

@@ -10,12 +10,11 @@ use access::RepoAccess;
 use byte_string::ByteString;
 use commands::ChangeRevPropCommand;
 use machine::{Client, Turn};
-use refusals::Refusal;
 use replies::{Reply, ReplySink};
-use repo_api::{ChangeFault, Repository};
+use repo_api::Repository;
 use std::alloc::AllocError;
 use std::mem::drop;
-use telling::{Preface, SessionPhase, end_halted, refuse, tell};
+use telling::{Preface, SessionPhase, tell, tell_fault};
 
 /// The change that a command asks for.
 fn asked_change(command: &ChangeRevPropCommand) -> Result<ChangeRevPropCommand, AllocError>
@@ -53,13 +52,7 @@ fn ask_change<R: Repository, A: RepoAccess<View = R>, S: ReplySink>(
     } = command;
     match access.change_property(revision, name, value) {
         Ok(()) => tell(client, preface, Ok(Reply::Success), turn),
-        Err(ChangeFault::Refused(refusal)) => refuse(client, preface, refusal, turn),
-        Err(ChangeFault::StoreFailed) => refuse(client, preface, Refusal::StoreFailed, turn),
-        Err(ChangeFault::Halted) => end_halted(client, preface, turn),
-        Err(ChangeFault::NoMemory) => {
-            drop(client);
-            Err(AllocError)
-        }
+        Err(fault) => tell_fault(client, preface, fault, turn),
     }
 }
 

@@ -6,7 +6,7 @@ ghost use Rattle.replies.specs.Sinks.{WritesPart};
 ghost use Rattle.access.specs.Points.{content_of};
 ghost use Rattle.machine.specs.Hearing.Input.{Whole};
 ghost use Rattle.machine.specs.Answers.{malformed, says};
-ghost use Rattle.machine.specs.Stages.{is_open, RestsOn};
+ghost use Rattle.machine.specs.Stages.{is_open, StandsOn};
 ghost use Rattle.machine.specs.Steps.{input_step, AnswerWritten, StepWritten, StepOrNothing};
 ghost use Rattle.machine.specs.declared.phase.Phase.TheVariants.{Ended};
 ghost use Rattle.session.specs.Taking.{input_of};
@@ -33,7 +33,7 @@ fn serve_item<R: Repository, A: RepoAccess<View = R>, S: ReplySink>(
     access: &mut A,
     turn: &mut Turn<S>,
 ) -> Result<SessionPhase<R>, AllocError>
-    requires rests { RestsOn phase (content_of (A.point access.old)) }
+    requires rests { StandsOn phase (content_of (A.point access.old)) }
     ensures ok { IfOk result (λ after. StepWritten A.rules
         (input_step options.now turn.old.env phase (Whole (value_of item.now)))
         (A.point access.old) (A.point access.new)
@@ -84,7 +84,7 @@ pub fn serve<R: Repository, A: RepoAccess<View = R>, S: ReplySink>(
     access: &mut A,
     turn: &mut Turn<S>,
 ) -> Result<SessionPhase<R>, AllocError>
-    requires rests { RestsOn phase (content_of (A.point access.old)) }
+    requires rests { StandsOn phase (content_of (A.point access.old)) }
     ensures ok { IfOk result (λ after. StepWritten A.rules
         (input_step options.now turn.old.env phase (input_of incoming))
         (A.point access.old) (A.point access.new)

@@ -2,7 +2,7 @@
 ghost use Rattle.std.specs.Prelude.{◌≡◌, ◌++◌, [], true, false, IfOk, OnOk, OnErr, IfErr, IsErrOf};
 ghost use Rattle.repo_api.specs.Soundness.{AreSound};
 ghost use Rattle.access.specs.Points.{content_of};
-ghost use Rattle.machine.specs.Stages.{is_open, RestsOn};
+ghost use Rattle.machine.specs.Stages.{is_open, StandsOn};
 ghost use Rattle.machine.specs.Steps.{FeedWritten, FeedLost};
 ghost use Rattle.machine.specs.declared.phase.Phase.TheVariants.{Greeted, Ended};
 
@@ -38,14 +38,14 @@ fn serve_all<R: Repository, A: RepoAccess<View = R>, S: ReplySink>(
     access: &mut A,
     turn: &mut Turn<S>,
 ) -> Result<SessionPhase<R>, AllocError>
-    requires rests { RestsOn phase (content_of (A.point access.old)) }
+    requires rests { StandsOn phase (content_of (A.point access.old)) }
     ensures ok { IfOk result (λ after. FeedWritten A.rules options.now turn.old.env
         (A.point access.old) phase reader.old.rest reader.new.rest
         (A.point access.new) after (S.writes turn.old.out turn.new.out)) }
     ensures err { OnErr result (FeedLost A.rules options.now turn.old.env
         (A.point access.old) phase reader.old.rest
         (A.point access.new) (S.writes turn.old.out turn.new.out)) }
-    ensures rests { IfOk result (λ after. RestsOn after (content_of (A.point access.new))) }
+    ensures rests { IfOk result (λ after. StandsOn after (content_of (A.point access.new))) }
     ensures trees { OnErr result (AreSound (content_of (A.point access.new)).revisions) }
 {
     steps_keep_trees();
@@ -131,7 +131,7 @@ impl<R: Repository> Session<R> {
         access: &mut A,
         turn: &mut Turn<S>,
     ) -> Result<(), SessionFault>
-        requires rests { RestsOn self.old.phase (content_of (A.point access.old)) }
+        requires rests { StandsOn self.old.phase (content_of (A.point access.old)) }
         ensures ok { OnOk result (FeedWritten A.rules options.now turn.old.env
             (A.point access.old) self.old.phase (self.old.rest ++ piece.now) self.new.rest
             (A.point access.new) self.new.phase (S.writes turn.old.out turn.new.out)) }
@@ -144,7 +144,7 @@ impl<R: Repository> Session<R> {
             (A.point access.old) self.old.phase (self.old.rest ++ piece.now)
             (A.point access.new) (S.writes turn.old.out turn.new.out)) }
         ensures err { OnErr result (is_open self.new.phase ≡ false) }
-        ensures rests { RestsOn self.new.phase (content_of (A.point access.new)) }
+        ensures rests { StandsOn self.new.phase (content_of (A.point access.new)) }
     {
         if !self.is_open() {
             return Err(SessionFault::Ended);

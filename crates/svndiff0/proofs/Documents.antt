@@ -10,7 +10,7 @@ use Rattle.svndiff0.specs.Read.{Read, ◌>>=◌}
 use Rattle.svndiff0.specs.Integer.{integer_at, bounded_at}
 use Rattle.svndiff0.specs.Instruction.{instructions_of}
 use Rattle.svndiff0.specs.Window.{limit, head_at, judged, and_rest, body_at, window_at}
-use Rattle.svndiff0.specs.Document.{header, bytes_behind, header_at, Reading, going, broken, with_windows, windows_within, windows_of, after_header, read}
+use Rattle.svndiff0.specs.Document.{header, bytes_behind, header_at, Reading, going, broken, with_windows, windows_within, windows_of, after_header, read_document}
 use Rattle.svndiff0.specs.Applying.{Applying, HasRead, with_more, go_on, fed}
 use Rattle.svndiff0.proofs.Steady.{Front, Steady, same_found, steady_then, steady_give, steady_integer, steady_bounded, weaker}
 use Rattle.svndiff0.proofs.Windows.{body_beyond, body_short}
@@ -208,7 +208,7 @@ behind_finds (w ∷ ws) (b ∷ bs) piece rest e =
       | false ↦ λ h. cc
     ]) e
 
-read_by : (base document piece : List ℕ) (v : Result (Option (List ℕ)) DiffFault) → header_at document ≡ v → go_on base (with_more (after_header base document v) piece) ≡ read base (document ++ piece)
+read_by : (base document piece : List ℕ) (v : Result (Option (List ℕ)) DiffFault) → header_at document ≡ v → go_on base (with_more (after_header base document v) piece) ≡ read_document base (document ++ piece)
 unfolding header_at
 read_by base document piece (Err f) e = sym (ap (after_header base (document ++ piece)) (behind_errs header document piece f e))
 read_by base document piece (Ok None) e = refl
@@ -216,7 +216,7 @@ read_by base document piece (Ok (Some rest)) e =
     windows_more (length rest) base [] rest piece (le_refl (length rest)) (window_at base 0 rest) refl
     ∙ sym (ap (after_header base (document ++ piece)) (behind_finds header document piece rest e))
 
-pub read_more : (base document piece : List ℕ) → go_on base (with_more (read base document) piece) ≡ read base (document ++ piece)
+pub read_more : (base document piece : List ℕ) → go_on base (with_more (read_document base document) piece) ≡ read_document base (document ++ piece)
 read_more base document piece = read_by base document piece (header_at document) refl
 
 -- all that was fed counts as one document

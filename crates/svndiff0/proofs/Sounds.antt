@@ -14,7 +14,7 @@ use Rattle.svndiff0.specs.Read.{Read, ◌>>=◌}
 use Rattle.svndiff0.specs.Integer.{integer_behind, integer_at, bounded_at}
 use Rattle.svndiff0.specs.Instruction.{length_at, copy_at, new_data_at, instruction_at, before, with_others, instructions_of, total, new_total, target_of}
 use Rattle.svndiff0.specs.Window.{limit, head_at, judged, and_rest, body_at, window_at}
-use Rattle.svndiff0.specs.Document.{header, header_at, Reading, opening, going, broken, with_windows, windows_of, after_header, read, outcome, document_text}
+use Rattle.svndiff0.specs.Document.{header, header_at, Reading, opening, going, broken, with_windows, windows_of, after_header, read_document, outcome, document_text}
 use Rattle.svndiff0.specs.Format.{AreGroups, IsInteger, IsLength, IsInstruction, AreInstructions, AreIntegers, IsWindow, AreWindows, IsDocument}
 use Rattle.svndiff0.proofs.Steady.{same_found}
 use Rattle.svndiff0.proofs.Sections.{section_step, section_none, shorter, before_ok}
@@ -336,4 +336,4 @@ document_by base document text (Ok (Some rest)) e w =
     record { targets = r.targets; windows = rest; are_windows = r.are; whole = behind_front header document rest e; gives = r.gives }
 
 pub document_found : (base document text : List ℕ) → document_text base document ≡ Ok text → IsDocument base document text
-document_found base document text e = document_by base document text (header_at document) refl (outcome_found (read base document) text e)
+document_found base document text e = document_by base document text (header_at document) refl (outcome_found (read_document base document) text e)

@@ -7,7 +7,7 @@ use Rattle.svndiff0.specs.declared.fault.DiffFault.TheVariants.{BadHeader, Targe
 use Rattle.svndiff0.specs.declared.stage.Stage.{Stage}
 use Rattle.svndiff0.specs.declared.stage.Stage.TheVariants.{Header, Windows, Broken}
 use Rattle.svndiff0.specs.Document.{header, bytes_behind, header_at, Reading, broken, after_header, windows_of}
-use Rattle.svndiff0.specs.Applying.{Applying, with_more, go_on, fed, IsSound, Feeds}
+use Rattle.svndiff0.specs.Applying.{Applying, with_more, go_on, fed, IsSound, FeedsApplier}
 use Rattle.svndiff0.specs.Stages.{reading_of, HasTextOf}
 
 pub behind_front : (ws bytes rest : List ℕ) → bytes_behind ws bytes ≡ Ok (Some rest) → bytes ≡ ws ++ rest
@@ -69,7 +69,7 @@ same_view base text rest text' rest' stage old v t r = rw (t, r) v
 pub cut_is : (old new : List ℕ) (n : ℕ) → n ≡ length old → ((added : List ℕ) × (new ≡ old ++ added)) → take n new ≡ old
 cut_is old new n e g = ap (λ m. take m new) e ∙ (ap (take (length old)) g.1 ∙ take-append_seam old g.0)
 
-pub feeds_broken : (old : Applying) (piece : List ℕ) (new : Applying) (f : DiffFault) → f ≢ NoMemory → new ≡ fed old piece → new.reading ≡ broken f → Feeds old piece (Err f) new
+pub feeds_broken : (old : Applying) (piece : List ℕ) (new : Applying) (f : DiffFault) → f ≢ NoMemory → new ≡ fed old piece → new.reading ≡ broken f → FeedsApplier old piece (Err f) new
 feeds_broken old piece new BadHeader n e b = (e, b)
 feeds_broken old piece new TargetCopy n e b = (e, b)
 feeds_broken old piece new BadInstruction n e b = (e, b)

@@ -3,7 +3,7 @@ use Rattle.std.specs.Prelude.{◌≡◌, ◌≢◌, ℕ, List, ◌++◌, length,
 use Rattle.svndiff0.specs.declared.fault.DiffFault.{DiffFault}
 use Rattle.svndiff0.specs.declared.fault.DiffFault.TheVariants.{NoMemory}
 use Rattle.svndiff0.specs.Window.{window_at}
-use Rattle.svndiff0.specs.Document.{Reading, opening, going, broken, read, windows_of}
+use Rattle.svndiff0.specs.Document.{Reading, opening, going, broken, read_document, windows_of}
 
 -- the base, and what is known of the document
 pub record Applying : Type 0 where
@@ -12,7 +12,7 @@ pub record Applying : Type 0 where
 
 -- it was fed this, however it was cut into pieces
 abbrev pub HasRead : Applying → List ℕ → Type 0
-HasRead a document = a.reading ≡ read a.base document
+HasRead a document = a.reading ≡ read_document a.base document
 
 -- more bytes have come
 abbrev pub with_more : Reading → List ℕ → Reading
@@ -22,7 +22,7 @@ with_more (broken f) piece = broken f
 
 -- the bytes that are there are read, as far as they go
 abbrev pub go_on : List ℕ → Reading → Reading
-go_on base (opening bytes) = read base bytes
+go_on base (opening bytes) = read_document base bytes
 go_on base (going text bytes) = windows_of base text bytes
 go_on base (broken f) = broken f
 
@@ -37,10 +37,10 @@ IsSound (broken f) = ⊥
 
 -- What a feed answers: want of memory changes nothing, and any other fault is the rule that is
 -- broken now.
-abbrev pub Feeds : Applying → List ℕ → Result Unit DiffFault → Applying → Type 0
-Feeds old piece (Ok x) new = (new ≡ fed old piece) × IsSound new.reading
-Feeds old piece (Err NoMemory) new = new ≡ old
-Feeds old piece (Err f) new = (new ≡ fed old piece) × (new.reading ≡ broken f)
+abbrev pub FeedsApplier : Applying → List ℕ → Result Unit DiffFault → Applying → Type 0
+FeedsApplier old piece (Ok x) new = (new ≡ fed old piece) × IsSound new.reading
+FeedsApplier old piece (Err NoMemory) new = new ≡ old
+FeedsApplier old piece (Err f) new = (new ≡ fed old piece) × (new.reading ≡ broken f)
 
 -- What applying the window at the front of the bytes gives: nothing yet; or its target view behind
 -- the text, and the

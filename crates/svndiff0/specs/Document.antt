@@ -50,8 +50,8 @@ after_header base bytes (Ok None) = opening bytes
 after_header base bytes (Ok (Some rest)) = windows_of base [] rest
 
 -- the document so far, over the base
-abbrev pub read : List ℕ → List ℕ → Reading
-read base document = after_header base document (header_at document)
+abbrev pub read_document : List ℕ → List ℕ → Reading
+read_document base document = after_header base document (header_at document)
 
 -- the text, where the document ends here
 abbrev pub outcome : Reading → Result (List ℕ) DiffFault
@@ -62,4 +62,4 @@ outcome (broken f) = Err f
 
 -- the text of a document over a base, or the rule that it breaks first
 abbrev pub document_text : List ℕ → List ℕ → Result (List ℕ) DiffFault
-document_text base document = outcome (read base document)
+document_text base document = outcome (read_document base document)

@@ -44,7 +44,7 @@ IsInstruction view (SourceCopy offset n) bytes = IsCopy view offset n bytes
 IsInstruction view (NewData n) bytes = IsNewData n bytes
 
 -- one after another
-pub record Joined (First Rest : List ℕ → Type 0) (bytes : List ℕ) : Type 0 where
+pub record JoinedBytes (First Rest : List ℕ → Type 0) (bytes : List ℕ) : Type 0 where
   pub front : List ℕ
   pub rest : List ℕ
   pub first : First front
@@ -54,7 +54,7 @@ pub record Joined (First Rest : List ℕ → Type 0) (bytes : List ℕ) : Type 0
 abbrev pub AreInstructions : ℕ → List Instruction → List ℕ → Type 0
 AreInstructions view [] bytes = bytes ≡ []
 AreInstructions view (i ∷ is) bytes =
-    Joined (IsInstruction view i) (λ rest. AreInstructions view is rest) bytes
+    JoinedBytes (IsInstruction view i) (λ rest. AreInstructions view is rest) bytes
 
 -- five integers
 pub record AreIntegers (offset view target section fresh : ℕ) (bytes : List ℕ) : Type 0 where
@@ -94,7 +94,7 @@ pub record IsWindow (base : List ℕ) (before : ℕ) (target bytes : List ℕ) :
 abbrev pub AreWindows : List ℕ → ℕ → List (List ℕ) → List ℕ → Type 0
 AreWindows base before [] bytes = bytes ≡ []
 AreWindows base before (t ∷ ts) bytes =
-    Joined (IsWindow base before t) (λ rest. AreWindows base (before + length t) ts rest) bytes
+    JoinedBytes (IsWindow base before t) (λ rest. AreWindows base (before + length t) ts rest) bytes
 
 -- the header and windows, whose target views are the text
 pub record IsDocument (base document text : List ℕ) : Type 0 where

@@ -38,7 +38,7 @@ impl Applier {
     ghost use Rattle.std.specs.Prelude.{◌≡◌, ◌≢◌, ◌++◌, ℕ, List, [], MatchResult};
     ghost use Rattle.std.specs.Arc.{arc_value};
     ghost use Rattle.svndiff0.specs.Document.{opening, outcome, document_text};
-    ghost use Rattle.svndiff0.specs.Applying.{HasRead, fed, Feeds};
+    ghost use Rattle.svndiff0.specs.Applying.{HasRead, fed, FeedsApplier};
     ghost use Rattle.svndiff0.specs.declared.fault.DiffFault.TheVariants.{NoMemory};
 
     /// An applier over this base, of which no byte is copied, that was fed nothing.
@@ -63,7 +63,7 @@ impl Applier {
     /// piece after it. `NoMemory` where memory runs out: the piece isn't taken then, and nothing changed.
     pub fn feed(&mut self, piece: &[u8]) -> Result<(), DiffFault>
         // What it holds then, and what it answers.
-        ensures feeds { Feeds self.old piece.now result self.new }
+        ensures feeds { FeedsApplier self.old piece.now result self.new }
         // All that was fed counts as one document, however it was cut into pieces.
         ensures pieces { (document : List ℕ) → HasRead self.old document
             → HasRead (fed self.old piece.now) (document ++ piece.now) }

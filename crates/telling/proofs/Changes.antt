@@ -1,24 +1,27 @@
 -- Changes that were asked for, and the steps that they are.
 use Rattle.std.proofs.Common.{◌≡◌, ℕ, List, [], ◌∷◌, ◌++◌, Bool, true, false, Option, Some, None, refl, sym, subst, inl, inr}
-use Rattle.std.specs.Prelude.{Result, Ok, Err, IfOk, OnErr}
+use Rattle.std.specs.Prelude.{Result, Ok, Err, IfOk, OnErr, IsSomeAnd, MatchOption}
 use Rattle.repo_api.specs.declared.fault.ChangeFault.{ChangeFault}
 use Rattle.refusals.specs.declared.Refusal.{Refusal}
 use Rattle.refusals.specs.declared.Refusal.TheVariants as refusals
 use Rattle.repo_api.specs.States.{RepoState}
 use Rattle.repo_api.specs.Accepted.{Accepted}
 use Rattle.repo_api.specs.declared.fault.ChangeFault.TheVariants as change_faults
+use Rattle.replies.specs.Replies.{print}
+use Rattle.replies.specs.Sinks.{WritesPart}
 use Rattle.replies.specs.declared.reply.Reply.{Reply}
 use Rattle.replies.specs.declared.reply.Reply.TheVariants as replies
 use Rattle.access.specs.Points.{Point, AccessRules, content_of}
 use Rattle.access.specs.Changing.{ChangesAt}
-use Rattle.machine.specs.Answers.{Verdict, Answer, says, serves, change_answer, ChangeStep, Behind}
+use Rattle.machine.specs.Answers.{Verdict, Answer, says, serves, behind, change_answer, ChangeStep, Behind}
 use Rattle.machine.specs.Answers.Verdict.{Written, NotWritten, Unknown}
 use Rattle.machine.specs.Stages.{Stage}
-use Rattle.machine.specs.Steps.{EffectAt, StepAt, StepWritten, StepOrNothing}
+use Rattle.machine.specs.Steps.{EffectAt, StepAt, AnswerWritten, StepWritten, StepOrNothing}
 use Rattle.machine.specs.declared.env.Env.{Env}
 use Rattle.machine.specs.declared.phase.Client.{Client}
 use Rattle.machine.specs.declared.phase.Phase.TheVariants.{Serving, Ended}
-use Rattle.telling.proofs.Steps.{Leads, leads_by, leads_behind}
+use Rattle.telling.specs.Telling.{fault_answer}
+use Rattle.telling.proofs.Steps.{Leads, leads_by, leads_behind, stepped, not_asked}
 
 -- ---- a change that was asked for
 
@@ -50,19 +53,19 @@ module _ (refusal : RepoState → Option Refusal) (e : Accepted) (env : Env) (cl
       let a = change_answer env' client e own Written in
       led a at later (judged at false None a going accepted (Written, sym is)) (q, (q, added, refl), refl)
 
-  pub refused : (r : Refusal) → Came (Err (change_faults.Refused r)) → ChangeLeads env (Serving client) (replies.Failure r ∷ [])
+  refused : (r : Refusal) → Came (Err (change_faults.Refused r)) → ChangeLeads env (Serving client) (replies.Failure r ∷ [])
   refused r (at, later, (going, is_refused, stays)) =
       let a = serves env client (replies.Failure r) in
       led a at later (judged at false (Some r) a going is_refused refl) (at, refl, stays)
 
-  pub failed : answer NotWritten ≡ change_answer env client e [] NotWritten → Came (Err change_faults.StoreFailed)
+  failed : answer NotWritten ≡ change_answer env client e [] NotWritten → Came (Err change_faults.StoreFailed)
       → ChangeLeads env (Serving client) (replies.Failure refusals.StoreFailed ∷ [])
   failed is (at, later, (going, accepted, fails)) =
       let a = change_answer env client e [] NotWritten in
       led a at later (judged at false None a going accepted (NotWritten, sym is)) (at, refl, fails)
 
   -- one after a halt, or one of which nobody knows whether it is written
-  pub halted : answer Unknown ≡ change_answer env client e [] Unknown → Came (Err change_faults.Halted)
+  halted : answer Unknown ≡ change_answer env client e [] Unknown → Came (Err change_faults.Halted)
       → ChangeLeads env Ended (replies.Failure refusals.StoreFailed ∷ [])
   halted is (at, later, inl (stopped, stays)) =
       let a = says env Ended (replies.Failure refusals.StoreFailed ∷ []) in
@@ -70,6 +73,23 @@ module _ (refusal : RepoState → Option Refusal) (e : Accepted) (env : Env) (cl
   halted is (at, later, inr (going, accepted, halts)) =
       let a = change_answer env client e [] Unknown in
       led a at later (judged at false None a going accepted (Unknown, sym is)) (at, refl, halts)
+
+  -- one that was not made, and why is told
+  pub not_made : {E : Type 0} (fault : ChangeFault) (r : Result Stage E) (env' : Env) (writes : List ℕ → Type 0)
+      → answer NotWritten ≡ change_answer env client e [] NotWritten → answer Unknown ≡ change_answer env client e [] Unknown → Came (Err fault)
+      → record {
+        ok : IfOk r (λ phase'. IsSomeAnd (fault_answer env client fault) (λ a. AnswerWritten (behind told a) phase' env' writes));
+        err : OnErr r (MatchOption (fault_answer env client fault) (writes []) (λ a. WritesPart writes (print (told ++ a.replies))));
+      }
+      → record {
+        ok : IfOk r (λ phase'. StepWritten rules (λ at a. Behind told (Judged at) a) p q phase' env' writes);
+        err : OnErr r (StepOrNothing rules (λ at a. Behind told (Judged at) a) p q writes);
+      }
+  not_made (change_faults.Refused why) r env' writes fails halts came said = stepped (refused why came) writes r env' said
+  not_made change_faults.StoreFailed r env' writes fails halts came said = stepped (failed fails came) writes r env' said
+  not_made change_faults.Halted r env' writes fails halts came said = stepped (halted halts came) writes r env' said
+  not_made change_faults.NoMemory (Ok x) env' writes fails halts came said = absurd said.ok
+  not_made change_faults.NoMemory (Err e) env' writes fails halts came said = record { ok = tt; err = not_asked came said.err }
 
 -- ---- a step that is another's too
 

@@ -91,28 +91,17 @@ module _ {rules : AccessRules} {step : Point → Answer → Type 0} {p q : Point
 -- an answer that changes nothing, at the point that was looked at
 module _ (rules : AccessRules) (step : Point → Answer → Type 0) (p q : Point) (a : Answer)
     (later : rules.between p q) (is : step q a) (nothing : a.effect ≡ no_effect) (writes : List ℕ → Type 0) where
-  said_at : StepAt rules step p a q
-  said_at = record {
-    at = q;
-    later = later;
-    step_is = is;
-    moves = subst (λ (e : Effect). EffectAt rules q e q) (sym nothing) (q, refl, refl);
-  }
+  leads : Leads rules step p q a.env a.phase a.replies
+  leads = leads_to a later is nothing
 
   pub said : {E : Type 0} (r : Result Stage E) (env' : Env) → IfOk r (λ after. AnswerWritten a after env' writes)
       → IfOk r (λ after. StepWritten rules step p q after env' writes)
-  said (Ok after) env' answered = record {
-    answer = a;
-    happens = said_at;
-    phase_after = answered.phase_after;
-    env_after = answered.env_after;
-    written = answered.written;
-  }
+  said (Ok after) env' answered = told_all leads writes after env'
+      (record { phase_after = answered.phase_after; env_after = answered.env_after; written = answered.written })
   said (Err e) env' answered = tt
 
   pub said_part : {T E : Type 0} (r : Result T E) → OnErr r (WritesPart writes (print a.replies)) → OnErr r (StepOrNothing rules step p q writes)
-  said_part (Ok x) part = tt
-  said_part (Err e) part = inr (a, said_at, part)
+  said_part r part = stepped_part leads writes r part
 
 -- memory was refused: nothing was asked for, and nothing was written
 pub not_asked : {rules : AccessRules} {step : Point → Answer → Type 0} {writes : List ℕ → Type 0} {p q : Point}

@@ -1,20 +1,20 @@
 //! The answer to a command, behind what comes before it. Where one of these fails, a part of what it says
 //! was written.
-ghost use Rattle.std.specs.Prelude.{◌≡◌, ◌∷◌, ◌++◌, [], IfOk, OnOk, OnErr};
+ghost use Rattle.std.specs.Prelude.{◌≡◌, ◌∷◌, ◌++◌, [], IfOk, OnOk, OnErr, IsSomeAnd, MatchOption};
 ghost use Rattle.replies.specs.declared.reply.Reply.{Reply};
 ghost use Rattle.replies.specs.Replies.{print};
 ghost use Rattle.replies.specs.Sinks.{WritesPart};
 ghost use Rattle.machine.specs.Answers.{says, serves, behind};
 ghost use Rattle.machine.specs.Steps.{AnswerWritten};
 ghost use Rattle.machine.specs.declared.phase.Phase.TheVariants.{Ended};
-ghost use Rattle.telling.specs.Telling.{told_before};
+ghost use Rattle.telling.specs.Telling.{told_before, fault_answer};
 
 use crate::preface::{Preface, say_new_behind};
 use crate::turn::SessionPhase;
 use machine::{Client, Phase, Turn};
 use refusals::Refusal;
 use replies::{Reply, ReplySink};
-use repo_api::Repository;
+use repo_api::{ChangeFault, Repository};
 use std::alloc::AllocError;
 use std::mem::drop;
 
@@ -92,4 +92,31 @@ pub fn end_halted<R: Repository, S: ReplySink>(
     drop(unserved);
     say_new_behind(preface, Reply::Failure(Refusal::StoreFailed), &mut turn.out)?;
     Ok(Phase::Ended)
+}
+
+/// Tells a client that a change was not made, and why. Once changes have come to a halt the session
+/// ends. Where memory was refused there is no answer, and nothing is written.
+pub fn tell_fault<R: Repository, S: ReplySink>(
+    client: Client,
+    preface: Preface,
+    fault: ChangeFault,
+    turn: &mut Turn<S>,
+) -> Result<SessionPhase<R>, AllocError>
+    ensures ok { IfOk result (λ phase. IsSomeAnd (fault_answer turn.old.env client fault)
+        (λ told. AnswerWritten (behind (told_before preface) told)
+        phase turn.new.env (S.writes turn.old.out turn.new.out))) }
+    ensures err { OnErr result (MatchOption (fault_answer turn.old.env client fault)
+        (S.writes turn.old.out turn.new.out [])
+        (λ told. WritesPart (S.writes turn.old.out turn.new.out)
+        (print (told_before preface ++ told.replies)))) }
+{
+    match fault {
+        ChangeFault::Refused(refusal) => refuse(client, preface, refusal, turn),
+        ChangeFault::StoreFailed => refuse(client, preface, Refusal::StoreFailed, turn),
+        ChangeFault::Halted => end_halted(client, preface, turn),
+        ChangeFault::NoMemory => {
+            drop(client);
+            Err(AllocError)
+        }
+    }
 }

@@ -134,7 +134,7 @@ fn say_named<R: Repository, S: ReplySink>(
 }
 
 /// Looks at the repository, and writes the locations behind what comes before them.
-fn say_behind<R: Repository, A: RepoAccess<View = R>, S: ReplySink>(
+fn say_locations_behind<R: Repository, A: RepoAccess<View = R>, S: ReplySink>(
     base: &Path,
     command: &GetLocationsCommand,
     preface: Preface,
@@ -173,7 +173,7 @@ pub fn tell_locations<R: Repository, A: RepoAccess<View = R>, S: ReplySink>(
         (locations_replies (content_of at) command.now (joined client.path command.now.path))) a)
         (A.point access.old) (A.point access.new) (S.writes turn.old.out turn.new.out)) }
 {
-    match say_behind(&client.path, command, preface, access, turn) {
+    match say_locations_behind(&client.path, command, preface, access, turn) {
         Ok(()) => Ok(Phase::Serving(client)),
         Err(error) => {
             drop(client);

@@ -199,7 +199,7 @@ fn say_named<R: Repository, S: ReplySink>(
 }
 
 /// Looks at the repository, and writes the log behind what comes before it.
-fn say_behind<R: Repository, A: RepoAccess<View = R>, S: ReplySink>(
+fn say_log_behind<R: Repository, A: RepoAccess<View = R>, S: ReplySink>(
     base: &Path,
     command: &LogCommand,
     preface: Preface,
@@ -238,7 +238,7 @@ pub fn tell_log<R: Repository, A: RepoAccess<View = R>, S: ReplySink>(
         (log_replies (content_of at) command.now (all_joined client.path command.now.paths))) a)
         (A.point access.old) (A.point access.new) (S.writes turn.old.out turn.new.out)) }
 {
-    match say_behind(&client.path, command, preface, access, turn) {
+    match say_log_behind(&client.path, command, preface, access, turn) {
         Ok(()) => Ok(Phase::Serving(client)),
         Err(error) => {
             drop(client);

@@ -212,13 +212,12 @@ fn reads_users(rt: HostRuntime) -> Result<(), Fail> {
 
 #[test]
 fn reads_files_without_users(rt: HostRuntime) {
-    for file in [
-        b"".as_slice(),
-        b"[users]",
-        b"\n\n",
-        b"# none\r\n[users]\r\n",
-    ] {
-        assert_eq!(rt; Users::read(rt.alloc(), file).err(), None, "{file:?}");
+    for file in ["", "[users]", "\n\n", "# none\r\n[users]\r\n"] {
+        assert_eq!(rt;
+            Users::read(rt.alloc(), file.as_bytes()).err(),
+            None,
+            "{file:?}"
+        );
     }
 }
 

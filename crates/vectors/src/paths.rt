@@ -204,8 +204,7 @@ fn serves_trees(rt: HostRuntime) -> Result<(), PathFault> {
 #[test]
 fn names_children(rt: HostRuntime) -> Result<(), PathFault> {
     let alloc = rt.alloc();
-    let root = Path::root(alloc);
-    let a = root.child(alloc, ByteString::from_slice(alloc, b"a")?)?;
+    let a = Path::root(alloc).child(alloc, ByteString::from_slice(alloc, b"a")?)?;
     let names = a.components();
     assert!(rt; names.len() == 1 && names.iter().all(|name| name.as_slice() == b"a".as_slice()));
     let name = ByteString::from_slice(alloc, b"a")?;

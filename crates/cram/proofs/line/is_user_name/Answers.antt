@@ -2,7 +2,7 @@ use Rattle.std.proofs.Common.{◌≡◌, refl, Bool, true, false, ◌&&◌, not,
 use Rattle.std.proofs.lemmas.Iterator.{YieldsList-from_slice}
 use Rattle.std.proofs.lemmas.Iterator.Search.{any_from_yields_List}
 use Rattle.cram.specs.Line.{is_blank, has_right_length}
-use Rattle.cram.proofs.line.is_name.Goals as goal
+use Rattle.cram.proofs.line.is_user_name.Goals as goal
 
 and-true : (a b : Bool) → a ≡ true → b ≡ (a && b)
 and-true true b h = refl
