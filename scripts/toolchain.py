@@ -47,7 +47,6 @@ def loaded():
     # Ctrl-C ends all checks, and what guards them is started before there are threads
     signal.signal(signal.SIGINT, signal.SIG_DFL)
     library.guarded()
-    LOGS.mkdir(parents=True, exist_ok=True)
     return rt, library
 
 
@@ -66,6 +65,7 @@ def crates_for(library, names):
 
 def log_of(crate):
     """The file to which goes what the toolchain says of a crate."""
+    LOGS.mkdir(parents=True, exist_ok=True)
     return LOGS / f"{crate.name}.log"
 
 
