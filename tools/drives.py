@@ -175,8 +175,6 @@ class Report:
         # each path that was reported, with the path of the repository that it stands for, in their order
         self.places = []
         self.had = {}
-        # the paths that were ever reported to start empty
-        self.bare = set()
         self.sent = [self.beginning(target, revision, url, recurse, depth)]
         self.attempt(lambda: self.begin(target, revision, url, recurse, depth))
 
@@ -264,11 +262,11 @@ class Report:
         if source not in tree and not may_lack:
             raise Refused(NOT_FOUND)
         self.put(path, source)
-        if starts_empty:
-            self.bare.add(path)
         for place, node in tree.items():
             if place == source:
-                self.had[path] = Had(node, revision, token)
+                # a client that checks a directory out, or whose checkout was interrupted, has none of its properties yet
+                is_bare = starts_empty and node.text is None
+                self.had[path] = Had(node._replace(properties=()) if is_bare else node, revision, token)
             elif is_at_or_under(place, source) and not starts_empty:
                 self.had[joined(path, beyond(place, source))] = Had(node, revision)
         if self.first is None:
@@ -442,11 +440,8 @@ class Drive:
             told.append((LOCK_TOKEN, None))
         old, new = self.old(path, is_anew), dict(self.tree[path].properties)
         before = dict(old.properties) if old else {}
-        # the properties of what starts empty are told as if it had none: a client that checks a directory out, or whose
-        # checkout was interrupted, has none of them
-        is_bare = old is not None and path in self.report.bare
         names = sorted({*before, *new}, key=str.encode)
-        told += [(name, new.get(name)) for name in names if before.get(name) != new.get(name) or is_bare]
+        told += [(name, new.get(name)) for name in names if before.get(name) != new.get(name)]
         self.commands += [change(token, name, value) for name, value in told]
 
     def text(self, path, token, is_anew):

@@ -1,6 +1,8 @@
 //! A repository as a session reaches it.
 ghost use Rattle.std.specs.Prelude.{◌≡◌, ◌≤◌, true, IfOk};
-ghost use Rattle.repo_api.specs.States.{IsBeginning};
+ghost use Rattle.repo_api.specs.States.{IsBeginning, tree_of};
+ghost use Rattle.repo_api.specs.Transactions.{IsMarkedTxn};
+ghost use Rattle.repo_api.specs.Trees.{IsTree};
 ghost use Rattle.repo_api.specs.Accepted.{Accepted, changed};
 ghost use Rattle.repo_api.specs.Soundness.{AreSound};
 ghost use Rattle.access.specs.Points.{Point, AccessRules, content_of};
@@ -10,12 +12,22 @@ use byte_string::ByteString;
 use repo_api::{ChangeFault, CommitAsk, LockAsk, Repository, UnlockAsk};
 use std::alloc::AllocError;
 
-/// A commit that was made: the number of its revision, and whether the release of the locks that were handed
-/// in has failed, so that they stand on.
+/// What became of the locks that were handed in with a commit.
+#[derive(Clone, Copy)]
+pub enum Released {
+    /// They are released, unless no release is wanted.
+    Settled,
+    /// Memory was refused for their release, and they stand.
+    NoMemory,
+    /// The store failed at their release, and no change is made any more.
+    StoreFailed,
+}
+
+/// A commit that was made: the number of its revision, and what became of the locks that were handed in.
 #[derive(Clone, Copy)]
 pub struct Committed {
     pub revision: u64,
-    pub release_fails: bool,
+    pub released: Released,
 }
 
 /// A repository as a session reaches it: others may change it between two of the session's inputs.
@@ -41,14 +53,16 @@ pub trait RepoAccess {
     /// Makes the transaction the next revision, and then, unless the locks are to stay, releases those of
     /// the user's that were handed in, each by its path and its token: one that was stolen since then stays,
     /// and nobody changes the repository between the two. The transaction was last shown revisions that this
-    /// access has shown.
+    /// access has shown, its tree is a tree, and its marks name what they mark.
     fn commit(
         &mut self,
         ask: CommitAsk,
         txn: <Self::View as Repository>::Txn,
     ) -> Result<Committed, ChangeFault>
-        requires { IsBeginning (Self.View.txn_state txn).shown
+        requires rests { IsBeginning (Self.View.txn_state txn).shown
             (content_of (point self.old)).revisions }
+        requires tree { IsTree (tree_of (Self.View.txn_state txn).tree) }
+        requires marked { IsMarkedTxn (Self.View.txn_state txn) }
         ensures { (at : Point) × rules.between (point self.old) at
             × CommitsAt rules ask (Self.View.txn_state txn) at result (point self.new) };
 
@@ -85,17 +99,20 @@ pub trait RepoAccess {
     ghost sound: { (p q : Point) → rules.between p q
         → AreSound (content_of p).revisions → AreSound (content_of q).revisions };
 
-    /// Changes that have come to a halt are not made again, and the count of failures never falls.
+    /// Changes that have come to a halt are not made again, what was being saved then stays known, and the count
+    /// of failures never falls.
     ghost lasts: { (p q : Point) → rules.between p q
-        → (p.halted ≡ true → q.halted ≡ true) × (p.failures ≤ q.failures) };
+        → (p.halted ≡ true → (q.halted ≡ true) × (q.pending ≡ p.pending)) × (p.failures ≤ q.failures) };
 
     /// An own change is the one that was asked for.
     ghost counts: { (p : Point) (e : Accepted) (q : Point) → rules.adds p e q
-        → (content_of q ≡ changed (content_of p) e) × (q.halted ≡ p.halted) × (q.failures ≡ p.failures) };
+        → (content_of q ≡ changed (content_of p) e) × (q.halted ≡ p.halted) × (q.failures ≡ p.failures)
+        × (q.pending ≡ p.pending) };
 }
 
 /// An access that nobody shares: nothing changes between two calls.
 pub trait SoleAccess: RepoAccess {
     ghost alone: { (p q : Point) → Self.rules.between p q
-        → (content_of p ≡ content_of q) × (p.halted ≡ q.halted) × (p.failures ≡ q.failures) };
+        → (content_of p ≡ content_of q) × (p.halted ≡ q.halted) × (p.failures ≡ q.failures)
+        × (p.pending ≡ q.pending) };
 }

@@ -1,9 +1,11 @@
 //! A commit: its beginning, its commands and its end.
-ghost use Rattle.std.specs.Prelude.{◌≡◌, ◌≤◌, ◌∷◌, [], Ok, Err, Some, None, IfOk, OnOk, OnErr, IfErr, if◌then◌else◌};
+ghost use Rattle.std.specs.Prelude.{◌≡◌, ◌≤◌, ◌∷◌, [], Ok, Err, Some, None, IfOk, OnOk, OnErr, IfErr, IsSomeAnd, MatchOption, if◌then◌else◌};
 ghost use Rattle.items.specs.View.{value_of};
 ghost use Rattle.dates.specs.Dates.{IsDateText};
 ghost use Rattle.dates.specs.declared.TheConstants.{LAST_MOMENT};
-ghost use Rattle.repo_api.specs.States.{IsBeginning};
+ghost use Rattle.repo_api.specs.States.{IsBeginning, tree_of};
+ghost use Rattle.repo_api.specs.Transactions.{IsMarkedTxn};
+ghost use Rattle.repo_api.specs.Trees.{IsTree};
 ghost use Rattle.edit_commands.specs.Editing.{editor_command, ends_edit};
 ghost use Rattle.edit_rules.specs.Editor.{IfEditRefused, Applies, finished, RestsOn};
 ghost use Rattle.edit_rules.specs.Edits.{new_edit};
@@ -14,12 +16,13 @@ ghost use Rattle.replies.specs.Sinks.{WritesPart};
 ghost use Rattle.access.specs.Points.{content_of};
 ghost use Rattle.machine.specs.Answers.{says};
 ghost use Rattle.machine.specs.Commands.{lock_tokens, asked_by, commit_begins};
-ghost use Rattle.machine.specs.Machine.{commit_ask, skipping_answer, CloseStep, EditStep, EditingStep};
-ghost use Rattle.machine.specs.Steps.{AnswerWritten, StepWritten, StepOrNothing};
+ghost use Rattle.machine.specs.Machine.{commit_ask, skipping_answer, CloseStep, UnreleasedClose, EditStep, EditingStep, UnreleasedEnd};
+ghost use Rattle.machine.specs.Steps.{AnswerWritten, StepWritten, StepOrNothing, StepOrPart};
+ghost use Rattle.committing.specs.Telling.{tells_made, commit_answer};
 
 use crate::asking::asked_by;
 use crate::giving_up::give_up;
-use access::{Committed, RepoAccess};
+use access::{Committed, Released, RepoAccess};
 use byte_string::ByteString;
 use commands::CommitCommand;
 use edit_commands::{EditorCommand, ends_edit};
@@ -30,12 +33,12 @@ use items::Item;
 use machine::{Client, CommitParameters, Ending, OpenEdit, Options, Phase, Turn, ending_of};
 use refusals::Refusal;
 use replies::{Reply, ReplySink};
-use repo_api::{ChangeFault, CommitAsk, Repository};
+use repo_api::{CommitAsk, Repository};
 use std::alloc::{AllocError, Global};
 use std::mem::drop;
 use svnpath::Path;
 use telling::{
-    Preface, SessionEdit, SessionPhase, date_of, end_halted, end_malformed, refuse, say_both,
+    Preface, SessionEdit, SessionPhase, date_of, end_malformed, refuse, say_both, tell_fault,
 };
 
 /// Tells a client that its edit may begin.
@@ -221,18 +224,19 @@ fn say_made<S: ReplySink>(info: &Reply, out: &mut S) -> Result<(), AllocError>
 
 /// Tells of a commit.
 fn report<S: ReplySink>(
-    made: Committed,
+    revision: u64,
     date: ByteString,
     author: Option<ByteString>,
+    fails: bool,
     out: &mut S,
 ) -> Result<(), AllocError>
     ensures ok { OnOk result (S.writes out.old out.new (print (Reply.Success ∷ Reply.NoLogin
-        ∷ Reply.CommitInfo made.revision date author made.release_fails ∷ []))) }
+        ∷ Reply.CommitInfo revision date author fails ∷ []))) }
     ensures err { OnErr result (WritesPart (S.writes out.old out.new)
         (print (Reply.Success ∷ Reply.NoLogin
-        ∷ Reply.CommitInfo made.revision date author made.release_fails ∷ []))) }
+        ∷ Reply.CommitInfo revision date author fails ∷ []))) }
 {
-    let info = Reply::CommitInfo(made.revision, date, author, made.release_fails);
+    let info = Reply::CommitInfo(revision, date, author, fails);
     let said = say_made(&info, out);
     drop(info);
     said
@@ -250,29 +254,53 @@ fn phase_after<R: Repository>(client: Client, is_over: bool) -> SessionPhase<R>
     }
 }
 
-/// Tells of a commit. Commands are awaited again, unless changes have come to a halt.
-fn tell_commit<R: Repository, S: ReplySink>(
+/// Tells of a commit, and whether the store failed at its release. Commands are awaited again, unless it did.
+fn tell_made<R: Repository, S: ReplySink>(
     client: Client,
-    made: Committed,
-    is_over: bool,
+    revision: u64,
+    fails: bool,
     told: Told,
     turn: &mut Turn<S>,
 ) -> Result<SessionPhase<R>, AllocError>
     ensures ok { IfOk result (λ phase. AnswerWritten
-        (says turn.old.env (if is_over then Phase.Ended else Phase.Serving client)
-        (Reply.Success ∷ Reply.NoLogin
-        ∷ Reply.CommitInfo made.revision told.date told.author made.release_fails ∷ []))
+        (tells_made turn.old.env client revision told.date told.author fails)
         phase turn.new.env (S.writes turn.old.out turn.new.out)) }
     ensures err { OnErr result (WritesPart (S.writes turn.old.out turn.new.out)
-        (print (Reply.Success ∷ Reply.NoLogin
-        ∷ Reply.CommitInfo made.revision told.date told.author made.release_fails ∷ []))) }
+        (print (tells_made turn.old.env client revision told.date told.author fails).replies)) }
 {
     let Told { date, author } = told;
-    match report(made, date, author, &mut turn.out) {
-        Ok(()) => Ok(phase_after(client, is_over)),
+    match report(revision, date, author, fails, &mut turn.out) {
+        Ok(()) => Ok(phase_after(client, fails)),
         Err(error) => {
             drop(client);
             Err(error)
+        }
+    }
+}
+
+/// Tells of a commit. Where memory was refused for its release there is no answer, and nothing is written.
+fn tell_commit<R: Repository, S: ReplySink>(
+    client: Client,
+    made: Committed,
+    told: Told,
+    turn: &mut Turn<S>,
+) -> Result<SessionPhase<R>, AllocError>
+    ensures ok { IfOk result (λ phase. IsSomeAnd
+        (commit_answer turn.old.env client told.date told.author made.revision made.released)
+        (λ answer. AnswerWritten answer
+        phase turn.new.env (S.writes turn.old.out turn.new.out))) }
+    ensures err { OnErr result (MatchOption
+        (commit_answer turn.old.env client told.date told.author made.revision made.released)
+        (S.writes turn.old.out turn.new.out [])
+        (λ answer. WritesPart (S.writes turn.old.out turn.new.out) (print answer.replies))) }
+{
+    match made.released {
+        Released::Settled => tell_made(client, made.revision, false, told, turn),
+        Released::StoreFailed => tell_made(client, made.revision, true, told, turn),
+        Released::NoMemory => {
+            drop(client);
+            drop(told);
+            Err(AllocError)
         }
     }
 }
@@ -287,39 +315,27 @@ fn commit<R: Repository, A: RepoAccess<View = R>, S: ReplySink>(
 ) -> Result<SessionPhase<R>, AllocError>
     requires rests { IsBeginning (R.txn_state txn).shown
         (content_of (A.point access.old)).revisions }
+    requires tree { IsTree (tree_of (R.txn_state txn).tree) }
+    requires marked { IsMarkedTxn (R.txn_state txn) }
     ensures ok { IfOk result (λ phase. StepWritten A.rules
         (λ at a. CloseStep at.halted turn.old.env (content_of at)
         client asked (Ok (R.txn_state txn)) a)
         (A.point access.old) (A.point access.new)
         phase turn.new.env (S.writes turn.old.out turn.new.out)) }
-    ensures err { OnErr result (StepOrNothing A.rules
+    ensures err { OnErr result (StepOrPart A.rules
         (λ at a. CloseStep at.halted turn.old.env (content_of at)
+        client asked (Ok (R.txn_state txn)) a)
+        (λ at a. UnreleasedClose at.halted turn.old.env (content_of at)
         client asked (Ok (R.txn_state txn)) a)
         (A.point access.old) (A.point access.new) (S.writes turn.old.out turn.new.out)) }
 {
     match told_of(turn.alloc, turn.env.moment, &client.user) {
         Ok(told) => match commit_ask(turn.alloc, &client, asked, &told.date) {
             Ok(ask) => match access.commit(ask, txn) {
-                Ok(made) => {
-                    let is_over = access.is_halted();
-                    tell_commit(client, made, is_over, told, turn)
-                }
-                Err(ChangeFault::Refused(refusal)) => {
+                Ok(made) => tell_commit(client, made, told, turn),
+                Err(fault) => {
                     drop(told);
-                    refuse(client, Preface::Nothing, refusal, turn)
-                }
-                Err(ChangeFault::StoreFailed) => {
-                    drop(told);
-                    refuse(client, Preface::Nothing, Refusal::StoreFailed, turn)
-                }
-                Err(ChangeFault::Halted) => {
-                    drop(told);
-                    end_halted(client, Preface::Nothing, turn)
-                }
-                Err(ChangeFault::NoMemory) => {
-                    drop(told);
-                    drop(client);
-                    Err(AllocError)
+                    tell_fault(client, Preface::Nothing, fault, turn)
                 }
             },
             Err(error) => {
@@ -345,13 +361,16 @@ fn close<R: Repository, A: RepoAccess<View = R>, S: ReplySink>(
     turn: &mut Turn<S>,
 ) -> Result<SessionPhase<R>, AllocError>
     requires rests { RestsOn edit.editor (content_of (A.point access.old)) }
+    requires sound { IsSoundEdit edit.editor }
     ensures ok { IfOk result (λ phase. StepWritten A.rules
         (λ at a. CloseStep at.halted turn.old.env (content_of at)
         edit.client edit.asked (finished edit.editor) a)
         (A.point access.old) (A.point access.new)
         phase turn.new.env (S.writes turn.old.out turn.new.out)) }
-    ensures err { OnErr result (StepOrNothing A.rules
+    ensures err { OnErr result (StepOrPart A.rules
         (λ at a. CloseStep at.halted turn.old.env (content_of at)
+        edit.client edit.asked (finished edit.editor) a)
+        (λ at a. UnreleasedClose at.halted turn.old.env (content_of at)
         edit.client edit.asked (finished edit.editor) a)
         (A.point access.old) (A.point access.new) (S.writes turn.old.out turn.new.out)) }
 {
@@ -409,8 +428,9 @@ fn obey<R: Repository, A: RepoAccess<View = R>, S: ReplySink>(
         (λ at a. EditingStep at.halted turn.old.env (content_of at) edit (Ok command.now) a)
         (A.point access.old) (A.point access.new)
         phase turn.new.env (S.writes turn.old.out turn.new.out)) }
-    ensures err { OnErr result (StepOrNothing A.rules
+    ensures err { OnErr result (StepOrPart A.rules
         (λ at a. EditingStep at.halted turn.old.env (content_of at) edit (Ok command.now) a)
+        (λ at a. UnreleasedEnd at.halted turn.old.env (content_of at) edit (Ok command.now) a)
         (A.point access.old) (A.point access.new) (S.writes turn.old.out turn.new.out)) }
 {
     match ending_of(command) {
@@ -434,8 +454,10 @@ pub fn edit_item<R: Repository, A: RepoAccess<View = R>, S: ReplySink>(
         edit (editor_command (value_of item.now)) a)
         (A.point access.old) (A.point access.new)
         phase turn.new.env (S.writes turn.old.out turn.new.out)) }
-    ensures err { OnErr result (StepOrNothing A.rules
+    ensures err { OnErr result (StepOrPart A.rules
         (λ at a. EditingStep at.halted turn.old.env (content_of at)
+        edit (editor_command (value_of item.now)) a)
+        (λ at a. UnreleasedEnd at.halted turn.old.env (content_of at)
         edit (editor_command (value_of item.now)) a)
         (A.point access.old) (A.point access.new) (S.writes turn.old.out turn.new.out)) }
 {

@@ -12,7 +12,8 @@ use Rattle.drives.specs.Steps.{EntryKind, Step}
 use Rattle.drives.specs.Steps.EntryKind.{DirectoryKind, FileKind}
 use Rattle.drives.specs.Steps.Step.{PropertyAt, TextAt}
 use Rattle.drives.proofs.Joined.{and_both}
-use Rattle.drive_commands.specs.Saying.{OpenEntry, TextState, Says, steps_said, same_kind, text_received, enters_entry, is_in_place, is_open_token}
+use Rattle.reports.specs.declared.ask.Purpose.{Purpose}
+use Rattle.drive_commands.specs.Saying.{OpenEntry, TextState, Says, steps_said, same_kind, is_sent_delta, text_received, enters_entry, is_in_place, is_open_token}
 use Rattle.drive_commands.specs.Saying.TextState.{Unchanged, Receiving, Received}
 use Rattle.drive_commands.proofs.Joining.{says_append}
 
@@ -25,16 +26,16 @@ abbrev pub property_command : EntryKind → List ℕ → List ℕ × Option (Lis
 property_command DirectoryKind token c = ChangeDirectoryProperty (record { token = token; name = c.0; value = c.1 })
 property_command FileKind token c = ChangeFileProperty (record { token = token; name = c.0; value = c.1 })
 
-reads_property : (top : PathValue) (base : PathValue → List ℕ) (h : OpenEntry) (hs : List OpenEntry) (c : List ℕ × Option (List ℕ)) (k : EntryKind) → same_kind k h.kind ≡ true
-    → steps_said top base (h ∷ hs) (property_command k h.token c) ≡ Some (PropertyAt h.path c.0 c.1 ∷ [], h ∷ hs)
-reads_property top base h hs c DirectoryKind e = ap (λ b. if b then Some (PropertyAt h.path c.0 c.1 ∷ [], h ∷ hs) else None) (and_both (is_name h.token h.token) (same_kind DirectoryKind h.kind) (same_component_refl h.token) e)
-reads_property top base h hs c FileKind e = ap (λ b. if b then Some (PropertyAt h.path c.0 c.1 ∷ [], h ∷ hs) else None) (and_both (is_name h.token h.token) (same_kind FileKind h.kind) (same_component_refl h.token) e)
+reads_property : (purpose : Purpose) (top : PathValue) (base : PathValue → List ℕ) (h : OpenEntry) (hs : List OpenEntry) (c : List ℕ × Option (List ℕ)) (k : EntryKind) → same_kind k h.kind ≡ true
+    → steps_said purpose top base (h ∷ hs) (property_command k h.token c) ≡ Some (PropertyAt h.path c.0 c.1 ∷ [], h ∷ hs)
+reads_property purpose top base h hs c DirectoryKind e = ap (λ b. if b then Some (PropertyAt h.path c.0 c.1 ∷ [], h ∷ hs) else None) (and_both (is_name h.token h.token) (same_kind DirectoryKind h.kind) (same_component_refl h.token) e)
+reads_property purpose top base h hs c FileKind e = ap (λ b. if b then Some (PropertyAt h.path c.0 c.1 ∷ [], h ∷ hs) else None) (and_both (is_name h.token h.token) (same_kind FileKind h.kind) (same_component_refl h.token) e)
 
-pub says_properties : (top : PathValue) (base : PathValue → List ℕ) (h : OpenEntry) (hs : List OpenEntry) (cs : List (List ℕ × Option (List ℕ)))
-    → Says top base (h ∷ hs) (map (property_command h.kind h.token) cs) (map (λ c. PropertyAt h.path c.0 c.1) cs) (h ∷ hs)
-says_properties top base h hs [] = (refl, refl)
-says_properties top base h hs (c ∷ cs) =
-    (PropertyAt h.path c.0 c.1 ∷ [], h ∷ hs, map (λ d. PropertyAt h.path d.0 d.1) cs, reads_property top base h hs c h.kind (same_kinds h.kind), says_properties top base h hs cs, refl)
+pub says_properties : (purpose : Purpose) (top : PathValue) (base : PathValue → List ℕ) (h : OpenEntry) (hs : List OpenEntry) (cs : List (List ℕ × Option (List ℕ)))
+    → Says purpose top base (h ∷ hs) (map (property_command h.kind h.token) cs) (map (λ c. PropertyAt h.path c.0 c.1) cs) (h ∷ hs)
+says_properties purpose top base h hs [] = (refl, refl)
+says_properties purpose top base h hs (c ∷ cs) =
+    (PropertyAt h.path c.0 c.1 ∷ [], h ∷ hs, map (λ d. PropertyAt h.path d.0 d.1) cs, reads_property purpose top base h hs c h.kind (same_kinds h.kind), says_properties purpose top base h hs cs, refl)
 
 -- ---- a text
 
@@ -45,32 +46,33 @@ joined_bytes (b ∷ bs) = b ++ joined_bytes bs
 abbrev pub with_state : OpenEntry → TextState → OpenEntry
 with_state h state = record h { state = state }
 
-says_chunks : (top : PathValue) (base : PathValue → List ℕ) (h : OpenEntry) (hs : List OpenEntry) (before : List ℕ) (bs : List (List ℕ)) → same_kind FileKind h.kind ≡ true
-    → Says top base (with_state h (Receiving before) ∷ hs) (map (λ b. TextDeltaChunk h.token b) bs) [] (with_state h (Receiving (before ++ joined_bytes bs)) ∷ hs)
-says_chunks top base h hs before [] file = (refl, ap (λ bytes. with_state h (Receiving bytes) ∷ hs) (append-nil before))
-says_chunks top base h hs before (b ∷ bs) file = (
+says_chunks : (purpose : Purpose) (top : PathValue) (base : PathValue → List ℕ) (h : OpenEntry) (hs : List OpenEntry) (before : List ℕ) (bs : List (List ℕ)) → same_kind FileKind h.kind ≡ true
+    → Says purpose top base (with_state h (Receiving before) ∷ hs) (map (λ b. TextDeltaChunk h.token b) bs) [] (with_state h (Receiving (before ++ joined_bytes bs)) ∷ hs)
+says_chunks purpose top base h hs before [] file = (refl, ap (λ bytes. with_state h (Receiving bytes) ∷ hs) (append-nil before))
+says_chunks purpose top base h hs before (b ∷ bs) file = (
   [],
   with_state h (Receiving (before ++ b)) ∷ hs,
   [],
   ap (λ x. if x then Some ([], with_state h (Receiving (before ++ b)) ∷ hs) else None) (and_both (is_name h.token h.token) (same_kind FileKind h.kind) (same_component_refl h.token) file),
-  subst (λ bytes. Says top base (with_state h (Receiving (before ++ b)) ∷ hs) (map (λ c. TextDeltaChunk h.token c) bs) [] (with_state h (Receiving bytes) ∷ hs)) (append_assoc before b (joined_bytes bs)) (says_chunks top base h hs (before ++ b) bs file),
+  subst (λ bytes. Says purpose top base (with_state h (Receiving (before ++ b)) ∷ hs) (map (λ c. TextDeltaChunk h.token c) bs) [] (with_state h (Receiving bytes) ∷ hs)) (append_assoc before b (joined_bytes bs)) (says_chunks purpose top base h hs (before ++ b) bs file),
   refl,
 )
 
 -- a delta in any pieces, of a document that has the text over what the client has
-pub says_text : (top : PathValue) (base : PathValue → List ℕ) (h : OpenEntry) (hs : List OpenEntry) (pieces : List (List ℕ)) (text : List ℕ) → same_kind FileKind h.kind ≡ true → document_text h.base (joined_bytes pieces) ≡ Ok text
-    → Says top base (with_state h Unchanged ∷ hs) (ApplyTextDelta h.token None ∷ (map (λ b. TextDeltaChunk h.token b) pieces ++ TextDeltaEnd h.token ∷ [])) (TextAt h.path text ∷ []) (with_state h (Received text) ∷ hs)
-says_text top base h hs pieces text file is = (
+pub says_text : (purpose : Purpose) (top : PathValue) (base : PathValue → List ℕ) (h : OpenEntry) (hs : List OpenEntry) (pieces : List (List ℕ)) (text : List ℕ) → same_kind FileKind h.kind ≡ true → is_sent_delta purpose (joined_bytes pieces) ≡ true → document_text h.base (joined_bytes pieces) ≡ Ok text
+    → Says purpose top base (with_state h Unchanged ∷ hs) (ApplyTextDelta h.token None ∷ (map (λ b. TextDeltaChunk h.token b) pieces ++ TextDeltaEnd h.token ∷ [])) (TextAt h.path text ∷ []) (with_state h (Received text) ∷ hs)
+says_text purpose top base h hs pieces text file sent is = (
   [],
   with_state h (Receiving []) ∷ hs,
   TextAt h.path text ∷ [],
   ap (λ x. if x then Some ([], with_state h (Receiving []) ∷ hs) else None) (and_both (is_name h.token h.token) (same_kind FileKind h.kind) (same_component_refl h.token) file),
-  says_append top base (with_state h (Receiving []) ∷ hs) (with_state h (Receiving (joined_bytes pieces)) ∷ hs) (with_state h (Received text) ∷ hs) (map (λ b. TextDeltaChunk h.token b) pieces) (TextDeltaEnd h.token ∷ []) [] (TextAt h.path text ∷ [])
-      (says_chunks top base h hs [] pieces file) (
+  says_append purpose top base (with_state h (Receiving []) ∷ hs) (with_state h (Receiving (joined_bytes pieces)) ∷ hs) (with_state h (Received text) ∷ hs) (map (λ b. TextDeltaChunk h.token b) pieces) (TextDeltaEnd h.token ∷ []) [] (TextAt h.path text ∷ [])
+      (says_chunks purpose top base h hs [] pieces file) (
         TextAt h.path text ∷ [],
         with_state h (Received text) ∷ hs,
         [],
-        ap (λ x. if x then text_received (document_text h.base (joined_bytes pieces)) (with_state h (Receiving (joined_bytes pieces))) hs else None) (and_both (is_name h.token h.token) (same_kind FileKind h.kind) (same_component_refl h.token) file)
+        ap (λ x. if x then (if is_sent_delta purpose (joined_bytes pieces) then text_received (document_text h.base (joined_bytes pieces)) (with_state h (Receiving (joined_bytes pieces))) hs else None) else None) (and_both (is_name h.token h.token) (same_kind FileKind h.kind) (same_component_refl h.token) file)
+            ∙ ap (λ x. if x then text_received (document_text h.base (joined_bytes pieces)) (with_state h (Receiving (joined_bytes pieces))) hs else None) sent
             ∙ ap (λ r. text_received r (with_state h (Receiving (joined_bytes pieces))) hs) is,
         (refl, refl),
         refl,
@@ -86,19 +88,19 @@ reads_entry top hs p parent token base kind step fit new =
     ap (λ x. if x then Some (step ∷ [], record { token = token; path = p; kind = kind; base = base; state = Unchanged } ∷ hs) else None)
     (and_both (is_in_place top hs p parent) (not (is_open_token token hs)) fit (ap not new))
 
-pub reads_close : (top : PathValue) (base : PathValue → List ℕ) (h : OpenEntry) (hs : List OpenEntry) → same_kind DirectoryKind h.kind ≡ true → steps_said top base (h ∷ hs) (CloseDirectory h.token) ≡ Some ([], hs)
-reads_close top base h hs dir = ap (λ x. if x then Some ([], hs) else None) (and_both (is_name h.token h.token) (same_kind DirectoryKind h.kind) (same_component_refl h.token) dir)
+pub reads_close : (purpose : Purpose) (top : PathValue) (base : PathValue → List ℕ) (h : OpenEntry) (hs : List OpenEntry) → same_kind DirectoryKind h.kind ≡ true → steps_said purpose top base (h ∷ hs) (CloseDirectory h.token) ≡ Some ([], hs)
+reads_close purpose top base h hs dir = ap (λ x. if x then Some ([], hs) else None) (and_both (is_name h.token h.token) (same_kind DirectoryKind h.kind) (same_component_refl h.token) dir)
 
 -- an entry from its opening to its close, with what is said of it and below it
-pub says_entry : (top : PathValue) (base : PathValue → List ℕ) (hs : List OpenEntry) (first close : EditorCommand) (step : Step) (new last : OpenEntry) (inner : List EditorCommand) (steps : List Step)
-    → steps_said top base hs first ≡ Some (step ∷ [], new ∷ hs) → Says top base (new ∷ hs) inner steps (last ∷ hs) → steps_said top base (last ∷ hs) close ≡ Some ([], hs)
-    → Says top base hs (first ∷ (inner ++ close ∷ [])) (step ∷ steps) hs
-says_entry top base hs first close step new last inner steps opens says closes = (
+pub says_entry : (purpose : Purpose) (top : PathValue) (base : PathValue → List ℕ) (hs : List OpenEntry) (first close : EditorCommand) (step : Step) (new last : OpenEntry) (inner : List EditorCommand) (steps : List Step)
+    → steps_said purpose top base hs first ≡ Some (step ∷ [], new ∷ hs) → Says purpose top base (new ∷ hs) inner steps (last ∷ hs) → steps_said purpose top base (last ∷ hs) close ≡ Some ([], hs)
+    → Says purpose top base hs (first ∷ (inner ++ close ∷ [])) (step ∷ steps) hs
+says_entry purpose top base hs first close step new last inner steps opens says closes = (
   step ∷ [],
   new ∷ hs,
   steps,
   opens,
-  subst (λ s. Says top base (new ∷ hs) (inner ++ close ∷ []) s hs) (append-nil steps)
-      (says_append top base (new ∷ hs) (last ∷ hs) hs inner (close ∷ []) steps [] says ([], hs, [], closes, (refl, refl), refl)),
+  subst (λ s. Says purpose top base (new ∷ hs) (inner ++ close ∷ []) s hs) (append-nil steps)
+      (says_append purpose top base (new ∷ hs) (last ∷ hs) hs inner (close ∷ []) steps [] says ([], hs, [], closes, (refl, refl), refl)),
   refl,
 )

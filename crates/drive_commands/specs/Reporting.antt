@@ -29,12 +29,13 @@ pub data Drawn : Type 0 where
   Drives : List EditorCommand → Drawn
   Malformed : Drawn
 
--- the end of a report: its refusal, or a drive, which is right where each tree is a tree
+-- the end of a report, over a repository each of whose trees is a tree: its refusal, or a drive
+-- that may be sent
 abbrev pub Finishes : RepoState → Result WholeReport Refusal → Drawn → Type 0
 Finishes c (Err r) d = d ≡ Fails r
 Finishes c (Ok report) d =
-    (drive : List EditorCommand) × (d ≡ Drives drive)
-    × (AreTrees c.revisions → IsDrive c report drive)
+    (drive : List EditorCommand) × (d ≡ Drives drive) × AreTrees c.revisions
+    × IsDrive c report drive
 
 -- a command of a report that goes on
 abbrev pub OpenStep : RepoState → List ℕ → OpenState → Result ReportCommand CommandFault → Drawn

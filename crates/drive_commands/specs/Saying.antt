@@ -1,11 +1,11 @@
 -- What the commands of a drive say, by their tokens: depth first, each of what was opened last.
-use Rattle.std.specs.Prelude.{◌≡◌, ℕ, Bool, true, false, not, ◌&&◌, is_some, List, [], ◌∷◌, ◌++◌, Option, Some, None, Result, Ok, Err, if◌then◌else◌}
+use Rattle.std.specs.Prelude.{◌≡◌, ℕ, Bool, true, false, not, ◌&&◌, ◌||◌, is_some, List, [], ◌∷◌, ◌++◌, Option, Some, None, Result, Ok, Err, if◌then◌else◌}
 use Rattle.std.specs.List.{list_any}
 use Rattle.hex.specs.Hex.{encode_lower}
 use Rattle.md5.specs.Md5.{md5}
 use Rattle.svnpath.specs.Paths.{PathValue}
 use Rattle.svnpath.specs.Texts.{components_of}
-use Rattle.svndiff0.specs.Document.{document_text}
+use Rattle.svndiff0.specs.Document.{header, document_text}
 use Rattle.svndiff0.specs.declared.fault.DiffFault.{DiffFault}
 use Rattle.forms.specs.Forms.{is_name}
 use Rattle.edit_commands.specs.declared.editing.AddedEntry.{AddedEntry}
@@ -17,6 +17,8 @@ use Rattle.drives.specs.Places.{is_in_directory}
 use Rattle.drives.specs.Steps.{EntryKind, Step}
 use Rattle.drives.specs.Steps.EntryKind.{DirectoryKind, FileKind}
 use Rattle.drives.specs.Steps.Step.{OpenAt, AddAt, DeleteAt, PropertyAt, TextAt}
+use Rattle.reports.specs.declared.ask.Purpose.{Purpose}
+use Rattle.reports.specs.declared.ask.Purpose.TheVariants.{Update, Switch, Status}
 
 -- what was sent of a file's text: nothing, some bytes of a delta, or a whole delta, with its text
 pub data TextState : Type 0 where
@@ -98,6 +100,30 @@ abbrev pub property_said : List OpenEntry → PropertyChange → EntryKind → S
 property_said hs p kind =
     of_newest hs p.token kind (λ h rest. Some (PropertyAt h.path p.name p.value ∷ [], h ∷ rest))
 
+-- an update and a switch send texts; a status sends none
+abbrev pub sends_texts : Purpose → Bool
+sends_texts Update = true
+sends_texts Switch = true
+sends_texts Status = false
+
+-- the checksum is that of the text
+abbrev pub is_checksum : List ℕ → List ℕ → Bool
+is_checksum text digits = is_name digits (encode_lower (md5 text))
+
+-- the checksum of a text that the client has need not be sent; a status sends none
+abbrev pub is_base_checksum : Purpose → List ℕ → Option (List ℕ) → Bool
+is_base_checksum purpose text None = true
+is_base_checksum purpose text (Some digits) = sends_texts purpose && is_checksum text digits
+
+-- a text that is sent comes with its checksum; a status sends none
+abbrev pub is_sent_checksum : Purpose → List ℕ → Option (List ℕ) → Bool
+is_sent_checksum purpose text None = not (sends_texts purpose)
+is_sent_checksum purpose text (Some digits) = sends_texts purpose && is_checksum text digits
+
+-- a status sends the header of a delta alone
+abbrev pub is_sent_delta : Purpose → List ℕ → Bool
+is_sent_delta purpose document = sends_texts purpose || is_name document header
+
 -- a delta begins, once
 abbrev pub delta_begun : TextState → OpenEntry → List OpenEntry → Said
 delta_begun Unchanged h hs = Some ([], record h { state = Receiving [] } ∷ hs)
@@ -116,58 +142,57 @@ text_received (Ok text) h hs =
 text_received (Err fault) h hs = None
 
 -- a delta ends: it is read over the text that the client has
-abbrev pub delta_ended : TextState → OpenEntry → List OpenEntry → Said
-delta_ended (Receiving document) h hs = text_received (document_text h.base document) h hs
-delta_ended _ h hs = None
-
--- a checksum is that of the text, where there is one
-abbrev pub is_checksum : List ℕ → Option (List ℕ) → Bool
-is_checksum text None = true
-is_checksum text (Some digits) = is_name digits (encode_lower (md5 text))
+abbrev pub delta_ended : Purpose → TextState → OpenEntry → List OpenEntry → Said
+delta_ended purpose (Receiving document) h hs =
+    if is_sent_delta purpose document then text_received (document_text h.base document) h hs else None
+delta_ended purpose _ h hs = None
 
 -- a file is closed: its checksum is that of the text that was sent, or that the client has
-abbrev pub file_closed : Option (List ℕ) → TextState → OpenEntry → List OpenEntry → Said
-file_closed checksum Unchanged h hs = when (is_checksum h.base checksum) [] hs
-file_closed checksum (Receiving document) h hs = None
-file_closed checksum (Received text) h hs = when (is_checksum text checksum) [] hs
+abbrev pub file_closed : Purpose → Option (List ℕ) → TextState → OpenEntry → List OpenEntry → Said
+file_closed purpose checksum Unchanged h hs = when (is_base_checksum purpose h.base checksum) [] hs
+file_closed purpose checksum (Receiving document) h hs = None
+file_closed purpose checksum (Received text) h hs = when (is_sent_checksum purpose text checksum) [] hs
 
 -- ---- commands
 
--- What a command says, and what is open after it, where it has its place. The top is the target,
--- and the base the text that the client has of a file.
-abbrev pub steps_said : PathValue → (PathValue → List ℕ) → List OpenEntry → EditorCommand → Said
-steps_said top base hs (TargetRevision n) = None
-steps_said top base hs (OpenRoot revision token) = None
-steps_said top base hs (DeleteEntry e) =
+-- What a command of an update, a switch or a status says, and what is open after it, where it has
+-- its place. The top is the target, and the base the text that the client has of a file.
+abbrev pub steps_said : Purpose → PathValue → (PathValue → List ℕ) → List OpenEntry
+    → EditorCommand → Said
+steps_said purpose top base hs (TargetRevision n) = None
+steps_said purpose top base hs (OpenRoot revision token) = None
+steps_said purpose top base hs (DeleteEntry e) =
     when (is_in_place top hs (components_of e.path) e.parent)
     (DeleteAt (components_of e.path) ∷ []) hs
-steps_said top base hs (AddDirectory e) = adds_entry top hs e DirectoryKind
-steps_said top base hs (AddFile e) = adds_entry top hs e FileKind
-steps_said top base hs (OpenDirectory e) = opens_entry top hs e DirectoryKind []
-steps_said top base hs (OpenFile e) = opens_entry top hs e FileKind (base (components_of e.path))
-steps_said top base hs (AbsentDirectory e) = None
-steps_said top base hs (AbsentFile e) = None
-steps_said top base hs (ChangeDirectoryProperty p) = property_said hs p DirectoryKind
-steps_said top base hs (ChangeFileProperty p) = property_said hs p FileKind
-steps_said top base hs (ApplyTextDelta token checksum) =
+steps_said purpose top base hs (AddDirectory e) = adds_entry top hs e DirectoryKind
+steps_said purpose top base hs (AddFile e) = adds_entry top hs e FileKind
+steps_said purpose top base hs (OpenDirectory e) = opens_entry top hs e DirectoryKind []
+steps_said purpose top base hs (OpenFile e) =
+    opens_entry top hs e FileKind (base (components_of e.path))
+steps_said purpose top base hs (AbsentDirectory e) = None
+steps_said purpose top base hs (AbsentFile e) = None
+steps_said purpose top base hs (ChangeDirectoryProperty p) = property_said hs p DirectoryKind
+steps_said purpose top base hs (ChangeFileProperty p) = property_said hs p FileKind
+steps_said purpose top base hs (ApplyTextDelta token checksum) =
     of_newest hs token FileKind
-    (λ h rest. if is_checksum h.base checksum then delta_begun h.state h rest else None)
-steps_said top base hs (TextDeltaChunk token bytes) =
+    (λ h rest.
+    if is_base_checksum purpose h.base checksum then delta_begun h.state h rest else None)
+steps_said purpose top base hs (TextDeltaChunk token bytes) =
     of_newest hs token FileKind (λ h rest. delta_more bytes h.state h rest)
-steps_said top base hs (TextDeltaEnd token) =
-    of_newest hs token FileKind (λ h rest. delta_ended h.state h rest)
-steps_said top base hs (CloseDirectory token) =
+steps_said purpose top base hs (TextDeltaEnd token) =
+    of_newest hs token FileKind (λ h rest. delta_ended purpose h.state h rest)
+steps_said purpose top base hs (CloseDirectory token) =
     of_newest hs token DirectoryKind (λ h rest. Some ([], rest))
-steps_said top base hs (CloseFile token checksum) =
-    of_newest hs token FileKind (λ h rest. file_closed checksum h.state h rest)
-steps_said top base hs CloseEdit = None
-steps_said top base hs AbortEdit = None
+steps_said purpose top base hs (CloseFile token checksum) =
+    of_newest hs token FileKind (λ h rest. file_closed purpose checksum h.state h rest)
+steps_said purpose top base hs CloseEdit = None
+steps_said purpose top base hs AbortEdit = None
 
 -- from what is open, the commands say these steps, and then this is open
-abbrev pub Says : PathValue → (PathValue → List ℕ) → List OpenEntry → List EditorCommand
-    → List Step → List OpenEntry → Type 0
-Says top base hs [] steps end = (steps ≡ []) × (end ≡ hs)
-Says top base hs (c ∷ cs) steps end =
+abbrev pub Says : Purpose → PathValue → (PathValue → List ℕ) → List OpenEntry
+    → List EditorCommand → List Step → List OpenEntry → Type 0
+Says purpose top base hs [] steps end = (steps ≡ []) × (end ≡ hs)
+Says purpose top base hs (c ∷ cs) steps end =
     (now : List Step) × (mid : List OpenEntry) × (later : List Step)
-    × (steps_said top base hs c ≡ Some (now, mid)) × Says top base mid cs later end
-    × (steps ≡ now ++ later)
+    × (steps_said purpose top base hs c ≡ Some (now, mid))
+    × Says purpose top base mid cs later end × (steps ≡ now ++ later)

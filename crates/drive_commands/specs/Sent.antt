@@ -79,8 +79,7 @@ pub record IsDrive (c : RepoState) (report : WholeReport) (drive : List EditorCo
   pub commands : List EditorCommand
   pub is : drive ≡ framed report root commands
   pub body : List Step
-  pub says : Says report.ask.target (base_of (old_tree c report)) (open_root_entry root ∷ [])
-      commands
-      body []
+  pub says : Says report.ask.purpose report.ask.target (base_of (old_tree c report))
+      (open_root_entry root ∷ []) commands body []
   pub right : LeadsToTarget c report (from_root report.ask body)
   pub tells : TellsEach c report (from_root report.ask body)

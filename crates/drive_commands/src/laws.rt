@@ -3,12 +3,14 @@ ghost use Rattle.std.specs.Prelude.{ℕ, List, ◌++◌};
 ghost use Rattle.svnpath.specs.Paths.{PathValue};
 ghost use Rattle.edit_commands.specs.declared.editing.EditorCommand.{EditorCommand};
 ghost use Rattle.drives.specs.Steps.{Step};
+ghost use Rattle.reports.specs.declared.ask.Purpose.{Purpose};
 ghost use Rattle.drive_commands.specs.Saying.{OpenEntry, Says};
 
 /// Commands one after the other say their steps one after the other.
 pub fn drives_join()
-    ensures { (top : PathValue) (base : PathValue → List ℕ) (open_first open_between open_last
-        : List OpenEntry) (xs ys : List EditorCommand) (ss ts : List Step)
-        → Says top base open_first xs ss open_between → Says top base open_between ys ts open_last
-        → Says top base open_first (xs ++ ys) (ss ++ ts) open_last }
+    ensures { (purpose : Purpose) (top : PathValue) (base : PathValue → List ℕ)
+        (open_first open_between open_last : List OpenEntry) (xs ys : List EditorCommand)
+        (ss ts : List Step) → Says purpose top base open_first xs ss open_between
+        → Says purpose top base open_between ys ts open_last
+        → Says purpose top base open_first (xs ++ ys) (ss ++ ts) open_last }
 {}

@@ -1,5 +1,4 @@
 pub mod Naming
-pub mod Viewing
 pub mod Reaching
 pub mod Planned
 pub mod Listing

@@ -2,7 +2,7 @@
 use Rattle.repo_api.specs.States.{RepoState}
 use Rattle.drive_commands.specs.Sent.{seen_by}
 use Rattle.entry_news.proofs.Leading.{news_lead_over}
-use Rattle.entry_news.specs.News.{own_steps_of, starts_empty_at}
+use Rattle.entry_news.specs.News.{own_steps_of}
 use Rattle.reporter.specs.Walks.{LeadsOver}
 use Rattle.reports.specs.Targets.{WholeReport, old_tree, new_tree, stale_in}
 
@@ -10,5 +10,5 @@ pub news_leads : (c : RepoState) (report : WholeReport)
     → LeadsOver (seen_by report.ask.purpose) (old_tree c report) (new_tree c report)
     (own_steps_of c report)
 news_leads c report =
-    news_lead_over c report.ask.purpose (stale_in c report) (starts_empty_at report.grafts)
-    (old_tree c report) (new_tree c report)
+    news_lead_over c report.ask.purpose (stale_in c report) (old_tree c report)
+    (new_tree c report)

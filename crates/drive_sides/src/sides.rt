@@ -2,6 +2,7 @@
 use crate::alike::{has_beneath, has_same};
 use crate::names::{children_of, put_graft_names, put_names};
 use crate::two_trees::TwoTrees;
+use crate::views::had_at;
 use byte_string::ByteString;
 use entry_news::{Place, entries_differ};
 use repo_api::{NodeKind, Repository};
@@ -77,10 +78,7 @@ impl<'a, R: Repository> TwoTrees<'a, R> {
             Some(place) => entries_differ(
                 alloc,
                 self.view,
-                Place {
-                    revision: place.revision,
-                    path: &place.path,
-                },
+                had_at(&place),
                 Place {
                     revision,
                     path: &goal,

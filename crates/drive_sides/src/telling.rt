@@ -1,41 +1,17 @@
 //! What the entries of a drive are told, and what else is to be known of them.
-ghost use Rattle.std.specs.Prelude.{◌≡◌, ◌&&◌, true, IfOk, option_and_then, option_map};
-ghost use Rattle.svnpath.specs.Paths.{same_path};
+ghost use Rattle.std.specs.Prelude.{◌≡◌, true, IfOk, option_and_then, option_map};
 ghost use Rattle.repo_api.specs.Kinds.{kind_of};
 ghost use Rattle.reports.specs.Targets.{client_tree, drive_scope, is_stale, new_tree, old_tree, stale_in};
-ghost use Rattle.entry_news.specs.News.{is_top_alone, news_at, news_of, starts_empty_at};
-ghost use Rattle.entry_news.specs.Places.{entry_at};
+ghost use Rattle.entry_news.specs.News.{news_at, news_of};
+ghost use Rattle.entry_news.specs.Places.{entry_had};
 ghost use Rattle.drive_sides.specs.Plans.{whole};
 
 use crate::two_trees::TwoTrees;
-use entry_news::{News, Place, Sight, news_of};
+use crate::views::had_at;
+use entry_news::{Had, News, Place, Sight, news_of};
 use repo_api::{NodeKind, Repository};
-use reports::Graft;
 use std::alloc::{AllocError, Global};
 use svnpath::Path;
-
-/// Whether a graft at this path has its top alone.
-fn is_top_alone(graft: &Graft, path: &Path) -> bool
-    ensures { result
-        ≡ (same_path graft.now.path path.now && is_top_alone graft.now.subtree) }
-{
-    match &graft.subtree {
-        None => false,
-        Some(subtree) => &graft.path == path && subtree.starts_empty,
-    }
-}
-
-/// Whether the client reports no more than the top of what it has at a path.
-fn starts_empty_at(grafts: &[Graft], path: &Path) -> bool
-    ensures { result ≡ starts_empty_at grafts.now path.now }
-{
-    for graft in grafts {
-        if is_top_alone(graft, path) {
-            return true;
-        }
-    }
-    false
-}
 
 impl<'a, R: Repository> TwoTrees<'a, R> {
     /// The kind of what the client has, of the paths of the drive.
@@ -103,20 +79,19 @@ impl<'a, R: Repository> TwoTrees<'a, R> {
         }
     }
 
-    /// What an entry of the drive is told of itself, beside what a place has, if there is one.
+    /// What an entry of the drive is told of itself, beside what is had of it, if any is.
     fn news_beside(
         &self,
         alloc: Global,
         path: &Path,
-        old: Option<Place<'_>>,
+        old: Option<Had<'_>>,
     ) -> Result<Option<News>, AllocError>
         requires { drive_scope (R.content self.now.view.now)
             (whole self.now.report.now self.now.root) path.now ≡ true }
         ensures { IfOk result (λ found. found ≡ option_map (news_of (R.content self.now.view.now)
             self.now.report.now.ask.purpose (stale_in (R.content self.now.view.now)
             (whole self.now.report.now self.now.root) path.now)
-            (starts_empty_at self.now.report.now.grafts path.now)
-            (option_and_then (entry_at (R.content self.now.view.now)) old.entry)) (new_tree
+            (option_and_then (entry_had (R.content self.now.view.now)) old.entry)) (new_tree
             (R.content self.now.view.now) (whole self.now.report.now self.now.root) path.now)) }
     {
         let ask = &self.report.ask;
@@ -125,7 +100,6 @@ impl<'a, R: Repository> TwoTrees<'a, R> {
         let sight = Sight {
             purpose: ask.purpose,
             is_stale,
-            tells_all: starts_empty_at(self.report.grafts.as_slice(), path),
             old,
             new: Place {
                 revision: ask.revision,
@@ -155,10 +129,7 @@ impl<'a, R: Repository> TwoTrees<'a, R> {
         match self.client_place(alloc, path)? {
             None => self.news_beside(alloc, path, None),
             Some(place) => {
-                let old = Place {
-                    revision: place.revision,
-                    path: &place.path,
-                };
+                let old = had_at(&place);
                 self.news_beside(alloc, path, Some(old))
             }
         }

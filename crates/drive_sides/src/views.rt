@@ -9,10 +9,26 @@ ghost use Rattle.reports.specs.Targets.{client_tree, goal_path, target_tree};
 ghost use Rattle.drive_sides.specs.Plans.{whole};
 
 use crate::two_trees::TwoTrees;
+use entry_news::{Had, Place};
 use repo_api::{NodeKind, Repository};
 use reports::{ReportedPlace, reported_at};
 use std::alloc::{AllocError, Global};
 use svnpath::Path;
+
+/// What a client has at a place.
+pub(crate) fn had_at<'a>(place: &'a ReportedPlace<'_>) -> Had<'a>
+    ensures revision { result.place.revision ≡ place.now.revision }
+    ensures path { result.place.path.now ≡ place.now.path }
+    ensures starts_empty { result.starts_empty ≡ place.now.starts_empty }
+{
+    Had {
+        place: Place {
+            revision: place.revision,
+            path: &place.path,
+        },
+        starts_empty: place.starts_empty,
+    }
+}
 
 impl<'a, R: Repository> TwoTrees<'a, R> {
     /// Where what the client has at a path comes from, if it has something.

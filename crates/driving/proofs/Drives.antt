@@ -29,7 +29,7 @@ use Rattle.drive_commands.specs.Saying.{Says}
 use Rattle.drive_commands.specs.Sent.{IsDrive, LeadsToTarget, TellsEach, base_of, or_no_text, enters, from_root, seen_by}
 use Rattle.drive_commands.proofs.Joining.{says_append}
 use Rattle.drive_commands.proofs.Writing.{reads_close}
-use Rattle.entry_news.specs.News.{news_at, news_steps, steps_if, own_steps_of, old_entry, starts_empty_at}
+use Rattle.entry_news.specs.News.{news_at, news_steps, steps_if, own_steps_of, old_entry}
 use Rattle.entry_news.specs.declared.news.News.{News}
 use Rattle.drive_sides.specs.Plans.{IsPlan, from_top}
 use Rattle.driving.specs.Commands.{news_commands, news_told, root_commands, plan_commands, body_commands, drive_of}
@@ -184,7 +184,7 @@ module _ (c : RepoState) (report : WholeReport) where
         by true h =
             ap (λ x. Last before (own_steps_of c report x anew)) (same_path_is p q h)
             ∙ ap (λ o. Last before (steps_if q (option_map (news_at c report q anew) o))) is
-            ∙ own_news q name c (stale_in c report q) e special report.ask.purpose (starts_empty_at report.grafts q) (old_entry anew (old_tree c report) q) before
+            ∙ own_news q name c (stale_in c report q) e special report.ask.purpose (old_entry anew (old_tree c report) q) before
         by false h = other_steps p h (option_map (news_at c report p anew) (New p)) before
 
     visit_told : (v : Visit) (before : Option (Option (List ℕ))) → Last before (VisitSteps v) ≡ (if is_of q v then option_or Due before else before)
@@ -238,17 +238,17 @@ module _ (c : RepoState) (report : WholeReport) where
   abbrev Body : List Visit → List Step
   Body vs = (if same_path report.ask.target [] then own_steps_of c report [] false else []) ++ Steps vs
 
-  says_root : RootStands → Says Top Base (open_directories ([] ∷ [])) (root_commands c report) (if same_path report.ask.target [] then own_steps_of c report [] false else []) (open_directories ([] ∷ []))
+  says_root : RootStands → Says report.ask.purpose Top Base (open_directories ([] ∷ [])) (root_commands c report) (if same_path report.ask.target [] then own_steps_of c report [] false else []) (open_directories ([] ∷ []))
   says_root root = by (same_path report.ask.target []) refl
     where
       by : (b : Bool) → same_path report.ask.target [] ≡ b
-          → Says Top Base (open_directories ([] ∷ [])) (if b then news_commands report.ask.purpose DirectoryKind (token_of DirectoryKind 0) (news_told c report [] false) else []) (if b then own_steps_of c report [] false else []) (open_directories ([] ∷ []))
+          → Says report.ask.purpose Top Base (open_directories ([] ∷ [])) (if b then news_commands report.ask.purpose DirectoryKind (token_of DirectoryKind 0) (news_told c report [] false) else []) (if b then own_steps_of c report [] false else []) (open_directories ([] ∷ []))
       by true h =
           let silent : (news_told c report [] false).text ≡ None = news_silent c report [] false (New []) (root h).1 in
-          subst (λ s. Says Top Base (open_directories ([] ∷ [])) (news_commands report.ask.purpose DirectoryKind (token_of DirectoryKind 0) (news_told c report [] false)) s (open_directories ([] ∷ [])))
+          subst (λ s. Says report.ask.purpose Top Base (open_directories ([] ∷ [])) (news_commands report.ask.purpose DirectoryKind (token_of DirectoryKind 0) (news_told c report [] false)) s (open_directories ([] ∷ [])))
           (sym (steps_told [] (option_map (news_at c report [] false) (New []))))
           (says_news Top Base report.ask.purpose DirectoryKind [] [] [] (news_told c report [] false) (λ _. refl) (λ _. silent)
-          (subst (λ t. length (or_no_text t) ≤ limit) (sym silent) nothing_short))
+          (subst (λ t. length (or_no_text t) ≤ limit) (sym silent) nothing_short) (λ _. ap or_no_text silent))
       by false h = (refl, refl)
 
   steps_from : (vs : List Visit) → RootStands → plan_steps New (own_steps_of c report) (from_top report.ask vs) ≡ from_root report.ask (Body vs)
@@ -277,18 +277,18 @@ module _ (c : RepoState) (report : WholeReport) where
     tells = subst (TellsEach c report) (steps_from vs root) (tells_plan (from_top report.ask vs) (top_stands vs root (all_stand vs sendable)));
   }
     where
-      closed : Says Top Base (open_directories ([] ∷ [])) (CloseDirectory (token_of DirectoryKind 0) ∷ []) [] []
-      closed = ([], [], [], reads_close Top Base (entry_at DirectoryKind 0 [] []) [] refl, (refl, refl), refl)
+      closed : Says report.ask.purpose Top Base (open_directories ([] ∷ [])) (CloseDirectory (token_of DirectoryKind 0) ∷ []) [] []
+      closed = ([], [], [], reads_close report.ask.purpose Top Base (entry_at DirectoryKind 0 [] []) [] refl, (refl, refl), refl)
 
-      visited : Says Top Base (open_directories ([] ∷ [])) (plan_commands c report 0 vs ++ CloseDirectory (token_of DirectoryKind 0) ∷ []) (Steps vs) []
+      visited : Says report.ask.purpose Top Base (open_directories ([] ∷ [])) (plan_commands c report 0 vs ++ CloseDirectory (token_of DirectoryKind 0) ∷ []) (Steps vs) []
       visited =
-          subst (λ s. Says Top Base (open_directories ([] ∷ [])) (plan_commands c report 0 vs ++ CloseDirectory (token_of DirectoryKind 0) ∷ []) s []) (append-nil (Steps vs))
-          (says_append Top Base (open_directories ([] ∷ [])) (open_directories ([] ∷ [])) [] (plan_commands c report 0 vs) (CloseDirectory (token_of DirectoryKind 0) ∷ []) (Steps vs) []
+          subst (λ s. Says report.ask.purpose Top Base (open_directories ([] ∷ [])) (plan_commands c report 0 vs ++ CloseDirectory (token_of DirectoryKind 0) ∷ []) s []) (append-nil (Steps vs))
+          (says_append report.ask.purpose Top Base (open_directories ([] ∷ [])) (open_directories ([] ∷ [])) [] (plan_commands c report 0 vs) (CloseDirectory (token_of DirectoryKind 0) ∷ []) (Steps vs) []
           (says_plan c report vs [] [] ([] ∷ []) sendable (none_around (length vs) bound) (plan.nests [])) closed)
 
-      says : Says Top Base (open_directories ([] ∷ [])) (body_commands c report vs) (Body vs) []
+      says : Says report.ask.purpose Top Base (open_directories ([] ∷ [])) (body_commands c report vs) (Body vs) []
       says =
-          says_append Top Base (open_directories ([] ∷ [])) (open_directories ([] ∷ [])) [] (root_commands c report) (plan_commands c report 0 vs ++ CloseDirectory (token_of DirectoryKind 0) ∷ [])
+          says_append report.ask.purpose Top Base (open_directories ([] ∷ [])) (open_directories ([] ∷ [])) [] (root_commands c report) (plan_commands c report 0 vs ++ CloseDirectory (token_of DirectoryKind 0) ∷ [])
           (if same_path report.ask.target [] then own_steps_of c report [] false else []) (Steps vs) (says_root root) visited
 
       right : LeadsToTarget c report (Steps (from_top report.ask vs))

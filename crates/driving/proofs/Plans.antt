@@ -37,7 +37,7 @@ use Rattle.driving.specs.Commands.{open_command, add_command, opened_entry, adde
 use Rattle.driving.specs.Sending.{IsSpelledPath, IsTellable, IsSendable}
 use Rattle.driving.specs.Tokens.{token_of}
 use Rattle.driving.proofs.Tokens.{entry_at, open_directories, grown, none_open}
-use Rattle.driving.proofs.Entries.{after_entry, says_news}
+use Rattle.driving.proofs.Entries.{IsTextSent, after_entry, says_news}
 
 -- ---- where a walk goes on
 
@@ -98,6 +98,15 @@ told_short purpose (Some before) (Some text) short = by (is_name before text)
     by true = nothing_short
     by false = sent_short purpose text short
 
+told_sent : (purpose : Purpose) (old : Option (List ℕ)) (text : Option (List ℕ)) → IsTextSent purpose (option_map (text_sent purpose) (other_text old text))
+told_sent Update old text none = absurd (false≢true (sym none))
+told_sent Switch old text none = absurd (false≢true (sym none))
+told_sent Status old text none = by (other_text old text)
+  where
+    by : (o : Option (List ℕ)) → or_no_text (option_map (text_sent Status) o) ≡ []
+    by None = refl
+    by (Some t) = refl
+
 abbrev is_directory_kind : EntryKind → Bool
 is_directory_kind DirectoryKind = true
 is_directory_kind FileKind = false
@@ -119,6 +128,10 @@ module _ (c : RepoState) (report : WholeReport) where
   news_short : (p : PathValue) (anew : Bool) (e : Option Entry) → length (or_no_text (text_of e)) ≤ limit → length (or_no_text (or_no_news (option_map (news_at c report p anew) e)).text) ≤ limit
   news_short p anew None short = nothing_short
   news_short p anew (Some e) short = told_short report.ask.purpose (text_of (old_entry anew (old_tree c report) p)) (content_text e.content) short
+
+  news_sent : (p : PathValue) (anew : Bool) (e : Option Entry) → IsTextSent report.ask.purpose (or_no_news (option_map (news_at c report p anew) e)).text
+  news_sent p anew None = λ none. refl
+  news_sent p anew (Some e) = told_sent report.ask.purpose (text_of (old_entry anew (old_tree c report) p)) (content_text e.content)
 
   pub news_silent : (p : PathValue) (anew : Bool) (e : Option Entry) → entry_kind e ≡ DirectoryKind → (or_no_news (option_map (news_at c report p anew) e)).text ≡ None
   news_silent p anew None is = refl
@@ -142,7 +155,7 @@ module _ (c : RepoState) (report : WholeReport) where
   bare FileKind p e = absurd (false≢true (ap is_directory_kind e))
 
   reads_open : (kind : EntryKind) (d : PathValue) (ds : List PathValue) (p : PathValue) → is_in_directory Top d p ≡ true → IsSpelledPath p → length ds + 1 < 2 ^ 64
-      → steps_said Top Base (open_directories (d ∷ ds)) (open_command kind (opened_entry c report (length ds) p kind))
+      → steps_said report.ask.purpose Top Base (open_directories (d ∷ ds)) (open_command kind (opened_entry c report (length ds) p kind))
       ≡ Some (OpenAt p kind ∷ [], entry_at kind (length ds + 1) p (base_at kind p) ∷ open_directories (d ∷ ds))
   reads_open DirectoryKind d ds p inside spelled bound =
       ap (λ q. saying.enters_entry Top (open_directories (d ∷ ds)) q (token_of DirectoryKind (length ds)) (token_of DirectoryKind (length ds + 1)) DirectoryKind [] (OpenAt q DirectoryKind)) spelled
@@ -154,7 +167,7 @@ module _ (c : RepoState) (report : WholeReport) where
       (placed d ds p inside) (new_token FileKind d ds bound)
 
   reads_add : (kind : EntryKind) (d : PathValue) (ds : List PathValue) (p : PathValue) → is_in_directory Top d p ≡ true → IsSpelledPath p → length ds + 1 < 2 ^ 64
-      → steps_said Top Base (open_directories (d ∷ ds)) (add_command kind (added_entry (length ds) p kind))
+      → steps_said report.ask.purpose Top Base (open_directories (d ∷ ds)) (add_command kind (added_entry (length ds) p kind))
       ≡ Some (AddAt p kind ∷ [], entry_at kind (length ds + 1) p [] ∷ open_directories (d ∷ ds))
   reads_add DirectoryKind d ds p inside spelled bound =
       ap (λ q. saying.enters_entry Top (open_directories (d ∷ ds)) q (token_of DirectoryKind (length ds)) (token_of DirectoryKind (length ds + 1)) DirectoryKind [] (AddAt q DirectoryKind)) spelled
@@ -167,26 +180,26 @@ module _ (c : RepoState) (report : WholeReport) where
 
   -- the visits say their steps, from what is open before to what is open after them
   abbrev SaysPlan : List PathValue → ℕ → List Visit → List PathValue → Type 0
-  SaysPlan ds around vs end = Says Top Base (open_directories ds) (plan_commands c report around vs) (plan_steps New (own_steps_of c report) vs) (open_directories end)
+  SaysPlan ds around vs end = Says report.ask.purpose Top Base (open_directories ds) (plan_commands c report around vs) (plan_steps New (own_steps_of c report) vs) (open_directories end)
 
   -- an entry, and what comes behind it
   with_entry : (kind : EntryKind) (first : EditorCommand) (step : Step) (own : List ℕ) (news : News) (d : PathValue) (ds : List PathValue) (p : PathValue) (vs : List Visit) (end : List PathValue)
-      → steps_said Top Base (open_directories (d ∷ ds)) first ≡ Some (step ∷ [], entry_at kind (length ds + 1) p own ∷ open_directories (d ∷ ds))
-      → (kind ≡ DirectoryKind → own ≡ []) → (kind ≡ DirectoryKind → news.text ≡ None) → length (or_no_text news.text) ≤ limit
+      → steps_said report.ask.purpose Top Base (open_directories (d ∷ ds)) first ≡ Some (step ∷ [], entry_at kind (length ds + 1) p own ∷ open_directories (d ∷ ds))
+      → (kind ≡ DirectoryKind → own ≡ []) → (kind ≡ DirectoryKind → news.text ≡ None) → length (or_no_text news.text) ≤ limit → IsTextSent report.ask.purpose news.text
       → SaysPlan (after_entry kind p (d ∷ ds)) (deeper_by kind (length ds)) vs end
-      → Says Top Base (open_directories (d ∷ ds))
+      → Says report.ask.purpose Top Base (open_directories (d ∷ ds))
       ((first ∷ news_commands report.ask.purpose kind (token_of kind (length ds + 1)) news) ++ plan_commands c report (deeper_by kind (length ds)) vs)
       ((step ∷ news_steps p news) ++ plan_steps New (own_steps_of c report) vs) (open_directories end)
-  with_entry kind first step own news d ds p vs end said bare quiet short rest =
-      says_append Top Base (open_directories (d ∷ ds)) (open_directories (after_entry kind p (d ∷ ds))) (open_directories end)
+  with_entry kind first step own news d ds p vs end said bare quiet short sent rest =
+      says_append report.ask.purpose Top Base (open_directories (d ∷ ds)) (open_directories (after_entry kind p (d ∷ ds))) (open_directories end)
       (first ∷ news_commands report.ask.purpose kind (token_of kind (length ds + 1)) news) (plan_commands c report (deeper_by kind (length ds)) vs)
       (step ∷ news_steps p news) (plan_steps New (own_steps_of c report) vs)
       (step ∷ [], entry_at kind (length ds + 1) p own ∷ open_directories (d ∷ ds), news_steps p news, said, inner, refl) rest
     where
-      inner : Says Top Base (entry_at kind (length ds + 1) p own ∷ open_directories (d ∷ ds)) (news_commands report.ask.purpose kind (token_of kind (length ds + 1)) news) (news_steps p news) (open_directories (after_entry kind p (d ∷ ds)))
+      inner : Says report.ask.purpose Top Base (entry_at kind (length ds + 1) p own ∷ open_directories (d ∷ ds)) (news_commands report.ask.purpose kind (token_of kind (length ds + 1)) news) (news_steps p news) (open_directories (after_entry kind p (d ∷ ds)))
       inner =
-          subst (λ n. Says Top Base (entry_at kind n p own ∷ open_directories (d ∷ ds)) (news_commands report.ask.purpose kind (token_of kind n) news) (news_steps p news) (open_directories (after_entry kind p (d ∷ ds))))
-          (grown d ds) (says_news Top Base report.ask.purpose kind (d ∷ ds) p own news bare quiet short)
+          subst (λ n. Says report.ask.purpose Top Base (entry_at kind n p own ∷ open_directories (d ∷ ds)) (news_commands report.ask.purpose kind (token_of kind n) news) (news_steps p news) (open_directories (after_entry kind p (d ∷ ds))))
+          (grown d ds) (says_news Top Base report.ask.purpose kind (d ∷ ds) p own news bare quiet short sent)
 
   -- what comes behind an entry: below a directory, or beside a file
   goes_below : (kind : EntryKind) (d : PathValue) (ds : List PathValue) (p : PathValue) (vs : List Visit) (end : List PathValue)
@@ -204,11 +217,11 @@ module _ (c : RepoState) (report : WholeReport) where
       let kind = entry_kind (New p) in
       let tellable : IsTellable New p = All-head (IsSendable New) (Open p) vs sendable in
       let on = goes_on (is_in_directory Top d p) (if is_directory_there (New p) then p ∷ d ∷ ds else d ∷ ds) (λ mid. walk New Top mid vs) end walked in
-      subst (λ s. Says Top Base (open_directories (d ∷ ds)) (plan_commands c report (length ds) (Open p ∷ vs)) ((OpenAt p kind ∷ s) ++ plan_steps New (own_steps_of c report) vs) (open_directories end))
+      subst (λ s. Says report.ask.purpose Top Base (open_directories (d ∷ ds)) (plan_commands c report (length ds) (Open p ∷ vs)) ((OpenAt p kind ∷ s) ++ plan_steps New (own_steps_of c report) vs) (open_directories end))
       (sym (steps_told p (option_map (news_at c report p false) (New p))))
       (with_entry kind (open_command kind (opened_entry c report (length ds) p kind)) (OpenAt p kind) (base_at kind p) (news_told c report p false) d ds p vs end
       (reads_open kind d ds p on.0 tellable.spelled (next_bound (length ds) (length vs) (length (Open p ∷ vs)) (one_more (Open p) vs) bound))
-      (bare kind p) (news_silent p false (New p)) (news_short p false (New p) tellable.short)
+      (bare kind p) (news_silent p false (New p)) (news_short p false (New p) tellable.short) (news_sent p false (New p))
       (goes_below kind d ds p vs end
       (λ w. says_plan vs p (d ∷ ds) end (All-tail (IsSendable New) (Open p) vs sendable) (deep_bound (length (d ∷ ds)) (length ds) (length vs) (length (Open p ∷ vs)) (grown d ds) (one_more (Open p) vs) bound) w)
       (λ w. says_plan vs d ds end (All-tail (IsSendable New) (Open p) vs sendable) (flat_bound (length ds) (length vs) (length (Open p ∷ vs)) (one_more (Open p) vs) bound) w)
@@ -217,11 +230,11 @@ module _ (c : RepoState) (report : WholeReport) where
       let kind = entry_kind (New p) in
       let tellable : IsTellable New p = All-head (IsSendable New) (Add p) vs sendable in
       let on = goes_on (is_in_directory Top d p) (if is_directory_there (New p) then p ∷ d ∷ ds else d ∷ ds) (λ mid. walk New Top mid vs) end walked in
-      subst (λ s. Says Top Base (open_directories (d ∷ ds)) (plan_commands c report (length ds) (Add p ∷ vs)) ((AddAt p kind ∷ s) ++ plan_steps New (own_steps_of c report) vs) (open_directories end))
+      subst (λ s. Says report.ask.purpose Top Base (open_directories (d ∷ ds)) (plan_commands c report (length ds) (Add p ∷ vs)) ((AddAt p kind ∷ s) ++ plan_steps New (own_steps_of c report) vs) (open_directories end))
       (sym (steps_told p (option_map (news_at c report p true) (New p))))
       (with_entry kind (add_command kind (added_entry (length ds) p kind)) (AddAt p kind) [] (news_told c report p true) d ds p vs end
       (reads_add kind d ds p on.0 tellable.spelled (next_bound (length ds) (length vs) (length (Add p ∷ vs)) (one_more (Add p) vs) bound))
-      (λ _. refl) (news_silent p true (New p)) (news_short p true (New p) tellable.short)
+      (λ _. refl) (news_silent p true (New p)) (news_short p true (New p) tellable.short) (news_sent p true (New p))
       (goes_below kind d ds p vs end
       (λ w. says_plan vs p (d ∷ ds) end (All-tail (IsSendable New) (Add p) vs sendable) (deep_bound (length (d ∷ ds)) (length ds) (length vs) (length (Add p ∷ vs)) (grown d ds) (one_more (Add p) vs) bound) w)
       (λ w. says_plan vs d ds end (All-tail (IsSendable New) (Add p) vs sendable) (flat_bound (length ds) (length vs) (length (Add p ∷ vs)) (one_more (Add p) vs) bound) w)
@@ -242,7 +255,7 @@ module _ (c : RepoState) (report : WholeReport) where
     [],
     open_directories (e ∷ ds),
     plan_steps New (own_steps_of c report) vs,
-    reads_close Top Base (entry_at DirectoryKind (length (e ∷ ds)) d []) (open_directories (e ∷ ds)) refl,
+    reads_close report.ask.purpose Top Base (entry_at DirectoryKind (length (e ∷ ds)) d []) (open_directories (e ∷ ds)) refl,
     subst (λ n. SaysPlan (e ∷ ds) n vs end) (shrunk (length (e ∷ ds)) (length ds) (grown e ds))
         (says_plan vs e ds end (All-tail (IsSendable New) Close vs sendable) (left_bound (length (e ∷ ds)) (length ds) (length vs) (length (Close ∷ vs)) (grown e ds) (one_more Close vs) bound) walked),
     refl,

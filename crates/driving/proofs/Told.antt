@@ -149,26 +149,26 @@ module _ (q : PathValue) (name : List ℕ) where
 
     -- where the names are other than those of entry properties, nothing is told of one
     module _ (special : is_entry_property name ≡ true) where
-      spares : (all : Bool) (old new : PropertyList) (n : List ℕ) → is_told all old new n ≡ true → is_entry_property n ≡ false
-      spares all old new n h = by (is_entry_property n) (and_front (not (is_entry_property n)) _ h)
+      spares : (old new : PropertyList) (n : List ℕ) → is_told old new n ≡ true → is_entry_property n ≡ false
+      spares old new n h = by (is_entry_property n) (and_front (not (is_entry_property n)) _ h)
         where
           by : (b : Bool) → not b ≡ true → b ≡ false
           by true x = absurd (false≢true x)
           by false x = refl
 
       -- news tell of an entry property what is due, or nothing
-      pub own_news : (purpose : Purpose) (all : Bool) (old : Option Entry) (before : Option (Option (List ℕ)))
-          → Last before (news_steps q (news_of c purpose stale all old e)) ≡ option_or (entry_property c stale e name) before
-      own_news purpose all old before =
+      pub own_news : (purpose : Purpose) (old : Option Entry) (before : Option (Option (List ℕ)))
+          → Last before (news_steps q (news_of c purpose stale old e)) ≡ option_or (entry_property c stale e name) before
+      own_news purpose old before =
           fold-append (told_by q name) before (property_steps q news.changes) (text_steps q news.text)
           ∙ no_text q news.text (Last before (property_steps q news.changes))
-          ∙ ap (Last before) (map-append (λ x. PropertyAt q x.0 x.1) (entry_changes c stale e) (property_changes all was e.properties))
-          ∙ fold-append (told_by q name) before (property_steps q (entry_changes c stale e)) (property_steps q (property_changes all was e.properties))
-          ∙ properties_told (property_value e.properties) (is_told all was e.properties) (spares all was e.properties) special (names_in_both was e.properties) (Last before (property_steps q (entry_changes c stale e)))
+          ∙ ap (Last before) (map-append (λ x. PropertyAt q x.0 x.1) (entry_changes c stale e) (property_changes was e.properties))
+          ∙ fold-append (told_by q name) before (property_steps q (entry_changes c stale e)) (property_steps q (property_changes was e.properties))
+          ∙ properties_told (property_value e.properties) (is_told was e.properties) (spares was e.properties) special (names_in_both was e.properties) (Last before (property_steps q (entry_changes c stale e)))
           ∙ due_told before
         where
           was : PropertyList
           was = or_empty (node_properties old)
 
           news : News
-          news = news_of c purpose stale all old e
+          news = news_of c purpose stale old e

@@ -1,3 +1,4 @@
 pub mod Kept
-pub mod Sound
+pub mod Standing
 pub mod Right
+pub mod Sound

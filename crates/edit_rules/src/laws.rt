@@ -1,21 +1,22 @@
 //! What holds of every edit. The functions do nothing: their contracts are the laws.
 ghost use Rattle.std.specs.Prelude.{◌≡◌, ℕ, Bool, List, Option, Some, None, Ok};
 ghost use Rattle.svnpath.specs.Paths.{PathValue};
+ghost use Rattle.svnpath.specs.Texts.{joined};
 ghost use Rattle.repo_api.specs.States.{RepoState};
 ghost use Rattle.edit_commands.specs.declared.editing.EditorCommand.{EditorCommand};
 ghost use Rattle.edit_commands.specs.declared.editing.AddedEntry.{AddedEntry};
 ghost use Rattle.edit_commands.specs.declared.editing.DeletedEntry.{DeletedEntry};
 ghost use Rattle.repo_api.specs.declared.change.Source.{Source};
-ghost use Rattle.repo_api.specs.declared.edit.EditOp.TheVariants.{Delete, SetText};
+ghost use Rattle.repo_api.specs.declared.edit.EditOp.{EditOp};
+ghost use Rattle.repo_api.specs.declared.edit.EditOp.TheVariants.{Delete};
 ghost use Rattle.edit_rules.specs.Edits.{EditState, new_edit, standing};
 ghost use Rattle.edit_rules.specs.Refusing.{edit_refusal, add_entry_refusal, delete_entry_refusal, open_under};
 ghost use Rattle.edit_rules.specs.Editor.{Applies, RestsOn, added_edit, property_edit};
 ghost use Rattle.repo_api.specs.Soundness.{AreSound};
 ghost use Rattle.edit_rules.specs.Soundness.{IsSoundEdit, IsRightIn};
+ghost use Rattle.edit_rules.specs.Texts.{SetsText};
 ghost use Rattle.edit_rules.specs.Tokens.{path_of};
-ghost use Rattle.edit_rules.specs.declared.opened.DeltaState.{DeltaState};
 ghost use Rattle.edit_rules.specs.declared.opened.Opened.{Opened};
-ghost use Rattle.edit_rules.specs.declared.opened.Opened.TheVariants.{File};
 
 /// An edit that has heard nothing is sound, and so is an edit after each command that is not refused, where
 /// every tree of the repository is a tree.
@@ -38,10 +39,11 @@ pub fn edits_are_right()
     ensures deletes { (c : RepoState) (e : EditState) (entry : DeletedEntry) (p : PathValue) → IsSoundEdit e
         → delete_entry_refusal e entry (Ok p) ≡ None → IsRightIn c e.txn (Delete p) }
     ensures adds { (c : RepoState) (e : EditState) (is_file : Bool) (entry : AddedEntry) (p : PathValue) (source : Option Source)
-        → IsSoundEdit e → add_entry_refusal c e is_file entry (Ok p) (Ok source) ≡ None
+        → IsSoundEdit e → joined e.path entry.path ≡ Ok p
+        → add_entry_refusal c e is_file entry (Ok p) (Ok source) ≡ None
         → IsRightIn c e.txn (added_edit is_file (standing e.txn p) p source) }
     ensures sets_properties { (c : RepoState) (e : EditState) (token : List ℕ) (o : Opened) (name : List ℕ) (value : Option (List ℕ))
         → IsSoundEdit e → open_under e token ≡ Some o → IsRightIn c e.txn (property_edit (path_of o) name value) }
-    ensures sets_texts { (c : RepoState) (e : EditState) (token : List ℕ) (p : PathValue) (delta : DeltaState) (text : List ℕ)
-        → IsSoundEdit e → open_under e token ≡ Some (File p delta) → IsRightIn c e.txn (SetText p text) }
+    ensures sets_texts { (c : RepoState) (e : EditState) (token : List ℕ) (op : EditOp)
+        → IsSoundEdit e → SetsText (open_under e token) op → IsRightIn c e.txn op }
 {}

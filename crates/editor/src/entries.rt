@@ -166,6 +166,7 @@ impl<R: Repository> CommitEditor<R> {
     ) -> Result<(), EditFault>
         requires rests { RestsOn self.old (R.content repository.now) }
         requires sound { IsSoundEdit self.old }
+        requires named { joined self.old.path entry.now.path ≡ Ok path.now }
         ensures judged { Judges result (add_entry_refusal
             (R.content repository.now) self.old is_file entry.now (Ok path.now)
             (Ok source.now)) }
@@ -190,6 +191,7 @@ impl<R: Repository> CommitEditor<R> {
     ) -> Result<(), EditFault>
         requires rests { RestsOn self.old (R.content repository.now) }
         requires sound { IsSoundEdit self.old }
+        requires named { joined self.old.path entry.now.path ≡ Ok path.now }
         ensures judged { Judges result (add_entry_refusal
             (R.content repository.now) self.old is_file entry.now (Ok path.now) (Ok None)) }
         ensures ok { OnOk result (Edits (R.content repository.now) self.old
@@ -233,6 +235,7 @@ impl<R: Repository> CommitEditor<R> {
     ) -> Result<(), EditFault>
         requires rests { RestsOn self.old (R.content repository.now) }
         requires sound { IsSoundEdit self.old }
+        requires named { joined self.old.path entry.now.path ≡ Ok path.now }
         ensures judged { Judges result (add_entry_refusal
             (R.content repository.now) self.old is_file entry.now (Ok path.now)
             (Ok (Some source.now))) }

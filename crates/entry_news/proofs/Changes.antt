@@ -115,38 +115,38 @@ unnamed told value (n ∷ ns) name on none = by (same_component n name) refl (to
     by true e false h out rest = absurd (false≢true (sym h ∙ ap told (same_component_is n name e) ∙ on))
     by false e false h out rest = ap (λ x. x || any_named name ns) e ∙ rest out
 
-covers : (all : Bool) (old new : PropertyList) (name : List ℕ) → changes_name (property_changes all old new) name ≡ false → property_values old name ≡ property_values new name
-covers all old new name none = by (is_entry_property name) refl (is_told all old new name) refl
+covers : (old new : PropertyList) (name : List ℕ) → changes_name (property_changes old new) name ≡ false → property_values old name ≡ property_values new name
+covers old new name none = by (is_entry_property name) refl (is_told old new name) refl
   where
-    by : (b : Bool) → is_entry_property name ≡ b → (t : Bool) → is_told all old new name ≡ t → property_values old name ≡ property_values new name
+    by : (b : Bool) → is_entry_property name ≡ b → (t : Bool) → is_told old new name ≡ t → property_values old name ≡ property_values new name
     by true e t h = ap (λ b. cond b None (property_value old name)) e ∙ sym (ap (λ b. cond b None (property_value new name)) e)
     by false e true h =
         let m : (any_named name (names old) ≡ false) × (any_named name (names new) ≡ false) =
-        or_false _ _ (sym (in_one name old new) ∙ unnamed (is_told all old new) (property_value new) (names_in_both old new) name h none) in
+        or_false _ _ (sym (in_one name old new) ∙ unnamed (is_told old new) (property_value new) (names_in_both old new) name h none) in
         value_at old name e ∙ no_value old name m.0 ∙ sym (value_at new name e ∙ no_value new name m.1)
     by false e false h =
-        let untold : (all || not (is_same_value (property_value old name) (property_value new name))) ≡ false =
-        sym (ap (λ b. not b && (all || not (is_same_value (property_value old name) (property_value new name)))) e) ∙ h in
-        value_at old name e ∙ same_value _ _ (not_false _ (or_false all _ untold).1) ∙ sym (value_at new name e)
+        let untold : not (is_same_value (property_value old name) (property_value new name)) ≡ false =
+        sym (ap (λ b. not b && not (is_same_value (property_value old name) (property_value new name))) e) ∙ h in
+        value_at old name e ∙ same_value _ _ (not_false _ untold) ∙ sym (value_at new name e)
 
 no_entry : (a b : Bool) → (not a && b) ≡ true → a ≡ false
 no_entry true b h = absurd (false≢true h)
 no_entry false b h = refl
 
-agrees : (all : Bool) (old new : PropertyList) (ns : List (List ℕ)) → All (Agrees (property_values new)) (changes_named all old new ns)
-agrees all old new [] = All-nil (Agrees (property_values new))
-agrees all old new (n ∷ ns) = by (is_told all old new n) refl (agrees all old new ns)
+agrees : (old new : PropertyList) (ns : List (List ℕ)) → All (Agrees (property_values new)) (changes_named old new ns)
+agrees old new [] = All-nil (Agrees (property_values new))
+agrees old new (n ∷ ns) = by (is_told old new n) refl (agrees old new ns)
   where
-    by : (t : Bool) → is_told all old new n ≡ t → All (Agrees (property_values new)) (changes_named all old new ns)
-        → All (Agrees (property_values new)) (map (λ m. (m, property_value new m)) (cond t (n ∷ filter (is_told all old new) ns) (filter (is_told all old new) ns)))
+    by : (t : Bool) → is_told old new n ≡ t → All (Agrees (property_values new)) (changes_named old new ns)
+        → All (Agrees (property_values new)) (map (λ m. (m, property_value new m)) (cond t (n ∷ filter (is_told old new) ns) (filter (is_told old new) ns)))
     by true h rest =
         let e : is_entry_property n ≡ false = no_entry (is_entry_property n) _ h in
         All-cons (Agrees (property_values new)) (n, property_value new n) _ (e, sym (value_at new n e)) rest
     by false h rest = rest
 
 -- each change gives a property its new value, and what none names has it already
-pub changes_lead_to : (all : Bool) (old new : PropertyList) → LeadTo (property_values old) (property_values new) (property_changes all old new)
-changes_lead_to all old new = record { agree = agrees all old new (names_in_both old new); covers = covers all old new }
+pub changes_lead_to : (old new : PropertyList) → LeadTo (property_values old) (property_values new) (property_changes old new)
+changes_lead_to old new = record { agree = agrees old new (names_in_both old new); covers = covers old new }
 
 -- ---- whether there are any
 
@@ -158,10 +158,10 @@ none_kept : (told : List ℕ → Bool) → ((n : List ℕ) → told n ≡ false)
 none_kept told out [] = refl
 none_kept told out (n ∷ ns) = ap (λ b. cond b (n ∷ filter told ns) (filter told ns)) (out n) ∙ none_kept told out ns
 
-untold_at : (old new : PropertyList) → property_values old ≡ property_values new → (name : List ℕ) → is_told false old new name ≡ false
+untold_at : (old new : PropertyList) → property_values old ≡ property_values new → (name : List ℕ) → is_told old new name ≡ false
 untold_at old new same name = by (is_entry_property name) refl
   where
-    by : (b : Bool) → is_entry_property name ≡ b → is_told false old new name ≡ false
+    by : (b : Bool) → is_entry_property name ≡ b → is_told old new name ≡ false
     by true e = ap (λ b. not b && not (is_same_value (property_value old name) (property_value new name))) e
     by false e =
         ap (λ b. not b && not (is_same_value (property_value old name) (property_value new name))) e
@@ -169,11 +169,11 @@ untold_at old new same name = by (is_entry_property name) refl
         ∙ ap not (value_itself (property_value new name))
 
 -- no change is told exactly where all values are the same
-pub none_changed : (old new : PropertyList) (cs : List Change) → cs ≡ property_changes false old new → Decides (length cs == 0) (property_values old ≡ property_values new)
+pub none_changed : (old new : PropertyList) (cs : List Change) → cs ≡ property_changes old new → Decides (length cs == 0) (property_values old ≡ property_values new)
 none_changed old new cs is = (same, none)
   where
     same : (length cs == 0) ≡ true → property_values old ≡ property_values new
-    same h = λ i name. covers false old new name (ap (λ xs. changes_name xs name) (sym is ∙ empty_from_length cs h)) i
+    same h = λ i name. covers old new name (ap (λ xs. changes_name xs name) (sym is ∙ empty_from_length cs h)) i
 
     none : property_values old ≡ property_values new → (length cs == 0) ≡ true
-    none e = ap (λ xs. length xs == 0) (is ∙ ap (map (λ n. (n, property_value new n))) (none_kept (is_told false old new) (untold_at old new e) (names_in_both old new)))
+    none e = ap (λ xs. length xs == 0) (is ∙ ap (map (λ n. (n, property_value new n))) (none_kept (is_told old new) (untold_at old new e) (names_in_both old new)))

@@ -145,9 +145,9 @@ meet : (p : PathValue) (a : Content) (old new : PropertyValues) (known changes :
 meet p a old new known changes text facts lead file =
     ap (all_meet p (Some (a, old))) (as_own p known changes text) ∙ own_meets p a old new known changes text facts lead file
 
-module _ (c : RepoState) (purpose : Purpose) (stale all : Bool) (p : PathValue) where
+module _ (c : RepoState) (purpose : Purpose) (stale : Bool) (p : PathValue) where
   abbrev news_from : Option Entry → Option Entry → List Step
-  news_from a b = steps_if p (option_map (news_of c purpose stale all a) b)
+  news_from a b = steps_if p (option_map (news_of c purpose stale a) b)
 
   opened_leads : (a b : Option Entry) → IsSomeAnd a (λ e. IsSomeAnd b (λ f. is_directory e ≡ is_directory f))
       → option_map (seen_by purpose) (after_steps p (option_map node_of a) (news_from a b)) ≡ option_map (seen_by purpose) (option_map node_of b)
@@ -155,8 +155,8 @@ module _ (c : RepoState) (purpose : Purpose) (stale all : Bool) (p : PathValue) 
   opened_leads (Some e) None one = elim one [ ]
   opened_leads (Some e) (Some f) one =
       leads (seen_by purpose) p e.content f.content (property_values e.properties) (property_values f.properties) (entry_changes c stale f)
-      (property_changes all e.properties f.properties) (text_told purpose (content_text e.content) f.content)
-      (entry_changes_are c stale f) (changes_lead_to all e.properties f.properties) (opened_content purpose e.content f.content (property_values f.properties) one)
+      (property_changes e.properties f.properties) (text_told purpose (content_text e.content) f.content)
+      (entry_changes_are c stale f) (changes_lead_to e.properties f.properties) (opened_content purpose e.content f.content (property_values f.properties) one)
 
   opened_meets : (a b : Option Entry) → IsSomeAnd a (λ e. IsSomeAnd b (λ f. is_directory e ≡ is_directory f))
       → all_meet p (option_map node_of a) (news_from a b) ≡ true
@@ -164,47 +164,47 @@ module _ (c : RepoState) (purpose : Purpose) (stale all : Bool) (p : PathValue) 
   opened_meets (Some e) None one = elim one [ ]
   opened_meets (Some e) (Some f) one =
       meet p e.content (property_values e.properties) (property_values f.properties) (entry_changes c stale f)
-      (property_changes all e.properties f.properties) (text_told purpose (content_text e.content) f.content)
-      (entry_changes_are c stale f) (changes_lead_to all e.properties f.properties) (opened_file purpose e.content f.content (property_values f.properties) one)
+      (property_changes e.properties f.properties) (text_told purpose (content_text e.content) f.content)
+      (entry_changes_are c stale f) (changes_lead_to e.properties f.properties) (opened_file purpose e.content f.content (property_values f.properties) one)
 
   opened_text : (a b : Option Entry) → IsSomeAnd b (λ f. is_directory f ≡ false)
       → (option_map (λ (n : Node). n.0) (option_map node_of a) ≡ option_map (λ (n : Node). n.0) (option_map node_of b) → ⊥)
       → has_step is_text p (news_from a b) ≡ true
   opened_text a None file other = elim file [ ]
-  opened_text None (Some f) file other = says purpose p (news_of c purpose stale all None f).changes None (content_text f.content) (new_text f.content file)
-  opened_text (Some e) (Some f) file other = says purpose p (news_of c purpose stale all (Some e) f).changes (content_text e.content) (content_text f.content) (changed_text e.content f.content file other)
+  opened_text None (Some f) file other = says purpose p (news_of c purpose stale None f).changes None (content_text f.content) (new_text f.content file)
+  opened_text (Some e) (Some f) file other = says purpose p (news_of c purpose stale (Some e) f).changes (content_text e.content) (content_text f.content) (changed_text e.content f.content file other)
 
-  added_leads_to : (f : Entry) → LeadTo no_properties (property_values f.properties) (property_changes all [] f.properties)
-  added_leads_to f = subst (λ v. LeadTo v (property_values f.properties) (property_changes all [] f.properties)) no_values (changes_lead_to all [] f.properties)
+  added_leads_to : (f : Entry) → LeadTo no_properties (property_values f.properties) (property_changes [] f.properties)
+  added_leads_to f = subst (λ v. LeadTo v (property_values f.properties) (property_changes [] f.properties)) no_values (changes_lead_to [] f.properties)
 
   added_leads : (b : Option Entry) → IsSome b → option_map (seen_by purpose) (after_steps p (blank b) (news_from None b)) ≡ option_map (seen_by purpose) (option_map node_of b)
   added_leads None some = absurd (false≢true some)
   added_leads (Some f) some =
       leads (seen_by purpose) p (empty_content (kind_if (is_directory f))) f.content no_properties (property_values f.properties) (entry_changes c stale f)
-      (property_changes all [] f.properties) (text_told purpose None f.content)
+      (property_changes [] f.properties) (text_told purpose None f.content)
       (entry_changes_are c stale f) (added_leads_to f) (added_content purpose f.content (property_values f.properties))
 
   added_meets : (b : Option Entry) → IsSome b → all_meet p (blank b) (news_from None b) ≡ true
   added_meets None some = absurd (false≢true some)
   added_meets (Some f) some =
       meet p (empty_content (kind_if (is_directory f))) no_properties (property_values f.properties) (entry_changes c stale f)
-      (property_changes all [] f.properties) (text_told purpose None f.content)
+      (property_changes [] f.properties) (text_told purpose None f.content)
       (entry_changes_are c stale f) (added_leads_to f) (added_file purpose f.content (property_values f.properties))
 
   added_text : (b : Option Entry) → IsSomeAnd b (λ f. is_directory f ≡ false) → has_step is_text p (news_from None b) ≡ true
   added_text None file = elim file [ ]
-  added_text (Some f) file = says purpose p (news_of c purpose stale all None f).changes None (content_text f.content) (new_text f.content file)
+  added_text (Some f) file = says purpose p (news_of c purpose stale None f).changes None (content_text f.content) (new_text f.content file)
 
 -- ---- over two trees
 
-pub news_lead_over : (c : RepoState) (purpose : Purpose) (stale all : PathValue → Bool) (old new : Tree)
-    → LeadsOver (seen_by purpose) old new (λ p anew. steps_if p (option_map (news_of c purpose (stale p) (all p) (old_entry anew old p)) (new p)))
-news_lead_over c purpose stale all old new = record {
-  here = λ p anew. own_here p (option_map (news_of c purpose (stale p) (all p) (old_entry anew old p)) (new p));
-  open_meets = λ p one. opened_meets c purpose (stale p) (all p) p (old p) (new p) one;
-  open_leads = λ p one. opened_leads c purpose (stale p) (all p) p (old p) (new p) one;
-  open_text = λ p other. opened_text c purpose (stale p) (all p) p (old p) (new p) other.0 other.1;
-  add_meets = λ p some. added_meets c purpose (stale p) (all p) p (new p) some;
-  add_text = λ p file. added_text c purpose (stale p) (all p) p (new p) file;
-  add_leads = λ p some. added_leads c purpose (stale p) (all p) p (new p) some;
+pub news_lead_over : (c : RepoState) (purpose : Purpose) (stale : PathValue → Bool) (old new : Tree)
+    → LeadsOver (seen_by purpose) old new (λ p anew. steps_if p (option_map (news_of c purpose (stale p) (old_entry anew old p)) (new p)))
+news_lead_over c purpose stale old new = record {
+  here = λ p anew. own_here p (option_map (news_of c purpose (stale p) (old_entry anew old p)) (new p));
+  open_meets = λ p one. opened_meets c purpose (stale p) p (old p) (new p) one;
+  open_leads = λ p one. opened_leads c purpose (stale p) p (old p) (new p) one;
+  open_text = λ p other. opened_text c purpose (stale p) p (old p) (new p) other.0 other.1;
+  add_meets = λ p some. added_meets c purpose (stale p) p (new p) some;
+  add_text = λ p file. added_text c purpose (stale p) p (new p) file;
+  add_leads = λ p some. added_leads c purpose (stale p) p (new p) some;
 }

@@ -2,4 +2,3 @@ pub mod Parts
 pub mod Changes
 pub mod Leading
 pub mod Told
-pub mod Seen

@@ -94,8 +94,8 @@ text_tells_nothing q name before (Some text) = refl
 -- ---- of an entry
 
 -- no change of the entry's properties is of an entry property
-pub changes_are_others : (all : Bool) (old new : PropertyList) → All (λ c. is_entry_property c.0 ≡ false) (property_changes all old new)
-changes_are_others all old new = λ k d lt. ((changes_lead_to all old new).agree k d lt).0
+pub changes_are_others : (old new : PropertyList) → All (λ c. is_entry_property c.0 ≡ false) (property_changes old new)
+changes_are_others old new = λ k d lt. ((changes_lead_to old new).agree k d lt).0
 
 -- an entry property that is not among them is not due
 not_due : (c : RepoState) (stale : Bool) (e : Entry) (name : List ℕ) → any_named name entry_property_names ≡ false → entry_property c stale e name ≡ None
@@ -131,18 +131,18 @@ untold q name before (PropertyAt p other value) out = ap (λ b. cond (b && is_na
 untold q name before (TextAt p text) out = refl
 
 -- what an entry is told by an entry property is what is due
-pub told_of_entry : (c : RepoState) (purpose : Purpose) (stale all : Bool) (old : Option Entry) (e : Entry) (q : PathValue) (name : List ℕ) → is_entry_property name ≡ true
-    → told q name (news_steps q (news_of c purpose stale all old e)) ≡ entry_property c stale e name
-told_of_entry c purpose stale all old e q name known =
+pub told_of_entry : (c : RepoState) (purpose : Purpose) (stale : Bool) (old : Option Entry) (e : Entry) (q : PathValue) (name : List ℕ) → is_entry_property name ≡ true
+    → told q name (news_steps q (news_of c purpose stale old e)) ≡ entry_property c stale e name
+told_of_entry c purpose stale old e q name known =
     let ours = entry_changes c stale e in
-    let changes = property_changes all (or_empty (node_properties old)) e.properties in
-    let text = (news_of c purpose stale all old e).text in
+    let changes = property_changes (or_empty (node_properties old)) e.properties in
+    let text = (news_of c purpose stale old e).text in
     let first = told_after q name None (property_steps q ours) in
     ap (told_after q name None) (as_own q ours changes text)
     ∙ fold-append (told_by q name) None (property_steps q ours) (property_steps q changes ++ text_steps q text)
     ∙ fold-append (told_by q name) first (property_steps q changes) (text_steps q text)
     ∙ text_tells_nothing q name (told_after q name first (property_steps q changes)) text
-    ∙ other_names q name first changes known (changes_are_others all (or_empty (node_properties old)) e.properties)
+    ∙ other_names q name first changes known (changes_are_others (or_empty (node_properties old)) e.properties)
     ∙ told_due q name (entry_property c stale e) entry_property_names
     ∙ by (any_named name entry_property_names) refl
   where

@@ -1,8 +1,8 @@
 -- What an entry that a drive opens or adds is told of itself: its entry properties, what becomes of
 -- its other properties, and its text.
-use Rattle.std.specs.Prelude.{ℕ, Bool, true, false, not, ◌&&◌, ◌||◌, List, [], ◌∷◌, ◌++◌, Option, Some, None, option_map, map, filter, fold, codes, if◌then◌else◌}
-use Rattle.std.specs.List.{list_any, filter_map}
-use Rattle.svnpath.specs.Paths.{PathValue, same_path}
+use Rattle.std.specs.Prelude.{ℕ, Bool, true, false, not, ◌&&◌, List, [], ◌∷◌, ◌++◌, Option, Some, None, option_map, map, filter, fold, codes, if◌then◌else◌}
+use Rattle.std.specs.List.{filter_map}
+use Rattle.svnpath.specs.Paths.{PathValue}
 use Rattle.repo_api.specs.Kinds.{node_properties, content_text, text_of, or_empty}
 use Rattle.repo_api.specs.Properties.{PropertyList, with_property}
 use Rattle.repo_api.specs.States.{RepoState}
@@ -15,8 +15,6 @@ use Rattle.reporter.specs.Visits.{OwnSteps}
 use Rattle.reports.specs.Targets.{WholeReport, old_tree, new_tree, stale_in}
 use Rattle.reports.specs.declared.ask.Purpose.{Purpose}
 use Rattle.reports.specs.declared.ask.Purpose.TheVariants.{Update, Switch, Status}
-use Rattle.reports.specs.declared.graft.Graft.{Graft}
-use Rattle.reports.specs.declared.graft.Subtree.{Subtree}
 use Rattle.drive_commands.specs.EntryProperties.{entry_property, property_value}
 use Rattle.entry_news.specs.declared.news.News.{News}
 
@@ -45,18 +43,17 @@ is_same_value None (Some new) = false
 is_same_value (Some old) None = false
 is_same_value (Some old) (Some new) = is_name old new
 
--- a property is told where all are, or where it has another value now; entry properties are told
--- apart
-abbrev pub is_told : Bool → PropertyList → PropertyList → List ℕ → Bool
-is_told all old new name =
+-- a property is told where it has another value now; entry properties are told apart
+abbrev pub is_told : PropertyList → PropertyList → List ℕ → Bool
+is_told old new name =
     not (is_entry_property name)
-    && (all || not (is_same_value (property_value old name) (property_value new name)))
+    && not (is_same_value (property_value old name) (property_value new name))
 
 -- what becomes of the properties, by their names' bytes
-abbrev pub property_changes : Bool → PropertyList → PropertyList → List Change
-property_changes all old new =
+abbrev pub property_changes : PropertyList → PropertyList → List Change
+property_changes old new =
     map (λ name. (name, property_value new name))
-    (filter (is_told all old new) (names_in_both old new))
+    (filter (is_told old new) (names_in_both old new))
 
 -- ---- the text
 
@@ -74,10 +71,10 @@ other_text (Some old) (Some new) = if is_name old new then None else Some new
 
 -- ---- both
 
-abbrev pub news_of : RepoState → Purpose → Bool → Bool → Option Entry → Entry → News
-news_of c purpose stale all old e = record {
+abbrev pub news_of : RepoState → Purpose → Bool → Option Entry → Entry → News
+news_of c purpose stale old e = record {
   changes = entry_changes c stale e
-      ++ property_changes all (or_empty (node_properties old)) e.properties;
+      ++ property_changes (or_empty (node_properties old)) e.properties;
   text = option_map (text_sent purpose) (other_text (text_of old) (content_text e.content));
 }
 
@@ -87,16 +84,6 @@ news_steps p news = property_steps p news.changes ++ text_steps p news.text
 
 -- ---- in a drive
 
--- a subtree whose top alone the client has
-abbrev pub is_top_alone : Option Subtree → Bool
-is_top_alone None = false
-is_top_alone (Some s) = s.starts_empty
-
--- The client reports no more than the top of what it has there. Then it may lack the properties
--- too, and is told them all.
-abbrev pub starts_empty_at : List Graft → PathValue → Bool
-starts_empty_at grafts p = list_any (λ g. same_path g.path p && is_top_alone g.subtree) grafts
-
 -- what stood there, or nothing where the entry comes anew
 abbrev pub old_entry : Bool → Tree → PathValue → Option Entry
 old_entry true old p = None
@@ -105,8 +92,7 @@ old_entry false old p = old p
 -- what an entry of the target is told, opened or anew
 abbrev pub news_at : RepoState → WholeReport → PathValue → Bool → Entry → News
 news_at c report p anew e =
-    news_of c report.ask.purpose (stale_in c report p) (starts_empty_at report.grafts p)
-    (old_entry anew (old_tree c report) p) e
+    news_of c report.ask.purpose (stale_in c report p) (old_entry anew (old_tree c report) p) e
 
 abbrev pub steps_if : PathValue → Option News → List Step
 steps_if p None = []

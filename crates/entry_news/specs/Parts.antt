@@ -9,9 +9,9 @@ use Rattle.drive_commands.specs.EntryProperties.{property_value}
 use Rattle.entry_news.specs.News.{is_told}
 
 -- what becomes of the properties of these names
-abbrev pub changes_named : Bool → PropertyList → PropertyList → List (List ℕ) → List Change
-changes_named all old new names =
-    map (λ name. (name, property_value new name)) (filter (is_told all old new) names)
+abbrev pub changes_named : PropertyList → PropertyList → List (List ℕ) → List Change
+changes_named old new names =
+    map (λ name. (name, property_value new name)) (filter (is_told old new) names)
 
 -- the value of a property of a revision, if there is a revision
 abbrev pub revision_property : RepoState → List ℕ → Option ℕ → Option (List ℕ)

@@ -5,7 +5,9 @@ use Rattle.repo_api.specs.Trees.{revision_of}
 use Rattle.repo_api.specs.declared.entry.Content.{Content}
 use Rattle.repo_api.specs.declared.entry.Entry.{Entry}
 use Rattle.drives.specs.Steps.{node_of}
+use Rattle.reports.specs.Reported.{top_entry}
 use Rattle.entry_news.specs.News.{news_of}
+use Rattle.entry_news.specs.declared.news.Had.{Had}
 use Rattle.entry_news.specs.declared.news.News.{News}
 use Rattle.entry_news.specs.declared.news.Place.{Place}
 use Rattle.entry_news.specs.declared.news.Sight.{Sight}
@@ -14,15 +16,18 @@ use Rattle.entry_news.specs.declared.news.Sight.{Sight}
 abbrev pub entry_at : RepoState → Place → Option Entry
 entry_at c place = trees_in c.revisions place.revision place.path.now
 
--- what the client has of an entry
+-- what a client has of an entry
+abbrev pub entry_had : RepoState → Had → Option Entry
+entry_had c had = option_map (top_entry had.starts_empty) (entry_at c had.place)
+
+-- what the client has of an entry that is told, if it has any
 abbrev pub old_seen : RepoState → Sight → Option Entry
-old_seen c sight = option_and_then (entry_at c) sight.old
+old_seen c sight = option_and_then (entry_had c) sight.old
 
 -- what an entry is told of itself
 abbrev pub news_seen : RepoState → Sight → Option News
 news_seen c sight =
-    option_map (news_of c sight.purpose sight.is_stale sight.tells_all (old_seen c sight))
-    (entry_at c sight.new)
+    option_map (news_of c sight.purpose sight.is_stale (old_seen c sight)) (entry_at c sight.new)
 
 -- a directory, or a file with its text, where something stands
 abbrev pub entry_content : Option Entry → Option Content

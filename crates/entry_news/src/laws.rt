@@ -19,8 +19,8 @@ pub fn news_lead()
 
 /// What an entry is told by an entry property is what is due.
 pub fn entry_properties_are_told()
-    ensures { (c : RepoState) (purpose : Purpose) (stale all : Bool) (old : Option Entry)
+    ensures { (c : RepoState) (purpose : Purpose) (stale : Bool) (old : Option Entry)
         (e : Entry) (q : PathValue) (name : List ℕ) → is_entry_property name ≡ true
-        → told q name (news_steps q (news_of c purpose stale all old e))
+        → told q name (news_steps q (news_of c purpose stale old e))
         ≡ entry_property c stale e name }
 {}

@@ -3,6 +3,7 @@
 
 mod differing;
 mod entry_changes;
+mod had;
 mod laws;
 mod news;
 mod property_changes;
@@ -11,5 +12,5 @@ mod texts;
 
 pub use differing::entries_differ;
 pub use laws::{entry_properties_are_told, news_lead};
-pub use news::{News, Place, PropertyChanges, Sight};
+pub use news::{Had, News, Place, PropertyChanges, Sight};
 pub use telling::news_of;

@@ -15,15 +15,21 @@ pub struct Place<'a> {
     pub path: &'a Path,
 }
 
+/// What a client has of an entry: where it stands, and whether it starts empty, so that a directory
+/// has no properties yet.
+#[derive(Clone, Copy)]
+pub struct Had<'a> {
+    pub place: Place<'a>,
+    pub starts_empty: bool,
+}
+
 /// What is known of an entry of a drive: what the drive is for, whether the client's token is stale,
-/// whether the entry is told all its properties, where what the client has of it stands, if it has
-/// any, and where the entry stands.
+/// what the client has of it, if it has any, and where the entry stands.
 #[derive(Clone, Copy)]
 pub struct Sight<'a> {
     pub purpose: Purpose,
     pub is_stale: bool,
-    pub tells_all: bool,
-    pub old: Option<Place<'a>>,
+    pub old: Option<Had<'a>>,
     pub new: Place<'a>,
 }
 

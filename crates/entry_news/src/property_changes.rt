@@ -28,12 +28,11 @@ fn is_same_value(old: Option<&ByteString>, new: Option<&ByteString>) -> bool
     }
 }
 
-/// Whether a property is told: where all are, or where it has another value now.
-fn is_told(tells_all: bool, old: &Properties, new: &Properties, name: &ByteString) -> bool
-    ensures { result ≡ is_told tells_all old.now new.now name.now }
+/// Whether a property is told: where it has another value now.
+fn is_told(old: &Properties, new: &Properties, name: &ByteString) -> bool
+    ensures { result ≡ is_told old.now new.now name.now }
 {
-    !is_entry_property(name.as_slice())
-        && (tells_all || !is_same_value(old.get(name), new.get(name)))
+    !is_entry_property(name.as_slice()) && !is_same_value(old.get(name), new.get(name))
 }
 
 /// Whether there are no properties.
@@ -57,17 +56,16 @@ fn in_both(old: &Properties, new: &Properties) -> Result<Properties, AllocError>
 /// The changes, and then what becomes of the properties of these names.
 fn with_named(
     changes: PropertyChanges,
-    tells_all: bool,
     old: &Properties,
     new: &Properties,
     names: &Properties,
 ) -> Result<PropertyChanges, AllocError>
     ensures { IfOk result (λ more. more
-        ≡ changes ++ changes_named tells_all old.now new.now (map (λ p. p.0) names.now)) }
+        ≡ changes ++ changes_named old.now new.now (map (λ p. p.0) names.now)) }
 {
     let mut changes = changes;
     for (name, _) in names.iter() {
-        if is_told(tells_all, old, new, name) {
+        if is_told(old, new, name) {
             changes.push(name.clone()?, copy_optional(new.get(name))?)?;
         }
     }
@@ -77,18 +75,16 @@ fn with_named(
 /// The changes, and then what becomes of the properties. Where there are none, it takes no memory.
 pub(crate) fn with_property_changes(
     changes: PropertyChanges,
-    tells_all: bool,
     old: &Properties,
     new: &Properties,
 ) -> Result<PropertyChanges, AllocError>
-    ensures { IfOk result (λ more. more
-        ≡ changes ++ property_changes tells_all old.now new.now) }
+    ensures { IfOk result (λ more. more ≡ changes ++ property_changes old.now new.now) }
 {
     if are_none(old) && are_none(new) {
         return Ok(changes);
     }
     let names = in_both(old, new)?;
-    with_named(changes, tells_all, old, new, &names)
+    with_named(changes, old, new, &names)
 }
 
 /// Whether all properties have the same values, entry properties left out.
@@ -100,6 +96,6 @@ pub(crate) fn are_same_properties(
     ensures { IfOk result (λ same. Decides same
         (property_values old.now ≡ property_values new.now)) }
 {
-    let changes = with_property_changes(PropertyChanges::new(alloc), false, old, new)?;
+    let changes = with_property_changes(PropertyChanges::new(alloc), old, new)?;
     Ok(changes.as_slice().is_empty())
 }

@@ -1,12 +1,13 @@
 //! What an entry at a place is told of itself.
-ghost use Rattle.std.specs.Prelude.{◌≡◌, ◌++◌, IfOk, option_and_then, option_copied, option_map};
+ghost use Rattle.std.specs.Prelude.{◌≡◌, ◌++◌, [], IfOk, option_and_then, option_copied, option_map};
 ghost use Rattle.repo_api.specs.Kinds.{created_of, node_properties, or_empty, text_of};
 ghost use Rattle.entry_news.specs.News.{other_text, property_changes, text_sent};
 ghost use Rattle.entry_news.specs.Parts.{last_changes};
-ghost use Rattle.entry_news.specs.Places.{entry_at, news_seen, old_seen};
+ghost use Rattle.entry_news.specs.Places.{entry_at, entry_had, news_seen, old_seen};
 
 use crate::entry_changes::last_changes;
-use crate::news::{News, Place, PropertyChanges, Sight};
+use crate::had::{had_properties, had_text};
+use crate::news::{Had, News, PropertyChanges, Sight};
 use crate::property_changes::with_property_changes;
 use crate::texts::{other_text, text_sent};
 use repo_api::{FileText, Properties, Repository};
@@ -39,19 +40,15 @@ fn changes_seen<R: Repository>(
     ensures { IfOk result (λ changes. changes
         ≡ last_changes (R.content view.now) sight.entry.is_stale
         (created_of (entry_at (R.content view.now) sight.entry.new))
-        ++ property_changes sight.entry.tells_all
+        ++ property_changes
         (or_empty (node_properties (old_seen (R.content view.now) sight.entry))) properties.now) }
 {
     let created = view.created(sight.new.revision, sight.new.path);
     let changes = last_changes(alloc, view, sight.is_stale, created)?;
-    match old_properties(view, sight.old) {
-        None => with_property_changes(
-            changes,
-            sight.tells_all,
-            &Properties::new(alloc),
-            properties,
-        ),
-        Some(old) => with_property_changes(changes, sight.tells_all, old, properties),
+    let none = Properties::new(alloc);
+    match old_properties(view, sight.old, &none) {
+        None => with_property_changes(changes, &none, properties),
+        Some(old) => with_property_changes(changes, old, properties),
     }
 }
 
@@ -68,27 +65,29 @@ fn text_seen<R: Repository>(view: &R, sight: Sight<'_>) -> Result<Option<FileTex
     }
 }
 
-/// The properties of what stands at a place, if there is one.
+/// The properties that a client has of an entry, if it has any of it.
 fn old_properties<'a, R: Repository>(
     view: &'a R,
-    place: Option<Place<'_>>,
+    old: Option<Had<'_>>,
+    none: &'a Properties,
 ) -> Option<&'a Properties>
+    requires { none.now ≡ [] }
     ensures { option_copied result
-        ≡ node_properties (option_and_then (entry_at (R.content view.now)) place.entry) }
+        ≡ node_properties (option_and_then (entry_had (R.content view.now)) old.entry) }
 {
-    match place {
+    match old {
         None => None,
-        Some(place) => view.properties(place.revision, place.path),
+        Some(had) => had_properties(view, had, none),
     }
 }
 
-/// The text of the file at a place, if there is one.
-fn old_text<'a, R: Repository>(view: &'a R, place: Option<Place<'_>>) -> Option<&'a FileText>
+/// The text that a client has of a file, if it has any of it.
+fn old_text<'a, R: Repository>(view: &'a R, old: Option<Had<'_>>) -> Option<&'a FileText>
     ensures { option_copied result
-        ≡ text_of (option_and_then (entry_at (R.content view.now)) place.entry) }
+        ≡ text_of (option_and_then (entry_had (R.content view.now)) old.entry) }
 {
-    match place {
+    match old {
         None => None,
-        Some(place) => view.text(place.revision, place.path),
+        Some(had) => had_text(view, had),
     }
 }

@@ -19,7 +19,7 @@ use Rattle.history.specs.Settling.{or_zero, HasNoLaterMark}
 use Rattle.history.specs.Sound.{IsSoundRepo}
 use Rattle.history.proofs.Above.{stands_above}
 use Rattle.history.proofs.Settled.{lead_back}
-use Rattle.history.proofs.Staying.{tree_where}
+use Rattle.repo_api.proofs.Standing.{tree_where}
 
 mark_up_to : (k : ℕ) (m : Mark) → is_open_mark m ≡ false → or_zero (revision_of m) ≤ k → IsUpTo k (revision_of m)
 mark_up_to k Open shut low = absurd (false≢true (sym shut))

@@ -17,8 +17,8 @@ use Rattle.repo_api.specs.Opening.{new_repository, opening_tree}
 use Rattle.repo_api.specs.declared.ask.CommitAsk.{CommitAsk}
 use Rattle.repo_api.specs.declared.edit.EditOp.{EditOp}
 use Rattle.repo_api.specs.declared.edit.EditOp.TheVariants.{AddDirectory, AddFile, Copy, Replace, Delete, SetProperty, RemoveProperty, SetText}
-use Rattle.repo_api.proofs.Keeping.{tree_by_paths, directory_tree, file_tree, deleted_tree, property_tree, text_tree}
-use Rattle.repo_api.proofs.Copying.{copied_tree, replaced_tree}
+use Rattle.repo_api.proofs.Keeping.{tree_by_paths}
+use Rattle.repo_api.proofs.Standing.{edited_tree, source_there}
 use Rattle.repo_api.proofs.Revisions.{opening_marked, begun_marked, edited_marked, accepted_meets, committed_marked, committed_tree}
 use Rattle.history.specs.Sound.{IsSoundRepo, IsSoundTxn, IsSoundChange}
 use Rattle.history.proofs.Told.{begun_told, edited_told}
@@ -31,12 +31,6 @@ tree_within : (rs : List Revision) (n : ℕ) → AreTrees rs → n < length rs �
 tree_within [] n trees within = absurd (omega (arith, within))
 tree_within (r ∷ rs) zero trees within = trees.0
 tree_within (r ∷ rs) (suc n) trees within = tree_within rs n trees.1 (omega (arith, within))
-
--- where something stands there is a tree
-pub tree_where : (rs : List Revision) (n : ℕ) (p : PathValue) → AreTrees rs → IsSome (trees_in rs n p) → IsTree (trees_in rs n)
-tree_where [] n p trees some = absurd (false≢true (sym (ap is_some (get-empty path_cmp p)) ∙ some))
-tree_where (r ∷ rs) zero p trees some = trees.0
-tree_where (r ∷ rs) (suc n) p trees some = tree_where rs n p trees.1 some
 
 trees_and : (rs : List Revision) (r : Revision) → AreTrees rs → IsTree (tree_of r.tree) → AreTrees (rs ++ r ∷ [])
 trees_and [] r trees tree = (tree, tt)
@@ -54,39 +48,6 @@ begun_sound begins c t s b = record {
   told = begun_told c t b;
 }
 
-right_source : (trees : ℕ → Tree) (t : Tree) (op : EditOp) → IsRightEdit trees t op → HasSource trees op
-right_source trees t (AddDirectory p) right = tt
-right_source trees t (AddFile p) right = tt
-right_source trees t (Copy source p) right = right.2
-right_source trees t (Replace source p) right = right.2
-right_source trees t (Delete p) right = tt
-right_source trees t (SetProperty p name value) right = tt
-right_source trees t (RemoveProperty p name) right = tt
-right_source trees t (SetText p text) right = tt
-
--- at a path in a directory
-module _ (P : PathValue → Type 0) (t : Tree) (p : PathValue) (parent : HasParent t p) where
-  in_directory : P (parent.directory ++ parent.name ∷ []) → P p
-  in_directory h = subst P (sym parent.is) h
-
-edited_tree : (shown : List Revision) (t : Tree) (op : EditOp) → AreTrees shown → IsTree t → IsRightEdit (trees_in shown) t op → IsTree (edited (trees_in shown) t op)
-edited_tree shown t (AddDirectory p) trees is right =
-    in_directory (λ q. IsTree (edited (trees_in shown) t (AddDirectory q))) t p right.0 (directory_tree t right.0.directory right.0.name is right.0.is_directory)
-edited_tree shown t (AddFile p) trees is right =
-    in_directory (λ q. IsTree (edited (trees_in shown) t (AddFile q))) t p right.0
-    (file_tree t right.0.directory right.0.name is right.0.is_directory (ap t (sym (append-nil (right.0.directory ++ right.0.name ∷ [])) ∙ ap (λ (q : PathValue). q ++ []) (sym right.0.is)) ∙ right.1 []))
-edited_tree shown t (Copy source p) trees is right =
-    in_directory (λ q. IsTree (edited (trees_in shown) t (Copy source q))) t p right.0
-    (copied_tree (trees_in shown source.revision) source.path t right.0.directory right.0.name (tree_where shown source.revision source.path trees right.2) is right.0.is_directory)
-edited_tree shown t (Replace source p) trees is right =
-    in_directory (λ q. IsTree (edited (trees_in shown) t (Replace source q))) t p right.0
-    (replaced_tree (trees_in shown source.revision) source.path t right.0.directory right.0.name (tree_where shown source.revision source.path trees right.2) is right.0.is_directory)
-edited_tree shown t (Delete p) trees is right =
-    in_directory (λ q. IsTree (edited (trees_in shown) t (Delete q))) t p right.0 (deleted_tree t right.0.directory right.0.name is)
-edited_tree shown t (SetProperty p name value) trees is right = property_tree t p (with_value name value) (λ e. refl) is
-edited_tree shown t (RemoveProperty p name) trees is right = property_tree t p (without_value name) (λ e. refl) is
-edited_tree shown t (SetText p text) trees is right = text_tree t p text is right
-
 pub edited_sound : (shown : List Revision) (old : TxnState) (op : EditOp) (new : TxnState)
     → AreSound shown → IsBeginning old.shown shown → IsRightEdit (trees_in shown) (tree_of old.tree) op
     → IsEdited shown old op new → IsSoundTxn old → IsSoundTxn new
@@ -94,7 +55,7 @@ edited_sound shown old op new sound b right e s = record {
   tree =
       tree_by_paths (edited (trees_in shown) (tree_of old.tree) op) (tree_of new.tree) (λ p. sym (e.tree p))
       (edited_tree shown (tree_of old.tree) op sound.0 s.tree right);
-  marked = edited_marked shown old op new sound.1 b (right_source (trees_in shown) (tree_of old.tree) op right) s.marked e;
+  marked = edited_marked shown old op new sound.1 b (source_there (trees_in shown) (tree_of old.tree) op right) s.marked e;
   told = edited_told shown old op new b s.marked.base_tree s.tree right e s.told;
 }
 

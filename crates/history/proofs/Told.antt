@@ -59,7 +59,7 @@ edit_tells trees base t cs (SetProperty p name value) tree right tells =
 edit_tells trees base t cs (RemoveProperty p name) tree right tells =
     revised_tells base t cs tells p (λ above beneath. stands_above t p above tree right beneath.0) right (without_value name) after_property refl (λ c. refl)
 edit_tells trees base t cs (SetText p text) tree right tells =
-    let there : IsSome (t p) = some_and (λ e. is_directory e ≡ false) (t p) right in
+    let there : IsSome (t p) = some_and (λ e. is_directory e ≡ false) (t p) right.0 in
     revised_tells base t cs tells p (λ above beneath. stands_above t p above tree there beneath.0) there (with_text text) after_text refl (λ c. refl)
 
 -- ---- transactions

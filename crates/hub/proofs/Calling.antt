@@ -1,14 +1,14 @@
 -- What calls keep.
-use Rattle.std.proofs.Common.{◌≡◌, ℕ, ◌+◌, List, [], ◌∷◌, ◌++◌, take, drop, take-append-drop, Some, refl, sym, ap, subst, arith}
-use Rattle.repo_api.specs.States.{RepoState, IsBeginning}
+use Rattle.std.proofs.Common.{◌≡◌, ℕ, ◌+◌, List, [], ◌∷◌, ◌++◌, take, drop, take-append-drop, Some, refl, sym, subst, arith}
+use Rattle.repo_api.specs.States.{IsBeginning}
 use Rattle.replies.specs.declared.reply.Reply.{Reply}
 use Rattle.machine.specs.Stages.{SessionState}
 use Rattle.machine.specs.declared.env.Env.{Env}
 use Rattle.hub.specs.State.{HubState, HasTrees, session_of, updated}
-use Rattle.hub.specs.Runs.{Event, HubStep, HubRun, with_rest}
+use Rattle.hub.specs.Runs.{Event, HubStep, HubRun, ends_of, with_rest}
 use Rattle.hub.specs.Runs.Event.{Connects, Drops}
 use Rattle.hub.specs.Calls.{CallStep, CallRun, BeginsCalls}
-use Rattle.hub.specs.Laws.{KeepsConstants, OverwritesNothing, KeepsAll}
+use Rattle.hub.specs.Laws.{KeepsConstants}
 use Rattle.hub.specs.declared.hub.HubFault.TheVariants.{NoSession, NoMemory, Halted, Full}
 use Rattle.hub.specs.declared.calls.Call.{Call}
 use Rattle.hub.specs.declared.calls.Call.TheVariants.{Connect, Feed, Disconnect}
@@ -18,7 +18,7 @@ use Rattle.hub.proofs.Everywhere.{HasTrees-with_rest}
 use Rattle.hub.proofs.Staying.{OnlyAccepted, none_accepted, accepted_on, run_accepted, keeps_revisions, same_constants, constants_on, run_constants, StaysClosed, none_closed, closed_on, run_closed}
 use Rattle.hub.proofs.Failing.{AreCounted, none_counted, counted_on, run_counted, StaysHalted, none_halted, halted_on, run_halted}
 
-abbrev with_sessions : HubState → List (ℕ × SessionState) → HubState
+abbrev pub with_sessions : HubState → List (ℕ × SessionState) → HubState
 with_sessions h sessions = record h { sessions = sessions }
 
 -- what a call does: some events, before which no more has come than a part of a session's stream
@@ -82,7 +82,7 @@ makes old (Feed n piece env) (Wrote out) new h =
     let f = h.feeds in makes_heard old n f.session f.rest env f.env_after f.events f.told new f.is_session f.run
 makes old (Feed n piece env) (Failed NoSession) new h = makes_nothing old new h.2
 makes old (Feed n piece env) (Failed NoMemory) new h =
-    let b = h.1 in makes_heard old n b.session b.rest env b.env_after (b.events ++ Drops n ∷ []) b.told new b.is_session b.run
+    let b = h.1 in makes_heard old n b.session b.rest env b.env_after (b.events ++ ends_of n b.left) b.told new b.is_session b.run
 makes old (Feed n piece env) (Failed Halted) new h = makes_nothing old new h.1
 makes old (Feed n piece env) (Failed Full) new h = absurd h
 makes old (Feed n piece env) (Connected m out) new h = absurd h
@@ -168,20 +168,3 @@ module _ (stay : (old new : HubState) (env after : Env) (events : List Event) (t
       calls_keep_trees mid calls outcomes new (stay (with_sessions old m.sessions) mid m.env m.after m.events m.told (m.trees trees) m.run) run
   calls_keep_trees old [] (outcome ∷ outcomes) new trees run = absurd run
   calls_keep_trees old (call ∷ calls) [] new trees run = absurd run
-
-  module _ (keeps : (old new : HubState) (env after : Env) (e : Event) (told : List Reply)
-      → HasTrees old → HubStep old env e told new after → OverwritesNothing old.content new.content) where
-    events_keep_all : (old new : HubState) (env after : Env) (events : List Event) (told : List Reply)
-        → HasTrees old → HubRun old env events told new after → (states : List RepoState) × KeepsAll old.content states new.content
-    events_keep_all old new env after [] told trees h = ([], ap (λ (x : HubState). x.content) h.1)
-    events_keep_all old new env after (e ∷ es) told trees (first, mid, words, more, step, run, is_told) =
-        let one : HubRun old env (e ∷ []) (first ++ []) mid words = (first, mid, words, [], step, (refl, refl, refl), refl) in
-        let here = stay old mid env words (e ∷ []) (first ++ []) trees one in
-        let rest = events_keep_all mid new words after es more here run in
-        (mid.content ∷ rest.0, (keeps old mid env words e first trees step, rest.1))
-
-    pub call_keeps_all : (old : HubState) (call : Call) (outcome : Outcome) (new : HubState)
-        → HasTrees old → CallStep old call outcome new → (states : List RepoState) × KeepsAll old.content states new.content
-    call_keeps_all old call outcome new trees step =
-        let m = makes old call outcome new step in
-        events_keep_all (with_sessions old m.sessions) new m.env m.after m.events m.told (m.trees trees) m.run

@@ -1,21 +1,22 @@
--- What an input does to the repository: nothing, a commit, a lock, an unlock or a change of a property of a revision.
+-- What an input does to the repository: what its session asks for by it.
 use Rattle.std.proofs.Common.{◌≡◌, ◌⊎◌, inl, inr, ℕ, zero, suc, ◌&&◌, not, List, [], ◌∷◌, ◌++◌, Contains, Bool, true, false, Option, Some, None, refl, ap, subst, sym, ◌∙◌, length, append_assoc, arith}
 use Rattle.std.specs.Prelude.{Result, Ok, Err, if◌then◌else◌}
+use Rattle.std.proofs.lemmas.Bool.{true≢false}
 use Rattle.svnpath.specs.Paths.{PathValue}
 use Rattle.svnpath.specs.Texts.{joined}
 use Rattle.svnpath.specs.Urls.{path_of_text, root_of_text}
 use Rattle.svnpath.specs.declared.fault.PathFault.{PathFault}
+use Rattle.dates.specs.Dates.{IsDateText}
+use Rattle.items.specs.Values.{ItemValue}
 use Rattle.refusals.specs.declared.Refusal.{Refusal}
 use Rattle.access.specs.Changing.{wants_release}
 use Rattle.repo_api.specs.States.{RepoState, TxnState}
 use Rattle.repo_api.specs.Commits.{commit_refusal, committed}
-use Rattle.repo_api.specs.Locking.{lock_refusal, lock_of, unlock_refusal}
+use Rattle.repo_api.specs.Locking.{lock_refusal, unlock_refusal, releases}
 use Rattle.repo_api.specs.RevisionProperties.{property_refusal}
-use Rattle.repo_api.specs.Accepted.{Accepted, IsAccepted}
+use Rattle.repo_api.specs.Accepted.{Accepted, IsAccepted, AreAccepted, changed_all}
 use Rattle.repo_api.specs.Accepted.Accepted.{Commits, Locks, Unlocks, Releases, ChangesProperty}
 use Rattle.repo_api.specs.declared.ask.CommitAsk.{CommitAsk}
-use Rattle.repo_api.specs.declared.lock_ask.LockAsk.{LockAsk}
-use Rattle.repo_api.specs.declared.lock_ask.UnlockAsk.{UnlockAsk}
 use Rattle.forms.specs.declared.fault.CommandFault.{CommandFault}
 use Rattle.forms.specs.declared.fault.CommandFault.TheVariants.{UnknownName, BadParameters, NoMemory}
 use Rattle.commands.specs.Commands.{main_command}
@@ -29,34 +30,34 @@ use Rattle.commands.specs.declared.login.AuthResponse.{AuthResponse}
 use Rattle.commands.specs.declared.login.ClientGreeting.{ClientGreeting}
 use Rattle.edit_commands.specs.Editing.{editor_command, ends_edit}
 use Rattle.edit_commands.specs.declared.editing.EditorCommand.{EditorCommand}
+use Rattle.edit_commands.specs.declared.editing.EditorCommand.TheVariants as edits
 use Rattle.drive_commands.specs.Reporting.{Drawn, client_answer}
 use Rattle.drive_commands.specs.Reporting.Drawn.{GoesOn, GivenUp, Fails as Draws, Drives, Malformed}
-use Rattle.edit_rules.specs.Refusing.{edit_refusal}
 use Rattle.edit_rules.specs.Editor.{finished}
 use Rattle.replies.specs.declared.reply.Reply.{Reply}
-use Rattle.replies.specs.declared.reply.Reply.TheVariants.{Success, NoLogin, Lock, CommitInfo, Failure}
+use Rattle.replies.specs.declared.reply.Reply.TheVariants.{Success, NoLogin, CommitInfo, Failure}
 use Rattle.machine.specs.Settings.{Settings}
 use Rattle.machine.specs.Stages.{Stage}
 use Rattle.machine.specs.Hearing.{Input}
 use Rattle.machine.specs.Hearing.Input.{Whole, Broken}
-use Rattle.machine.specs.Answers.{Verdict, Answer, change_answer, ChangeStep, behind, Behind, says}
+use Rattle.machine.specs.Answers.{Verdict, Answer, content_after, is_halt, change_answer, IsOfReplace, ChangeStep, behind, Behind, says}
 use Rattle.machine.specs.Answers.Verdict.{Written, NotWritten, Unknown}
 use Rattle.machine.specs.Commands.{asked_by, lock_tokens, commit_begins, lock_ask, unlock_ask, lock_answer, LockStep, UnlockStep, PropertyStep, reparented, login_request, OwnStep}
-use Rattle.machine.specs.Logins.{offer, chosen, wants_user, speaks, url_answer, greeting_answer, LoggedIn, ChoiceStep, LoginStep, with_user, OutcomeStep, ChallengeStep}
-use Rattle.machine.specs.Machine.{InputStep, KnownCommand, MainStep, MachineEdit, JudgedEdit, CommitStep, CloseStep, CommandStep, EditingStep, ending_of, commit_ask, Release, IsReleaseOf, release_fails, release_effect, CommittedStep, skipping_answer}
+use Rattle.machine.specs.Logins.{offer, chosen, wants_user, speaks, url_answer, greeting_answer, LoggedIn, ChoiceStep, LoginStep, with_user, ChallengeStep}
+use Rattle.machine.specs.Machine.{InputStep, UnreleasedStep, unreleased_answer, KnownCommand, MainStep, MachineEdit, JudgedEdit, CommitStep, CloseStep, CommandStep, EditingStep, ending_of, commit_ask, Release, IsReleaseOf, release_fails, release_effect, CommittedStep, skipping_answer}
 use Rattle.machine.specs.Reports.{drawn_answer, driven_answer}
-use Rattle.machine.specs.Machine.Release.{Stays, Released, Lacks, Fails}
+use Rattle.machine.specs.Machine.Release.{Stays, Released, Fails}
 use Rattle.machine.specs.declared.commit_parameters.CommitParameters.{CommitParameters}
 use Rattle.machine.specs.declared.env.Env.{Env}
-use Rattle.machine.specs.declared.ending.Ending.{Ending}
-use Rattle.machine.specs.declared.ending.Ending.TheVariants.{Commits as ToCommit, GivesUp}
 use Rattle.machine.specs.declared.login.Mechanism.{Mechanism}
 use Rattle.machine.specs.declared.login.Mechanism.TheVariants as mechanisms
 use Rattle.machine.specs.declared.login.OpenLogin.{OpenLogin}
 use Rattle.machine.specs.declared.login.OpenChallenge.{OpenChallenge}
 use Rattle.machine.specs.declared.phase.Phase.TheVariants.{Greeted, LoggingIn, Challenged, Serving, Editing, Skipping, Reporting, Driven, Ended}
 use Rattle.machine.specs.declared.phase.Client.{Client}
-use Rattle.hub.specs.Laws.{EndsWith, commit_changes}
+use Rattle.hub.specs.Asked.{IsAskedBy, IsOfEdit, IsWaiting, IsAsked, AreAll}
+use Rattle.hub.specs.Laws.{EndsWith, release_behind, IsTold, UsesWord}
+use Rattle.hub.proofs.Revising.{AreOthers}
 
 -- ---- replies without a failure
 
@@ -101,332 +102,475 @@ plain_request (Status request) = (λ r e. cc, tt)
 
 -- ---- what an answer does
 
--- a commit that the rules accept is made, and then the release that is wanted, where it does not
--- fail; and it is told
-pub record CommitsBy (halted : Bool) (c : RepoState) (a : Answer) : Type 0 where
-  pub running : halted ≡ false
-  pub ask : CommitAsk
-  pub txn : TxnState
-  pub fails : Bool
-  pub accepted : commit_refusal c ask txn ≡ None
-  pub wanted : fails ≡ true → wants_release ask (committed c ask txn) ≡ true
-  pub changes : a.effect.changes ≡ commit_changes c ask txn fails
-  pub replies : a.replies ≡ Success ∷ NoLogin ∷ CommitInfo (length c.revisions) ask.date ask.author fails ∷ []
+-- where the store has failed so that nobody knows, the change was asked for, and the rules accept it
+abbrev pub Halts : (Accepted → Type 0) → Bool → RepoState → Verdict → Type 0
+Halts P halted c Written = Unit {0}
+Halts P halted c NotWritten = Unit {0}
+Halts P halted c (Unknown e) = (halted ≡ false) × P e × IsAccepted c e
 
--- a change that the rules accept is the one change, and this reply is the last
-pub record ChangesBy (halted : Bool) (c : RepoState) (a : Answer) (e : Accepted) (reply : Reply) : Type 0 where
-  pub running : halted ≡ false
-  pub accepted : IsAccepted c e
-  pub changes : a.effect.changes ≡ e ∷ []
-  pub told : EndsWith a.replies reply
-  pub plain : ArePlain a.replies
+-- of the changes of an answer, `P` says of each that it was asked for
+pub record Does (P : Accepted → Type 0) (may halted : Bool) (env : Env) (c : RepoState) (a : Answer) : Type 0 where
+  pub own : AreAll P a.effect.changes
+  pub accepted : AreAccepted c a.effect.changes
+  pub told : IsTold c (is_halt a.effect.store) a.effect.changes a.replies
+  pub words : UsesWord env a.effect.changes a.env
+  -- a property of a revision is only changed where clients may change them
+  pub closed : may ≡ false → AreOthers a.effect.changes
+  pub plain : (a.effect.changes ≡ []) ⊎ ((halted ≡ false) × ArePlain a.replies)
+  pub halt : Halts P halted (content_after c a.effect) a.effect.store
 
-abbrev pub Quiet : Answer → Type 0
-Quiet a = a.effect.changes ≡ []
+-- an answer that changes nothing, brings nothing to a halt, and uses no word for a token
+abbrev Quiet : Env → Answer → Type 0
+Quiet env a = (a.effect.changes ≡ []) × (is_halt a.effect.store ≡ false) × (a.env.token ≡ env.token)
 
-abbrev pub LocksBy : Bool → RepoState → Answer → Type 0
-LocksBy halted c a = (ask : LockAsk) × ChangesBy halted c a (Locks ask) (Lock ask.path (lock_of ask))
+no_halt : (P : Accepted → Type 0) (halted : Bool) (c : RepoState) (v : Verdict) → is_halt v ≡ false → Halts P halted c v
+no_halt P halted c Written goes = tt
+no_halt P halted c NotWritten goes = tt
+no_halt P halted c (Unknown e) goes = absurd (true≢false goes)
 
-abbrev pub UnlocksBy : Bool → RepoState → Answer → Type 0
-UnlocksBy halted c a = (ask : UnlockAsk) × ChangesBy halted c a (Unlocks ask) Success
+pub halts_as : (P Q : Accepted → Type 0) (halted : Bool) (c : RepoState) (v : Verdict) → ((e : Accepted) → P e → Q e) → Halts P halted c v → Halts Q halted c v
+halts_as P Q halted c Written on h = tt
+halts_as P Q halted c NotWritten on h = tt
+halts_as P Q halted c (Unknown e) on (running, one, accepted) = (running, on e one, accepted)
 
--- a change of a property of a revision is only made where clients may change them
-abbrev pub RevisesBy : Bool → Bool → RepoState → Answer → Type 0
-RevisesBy may halted c a =
-    (n : ℕ) × (name : List ℕ) × (value : Option (List ℕ)) × (may ≡ true) × ChangesBy halted c a (ChangesProperty n name value) Success
+quiet : {P : Accepted → Type 0} {may halted : Bool} {env : Env} {c : RepoState} (a b : Answer) → a ≡ b → Quiet env b → Does P may halted env c a
+quiet {P} {may} {halted} {env} {c} a b is q =
+    let none : [] ≡ a.effect.changes = sym (ap (λ (x : Answer). x.effect.changes) is ∙ q.0) in
+    record {
+      own = subst (λ (es : List Accepted). AreAll P es) none tt;
+      accepted = subst (λ (es : List Accepted). AreAccepted c es) none tt;
+      told = subst (λ (es : List Accepted). IsTold c (is_halt a.effect.store) es a.replies) none tt;
+      words = subst (λ (es : List Accepted). UsesWord env es a.env) none (ap (λ (x : Answer). x.env.token) is ∙ q.2);
+      closed = λ shut. subst AreOthers none tt;
+      plain = inl (sym none);
+      halt = no_halt P halted (content_after c a.effect) a.effect.store (ap (λ (x : Answer). is_halt x.effect.store) is ∙ q.1);
+    }
 
--- nothing, or a change of locks, or of a property of a revision
-abbrev pub DoesOwn : Bool → Bool → RepoState → Answer → Type 0
-DoesOwn may halted c a = Quiet a ⊎ (LocksBy halted c a ⊎ (UnlocksBy halted c a ⊎ RevisesBy may halted c a))
+-- what is asked for in one way is asked for in another
+pub all_on : (P Q : Accepted → Type 0) (es : List Accepted) → ((e : Accepted) → P e → Q e) → AreAll P es → AreAll Q es
+all_on P Q [] on all = tt
+all_on P Q (e ∷ es) on (one, all) = (on e one, all_on P Q es on all)
 
-abbrev pub Does : Bool → Bool → RepoState → Answer → Type 0
-Does may halted c a = DoesOwn may halted c a ⊎ CommitsBy halted c a
+does_as : {may halted : Bool} {env : Env} {c : RepoState} (P Q : Accepted → Type 0) (a : Answer) → ((e : Accepted) → P e → Q e) → Does P may halted env c a → Does Q may halted env c a
+does_as {may} {halted} {env} {c} P Q a on d = record {
+  own = all_on P Q a.effect.changes on d.own;
+  accepted = d.accepted;
+  told = d.told;
+  words = d.words;
+  closed = d.closed;
+  plain = d.plain;
+  halt = halts_as P Q halted (content_after c a.effect) a.effect.store on d.halt;
+}
+
+does_is : (P : Accepted → Type 0) (may halted : Bool) (env : Env) (c : RepoState) (a b : Answer) → a ≡ b → Does P may halted env c b → Does P may halted env c a
+does_is P may halted env c a b is d = subst (λ (x : Answer). Does P may halted env c x) (sym is) d
+
+-- ---- what is told before
+
+ends_behind : (told all : List Reply) (reply : Reply) → EndsWith all reply → EndsWith (told ++ all) reply
+ends_behind told all reply (before, is) =
+    (told ++ before, ap (λ (xs : List Reply). told ++ xs) is ∙ sym (append_assoc told before (reply ∷ [])))
+
+told_behind : (c : RepoState) (halted : Bool) (es : List Accepted) (told all : List Reply) → IsTold c halted es all → IsTold c halted es (told ++ all)
+told_behind c halted [] told all is = tt
+told_behind c halted (Commits ask t ∷ es) told all (wanted, behind, ends) = (wanted, behind, ends_behind told all _ ends)
+told_behind c halted (Locks ask ∷ es) told all (none, ends) = (none, ends_behind told all _ ends)
+told_behind c halted (Unlocks ask ∷ es) told all (none, ends) = (none, ends_behind told all _ ends)
+told_behind c halted (Releases user tokens ∷ es) told all bad = bad
+told_behind c halted (ChangesProperty n name value ∷ es) told all (none, ends) = (none, ends_behind told all _ ends)
+
+does_behind : (P : Accepted → Type 0) (may halted : Bool) (env : Env) (c : RepoState) (told : List Reply) (Step : Answer → Type 0) (a : Answer)
+    → ArePlain told → ((b : Answer) → Step b → Does P may halted env c b) → Behind told Step a → Does P may halted env c a
+does_behind P may halted env c told Step a plain each (b, step, is) =
+    let d = each b step in
+    does_is P may halted env c a (behind told b) is (record {
+      own = d.own;
+      accepted = d.accepted;
+      told = told_behind c (is_halt b.effect.store) b.effect.changes told b.replies d.told;
+      words = d.words;
+      closed = d.closed;
+      plain = still d.plain;
+      halt = d.halt;
+    })
+  where
+    still : (b.effect.changes ≡ []) ⊎ ((halted ≡ false) × ArePlain b.replies) → (b.effect.changes ≡ []) ⊎ ((halted ≡ false) × ArePlain (told ++ b.replies))
+    still (inl none) = inl none
+    still (inr (running, others)) = inr (running, plain_all told b.replies plain others)
 
 -- ---- answers that change nothing
 
-quiet : {may : Bool} (halted : Bool) (c : RepoState) (a b : Answer) → a ≡ b → Quiet b → DoesOwn may halted c a
-quiet halted c a b e q = inl (ap (λ (x : Answer). x.effect.changes) e ∙ q)
+quiet_url : (s : Settings) (env : Env) (path : Result PathValue PathFault) (root : Result (List ℕ) PathFault) → Quiet env (url_answer s env path root)
+quiet_url s env (Ok path) (Ok root) = (refl, refl, refl)
+quiet_url s env (Ok path) (Err fault) = (refl, refl, refl)
+quiet_url s env (Err fault) root = (refl, refl, refl)
 
-is_quiet : {may : Bool} (halted : Bool) (c : RepoState) (a b : Answer) → a ≡ b → Quiet b → Does may halted c a
-is_quiet halted c a b e q = inl (quiet halted c a b e q)
+quiet_if : (env : Env) (b : Bool) (x y : Answer) → Quiet env x → Quiet env y → Quiet env (if b then x else y)
+quiet_if env true x y p q = p
+quiet_if env false x y p q = q
 
-quiet_url : (s : Settings) (env : Env) (path : Result PathValue PathFault) (root : Result (List ℕ) PathFault) → Quiet (url_answer s env path root)
-quiet_url s env (Ok path) (Ok root) = refl
-quiet_url s env (Ok path) (Err fault) = refl
-quiet_url s env (Err fault) root = refl
-
-quiet_if : (b : Bool) (x y : Answer) → Quiet x → Quiet y → Quiet (if b then x else y)
-quiet_if true x y p q = p
-quiet_if false x y p q = q
-
-quiet_greeting : (s : Settings) (env : Env) (r : Result ClientGreeting CommandFault) → Quiet (greeting_answer s env r)
+quiet_greeting : (s : Settings) (env : Env) (r : Result ClientGreeting CommandFault) → Quiet env (greeting_answer s env r)
 quiet_greeting s env (Ok g) =
     let path = path_of_text g.url s.name in
     let root = root_of_text g.url s.name in
-    quiet_if (speaks g) (url_answer s env path root) (says env Ended []) (quiet_url s env path root) refl
-quiet_greeting s env (Err fault) = refl
+    quiet_if env (speaks g) (url_answer s env path root) (says env Ended []) (quiet_url s env path root) (refl, refl, refl)
+quiet_greeting s env (Err fault) = (refl, refl, refl)
 
-quiet_begins : (s : Settings) (env : Env) (client : Client) (r : Result CommitParameters Refusal) → Quiet (commit_begins s env client r)
-quiet_begins s env client (Ok asked) = refl
-quiet_begins s env client (Err r) = refl
+quiet_begins : (s : Settings) (env : Env) (client : Client) (r : Result CommitParameters Refusal) → Quiet env (commit_begins s env client r)
+quiet_begins s env client (Ok asked) = (refl, refl, refl)
+quiet_begins s env client (Err r) = (refl, refl, refl)
 
-quiet_reparented : (env : Env) (client : Client) (path : Result PathValue PathFault) → Quiet (reparented env client path)
-quiet_reparented env client (Ok path) = refl
-quiet_reparented env client (Err fault) = refl
+quiet_reparented : (env : Env) (client : Client) (path : Result PathValue PathFault) → Quiet env (reparented env client path)
+quiet_reparented env client (Ok path) = (refl, refl, refl)
+quiet_reparented env client (Err fault) = (refl, refl, refl)
 
-quiet_skipping : (env : Env) (client : Client) (ends : Option Bool) → Quiet (skipping_answer env client ends)
-quiet_skipping env client None = refl
-quiet_skipping env client (Some true) = refl
-quiet_skipping env client (Some false) = refl
+quiet_skipping : (env : Env) (client : Client) (ends : Option Bool) → Quiet env (skipping_answer env client ends)
+quiet_skipping env client None = (refl, refl, refl)
+quiet_skipping env client (Some true) = (refl, refl, refl)
+quiet_skipping env client (Some false) = (refl, refl, refl)
 
-quiet_drawn : (env : Env) (client : Client) (d : Drawn) → Quiet (drawn_answer env client d)
-quiet_drawn env client (GoesOn report) = refl
-quiet_drawn env client GivenUp = refl
-quiet_drawn env client (Draws r) = refl
-quiet_drawn env client (Drives drive) = refl
-quiet_drawn env client Malformed = refl
+quiet_drawn : (env : Env) (client : Client) (d : Drawn) → Quiet env (drawn_answer env client d)
+quiet_drawn env client (GoesOn report) = (refl, refl, refl)
+quiet_drawn env client GivenUp = (refl, refl, refl)
+quiet_drawn env client (Draws r) = (refl, refl, refl)
+quiet_drawn env client (Drives drive) = (refl, refl, refl)
+quiet_drawn env client Malformed = (refl, refl, refl)
 
-quiet_driven : (env : Env) (client : Client) (answer : Option Bool) → Quiet (driven_answer env client answer)
-quiet_driven env client None = refl
-quiet_driven env client (Some true) = refl
-quiet_driven env client (Some false) = refl
+quiet_driven : (env : Env) (client : Client) (answer : Option Bool) → Quiet env (driven_answer env client answer)
+quiet_driven env client None = (refl, refl, refl)
+quiet_driven env client (Some true) = (refl, refl, refl)
+quiet_driven env client (Some false) = (refl, refl, refl)
 
--- ---- changes of locks
+-- ---- changes of locks, and of properties of revisions
 
--- what is told before it changes nothing
-told_before : (halted : Bool) (c : RepoState) (e : Accepted) (reply : Reply) (told : List Reply) (b : Answer)
-    → ArePlain told → ChangesBy halted c b e reply → ChangesBy halted c (behind told b) e reply
-told_before halted c e reply told b plain by =
-    let ends : EndsWith (told ++ b.replies) reply =
-    (told ++ by.told.0, ap (λ (xs : List Reply). told ++ xs) by.told.1 ∙ sym (append_assoc told by.told.0 (reply ∷ []))) in
-    record { running = by.running; accepted = by.accepted; changes = by.changes; told = ends; plain = plain_all told b.replies plain by.plain }
+does_change : (P : Accepted → Type 0) (may halted : Bool) (env : Env) (c : RepoState) (client : Client) (judged r : Option Refusal) (e : Accepted) (answer : Verdict → Answer) (a : Answer)
+    → judged ≡ r → (judged ≡ None → (v : Verdict) → IsOfReplace e v → Does P may false env c (answer v)) → ChangeStep halted env client r e answer a → Does P may halted env c a
+does_change P may true env c client judged r e answer a same each is = quiet a _ is (refl, refl, refl)
+does_change P may false env c client judged (Some r) e answer a same each is = quiet a _ is (refl, refl, refl)
+does_change P may false env c client judged None e answer a same each (v, of, is) = does_is P may false env c a (answer v) is (each same v of)
 
-own_before : (may halted : Bool) (c : RepoState) (told : List Reply) (b : Answer) → ArePlain told → DoesOwn may halted c b → DoesOwn may halted c (behind told b)
-own_before may halted c told b plain (inl q) = inl q
-own_before may halted c told b plain (inr (inl (ask, by))) = inr (inl (ask, told_before halted c (Locks ask) _ told b plain by))
-own_before may halted c told b plain (inr (inr (inl (ask, by)))) = inr (inr (inl (ask, told_before halted c (Unlocks ask) _ told b plain by)))
-own_before may halted c told b plain (inr (inr (inr (n, name, value, opened, by)))) =
-    inr (inr (inr (n, name, value, opened, told_before halted c (ChangesProperty n name value) _ told b plain by)))
+-- the store failed as the change was being saved
+halts_at : (P : Accepted → Type 0) (may : Bool) (env : Env) (c : RepoState) (client : Client) (e x : Accepted) (told : List Reply) → P e → IsAccepted c e → x ≡ e
+    → Does P may false env c (change_answer env client e told (Unknown x))
+halts_at P may env c client e x told one accepted is = record {
+  own = tt;
+  accepted = tt;
+  told = tt;
+  words = refl;
+  closed = λ shut. tt;
+  plain = inl refl;
+  halt = (refl, subst P (sym is) one, subst (λ (y : Accepted). IsAccepted c y) (sym is) accepted);
+}
 
-own_behind : (may halted : Bool) (c : RepoState) (told : List Reply) (Step : Answer → Type 0) (a : Answer)
-    → ArePlain told → ((b : Answer) → Step b → DoesOwn may halted c b) → Behind told Step a → DoesOwn may halted c a
-own_behind may halted c told Step a plain own (b, step, is) =
-    subst (λ (x : Answer). DoesOwn may halted c x) (sym is) (own_before may halted c told b plain (own b step))
+locks : (may : Bool) (env : Env) (c : RepoState) (client : Client) (command : LockCommand) (path : PathValue) (date : List ℕ) → joined client.path command.path ≡ Ok path
+    → IsDateText env.moment date → (let ask = lock_ask env client command path date in
+    lock_refusal c ask ≡ None → (v : Verdict) → IsOfReplace (Locks ask) v → Does (IsAskedBy env client (LockPath command)) may false env c (lock_answer env client ask v))
+locks may env c client command path date named dated accepted Written of = record {
+  own = ((command, refl, path, named, date, dated, refl), tt);
+  accepted = (accepted, tt);
+  told = (refl, ([], refl));
+  words = (refl, refl);
+  closed = λ shut. (tt, tt);
+  plain = inr (refl, (λ r e. cc, tt));
+  halt = tt;
+}
+locks may env c client command path date named dated accepted NotWritten of = absurd of
+locks may env c client command path date named dated accepted (Unknown x) of =
+    halts_at (IsAskedBy env client (LockPath command)) may env c client (Locks (lock_ask env client command path date)) x [] (command, refl, path, named, date, dated, refl) accepted of
 
-own_change : (may halted : Bool) (env : Env) (c : RepoState) (client : Client) (judged r : Option Refusal) (answer : Verdict → Answer) (a : Answer)
-    → judged ≡ r → (judged ≡ None → (v : Verdict) → DoesOwn may false c (answer v)) → ChangeStep halted env client r answer a → DoesOwn may halted c a
-own_change may true env c client judged r answer a e own is = quiet true c a _ is refl
-own_change may false env c client judged (Some r) answer a e own is = quiet false c a _ is refl
-own_change may false env c client judged None answer a e own (v, is) = subst (λ (x : Answer). DoesOwn may false c x) (sym is) (own e v)
-
-own_locked : (may : Bool) (env : Env) (c : RepoState) (client : Client) (ask : LockAsk) → lock_refusal c ask ≡ None
-    → (v : Verdict) → DoesOwn may false c (lock_answer env client ask v)
-own_locked may env c client ask accepted Written =
-    inr (inl (ask, record { running = refl; accepted = accepted; changes = refl; told = ([], refl); plain = (λ r e. cc, tt) }))
-own_locked may env c client ask accepted NotWritten = inl refl
-own_locked may env c client ask accepted Unknown = inl refl
-
-own_lock : (may halted : Bool) (env : Env) (c : RepoState) (client : Client) (command : LockCommand) (path : Result PathValue PathFault) (a : Answer)
-    → LockStep halted env c client command path a → DoesOwn may halted c a
-own_lock may halted env c client command (Ok path) a (date, is_date, step) =
+does_lock : (may halted : Bool) (env : Env) (c : RepoState) (client : Client) (command : LockCommand) (path : Result PathValue PathFault) (a : Answer)
+    → joined client.path command.path ≡ path → LockStep halted env c client command path a → Does (IsAskedBy env client (LockPath command)) may halted env c a
+does_lock may halted env c client command (Ok path) a named (date, dated, step) =
     let ask = lock_ask env client command path date in
-    own_change may halted env c client (lock_refusal c ask) (lock_refusal c ask) (lock_answer env client ask) a refl (own_locked may env c client ask) step
-own_lock may halted env c client command (Err fault) a is = quiet halted c a _ is refl
+    does_change (IsAskedBy env client (LockPath command)) may halted env c client (lock_refusal c ask) (lock_refusal c ask) (Locks ask) (lock_answer env client ask) a refl
+    (locks may env c client command path date named dated) step
+does_lock may halted env c client command (Err fault) a named is = quiet a _ is (refl, refl, refl)
 
-own_unlocked : (may : Bool) (env : Env) (c : RepoState) (client : Client) (ask : UnlockAsk) → unlock_refusal c ask ≡ None
-    → (v : Verdict) → DoesOwn may false c (change_answer env client (Unlocks ask) (Success ∷ []) v)
-own_unlocked may env c client ask accepted Written =
-    inr (inr (inl (ask, record { running = refl; accepted = accepted; changes = refl; told = ([], refl); plain = (λ r e. cc, tt) })))
-own_unlocked may env c client ask accepted NotWritten = inl refl
-own_unlocked may env c client ask accepted Unknown = inl refl
+unlocks : (may : Bool) (env : Env) (c : RepoState) (client : Client) (command : UnlockCommand) (path : PathValue) → joined client.path command.path ≡ Ok path
+    → (let ask = unlock_ask client command path in
+    unlock_refusal c ask ≡ None → (v : Verdict) → IsOfReplace (Unlocks ask) v → Does (IsAskedBy env client (UnlockPath command)) may false env c (change_answer env client (Unlocks ask) (Success ∷ []) v))
+unlocks may env c client command path named accepted Written of = record {
+  own = ((command, refl, path, named, refl), tt);
+  accepted = (accepted, tt);
+  told = (refl, ([], refl));
+  words = refl;
+  closed = λ shut. (tt, tt);
+  plain = inr (refl, (λ r e. cc, tt));
+  halt = tt;
+}
+unlocks may env c client command path named accepted NotWritten of = absurd of
+unlocks may env c client command path named accepted (Unknown x) of =
+    halts_at (IsAskedBy env client (UnlockPath command)) may env c client (Unlocks (unlock_ask client command path)) x (Success ∷ []) (command, refl, path, named, refl) accepted of
 
-own_unlock : (may halted : Bool) (env : Env) (c : RepoState) (client : Client) (command : UnlockCommand) (path : Result PathValue PathFault) (a : Answer)
-    → UnlockStep halted env c client command path a → DoesOwn may halted c a
-own_unlock may halted env c client command (Ok path) a step =
+does_unlock : (may halted : Bool) (env : Env) (c : RepoState) (client : Client) (command : UnlockCommand) (path : Result PathValue PathFault) (a : Answer)
+    → joined client.path command.path ≡ path → UnlockStep halted env c client command path a → Does (IsAskedBy env client (UnlockPath command)) may halted env c a
+does_unlock may halted env c client command (Ok path) a named step =
     let ask = unlock_ask client command path in
-    own_change may halted env c client (unlock_refusal c ask) (unlock_refusal c ask) (change_answer env client (Unlocks ask) (Success ∷ [])) a refl
-    (own_unlocked may env c client ask) step
-own_unlock may halted env c client command (Err fault) a is = quiet halted c a _ is refl
+    does_change (IsAskedBy env client (UnlockPath command)) may halted env c client (unlock_refusal c ask) (unlock_refusal c ask) (Unlocks ask)
+    (change_answer env client (Unlocks ask) (Success ∷ [])) a refl (unlocks may env c client command path named) step
+does_unlock may halted env c client command (Err fault) a named is = quiet a _ is (refl, refl, refl)
 
--- ---- changes of properties of revisions
+abbrev change_of : ChangeRevPropCommand → Accepted
+change_of command = ChangesProperty command.revision command.name command.value
 
-own_revised : (env : Env) (c : RepoState) (client : Client) (n : ℕ) (name : List ℕ) (value : Option (List ℕ)) → property_refusal c n name ≡ None
-    → (v : Verdict) → DoesOwn true false c (change_answer env client (ChangesProperty n name value) (Success ∷ []) v)
-own_revised env c client n name value accepted Written =
-    inr (inr (inr (n, name, value, refl, record { running = refl; accepted = accepted; changes = refl; told = ([], refl); plain = (λ r e. cc, tt) })))
-own_revised env c client n name value accepted NotWritten = inl refl
-own_revised env c client n name value accepted Unknown = inl refl
+revises : (env : Env) (c : RepoState) (client : Client) (command : ChangeRevPropCommand) → property_refusal c command.revision command.name ≡ None
+    → (v : Verdict) → IsOfReplace (change_of command) v → Does (IsAskedBy env client (ChangeRevProp command)) true false env c (change_answer env client (change_of command) (Success ∷ []) v)
+revises env c client command accepted Written of = record {
+  own = ((command, refl, refl, refl, refl), tt);
+  accepted = (accepted, tt);
+  told = (refl, ([], refl));
+  words = refl;
+  closed = λ shut. absurd (true≢false shut);
+  plain = inr (refl, (λ r e. cc, tt));
+  halt = tt;
+}
+revises env c client command accepted NotWritten of = absurd of
+revises env c client command accepted (Unknown x) of =
+    halts_at (IsAskedBy env client (ChangeRevProp command)) true env c client (change_of command) x (Success ∷ []) (command, refl, refl, refl, refl) accepted of
 
-own_property : (may halted : Bool) (env : Env) (c : RepoState) (client : Client) (command : ChangeRevPropCommand) (a : Answer)
-    → PropertyStep may halted env c client command a → DoesOwn may halted c a
-own_property false halted env c client command a is = quiet halted c a _ is refl
-own_property true halted env c client command a step =
-    let n = command.revision in
-    let name = command.name in
-    let value = command.value in
-    own_change true halted env c client (property_refusal c n name) (property_refusal c n name) (change_answer env client (ChangesProperty n name value) (Success ∷ [])) a refl
-    (own_revised env c client n name value) step
+does_property : (may halted : Bool) (env : Env) (c : RepoState) (client : Client) (command : ChangeRevPropCommand) (a : Answer)
+    → PropertyStep may halted env c client command a → Does (IsAskedBy env client (ChangeRevProp command)) may halted env c a
+does_property false halted env c client command a is = quiet a _ is (refl, refl, refl)
+does_property true halted env c client command a step =
+    does_change (IsAskedBy env client (ChangeRevProp command)) true halted env c client (property_refusal c command.revision command.name) (property_refusal c command.revision command.name)
+    (change_of command) (change_answer env client (change_of command) (Success ∷ [])) a refl (revises env c client command) step
 
 -- ---- commands
 
+abbrev ByCommand : Bool → Settings → Env → RepoState → Client → MainCommand → Answer → Type 0
+ByCommand halted s env c client command a = Does (IsAskedBy env client command) s.revprops halted env c a
+
 own : (halted : Bool) (s : Settings) (env : Env) (c : RepoState) (client : Client) (command : MainCommand) (a : Answer)
-    → OwnStep halted s env c client command a → DoesOwn s.revprops halted c a
-own halted s env c client GetLatestRev a is = quiet halted c a _ is refl
-own halted s env c client (CheckPath path revision) a is = quiet halted c a _ is refl
-own halted s env c client (RevProplist n) a is = quiet halted c a _ is refl
-own halted s env c client (Commit command) a is =
-    quiet halted c a _ is (quiet_begins s env client (asked_by command (lock_tokens client.path command.tokens)))
-own halted s env c client AbortEdit a is = quiet halted c a _ is refl
-own halted s env c client (LockPath command) a step = own_lock s.revprops halted env c client command (joined client.path command.path) a step
-own halted s env c client (UnlockPath command) a step = own_unlock s.revprops halted env c client command (joined client.path command.path) a step
-own halted s env c client (GetLock path) a is = quiet halted c a _ is refl
-own halted s env c client (GetLocks path) a is = quiet halted c a _ is refl
-own halted s env c client (GetFile command) a is = quiet halted c a _ is refl
-own halted s env c client (GetDir command) a is = quiet halted c a _ is refl
-own halted s env c client (Stat path revision) a is = quiet halted c a _ is refl
-own halted s env c client (GetDatedRev date) a is = quiet halted c a _ is refl
-own halted s env c client (RevProp n name) a is = quiet halted c a _ is refl
-own halted s env c client (ChangeRevProp command) a step = own_property s.revprops halted env c client command a step
-own halted s env c client (Reparent url) a is =
-    quiet halted c a _ is (quiet_reparented env client (path_of_text url s.name))
-own halted s env c client (Log command) a is = quiet halted c a _ is refl
-own halted s env c client (GetLocations command) a is = quiet halted c a _ is refl
-own halted s env c client (Update request) a is = quiet halted c a _ is refl
-own halted s env c client (Switch request url) a is = quiet halted c a _ is refl
-own halted s env c client (Status request) a is = quiet halted c a _ is refl
+    → OwnStep halted s env c client command a → ByCommand halted s env c client command a
+own halted s env c client GetLatestRev a is = quiet a _ is (refl, refl, refl)
+own halted s env c client (CheckPath path revision) a is = quiet a _ is (refl, refl, refl)
+own halted s env c client (RevProplist n) a is = quiet a _ is (refl, refl, refl)
+own halted s env c client (Commit command) a is = quiet a _ is (quiet_begins s env client (asked_by command (lock_tokens client.path command.tokens)))
+own halted s env c client AbortEdit a is = quiet a _ is (refl, refl, refl)
+own halted s env c client (LockPath command) a step = does_lock s.revprops halted env c client command (joined client.path command.path) a refl step
+own halted s env c client (UnlockPath command) a step = does_unlock s.revprops halted env c client command (joined client.path command.path) a refl step
+own halted s env c client (GetLock path) a is = quiet a _ is (refl, refl, refl)
+own halted s env c client (GetLocks path) a is = quiet a _ is (refl, refl, refl)
+own halted s env c client (GetFile command) a is = quiet a _ is (refl, refl, refl)
+own halted s env c client (GetDir command) a is = quiet a _ is (refl, refl, refl)
+own halted s env c client (Stat path revision) a is = quiet a _ is (refl, refl, refl)
+own halted s env c client (GetDatedRev date) a is = quiet a _ is (refl, refl, refl)
+own halted s env c client (RevProp n name) a is = quiet a _ is (refl, refl, refl)
+own halted s env c client (ChangeRevProp command) a step = does_property s.revprops halted env c client command a step
+own halted s env c client (Reparent url) a is = quiet a _ is (quiet_reparented env client (path_of_text url s.name))
+own halted s env c client (Log command) a is = quiet a _ is (refl, refl, refl)
+own halted s env c client (GetLocations command) a is = quiet a _ is (refl, refl, refl)
+own halted s env c client (Update request) a is = quiet a _ is (refl, refl, refl)
+own halted s env c client (Switch request url) a is = quiet a _ is (refl, refl, refl)
+own halted s env c client (Status request) a is = quiet a _ is (refl, refl, refl)
 
-own_known : (waits halted : Bool) (s : Settings) (env : Env) (c : RepoState) (client : Client) (command : MainCommand) (a : Answer)
-    → KnownCommand waits halted s env c client command a → DoesOwn s.revprops halted c a
-own_known true halted s env c client command a is = quiet halted c a _ is refl
-own_known false halted s env c client command a step =
-    own_behind s.revprops halted c (login_request command) (OwnStep halted s env c client command) a (plain_request command) (own halted s env c client command) step
+does_known : (waits halted : Bool) (s : Settings) (env : Env) (c : RepoState) (client : Client) (command : MainCommand) (a : Answer)
+    → KnownCommand waits halted s env c client command a → ByCommand halted s env c client command a
+does_known true halted s env c client command a is = quiet a _ is (refl, refl, refl)
+does_known false halted s env c client command a step =
+    does_behind (IsAskedBy env client command) s.revprops halted env c (login_request command) (OwnStep halted s env c client command) a (plain_request command)
+    (own halted s env c client command) step
 
-own_main : (halted : Bool) (s : Settings) (env : Env) (c : RepoState) (client : Client) (r : Result MainCommand CommandFault) (a : Answer)
-    → MainStep halted s env c client r a → DoesOwn s.revprops halted c a
-own_main halted s env c client (Ok command) a step = own_known (wants_user s client command) halted s env c client command a step
-own_main halted s env c client (Err UnknownName) a is = quiet halted c a _ is refl
-own_main halted s env c client (Err BadParameters) a is = quiet halted c a _ is refl
-own_main halted s env c client (Err NoMemory) a is = quiet halted c a _ is refl
+does_main : (halted : Bool) (s : Settings) (env : Env) (c : RepoState) (client : Client) (t : ItemValue) (r : Result MainCommand CommandFault) (a : Answer)
+    → main_command t ≡ r → MainStep halted s env c client r a → Does (IsAsked env (Serving client) (Whole t)) s.revprops halted env c a
+does_main halted s env c client t (Ok command) a named step =
+    does_as (IsAskedBy env client command) (IsAsked env (Serving client) (Whole t)) a (λ e one. (command, named, one))
+    (does_known (wants_user s client command) halted s env c client command a step)
+does_main halted s env c client t (Err UnknownName) a named is = quiet a _ is (refl, refl, refl)
+does_main halted s env c client t (Err BadParameters) a named is = quiet a _ is (refl, refl, refl)
+does_main halted s env c client t (Err NoMemory) a named is = quiet a _ is (refl, refl, refl)
 
 -- ---- logins
 
-own_logged_in : (halted : Bool) (s : Settings) (env : Env) (c : RepoState) (client : Client) (waiting : Option MainCommand) (a : Answer)
-    → LoggedIn halted s env c client waiting a → DoesOwn s.revprops halted c a
-own_logged_in halted s env c client None a is = quiet halted c a _ is refl
-own_logged_in halted s env c client (Some command) a step =
-    own_behind s.revprops halted c (Success ∷ []) (OwnStep halted s env c client command) a (λ r e. cc, tt) (own halted s env c client command) step
+does_logged_in : (halted : Bool) (s : Settings) (env : Env) (c : RepoState) (client : Client) (waiting : Option MainCommand) (a : Answer)
+    → LoggedIn halted s env c client waiting a → Does (IsWaiting env client waiting) s.revprops halted env c a
+does_logged_in halted s env c client None a is = quiet a _ is (refl, refl, refl)
+does_logged_in halted s env c client (Some command) a step =
+    does_as (IsAskedBy env client command) (IsWaiting env client (Some command)) a (λ e one. (command, refl, one))
+    (does_behind (IsAskedBy env client command) s.revprops halted env c (Success ∷ []) (OwnStep halted s env c client command) a (λ r e. cc, tt) (own halted s env c client command) step)
 
-own_choice : (halted : Bool) (s : Settings) (env : Env) (c : RepoState) (login : OpenLogin) (mechanism : Option Mechanism) (a : Answer)
-    → ChoiceStep halted s env c login mechanism a → DoesOwn s.revprops halted c a
-own_choice halted s env c login None a is = quiet halted c a _ is refl
-own_choice halted s env c login (Some mechanisms.Anonymous) a step = own_logged_in halted s env c login.client login.waiting a step
-own_choice halted s env c login (Some mechanisms.CramMd5) a is = quiet halted c a _ is refl
+does_choice : (halted : Bool) (s : Settings) (env : Env) (c : RepoState) (login : OpenLogin) (mechanism : Option Mechanism) (a : Answer)
+    → ChoiceStep halted s env c login mechanism a → Does (IsWaiting env login.client login.waiting) s.revprops halted env c a
+does_choice halted s env c login None a is = quiet a _ is (refl, refl, refl)
+does_choice halted s env c login (Some mechanisms.Anonymous) a step = does_logged_in halted s env c login.client login.waiting a step
+does_choice halted s env c login (Some mechanisms.CramMd5) a is = quiet a _ is (refl, refl, refl)
 
-own_login : (halted : Bool) (s : Settings) (env : Env) (c : RepoState) (login : OpenLogin) (r : Result AuthResponse CommandFault) (a : Answer)
-    → LoginStep halted s env c login r a → DoesOwn s.revprops halted c a
-own_login halted s env c login (Ok r) a step = own_choice halted s env c login (chosen (offer s.users login.waiting) r.mechanism) a step
-own_login halted s env c login (Err fault) a is = quiet halted c a _ is refl
+does_login : (halted : Bool) (s : Settings) (env : Env) (c : RepoState) (login : OpenLogin) (r : Result AuthResponse CommandFault) (a : Answer)
+    → LoginStep halted s env c login r a → Does (IsWaiting env login.client login.waiting) s.revprops halted env c a
+does_login halted s env c login (Ok r) a step = does_choice halted s env c login (chosen (offer s.users login.waiting) r.mechanism) a step
+does_login halted s env c login (Err fault) a is = quiet a _ is (refl, refl, refl)
 
-own_outcome : (halted : Bool) (s : Settings) (env : Env) (c : RepoState) (login : OpenLogin) (user : Option (List ℕ)) (a : Answer)
-    → OutcomeStep halted s env c login user a → DoesOwn s.revprops halted c a
-own_outcome halted s env c login None a is = quiet halted c a _ is refl
-own_outcome halted s env c login (Some name) a step = own_logged_in halted s env c (with_user login.client name) login.waiting a step
+does_challenge : (halted : Bool) (s : Settings) (env : Env) (c : RepoState) (pending : OpenChallenge) (t : ItemValue) (text : Option (List ℕ)) (a : Answer)
+    → ChallengeStep halted s env c pending text a → Does (IsAsked env (Challenged pending) (Whole t)) s.revprops halted env c a
+does_challenge halted s env c pending t None a is = quiet a _ is (refl, refl, refl)
+does_challenge halted s env c pending t (Some text) a (None, whose, is) = quiet a _ is (refl, refl, refl)
+does_challenge halted s env c pending t (Some text) a (Some name, whose, step) =
+    let client = with_user pending.login.client name in
+    does_as (IsWaiting env client pending.login.waiting) (IsAsked env (Challenged pending) (Whole t)) a (λ e one. (name, one))
+    (does_logged_in halted s env c client pending.login.waiting a step)
 
-own_challenge : (halted : Bool) (s : Settings) (env : Env) (c : RepoState) (pending : OpenChallenge) (text : Option (List ℕ)) (a : Answer)
-    → ChallengeStep halted s env c pending text a → DoesOwn s.revprops halted c a
-own_challenge halted s env c pending None a is = quiet halted c a _ is refl
-own_challenge halted s env c pending (Some text) a (user, whose, step) = own_outcome halted s env c pending.login user a step
+-- ---- a commit
 
--- ---- the steps of an edit
-
-does_edit : {may : Bool} (halted : Bool) (env : Env) (c : RepoState) (edit : MachineEdit) (command : EditorCommand) (r : Option Refusal) (a : Answer)
-    → JudgedEdit env c edit command r a → Does may halted c a
-does_edit halted env c edit command None a (after, applies, is) = is_quiet halted c a _ is refl
-does_edit halted env c edit command (Some r) a is = is_quiet halted c a _ is refl
-
--- what is released behind a commit
+-- what is released behind it
 release_is : (ask : CommitAsk) (wants : Bool) (release : Release) → IsReleaseOf wants release
     → (release_effect ask release).changes ≡ (if wants && not (release_fails release) then Releases ask.author ask.tokens ∷ [] else [])
 release_is ask false Stays of = refl
 release_is ask false Released of = absurd of
-release_is ask false Lacks of = absurd of
-release_is ask false (Fails v) of = absurd of
+release_is ask false Fails of = absurd of
 release_is ask true Stays of = absurd of
 release_is ask true Released of = refl
-release_is ask true Lacks of = refl
-release_is ask true (Fails v) of = refl
+release_is ask true Fails of = refl
 
 -- only a release that is wanted fails
 fails_wanted : (wants : Bool) (release : Release) → IsReleaseOf wants release → release_fails release ≡ true → wants ≡ true
 fails_wanted false Stays of fails = fails
 fails_wanted false Released of fails = absurd of
-fails_wanted false Lacks of fails = absurd of
-fails_wanted false (Fails v) of fails = absurd of
-fails_wanted true Stays of fails = refl
-fails_wanted true Released of fails = refl
-fails_wanted true Lacks of fails = refl
-fails_wanted true (Fails v) of fails = refl
+fails_wanted false Fails of fails = absurd of
+fails_wanted true _ of fails = refl
 
-does_committed : {may : Bool} (env : Env) (c : RepoState) (client : Client) (asked : CommitParameters) (t : TxnState) (date : List ℕ) (v : Verdict) (a : Answer)
-    → commit_refusal c (commit_ask client asked date) t ≡ None → CommittedStep env c client (commit_ask client asked date) t v a → Does may false c a
-does_committed env c client asked t date Written a judged (release, of, is) =
-    let ask = commit_ask client asked date in
-    let wants = wants_release ask (committed c ask t) in
-    inr (record {
-      running = refl;
-      ask = ask;
-      txn = t;
-      fails = release_fails release;
-      accepted = judged;
-      wanted = fails_wanted wants release of;
-      changes = ap (λ (x : Answer). x.effect.changes) is ∙ ap (λ (es : List Accepted). Commits ask t ∷ es) (release_is ask wants release of);
-      replies = ap (λ (x : Answer). x.replies) is;
+and_second : (a b : Bool) → (a && b) ≡ true → b ≡ true
+and_second true b h = h
+and_second false b h = cc
+
+-- one that is wanted is accepted
+release_accepted : (c : RepoState) (ask : CommitAsk) → wants_release ask c ≡ true → IsAccepted c (Releases ask.author ask.tokens)
+release_accepted c ask e = and_second (not ask.keep_locks) (releases ask.author ask.tokens c.locks) e
+
+-- one that is made is accepted, and is the user's, of the tokens that were handed in
+release_does : (P : Accepted → Type 0) (c : RepoState) (ask : CommitAsk) (wants fails : Bool) → P (Releases ask.author ask.tokens) → wants_release ask c ≡ wants
+    → (let es : List Accepted = if wants && not fails then Releases ask.author ask.tokens ∷ [] else [] in AreAll P es × AreAccepted c es × AreOthers es)
+release_does P c ask true false one e = ((one, tt), (release_accepted c ask e, tt), (tt, tt))
+release_does P c ask true true one e = (tt, tt, tt)
+release_does P c ask false fails one e = (tt, tt, tt)
+
+-- one at which the store fails brings changes to a halt
+release_halts : (P : Accepted → Type 0) (c : RepoState) (ask : CommitAsk) (wants : Bool) (release : Release) → P (Releases ask.author ask.tokens) → wants_release ask c ≡ wants → IsReleaseOf wants release
+    → (let effect = release_effect ask release in Halts P false (changed_all c effect.changes) effect.store)
+release_halts P c ask wants Stays one e of = tt
+release_halts P c ask wants Released one e of = tt
+release_halts P c ask true Fails one e of = (refl, one, release_accepted c ask e)
+release_halts P c ask false Fails one e of = absurd of
+
+-- it is told that it has failed where changes have come to a halt by it
+release_told : (c : RepoState) (ask : CommitAsk) (t : TxnState) (release : Release) → (release_fails release ≡ true → wants_release ask (committed c ask t) ≡ true)
+    → (release_effect ask release).changes ≡ release_behind c ask t (release_fails release)
+    → IsTold c (is_halt (release_effect ask release).store) (Commits ask t ∷ (release_effect ask release).changes)
+    (Success ∷ NoLogin ∷ CommitInfo (length c.revisions) ask.date ask.author (release_fails release) ∷ [])
+release_told c ask t Stays wanted behind = (wanted, behind, (Success ∷ NoLogin ∷ [], refl))
+release_told c ask t Released wanted behind = (wanted, behind, (Success ∷ NoLogin ∷ [], refl))
+release_told c ask t Fails wanted behind = (wanted, behind, (Success ∷ NoLogin ∷ [], refl))
+
+does_committed : {may : Bool} (env : Env) (c : RepoState) (edit : MachineEdit) (t : TxnState) (date : List ℕ) (v : Verdict) (a : Answer)
+    → finished edit.editor ≡ Ok t → IsDateText env.moment date → (let ask = commit_ask edit.client edit.asked date in
+    commit_refusal c ask t ≡ None → CommittedStep env c edit.client ask t v a → Does (IsOfEdit env edit) may false env c a)
+does_committed {may} env c edit t date Written a txn dated accepted (release, of, is) =
+    let ask = commit_ask edit.client edit.asked date in
+    let after = committed c ask t in
+    let wants = wants_release ask after in
+    let behind = release_does (IsOfEdit env edit) after ask wants (release_fails release) (refl, refl) refl in
+    let released = sym (release_is ask wants release of) in
+    does_is (IsOfEdit env edit) may false env c a _ is (record {
+      own = ((txn, date, dated, refl), subst (λ (es : List Accepted). AreAll (IsOfEdit env edit) es) released behind.0);
+      accepted = (accepted, subst (λ (es : List Accepted). AreAccepted after es) released behind.1);
+      told = release_told c ask t release (fails_wanted wants release of) (sym released);
+      words = refl;
+      closed = λ shut. (tt, subst AreOthers released behind.2);
+      plain = inr (refl, (λ r e. cc, (λ r e. cc, (λ r e. cc, tt))));
+      halt = release_halts (IsOfEdit env edit) after ask wants release (refl, refl) refl of;
     })
-does_committed env c client asked t date NotWritten a judged is = is_quiet false c a _ is refl
-does_committed env c client asked t date Unknown a judged is = is_quiet false c a _ is refl
+does_committed env c edit t date NotWritten a txn dated accepted is = quiet a _ is (refl, refl, refl)
+does_committed {may} env c edit t date (Unknown x) a txn dated accepted (same, is) =
+    let ask = commit_ask edit.client edit.asked date in
+    does_is (IsOfEdit env edit) may false env c a _ is (halts_at (IsOfEdit env edit) may env c edit.client (Commits ask t) x [] (txn, date, dated, refl) accepted same)
 
-does_commit : {may : Bool} (halted : Bool) (env : Env) (c : RepoState) (client : Client) (asked : CommitParameters) (t : TxnState) (date : List ℕ) (r : Option Refusal) (a : Answer)
-    → commit_refusal c (commit_ask client asked date) t ≡ r → CommitStep halted env c client (commit_ask client asked date) t r a → Does may halted c a
-does_commit true env c client asked t date r a judged is = is_quiet true c a _ is refl
-does_commit false env c client asked t date (Some r) a judged is = is_quiet false c a _ is refl
-does_commit false env c client asked t date None a judged (v, step) = does_committed env c client asked t date v a judged step
+does_commit : {may : Bool} (halted : Bool) (env : Env) (c : RepoState) (edit : MachineEdit) (t : TxnState) (date : List ℕ) (r : Option Refusal) (a : Answer)
+    → finished edit.editor ≡ Ok t → IsDateText env.moment date → (let ask = commit_ask edit.client edit.asked date in
+    commit_refusal c ask t ≡ r → CommitStep halted env c edit.client ask t r a → Does (IsOfEdit env edit) may halted env c a)
+does_commit true env c edit t date r a txn dated judged is = quiet a _ is (refl, refl, refl)
+does_commit false env c edit t date (Some r) a txn dated judged is = quiet a _ is (refl, refl, refl)
+does_commit false env c edit t date None a txn dated judged (v, step) = does_committed env c edit t date v a txn dated judged step
 
-does_close : {may : Bool} (halted : Bool) (env : Env) (c : RepoState) (client : Client) (asked : CommitParameters) (r : Result TxnState Refusal) (a : Answer)
-    → CloseStep halted env c client asked r a → Does may halted c a
-does_close halted env c client asked (Ok t) a (date, is_date, step) =
-    does_commit halted env c client asked t date (commit_refusal c (commit_ask client asked date) t) a refl step
-does_close halted env c client asked (Err r) a is = is_quiet halted c a _ is refl
+does_close : {may : Bool} (halted : Bool) (env : Env) (c : RepoState) (edit : MachineEdit) (r : Result TxnState Refusal) (a : Answer)
+    → finished edit.editor ≡ r → CloseStep halted env c edit.client edit.asked r a → Does (IsOfEdit env edit) may halted env c a
+does_close halted env c edit (Ok t) a txn (date, dated, step) =
+    does_commit halted env c edit t date (commit_refusal c (commit_ask edit.client edit.asked date) t) a txn dated refl step
+does_close halted env c edit (Err r) a txn is = quiet a _ is (refl, refl, refl)
 
-does_command : {may : Bool} (halted : Bool) (env : Env) (c : RepoState) (edit : MachineEdit) (command : EditorCommand) (ending : Option Ending) (a : Answer)
-    → CommandStep halted env c edit command ending a → Does may halted c a
-does_command halted env c edit command None a step = does_edit halted env c edit command (edit_refusal c edit.editor command) a step
-does_command halted env c edit command (Some ToCommit) a step = does_close halted env c edit.client edit.asked (finished edit.editor) a step
-does_command halted env c edit command (Some GivesUp) a is = is_quiet halted c a _ is refl
+-- ---- an edit
 
-does_editing : {may : Bool} (halted : Bool) (env : Env) (c : RepoState) (edit : MachineEdit) (r : Result EditorCommand CommandFault) (a : Answer)
-    → EditingStep halted env c edit r a → Does may halted c a
-does_editing halted env c edit (Ok command) a step = does_command halted env c edit command (ending_of command) a step
-does_editing halted env c edit (Err UnknownName) a is = is_quiet halted c a _ is refl
-does_editing halted env c edit (Err BadParameters) a is = is_quiet halted c a _ is refl
-does_editing halted env c edit (Err NoMemory) a is = is_quiet halted c a _ is refl
+does_edit : {P : Accepted → Type 0} {may halted : Bool} (env : Env) (c : RepoState) (edit : MachineEdit) (command : EditorCommand) (r : Option Refusal) (a : Answer)
+    → JudgedEdit env c edit command r a → Does P may halted env c a
+does_edit env c edit command None a (after, applies, is) = quiet a _ is (refl, refl, refl)
+does_edit env c edit command (Some r) a is = quiet a _ is (refl, refl, refl)
+
+abbrev InEdit : Bool → Bool → Env → RepoState → MachineEdit → ItemValue → Answer → Type 0
+InEdit may halted env c edit t a = Does (IsAsked env (Editing edit) (Whole t)) may halted env c a
+
+closes : {may halted : Bool} (env : Env) (c : RepoState) (edit : MachineEdit) (t : ItemValue) (a : Answer) → editor_command t ≡ Ok edits.CloseEdit
+    → Does (IsOfEdit env edit) may halted env c a → InEdit may halted env c edit t a
+closes env c edit t a named d = does_as (IsOfEdit env edit) (IsAsked env (Editing edit) (Whole t)) a (λ e one. (named, one)) d
+
+does_command : {may : Bool} (halted : Bool) (env : Env) (c : RepoState) (edit : MachineEdit) (t : ItemValue) (command : EditorCommand) (a : Answer)
+    → editor_command t ≡ Ok command → CommandStep halted env c edit command (ending_of command) a → InEdit may halted env c edit t a
+does_command halted env c edit t (edits.TargetRevision revision) a named step = does_edit env c edit (edits.TargetRevision revision) _ a step
+does_command halted env c edit t (edits.OpenRoot revision token) a named step = does_edit env c edit (edits.OpenRoot revision token) _ a step
+does_command halted env c edit t (edits.DeleteEntry entry) a named step = does_edit env c edit (edits.DeleteEntry entry) _ a step
+does_command halted env c edit t (edits.AddDirectory entry) a named step = does_edit env c edit (edits.AddDirectory entry) _ a step
+does_command halted env c edit t (edits.AddFile entry) a named step = does_edit env c edit (edits.AddFile entry) _ a step
+does_command halted env c edit t (edits.OpenDirectory entry) a named step = does_edit env c edit (edits.OpenDirectory entry) _ a step
+does_command halted env c edit t (edits.OpenFile entry) a named step = does_edit env c edit (edits.OpenFile entry) _ a step
+does_command halted env c edit t (edits.AbsentDirectory entry) a named step = does_edit env c edit (edits.AbsentDirectory entry) _ a step
+does_command halted env c edit t (edits.AbsentFile entry) a named step = does_edit env c edit (edits.AbsentFile entry) _ a step
+does_command halted env c edit t (edits.ChangeDirectoryProperty change) a named step = does_edit env c edit (edits.ChangeDirectoryProperty change) _ a step
+does_command halted env c edit t (edits.ChangeFileProperty change) a named step = does_edit env c edit (edits.ChangeFileProperty change) _ a step
+does_command halted env c edit t (edits.ApplyTextDelta token checksum) a named step = does_edit env c edit (edits.ApplyTextDelta token checksum) _ a step
+does_command halted env c edit t (edits.TextDeltaChunk token bytes) a named step = does_edit env c edit (edits.TextDeltaChunk token bytes) _ a step
+does_command halted env c edit t (edits.TextDeltaEnd token) a named step = does_edit env c edit (edits.TextDeltaEnd token) _ a step
+does_command halted env c edit t (edits.CloseDirectory token) a named step = does_edit env c edit (edits.CloseDirectory token) _ a step
+does_command halted env c edit t (edits.CloseFile token checksum) a named step = does_edit env c edit (edits.CloseFile token checksum) _ a step
+does_command halted env c edit t edits.CloseEdit a named step = closes env c edit t a named (does_close halted env c edit (finished edit.editor) a refl step)
+does_command halted env c edit t edits.AbortEdit a named is = quiet a _ is (refl, refl, refl)
+
+does_editing : {may : Bool} (halted : Bool) (env : Env) (c : RepoState) (edit : MachineEdit) (t : ItemValue) (r : Result EditorCommand CommandFault) (a : Answer)
+    → editor_command t ≡ r → EditingStep halted env c edit r a → InEdit may halted env c edit t a
+does_editing halted env c edit t (Ok command) a named step = does_command halted env c edit t command a named step
+does_editing halted env c edit t (Err UnknownName) a named is = quiet a _ is (refl, refl, refl)
+does_editing halted env c edit t (Err BadParameters) a named is = quiet a _ is (refl, refl, refl)
+does_editing halted env c edit t (Err NoMemory) a named is = quiet a _ is (refl, refl, refl)
 
 -- ---- an input
 
-pub does : (halted : Bool) (s : Settings) (env : Env) (c : RepoState) (phase : Stage) (input : Input) (a : Answer) → InputStep halted s env c phase input a → Does s.revprops halted c a
-does halted s env c Greeted (Whole t) a is = is_quiet halted c a _ is (quiet_greeting s env (client_greeting t))
-does halted s env c (LoggingIn login) (Whole t) a step = inl (own_login halted s env c login (auth_response t) a step)
-does halted s env c (Challenged pending) (Whole t) a step = inl (own_challenge halted s env c pending (challenge_answer t) a step)
-does halted s env c (Serving client) (Whole t) a step = inl (own_main halted s env c client (main_command t) a step)
-does halted s env c (Editing edit) (Whole t) a step = does_editing halted env c edit (editor_command t) a step
-does halted s env c (Skipping client) (Whole t) a is = is_quiet halted c a _ is (quiet_skipping env client (ends_edit t))
-does halted s env c (Reporting reporting) (Whole t) a (d, step, is) = is_quiet halted c a _ is (quiet_drawn env reporting.client d)
-does halted s env c (Driven client) (Whole t) a is = is_quiet halted c a _ is (quiet_driven env client (client_answer t))
-does halted s env c Greeted Broken a is = is_quiet halted c a _ is refl
-does halted s env c (LoggingIn login) Broken a is = is_quiet halted c a _ is refl
-does halted s env c (Challenged pending) Broken a is = is_quiet halted c a _ is refl
-does halted s env c (Serving client) Broken a is = is_quiet halted c a _ is refl
-does halted s env c (Editing edit) Broken a is = is_quiet halted c a _ is refl
-does halted s env c (Skipping client) Broken a is = is_quiet halted c a _ is refl
-does halted s env c (Reporting reporting) Broken a is = is_quiet halted c a _ is refl
-does halted s env c (Driven client) Broken a is = is_quiet halted c a _ is refl
-does halted s env c Ended input a is = is_quiet halted c a _ is refl
+pub does : (halted : Bool) (s : Settings) (env : Env) (c : RepoState) (phase : Stage) (input : Input) (a : Answer) → InputStep halted s env c phase input a
+    → Does (IsAsked env phase input) s.revprops halted env c a
+does halted s env c Greeted (Whole t) a is = quiet a _ is (quiet_greeting s env (client_greeting t))
+does halted s env c (LoggingIn login) (Whole t) a step = does_login halted s env c login (auth_response t) a step
+does halted s env c (Challenged pending) (Whole t) a step = does_challenge halted s env c pending t (challenge_answer t) a step
+does halted s env c (Serving client) (Whole t) a step = does_main halted s env c client t (main_command t) a refl step
+does halted s env c (Editing edit) (Whole t) a step = does_editing halted env c edit t (editor_command t) a refl step
+does halted s env c (Skipping client) (Whole t) a is = quiet a _ is (quiet_skipping env client (ends_edit t))
+does halted s env c (Reporting reporting) (Whole t) a (d, step, is) = quiet a _ is (quiet_drawn env reporting.client d)
+does halted s env c (Driven client) (Whole t) a is = quiet a _ is (quiet_driven env client (client_answer t))
+does halted s env c Greeted Broken a is = quiet a _ is (refl, refl, refl)
+does halted s env c (LoggingIn login) Broken a is = quiet a _ is (refl, refl, refl)
+does halted s env c (Challenged pending) Broken a is = quiet a _ is (refl, refl, refl)
+does halted s env c (Serving client) Broken a is = quiet a _ is (refl, refl, refl)
+does halted s env c (Editing edit) Broken a is = quiet a _ is (refl, refl, refl)
+does halted s env c (Skipping client) Broken a is = quiet a _ is (refl, refl, refl)
+does halted s env c (Reporting reporting) Broken a is = quiet a _ is (refl, refl, refl)
+does halted s env c (Driven client) Broken a is = quiet a _ is (refl, refl, refl)
+does halted s env c Ended input a is = quiet a _ is (refl, refl, refl)
+
+-- a commit whose session is gone before the release
+pub leaves : (halted : Bool) (env : Env) (c : RepoState) (phase : Stage) (input : Input) (a : Answer) → UnreleasedStep halted env c phase input a
+    → (ask : CommitAsk) × (t : TxnState) × (halted ≡ false) × IsAsked env phase input (Commits ask t) × (commit_refusal c ask t ≡ None) × (wants_release ask (committed c ask t) ≡ true)
+    × (a ≡ unreleased_answer env ask t)
+leaves halted env c (Editing edit) (Whole t) a (named, u) =
+    (commit_ask edit.client edit.asked u.date, u.txn, u.running, (named, (u.txn_is, u.date, u.is_date, refl)), u.accepted, u.wanted, u.is)
+leaves halted env c (Editing edit) Broken a step = absurd step
+leaves halted env c Greeted input a step = absurd step
+leaves halted env c (LoggingIn login) input a step = absurd step
+leaves halted env c (Challenged pending) input a step = absurd step
+leaves halted env c (Serving client) input a step = absurd step
+leaves halted env c (Skipping client) input a step = absurd step
+leaves halted env c (Reporting reporting) input a step = absurd step
+leaves halted env c (Driven client) input a step = absurd step
+leaves halted env c Ended input a step = absurd step

@@ -4,14 +4,14 @@ use Rattle.replies.specs.declared.reply.Reply.{Reply}
 use Rattle.access.specs.Points.{last_count, HasRisen}
 use Rattle.machine.specs.Hearing.{Input}
 use Rattle.machine.specs.Stages.{SessionState}
-use Rattle.machine.specs.Answers.{Verdict, Counts, is_halt}
+use Rattle.machine.specs.Answers.{Verdict, Answer, Counts, is_halt}
 use Rattle.machine.specs.Answers.Verdict.{Written, NotWritten, Unknown}
 use Rattle.machine.specs.declared.env.Env.{Env}
 use Rattle.hub.specs.State.{HubState, session_of}
-use Rattle.hub.specs.Runs.{Event, InputHappens, HubStep, HubRun}
-use Rattle.hub.specs.Runs.Event.{Connects, Hears, Drops}
+use Rattle.hub.specs.Runs.{Event, InputHappens, CommitLeaves, HubStep, HubRun, answered}
+use Rattle.hub.specs.Runs.Event.{Connects, HandsIn, Hears, Leaves, Drops}
 use Rattle.hub.proofs.Running.{through_run}
-use Rattle.hub.proofs.Staying.{Next, after_event}
+use Rattle.hub.proofs.Staying.{event_halted}
 
 pub or_false : (b : Bool) → (b || false) ≡ b
 or_false true = refl
@@ -45,21 +45,31 @@ stored Written old new counts halted =
     (λ m l le. subst (λ (x : ℕ). m ≤ x) (sym counts) le, λ m l le. inl (halted ∙ or_false old.halted))
 stored NotWritten old new counts halted =
     (λ m l le. risen_keeps m old.failures new.failures l le counts, λ m l le. inl (halted ∙ or_false old.halted))
-stored Unknown old new counts halted =
+stored (Unknown e) old new counts halted =
     (λ m l le. risen_keeps m old.failures new.failures l le counts, λ m l le. inr (risen_above m old.failures new.failures l le counts))
 
 same_counted : (old new : HubState) → new.failures ≡ old.failures → new.halted ≡ old.halted → AreCounted old new
 same_counted old new failures halted = (λ m l le. subst (λ (x : ℕ). m ≤ x) (sym failures) le, λ m l le. inl halted)
 
+answer_counted : (old new : HubState) (n : ℕ) (s : SessionState) (a : Answer) (failures : ℕ) → Counts a.effect.store old.failures failures → new ≡ answered old n s a failures → AreCounted old new
+answer_counted old new n s a failures counts is =
+    stored a.effect.store old new (subst (λ (x : ℕ). Counts a.effect.store old.failures x) (sym (ap (λ (x : HubState). x.failures) is)) counts) (ap (λ (x : HubState). x.halted) is)
+
 input_counted : (old : HubState) (env : Env) (n : ℕ) (o : Option SessionState) (input : Input) (told : List Reply) (new : HubState) (after : Env)
     → InputHappens old env n o input told new after → AreCounted old new
 input_counted old env n None input told new after h = same_counted old new (ap (λ (x : HubState). x.failures) h.1) (ap (λ (x : HubState). x.halted) h.1)
-input_counted old env n (Some s) input told new after (a, step, is_told, left, failures, counts, is) =
-    stored a.effect.store old new (subst (λ (x : ℕ). Counts a.effect.store old.failures x) (sym (ap (λ (x : HubState). x.failures) is)) counts) (ap (λ (x : HubState). x.halted) is)
+input_counted old env n (Some s) input told new after (a, step, is_told, left, failures, counts, is) = answer_counted old new n s a failures counts is
+
+leaving_counted : (old : HubState) (env : Env) (n : ℕ) (o : Option SessionState) (input : Input) (told : List Reply) (new : HubState) (after : Env)
+    → CommitLeaves old env n o input told new after → AreCounted old new
+leaving_counted old env n None input told new after h = absurd h
+leaving_counted old env n (Some s) input told new after (a, step, is_told, left, failures, counts, is) = answer_counted old new n s a failures counts is
 
 pub event_counted : (old new : HubState) (env after : Env) (e : Event) (told : List Reply) → HubStep old env e told new after → AreCounted old new
 event_counted old new env after (Connects n) told h = same_counted old new (ap (λ (x : HubState). x.failures) h.3) (ap (λ (x : HubState). x.halted) h.3)
+event_counted old new env after (HandsIn words) told h = same_counted old new (ap (λ (x : HubState). x.failures) h.1) (ap (λ (x : HubState). x.halted) h.1)
 event_counted old new env after (Hears n input) told h = input_counted old env n (session_of old.sessions n) input told new after h
+event_counted old new env after (Leaves n input) told h = leaving_counted old env n (session_of old.sessions n) input told new after h
 event_counted old new env after (Drops n) told h = same_counted old new (ap (λ (x : HubState). x.failures) h.2) (ap (λ (x : HubState). x.halted) h.2)
 
 pub none_counted : (h : HubState) → AreCounted h h
@@ -97,38 +107,16 @@ not_halted old new k l same = by (k.1 old.failures l (omega arith))
 -- ---- after a halt
 
 abbrev pub StaysHalted : HubState → HubState → Type 0
-StaysHalted old new = old.halted ≡ true → (new.halted ≡ true) × (new.content ≡ old.content)
-
-halted_answer : (v : Verdict) (b c : Bool) → c ≡ (b || is_halt v) → b ≡ true → c ≡ true
-halted_answer v b c is h = is ∙ ap (λ (x : Bool). x || is_halt v) h
-
-input_halted : (old : HubState) (env : Env) (n : ℕ) (o : Option SessionState) (input : Input) (told : List Reply) (new : HubState) (after : Env)
-    → InputHappens old env n o input told new after → old.halted ≡ true → new.halted ≡ true
-input_halted old env n None input told new after h halted = ap (λ (x : HubState). x.halted) h.1 ∙ halted
-input_halted old env n (Some s) input told new after (a, step, is_told, left, failures, counts, is) halted =
-    halted_answer a.effect.store old.halted new.halted (ap (λ (x : HubState). x.halted) is) halted
-
-event_halted : (old new : HubState) (env after : Env) (e : Event) (told : List Reply) → HubStep old env e told new after → old.halted ≡ true → new.halted ≡ true
-event_halted old new env after (Connects n) told h halted = ap (λ (x : HubState). x.halted) h.3 ∙ halted
-event_halted old new env after (Hears n input) told h halted = input_halted old env n (session_of old.sessions n) input told new after h halted
-event_halted old new env after (Drops n) told h halted = ap (λ (x : HubState). x.halted) h.2 ∙ halted
-
-unchanged : (old : HubState) (told : List Reply) (new : HubState) → old.halted ≡ true → Next old told new → new.content ≡ old.content
-unchanged old told new halted (inl e) = e
-unchanged old told new halted (inr c) = let running = c.running in cc
-
-pub event_stays_halted : (old new : HubState) (env after : Env) (e : Event) (told : List Reply) → HubStep old env e told new after → StaysHalted old new
-event_stays_halted old new env after e told h halted =
-    (event_halted old new env after e told h halted, unchanged old told new halted (after_event old new env after e told h))
+StaysHalted old new = old.halted ≡ true → (new.halted ≡ true) × (new.content ≡ old.content) × (new.pending ≡ old.pending)
 
 pub none_halted : (h : HubState) → StaysHalted h h
-none_halted h halted = (halted, refl)
+none_halted h halted = (halted, refl, refl)
 
 pub halted_on : (a b c : HubState) → StaysHalted a b → StaysHalted b c → StaysHalted a c
 halted_on a b c x y halted =
     let first = x halted in
     let second = y first.0 in
-    (second.0, second.1 ∙ first.1)
+    (second.0, second.1 ∙ first.1, second.2 ∙ first.2)
 
 pub run_halted : (old new : HubState) (env after : Env) (events : List Event) (told : List Reply) → HubRun old env events told new after → StaysHalted old new
-run_halted = through_run StaysHalted none_halted halted_on event_stays_halted
+run_halted = through_run StaysHalted none_halted halted_on event_halted

@@ -1,5 +1,5 @@
 -- What one piece does to the hub.
-use Rattle.std.proofs.Common.{◌≡◌, ℕ, List, [], ◌++◌, Option, Some, Bool, true, false, refl, sym, ap, subst, ◌∙◌}
+use Rattle.std.proofs.Common.{◌≡◌, ℕ, List, ◌++◌, Option, Some, Bool, true, false, refl, sym, ap, subst, ◌∙◌}
 use Rattle.std.specs.Prelude.{if◌then◌else◌, get_or, slice_set}
 use Rattle.std.proofs.lemmas.Option.{get_or_from_slice_get}
 use Rattle.repo_api.specs.States.{IsBeginning}
@@ -12,13 +12,12 @@ use Rattle.machine.specs.Stages.{SessionState, StandsOn, is_open}
 use Rattle.machine.specs.Steps.{FeedWritten, FeedLost}
 use Rattle.machine.specs.declared.env.Env.{Env}
 use Rattle.hub.specs.State.{HubState, AllOpen, HasTrees, Finds, hub_at, session_of, updated, without, kept}
-use Rattle.hub.specs.Runs.{HubRun, IfOpen, with_rest, Feeds, BreaksOff}
-use Rattle.hub.specs.Runs.Event.{Drops}
+use Rattle.hub.specs.Runs.{HubRun, IfOpen, ends_of, with_rest, Feeds, BreaksOff}
 use Rattle.hub.specs.SessionLaws.{session_of-updated, session_of-without, kept-updated, without-updated}
 use Rattle.hub.proofs.Places.{without-kept, settled, kept_ended}
 use Rattle.hub.proofs.Everywhere.{AllOpen-at, AllOpen-kept, HasTrees-at, HasTrees-kept}
 use Rattle.hub.proofs.Staying.{feeds_keep, breaks_keep}
-use Rattle.hub.proofs.Composing.{StandsAlone, AddsOwn, holds_open, events_of, inputs_are, composed, run_more}
+use Rattle.hub.proofs.Composing.{StandsAlone, AddsOwn, holds_open, holds_kept, events_of, inputs_are, composed, ends, runs_on}
 
 if_open : (xs : List (ℕ × SessionState)) (n : ℕ) (session s' : SessionState) (rest : List ℕ) → session_of xs n ≡ Some session
     → (is_open s'.phase ≡ true → HasNoMore rest) → IfOpen (session_of (kept xs n s') n) rest
@@ -136,25 +135,29 @@ module _ (rules : AccessRules) (s : Settings) (alone : StandsAlone rules) (count
       let h : SessionState = record { rest = lost.rest; phase = f.session.phase } in
       let t : SessionState = record { rest = lost.rest; phase = lost.phase_after } in
       let ys = updated xs n h in
-      let run = composed rules s alone counts ys f.used n lost.rest f.env f.at f.session.phase lost.inputs lost.told lost.env_after f.at_after lost.phase_after
-      (holds_open ys n lost.rest f.session.phase is.lives (session_of-updated xs n f.session h is.found)) lost.run in
+      let here = session_of-updated xs n f.session h is.found in
+      let run = composed rules s alone counts ys f.used n lost.rest f.env f.at f.session.phase lost.inputs lost.told lost.env_after lost.point_after lost.phase_after
+      (holds_open ys n lost.rest f.session.phase is.lives here) lost.run in
       let gone : f.sessions_after ≡ without (kept ys n t) n =
       is.after ∙ kept_ended xs n f.session_after ended ∙ sym (without-kept ys n t ∙ without-updated xs n h) in
+      let mid = hub_at s lost.point_after (kept ys n t) f.used in
+      let last = ends rules s alone counts (kept ys n t) f.sessions_after f.used n lost.rest lost.env_after lost.point_after lost.phase_after lost.left f.at_after
+      (holds_kept ys n lost.rest h lost.phase_after here) gone lost.leaves in
       record {
         breaks = record {
           session = f.session;
           is_session = is.found;
           inputs = lost.inputs;
+          left = lost.left;
           rest = lost.rest;
           yields = lost.yields;
           events = events_of n lost.inputs;
           events_are = inputs_are n lost.inputs;
-          told = lost.told ++ [];
-          env_after = lost.env_after;
-          run = run_more (with_rest (hub_before s f) n f.session lost.rest) f.env (events_of n lost.inputs) lost.told (hub_at s f.at_after (kept ys n t) f.used) lost.env_after (Drops n) [] (hub_after s f) lost.env_after
-              run (refl, refl, ap (λ (zs : List (ℕ × SessionState)). hub_at s f.at_after zs f.used) gone);
+          told = lost.told ++ last.told;
+          env_after = last.after;
+          run = runs_on (with_rest (hub_before s f) n f.session lost.rest) mid (hub_after s f) f.env lost.env_after last.after (events_of n lost.inputs) (ends_of n lost.left) lost.told last.told run last.run;
         };
-        written = part_first writes lost.told [] lost.written;
+        written = part_first writes lost.told last.told lost.written;
       }
 
   pub lost_breaks : IsFed s old f → is_open f.session_after.phase ≡ false → Lost → BreaksOff old f.env f.number f.piece (hub_after s f) writes

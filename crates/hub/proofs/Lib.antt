@@ -1,13 +1,15 @@
 pub mod Places
 pub mod Running
-pub mod Effects
 pub mod Revising
+pub mod Effects
+pub mod Everywhere
+pub mod Acting
 pub mod Staying
 pub mod Failing
 pub mod Composing
 pub mod Feeding
-pub mod Everywhere
 pub mod Trees
 pub mod Calling
+pub mod Owning
 pub mod Respecting
 pub mod Sinks

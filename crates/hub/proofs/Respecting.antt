@@ -1,5 +1,5 @@
 -- Accepted changes respect locks.
-use Rattle.std.proofs.Common.{◌≡◌, ◌⊎◌, inl, inr, ◌&&◌, not, List, [], ◌∷◌, ◌++◌, Bool, true, false, Option, Some, None, ap, sym, subst, ◌∙◌}
+use Rattle.std.proofs.Common.{◌≡◌, ℕ, ◌&&◌, not, List, [], ◌∷◌, ◌++◌, Bool, true, false, Option, Some, None, ap, sym, subst, ◌∙◌}
 use Rattle.std.specs.Prelude.{IsTrue, if◌then◌else◌}
 use Rattle.std.specs.FinMap.{get, empty, get-empty}
 use Rattle.std.specs.List.{list_any}
@@ -7,26 +7,27 @@ use Rattle.svnpath.specs.Paths.{PathValue, path_cmp}
 use Rattle.access.specs.Changing.{wants_release}
 use Rattle.repo_api.specs.States.{RepoState, TxnState}
 use Rattle.repo_api.specs.Commits.{commit_refusal, committed}
-use Rattle.repo_api.specs.Locking.{lock_of, is_in_the_way, is_handed_in}
-use Rattle.repo_api.specs.LockRuns.{names_lock, HaveOwnTokens, HaveNewTokens}
+use Rattle.repo_api.specs.Locking.{is_in_the_way, is_handed_in}
+use Rattle.repo_api.specs.LockRuns.{names_lock, HaveOwnTokens, IsNewToken, HaveNewTokens}
 use Rattle.repo_api.specs.Accepted.{Accepted, AreAccepted, changed, changed_all}
 use Rattle.repo_api.specs.Accepted.Accepted.{Commits, Locks, Unlocks, Releases, ChangesProperty}
 use Rattle.repo_api.specs.declared.ask.CommitAsk.{CommitAsk}
 use Rattle.repo_api.specs.declared.lock.Lock.{Lock as LockValue}
 use Rattle.replies.specs.declared.reply.Reply.{Reply}
+use Rattle.machine.specs.Hearing.{Input}
 use Rattle.machine.specs.declared.env.Env.{Env}
 use Rattle.hub.specs.State.{HubState}
-use Rattle.hub.specs.Runs.{Event, HubStep, HubRun, with_rest}
-use Rattle.hub.specs.Runs.Event.{Drops}
+use Rattle.hub.specs.Runs.{Event, HubStep, HubRun, ends_of, with_rest}
+use Rattle.hub.specs.Runs.Event.{Connects, HandsIn, Hears, Leaves, Drops}
 use Rattle.hub.specs.Calls.{CallStep, CallRun}
-use Rattle.hub.specs.Laws.IsToldChange.{Committed, Locked, Unlocked, Revised}
-use Rattle.hub.specs.Laws.{IsToldChange, told_changes, AllHoldLocks, RespectLocks, TellsNewToken, MakesNewTokens, CallMakesNewTokens, CallsMakeNewTokens}
+use Rattle.hub.specs.Laws.{IsTold, UsesWord, AllHoldLocks, RespectLocks, IsNewWord, MakesNewTokens, CallMakesNewTokens, CallsMakeNewTokens}
+use Rattle.hub.specs.Done.{GoesOnBy}
 use Rattle.hub.specs.declared.hub.HubFault.TheVariants.{NoSession, NoMemory, Halted, Full}
 use Rattle.hub.specs.declared.calls.Call.{Call}
 use Rattle.hub.specs.declared.calls.Call.TheVariants.{Connect, Feed, Disconnect}
 use Rattle.hub.specs.declared.calls.Outcome.{Outcome}
 use Rattle.hub.specs.declared.calls.Outcome.TheVariants.{Connected, Wrote, Dropped, Failed}
-use Rattle.hub.proofs.Staying.{OnlyAccepted, event_changes, told_accepted}
+use Rattle.hub.proofs.Acting.{Acts, acts}
 use Rattle.hub.proofs.Calling.{some_words}
 
 -- where there are no locks, no two have one token
@@ -55,28 +56,8 @@ module _ (holds : (c : RepoState) (ask : CommitAsk) (t : TxnState) → commit_re
   respects : (c : RepoState) (es : List Accepted) → AreAccepted c es → RespectLocks c es (changed_all c es)
   respects c es are = record { held = all_held c es are; unnamed = stays c es; distinct = apart c es }
 
-  pub respected : (old new : RepoState) → OnlyAccepted old new
-      → (changes : List Accepted) × AreAccepted old changes × (new ≡ changed_all old changes) × RespectLocks old changes new
-  respected old new (es, are, is) = (es, are, is, subst (λ (x : RepoState). RespectLocks old es x) (sym is) (respects old es are))
-
-  -- ---- an event
-
-  change_respects : (old new : RepoState) (told : List Reply) (change : IsToldChange old told new) → RespectLocks old (told_changes old told new change) new
-  change_respects old new told change =
-      let es = told_changes old told new change in
-      let by = told_accepted old new told change in
-      subst (λ (x : RepoState). RespectLocks old es x) (sym by.1) (respects old es by.0)
-
-  pub event_respects : (old new : HubState) (env after : Env) (e : Event) (told : List Reply) → HubStep old env e told new after
-      → (new.content ≡ old.content)
-      ⊎ ((change : IsToldChange old.content told new.content) × RespectLocks old.content (told_changes old.content told new.content change) new.content)
-  event_respects old new env after e told h = by (event_changes old new env after e told h)
-    where
-      by : (new.content ≡ old.content) ⊎ IsToldChange old.content told new.content
-          → (new.content ≡ old.content)
-          ⊎ ((change : IsToldChange old.content told new.content) × RespectLocks old.content (told_changes old.content told new.content change) new.content)
-      by (inl same) = inl same
-      by (inr change) = inr (change, change_respects old.content new.content told change)
+  pub respected : (old : RepoState) (es : List Accepted) (new : RepoState) → GoesOnBy old es new → RespectLocks old es new
+  respected old es new on = subst (λ (x : RepoState). RespectLocks old es x) (sym on.is) (respects old es on.accepted)
 
   -- ---- tokens
 
@@ -84,29 +65,46 @@ module _ (holds : (c : RepoState) (ask : CommitAsk) (t : TxnState) → commit_re
   release_new c ask true = tt
   release_new c ask false = tt
 
-  change_new : (old new : RepoState) (told : List Reply) (change : IsToldChange old told new) → TellsNewToken old.locks told → HaveNewTokens old (told_changes old told new change)
-  change_new old new told (Committed c) fresh =
-      release_new (committed old c.ask c.txn) c.ask (wants_release c.ask (committed old c.ask c.txn) && not c.fails)
-  change_new old new told (Locked l) fresh = (fresh l.ask.path (lock_of l.ask) l.lock, tt)
-  change_new old new told (Unlocked u) fresh = tt
-  change_new old new told (Revised r) fresh = tt
+  -- a lock that is made has the token of the word that is used up
+  tokens_new : (c : RepoState) (halted : Bool) (es : List Accepted) (told : List Reply) (env after : Env) → IsTold c halted es told → UsesWord env es after → IsNewWord c.locks env after → HaveNewTokens c es
+  tokens_new c halted [] told env after is words fresh = tt
+  tokens_new c halted (Commits ask t ∷ es) told env after (wanted, behind, ends) words fresh =
+      let now = committed c ask t in
+      subst (λ (xs : List Accepted). HaveNewTokens now xs) (sym behind) (release_new now ask (wants_release ask now && not halted))
+  tokens_new c halted (Locks ask ∷ es) told env after (none, ends) (token, used) fresh =
+      (subst (λ (x : List ℕ). IsNewToken c.locks x) (sym token) (fresh used), subst (λ (xs : List Accepted). HaveNewTokens (changed c (Locks ask)) xs) (sym none) tt)
+  tokens_new c halted (Unlocks ask ∷ es) told env after (none, ends) words fresh = subst (λ (xs : List Accepted). HaveNewTokens (changed c (Unlocks ask)) xs) (sym none) tt
+  tokens_new c halted (Releases user tokens ∷ es) told env after bad words fresh = absurd bad
+  tokens_new c halted (ChangesProperty n name value ∷ es) told env after (none, ends) words fresh =
+      subst (λ (xs : List Accepted). HaveNewTokens (changed c (ChangesProperty n name value)) xs) (sym none) tt
 
-  pub event_apart : (old new : HubState) (env after : Env) (e : Event) (told : List Reply) → HubStep old env e told new after
-      → HaveOwnTokens old.content.locks → TellsNewToken old.content.locks told → HaveOwnTokens new.content.locks
-  event_apart old new env after e told h own fresh = by (event_changes old new env after e told h)
-    where
-      by : (new.content ≡ old.content) ⊎ IsToldChange old.content told new.content → HaveOwnTokens new.content.locks
-      by (inl same) = subst (λ (x : RepoState). HaveOwnTokens x.locks) (sym same) own
-      by (inr change) = (change_respects old.content new.content told change).distinct own (change_new old.content new.content told change fresh)
+  same_apart : (old new : HubState) → new.content ≡ old.content → HaveOwnTokens old.content.locks → HaveOwnTokens new.content.locks
+  same_apart old new same own = subst (λ (x : RepoState). HaveOwnTokens x.locks) (sym same) own
+
+  acts_apart : (old new : HubState) (env after : Env) (n : ℕ) (input : Input) (told : List Reply) → Acts old env (Hears n input) told new after
+      → HaveOwnTokens old.content.locks → IsNewWord old.content.locks env after → HaveOwnTokens new.content.locks
+  acts_apart old new env after n input told a own fresh =
+      (respected old.content a.changes new.content a.on).distinct own (tokens_new old.content new.halted a.changes told env after a.tells a.words fresh)
+
+  leaving_apart : (old new : HubState) (env after : Env) (n : ℕ) (input : Input) (told : List Reply) → Acts old env (Leaves n input) told new after
+      → HaveOwnTokens old.content.locks → HaveOwnTokens new.content.locks
+  leaving_apart old new env after n input told a own =
+      let alone = a.tells.1.2 in
+      (respected old.content a.changes new.content a.on).distinct own (subst (λ (es : List Accepted). HaveNewTokens old.content es) (sym alone) tt)
+
+  event_apart : (old new : HubState) (env after : Env) (e : Event) (told : List Reply) → HubStep old env e told new after
+      → HaveOwnTokens old.content.locks → IsNewWord old.content.locks env after → HaveOwnTokens new.content.locks
+  event_apart old new env after (Connects n) told h own fresh = same_apart old new (ap (λ (x : HubState). x.content) h.3) own
+  event_apart old new env after (HandsIn words) told h own fresh = same_apart old new (ap (λ (x : HubState). x.content) h.1) own
+  event_apart old new env after (Hears n input) told h own fresh = acts_apart old new env after n input told (acts old new env after (Hears n input) told h) own fresh
+  event_apart old new env after (Leaves n input) told h own fresh = leaving_apart old new env after n input told (acts old new env after (Leaves n input) told h) own
+  event_apart old new env after (Drops n) told h own fresh = same_apart old new (ap (λ (x : HubState). x.content) h.2) own
 
   pub run_apart : (old new : HubState) (env after : Env) (events : List Event) (told : List Reply) (run : HubRun old env events told new after)
       → HaveOwnTokens old.content.locks → MakesNewTokens old env events told new after run → HaveOwnTokens new.content.locks
   run_apart old new env after [] told run own fresh = subst (λ (x : HubState). HaveOwnTokens x.content.locks) (sym run.1) own
   run_apart old new env after (e ∷ es) told (first, mid, between, more, step, run, is_told) own fresh =
       run_apart mid new between after es more run (event_apart old mid env between e first step own fresh.0) fresh.1
-
-  same_apart : (old new : HubState) → new.content ≡ old.content → HaveOwnTokens old.content.locks → HaveOwnTokens new.content.locks
-  same_apart old new same own = subst (λ (x : RepoState). HaveOwnTokens x.locks) (sym same) own
 
   at_same : (old new : HubState) → new ≡ old → HaveOwnTokens old.content.locks → HaveOwnTokens new.content.locks
   at_same old new same own = same_apart old new (ap (λ (x : HubState). x.content) same) own
@@ -125,7 +123,7 @@ module _ (holds : (c : RepoState) (ask : CommitAsk) (t : TxnState) → commit_re
       run_apart (with_rest old n f.session f.rest) new env f.env_after f.events f.told f.run own fresh
   call_apart old (Feed n piece env) (Failed NoMemory) new step own fresh =
       let b = step.1 in
-      run_apart (with_rest old n b.session b.rest) new env b.env_after (b.events ++ Drops n ∷ []) b.told b.run own fresh
+      run_apart (with_rest old n b.session b.rest) new env b.env_after (b.events ++ ends_of n b.left) b.told b.run own fresh
   call_apart old (Feed n piece env) (Failed NoSession) new step own fresh = at_same old new step.2 own
   call_apart old (Feed n piece env) (Failed Halted) new step own fresh = at_same old new step.1 own
   call_apart old (Feed n piece env) (Failed Full) new step own fresh = absurd step

@@ -1,20 +1,17 @@
 -- Words of the laws of a hub.
-use Rattle.std.specs.Prelude.{◌≡◌, ◌⊎◌, ◌&&◌, ◌==◌, ◌<◌, not, if◌then◌else◌, Bool, true, false, ℕ, List, [], ◌∷◌, ◌++◌, Option, Some, None, Contains, length, IsTrue}
+use Rattle.std.specs.Prelude.{◌≡◌, ◌&&◌, ◌==◌, ◌<◌, not, if◌then◌else◌, Bool, true, false, ℕ, List, [], ◌∷◌, ◌++◌, Some, Contains, None, length, IsTrue}
 use Rattle.std.specs.FinMap.{get}
 use Rattle.std.specs.List.{list_any}
 use Rattle.svnpath.specs.Paths.{PathValue}
 use Rattle.access.specs.Changing.{wants_release}
-use Rattle.repo_api.specs.Accepted.{Accepted, changed, changed_all}
+use Rattle.repo_api.specs.Accepted.{Accepted, changed}
 use Rattle.repo_api.specs.Accepted.Accepted.{Commits, Locks, Unlocks, Releases, ChangesProperty}
-use Rattle.repo_api.specs.Locking.{lock_refusal, lock_of, locked, unlock_refusal, unlocked, is_in_the_way, is_handed_in}
-use Rattle.repo_api.specs.LockRuns.{names_lock, HasSameRevisions, HasSameOtherwise, HaveOwnTokens, IsNewToken, HaveNewTokens}
-use Rattle.repo_api.specs.RevisionProperties.{property_refusal, with_changed_property}
+use Rattle.repo_api.specs.Locking.{lock_of, is_in_the_way, is_handed_in}
+use Rattle.repo_api.specs.LockRuns.{names_lock, HaveOwnTokens, IsNewToken, HaveNewTokens}
 use Rattle.repo_api.specs.declared.lock.Lock.{Lock as LockValue}
-use Rattle.repo_api.specs.declared.lock_ask.LockAsk.{LockAsk}
-use Rattle.repo_api.specs.declared.lock_ask.UnlockAsk.{UnlockAsk}
 use Rattle.repo_api.specs.Merge.{is_changed}
 use Rattle.repo_api.specs.Marks.{shown, own_of}
-use Rattle.repo_api.specs.Commits.{commit_refusal, next_tree, committed}
+use Rattle.repo_api.specs.Commits.{next_tree, committed}
 use Rattle.repo_api.specs.Properties.{PropertyList}
 use Rattle.repo_api.specs.declared.ask.CommitAsk.{CommitAsk}
 use Rattle.repo_api.specs.States.{RepoState, TxnState, LockMap, tree_at, youngest}
@@ -24,11 +21,11 @@ use Rattle.forms.specs.Forms.{is_name}
 use Rattle.replies.specs.declared.reply.Reply.{Reply}
 use Rattle.replies.specs.declared.reply.Reply.TheVariants.{Success, Lock, CommitInfo, Failure}
 use Rattle.machine.specs.Settings.{Settings}
+use Rattle.machine.specs.Commands.{token_text, env_without_token}
 use Rattle.machine.specs.Readings.{revision_value}
 use Rattle.machine.specs.declared.env.Env.{Env}
 use Rattle.hub.specs.State.{HubState}
-use Rattle.hub.specs.Runs.{Event, HubRun, with_rest}
-use Rattle.hub.specs.Runs.Event.{Drops}
+use Rattle.hub.specs.Runs.{Event, HubRun, ends_of, with_rest}
 use Rattle.hub.specs.Calls.{CallStep, CallRun}
 use Rattle.hub.specs.declared.hub.HubFault.TheVariants.{NoSession, NoMemory, Halted, Full}
 use Rattle.hub.specs.declared.calls.Call.{Call}
@@ -45,6 +42,7 @@ new_hub settings uuid date = record {
   content = new_repository uuid date;
   halted = false;
   failures = 0;
+  pending = None;
   sessions = [];
   used = 0;
 }
@@ -57,62 +55,38 @@ TellsFailure told = (r : Refusal) × Contains told (Failure r)
 abbrev pub EndsWith : List Reply → Reply → Type 0
 EndsWith told reply = (before : List Reply) × (told ≡ before ++ reply ∷ [])
 
--- a commit, and behind it the release of the locks that were handed in with it, where one is wanted
--- and does not fail
-abbrev pub commit_changes : RepoState → CommitAsk → TxnState → Bool → List Accepted
-commit_changes c ask t fails =
-    Commits ask t
-    ∷ (if wants_release ask (committed c ask t) && not fails
-    then Releases ask.author ask.tokens ∷ [] else [])
+-- behind a commit the locks that were handed in with it are released, where that is wanted and does
+-- not fail
+abbrev pub release_behind : RepoState → CommitAsk → TxnState → Bool → List Accepted
+release_behind c ask t fails =
+    if wants_release ask (committed c ask t) && not fails
+    then Releases ask.author ask.tokens ∷ [] else []
 
--- a commit that the rules accept, and that is told: its number, its date and its author, and
--- whether the release of its locks has failed; only one that is wanted can fail
-pub record IsToldCommit (old : RepoState) (told : List Reply) (new : RepoState) : Type 0 where
-  pub ask : CommitAsk
-  pub txn : TxnState
-  pub fails : Bool
-  pub accepted : commit_refusal old ask txn ≡ None
-  pub wanted : fails ≡ true → wants_release ask (committed old ask txn) ≡ true
-  pub is : new ≡ changed_all old (commit_changes old ask txn fails)
-  pub info : EndsWith told (CommitInfo (length old.revisions) ask.date ask.author fails)
+-- What is told of an event's changes, of which there is one, or a commit with the release behind
+-- it: of a commit its number, its date, its author, and whether the release has failed, which it has
+-- exactly where changes are at a halt now; of a lock what it is.
+abbrev pub IsTold : RepoState → Bool → List Accepted → List Reply → Type 0
+IsTold c halted [] told = Unit {0}
+IsTold c halted (Commits ask t ∷ behind) told =
+    (halted ≡ true → wants_release ask (committed c ask t) ≡ true)
+    × (behind ≡ release_behind c ask t halted)
+    × EndsWith told (CommitInfo (length c.revisions) ask.date ask.author halted)
+IsTold c halted (Locks ask ∷ behind) told =
+    (behind ≡ []) × EndsWith told (Lock ask.path (lock_of ask))
+IsTold c halted (Unlocks ask ∷ behind) told = (behind ≡ []) × EndsWith told Success
+IsTold c halted (Releases user tokens ∷ behind) told = ⊥
+IsTold c halted (ChangesProperty n name value ∷ behind) told =
+    (behind ≡ []) × EndsWith told Success
 
--- a lock that the rules accept, and that is told
-pub record IsToldLock (old : RepoState) (told : List Reply) (new : RepoState) : Type 0 where
-  pub ask : LockAsk
-  pub accepted : lock_refusal old ask ≡ None
-  pub is : new ≡ locked old ask
-  pub lock : EndsWith told (Lock ask.path (lock_of ask))
-
--- an unlock that the rules accept, and that is answered by success
-pub record IsToldUnlock (old : RepoState) (told : List Reply) (new : RepoState) : Type 0 where
-  pub ask : UnlockAsk
-  pub accepted : unlock_refusal old ask ≡ None
-  pub is : new ≡ unlocked old ask
-  pub success : EndsWith told Success
-
--- a change of a property of a revision that the rules accept, and that is answered by success
-pub record IsToldPropertyChange (old : RepoState) (told : List Reply) (new : RepoState) : Type 0 where
-  pub revision : ℕ
-  pub name : List ℕ
-  pub value : Option (List ℕ)
-  pub accepted : property_refusal old revision name ≡ None
-  pub is : new ≡ with_changed_property old revision name value
-  pub success : EndsWith told Success
-
--- a change that the rules accept, and that is told
-pub data IsToldChange (old : RepoState) (told : List Reply) (new : RepoState) : Type 0 where
-  Committed : IsToldCommit old told new → IsToldChange old told new
-  Locked : IsToldLock old told new → IsToldChange old told new
-  Unlocked : IsToldUnlock old told new → IsToldChange old told new
-  Revised : IsToldPropertyChange old told new → IsToldChange old told new
-
--- the changes that were told
-abbrev pub told_changes : (old : RepoState) (told : List Reply) (new : RepoState)
-    → IsToldChange old told new → List Accepted
-told_changes old told new (Committed c) = commit_changes old c.ask c.txn c.fails
-told_changes old told new (Locked l) = Locks l.ask ∷ []
-told_changes old told new (Unlocked u) = Unlocks u.ask ∷ []
-told_changes old told new (Revised r) = ChangesProperty r.revision r.name r.value ∷ []
+-- A lock has the token of the word that was handed in, and uses the word up; nothing else does.
+abbrev pub UsesWord : Env → List Accepted → Env → Type 0
+UsesWord env [] after = after.token ≡ env.token
+UsesWord env (Commits ask t ∷ es) after = after.token ≡ env.token
+UsesWord env (Locks ask ∷ es) after =
+    (ask.token ≡ token_text env.token) × (after ≡ env_without_token env)
+UsesWord env (Unlocks ask ∷ es) after = after.token ≡ env.token
+UsesWord env (Releases user tokens ∷ es) after = after.token ≡ env.token
+UsesWord env (ChangesProperty n name value ∷ es) after = after.token ≡ env.token
 
 -- what nothing changes: the settings, and the repository's name among all repositories
 pub record KeepsConstants (old new : HubState) : Type 0 where
@@ -155,19 +129,18 @@ pub record KeepsBothSides (c : RepoState) (t : TxnState) : Type 0 where
   pub ours : (p : PathValue) → is_changed (get (tree_at c t.base) p) (get t.tree p) ≡ true
       → shown (get (next_tree c t) p) ≡ shown (get t.tree p)
 
--- nothing has happened but to locks, or but to the properties of one revision, or a commit that
--- keeps what was changed on either side, and behind it nothing but to locks
-abbrev pub OverwritesNothing : RepoState → RepoState → Type 0
-OverwritesNothing old new =
-    HasSameRevisions old new
-    ⊎ (((n : ℕ) × HasSameOtherwise n old new)
-    ⊎ ((ask : CommitAsk) × (t : TxnState) × HasSameRevisions (committed old ask t) new
-    × KeepsBothSides old t))
+-- so it is where the change is a commit
+abbrev pub KeepsSides : RepoState → Accepted → Type 0
+KeepsSides c (Commits ask t) = KeepsBothSides c t
+KeepsSides c (Locks ask) = Unit {0}
+KeepsSides c (Unlocks ask) = Unit {0}
+KeepsSides c (Releases user tokens) = Unit {0}
+KeepsSides c (ChangesProperty n name value) = Unit {0}
 
--- one state after another, and at none of these steps was anything overwritten
-abbrev pub KeepsAll : RepoState → List RepoState → RepoState → Type 0
-KeepsAll old [] new = new ≡ old
-KeepsAll old (next ∷ more) new = OverwritesNothing old next × KeepsAll next more new
+-- so it is of each change, in the state that those before it make
+abbrev pub AllKeepSides : RepoState → List Accepted → Type 0
+AllKeepSides c [] = Unit {0}
+AllKeepSides c (e ∷ es) = KeepsSides c e × AllKeepSides (changed c e) es
 
 -- ---- locks
 
@@ -195,18 +168,18 @@ pub record RespectLocks (old : RepoState) (changes : List Accepted) (new : RepoS
       → get new.locks p ≡ get old.locks p
   pub distinct : HaveOwnTokens old.locks → HaveNewTokens old changes → HaveOwnTokens new.locks
 
--- each lock that is told has a token that none of the locks has
-abbrev pub TellsNewToken : LockMap → List Reply → Type 0
-TellsNewToken locks told =
-    (p : PathValue) (l : LockValue) → EndsWith told (Lock p l) → IsNewToken locks l.token
+-- where a word is used up, none of the locks has the token of it
+abbrev pub IsNewWord : LockMap → Env → Env → Type 0
+IsNewWord locks env after =
+    after ≡ env_without_token env → IsNewToken locks (token_text env.token)
 
--- at each event of a run the lock that is made, if there is one, has a token that none of the locks
--- has which stand then
+-- at each event of a run that uses up a word, its token is one that none of the locks has which
+-- stand then
 abbrev pub MakesNewTokens : (old : HubState) (env : Env) (events : List Event) (told : List Reply)
     (new : HubState) (after : Env) → HubRun old env events told new after → Type 0
 MakesNewTokens old env [] told new after run = Unit {0}
 MakesNewTokens old env (e ∷ es) told new after (first, mid, between, more, step, run, is_told) =
-    TellsNewToken old.content.locks first × MakesNewTokens mid between es more new after run
+    IsNewWord old.content.locks env between × MakesNewTokens mid between es more new after run
 
 -- and so at each event of a call
 abbrev pub CallMakesNewTokens : (old : HubState) (call : Call) (outcome : Outcome) (new : HubState)
@@ -217,7 +190,7 @@ CallMakesNewTokens old (Feed n piece env) (Wrote out) new step =
     MakesNewTokens (with_rest old n f.session f.rest) env f.events f.told new f.env_after f.run
 CallMakesNewTokens old (Feed n piece env) (Failed NoMemory) new step =
     let b = step.1 in
-    MakesNewTokens (with_rest old n b.session b.rest) env (b.events ++ Drops n ∷ []) b.told new
+    MakesNewTokens (with_rest old n b.session b.rest) env (b.events ++ ends_of n b.left) b.told new
     b.env_after b.run
 CallMakesNewTokens old (Feed n piece env) (Failed NoSession) new step = Unit {0}
 CallMakesNewTokens old (Feed n piece env) (Failed Halted) new step = Unit {0}

@@ -1,5 +1,7 @@
 pub mod State
 pub mod Runs
 pub mod Calls
+pub mod Asked
 pub mod Laws
+pub mod Done
 pub mod SessionLaws

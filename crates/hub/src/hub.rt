@@ -172,6 +172,7 @@ impl<A: SoleAccess> Hub<A> {
         ensures content { content_of (A.point result.now) ≡ self.now.content }
         ensures halted { (A.point result.now).halted ≡ self.now.halted }
         ensures failures { (A.point result.now).failures ≡ self.now.failures }
+        ensures pending { (A.point result.now).pending ≡ self.now.pending }
     {
         &self.access
     }

@@ -1,20 +1,37 @@
 //! What holds of every run of a hub. The functions do nothing: their contracts are the laws.
-ghost use Rattle.std.specs.Prelude.{◌<◌, ◌≤◌, ◌+◌, ◌≡◌, ◌⊎◌, ◌++◌, ℕ, true, false, List, length};
-ghost use Rattle.repo_api.specs.States.{RepoState, IsBeginning, trees_in};
-ghost use Rattle.repo_api.specs.Accepted.{Accepted, AreAccepted, changed_all};
+ghost use Rattle.std.specs.Prelude.{◌<◌, ◌≤◌, ◌+◌, ◌≡◌, ◌++◌, [], ℕ, Ok, Option, Some, true, false, List, length};
+ghost use Rattle.repo_api.specs.States.{TxnState, RepoState, IsBeginning, trees_in};
+ghost use Rattle.repo_api.specs.Accepted.{Accepted};
+ghost use Rattle.repo_api.specs.Accepted.Accepted.{Commits, Releases, ChangesProperty};
 ghost use Rattle.repo_api.specs.LockRuns.{HaveOwnTokens};
+ghost use Rattle.repo_api.specs.Locking.{HandedTokens};
 ghost use Rattle.repo_api.specs.Marks.{AreMarked};
 ghost use Rattle.repo_api.specs.Opening.{new_repository};
 ghost use Rattle.repo_api.specs.Soundness.{AreTrees, AreSound};
+ghost use Rattle.repo_api.specs.declared.ask.CommitAsk.{CommitAsk};
+ghost use Rattle.commands.specs.Commands.{main_command};
+ghost use Rattle.commands.specs.declared.command.MainCommand.TheVariants.{ChangeRevProp};
+ghost use Rattle.commands.specs.declared.command.ChangeRevPropCommand.{ChangeRevPropCommand};
+ghost use Rattle.edit_commands.specs.Editing.{editor_command};
+ghost use Rattle.edit_commands.specs.declared.editing.EditorCommand.TheVariants.{CloseEdit};
+ghost use Rattle.edit_rules.specs.Editor.{finished};
+ghost use Rattle.items.specs.Values.{ItemValue};
 ghost use Rattle.replies.specs.declared.reply.Reply.{Reply};
-ghost use Rattle.access.specs.Points.{last_count};
+ghost use Rattle.access.specs.Points.{Point, content_of, last_count};
 ghost use Rattle.machine.specs.Hearing.{Input, Yields};
+ghost use Rattle.machine.specs.Hearing.Input.{Whole};
+ghost use Rattle.machine.specs.Machine.{MachineEdit};
 ghost use Rattle.machine.specs.Settings.{Settings};
-ghost use Rattle.hub.specs.Laws.{TellsFailure, IsToldChange, told_changes, KeepsConstants, KeepsProperties, KeepsOtherProperties, IsUnbroken, new_hub, OverwritesNothing, KeepsAll, RespectLocks, MakesNewTokens, CallsMakeNewTokens};
+ghost use Rattle.machine.specs.Stages.{SessionState};
 ghost use Rattle.machine.specs.declared.env.Env.{Env};
-ghost use Rattle.hub.specs.State.{HubState, HasTrees};
-ghost use Rattle.hub.specs.Runs.{Event, HubStep, HubRun};
-ghost use Rattle.hub.specs.Calls.{CallStep, CallRun};
+ghost use Rattle.machine.specs.declared.phase.Client.{Client};
+ghost use Rattle.machine.specs.declared.phase.Phase.TheVariants.{Serving, Editing};
+ghost use Rattle.hub.specs.Laws.{TellsFailure, KeepsConstants, KeepsProperties, KeepsOtherProperties, IsUnbroken, new_hub, AllKeepSides, RespectLocks, MakesNewTokens, CallsMakeNewTokens};
+ghost use Rattle.hub.specs.Asked.{IsAsked};
+ghost use Rattle.hub.specs.Done.{GoesOnBy, HasDone, HaveDone, CallsHaveDone};
+ghost use Rattle.hub.specs.State.{HubState, HasTrees, hub_at, session_of};
+ghost use Rattle.hub.specs.Runs.{Event, HubStep, HubRun, with_rest};
+ghost use Rattle.hub.specs.Calls.{CallRun};
 ghost use Rattle.hub.specs.declared.calls.Call.{Call};
 ghost use Rattle.hub.specs.declared.calls.Outcome.{Outcome};
 
@@ -30,58 +47,84 @@ pub fn one_revision_an_event()
         → HubStep old env event told new after → length new.content.revisions ≤ length old.content.revisions + 1 }
 {}
 
-/// An event that is answered by a failure leaves the repository as it was; and what changes it is
-/// a commit, a lock, an unlock or a change of a property of a revision that the rules accept, and
-/// that is told: of a commit its number, its date, its author, and whether the release of its
-/// locks, which comes behind it, has failed.
+/// An event that is answered by a failure leaves the repository as it was.
 pub fn refused_changes_nothing()
-    ensures refused { (old new : HubState) (env after : Env) (event : Event) (told : List Reply)
+    ensures { (old new : HubState) (env after : Env) (event : Event) (told : List Reply)
         → HubStep old env event told new after → TellsFailure told → new.content ≡ old.content }
-    ensures changed { (old new : HubState) (env after : Env) (event : Event) (told : List Reply)
-        → HubStep old env event told new after
-        → (new.content ≡ old.content) ⊎ IsToldChange old.content told new.content }
 {}
 
-/// Whatever happens, and whatever calls come, the repository has gone on by changes that the rules accept, one after
-/// another, and by nothing else.
-pub fn only_accepted_changes()
-    ensures events { (old new : HubState) (env after : Env) (events : List Event) (told : List Reply)
-        → HubRun old env events told new after
-        → (changes : List Accepted) × AreAccepted old.content changes
-        × (new.content ≡ changed_all old.content changes) }
-    ensures calls { (old new : HubState) (calls : List Call) (outcomes : List Outcome)
-        → CallRun old calls outcomes new
-        → (changes : List Accepted) × AreAccepted old.content changes
-        × (new.content ≡ changed_all old.content changes) }
-{}
-
-/// Accepted changes respect locks, those of an event, and those by which the repository has gone on, whatever happens
-/// and whatever calls come: each lock in the way of a commit among them is its user's, and its token was handed in; at
-/// a path that no change names the lock stays as it was; and where no two locks have one token, and each new lock has a
-/// token that none has then, no two come to have one.
-pub fn locks_are_respected()
+/// What an event does to the repository is what its own session has asked for, and is told: a commit is of the
+/// transaction that this session has open, by its user, with the tokens that it handed in, and where every tree is a
+/// tree, it overwrites nothing that was changed since its base; a change of a property is the one of its command; and a
+/// lock has the token of the word that was handed in, which is used up. Where changes come to a halt, the one that was
+/// being saved is known: the event's own session asked for it, and the rules accept it.
+pub fn changes_are_asked_for()
     ensures event { (old new : HubState) (env after : Env) (event : Event) (told : List Reply)
         → HubStep old env event told new after
-        → (new.content ≡ old.content) ⊎ ((change : IsToldChange old.content told new.content)
-        × RespectLocks old.content (told_changes old.content told new.content change) new.content) }
+        → (changes : List Accepted) × HasDone old env event changes told new after }
     ensures events { (old new : HubState) (env after : Env) (events : List Event) (told : List Reply)
-        → HubRun old env events told new after
-        → (changes : List Accepted) × AreAccepted old.content changes
-        × (new.content ≡ changed_all old.content changes)
-        × RespectLocks old.content changes new.content }
+        (run : HubRun old env events told new after)
+        → (changes : List Accepted) × HaveDone old env events told new after run changes }
     ensures calls { (old new : HubState) (calls : List Call) (outcomes : List Outcome)
-        → CallRun old calls outcomes new
-        → (changes : List Accepted) × AreAccepted old.content changes
-        × (new.content ≡ changed_all old.content changes)
-        × RespectLocks old.content changes new.content }
+        (run : CallRun old calls outcomes new)
+        → (changes : List Accepted) × CallsHaveDone old calls outcomes new run changes }
 {
+    machine::steps_keep_trees();
+    repo_api::commits_keep_both_sides();
+}
+
+/// What is not the session's own is not asked for: a commit of another transaction than that of its edit, at another
+/// command than the edit's end, by another user, or with other tokens than were handed in; a release of other locks;
+/// and a change of a property by another command than one that names it so.
+pub fn nothing_else_is_asked_for()
+    ensures commit { (env : Env) (edit : MachineEdit) (t : ItemValue) (ask : CommitAsk) (txn : TxnState)
+        → IsAsked env (Editing edit) (Whole t) (Commits ask txn)
+        → (editor_command t ≡ Ok CloseEdit) × (finished edit.editor ≡ Ok txn)
+        × (ask.author ≡ edit.client.user) × (ask.tokens ≡ edit.asked.tokens) }
+    ensures release { (env : Env) (edit : MachineEdit) (t : ItemValue) (user : Option (List ℕ)) (tokens : HandedTokens)
+        → IsAsked env (Editing edit) (Whole t) (Releases user tokens)
+        → (user ≡ edit.client.user) × (tokens ≡ edit.asked.tokens) }
+    ensures property { (env : Env) (client : Client) (t : ItemValue) (n : ℕ) (name : List ℕ) (value : Option (List ℕ))
+        → IsAsked env (Serving client) (Whole t) (ChangesProperty n name value)
+        → (change : ChangeRevPropCommand) × (main_command t ≡ Ok (ChangeRevProp change))
+        × (n ≡ change.revision) × (name ≡ change.name) × (value ≡ change.value) }
+    ensures within_edit { (env : Env) (edit : MachineEdit) (t : ItemValue) (n : ℕ) (name : List ℕ) (value : Option (List ℕ))
+        → IsAsked env (Editing edit) (Whole t) (ChangesProperty n name value) → ⊥ }
+{}
+
+/// Whatever happens, and whatever calls come, the repository has gone on by the changes that were asked for, each
+/// accepted in the state that those before it make, and by nothing else.
+pub fn only_accepted_changes()
+    ensures events { (old new : HubState) (env after : Env) (events : List Event) (told : List Reply)
+        (run : HubRun old env events told new after) (changes : List Accepted)
+        → HaveDone old env events told new after run changes → GoesOnBy old.content changes new.content }
+    ensures calls { (old new : HubState) (calls : List Call) (outcomes : List Outcome)
+        (run : CallRun old calls outcomes new) (changes : List Accepted)
+        → CallsHaveDone old calls outcomes new run changes → GoesOnBy old.content changes new.content }
+{}
+
+/// Changes that were asked for respect locks, at an event, whatever happens, and whatever calls come: each lock in the
+/// way of a commit among them is its user's, and its token was handed in; at a path that no change names the lock stays
+/// as it was; and where no two locks have one token, and each new lock has a token that none has then, no two come to
+/// have one.
+pub fn locks_are_respected()
+    ensures event { (old new : HubState) (env after : Env) (event : Event) (changes : List Accepted) (told : List Reply)
+        → HasDone old env event changes told new after → RespectLocks old.content changes new.content }
+    ensures events { (old new : HubState) (env after : Env) (events : List Event) (told : List Reply)
+        (run : HubRun old env events told new after) (changes : List Accepted)
+        → HaveDone old env events told new after run changes → RespectLocks old.content changes new.content }
+    ensures calls { (old new : HubState) (calls : List Call) (outcomes : List Outcome)
+        (run : CallRun old calls outcomes new) (changes : List Accepted)
+        → CallsHaveDone old calls outcomes new run changes → RespectLocks old.content changes new.content }
+{
+    only_accepted_changes();
     pathlocks::accepted_commits_hold_locks();
     pathlocks::unnamed_locks_stay();
     pathlocks::tokens_stay_distinct();
 }
 
-/// Where no two locks have one token, as in a new hub, and each lock that is made has a token that none has which
-/// stands then, no two locks come to have one, whatever happens, and whatever calls come.
+/// Where no two locks have one token, as in a new hub, and each word that is used up by a lock has a token that none has
+/// which stands then, no two locks come to have one, whatever happens, and whatever calls come.
 pub fn no_two_locks_have_one_token()
     ensures at_first { (settings : Settings) (uuid : ℕ) (date : List ℕ)
         → HaveOwnTokens (new_hub settings uuid date).content.locks }
@@ -113,25 +156,19 @@ pub fn constants_stay()
         → CallRun old calls outcomes new → KeepsConstants old new }
 {}
 
-/// Properties of revisions that are there stay the same, but for those that accepted changes name:
-/// at an event the change that is told, and whatever happens, and whatever calls come, those by
-/// which the repository has gone on. Where clients may not change them, all stay the same.
+/// Properties of revisions that are there stay the same, but for those that were asked to be changed: at an event,
+/// whatever happens, and whatever calls come. Where clients may not change them, all stay the same.
 pub fn revision_properties_stay()
-    ensures event { (old new : HubState) (env after : Env) (event : Event) (told : List Reply)
-        → HubStep old env event told new after
-        → (new.content ≡ old.content) ⊎ ((change : IsToldChange old.content told new.content)
-        × KeepsOtherProperties old.content (told_changes old.content told new.content change)
-        new.content) }
-    ensures events { (old new : HubState) (env after : Env) (events : List Event)
-        (told : List Reply) → HubRun old env events told new after
-        → (changes : List Accepted) × AreAccepted old.content changes
-        × (new.content ≡ changed_all old.content changes)
-        × KeepsOtherProperties old.content changes new.content }
+    ensures event { (old new : HubState) (env after : Env) (event : Event) (changes : List Accepted) (told : List Reply)
+        → HasDone old env event changes told new after → KeepsOtherProperties old.content changes new.content }
+    ensures events { (old new : HubState) (env after : Env) (events : List Event) (told : List Reply)
+        (run : HubRun old env events told new after) (changes : List Accepted)
+        → HaveDone old env events told new after run changes
+        → KeepsOtherProperties old.content changes new.content }
     ensures calls { (old new : HubState) (calls : List Call) (outcomes : List Outcome)
-        → CallRun old calls outcomes new
-        → (changes : List Accepted) × AreAccepted old.content changes
-        × (new.content ≡ changed_all old.content changes)
-        × KeepsOtherProperties old.content changes new.content }
+        (run : CallRun old calls outcomes new) (changes : List Accepted)
+        → CallsHaveDone old calls outcomes new run changes
+        → KeepsOtherProperties old.content changes new.content }
     ensures closed_events { (old new : HubState) (env after : Env) (events : List Event)
         (told : List Reply) → old.settings.revprops ≡ false → HubRun old env events told new after
         → KeepsProperties old.content new.content }
@@ -139,6 +176,7 @@ pub fn revision_properties_stay()
         → old.settings.revprops ≡ false → CallRun old calls outcomes new
         → KeepsProperties old.content new.content }
 {
+    only_accepted_changes();
     repo_api::changes_of_properties_keep_revisions();
 }
 
@@ -160,14 +198,16 @@ pub fn halts_are_counted()
         → old.failures < last_count → new.failures ≡ old.failures → new.halted ≡ old.halted }
 {}
 
-/// After a halt nothing changes the repository any more, and it stays so.
+/// After a halt nothing changes the repository any more, it stays so, and what was being saved then stays known.
 pub fn a_halt_stays()
     ensures events { (old new : HubState) (env after : Env) (events : List Event) (told : List Reply)
         → HubRun old env events told new after
-        → old.halted ≡ true → (new.halted ≡ true) × (new.content ≡ old.content) }
+        → old.halted ≡ true → (new.halted ≡ true) × (new.content ≡ old.content)
+        × (new.pending ≡ old.pending) }
     ensures calls { (old new : HubState) (calls : List Call) (outcomes : List Outcome)
         → CallRun old calls outcomes new
-        → old.halted ≡ true → (new.halted ≡ true) × (new.content ≡ old.content) }
+        → old.halted ≡ true → (new.halted ≡ true) × (new.content ≡ old.content)
+        × (new.pending ≡ old.pending) }
 {}
 
 /// What a stream brings does not depend on how it is cut: what the first part brings comes first, and then
@@ -179,26 +219,31 @@ pub fn cut_anywhere()
 {}
 
 /// Every tree is a tree, those of the revisions and those of the open edits: where it is so, it stays so, whatever
-/// happens, and whatever calls come.
+/// happens, whatever has come of a stream, and whatever calls come.
 pub fn trees_stay_trees()
     ensures events { (old new : HubState) (env after : Env) (events : List Event) (told : List Reply)
         → HasTrees old → HubRun old env events told new after → HasTrees new }
+    ensures streams { (old : HubState) (n : ℕ) (session : SessionState) (rest : List ℕ)
+        → session_of old.sessions n ≡ Some session → HasTrees old → HasTrees (with_rest old n session rest) }
     ensures calls { (old new : HubState) (calls : List Call) (outcomes : List Outcome)
         → HasTrees old → CallRun old calls outcomes new → HasTrees new }
 {
     machine::steps_keep_trees();
 }
 
-/// A commit never overwrites what was changed since its base: where every tree is a tree, an event
-/// changes no more than locks, or than the properties of one revision, or makes a commit that keeps
-/// what was changed on either side, and behind it changes no more than locks.
-pub fn nothing_is_overwritten()
-    ensures { (old new : HubState) (env after : Env) (event : Event) (told : List Reply)
-        → HasTrees old → HubStep old env event told new after → OverwritesNothing old.content new.content }
+/// A commit never overwrites what was changed since its base, by others or by its transaction, whatever happens to a
+/// hub in which every tree is a tree, and whatever it is called for.
+pub fn commits_overwrite_nothing()
+    ensures events { (old new : HubState) (env after : Env) (events : List Event) (told : List Reply)
+        (run : HubRun old env events told new after) (changes : List Accepted)
+        → HaveDone old env events told new after run changes → HasTrees old
+        → AllKeepSides old.content changes }
+    ensures calls { (old new : HubState) (calls : List Call) (outcomes : List Outcome)
+        (run : CallRun old calls outcomes new) (changes : List Accepted)
+        → CallsHaveDone old calls outcomes new run changes → HasTrees old
+        → AllKeepSides old.content changes }
 {
     machine::steps_keep_trees();
-    repo_api::commits_keep_both_sides();
-    repo_api::changes_of_properties_keep_revisions();
 }
 
 /// The trees of a new repository are sound: a hub may be made over it.
@@ -210,61 +255,35 @@ pub fn new_repositories_are_sound()
     repo_api::opening_is_marked();
 }
 
-/// In a hub that is new over a new repository every tree is a tree.
+/// Every tree is a tree in a hub to which nobody has connected yet, over a new repository, or over one whose trees are
+/// sound.
 pub fn new_trees_are_trees()
-    ensures { (settings : Settings) (uuid : ℕ) (date : List ℕ)
+    ensures of_new { (settings : Settings) (uuid : ℕ) (date : List ℕ)
         → HasTrees (new_hub settings uuid date) }
+    ensures of_sound { (settings : Settings) (point : Point) → AreSound (content_of point).revisions
+        → HasTrees (hub_at settings point [] 0) }
 {
     new_repositories_are_sound();
 }
 
-/// The tree of each revision is a tree, whatever happens to a new hub, and whatever it is called for.
+/// The tree of each revision is a tree, whatever happens to a hub in which every tree is one, and whatever it is called
+/// for.
 pub fn revisions_are_trees()
-    ensures events { (settings : Settings) (uuid : ℕ) (date : List ℕ)
-        (env after : Env) (events : List Event) (told : List Reply) (new : HubState)
-        → HubRun (new_hub settings uuid date) env events told new after
-        → AreTrees new.content.revisions }
-    ensures calls { (settings : Settings) (uuid : ℕ) (date : List ℕ)
-        (calls : List Call) (outcomes : List Outcome) (new : HubState)
-        → CallRun (new_hub settings uuid date) calls outcomes new
-        → AreTrees new.content.revisions }
+    ensures events { (old new : HubState) (env after : Env) (events : List Event) (told : List Reply)
+        → HasTrees old → HubRun old env events told new after → AreTrees new.content.revisions }
+    ensures calls { (old new : HubState) (calls : List Call) (outcomes : List Outcome)
+        → HasTrees old → CallRun old calls outcomes new → AreTrees new.content.revisions }
 {
     trees_stay_trees();
-    new_trees_are_trees();
 }
 
-/// Marks name what they mark, whatever happens to a new hub: in the tree of each revision no mark is open, a `last`
+/// Marks name what they mark, whatever happens to such a hub: in the tree of each revision no mark is open, a `last`
 /// names all that is at and under its path, and an `own` the kind, the properties and the text there.
 pub fn marks_name_what_they_mark()
-    ensures events { (settings : Settings) (uuid : ℕ) (date : List ℕ)
-        (env after : Env) (events : List Event) (told : List Reply) (new : HubState)
-        → HubRun (new_hub settings uuid date) env events told new after
-        → AreMarked (trees_in new.content.revisions) }
-    ensures calls { (settings : Settings) (uuid : ℕ) (date : List ℕ)
-        (calls : List Call) (outcomes : List Outcome) (new : HubState)
-        → CallRun (new_hub settings uuid date) calls outcomes new
-        → AreMarked (trees_in new.content.revisions) }
+    ensures events { (old new : HubState) (env after : Env) (events : List Event) (told : List Reply)
+        → HasTrees old → HubRun old env events told new after → AreMarked (trees_in new.content.revisions) }
+    ensures calls { (old new : HubState) (calls : List Call) (outcomes : List Outcome)
+        → HasTrees old → CallRun old calls outcomes new → AreMarked (trees_in new.content.revisions) }
 {
     trees_stay_trees();
-    new_trees_are_trees();
-}
-
-/// A commit never overwrites what was changed since its base, whatever has happened to the hub since it was new: not
-/// at an event, and not at a call, which may make several commits.
-pub fn commits_overwrite_nothing()
-    ensures events { (settings : Settings) (uuid : ℕ) (date : List ℕ)
-        (env between : Env) (events : List Event) (told : List Reply) (old : HubState)
-        → HubRun (new_hub settings uuid date) env events told old between
-        → (words after : Env) (event : Event) (answer : List Reply) (new : HubState)
-        → HubStep old words event answer new after
-        → OverwritesNothing old.content new.content }
-    ensures calls { (settings : Settings) (uuid : ℕ) (date : List ℕ)
-        (calls : List Call) (outcomes : List Outcome) (old : HubState)
-        → CallRun (new_hub settings uuid date) calls outcomes old
-        → (call : Call) (outcome : Outcome) (new : HubState) → CallStep old call outcome new
-        → (states : List RepoState) × KeepsAll old.content states new.content }
-{
-    trees_stay_trees();
-    nothing_is_overwritten();
-    new_trees_are_trees();
 }

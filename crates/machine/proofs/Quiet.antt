@@ -132,31 +132,31 @@ quiet_greeting s env (Err fault) = ending s env _
 quiet_change : (s : Settings) (env : Env) (client : Client) (e : Accepted) (told : List Reply) (v : Verdict) → keeps_revisions e ≡ true → IsQuiet s (change_answer env client e told v)
 quiet_change s env client e told Written of = record { kept = (of, tt); new = tt }
 quiet_change s env client e told NotWritten of = record { kept = tt; new = tt }
-quiet_change s env client e told Unknown of = record { kept = tt; new = tt }
+quiet_change s env client e told (Unknown x) of = record { kept = tt; new = tt }
 
-quiet_step : (s : Settings) (halted : Bool) (env : Env) (client : Client) (r : Option Refusal) (answer : Verdict → Answer) (a : Answer)
-    → ((v : Verdict) → IsQuiet s (answer v)) → ChangeStep halted env client r answer a → IsQuiet s a
-quiet_step s true env client r answer a quiet is = quiet_is s a _ is (ending s env _)
-quiet_step s false env client (Some r) answer a quiet is = quiet_is s a _ is (plain s env client _)
-quiet_step s false env client None answer a quiet (v, is) = quiet_is s a _ is (quiet v)
+quiet_step : (s : Settings) (halted : Bool) (env : Env) (client : Client) (r : Option Refusal) (e : Accepted) (answer : Verdict → Answer) (a : Answer)
+    → ((v : Verdict) → IsQuiet s (answer v)) → ChangeStep halted env client r e answer a → IsQuiet s a
+quiet_step s true env client r e answer a quiet is = quiet_is s a _ is (ending s env _)
+quiet_step s false env client (Some r) e answer a quiet is = quiet_is s a _ is (plain s env client _)
+quiet_step s false env client None e answer a quiet (v, may, is) = quiet_is s a _ is (quiet v)
 
 quiet_locked : (s : Settings) (env : Env) (client : Client) (ask : LockAsk) (v : Verdict) → IsQuiet s (lock_answer env client ask v)
 quiet_locked s env client ask Written = quiet_change s (env_without_token env) client (Locks ask) _ Written refl
 quiet_locked s env client ask NotWritten = quiet_change s env client (Locks ask) [] NotWritten refl
-quiet_locked s env client ask Unknown = quiet_change s env client (Locks ask) [] Unknown refl
+quiet_locked s env client ask (Unknown x) = quiet_change s env client (Locks ask) [] (Unknown x) refl
 
 quiet_lock : (s : Settings) (halted : Bool) (env : Env) (c : RepoState) (client : Client) (command : LockCommand) (path : Result PathValue PathFault) (a : Answer)
     → LockStep halted env c client command path a → IsQuiet s a
 quiet_lock s halted env c client command (Ok path) a (date, is_date, step) =
     let ask = lock_ask env client command path date in
-    quiet_step s halted env client (lock_refusal c ask) (lock_answer env client ask) a (quiet_locked s env client ask) step
+    quiet_step s halted env client (lock_refusal c ask) (Locks ask) (lock_answer env client ask) a (quiet_locked s env client ask) step
 quiet_lock s halted env c client command (Err fault) a is = quiet_is s a _ is (plain s env client _)
 
 quiet_unlock : (s : Settings) (halted : Bool) (env : Env) (c : RepoState) (client : Client) (command : UnlockCommand) (path : Result PathValue PathFault) (a : Answer)
     → UnlockStep halted env c client command path a → IsQuiet s a
 quiet_unlock s halted env c client command (Ok path) a step =
     let ask = unlock_ask client command path in
-    quiet_step s halted env client (unlock_refusal c ask) (change_answer env client (Unlocks ask) (replies.Success ∷ [])) a
+    quiet_step s halted env client (unlock_refusal c ask) (Unlocks ask) (change_answer env client (Unlocks ask) (replies.Success ∷ [])) a
     (λ v. quiet_change s env client (Unlocks ask) _ v refl) step
 quiet_unlock s halted env c client command (Err fault) a is = quiet_is s a _ is (plain s env client _)
 
@@ -165,7 +165,7 @@ quiet_property : (s : Settings) (may halted : Bool) (env : Env) (c : RepoState) 
 quiet_property s false halted env c client command a is = quiet_is s a _ is (plain s env client _)
 quiet_property s true halted env c client command a step =
     let change = ChangesProperty command.revision command.name command.value in
-    quiet_step s halted env client (property_refusal c command.revision command.name) (change_answer env client change (replies.Success ∷ [])) a
+    quiet_step s halted env client (property_refusal c command.revision command.name) change (change_answer env client change (replies.Success ∷ [])) a
     (λ v. quiet_change s env client change _ v refl) step
 
 -- ---- commands

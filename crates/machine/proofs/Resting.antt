@@ -25,9 +25,9 @@ use Rattle.machine.specs.Soundness.{MeetBy}
 use Rattle.machine.specs.Hearing.{Input}
 use Rattle.machine.specs.Hearing.Input.{Whole, Broken}
 use Rattle.machine.specs.Answers.{Verdict, Effect, Answer, content_after}
-use Rattle.machine.specs.Machine.{InputStep, MachineEdit, JudgedEdit, CommitStep, CloseStep, CommandStep, EditingStep, ending_of, commit_ask, release_effect, phase_after, CommittedStep}
+use Rattle.machine.specs.Machine.{InputStep, UnreleasedStep, MachineEdit, JudgedEdit, CommitStep, CloseStep, CommandStep, EditingStep, ending_of, commit_ask, release_effect, phase_after, CommittedStep}
 use Rattle.machine.specs.Answers.Verdict.{Written, NotWritten, Unknown}
-use Rattle.machine.specs.Steps.{input_step, StepAt, StepWritten, StepOrNothing, AddsAll, Stores, EffectAt}
+use Rattle.machine.specs.Steps.{input_step, unreleased_step, StepAt, StepWritten, StepOrPart, AddsAll, Stores, EffectAt}
 use Rattle.machine.specs.declared.commit_parameters.CommitParameters.{CommitParameters}
 use Rattle.machine.specs.declared.env.Env.{Env}
 use Rattle.machine.specs.declared.ending.Ending.{Ending}
@@ -128,13 +128,13 @@ rests_edits env c edit command (Some r) a rests is = rests_is c a _ is tt
 rests_phase : (c : RepoState) (client : Client) (v : Verdict) → EditRests (phase_after client v) c
 rests_phase c client Written = tt
 rests_phase c client NotWritten = tt
-rests_phase c client Unknown = tt
+rests_phase c client (Unknown e) = tt
 
 rests_committed : (env : Env) (c : RepoState) (client : Client) (ask : CommitAsk) (t : TxnState) (v : Verdict) (a : Answer)
     → CommittedStep env c client ask t v a → EditRests a.phase c
 rests_committed env c client ask t Written a (release, wanted, is) = rests_is c a _ is (rests_phase c client (release_effect ask release).store)
 rests_committed env c client ask t NotWritten a is = rests_is c a _ is tt
-rests_committed env c client ask t Unknown a is = rests_is c a _ is tt
+rests_committed env c client ask t (Unknown x) a is = rests_is c a _ is.1 tt
 
 rests_commit : (halted : Bool) (env : Env) (c : RepoState) (client : Client) (ask : CommitAsk) (t : TxnState)
     (r : Option Refusal) (a : Answer) → CommitStep halted env c client ask t r a → EditRests a.phase c
@@ -201,7 +201,7 @@ rests_on halted s env c phase input a rests step = rests_trans a.phase c (conten
 
 module _ (rules : AccessRules)
     (keeps : (p q : Point) → rules.between p q → IsBeginning (content_of p).revisions (content_of q).revisions)
-    (counts : (p : Point) (e : Accepted) (q : Point) → rules.adds p e q → (content_of q ≡ changed (content_of p) e) × (q.halted ≡ p.halted) × (q.failures ≡ p.failures)) where
+    (counts : (p : Point) (e : Accepted) (q : Point) → rules.adds p e q → (content_of q ≡ changed (content_of p) e) × (q.halted ≡ p.halted) × (q.failures ≡ p.failures) × (q.pending ≡ p.pending)) where
   added : (p : Point) (es : List Accepted) (q : Point) → AddsAll rules p es q → content_of q ≡ changed_all (content_of p) es
   added p [] q is = ap content_of is
   added p (e ∷ es) q (mid, first, rest) = added mid es q rest ∙ ap (λ (c : RepoState). changed_all c es) (counts p e mid first).0
@@ -209,15 +209,13 @@ module _ (rules : AccessRules)
   stored : (v : Verdict) (p q : Point) → Stores v p q → content_of q ≡ content_of p
   stored Written p q is = ap content_of is
   stored NotWritten p q failed = failed.same
-  stored Unknown p q halt = halt.same
+  stored (Unknown e) p q halt = halt.same
 
   pub moved : (p : Point) (e : Effect) (q : Point) → EffectAt rules p e q → content_of q ≡ content_after (content_of p) e
   moved p e q (mid, adds, stores) = stored e.store mid q stores ∙ added p e.changes mid adds
 
   -- a session goes on to rest on what is there, as others go on too
-  module _ (sound : (p q : Point) → rules.between p q → AreSound (content_of p).revisions → AreSound (content_of q).revisions)
-      (step_keeps : (halted : Bool) (s : Settings) (env : Env) (c : RepoState) (phase : Stage) (input : Input) (a : Answer)
-      → StandsOn phase c → InputStep halted s env c phase input a → StandsOn a.phase (content_after c a.effect) × MeetBy c a.effect.changes) where
+  module _ (sound : (p q : Point) → rules.between p q → AreSound (content_of p).revisions → AreSound (content_of q).revisions) where
     rests_later : (phase : Stage) (p q : Point) → rules.between p q → StandsOn phase (content_of p) → StandsOn phase (content_of q)
     rests_later phase p q later h = record {
       trees = sound p q later h.trees;
@@ -225,23 +223,38 @@ module _ (rules : AccessRules)
       sound = h.sound;
     }
 
-    rests_after : (s : Settings) (env : Env) (p q : Point) (phase : Stage) (input : Input) (a : Answer)
-        → StepAt rules (input_step s env phase input) p a q → StandsOn phase (content_of p) → StandsOn a.phase (content_of q)
-    rests_after s env p q phase input a h rests =
-        let before = rests_later phase p h.at h.later rests in
-        let here = (step_keeps h.at.halted s env (content_of h.at) phase input a before h.step_is).0 in
+    -- after a step that keeps what a session stands on
+    stands_after : (step : Point → Answer → Type 0) (p q : Point) (phase : Stage) (a : Answer)
+        → ((at : Point) → StandsOn phase (content_of at) → step at a → StandsOn a.phase (content_after (content_of at) a.effect))
+        → StepAt rules step p a q → StandsOn phase (content_of p) → StandsOn a.phase (content_of q)
+    stands_after step p q phase a keeps_it h rests =
+        let here = keeps_it h.at (rests_later phase p h.at h.later rests) h.step_is in
         subst (λ (c : RepoState). StandsOn a.phase c) (sym (moved h.at a.effect q h.moves)) here
 
-    pub rests_served : (s : Settings) (env env' : Env) (p q : Point) (phase after : Stage) (input : Input) (writes : List ℕ → Type 0)
-        → StepWritten rules (input_step s env phase input) p q after env' writes → StandsOn phase (content_of p) → StandsOn after (content_of q)
-    rests_served s env env' p q phase after input writes h rests =
-        subst (λ (x : Stage). StandsOn x (content_of q)) (sym h.phase_after) (rests_after s env p q phase input h.answer h.happens rests)
+    module _ (step_keeps : (halted : Bool) (s : Settings) (env : Env) (c : RepoState) (phase : Stage) (input : Input) (a : Answer)
+        → StandsOn phase c → InputStep halted s env c phase input a → StandsOn a.phase (content_after c a.effect) × MeetBy c a.effect.changes) where
+      rests_after : (s : Settings) (env : Env) (p q : Point) (phase : Stage) (input : Input) (a : Answer)
+          → StepAt rules (input_step s env phase input) p a q → StandsOn phase (content_of p) → StandsOn a.phase (content_of q)
+      rests_after s env p q phase input a =
+          stands_after (input_step s env phase input) p q phase a
+          (λ at h is. (step_keeps at.halted s env (content_of at) phase input a h is).0)
 
-    -- for want of memory the session has ended, and the repository is sound
-    pub trees_failed : (s : Settings) (env : Env) (p q : Point) (phase : Stage) (input : Input) (writes : List ℕ → Type 0)
-        → StepOrNothing rules (input_step s env phase input) p q writes → StandsOn phase (content_of p) → AreSound (content_of q).revisions
-    trees_failed s env p q phase input writes (inl (later, unwritten)) rests = sound p q later rests.trees
-    trees_failed s env p q phase input writes (inr (a, serves, part)) rests = (rests_after s env p q phase input a serves rests).trees
+      pub rests_served : (s : Settings) (env env' : Env) (p q : Point) (phase after : Stage) (input : Input) (writes : List ℕ → Type 0)
+          → StepWritten rules (input_step s env phase input) p q after env' writes → StandsOn phase (content_of p) → StandsOn after (content_of q)
+      rests_served s env env' p q phase after input writes h rests =
+          subst (λ (x : Stage). StandsOn x (content_of q)) (sym h.phase_after) (rests_after s env p q phase input h.answer h.happens rests)
+
+      -- for want of memory the session has ended, and the repository is sound
+      pub trees_failed : ((halted : Bool) (env : Env) (c : RepoState) (phase : Stage) (input : Input) (a : Answer)
+          → StandsOn phase c → UnreleasedStep halted env c phase input a → StandsOn a.phase (content_after c a.effect) × MeetBy c a.effect.changes)
+          → (s : Settings) (env : Env) (p q : Point) (phase : Stage) (input : Input) (writes : List ℕ → Type 0)
+          → StepOrPart rules (input_step s env phase input) (unreleased_step env phase input) p q writes
+          → StandsOn phase (content_of p) → AreSound (content_of q).revisions
+      trees_failed part_keeps s env p q phase input writes (inl (inl (later, unwritten))) rests = sound p q later rests.trees
+      trees_failed part_keeps s env p q phase input writes (inl (inr (a, serves, part))) rests = (rests_after s env p q phase input a serves rests).trees
+      trees_failed part_keeps s env p q phase input writes (inr (a, happens, unwritten)) rests =
+          (stands_after (unreleased_step env phase input) p q phase a
+          (λ at h is. (part_keeps at.halted env (content_of at) phase input a h is).0) happens rests).trees
 
 pub edit_rests_later : (rules : AccessRules) → ((p q : Point) → rules.between p q → IsBeginning (content_of p).revisions (content_of q).revisions)
     → (e : EditState) (p q : Point) → RestsOn e (content_of p) → rules.between p q → RestsOn e (content_of q)

@@ -30,8 +30,8 @@ use Rattle.machine.specs.Soundness.{MeetBy}
 use Rattle.machine.specs.Hearing.{Input}
 use Rattle.machine.specs.Hearing.Input.{Whole, Broken}
 use Rattle.machine.specs.Answers.{Verdict, Answer, content_after}
-use Rattle.machine.specs.Machine.{InputStep, MachineEdit, JudgedEdit, CommitStep, CloseStep, CommandStep, EditingStep, ending_of, commit_ask, Release, release_effect, phase_after, made_answer, CommittedStep}
-use Rattle.machine.specs.Machine.Release.{Stays, Released, Lacks, Fails}
+use Rattle.machine.specs.Machine.{InputStep, UnreleasedStep, MachineEdit, JudgedEdit, CommitStep, CloseStep, UnreleasedClose, CommandStep, EditingStep, ending_of, commit_ask, Release, release_effect, phase_after, made_answer, unreleased_answer, CommittedStep}
+use Rattle.machine.specs.Machine.Release.{Stays, Released, Fails}
 use Rattle.machine.specs.Answers.Verdict.{Written, NotWritten, Unknown}
 use Rattle.machine.specs.declared.commit_parameters.CommitParameters.{CommitParameters}
 use Rattle.machine.specs.declared.env.Env.{Env}
@@ -56,6 +56,14 @@ finished_is : (refused : Bool) (o : Option TxnState) (tokens : Tokens) (t : TxnS
 finished_is true o tokens t is = cc
 finished_is false None tokens t is = cc
 finished_is false (Some u) tokens t is = ap (λ (x : TxnState). Some x) (finished_is_it (has_unfinished tokens) u t is)
+
+-- the transaction that a sound edit ends with is sound
+pub finished_sound : (e : EditState) (t : TxnState) → IsSoundEdit e → finished e ≡ Ok t → IsSoundIn e.path (Some t) e.tokens
+finished_sound e t sound is = subst (λ (o : Option TxnState). IsSoundIn e.path o e.tokens) (finished_is e.refused e.txn e.tokens t is) sound
+
+-- and it has seen what its edit has
+finished_rests : (c : RepoState) (e : EditState) (t : TxnState) → RestsOn e c → finished e ≡ Ok t → IsBeginning t.shown c.revisions
+finished_rests c e t rests is = subst (λ (o : Option TxnState). RestsIn o c) (finished_is e.refused e.txn e.tokens t is) rests
 
 tree_within : (rs : List Revision) (n : ℕ) → AreTrees rs → n < length rs → IsTree (trees_in rs n)
 tree_within [] n trees lt = absurd (omega (arith, lt))
@@ -99,13 +107,12 @@ kept_leave c (Releases user tokens ∷ es) (of, more) trees =
 release_keeps : (ask : CommitAsk) (release : Release) → KeepRevisions (release_effect ask release).changes
 release_keeps ask Stays = tt
 release_keeps ask Released = (refl, tt)
-release_keeps ask Lacks = tt
-release_keeps ask (Fails v) = tt
+release_keeps ask Fails = tt
 
 sound_after : (client : Client) (v : Verdict) → EditIsSound (phase_after client v)
 sound_after client Written = tt
 sound_after client NotWritten = tt
-sound_after client Unknown = tt
+sound_after client (Unknown e) = tt
 
 module _ (begins : (path : PathValue) (name : List ℕ) → IsSoundEdit (new_edit path name))
     (goes_on : (c : RepoState) (old new : EditState) (command : EditorCommand) → AreSound c.revisions → RestsOn old c → IsSoundEdit old → edit_refusal c old command ≡ None → Applies c old command new → IsSoundEdit new)
@@ -148,28 +155,38 @@ module _ (begins : (path : PathValue) (name : List ℕ) → IsSoundEdit (new_edi
       → AreSound c.revisions → MeetWell (trees_in c.revisions) t.base (tree_of t.tree) (youngest c) → CommittedStep env c client ask t v a → LeavesTrees c a
   leaves_committed env c client ask t Written a trees w (release, wanted, is) = leaves_is c a _ is (leaves_made env c client ask t release trees w)
   leaves_committed env c client ask t NotWritten a trees w is = leaves_is c a _ is (trees, tt, tt)
-  leaves_committed env c client ask t Unknown a trees w is = leaves_is c a _ is (trees, tt, tt)
+  leaves_committed env c client ask t (Unknown x) a trees w is = leaves_is c a _ is.1 (trees, tt, tt)
 
-  leaves_commit : (halted : Bool) (env : Env) (c : RepoState) (client : Client) (ask : CommitAsk) (t : TxnState)
-      (r : Option Refusal) (a : Answer)
-      → AreSound c.revisions → IsBeginning t.shown c.revisions → IsMarkedTxn t → IsTree (tree_of t.tree)
-      → commit_refusal c ask t ≡ r
+  leaves_commit : (halted : Bool) (env : Env) (c : RepoState) (client : Client) (ask : CommitAsk) (t : TxnState) (r : Option Refusal) (a : Answer)
+      → AreSound c.revisions → (r ≡ None → MeetWell (trees_in c.revisions) t.base (tree_of t.tree) (youngest c))
       → CommitStep halted env c client ask t r a → LeavesTrees c a
-  leaves_commit true env c client ask t r a trees b m tree judged is = leaves_is c a _ is (trees, tt, tt)
-  leaves_commit false env c client ask t (Some r) a trees b m tree judged is = leaves_is c a _ is (trees, tt, tt)
-  leaves_commit false env c client ask t None a trees b m tree judged (v, step) =
-      let met = meets c ask t trees.1 (youngest_tree c t trees.0 b m) b m tree judged in
-      leaves_committed env c client ask t v a trees met step
+  leaves_commit true env c client ask t r a trees met is = leaves_is c a _ is (trees, tt, tt)
+  leaves_commit false env c client ask t (Some r) a trees met is = leaves_is c a _ is (trees, tt, tt)
+  leaves_commit false env c client ask t None a trees met (v, step) = leaves_committed env c client ask t v a trees (met refl) step
+
+  -- the transaction that an edit ends with meets the youngest revision well
+  ends_well : (c : RepoState) (edit : EditState) (ask : CommitAsk) (t : TxnState) → AreSound c.revisions → RestsOn edit c → IsSoundEdit edit → finished edit ≡ Ok t
+      → commit_refusal c ask t ≡ None → MeetWell (trees_in c.revisions) t.base (tree_of t.tree) (youngest c)
+  ends_well c edit ask t trees rests sound is accepted =
+      let s = finished_sound edit t sound is in
+      let b = finished_rests c edit t rests is in
+      meets c ask t trees.1 (youngest_tree c t trees.0 b s.2) b s.2 s.0 accepted
 
   leaves_close : (halted : Bool) (env : Env) (c : RepoState) (client : Client) (asked : CommitParameters) (edit : EditState) (r : Result TxnState Refusal) (a : Answer)
       → AreSound c.revisions → RestsOn edit c → IsSoundEdit edit → finished edit ≡ r → CloseStep halted env c client asked r a → LeavesTrees c a
   leaves_close halted env c client asked edit (Ok t) a trees rests sound is (date, is_date, step) =
-      let here : edit.txn ≡ Some t = finished_is edit.refused edit.txn edit.tokens t is in
-      let s : IsSoundIn (Some t) edit.tokens = subst (λ (o : Option TxnState). IsSoundIn o edit.tokens) here sound in
-      let b : IsBeginning t.shown c.revisions = subst (λ (o : Option TxnState). RestsIn o c) here rests in
       let ask = commit_ask client asked date in
-      leaves_commit halted env c client ask t (commit_refusal c ask t) a trees b s.2 s.0 refl step
+      leaves_commit halted env c client ask t (commit_refusal c ask t) a trees (ends_well c edit ask t trees rests sound is) step
   leaves_close halted env c client asked edit (Err r) a trees rests sound is step = leaves_is c a _ step (trees, tt, tt)
+
+  -- a commit whose session is gone before the release
+  leaves_unreleased : (halted : Bool) (env : Env) (c : RepoState) (client : Client) (asked : CommitParameters) (edit : EditState) (a : Answer)
+      → AreSound c.revisions → RestsOn edit c → IsSoundEdit edit → UnreleasedClose halted env c client asked (finished edit) a → LeavesTrees c a
+  leaves_unreleased halted env c client asked edit a trees rests sound u =
+      let ask = commit_ask client asked u.date in
+      let w = ends_well c edit ask u.txn trees rests sound u.txn_is u.accepted in
+      leaves_is c a (unreleased_answer env ask u.txn) u.is
+      ((trees_more c.revisions _ trees.0 (makes_tree c u.txn w), makes_marks c ask u.txn w), tt, (w, tt))
 
   leaves_told : (halted : Bool) (env : Env) (c : RepoState) (edit : MachineEdit) (command : EditorCommand) (ending : Option Ending) (a : Answer)
       → AreSound c.revisions → RestsOn edit.editor c → IsSoundEdit edit.editor → CommandStep halted env c edit command ending a → LeavesTrees c a
@@ -210,3 +227,20 @@ module _ (begins : (path : PathValue) (name : List ℕ) → IsSoundEdit (new_edi
   keeps_rests halted s env c phase input a h step =
       let kept = leaves_trees halted s env c phase input a h.trees h.rests h.sound step in
       (record { trees = kept.0; rests = rests_on halted s env c phase input a h.rests step; sound = kept.1 }, kept.2)
+
+  pub keeps_unreleased : (halted : Bool) (env : Env) (c : RepoState) (phase : Stage) (input : Input) (a : Answer)
+      → StandsOn phase c → UnreleasedStep halted env c phase input a
+      → StandsOn a.phase (content_after c a.effect) × MeetBy c a.effect.changes
+  keeps_unreleased halted env c (Editing edit) (Whole t) a h (ends, step) =
+      let kept = leaves_unreleased halted env c edit.client edit.asked edit.editor a h.trees h.rests h.sound step in
+      let over : a.phase ≡ Ended = ap (λ (x : Answer). x.phase) step.is in
+      (record { trees = kept.0; rests = subst (λ (x : Stage). EditRests x (content_after c a.effect)) (sym over) tt; sound = kept.1 }, kept.2)
+  keeps_unreleased halted env c (Editing edit) Broken a h step = absurd step
+  keeps_unreleased halted env c Greeted input a h step = absurd step
+  keeps_unreleased halted env c (LoggingIn login) input a h step = absurd step
+  keeps_unreleased halted env c (Challenged pending) input a h step = absurd step
+  keeps_unreleased halted env c (Serving client) input a h step = absurd step
+  keeps_unreleased halted env c (Skipping client) input a h step = absurd step
+  keeps_unreleased halted env c (Reporting reporting) input a h step = absurd step
+  keeps_unreleased halted env c (Driven client) input a h step = absurd step
+  keeps_unreleased halted env c Ended input a h step = absurd step

@@ -13,13 +13,12 @@ use Rattle.machine.specs.declared.env.Env.{Env}
 use Rattle.machine.specs.declared.phase.Phase.TheVariants.{Serving, Ended}
 use Rattle.machine.specs.declared.phase.Client.{Client}
 
--- what the store did with a change: it wrote it, it failed and nothing is written, or it failed so
--- that nobody knows,
--- and no change is made any more
+-- what the store did with a change: it wrote it; it failed, and nothing is written; or it failed as
+-- this change was being saved, nobody knows whether it is written, and no change is made any more
 pub data Verdict : Type 0 where
   Written : Verdict
   NotWritten : Verdict
-  Unknown : Verdict
+  Unknown : Accepted → Verdict
 
 -- what an input does to the repository: the changes that are accepted, one after another, and what
 -- the store did
@@ -37,17 +36,26 @@ content_after c effect = changed_all c effect.changes
 abbrev pub is_halt : Verdict → Bool
 is_halt Written = false
 is_halt NotWritten = false
-is_halt Unknown = true
+is_halt (Unknown e) = true
 
 -- whether changes have come to a halt, after an effect
 abbrev pub halted_after : Bool → Effect → Bool
 halted_after halted effect = halted || is_halt effect.store
 
+-- the change that was being saved when changes came to a halt, after what the store did
+abbrev pub pending_by : Option Accepted → Verdict → Option Accepted
+pending_by pending Written = pending
+pending_by pending NotWritten = pending
+pending_by pending (Unknown e) = Some e
+
+abbrev pub pending_after : Option Accepted → Effect → Option Accepted
+pending_after pending effect = pending_by pending effect.store
+
 -- the store's count of failures before and after: it rises where the store fails
 abbrev pub Counts : Verdict → ℕ → ℕ → Type 0
 Counts Written before after = after ≡ before
 Counts NotWritten before after = HasRisen before after
-Counts Unknown before after = HasRisen before after
+Counts (Unknown e) before after = HasRisen before after
 
 -- what an input does: the replies, where the session stands then, the words that are left, and the
 -- effect
@@ -85,21 +93,30 @@ change_answer env client e told NotWritten = record {
   env = env;
   effect = record { changes = []; store = NotWritten };
 }
-change_answer env client e told Unknown = record {
+change_answer env client e told (Unknown x) = record {
   replies = replies.Failure refusals.StoreFailed ∷ [];
   phase = Ended;
   env = env;
-  effect = record { changes = []; store = Unknown };
+  effect = record { changes = []; store = Unknown x };
 }
 
--- a change that was judged so: a refused one changes nothing, and once changes have come to a halt
--- none is made, whatever the rules say of it; one that is accepted is answered so, by what the store
--- says
-abbrev pub ChangeStep : Bool → Env → Client → Option Refusal → (Verdict → Answer) → Answer → Type 0
-ChangeStep true env client r answer a =
+-- what the store may say of a change that is one `replace` of a file: where that fails, nobody knows
+-- whether this very change is written
+abbrev pub IsOfReplace : Accepted → Verdict → Type 0
+IsOfReplace e Written = Unit {0}
+IsOfReplace e NotWritten = ⊥
+IsOfReplace e (Unknown x) = x ≡ e
+
+-- a change that is one `replace`, and was judged so: a refused one changes nothing, and once changes
+-- have come to a halt none is made, whatever the rules say of it; one that is accepted is answered
+-- so, by what the store says
+abbrev pub ChangeStep : Bool → Env → Client → Option Refusal → Accepted → (Verdict → Answer)
+    → Answer → Type 0
+ChangeStep true env client r e answer a =
     a ≡ says env Ended (replies.Failure refusals.StoreFailed ∷ [])
-ChangeStep false env client (Some r) answer a = a ≡ serves env client (replies.Failure r)
-ChangeStep false env client None answer a = (v : Verdict) × (a ≡ answer v)
+ChangeStep false env client (Some r) e answer a = a ≡ serves env client (replies.Failure r)
+ChangeStep false env client None e answer a =
+    (v : Verdict) × IsOfReplace e v × (a ≡ answer v)
 
 -- ---- what comes before
 

@@ -143,13 +143,13 @@ lock_answer env client ask Written =
     change_answer (env_without_token env) client (Locks ask)
     (replies.Lock ask.path (lock_of ask) ∷ []) Written
 lock_answer env client ask NotWritten = change_answer env client (Locks ask) [] NotWritten
-lock_answer env client ask Unknown = change_answer env client (Locks ask) [] Unknown
+lock_answer env client ask (Unknown x) = change_answer env client (Locks ask) [] (Unknown x)
 
 abbrev pub LockStep : Bool → Env → RepoState → Client → LockCommand → Result PathValue PathFault
     → Answer → Type 0
 LockStep halted env c client command (Ok path) a = (date : List ℕ) × IsDateText env.moment date
     × (let ask = lock_ask env client command path date in
-    ChangeStep halted env client (lock_refusal c ask) (lock_answer env client ask) a)
+    ChangeStep halted env client (lock_refusal c ask) (Locks ask) (lock_answer env client ask) a)
 LockStep halted env c client command (Err fault) a =
     a ≡ serves env client (replies.Failure (path_refusal fault))
 
@@ -157,7 +157,7 @@ abbrev pub UnlockStep : Bool → Env → RepoState → Client → UnlockCommand
     → Result PathValue PathFault → Answer → Type 0
 UnlockStep halted env c client command (Ok path) a =
     let ask = unlock_ask client command path in
-    ChangeStep halted env client (unlock_refusal c ask)
+    ChangeStep halted env client (unlock_refusal c ask) (Unlocks ask)
     (change_answer env client (Unlocks ask) (replies.Success ∷ [])) a
 UnlockStep halted env c client command (Err fault) a =
     a ≡ serves env client (replies.Failure (path_refusal fault))
@@ -169,7 +169,7 @@ UnlockStep halted env c client command (Err fault) a =
 abbrev pub RevisingStep : Bool → Env → RepoState → Client → ChangeRevPropCommand → Answer → Type 0
 RevisingStep halted env c client command a =
     let change = ChangesProperty command.revision command.name command.value in
-    ChangeStep halted env client (property_refusal c command.revision command.name)
+    ChangeStep halted env client (property_refusal c command.revision command.name) change
     (change_answer env client change (replies.Success ∷ [])) a
 
 -- where clients may not change them it is refused, whatever else would be said of it

@@ -92,43 +92,40 @@ commit_ask client asked date = record {
   keep_locks = asked.keep_locks;
 }
 
--- what becomes of the locks that were handed in with a commit: they stay, they are released, or
--- their release fails: for want of memory, or as the store says
+-- what becomes of the locks that were handed in with a commit: they stay, they are released, or the
+-- store fails at their release
 pub data Release : Type 0 where
   Stays : Release
   Released : Release
-  Lacks : Release
-  Fails : Verdict → Release
+  Fails : Release
 
 -- a release is tried exactly where it is wanted
 abbrev pub IsReleaseOf : Bool → Release → Type 0
 IsReleaseOf false Stays = Unit {0}
 IsReleaseOf false Released = ⊥
-IsReleaseOf false Lacks = ⊥
-IsReleaseOf false (Fails v) = ⊥
+IsReleaseOf false Fails = ⊥
 IsReleaseOf true Stays = ⊥
 IsReleaseOf true Released = Unit {0}
-IsReleaseOf true Lacks = Unit {0}
-IsReleaseOf true (Fails v) = Unit {0}
+IsReleaseOf true Fails = Unit {0}
 
 abbrev pub release_fails : Release → Bool
 release_fails Stays = false
 release_fails Released = false
-release_fails Lacks = true
-release_fails (Fails v) = true
+release_fails Fails = true
 
+-- a release is one `replace`: where the store fails at it, changes come to a halt
 abbrev pub release_effect : CommitAsk → Release → Effect
 release_effect ask Stays = no_effect
 release_effect ask Released =
     record { changes = Releases ask.author ask.tokens ∷ []; store = Written }
-release_effect ask Lacks = no_effect
-release_effect ask (Fails v) = record { changes = []; store = v }
+release_effect ask Fails =
+    record { changes = []; store = Unknown (Releases ask.author ask.tokens) }
 
 -- where a session stands after a change that was made, by what the store said last
 abbrev pub phase_after : Client → Verdict → Stage
 phase_after client Written = Serving client
 phase_after client NotWritten = Serving client
-phase_after client Unknown = Ended
+phase_after client (Unknown e) = Ended
 
 -- a commit that is made, and its release behind it
 abbrev pub made_answer : Env → RepoState → Client → CommitAsk → TxnState → Release → Answer
@@ -150,8 +147,8 @@ CommittedStep env c client ask t Written a =
     × (a ≡ made_answer env c client ask t release)
 CommittedStep env c client ask t NotWritten a =
     a ≡ change_answer env client (Commits ask t) [] NotWritten
-CommittedStep env c client ask t Unknown a =
-    a ≡ change_answer env client (Commits ask t) [] Unknown
+CommittedStep env c client ask t (Unknown x) a =
+    (x ≡ Commits ask t) × (a ≡ change_answer env client (Commits ask t) [] (Unknown x))
 
 -- a commit of this date that was judged so
 abbrev pub CommitStep : Bool → Env → RepoState → Client → CommitAsk → TxnState → Option Refusal
@@ -170,6 +167,31 @@ CloseStep halted env c client asked (Ok t) a = (date : List ℕ) × IsDateText e
     CommitStep halted env c client ask t (commit_refusal c ask t) a)
 CloseStep halted env c client asked (Err r) a =
     a ≡ says env (Serving client) (replies.Failure r ∷ [])
+
+-- ---- an end of an edit for which memory is refused
+
+-- the commit stands, and nothing is told of it: the session has ended
+abbrev pub unreleased_answer : Env → CommitAsk → TxnState → Answer
+unreleased_answer env ask t = record {
+  replies = [];
+  phase = Ended;
+  env = env;
+  effect = record { changes = Commits ask t ∷ []; store = Written };
+}
+
+-- the edit's transaction is committed, and memory is refused for the release that is wanted behind
+-- it: the locks stand, and the session ends
+pub record UnreleasedClose (halted : Bool) (env : Env) (c : RepoState) (client : Client)
+    (asked : CommitParameters) (r : Result TxnState Refusal) (a : Answer) : Type 0 where
+  pub txn : TxnState
+  pub txn_is : r ≡ Ok txn
+  pub date : List ℕ
+  pub is_date : IsDateText env.moment date
+  pub running : halted ≡ false
+  pub accepted : commit_refusal c (commit_ask client asked date) txn ≡ None
+  pub wanted : wants_release (commit_ask client asked date)
+      (committed c (commit_ask client asked date) txn) ≡ true
+  pub is : a ≡ unreleased_answer env (commit_ask client asked date) txn
 
 -- ---- a command within an edit
 
@@ -211,6 +233,13 @@ EditingStep halted env c edit (Err UnknownName) a =
 EditingStep halted env c edit (Err BadParameters) a = a ≡ malformed env
 EditingStep halted env c edit (Err NoMemory) a = a ≡ malformed env
 
+-- the command ends the edit, and memory is refused for the release behind its commit
+abbrev pub UnreleasedEnd : Bool → Env → RepoState → MachineEdit → Result EditorCommand CommandFault
+    → Answer → Type 0
+UnreleasedEnd halted env c edit r a =
+    (r ≡ Ok CloseEdit)
+    × UnreleasedClose halted env c edit.client edit.asked (finished edit.editor) a
+
 -- a command of an edit that was given up is read by its name alone, and draws no reply
 abbrev pub skipping_answer : Env → Client → Option Bool → Answer
 skipping_answer env client None = malformed env
@@ -247,3 +276,18 @@ InputStep halted s env c (Reporting reporting) Broken a = a ≡ malformed env
 InputStep halted s env c (Driven client) Broken a = a ≡ malformed env
 -- what comes after the end is dropped
 InputStep halted s env c Ended input a = a ≡ says env Ended []
+
+-- Where memory is refused for the release behind a commit, the input at which its session ends. (It
+-- is no step of a session that goes on: it may be the last that a session hears.)
+abbrev pub UnreleasedStep : Bool → Env → RepoState → Stage → Input → Answer → Type 0
+UnreleasedStep halted env c (Editing edit) (Whole t) a =
+    UnreleasedEnd halted env c edit (editor_command t) a
+UnreleasedStep halted env c (Editing edit) Broken a = ⊥
+UnreleasedStep halted env c Greeted input a = ⊥
+UnreleasedStep halted env c (LoggingIn login) input a = ⊥
+UnreleasedStep halted env c (Challenged pending) input a = ⊥
+UnreleasedStep halted env c (Serving client) input a = ⊥
+UnreleasedStep halted env c (Skipping client) input a = ⊥
+UnreleasedStep halted env c (Reporting reporting) input a = ⊥
+UnreleasedStep halted env c (Driven client) input a = ⊥
+UnreleasedStep halted env c Ended input a = ⊥

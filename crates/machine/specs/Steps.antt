@@ -1,7 +1,8 @@
 -- What becomes of a session's steps: each happens at one point of the repository, and its replies
 -- are written, or a
 -- part of them where memory or the sink fails.
-use Rattle.std.specs.Prelude.{◌≡◌, ◌⊎◌, ℕ, true, List, [], ◌∷◌, ◌++◌}
+use Rattle.std.specs.Prelude.{◌≡◌, ◌⊎◌, ℕ, true, List, [], ◌∷◌, ◌++◌, Option, Some, None}
+use Rattle.std.specs.Option.{option_to_list}
 use Rattle.repo_api.specs.Accepted.{Accepted}
 use Rattle.replies.specs.declared.reply.Reply.{Reply}
 use Rattle.replies.specs.Replies.{print}
@@ -13,7 +14,7 @@ use Rattle.machine.specs.Stages.{Stage, is_open}
 use Rattle.machine.specs.Settings.{Settings}
 use Rattle.machine.specs.Hearing.{Input, Yields, HasNoMore}
 use Rattle.machine.specs.Answers.{Verdict, Effect, Answer}
-use Rattle.machine.specs.Machine.{InputStep}
+use Rattle.machine.specs.Machine.{InputStep, UnreleasedStep}
 use Rattle.machine.specs.Answers.Verdict.{Written, NotWritten, Unknown}
 
 -- ---- at a point of the repository
@@ -27,7 +28,7 @@ AddsAll rules p (e ∷ es) q = (mid : Point) × rules.adds p e mid × AddsAll ru
 abbrev pub Stores : Verdict → Point → Point → Type 0
 Stores Written p q = q ≡ p
 Stores NotWritten p q = IsFailure p q
-Stores Unknown p q = IsHalt p q
+Stores (Unknown e) p q = IsHalt e p q
 
 -- from a point on to the next by an effect
 abbrev pub EffectAt : AccessRules → Point → Effect → Point → Type 0
@@ -45,6 +46,11 @@ pub record StepAt (rules : AccessRules) (step : Point → Answer
 -- what an input does at a point
 abbrev pub input_step : Settings → Env → Stage → Input → Point → Answer → Type 0
 input_step s env phase input at a = InputStep at.halted s env (content_of at) phase input a
+
+-- what it does at a point where memory is refused for the release behind a commit
+abbrev pub unreleased_step : Env → Stage → Input → Point → Answer → Type 0
+unreleased_step env phase input at a =
+    UnreleasedStep at.halted env (content_of at) phase input a
 
 -- one input after another
 abbrev pub SessionRun : AccessRules → Settings → Env → Point → Stage → List Input → List Reply → Env
@@ -83,6 +89,13 @@ StepOrNothing rules step p q writes =
     (rules.between p q × writes []) ⊎ ((a : Answer) × StepAt rules step p a q
     × WritesPart writes (print a.replies))
 
+-- so it is for want of memory or of the sink; or a part of the step has happened, and nothing was
+-- written
+abbrev pub StepOrPart : AccessRules → (Point → Answer → Type 0) → (Point → Answer → Type 0) → Point
+    → Point → (List ℕ → Type 0) → Type 0
+StepOrPart rules step part p q writes =
+    StepOrNothing rules step p q writes ⊎ ((a : Answer) × StepAt rules part p a q × writes [])
+
 -- the stream's inputs have happened, and their replies are written; a session that is still open
 -- leaves none
 pub record FeedWritten (rules : AccessRules) (s : Settings) (env : Env) (p : Point) (phase : Stage)
@@ -95,14 +108,25 @@ pub record FeedWritten (rules : AccessRules) (s : Settings) (env : Env) (p : Poi
   pub run : SessionRun rules s env p phase inputs told env_after q phase'
   pub written : writes (print told)
 
--- some of the stream's inputs have happened in order, and a part of their replies was written
+-- the last input of a session that is gone, if one was left: memory was refused for the release
+-- behind its commit
+abbrev pub Leaves : AccessRules → Env → Point → Stage → Option Input → Point → Type 0
+Leaves rules env p phase None q = q ≡ p
+Leaves rules env p phase (Some input) q =
+    (a : Answer) × StepAt rules (unreleased_step env phase input) p a q
+
+-- some of the stream's inputs have happened in order, and a part of their replies was written; then
+-- the session is gone, at once or by one more input, of which nothing is told
 pub record FeedLost (rules : AccessRules) (s : Settings) (env : Env) (p : Point) (phase : Stage)
     (stream : List ℕ) (q : Point) (writes : List ℕ → Type 0) : Type 0 where
   pub inputs : List Input
+  pub left : Option Input
   pub rest : List ℕ
-  pub yields : Yields stream inputs rest
+  pub yields : Yields stream (inputs ++ option_to_list left) rest
   pub told : List Reply
   pub env_after : Env
+  pub point_after : Point
   pub phase_after : Stage
-  pub run : SessionRun rules s env p phase inputs told env_after q phase_after
+  pub run : SessionRun rules s env p phase inputs told env_after point_after phase_after
+  pub leaves : Leaves rules env_after point_after phase_after left q
   pub written : WritesPart writes (print told)

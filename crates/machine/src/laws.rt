@@ -5,7 +5,7 @@ ghost use Rattle.machine.specs.Settings.{Settings};
 ghost use Rattle.machine.specs.Stages.{Stage, EditRests, StandsOn};
 ghost use Rattle.machine.specs.Soundness.{MeetBy};
 ghost use Rattle.machine.specs.Answers.{Answer, content_after};
-ghost use Rattle.machine.specs.Machine.{InputStep};
+ghost use Rattle.machine.specs.Machine.{InputStep, UnreleasedStep};
 ghost use Rattle.machine.specs.declared.env.Env.{Env};
 ghost use Rattle.machine.specs.Hearing.{Input, Yields, HasNoMore, EndsBroken};
 
@@ -32,10 +32,13 @@ pub fn steps_rest()
 
 /// Where every tree of the repository is a tree whose marks name what they mark, and so is the tree of the session's
 /// edit, which has seen revisions that are there, so it is after an input, and a commit that is accepted meets the
-/// youngest revision well.
+/// youngest revision well; and so too where memory is refused for the release behind it.
 pub fn steps_keep_trees()
-    ensures { (halted : Bool) (s : Settings) (env : Env) (c : RepoState) (phase : Stage) (input : Input) (a : Answer)
+    ensures step { (halted : Bool) (s : Settings) (env : Env) (c : RepoState) (phase : Stage) (input : Input) (a : Answer)
         → StandsOn phase c → InputStep halted s env c phase input a
+        → StandsOn a.phase (content_after c a.effect) × MeetBy c a.effect.changes }
+    ensures unreleased { (halted : Bool) (env : Env) (c : RepoState) (phase : Stage) (input : Input) (a : Answer)
+        → StandsOn phase c → UnreleasedStep halted env c phase input a
         → StandsOn a.phase (content_after c a.effect) × MeetBy c a.effect.changes }
 {
     edit_rules::edits_keep_trees();

@@ -1,14 +1,16 @@
 -- A copy makes a tree.
-use Rattle.std.proofs.Common.{◌≡◌, ◌<◌, ◌⊎◌, inl, inr, ℕ, Bool, true, false, List, [], ◌∷◌, ◌++◌, length, drop, map, None, refl, sym, ap, subst, append_assoc, append-nil, ◌∙◌}
+use Rattle.std.proofs.Common.{◌≡◌, ◌<◌, ◌≤◌, ◌⊎◌, inl, inr, ℕ, Bool, true, false, List, [], ◌∷◌, ◌++◌, length, drop, map, None, refl, sym, ap, subst, append_assoc, append-nil, ◌∙◌}
 use Rattle.std.proofs.lemmas.Bool.{false≢true}
 use Rattle.std.proofs.lemmas.List.{length-map, get_or-map}
-use Rattle.std.proofs.lemmas.List.Elements.{Contains-append_left, Contains-append_right}
-use Rattle.std.specs.Prelude.{if◌then◌else◌, IsSome, Contains}
+use Rattle.std.proofs.lemmas.List.Elements.{Contains-append_left, Contains-append_right, All-append, All-drop}
+use Rattle.std.specs.Prelude.{if◌then◌else◌, IsSome, Contains, All}
+use Rattle.svnpath.specs.Components.{IsComponent, IsRightPath}
 use Rattle.svnpath.specs.Paths.{PathValue, Component, is_at_or_under}
 use Rattle.svnpath.specs.PathLaws.{under_is, under_append, rest_append}
-use Rattle.repo_api.specs.Trees.{Tree, IsTree, HasDirectory}
+use Rattle.svnpath.specs.declared.component.TheConstants.{DEPTH_LIMIT}
+use Rattle.repo_api.specs.Trees.{Tree, IsTree, HasDirectory, text_of}
 use Rattle.repo_api.specs.Edits.{with_open_mark, touched_above, grafted, deleted, copy_of, copied}
-use Rattle.repo_api.proofs.Keeping.{IsDirectoryAt, renewed_directory, some_renewed, touched_directory, some_touched, root_outside, parent_outside, same_parent, deleted_tree}
+use Rattle.repo_api.proofs.Keeping.{IsDirectoryAt, renewed_directory, some_renewed, touched_directory, some_touched, text_touched, text_renewed, IsShort, no_text, root_outside, parent_outside, same_parent, deleted_tree}
 use Rattle.repo_api.proofs.Under.{not_true, under_by, head_or, tail_of}
 
 -- what begins the path of an entry begins its directory's path, or is the entry's path
@@ -32,6 +34,7 @@ beneath_or_at (d ∷ p) (e ∷ q) rest c is = by (beneath_or_at p q rest c (ap t
 -- a tree with a part at a path in a directory: the part's entries stand in directories, and are finitely many
 module _ (t : Tree) (p : PathValue) (c : Component) (part : Tree) (is : IsTree t) (has : HasDirectory t p)
     (part_parents : (d : PathValue) (e : Component) → IsSome (part (d ++ e ∷ [])) → IsDirectoryAt (part d))
+    (part_right : (d : PathValue) → IsSome (part d) → IsRightPath ((p ++ c ∷ []) ++ d)) (part_short : (d : PathValue) → IsShort (text_of (part d)))
     (ps : List PathValue) (all : (d : PathValue) → IsSome (part d) → Contains ps (p ++ c ∷ d)) where
   abbrev at : PathValue
   at = p ++ c ∷ []
@@ -93,11 +96,27 @@ module _ (t : Tree) (p : PathValue) (c : Component) (part : Tree) (is : IsTree t
           subst (Contains (ps ++ is.finite.0)) path (Contains-append_left ps is.finite.0 (p ++ c ∷ drop (length at) q) (all (drop (length at) q) (some_inside q under some)))
       by false out = Contains-append_right ps is.finite.0 q (is.finite.1 q (some_outside q out some))
 
+  right_at : (q : PathValue) → IsSome (grafted t at part q) → IsRightPath q
+  right_at q some = by (is_at_or_under q at) refl
+    where
+      by : (b : Bool) → is_at_or_under q at ≡ b → IsRightPath q
+      by true under = subst IsRightPath (sym (under_is q at under)) (part_right (drop (length at) q) (some_inside q under some))
+      by false out = is.right q (some_outside q out some)
+
+  short_at : (q : PathValue) → IsShort (text_of (grafted t at part q))
+  short_at q = by (is_at_or_under q at)
+    where
+      by : (b : Bool) → IsShort (text_of (if b then part (drop (length at) q) else touched_above at t q))
+      by true = part_short (drop (length at) q)
+      by false = λ text h. is.short q text (sym (text_touched (is_at_or_under at q) (t q)) ∙ h)
+
   pub grafted_tree : IsTree (grafted t at part)
   grafted_tree = record {
     root = outside_directory [] (root_outside p c) is.root;
     parents = parents_are;
     finite = (ps ++ is.finite.0, finite_at);
+    right = right_at;
+    short = short_at;
   }
 
 contains_mapped : (f : PathValue → PathValue) (ps : List PathValue) (p : PathValue) → Contains ps p → Contains (map f ps) (f p)
@@ -113,9 +132,25 @@ copy_some : (source : Tree) (from d : PathValue) → IsSome (copy_of source from
 copy_some source from [] some = subst IsSome (ap source (sym (append-nil from))) (some_renewed with_open_mark (source from) some)
 copy_some source from (c ∷ d) some = some
 
-pub copied_tree : (source : Tree) (from : PathValue) (t : Tree) (p : PathValue) (c : Component) → IsTree source → IsTree t → HasDirectory t p → IsTree (copied source from t (p ++ c ∷ []))
-copied_tree source from t p c s is has =
-    grafted_tree t p c (copy_of source from) is has (λ d e. copy_parents source from d e s) (map moved s.finite.0) all
+copy_short : (source : Tree) (from d : PathValue) → IsTree source → IsShort (text_of (copy_of source from d))
+copy_short source from [] is text h = is.short from text (sym (text_renewed with_open_mark (λ e. refl) (source from)) ∙ h)
+copy_short source from (c ∷ d) is text h = is.short (from ++ c ∷ d) text h
+
+-- a copy to the path makes no path that is too deep
+abbrev pub IsWithinDepth : Tree → PathValue → PathValue → Type 0
+IsWithinDepth source from p = (rest : PathValue) → IsSome (source (from ++ rest)) → length (p ++ rest) ≤ DEPTH_LIMIT
+
+copy_right : (source : Tree) (from p d : PathValue) → IsTree source → IsRightPath p → IsWithinDepth source from p → IsSome (copy_of source from d) → IsRightPath (p ++ d)
+copy_right source from p d is right room some =
+    let there : IsSome (source (from ++ d)) = copy_some source from d some in
+    record {
+      components = All-append IsComponent p d right.components (subst (All IsComponent) (rest_append from d) (All-drop IsComponent (length from) (from ++ d) (is.right (from ++ d) there).components));
+      depth = room d there;
+    }
+
+pub copied_tree : (source : Tree) (from : PathValue) (t : Tree) (p : PathValue) (c : Component) → IsTree source → IsTree t → HasDirectory t p → IsRightPath (p ++ c ∷ []) → IsWithinDepth source from (p ++ c ∷ []) → IsTree (copied source from t (p ++ c ∷ []))
+copied_tree source from t p c s is has right room =
+    grafted_tree t p c (copy_of source from) is has (λ d e. copy_parents source from d e s) (λ d. copy_right source from (p ++ c ∷ []) d s right room) (λ d. copy_short source from d s) (map moved s.finite.0) all
   where
     moved : PathValue → PathValue
     moved q = p ++ c ∷ drop (length from) q
@@ -126,7 +161,7 @@ copied_tree source from t p c s is has =
         (contains_mapped moved s.finite.0 (from ++ d) (s.finite.1 (from ++ d) (copy_some source from d some)))
 
 -- a copy over what stands there
-pub replaced_tree : (source : Tree) (from : PathValue) (t : Tree) (p : PathValue) (c : Component) → IsTree source → IsTree t → HasDirectory t p → IsTree (copied source from (deleted t (p ++ c ∷ [])) (p ++ c ∷ []))
+pub replaced_tree : (source : Tree) (from : PathValue) (t : Tree) (p : PathValue) (c : Component) → IsTree source → IsTree t → HasDirectory t p → IsRightPath (p ++ c ∷ []) → IsWithinDepth source from (p ++ c ∷ []) → IsTree (copied source from (deleted t (p ++ c ∷ [])) (p ++ c ∷ []))
 replaced_tree source from t p c s is has = copied_tree source from (deleted t (p ++ c ∷ [])) p c s (deleted_tree t p c is) still
   where
     nothing : Tree
@@ -138,5 +173,10 @@ replaced_tree source from t p c s is has = copied_tree source from (deleted t (p
     nowhere : (d : PathValue) → IsSome (nothing d) → Contains [] (p ++ c ∷ d)
     nowhere d some = absurd (false≢true some)
 
+    unspelled : (d : PathValue) → IsSome (nothing d) → IsRightPath ((p ++ c ∷ []) ++ d)
+    unspelled d some = absurd (false≢true some)
+
     still : HasDirectory (deleted t (p ++ c ∷ [])) p
-    still = outside_directory t p c nothing is has none [] nowhere p (directory_outside t p c nothing is has none [] nowhere) has
+    still =
+        outside_directory t p c nothing is has none unspelled (λ d. no_text) [] nowhere p
+        (directory_outside t p c nothing is has none unspelled (λ d. no_text) [] nowhere) has

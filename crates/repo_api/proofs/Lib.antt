@@ -8,4 +8,5 @@ pub mod Marking
 pub mod Alone
 pub mod Revisions
 pub mod Copying
+pub mod Standing
 pub mod LockChanges

@@ -1,18 +1,20 @@
 -- What a merge keeps.
-use Rattle.std.proofs.Common.{◌≡◌, ◌⊎◌, inl, inr, ℕ, Bool, true, false, not, ◌&&◌, ◌||◌, [], ◌∷◌, ◌++◌, Option, Some, None, option_map, is_some, refl, sym, ap, subst, ◌∙◌}
+use Rattle.std.proofs.Common.{◌≡◌, ◌≤◌, ◌⊎◌, inl, inr, ℕ, Bool, true, false, not, ◌&&◌, ◌||◌, [], ◌∷◌, ◌++◌, length, Option, Some, None, option_map, is_some, refl, sym, ap, subst, ◌∙◌}
 use Rattle.std.proofs.lemmas.Bool.{false≢true}
 use Rattle.std.proofs.lemmas.List.Elements.{Contains-append_left, Contains-append_right}
 use Rattle.std.specs.Prelude.{if◌then◌else◌, IsSome, Contains}
+use Rattle.svnpath.specs.Components.{IsRightPath}
 use Rattle.svnpath.specs.Paths.{PathValue, Component}
 use Rattle.repo_api.specs.Properties.{PropertyList}
-use Rattle.repo_api.specs.Trees.{Tree, IsTree, HasDirectory, is_directory, is_directory_content, same_mark, is_open_mark}
+use Rattle.repo_api.specs.Trees.{Tree, IsTree, HasDirectory, is_directory, is_directory_content, text_of, same_mark, is_open_mark}
 use Rattle.repo_api.specs.Merge.{sealed, is_changed, is_one_directory, is_untouched, has_open_last, changed_beneath, merged}
 use Rattle.repo_api.specs.Marks.{shown, own_of, has_open_own, MarksName, MeetWell}
 use Rattle.repo_api.specs.declared.entry.Entry.{Entry}
 use Rattle.repo_api.specs.declared.entry.Mark.{Mark}
 use Rattle.repo_api.specs.declared.entry.Mark.TheVariants.{Open, Made}
 use Rattle.repo_api.specs.declared.entry.Content.{Content}
-use Rattle.repo_api.proofs.Keeping.{IsDirectoryAt, renewed_directory, some_renewed}
+use Rattle.repo_api.specs.declared.limits.TheConstants.{TEXT_LIMIT}
+use Rattle.repo_api.proofs.Keeping.{IsDirectoryAt, IsShort, renewed_directory, some_renewed, text_renewed}
 use Rattle.repo_api.proofs.Naming.{same_mark_is, one_look}
 use Rattle.repo_api.proofs.Merged.{untouched_refl, merged_if, same_is_theirs, to_txn, to_youngest, here, touched_changed, sealed_own_shut, sealed_shown, joined_own, joined_shown}
 
@@ -205,5 +207,25 @@ module _ (trees : ℕ → Tree) (n b y : ℕ) (txn : Tree) (w : MeetWell trees b
       by true h = Contains-append_right w.txn_tree.finite.0 w.youngest_tree.finite.0 p (w.youngest_tree.finite.1 p (joined_some p h some))
       by false h = Contains-append_left w.txn_tree.finite.0 w.youngest_tree.finite.0 p (w.txn_tree.finite.1 p (sealed_some p h some))
 
+  right_at : (p : PathValue) → IsSome (r p) → IsRightPath p
+  right_at p some = by (is_untouched (a p) (txn p)) refl
+    where
+      by : (u : Bool) → is_untouched (a p) (txn p) ≡ u → IsRightPath p
+      by true h = w.youngest_tree.right p (joined_some p h some)
+      by false h = w.txn_tree.right p (sealed_some p h some)
+
+  short_at : (p : PathValue) → IsShort (text_of (r p))
+  short_at p text is = by (is_untouched (a p) (txn p)) refl
+    where
+      by : (u : Bool) → is_untouched (a p) (txn p) ≡ u → length text ≤ TEXT_LIMIT
+      by true h = w.youngest_tree.short p text (sym (ap text_of (untouched p h) ∙ text_renewed (changed_beneath n p (txn p)) (joined_content n p (txn p)) (t p)) ∙ is)
+      by false h = w.txn_tree.short p text (sym (ap text_of (touched p h) ∙ text_renewed (sealed n p) (λ e. refl) (txn p)) ∙ is)
+
   pub merged_tree : IsTree r
-  merged_tree = record { root = root_is; parents = parents_are; finite = (w.txn_tree.finite.0 ++ w.youngest_tree.finite.0, finite_at) }
+  merged_tree = record {
+    root = root_is;
+    parents = parents_are;
+    finite = (w.txn_tree.finite.0 ++ w.youngest_tree.finite.0, finite_at);
+    right = right_at;
+    short = short_at;
+  }

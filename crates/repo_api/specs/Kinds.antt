@@ -6,6 +6,7 @@ use Rattle.svnpath.specs.Paths.{PathValue, is_at_or_under}
 use Rattle.repo_api.specs.Properties.{PropertyList}
 use Rattle.repo_api.specs.States.{TreeMap, RepoState, TxnState, tree_at}
 use Rattle.repo_api.specs.Trees.{revision_of}
+pub use Rattle.repo_api.specs.Trees.{content_text, text_of}
 use Rattle.repo_api.specs.declared.entry.Content.{Content}
 use Rattle.repo_api.specs.declared.entry.Content.TheVariants.{Directory, File}
 use Rattle.repo_api.specs.declared.entry.Entry.{Entry}
@@ -48,14 +49,6 @@ created_at c n p = created_of (get (tree_at c n) p)
 -- has
 abbrev pub created_in : TxnState → PathValue → Option ℕ
 created_in t p = created_of (get t.tree p)
-
-abbrev pub content_text : Content → Option (List ℕ)
-content_text Directory = None
-content_text (File text) = Some text
-
-abbrev pub text_of : Option Entry → Option (List ℕ)
-text_of None = None
-text_of (Some e) = content_text e.content
 
 -- the text of the file at a path of a revision
 abbrev pub text_at : RepoState → ℕ → PathValue → Option (List ℕ)

@@ -1,6 +1,8 @@
 -- Trees: what stands at each path.
-use Rattle.std.specs.Prelude.{◌≡◌, ◌==◌, ℕ, Bool, true, false, ◌&&◌, List, [], ◌∷◌, ◌++◌, Option, Some, None, IsSome, IsSomeAnd, IsTrue, Contains}
+use Rattle.std.specs.Prelude.{◌≡◌, ◌==◌, ◌≤◌, ℕ, Bool, true, false, ◌&&◌, List, [], ◌∷◌, ◌++◌, length, Option, Some, None, IsSome, IsSomeAnd, IsTrue, Contains}
+use Rattle.svnpath.specs.Components.{IsRightPath}
 use Rattle.svnpath.specs.Paths.{PathValue, Component, same_path}
+use Rattle.repo_api.specs.declared.limits.TheConstants.{TEXT_LIMIT}
 use Rattle.repo_api.specs.declared.entry.Entry.{Entry}
 use Rattle.repo_api.specs.declared.entry.Mark.{Mark}
 use Rattle.repo_api.specs.declared.entry.Mark.TheVariants.{Open, Made}
@@ -29,11 +31,23 @@ HasDirectory t p = IsSomeAnd (t p) (λ e. IsTrue (is_directory e))
 abbrev pub HasFile : Tree → PathValue → Type 0
 HasFile t p = IsSomeAnd (t p) (λ e. is_directory e ≡ false)
 
--- finitely many entries; the root is a directory, and each other path's parent is one
+abbrev pub content_text : Content → Option (List ℕ)
+content_text Directory = None
+content_text (File text) = Some text
+
+-- the text of the file that stands there
+abbrev pub text_of : Option Entry → Option (List ℕ)
+text_of None = None
+text_of (Some e) = content_text e.content
+
+-- finitely many entries, at right paths; the root is a directory, and each other path's parent is
+-- one; and each text keeps the limit
 pub record IsTree (t : Tree) : Type 0 where
   pub root : HasDirectory t []
   pub parents : (p : PathValue) (c : Component) → IsSome (t (p ++ c ∷ [])) → HasDirectory t p
   pub finite : (ps : List PathValue) × ((p : PathValue) → IsSome (t p) → Contains ps p)
+  pub right : (p : PathValue) → IsSome (t p) → IsRightPath p
+  pub short : (p : PathValue) (text : List ℕ) → text_of (t p) ≡ Some text → length text ≤ TEXT_LIMIT
 
 abbrev pub same_mark : Mark → Mark → Bool
 same_mark Open Open = true

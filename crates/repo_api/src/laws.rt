@@ -1,7 +1,9 @@
 //! What holds of trees. The functions do nothing: their contracts are the laws.
 ghost use Rattle.std.specs.Prelude.{◌≡◌, ℕ, true, List, ◌++◌, ◌∷◌, [], Option, Some, None, option_map};
-ghost use Rattle.svnpath.specs.Paths.{PathValue, Component};
-ghost use Rattle.repo_api.specs.Trees.{Tree, IsTree, HasDirectory, HasFile};
+ghost use Rattle.svnpath.specs.Paths.{PathValue};
+ghost use Rattle.repo_api.specs.Trees.{Tree, IsTree};
+ghost use Rattle.repo_api.specs.RightEdits.{IsRightEdit};
+ghost use Rattle.repo_api.specs.Soundness.{AreTrees};
 ghost use Rattle.repo_api.specs.Edits.{edited, begun};
 ghost use Rattle.repo_api.specs.States.{ChangeMap, Revision, RepoState, TxnState, IsBeginning, IsBegun, IsEdited, tree_of, tree_at, trees_in, youngest};
 ghost use Rattle.repo_api.specs.Commits.{commit_refusal, next_tree, committed};
@@ -15,9 +17,7 @@ ghost use Rattle.repo_api.specs.Merge.{sealed, is_changed, merged, HasNoConflict
 ghost use Rattle.repo_api.specs.Marks.{shown, own_of, last_of, MarksName, AreMarked, IsTransactionOf, MeetWell, KeepsTrees, IsFree, with_tree, HasSource};
 ghost use Rattle.repo_api.specs.declared.entry.Mark.TheVariants.{Made};
 ghost use Rattle.repo_api.specs.declared.edit.EditOp.{EditOp};
-ghost use Rattle.repo_api.specs.declared.change.Source.{Source};
 ghost use Rattle.repo_api.specs.Opening.{opening_tree};
-ghost use Rattle.repo_api.specs.declared.edit.EditOp.TheVariants.{AddDirectory, AddFile, Copy, Replace, Delete, SetProperty, RemoveProperty, SetText};
 
 /// The tree of a new repository is a tree.
 pub fn opening_is_a_tree()
@@ -29,29 +29,10 @@ pub fn beginnings_are_trees()
     ensures { (t : Tree) → IsTree t → IsTree (begun t) }
 {}
 
-/// An edit of a tree makes a tree: a directory that is added to a directory, a file that is added to one where
-/// nothing stands, a copy into a directory, over what
-/// stands there or not, a delete below the root, a property anywhere, and the text of a file.
+/// An edit that may be made of a tree makes a tree, over revisions whose trees are trees.
 pub fn edits_keep_trees()
-    ensures adds { (trees : ℕ → Tree) (t : Tree) (p : PathValue) (c : Component) → IsTree t
-        → HasDirectory t p → IsTree (edited trees t (AddDirectory (p ++ c ∷ []))) }
-    ensures adds_files { (trees : ℕ → Tree) (t : Tree) (p : PathValue) (c : Component) → IsTree t
-        → HasDirectory t p → t (p ++ c ∷ []) ≡ None
-        → IsTree (edited trees t (AddFile (p ++ c ∷ []))) }
-    ensures deletes { (trees : ℕ → Tree) (t : Tree) (p : PathValue) (c : Component) → IsTree t
-        → IsTree (edited trees t (Delete (p ++ c ∷ []))) }
-    ensures sets_properties { (trees : ℕ → Tree) (t : Tree) (p : PathValue) (name value : List ℕ)
-        → IsTree t → IsTree (edited trees t (SetProperty p name value)) }
-    ensures removes_properties { (trees : ℕ → Tree) (t : Tree) (p : PathValue) (name : List ℕ)
-        → IsTree t → IsTree (edited trees t (RemoveProperty p name)) }
-    ensures copies { (trees : ℕ → Tree) (t : Tree) (source : Source) (p : PathValue) (c : Component)
-        → IsTree (trees source.revision) → IsTree t → HasDirectory t p
-        → IsTree (edited trees t (Copy source (p ++ c ∷ []))) }
-    ensures replaces { (trees : ℕ → Tree) (t : Tree) (source : Source) (p : PathValue) (c : Component)
-        → IsTree (trees source.revision) → IsTree t → HasDirectory t p
-        → IsTree (edited trees t (Replace source (p ++ c ∷ []))) }
-    ensures sets_texts { (trees : ℕ → Tree) (t : Tree) (p : PathValue) (text : List ℕ) → IsTree t
-        → HasFile t p → IsTree (edited trees t (SetText p text)) }
+    ensures { (revisions : List Revision) (t : Tree) (op : EditOp) → AreTrees revisions → IsTree t
+        → IsRightEdit (trees_in revisions) t op → IsTree (edited (trees_in revisions) t op) }
 {}
 
 /// What has the same entries is the same tree.

@@ -31,7 +31,7 @@ pub use laws::{
     new_revisions_keep_transactions, opening_is_a_tree, opening_is_marked,
     same_entries_make_a_tree, transactions_begin_marked, transactions_stay_marked,
 };
-pub use limits::{LOCK_LIMIT, PROPERTY_NAME_LIMIT, REVISION_LIMIT};
+pub use limits::{LOCK_LIMIT, PROPERTY_NAME_LIMIT, REVISION_LIMIT, TEXT_LIMIT};
 pub use lock::{Lock, LockTokens};
 pub use lock_ask::{LockAsk, UnlockAsk};
 pub use properties::Properties;

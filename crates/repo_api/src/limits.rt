@@ -8,3 +8,6 @@ pub const PROPERTY_NAME_LIMIT: usize = 255;
 
 /// The most locks that stand at a time.
 pub const LOCK_LIMIT: usize = 65_536;
+
+/// The most bytes of a file's text.
+pub const TEXT_LIMIT: usize = 16_777_216;

@@ -135,7 +135,8 @@ pub trait Repository: Drop {
         ensures { option_copied result ≡ text_in (txn_state txn.now) path.now };
 
     /// Makes an edit in a transaction, which was last shown a repository whose revisions begin this one's. It adds to
-    /// a directory where nothing stands, and what it copies, replaces, deletes or sets is there.
+    /// a directory where nothing stands, and what it copies, replaces, deletes or sets is there; each path that comes
+    /// to stand is a right one, and a text keeps the limit.
     fn edit(&self, txn: &mut Self::Txn, op: EditOp) -> Result<(), AllocError>
         requires rests { IsBeginning (txn_state txn.old).shown (content self.now).revisions }
         requires right { IsRightEdit (trees_in (content self.now).revisions)

@@ -2,6 +2,7 @@
 use Rattle.std.proofs.Common.{◌≡◌, ℕ, List, [], refl, sym, subst, inl, inr}
 use Rattle.std.specs.Prelude.{Result, Ok, Err, IfOk, OnErr}
 use Rattle.refusals.specs.declared.Refusal.{Refusal}
+use Rattle.repo_api.specs.Soundness.{AreTrees}
 use Rattle.repo_api.specs.States.{RepoState}
 use Rattle.edit_commands.specs.declared.editing.EditorCommand.{EditorCommand}
 use Rattle.reports.specs.Judging.{JudgesReport}
@@ -56,12 +57,12 @@ finishes : (c : RepoState) (report : OpenState) (r : Result ReportRoot Refusal) 
     → Finishes c (r >>= (λ root. Ok (whole report root))) d → Finishes c (finish_answer c (Open report)) d
 finishes c report r d is drawn = subst (λ (x : Result ReportRoot Refusal). Finishes c (x >>= (λ root. Ok (whole report root))) d) (sym is) drawn
 
-module _ (rules : AccessRules) (env : Env) (client : Client) (report : OpenState) {p q : Point} (later : rules.between p q) where
+module _ (rules : AccessRules) (env : Env) (client : Client) (report : OpenState) {p q : Point} (later : rules.between p q) (trees : AreTrees (content_of q).revisions) where
   -- a drive
   pub drives : (root : ReportRoot) (drive : List EditorCommand) → finish_root (content_of q) report ≡ Ok root → IsDrive (content_of q) (whole report root) drive
       → Leads rules (EndStep env client report) p q env (Driven client) (drive_replies drive)
   drives root drive is is_drive =
-      only_says later (Drives drive, finishes (content_of q) report (Ok root) (Drives drive) is (drive, refl, λ _. is_drive), refl)
+      only_says later (Drives drive, finishes (content_of q) report (Ok root) (Drives drive) is (drive, refl, trees, is_drive), refl)
 
   -- or why there is none
   pub fails : (r : Refusal) → finish_root (content_of q) report ≡ Err r → EndStep env client report q (drawn_answer env client (Fails r))

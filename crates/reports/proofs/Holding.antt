@@ -12,7 +12,7 @@ use Rattle.drives.specs.declared.depth.Depth.{Depth}
 use Rattle.drives.specs.declared.depth.Depth.TheVariants.{Empty, Files, Immediates, Infinity}
 use Rattle.drives.proofs.Joined.{or_cases}
 use Rattle.drives.proofs.Entries.{under_more, below_under, below_apart, under_both, no_length}
-use Rattle.reports.specs.Reported.{ReportedEntry, ReportedTree, reported_entries, left_by, in_subtree, in_graft, has_directory, has_place, path_above, with_graft, reported}
+use Rattle.reports.specs.Reported.{ReportedEntry, ReportedTree, reported_entries, left_by, top_entry, reported_as, in_subtree, in_graft, has_directory, has_place, path_above, with_graft, reported}
 use Rattle.reports.specs.declared.graft.Graft.{Graft}
 use Rattle.reports.specs.declared.graft.Subtree.{Subtree}
 
@@ -87,6 +87,12 @@ entry_of : (s : Subtree) (depth : Depth) (token : Option (List ℕ)) (o : Option
 entry_of s depth token None h = h
 entry_of s depth token (Some x) h = h
 
+-- the top of a subtree is a directory, with its properties or without
+top_is : (s : Subtree) (o : Option Entry) → IsDirectory o
+    → IsDirectory (option_map (λ (h : ReportedEntry). h.entry) (option_map (λ e. reported_as s s.depth s.token (top_entry s.starts_empty e)) o))
+top_is s None h = h
+top_is s (Some x) h = h
+
 graft_in : (trees : ℕ → Tree) (from : PathValue) (s : Subtree) (front : List Component) (c : Component) (rest : List Component) → ((n : ℕ) → HoldsTogether [] (trees n))
     → IsSome (option_map (λ (h : ReportedEntry). h.entry) (in_subtree trees from s (front ++ c ∷ rest))) → IsDirectory (option_map (λ (h : ReportedEntry). h.entry) (in_subtree trees from s front))
 graft_in trees from s [] c rest hold some = by s.starts_empty some
@@ -98,7 +104,7 @@ graft_in trees from s [] c rest hold some = by s.starts_empty some
         → IsDirectory (option_map (λ (h : ReportedEntry). h.entry) (in_subtree trees from s []))
     by true h = absurd (false≢true h)
     by false h =
-        entry_of s s.depth s.token (trees s.revision from)
+        top_is s (trees s.revision from)
         (hold s.revision from (from ++ c ∷ rest) refl (deeper from rest c) (left_some s.depth rest (trees s.revision (from ++ c ∷ rest)) (mapped _ _ (mapped (λ (h : ReportedEntry). h.entry) _ h))))
 graft_in trees from s (d ∷ ds) c rest hold some = by s.starts_empty refl some
   where

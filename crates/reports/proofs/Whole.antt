@@ -8,7 +8,7 @@ use Rattle.repo_api.specs.Trees.{Tree}
 use Rattle.repo_api.specs.declared.entry.Entry.{Entry}
 use Rattle.drives.specs.Scopes.{depth_below}
 use Rattle.drives.specs.declared.depth.Depth.TheVariants.{Infinity}
-use Rattle.reports.specs.Reported.{ReportedEntry, reported_entries, has_directory, in_subtree, in_graft, left_by, reported_as, reported}
+use Rattle.reports.specs.Reported.{ReportedEntry, reported_entries, has_directory, in_subtree, in_graft, left_by, top_entry, reported_as, reported}
 use Rattle.reports.specs.declared.graft.Graft.{Graft}
 use Rattle.reports.specs.declared.graft.Subtree.{Subtree}
 use Rattle.reports.proofs.Deciding.{shows_placed}
@@ -20,7 +20,8 @@ entry_of f same (Some e) = ap (λ x. Some x) (same e)
 pub in_whole : (trees : ℕ → Tree) (from : PathValue) (s : Subtree) (rest : List Component) → s.starts_empty ≡ false → s.depth ≡ Infinity
     → option_map (λ (h : ReportedEntry). h.entry) (in_subtree trees from s rest) ≡ trees s.revision (from ++ rest)
 in_whole trees from s [] full deep =
-    entry_of (reported_as s s.depth s.token) (λ e. refl) (trees s.revision from) ∙ ap (trees s.revision) (sym (append-nil from))
+    ap (λ b. option_map (λ (h : ReportedEntry). h.entry) (option_map (λ e. reported_as s s.depth s.token (top_entry b e)) (trees s.revision from))) full
+    ∙ entry_of (λ e. reported_as s s.depth s.token (top_entry false e)) (λ e. refl) (trees s.revision from) ∙ ap (trees s.revision) (sym (append-nil from))
 in_whole trees from s (c ∷ rest) full deep =
     ap (λ b. option_map (λ (h : ReportedEntry). h.entry) (cond b None (option_map (reported_as s (depth_below s.depth) None) (left_by s.depth rest (trees s.revision (from ++ c ∷ rest)))))) full
     ∙ entry_of (reported_as s (depth_below s.depth) None) (λ e. refl) (left_by s.depth rest (trees s.revision (from ++ c ∷ rest)))

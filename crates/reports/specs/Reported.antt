@@ -41,6 +41,11 @@ left_by Immediates [] e = e
 left_by Immediates (c ∷ rest) e = None
 left_by Infinity rest e = e
 
+-- what a client has of the top of a subtree: a directory that starts empty has no properties yet
+abbrev pub top_entry : Bool → Entry → Entry
+top_entry starts_empty e =
+    record e { properties = if starts_empty && is_directory e then [] else e.properties }
+
 -- an entry of a subtree, reported so deep, with this token
 abbrev pub reported_as : Subtree → Depth → Option (List ℕ) → Entry → ReportedEntry
 reported_as s depth token e = record {
@@ -52,7 +57,9 @@ reported_as s depth token e = record {
 
 -- what a subtree has at the rest of a path, from its top on
 abbrev pub in_subtree : (ℕ → Tree) → PathValue → Subtree → List Component → Option ReportedEntry
-in_subtree trees from s [] = option_map (reported_as s s.depth s.token) (trees s.revision from)
+in_subtree trees from s [] =
+    option_map (λ e. reported_as s s.depth s.token (top_entry s.starts_empty e))
+    (trees s.revision from)
 in_subtree trees from s (c ∷ rest) =
     if s.starts_empty
     then None

@@ -1,12 +1,12 @@
 -- How far a run has come.
-use Rattle.std.proofs.Common.{◌≡◌, ℕ, List, [], ◌∷◌, ◌++◌, true, refl, sym, subst, inl, inr, append-nil, append_assoc}
+use Rattle.std.proofs.Common.{◌≡◌, ℕ, List, [], ◌∷◌, ◌++◌, Some, None, true, refl, sym, subst, inl, inr, append-nil, append_assoc}
 use Rattle.replies.specs.Replies.{print}
 use Rattle.replies.proofs.Parts.{both_written, part_none, part_all, part_first, part_behind}
 use Rattle.replies.specs.declared.reply.Reply.{Reply}
 use Rattle.access.specs.Points.{Point, AccessRules}
 use Rattle.machine.specs.Settings.{Settings}
 use Rattle.machine.specs.Hearing.{Input, YieldsFirst, Yields, HasNoMore}
-use Rattle.machine.specs.Steps.{input_step, SessionRun, StepWritten, StepOrNothing, FeedWritten, FeedLost}
+use Rattle.machine.specs.Steps.{input_step, unreleased_step, SessionRun, StepWritten, StepOrPart, FeedWritten, FeedLost}
 use Rattle.machine.specs.declared.env.Env.{Env}
 use Rattle.machine.specs.Stages.{Stage, is_open}
 
@@ -61,28 +61,49 @@ module _ {S : Type 0} (writes : S → S → List ℕ → Type 0) (nothing : (o :
       }
 
   pub stop : (env : Env) (p q : Point) (phase : Stage) (rest rest' : List ℕ) (out out' : S) (input : Input) → Progress rules s env0 p0 phase0 stream env p phase rest (writes out0 out)
-      → YieldsFirst rest input rest' → StepOrNothing rules (input_step s env phase input) p q (writes out out') → FeedLost rules s env0 p0 phase0 stream q (writes out0 out')
-  stop env p q phase rest rest' out out' input h brings (inl (later, unwritten)) =
+      → YieldsFirst rest input rest' → StepOrPart rules (input_step s env phase input) (unreleased_step env phase input) p q (writes out out')
+      → FeedLost rules s env0 p0 phase0 stream q (writes out0 out')
+  stop env p q phase rest rest' out out' input h brings (inl (inl (later, unwritten))) =
       record {
         inputs = h.done ++ [];
+        left = None;
         rest = rest;
-        yields = h.came [] rest refl;
+        yields = subst (λ (xs : List Input). Yields stream xs rest) (sym (append-nil (h.done ++ []))) (h.came [] rest refl);
         told = h.told ++ [];
         env_after = env;
+        point_after = q;
         phase_after = phase;
         run = h.goes [] [] env q phase (later, refl, refl, refl);
+        leaves = refl;
         written = part_behind writes further out0 out out' h.told [] h.written (part_none (writes out out') [] unwritten);
       }
-  stop env p q phase rest rest' out out' input h brings (inr (a, serves, part)) =
+  stop env p q phase rest rest' out out' input h brings (inl (inr (a, serves, part))) =
       record {
         inputs = h.done ++ input ∷ [];
+        left = None;
         rest = rest';
-        yields = h.came (input ∷ []) rest' (rest', brings, refl);
+        yields = subst (λ (xs : List Input). Yields stream xs rest') (sym (append-nil (h.done ++ input ∷ []))) (h.came (input ∷ []) rest' (rest', brings, refl));
         told = h.told ++ (a.replies ++ []);
         env_after = a.env;
+        point_after = q;
         phase_after = a.phase;
         run = h.goes (input ∷ []) (a.replies ++ []) a.env q a.phase (a, q, [], serves, (stays q, refl, refl, refl), refl);
+        leaves = refl;
         written = part_behind writes further out0 out out' h.told (a.replies ++ []) h.written (part_first (writes out out') a.replies [] part);
+      }
+  stop env p q phase rest rest' out out' input h brings (inr (a, leaves, unwritten)) =
+      record {
+        inputs = h.done ++ [];
+        left = Some input;
+        rest = rest';
+        yields = subst (λ (xs : List Input). Yields stream xs rest') (sym (append_assoc h.done [] (input ∷ []))) (h.came (input ∷ []) rest' (rest', brings, refl));
+        told = h.told ++ [];
+        env_after = env;
+        point_after = p;
+        phase_after = phase;
+        run = h.goes [] [] env p phase (stays p, refl, refl, refl);
+        leaves = (a, leaves);
+        written = part_behind writes further out0 out out' h.told [] h.written (part_none (writes out out') [] unwritten);
       }
 
   -- without another input
@@ -91,15 +112,30 @@ module _ {S : Type 0} (writes : S → S → List ℕ → Type 0) (nothing : (o :
   halt env p phase rest out h =
       record {
         inputs = h.done ++ [];
+        left = None;
         rest = rest;
-        yields = h.came [] rest refl;
+        yields = subst (λ (xs : List Input). Yields stream xs rest) (sym (append-nil (h.done ++ []))) (h.came [] rest refl);
         told = h.told ++ [];
         env_after = env;
+        point_after = p;
         phase_after = phase;
         run = h.goes [] [] env p phase (stays p, refl, refl, refl);
+        leaves = refl;
         written = part_first (writes out0 out) h.told [] (part_all (writes out0 out) (print h.told) h.written);
       }
 
   -- before any input
   pub lost_all : FeedLost rules s env0 p0 phase0 stream p0 (writes out0 out0)
-  lost_all = record { inputs = []; rest = stream; yields = refl; told = []; env_after = env0; phase_after = phase0; run = (stays p0, refl, refl, refl); written = part_none (writes out0 out0) [] (nothing out0) }
+  lost_all = record {
+    inputs = [];
+    left = None;
+    rest = stream;
+    yields = refl;
+    told = [];
+    env_after = env0;
+    point_after = p0;
+    phase_after = phase0;
+    run = (stays p0, refl, refl, refl);
+    leaves = refl;
+    written = part_none (writes out0 out0) [] (nothing out0);
+  }

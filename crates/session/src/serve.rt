@@ -7,7 +7,7 @@ ghost use Rattle.access.specs.Points.{content_of};
 ghost use Rattle.machine.specs.Hearing.Input.{Whole};
 ghost use Rattle.machine.specs.Answers.{malformed, says};
 ghost use Rattle.machine.specs.Stages.{is_open, StandsOn};
-ghost use Rattle.machine.specs.Steps.{input_step, AnswerWritten, StepWritten, StepOrNothing};
+ghost use Rattle.machine.specs.Steps.{input_step, unreleased_step, AnswerWritten, StepWritten, StepOrPart};
 ghost use Rattle.machine.specs.declared.phase.Phase.TheVariants.{Ended};
 ghost use Rattle.session.specs.Taking.{input_of};
 
@@ -38,8 +38,9 @@ fn serve_item<R: Repository, A: RepoAccess<View = R>, S: ReplySink>(
         (input_step options.now turn.old.env phase (Whole (value_of item.now)))
         (A.point access.old) (A.point access.new)
         after turn.new.env (S.writes turn.old.out turn.new.out)) }
-    ensures err { OnErr result (StepOrNothing A.rules
+    ensures err { OnErr result (StepOrPart A.rules
         (input_step options.now turn.old.env phase (Whole (value_of item.now)))
+        (unreleased_step turn.old.env phase (Whole (value_of item.now)))
         (A.point access.old) (A.point access.new) (S.writes turn.old.out turn.new.out)) }
 {
     match phase {
@@ -89,8 +90,9 @@ pub fn serve<R: Repository, A: RepoAccess<View = R>, S: ReplySink>(
         (input_step options.now turn.old.env phase (input_of incoming))
         (A.point access.old) (A.point access.new)
         after turn.new.env (S.writes turn.old.out turn.new.out)) }
-    ensures err { OnErr result (StepOrNothing A.rules
+    ensures err { OnErr result (StepOrPart A.rules
         (input_step options.now turn.old.env phase (input_of incoming))
+        (unreleased_step turn.old.env phase (input_of incoming))
         (A.point access.old) (A.point access.new) (S.writes turn.old.out turn.new.out)) }
 {
     match incoming {

@@ -123,7 +123,7 @@ impl<R: Repository> Session<R> {
 
     /// Takes the next piece of what the client sends, and writes what it is answered as it is made.
     /// After an `Err` the session has ended, and a part of the replies to what was served was
-    /// written.
+    /// written. The last that was served may be a commit for whose release memory was refused.
     pub fn feed<A: RepoAccess<View = R>, S: ReplySink>(
         &mut self,
         options: &Options,

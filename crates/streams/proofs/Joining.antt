@@ -1,5 +1,5 @@
 -- Pieces of a stream make one run.
-use Rattle.std.proofs.Common.{◌≡◌, ℕ, ◌<◌, ◌≤◌, List, [], ◌∷◌, ◌++◌, length, Bool, true, false, Option, Some, None, inl, inr, refl, sym, ap, subst, ◌∙◌, append_assoc, append-nil}
+use Rattle.std.proofs.Common.{◌≡◌, ℕ, ◌<◌, ◌≤◌, List, [], ◌∷◌, ◌++◌, length, map, Bool, true, false, Option, Some, None, inl, inr, refl, sym, ap, subst, ◌∙◌, append_assoc, append-nil}
 use Rattle.std.specs.Prelude.{◌⊎◌, if◌then◌else◌}
 use Rattle.std.proofs.lemmas.Grind.{flat_map-append}
 use Rattle.replies.specs.declared.reply.Reply.{Reply}
@@ -8,40 +8,56 @@ use Rattle.machine.specs.Settings.{Settings}
 use Rattle.machine.specs.Hearing.{Input, Yields}
 use Rattle.machine.specs.Hearing.Input.{Whole, Broken}
 use Rattle.machine.specs.Stages.{Stage, SessionState, is_open}
-use Rattle.machine.specs.Answers.{Answer, content_after, halted_after}
+use Rattle.machine.specs.Answers.{Answer, content_after, halted_after, pending_after}
 use Rattle.machine.specs.Machine.{InputStep}
 use Rattle.machine.specs.declared.env.Env.{Env}
 use Rattle.machine.specs.declared.phase.Phase.TheVariants.{Greeted, LoggingIn, Challenged, Serving, Editing, Skipping, Reporting, Driven, Ended}
 use Rattle.hub.specs.State.{HubState, session_of, updated, without, kept}
 use Rattle.hub.specs.Runs.{Event, HubStep, HubRun, InputHappens, InputsAre, Feeds, answered, with_rest}
-use Rattle.hub.specs.Runs.Event.{Connects, Hears, Drops}
+use Rattle.hub.specs.Runs.Event.{Connects, HandsIn, Hears, Leaves, Drops}
 use Rattle.hub.specs.Laws.{IsUnbroken}
 use Rattle.hub.specs.SessionLaws.{session_of-updated, updated_updated, session_of-without, kept-updated, yields_more}
-use Rattle.streams.specs.Stream.{Piece, bytes_of, inputs_of, ComesInPieces, PiecesRun, StreamRun, Draws}
+use Rattle.std.specs.List.{flat_map}
+use Rattle.hub.proofs.Composing.{runs_on}
+use Rattle.streams.specs.Stream.{Piece, bytes_of, inputs_of, events_of, ComesInPieces, PiecesRun, StreamRun, Draws}
 
 -- ---- the events of a session's inputs
 
-abbrev events_of : ℕ → List Input → List Event
-events_of n [] = []
-events_of n (input ∷ inputs) = Hears n input ∷ events_of n inputs
+abbrev inputs_heard : ℕ → List Input → List Event
+inputs_heard n inputs = map (Hears n) inputs
 
-are_events_of : (n : ℕ) (inputs : List Input) (events : List Event) → InputsAre n inputs events → events ≡ events_of n inputs
+are_events_of : (n : ℕ) (inputs : List Input) (events : List Event) → InputsAre n inputs events → events ≡ inputs_heard n inputs
 are_events_of n [] [] are = refl
 are_events_of n [] (event ∷ events) are = absurd are
 are_events_of n (input ∷ inputs) [] are = absurd are
 are_events_of n (input ∷ inputs) (Connects m ∷ events) are = absurd are
+are_events_of n (input ∷ inputs) (HandsIn words ∷ events) are = absurd are
+are_events_of n (input ∷ inputs) (Leaves m came ∷ events) are = absurd are
 are_events_of n (input ∷ inputs) (Drops m ∷ events) are = absurd are
 are_events_of n (input ∷ inputs) (Hears m x ∷ events) (number, same, are) = λ i. Hears (number i) (same i) ∷ are_events_of n inputs events are i
 
-of_inputs : (n : ℕ) (inputs : List Input) → InputsAre n inputs (events_of n inputs)
+of_inputs : (n : ℕ) (inputs : List Input) → InputsAre n inputs (inputs_heard n inputs)
 of_inputs n [] = tt
 of_inputs n (input ∷ inputs) = (refl, refl, of_inputs n inputs)
+
+-- ---- pieces are a run
+
+pub pieces_run : (old new : HubState) (n : ℕ) (pieces : List Piece) (told : List Reply) → PiecesRun old n pieces told new
+    → (env : Env) → (after : Env) × HubRun old env (flat_map (events_of n) pieces) told new after
+pieces_run old new n [] told run env = (env, (run.0, run.1, refl))
+pieces_run old new n (piece ∷ pieces) told (events, first, mid, between, more, are, run, later, is) env =
+    let given : HubRun old piece.env (inputs_heard n piece.inputs) first mid between =
+    subst (λ (es : List Event). HubRun old piece.env es first mid between) (are_events_of n piece.inputs events are) run in
+    let rest = pieces_run mid new n pieces more later between in
+    let es = inputs_heard n piece.inputs ++ flat_map (events_of n) pieces in
+    let all : HubRun old piece.env es (first ++ more) new rest.0 = runs_on old mid new piece.env between rest.0 (inputs_heard n piece.inputs) (flat_map (events_of n) pieces) first more given rest.1 in
+    (rest.0, ([], old, piece.env, told, (refl, refl, refl), subst (λ (t : List Reply). HubRun old piece.env es t new rest.0) (sym is) all, refl))
 
 -- ---- a session that isn't open
 
 -- to a session that isn't open nothing happens
 nothing_happens : (n : ℕ) (inputs : List Input) (old new : HubState) (env after : Env) (told : List Reply)
-    → session_of old.sessions n ≡ None → HubRun old env (events_of n inputs) told new after → new ≡ old
+    → session_of old.sessions n ≡ None → HubRun old env (inputs_heard n inputs) told new after → new ≡ old
 nothing_happens n [] old new env after told none run = run.1
 nothing_happens n (input ∷ inputs) old new env after told none (first, mid, between, more, step, run, is) =
     let happens : InputHappens old env n None input first mid between = subst (λ (o : Option SessionState). InputHappens old env n o input first mid between) none step in
@@ -51,7 +67,7 @@ nothing_happens n (input ∷ inputs) old new env after told none (first, mid, be
 no_piece_happens : (n : ℕ) (pieces : List Piece) (old new : HubState) (told : List Reply) → session_of old.sessions n ≡ None → PiecesRun old n pieces told new → new ≡ old
 no_piece_happens n [] old new told none run = run.1
 no_piece_happens n (piece ∷ pieces) old new told none (events, first, mid, after, more, are, run, later, is) =
-    let given : HubRun old piece.env (events_of n piece.inputs) first mid after =
+    let given : HubRun old piece.env (inputs_heard n piece.inputs) first mid after =
     subst (λ (es : List Event). HubRun old piece.env es first mid after) (are_events_of n piece.inputs events are) run in
     let same : mid ≡ old = nothing_happens n piece.inputs old mid piece.env after first none given in
     no_piece_happens n pieces mid new more (ap (λ (h : HubState). session_of h.sessions n) same ∙ none) later ∙ same
@@ -83,7 +99,7 @@ some_or_none None = inr refl
 record Stays (n : ℕ) (old : HubState) (s : SessionState) (env : Env) (inputs : List Input) (told : List Reply) (new : HubState) (after : Env) (t : SessionState) : Type 0 where
   rest_is : t.rest ≡ s.rest
   unbroken : IsUnbroken inputs
-  anyway : (rest : List ℕ) → HubRun (with_rest old n s rest) env (events_of n inputs) told (with_rest new n t rest) after
+  anyway : (rest : List ℕ) → HubRun (with_rest old n s rest) env (inputs_heard n inputs) told (with_rest new n t rest) after
 
 unbroken_more : (halted : Bool) (s : Settings) (env : Env) (c : RepoState) (phase : Stage) (input : Input) (inputs : List Input) (a : Answer)
     → InputStep halted s env c phase input a → is_open a.phase ≡ true → IsUnbroken inputs → IsUnbroken (input ∷ inputs)
@@ -124,13 +140,13 @@ answered_anyway old n s a failures rest goes =
     ap (λ (xs : List (ℕ × SessionState)). updated xs n here) (answered_open old n s a failures goes)
     ∙ updated_updated old.sessions n (record { rest = s.rest; phase = a.phase }) here
     ∙ sym (kept-updated old.sessions n before here ∙ if_open (is_open a.phase) (updated old.sessions n here) (without old.sessions n) goes) in
-    ap (λ (xs : List (ℕ × SessionState)). record old { content = content_after old.content a.effect; halted = halted_after old.halted a.effect; failures = failures; sessions = xs }) sessions
+    ap (λ (xs : List (ℕ × SessionState)). record old { content = content_after old.content a.effect; halted = halted_after old.halted a.effect; failures = failures; pending = pending_after old.pending a.effect; sessions = xs }) sessions
 
 -- an input more in front
 goes_on : (n : ℕ) (input : Input) (inputs : List Input) (old : HubState) (s : SessionState) (env : Env) (told : List Reply) (new : HubState) (after : Env) (t : SessionState)
     → session_of old.sessions n ≡ Some s → session_of new.sessions n ≡ Some t
     → (first : List Reply) (mid : HubState) (between : Env) (more : List Reply)
-    → (happens : InputHappens old env n (Some s) input first mid between) → HubRun mid between (events_of n inputs) more new after → told ≡ first ++ more
+    → (happens : InputHappens old env n (Some s) input first mid between) → HubRun mid between (inputs_heard n inputs) more new after → told ≡ first ++ more
     → ((x : SessionState) → session_of mid.sessions n ≡ Some x → Stays n mid x between inputs more new after t)
     → (is_open happens.0.phase ≡ true) ⊎ (is_open happens.0.phase ≡ false) → Stays n old s env (input ∷ inputs) told new after t
 goes_on n input inputs old s env told new after t begins ends first mid between more (a, answers, told_is, env_is, failures, counts, mid_is) run is rest_stays (inl goes) =
@@ -162,7 +178,7 @@ goes_on n input inputs old s env told new after t begins ends first mid between 
     cc
 
 stays : (n : ℕ) (inputs : List Input) (old : HubState) (s : SessionState) (env : Env) (told : List Reply) (new : HubState) (after : Env) (t : SessionState)
-    → session_of old.sessions n ≡ Some s → session_of new.sessions n ≡ Some t → HubRun old env (events_of n inputs) told new after → Stays n old s env inputs told new after t
+    → session_of old.sessions n ≡ Some s → session_of new.sessions n ≡ Some t → HubRun old env (inputs_heard n inputs) told new after → Stays n old s env inputs told new after t
 stays n [] old s env told new after t begins ends run =
     let same : t ≡ s = some_same t s (sym ends ∙ ap (λ (h : HubState). session_of h.sessions n) run.1 ∙ begins) in
     record {
@@ -186,7 +202,7 @@ record AllStays (n : ℕ) (old : HubState) (s : SessionState) (pieces : List Pie
 a_piece_on : (n : ℕ) (piece : Piece) (pieces : List Piece) (old : HubState) (s : SessionState) (told : List Reply) (new : HubState) (t : SessionState)
     → session_of old.sessions n ≡ Some s → session_of new.sessions n ≡ Some t
     → (first : List Reply) (mid : HubState) (after : Env) (more : List Reply)
-    → HubRun old piece.env (events_of n piece.inputs) first mid after → PiecesRun mid n pieces more new → told ≡ first ++ more
+    → HubRun old piece.env (inputs_heard n piece.inputs) first mid after → PiecesRun mid n pieces more new → told ≡ first ++ more
     → ((x : SessionState) → session_of mid.sessions n ≡ Some x → AllStays n mid x pieces more new t)
     → ((x : SessionState) × (session_of mid.sessions n ≡ Some x)) ⊎ (session_of mid.sessions n ≡ None) → AllStays n old s (piece ∷ pieces) told new t
 a_piece_on n piece pieces old s told new t begins ends first mid after more run later is rest_stays (inl (x, found)) =
@@ -195,7 +211,7 @@ a_piece_on n piece pieces old s told new t begins ends first mid after more run 
     record {
       rest_is = on.rest_is ∙ here.rest_is;
       unbroken = unbroken_both piece.inputs (inputs_of pieces) here.unbroken on.unbroken;
-      anyway = λ rest. (events_of n piece.inputs, first, with_rest mid n x rest, after, more, of_inputs n piece.inputs, here.anyway rest, on.anyway rest, is);
+      anyway = λ rest. (inputs_heard n piece.inputs, first, with_rest mid n x rest, after, more, of_inputs n piece.inputs, here.anyway rest, on.anyway rest, is);
     }
 a_piece_on n piece pieces old s told new t begins ends first mid after more run later is rest_stays (inr gone) =
     let bad : None ≡ Some t = sym gone ∙ sym (ap (λ (h : HubState). session_of h.sessions n) (no_piece_happens n pieces mid new more gone later)) ∙ ends in

@@ -1,5 +1,5 @@
 -- What it is to serve one session over a stream.
-use Rattle.std.specs.Prelude.{◌≡◌, ◌⊎◌, ◌<◌, ◌≤◌, ℕ, Bool, true, ◌&&◌, not, is_some, List, [], ◌∷◌, ◌++◌, length, Option, Some, Result, Ok, Err}
+use Rattle.std.specs.Prelude.{◌≡◌, ◌⊎◌, ◌<◌, ◌≤◌, ℕ, Bool, true, ◌&&◌, not, is_some, List, [], ◌∷◌, ◌++◌, length, map, Option, Some, Result, Ok, Err}
 use Rattle.std.specs.List.{flat_map}
 use Rattle.std.specs.Io.KnownBytes.{Consumes, Appends, IsAtEnd}
 use Rattle.replies.specs.declared.reply.Reply.{Reply}
@@ -10,6 +10,7 @@ use Rattle.machine.specs.declared.env.Env.{Env}
 use Rattle.hub.specs.declared.hub.HubFault.{HubFault}
 use Rattle.hub.specs.State.{HubState, session_of}
 use Rattle.hub.specs.Runs.{Event, HubRun, InputsAre, IfOpen, with_rest}
+use Rattle.hub.specs.Runs.Event.{HandsIn, Hears}
 use Rattle.hub.specs.Calls.{ConnectsAs, ConnectFails, FeedBreaks}
 use Rattle.streams.specs.declared.sink.TheConstants.{PIECE}
 use Rattle.streams.specs.declared.fault.ServeFault.{ServeFault}
@@ -53,6 +54,10 @@ PiecesRun old n (piece ∷ pieces) told new =
     × (more : List Reply)
     × InputsAre n piece.inputs events × HubRun old piece.env events first mid after
     × PiecesRun mid n pieces more new × (told ≡ first ++ more)
+
+-- the events of a piece: its moment and its words are handed in, and then its inputs come
+abbrev pub events_of : ℕ → Piece → List Event
+events_of n piece = HandsIn piece.env ∷ map (Hears n) piece.inputs
 
 -- A session was sent these pieces: all that their bytes bring, with what had come of its stream
 -- before, happened in

@@ -8,3 +8,4 @@ pub mod Stages
 pub mod Fulls
 pub mod Sounds
 pub mod Completes
+pub mod Limits

@@ -1,6 +1,7 @@
 //! What reading gives is what the format says.
 
-ghost use Rattle.std.specs.Prelude.{◌≡◌, ℕ, List, Ok};
+ghost use Rattle.std.specs.Prelude.{◌≡◌, ◌≤◌, ℕ, List, Ok, length};
+ghost use Rattle.svndiff0.specs.Window.{limit};
 ghost use Rattle.svndiff0.specs.Document.{document_text};
 ghost use Rattle.svndiff0.specs.Format.{IsDocument};
 
@@ -11,4 +12,10 @@ pub fn has_the_text_of_the_format()
         → IsDocument base document text }
     ensures only { (base document text : List ℕ) → IsDocument base document text
         → document_text base document ≡ Ok text }
+{}
+
+/// A law: a document's text keeps the limit.
+pub fn texts_keep_the_limit()
+    ensures { (base document text : List ℕ) → document_text base document ≡ Ok text
+        → length text ≤ limit }
 {}

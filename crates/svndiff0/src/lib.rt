@@ -17,6 +17,6 @@ mod window;
 
 pub use applier::Applier;
 pub use fault::DiffFault;
-pub use format::has_the_text_of_the_format;
+pub use format::{has_the_text_of_the_format, texts_keep_the_limit};
 pub use full::{encode_full, put_window};
 pub use reading::HEADER;

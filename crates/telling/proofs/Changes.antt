@@ -12,9 +12,9 @@ use Rattle.replies.specs.Sinks.{WritesPart}
 use Rattle.replies.specs.declared.reply.Reply.{Reply}
 use Rattle.replies.specs.declared.reply.Reply.TheVariants as replies
 use Rattle.access.specs.Points.{Point, AccessRules, content_of}
-use Rattle.access.specs.Changing.{ChangesAt}
+use Rattle.access.specs.Changing.{ReplacesAt}
 use Rattle.machine.specs.Answers.{Verdict, Answer, says, serves, behind, change_answer, ChangeStep, Behind}
-use Rattle.machine.specs.Answers.Verdict.{Written, NotWritten, Unknown}
+use Rattle.machine.specs.Answers.Verdict.{Written, Unknown}
 use Rattle.machine.specs.Stages.{Stage}
 use Rattle.machine.specs.Steps.{EffectAt, StepAt, AnswerWritten, StepWritten, StepOrNothing}
 use Rattle.machine.specs.declared.env.Env.{Env}
@@ -29,20 +29,20 @@ use Rattle.telling.proofs.Steps.{Leads, leads_by, leads_behind, stepped, not_ask
 module _ (refusal : RepoState → Option Refusal) (e : Accepted) (env : Env) (client : Client) (told : List Reply) (answer : Verdict → Answer)
     (rules : AccessRules) (p q : Point) where
   abbrev Judged : Point → Answer → Type 0
-  Judged at a = ChangeStep at.halted env client (refusal (content_of at)) answer a
+  Judged at a = ChangeStep at.halted env client (refusal (content_of at)) e answer a
 
   abbrev ChangeLeads : Env → Stage → List Reply → Type 0
   ChangeLeads env' phase own = Leads rules (λ at a. Behind told (Judged at) a) p q env' phase (told ++ own)
 
   -- what it has led to
   abbrev Came : Result (Unit {0}) ChangeFault → Type 0
-  Came r = (at : Point) × rules.between p at × ChangesAt (refusal (content_of at)) (λ _ x. rules.adds at e x) at r q
+  Came r = (at : Point) × rules.between p at × ReplacesAt rules (refusal (content_of at)) e at r q
 
   judged : (at : Point) (h : Bool) (r : Option Refusal) (a : Answer) → at.halted ≡ h → refusal (content_of at) ≡ r
-      → ChangeStep h env client r answer a → Judged at a
+      → ChangeStep h env client r e answer a → Judged at a
   judged at h r a halts says_so step =
-      let here = subst (λ (o : Option Refusal). ChangeStep h env client o answer a) (sym says_so) step in
-      subst (λ (b : Bool). ChangeStep b env client (refusal (content_of at)) answer a) (sym halts) here
+      let here = subst (λ (o : Option Refusal). ChangeStep h env client o e answer a) (sym says_so) step in
+      subst (λ (b : Bool). ChangeStep b env client (refusal (content_of at)) e answer a) (sym halts) here
 
   led : (a : Answer) (at : Point) → rules.between p at → Judged at a → EffectAt rules at a.effect q → ChangeLeads a.env a.phase a.replies
   led a at later step_is moves = leads_behind told (leads_by a at later step_is moves)
@@ -51,32 +51,26 @@ module _ (refusal : RepoState → Option Refusal) (e : Accepted) (env : Env) (cl
       → ChangeLeads env' (Serving client) own
   made env' own x is (at, later, (going, accepted, added)) =
       let a = change_answer env' client e own Written in
-      led a at later (judged at false None a going accepted (Written, sym is)) (q, (q, added, refl), refl)
+      led a at later (judged at false None a going accepted (Written, tt, sym is)) (q, (q, added, refl), refl)
 
   refused : (r : Refusal) → Came (Err (change_faults.Refused r)) → ChangeLeads env (Serving client) (replies.Failure r ∷ [])
   refused r (at, later, (going, is_refused, stays)) =
       let a = serves env client (replies.Failure r) in
       led a at later (judged at false (Some r) a going is_refused refl) (at, refl, stays)
 
-  failed : answer NotWritten ≡ change_answer env client e [] NotWritten → Came (Err change_faults.StoreFailed)
-      → ChangeLeads env (Serving client) (replies.Failure refusals.StoreFailed ∷ [])
-  failed is (at, later, (going, accepted, fails)) =
-      let a = change_answer env client e [] NotWritten in
-      led a at later (judged at false None a going accepted (NotWritten, sym is)) (at, refl, fails)
-
   -- one after a halt, or one of which nobody knows whether it is written
-  halted : answer Unknown ≡ change_answer env client e [] Unknown → Came (Err change_faults.Halted)
+  halted : answer (Unknown e) ≡ change_answer env client e [] (Unknown e) → Came (Err change_faults.Halted)
       → ChangeLeads env Ended (replies.Failure refusals.StoreFailed ∷ [])
   halted is (at, later, inl (stopped, stays)) =
       let a = says env Ended (replies.Failure refusals.StoreFailed ∷ []) in
       led a at later (judged at true (refusal (content_of at)) a stopped refl refl) (at, refl, stays)
   halted is (at, later, inr (going, accepted, halts)) =
-      let a = change_answer env client e [] Unknown in
-      led a at later (judged at false None a going accepted (Unknown, sym is)) (at, refl, halts)
+      let a = change_answer env client e [] (Unknown e) in
+      led a at later (judged at false None a going accepted (Unknown e, refl, sym is)) (at, refl, halts)
 
   -- one that was not made, and why is told
   pub not_made : {E : Type 0} (fault : ChangeFault) (r : Result Stage E) (env' : Env) (writes : List ℕ → Type 0)
-      → answer NotWritten ≡ change_answer env client e [] NotWritten → answer Unknown ≡ change_answer env client e [] Unknown → Came (Err fault)
+      → answer (Unknown e) ≡ change_answer env client e [] (Unknown e) → Came (Err fault)
       → record {
         ok : IfOk r (λ phase'. IsSomeAnd (fault_answer env client fault) (λ a. AnswerWritten (behind told a) phase' env' writes));
         err : OnErr r (MatchOption (fault_answer env client fault) (writes []) (λ a. WritesPart writes (print (told ++ a.replies))));
@@ -85,11 +79,11 @@ module _ (refusal : RepoState → Option Refusal) (e : Accepted) (env : Env) (cl
         ok : IfOk r (λ phase'. StepWritten rules (λ at a. Behind told (Judged at) a) p q phase' env' writes);
         err : OnErr r (StepOrNothing rules (λ at a. Behind told (Judged at) a) p q writes);
       }
-  not_made (change_faults.Refused why) r env' writes fails halts came said = stepped (refused why came) writes r env' said
-  not_made change_faults.StoreFailed r env' writes fails halts came said = stepped (failed fails came) writes r env' said
-  not_made change_faults.Halted r env' writes fails halts came said = stepped (halted halts came) writes r env' said
-  not_made change_faults.NoMemory (Ok x) env' writes fails halts came said = absurd said.ok
-  not_made change_faults.NoMemory (Err e) env' writes fails halts came said = record { ok = tt; err = not_asked came said.err }
+  not_made (change_faults.Refused why) r env' writes halts came said = stepped (refused why came) writes r env' said
+  not_made change_faults.StoreFailed r env' writes halts (at, later, (going, accepted, fails)) said = absurd fails
+  not_made change_faults.Halted r env' writes halts came said = stepped (halted halts came) writes r env' said
+  not_made change_faults.NoMemory (Ok x) env' writes halts came said = absurd said.ok
+  not_made change_faults.NoMemory (Err e) env' writes halts came said = record { ok = tt; err = not_asked came said.err }
 
 -- ---- a step that is another's too
 

@@ -8,7 +8,7 @@ use Rattle.replies.proofs.Parts.{both_written, part_behind}
 use Rattle.access.specs.Points.{Point, AccessRules}
 use Rattle.machine.specs.Stages.{Stage}
 use Rattle.machine.specs.Answers.{Effect, no_effect, Answer, says, behind, Behind}
-use Rattle.machine.specs.Steps.{EffectAt, StepAt, StepWritten, StepOrNothing, AnswerWritten}
+use Rattle.machine.specs.Steps.{EffectAt, StepAt, StepWritten, StepOrNothing, StepOrPart, AnswerWritten}
 use Rattle.machine.specs.declared.env.Env.{Env}
 
 -- a step leads from a point to another, where the session stands there, and is to tell this
@@ -107,6 +107,28 @@ module _ (rules : AccessRules) (step : Point → Answer → Type 0) (p q : Point
 pub not_asked : {rules : AccessRules} {step : Point → Answer → Type 0} {writes : List ℕ → Type 0} {p q : Point}
     → ((at : Point) × rules.between p at × (q ≡ at)) → writes [] → StepOrNothing rules step p q writes
 not_asked {rules = rules} {p = p} (at, later, stays) unwritten = inl (subst (λ (x : Point). rules.between p x) (sym stays) later, unwritten)
+
+-- ---- a step of which a part may happen alone
+
+module _ (rules : AccessRules) (step part : Point → Answer → Type 0) (p q : Point) (writes : List ℕ → Type 0) where
+  -- it has happened as far as its answer was written, or it has not
+  pub unparted : {E : Type 0} (r : Result Stage E) (env' : Env)
+      → record { ok : IfOk r (λ phase'. StepWritten rules step p q phase' env' writes); err : OnErr r (StepOrNothing rules step p q writes) }
+      → record { ok : IfOk r (λ phase'. StepWritten rules step p q phase' env' writes); err : OnErr r (StepOrPart rules step part p q writes) }
+  unparted (Ok phase') env' s = record { ok = s.ok; err = tt }
+  unparted (Err e) env' s = record { ok = tt; err = inl s.err }
+
+  -- a part of it is a part of another
+  module _ (part' : Point → Answer → Type 0) (is : (at : Point) (a : Answer) → part at a → part' at a) where
+    part_is : StepOrPart rules step part p q writes → StepOrPart rules step part' p q writes
+    part_is (inl whole) = inl whole
+    part_is (inr (a, s, unwritten)) = inr (a, record { at = s.at; later = s.later; step_is = is s.at a s.step_is; moves = s.moves }, unwritten)
+
+    pub parted : {E : Type 0} (r : Result Stage E) (env' : Env)
+        → record { ok : IfOk r (λ phase'. StepWritten rules step p q phase' env' writes); err : OnErr r (StepOrPart rules step part p q writes) }
+        → record { ok : IfOk r (λ phase'. StepWritten rules step p q phase' env' writes); err : OnErr r (StepOrPart rules step part' p q writes) }
+    parted (Ok phase') env' s = record { ok = s.ok; err = tt }
+    parted (Err e) env' s = record { ok = tt; err = part_is s.err }
 
 module _ {S : Type 0} (writes : S → S → List ℕ → Type 0)
     (further : (s t u : S) (first second : List ℕ) → writes s t first → writes t u second → writes s u (first ++ second)) where

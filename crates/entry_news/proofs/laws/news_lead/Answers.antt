@@ -1,7 +1,6 @@
 use Rattle.reports.specs.Targets.{old_tree, new_tree, stale_in}
-use Rattle.entry_news.specs.News.{starts_empty_at}
 use Rattle.entry_news.proofs.Leading.{news_lead_over}
 use Rattle.entry_news.proofs.laws.news_lead.Goals as goal
 
 pub returns : goal.returns
-returns c = λ state report. news_lead_over state report.ask.purpose (stale_in state report) (starts_empty_at report.grafts) (old_tree state report) (new_tree state report)
+returns c = λ state report. news_lead_over state report.ask.purpose (stale_in state report) (old_tree state report) (new_tree state report)

@@ -1,4 +1,4 @@
-use Rattle.std.proofs.Common.{◌≡◌, false, ◌==◌, ◌++◌, length, sym, ap, subst, ◌∙◌}
+use Rattle.std.proofs.Common.{◌≡◌, ◌==◌, ◌++◌, length, sym, ap, subst, ◌∙◌}
 use Rattle.std.specs.Prelude.{Decides}
 use Rattle.drives.specs.Steps.{property_values}
 use Rattle.entry_news.specs.News.{property_changes}
@@ -10,4 +10,4 @@ returns c =
     subst (λ b. Decides b (property_values c.args.old.now ≡ property_values c.args.new.now))
     (sym (c.is_empty.ensures ∙ ap (λ xs. length xs == 0) c.as_slice.ensures))
     (none_changed c.args.old.now c.args.new.now c.in_ok-changes.changes
-    (c.in_ok-changes.ensures ∙ ap (λ cs. cs ++ property_changes false c.args.old.now c.args.new.now) c.new.ensures))
+    (c.in_ok-changes.ensures ∙ ap (λ cs. cs ++ property_changes c.args.old.now c.args.new.now) c.new.ensures))

@@ -6,4 +6,4 @@ use Rattle.entry_news.proofs.property_changes.with_named.Given as goal
 
 abbrev pub invariant-loop-name : goal.invariant-loop-name
 invariant-loop-name l =
-    l.changes ++ changes_named l.tells_all l.old l.new (map (λ p. p.0) l.name-iterator) ≡ l.fn.changes ++ changes_named l.tells_all l.old l.new (map (λ p. p.0) l.names)
+    l.changes ++ changes_named l.old l.new (map (λ p. p.0) l.name-iterator) ≡ l.fn.changes ++ changes_named l.old l.new (map (λ p. p.0) l.names)

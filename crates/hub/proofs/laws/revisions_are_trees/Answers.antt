@@ -1,10 +1,7 @@
-use Rattle.hub.specs.Laws.{new_hub}
 use Rattle.hub.proofs.laws.revisions_are_trees.Goals as goal
 
 pub returns-clause-events : goal.returns-clause-events
-returns-clause-events c = λ settings uuid date env after events told new run.
-    (c.trees_stay_trees.ensures.events (new_hub settings uuid date) new env after events told (c.new_trees_are_trees.ensures settings uuid date) run).revisions.0
+returns-clause-events c = λ old new env after events told trees run. (c.trees_stay_trees.ensures.events old new env after events told trees run).revisions.0
 
 pub returns-clause-calls : goal.returns-clause-calls
-returns-clause-calls c = λ settings uuid date calls outcomes new run.
-    (c.trees_stay_trees.ensures.calls (new_hub settings uuid date) new calls outcomes (c.new_trees_are_trees.ensures settings uuid date) run).revisions.0
+returns-clause-calls c = λ old new calls outcomes trees run. (c.trees_stay_trees.ensures.calls old new calls outcomes trees run).revisions.0

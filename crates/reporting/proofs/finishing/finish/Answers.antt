@@ -8,7 +8,7 @@ use Rattle.reporting.proofs.finishing.finish.Goals as goal
 pub returns-in-Ok-clause-ok : goal.returns-in-Ok-clause-ok
 returns-in-Ok-clause-ok g c =
     let d = c.in-Ok.ensures.drive in
-    told_all (drives _ _ _ c.args.errand.report c.drive_now.ensures.later d.0 d.2.0 d.1 d.2.1) _ _ _
+    told_all (drives _ _ _ c.args.errand.report c.drive_now.ensures.later (g.met.A.RepoAccess.sound _ _ c.drive_now.ensures.later c.requires.trees).0 d.0 d.2.0 d.1 d.2.1) _ _ _
     (record { phase_after = refl; env_after = refl; written = d.2.2 })
 
 pub returns-in-Err-Refused : goal.returns-in-Err-Refused
@@ -24,7 +24,7 @@ returns-in-Err-Refused g c =
     let unanswered = rw c.in-Err-Refused.field-0-is at c.in-Err-Refused.ensures.drive in
     let step = EndStep env client report in
     let a = drawn_answer env client (Fails r) in
-    let is = fails rules env client report later r unanswered.0 in
+    let is = fails rules env client report later (g.met.A.RepoAccess.sound p q later c.requires.trees).0 r unanswered.0 in
     let further = g.met.S.ReplySink.more in
     record {
       ok = said rules step p q a later is refl _ c.fail.result _ (behind_answered _ further c.fail.result [] a _ _ _ _ unanswered.1 c.fail.ensures.ok);
@@ -33,4 +33,4 @@ returns-in-Err-Refused g c =
 
 pub returns-in-Err-NoMemory-clause-err : goal.returns-in-Err-NoMemory-clause-err
 returns-in-Err-NoMemory-clause-err g c =
-    lost _ _ _ c.args.errand.report c.drive_now.ensures.later _ (rw c.in-Err-NoMemory.field-0-is at c.in-Err-NoMemory.ensures.drive)
+    lost _ _ _ c.args.errand.report c.drive_now.ensures.later (g.met.A.RepoAccess.sound _ _ c.drive_now.ensures.later c.requires.trees).0 _ (rw c.in-Err-NoMemory.field-0-is at c.in-Err-NoMemory.ensures.drive)

@@ -9,7 +9,7 @@ use Rattle.machine.specs.Machine.{skipping_answer}
 use Rattle.machine.specs.Reports.{driven_answer}
 use Rattle.machine.specs.Steps.{input_step}
 use Rattle.machine.specs.declared.phase.Phase.TheVariants.{Greeted, Skipping, Driven}
-use Rattle.telling.proofs.Steps.{only_says, told_all, said, said_part}
+use Rattle.telling.proofs.Steps.{only_says, told_all, said, said_part, unparted}
 use Rattle.session.proofs.Answered.{greeting_nothing, skipping_nothing, driven_nothing}
 use Rattle.session.proofs.serve.serve_item.Goals as goal
 
@@ -22,19 +22,19 @@ returns-in-Greeted g c =
     let stays = g.met.A.RepoAccess.stays p in
     let a = greeting_answer s env (client_greeting item) in
     let nothing = greeting_nothing s env (client_greeting item) in
-    rw c.in-Greeted.is (record {
+    rw c.in-Greeted.is (unparted _ _ _ _ _ _ _ _ (record {
       ok = said g.A.RepoAccess.rules (input_step s env Greeted (Whole item)) p p a stays refl nothing _ c.greet.result _ c.greet.ensures.ok;
       err = said_part g.A.RepoAccess.rules (input_step s env Greeted (Whole item)) p p a stays refl nothing _ c.greet.result c.greet.ensures.err;
-    })
+    }))
 
 pub returns-in-LoggingIn : goal.returns-in-LoggingIn
-returns-in-LoggingIn g c = rw c.in-LoggingIn.is c.log_in.ensures
+returns-in-LoggingIn g c = rw c.in-LoggingIn.is (unparted _ _ _ _ _ _ c.log_in.result _ c.log_in.ensures)
 
 pub returns-in-Challenged : goal.returns-in-Challenged
-returns-in-Challenged g c = rw c.in-Challenged.is c.answer_challenge.ensures
+returns-in-Challenged g c = rw c.in-Challenged.is (unparted _ _ _ _ _ _ c.answer_challenge.result _ c.answer_challenge.ensures)
 
 pub returns-in-Serving : goal.returns-in-Serving
-returns-in-Serving g c = rw c.in-Serving.is c.answer_item.ensures
+returns-in-Serving g c = rw c.in-Serving.is (unparted _ _ _ _ _ _ c.answer_item.result _ c.answer_item.ensures)
 
 pub returns-in-Editing : goal.returns-in-Editing
 returns-in-Editing g c = rw c.in-Editing.is c.edit_item.ensures
@@ -49,13 +49,13 @@ returns-in-Skipping g c =
     let stays = g.met.A.RepoAccess.stays p in
     let a = skipping_answer env client (ends_edit item) in
     let nothing = skipping_nothing env client (ends_edit item) in
-    rw c.in-Skipping.is (record {
+    rw c.in-Skipping.is (unparted _ _ _ _ _ _ _ _ (record {
       ok = said g.A.RepoAccess.rules (input_step s env (Skipping client) (Whole item)) p p a stays refl nothing _ c.skip.result _ c.skip.ensures.ok;
       err = said_part g.A.RepoAccess.rules (input_step s env (Skipping client) (Whole item)) p p a stays refl nothing _ c.skip.result c.skip.ensures.err;
-    })
+    }))
 
 pub returns-in-Reporting : goal.returns-in-Reporting
-returns-in-Reporting g c = rw c.in-Reporting.is c.serve_report.ensures
+returns-in-Reporting g c = rw c.in-Reporting.is (unparted _ _ _ _ _ _ c.serve_report.result _ c.serve_report.ensures)
 
 pub returns-in-Driven : goal.returns-in-Driven
 returns-in-Driven g c =
@@ -67,10 +67,10 @@ returns-in-Driven g c =
     let stays = g.met.A.RepoAccess.stays p in
     let a = driven_answer env client (client_answer item) in
     let nothing = driven_nothing env client (client_answer item) in
-    rw c.in-Driven.is (record {
+    rw c.in-Driven.is (unparted _ _ _ _ _ _ _ _ (record {
       ok = said g.A.RepoAccess.rules (input_step s env (Driven client) (Whole item)) p p a stays refl nothing _ c.serve_driven.result _ c.serve_driven.ensures.ok;
       err = said_part g.A.RepoAccess.rules (input_step s env (Driven client) (Whole item)) p p a stays refl nothing _ c.serve_driven.result c.serve_driven.ensures.err;
-    })
+    }))
 
 pub returns-in-Ended-clause-ok : goal.returns-in-Ended-clause-ok
 returns-in-Ended-clause-ok g c =

@@ -38,7 +38,7 @@ returns-in_err-phase-in-Ok-Some-clause-err g c =
 pub returns-in_err-phase-in-Ok-Some-clause-trees : goal.returns-in_err-phase-in-Ok-Some-clause-trees
 returns-in_err-phase-in-Ok-Some-clause-trees g c =
     let p = err_from_is_err_and c.from_residual.result c.from_residual.ensures.1 in
-    rw (p.1) (trees_failed g.A.RepoAccess.rules g.met.A.RepoAccess.keeps g.met.A.RepoAccess.counts g.met.A.RepoAccess.sound c.steps_keep_trees.ensures c.args.options.now
+    rw (p.1) (trees_failed g.A.RepoAccess.rules g.met.A.RepoAccess.keeps g.met.A.RepoAccess.counts g.met.A.RepoAccess.sound c.steps_keep_trees.ensures.step c.steps_keep_trees.ensures.unreleased c.args.options.now
     c.inputs.turn.env (g.A.RepoAccess.point c.inputs.access) (g.A.RepoAccess.point c.serve.new.access) c.inputs.phase
     (input_of c.in-Ok-Some.incoming) (g.S.ReplySink.writes c.inputs.turn.out c.serve.new.turn.out) c.in_err-phase-in-Ok-Some.ensures.err c.inputs.invariant.0)
 
@@ -56,14 +56,14 @@ returns-then-not-is_open-clause-ok g c =
 
 pub returns-then-not-is_open-clause-rests : goal.returns-then-not-is_open-clause-rests
 returns-then-not-is_open-clause-rests g c =
-    rests_served g.A.RepoAccess.rules g.met.A.RepoAccess.keeps g.met.A.RepoAccess.counts g.met.A.RepoAccess.sound c.steps_keep_trees.ensures c.args.options.now
+    rests_served g.A.RepoAccess.rules g.met.A.RepoAccess.keeps g.met.A.RepoAccess.counts g.met.A.RepoAccess.sound c.steps_keep_trees.ensures.step c.args.options.now
     c.inputs.turn.env c.serve.new.turn.env (g.A.RepoAccess.point c.inputs.access) (g.A.RepoAccess.point c.serve.new.access) c.inputs.phase c.in_ok-phase-in-Ok-Some.phase
     (input_of c.in-Ok-Some.incoming) (g.S.ReplySink.writes c.inputs.turn.out c.serve.new.turn.out) c.in_ok-phase-in-Ok-Some.ensures.ok c.inputs.invariant.0
 
 pub inputs-preserved : goal.inputs-preserved
 inputs-preserved g c =
     let t = rw c.in-Ok-Some.field-0-is at c.in-Ok-Some.ensures.taken in (
-      rests_served g.A.RepoAccess.rules g.met.A.RepoAccess.keeps g.met.A.RepoAccess.counts g.met.A.RepoAccess.sound c.steps_keep_trees.ensures c.args.options.now
+      rests_served g.A.RepoAccess.rules g.met.A.RepoAccess.keeps g.met.A.RepoAccess.counts g.met.A.RepoAccess.sound c.steps_keep_trees.ensures.step c.args.options.now
           c.inputs.turn.env c.serve.new.turn.env (g.A.RepoAccess.point c.inputs.access) (g.A.RepoAccess.point c.serve.new.access) c.inputs.phase c.in_ok-phase-in-Ok-Some.phase
           (input_of c.in-Ok-Some.incoming) (g.S.ReplySink.writes c.inputs.turn.out c.serve.new.turn.out) c.in_ok-phase-in-Ok-Some.ensures.ok c.inputs.invariant.0,
       more g.S.ReplySink.writes g.met.S.ReplySink.nothing g.met.S.ReplySink.more g.A.RepoAccess.rules c.args.options.now g.met.A.RepoAccess.stays

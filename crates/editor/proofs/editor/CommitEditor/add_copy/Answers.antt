@@ -26,4 +26,4 @@ put_new-requires-clause-right g c =
     let p : PathValue = c.args.path.now in
     let is_op : c.in_ok-op.op ≡ copy_edit (standing e.txn p) p c.args.source.now = c.in_ok-op.ensures ∙ ap (λ (kind : NodeKind). copy_edit kind p c.args.source.now) c.standing.ensures in
     subst (λ (op : EditOp). IsRightIn (g.R.Repository.content c.args.repository.now) e.txn op) (sym is_op)
-    (c.edits_are_right.ensures.adds (g.R.Repository.content c.args.repository.now) e c.args.is_file c.args.entry.now p (Some c.args.source.now) c.requires.sound c.in_ok-judge_copy.ensures)
+    (c.edits_are_right.ensures.adds (g.R.Repository.content c.args.repository.now) e c.args.is_file c.args.entry.now p (Some c.args.source.now) c.requires.sound c.requires.named c.in_ok-judge_copy.ensures)

@@ -1,6 +1,14 @@
+use Rattle.std.proofs.Common.{sym, subst}
+use Rattle.edit_rules.specs.Edits.{EditState}
+use Rattle.edit_rules.specs.Soundness.{IsRightIn}
 use Rattle.edit_rules.specs.declared.opened.DeltaState.TheVariants.{Reading}
 use Rattle.editor.proofs.TextSteps.{ends}
 use Rattle.editor.proofs.editor.CommitEditor.end_delta.Goals as goal
+
+pub edit-requires-clause-right : goal.edit-requires-clause-right
+edit-requires-clause-right g c =
+    subst (λ (e : EditState). IsRightIn (g.R.Repository.content c.args.repository.now) e.txn c.in_ok-op.op) (sym c.in_ok-op.ensures.same)
+    (c.edits_are_right.ensures.sets_texts (g.R.Repository.content c.args.repository.now) c.args.self.now c.args.token.now c.in_ok-op.op c.requires.sound c.in_ok-op.ensures.op)
 
 pub returns-clause-ok : goal.returns-clause-ok
 returns-clause-ok g c =

@@ -1,0 +1,20 @@
+use Rattle.std.proofs.Common.{ap, ◌∙◌}
+use Rattle.std.specs.Prelude.{Ok}
+use Rattle.repo_api.specs.declared.ask.CommitAsk.{CommitAsk}
+use Rattle.hub.proofs.laws.nothing_else_is_asked_for.Goals as goal
+
+pub returns-clause-commit : goal.returns-clause-commit
+returns-clause-commit c = λ env edit t ask txn asked.
+    let of = asked.1 in
+    (asked.0, of.0, ap (λ (x : CommitAsk). x.author) of.3, ap (λ (x : CommitAsk). x.tokens) of.3)
+
+pub returns-clause-release : goal.returns-clause-release
+returns-clause-release c = λ env edit t user tokens asked. asked.1
+
+pub returns-clause-property : goal.returns-clause-property
+returns-clause-property c = λ env client t n name value asked.
+    let by = asked.2 in
+    (by.0, asked.1 ∙ ap Ok by.1, by.2, by.3, by.4)
+
+pub returns-clause-within_edit : goal.returns-clause-within_edit
+returns-clause-within_edit c = λ env edit t n name value asked. asked.1

@@ -1,0 +1,95 @@
+-- What a session asks of the repository by an input.
+use Rattle.std.specs.Prelude.{◌≡◌, ℕ, List, [], ◌∷◌, Option, Some, None, Ok}
+use Rattle.svnpath.specs.Paths.{PathValue}
+use Rattle.svnpath.specs.Texts.{joined}
+use Rattle.dates.specs.Dates.{IsDateText}
+use Rattle.repo_api.specs.Accepted.{Accepted}
+use Rattle.repo_api.specs.Accepted.Accepted.{Commits, Locks, Unlocks, Releases, ChangesProperty}
+use Rattle.commands.specs.Commands.{main_command}
+use Rattle.commands.specs.declared.command.MainCommand.{MainCommand}
+use Rattle.commands.specs.declared.command.MainCommand.TheVariants.{Lock, Unlock, ChangeRevProp}
+use Rattle.commands.specs.declared.command.LockCommand.{LockCommand}
+use Rattle.commands.specs.declared.command.UnlockCommand.{UnlockCommand}
+use Rattle.commands.specs.declared.command.ChangeRevPropCommand.{ChangeRevPropCommand}
+use Rattle.edit_commands.specs.Editing.{editor_command}
+use Rattle.edit_commands.specs.declared.editing.EditorCommand.TheVariants.{CloseEdit}
+use Rattle.edit_rules.specs.Editor.{finished}
+use Rattle.machine.specs.Commands.{lock_ask, unlock_ask}
+use Rattle.machine.specs.Hearing.{Input}
+use Rattle.machine.specs.Hearing.Input.{Whole, Broken}
+use Rattle.machine.specs.Logins.{with_user}
+use Rattle.machine.specs.Machine.{MachineEdit, commit_ask}
+use Rattle.machine.specs.Stages.{Stage, SessionState}
+use Rattle.machine.specs.declared.env.Env.{Env}
+use Rattle.machine.specs.declared.phase.Client.{Client}
+use Rattle.machine.specs.declared.phase.Phase.TheVariants.{Greeted, LoggingIn, Challenged, Serving, Editing, Skipping, Reporting, Driven, Ended}
+use Rattle.hub.specs.State.{HubState, session_of}
+use Rattle.hub.specs.Runs.{Event}
+use Rattle.hub.specs.Runs.Event.{Connects, HandsIn, Hears, Leaves, Drops}
+
+-- a client asks for the change by a command, at the moment and with the word that are handed in
+abbrev pub IsAskedBy : Env → Client → MainCommand → Accepted → Type 0
+IsAskedBy env client command (Commits ask t) = ⊥
+IsAskedBy env client command (Locks ask) =
+    (lock : LockCommand) × (command ≡ Lock lock)
+    × (path : PathValue) × (joined client.path lock.path ≡ Ok path)
+    × (date : List ℕ) × IsDateText env.moment date × (ask ≡ lock_ask env client lock path date)
+IsAskedBy env client command (Unlocks ask) =
+    (unlock : UnlockCommand) × (command ≡ Unlock unlock)
+    × (path : PathValue) × (joined client.path unlock.path ≡ Ok path)
+    × (ask ≡ unlock_ask client unlock path)
+IsAskedBy env client command (Releases user tokens) = ⊥
+IsAskedBy env client command (ChangesProperty n name value) =
+    (change : ChangeRevPropCommand) × (command ≡ ChangeRevProp change)
+    × (n ≡ change.revision) × (name ≡ change.name) × (value ≡ change.value)
+
+-- the change is the commit of this edit's transaction, with what was asked for as it began, or the
+-- release behind it
+abbrev pub IsOfEdit : Env → MachineEdit → Accepted → Type 0
+IsOfEdit env edit (Commits ask t) =
+    (finished edit.editor ≡ Ok t)
+    × (date : List ℕ) × IsDateText env.moment date × (ask ≡ commit_ask edit.client edit.asked date)
+IsOfEdit env edit (Locks ask) = ⊥
+IsOfEdit env edit (Unlocks ask) = ⊥
+IsOfEdit env edit (Releases user tokens) =
+    (user ≡ edit.client.user) × (tokens ≡ edit.asked.tokens)
+IsOfEdit env edit (ChangesProperty n name value) = ⊥
+
+-- the client asks for it by a command that has waited for a login
+abbrev pub IsWaiting : Env → Client → Option MainCommand → Accepted → Type 0
+IsWaiting env client waiting e =
+    (command : MainCommand) × (waiting ≡ Some command) × IsAskedBy env client command e
+
+-- the change is what a session asks for, where it stands so, by this input: by the command that it
+-- reads, by the one that waits for a login, or by the end of its edit
+abbrev pub IsAsked : Env → Stage → Input → Accepted → Type 0
+IsAsked env (Serving client) (Whole t) e =
+    (command : MainCommand) × (main_command t ≡ Ok command) × IsAskedBy env client command e
+IsAsked env (LoggingIn login) (Whole t) e = IsWaiting env login.client login.waiting e
+IsAsked env (Challenged pending) (Whole t) e =
+    (name : List ℕ) × IsWaiting env (with_user pending.login.client name) pending.login.waiting e
+IsAsked env (Editing edit) (Whole t) e = (editor_command t ≡ Ok CloseEdit) × IsOfEdit env edit e
+IsAsked env Greeted (Whole t) e = ⊥
+IsAsked env (Skipping client) (Whole t) e = ⊥
+IsAsked env (Reporting reporting) (Whole t) e = ⊥
+IsAsked env (Driven client) (Whole t) e = ⊥
+IsAsked env Ended (Whole t) e = ⊥
+IsAsked env phase Broken e = ⊥
+
+-- an open session asks for it; one that has ended asks for nothing
+abbrev pub IsAskedIn : Env → Option SessionState → Input → Accepted → Type 0
+IsAskedIn env None input e = ⊥
+IsAskedIn env (Some s) input e = IsAsked env s.phase input e
+
+-- by an event its session asks for the change
+abbrev pub IsAskedAt : HubState → Env → Event → Accepted → Type 0
+IsAskedAt old env (Connects n) e = ⊥
+IsAskedAt old env (HandsIn words) e = ⊥
+IsAskedAt old env (Hears n input) e = IsAskedIn env (session_of old.sessions n) input e
+IsAskedAt old env (Leaves n input) e = IsAskedIn env (session_of old.sessions n) input e
+IsAskedAt old env (Drops n) e = ⊥
+
+-- it is so of each of the changes
+abbrev pub AreAll : (Accepted → Type 0) → List Accepted → Type 0
+AreAll P [] = Unit {0}
+AreAll P (e ∷ es) = P e × AreAll P es

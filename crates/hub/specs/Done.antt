@@ -1,0 +1,101 @@
+-- What events do to the repository, and what their sessions have asked for.
+use Rattle.std.specs.Prelude.{◌≡◌, Bool, true, false, List, [], ◌∷◌, ◌++◌, Some}
+use Rattle.access.specs.Changing.{wants_release}
+use Rattle.repo_api.specs.States.{RepoState, TxnState}
+use Rattle.repo_api.specs.Commits.{committed}
+use Rattle.repo_api.specs.Accepted.{Accepted, IsAccepted, AreAccepted, changed_all}
+use Rattle.repo_api.specs.Accepted.Accepted.{Commits}
+use Rattle.repo_api.specs.declared.ask.CommitAsk.{CommitAsk}
+use Rattle.replies.specs.declared.reply.Reply.{Reply}
+use Rattle.machine.specs.declared.env.Env.{Env}
+use Rattle.hub.specs.State.{HubState, HasTrees}
+use Rattle.hub.specs.Runs.{Event, HubRun, ends_of, with_rest}
+use Rattle.hub.specs.Runs.Event.{Connects, HandsIn, Hears, Leaves, Drops}
+use Rattle.hub.specs.Calls.{CallStep, CallRun}
+use Rattle.hub.specs.declared.hub.HubFault.TheVariants.{NoSession, NoMemory, Halted, Full}
+use Rattle.hub.specs.declared.calls.Call.{Call}
+use Rattle.hub.specs.declared.calls.Call.TheVariants.{Connect, Feed, Disconnect}
+use Rattle.hub.specs.declared.calls.Outcome.{Outcome}
+use Rattle.hub.specs.declared.calls.Outcome.TheVariants.{Connected, Wrote, Dropped, Failed}
+use Rattle.hub.specs.Asked.{IsAskedAt, AreAll}
+use Rattle.hub.specs.Laws.{IsTold, UsesWord, AllKeepSides}
+
+-- the repository has gone on by these changes, each accepted in the state that those before it make
+pub record GoesOnBy (old : RepoState) (changes : List Accepted) (new : RepoState) : Type 0 where
+  pub accepted : AreAccepted old changes
+  pub is : new ≡ changed_all old changes
+
+-- the words that are left behind these changes: new ones where they were handed in
+abbrev pub LeavesWords : Env → Event → List Accepted → Env → Type 0
+LeavesWords env (Connects n) changes after = after ≡ env
+LeavesWords env (HandsIn words) changes after = after ≡ words
+LeavesWords env (Hears n input) changes after = UsesWord env changes after
+LeavesWords env (Leaves n input) changes after = after ≡ env
+LeavesWords env (Drops n) changes after = after ≡ env
+
+-- what is told of the changes of an event; nothing is told of a commit whose session is gone before
+-- the release that is wanted
+abbrev pub Tells : RepoState → Bool → Event → List Accepted → List Reply → Type 0
+Tells c halted (Connects n) changes told = IsTold c halted changes told
+Tells c halted (HandsIn words) changes told = IsTold c halted changes told
+Tells c halted (Hears n input) changes told = IsTold c halted changes told
+Tells c halted (Leaves n input) changes told = (told ≡ []) × ((ask : CommitAsk) × (t : TxnState)
+    × (changes ≡ Commits ask t ∷ []) × (wants_release ask (committed c ask t) ≡ true))
+Tells c halted (Drops n) changes told = IsTold c halted changes told
+
+-- where an event brings changes to a halt, the change that was being saved is known: its session
+-- asked for it, and the rules accept it
+abbrev pub NamesHalt : HubState → Env → Event → HubState → Type 0
+NamesHalt old env event new =
+    old.halted ≡ false → new.halted ≡ true
+    → (e : Accepted) × (new.pending ≡ Some e) × IsAskedAt old env event e
+    × IsAccepted new.content e
+
+-- An event has done this: its session asked for each of the changes, by which the repository has
+-- gone on, and which are told; and where every tree is a tree, a commit among them overwrites
+-- nothing; and a halt names the change that was being saved.
+pub record HasDone (old : HubState) (env : Env) (event : Event) (changes : List Accepted)
+    (told : List Reply) (new : HubState) (after : Env) : Type 0 where
+  pub own : AreAll (IsAskedAt old env event) changes
+  pub on : GoesOnBy old.content changes new.content
+  pub tells : Tells old.content new.halted event changes told
+  pub words : LeavesWords env event changes after
+  pub sides : HasTrees old → AllKeepSides old.content changes
+  pub halt : NamesHalt old env event new
+
+-- the events of a run have done so one after another, with these changes in a row
+abbrev pub HaveDone : (old : HubState) (env : Env) (events : List Event) (told : List Reply)
+    (new : HubState) (after : Env) → HubRun old env events told new after → List Accepted → Type 0
+HaveDone old env [] told new after run changes = changes ≡ []
+HaveDone old env (e ∷ es) told new after (first, mid, between, more, step, run, is_told) changes =
+    (front : List Accepted) × HasDone old env e front first mid between
+    × (back : List Accepted) × HaveDone mid between es more new after run back
+    × (changes ≡ front ++ back)
+
+-- so have those of a call
+abbrev pub CallHasDone : (old : HubState) (call : Call) (outcome : Outcome) (new : HubState)
+    → CallStep old call outcome new → List Accepted → Type 0
+CallHasDone old Connect outcome new step changes = changes ≡ []
+CallHasDone old (Feed n piece env) (Wrote out) new step changes =
+    let f = step.feeds in
+    HaveDone (with_rest old n f.session f.rest) env f.events f.told new f.env_after f.run changes
+CallHasDone old (Feed n piece env) (Failed NoMemory) new step changes =
+    let b = step.1 in
+    HaveDone (with_rest old n b.session b.rest) env (b.events ++ ends_of n b.left) b.told new
+    b.env_after b.run changes
+CallHasDone old (Feed n piece env) (Failed NoSession) new step changes = changes ≡ []
+CallHasDone old (Feed n piece env) (Failed Halted) new step changes = changes ≡ []
+CallHasDone old (Feed n piece env) (Failed Full) new step changes = changes ≡ []
+CallHasDone old (Feed n piece env) (Connected m out) new step changes = changes ≡ []
+CallHasDone old (Feed n piece env) Dropped new step changes = changes ≡ []
+CallHasDone old (Disconnect n) outcome new step changes = changes ≡ []
+
+-- so have those of each of the calls
+abbrev pub CallsHaveDone : (old : HubState) (calls : List Call) (outcomes : List Outcome)
+    (new : HubState) → CallRun old calls outcomes new → List Accepted → Type 0
+CallsHaveDone old [] outcomes new run changes = changes ≡ []
+CallsHaveDone old (call ∷ calls) (outcome ∷ outcomes) new (mid, step, run) changes =
+    (front : List Accepted) × CallHasDone old call outcome mid step front
+    × (back : List Accepted) × CallsHaveDone mid calls outcomes new run back
+    × (changes ≡ front ++ back)
+CallsHaveDone old (call ∷ calls) [] new run changes = changes ≡ []
