@@ -84,7 +84,7 @@ directory_of (Some e) h = h
 
 -- ---- plans
 
-abbrev IsRightFor : RepoState → WholeReport → PathValue → List Visit → Type 0
+abbrev pub IsRightFor : RepoState → WholeReport → PathValue → List Visit → Type 0
 IsRightFor c report top visits = IsRightPlan (seen_by report.ask.purpose) (under top) (stale_in c report) (old_tree c report) (new_tree c report) (own_steps_of c report) visits
 
 pub both_sides : (c : RepoState) (report : WholeReport) → AreTrees c.revisions → BothHold (old_tree c report) (new_tree c report) report.ask.target

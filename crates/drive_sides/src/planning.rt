@@ -22,9 +22,10 @@ pub fn plan<R: Repository>(
     ensures { IfOk result (λ v. IsPlan (R.content view.now) (whole report.now root) v.items) }
 {
     let trees = TwoTrees { view, report, root };
-    if report.ask.target.is_root() {
+    let top = report.ask.target.as_path();
+    if top.is_root() {
         plan_root(alloc, &trees)
     } else {
-        plan_from(alloc, &trees, &report.ask.target)
+        plan_from(alloc, &trees, top)
     }
 }

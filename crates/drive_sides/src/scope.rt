@@ -98,7 +98,7 @@ impl<'a, R: Repository> TwoTrees<'a, R> {
         match self.report.ask.depth {
             DepthAsked::Given(depth) => Ok(depth),
             DepthAsked::AsReported => {
-                match self.reported_depth(alloc, &self.report.ask.target)? {
+                match self.reported_depth(alloc, self.report.ask.target.as_path())? {
                     Some(depth) => Ok(depth),
                     None => Ok(self.root.depth),
                 }
@@ -137,7 +137,7 @@ impl<'a, R: Repository> TwoTrees<'a, R> {
         ensures { IfOk result (λ answer. answer ≡ drive_scope (R.content self.now.view.now)
             (whole self.now.report.now self.now.root) path.now) }
     {
-        let target = &self.report.ask.target;
+        let target = self.report.ask.target.as_path();
         let mut depth = self.top_limit(alloc)?;
         let mut here = target.clone()?;
         for name in &path.components()[target.len()..] {
@@ -156,7 +156,7 @@ impl<'a, R: Repository> TwoTrees<'a, R> {
             (whole self.now.report.now self.now.root) path.now) }
     {
         let ask = &self.report.ask;
-        if !path.is_at_or_under(&ask.target) {
+        if !path.is_at_or_under(ask.target.as_path()) {
             return Ok(false);
         }
         if is_to_the_end(ask.depth) {

@@ -29,7 +29,7 @@ impl<'a, R: Repository> TwoTrees<'a, R> {
     {
         let ask = &self.report.ask;
         let mut names = BTreeSet::new(alloc);
-        if !path.is_at_or_under(&ask.target) {
+        if !path.is_at_or_under(ask.target.as_path()) {
             return Ok(names);
         }
         let goal = self.goal_path(alloc, path)?;
@@ -129,7 +129,7 @@ impl<'a, R: Repository> Sides for TwoTrees<'a, R> {
 
     fn is_alike(&self, alloc: Global, path: &Path) -> Result<bool, AllocError> {
         let report = self.report;
-        if !path.is_at_or_under(&report.ask.target) {
+        if !path.is_at_or_under(report.ask.target.as_path()) {
             return Ok(false);
         }
         if has_beneath(report.grafts.as_slice(), path) || self.is_stale(alloc, path)? {

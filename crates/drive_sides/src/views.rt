@@ -55,7 +55,7 @@ impl<'a, R: Repository> TwoTrees<'a, R> {
         reported_at(
             alloc,
             self.view,
-            &report.ask.target,
+            report.ask.target.as_path(),
             report.grafts.as_slice(),
             path,
         )
@@ -78,7 +78,7 @@ impl<'a, R: Repository> TwoTrees<'a, R> {
         ensures { IfOk result (λ goal. goal ≡ goal_path self.now.report.now.ask path.now) }
     {
         let ask = &self.report.ask;
-        path.rebased(alloc, &ask.target, &ask.goal)
+        path.rebased(alloc, ask.target.as_path(), &ask.goal)
     }
 
     /// The kind of what is to stand at a path.
@@ -87,7 +87,7 @@ impl<'a, R: Repository> TwoTrees<'a, R> {
             (R.content self.now.view.now) self.now.report.now.ask path.now)) }
     {
         let ask = &self.report.ask;
-        if !path.is_at_or_under(&ask.target) {
+        if !path.is_at_or_under(ask.target.as_path()) {
             return Ok(NodeKind::Absent);
         }
         let goal = self.goal_path(alloc, path)?;

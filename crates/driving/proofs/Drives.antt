@@ -33,7 +33,7 @@ use Rattle.entry_news.specs.News.{news_at, news_steps, steps_if, own_steps_of, o
 use Rattle.entry_news.specs.declared.news.News.{News}
 use Rattle.drive_sides.specs.Plans.{IsPlan, from_top}
 use Rattle.driving.specs.Commands.{news_commands, news_told, root_commands, plan_commands, body_commands, drive_of}
-use Rattle.driving.specs.Sending.{IsSendable}
+use Rattle.driving.proofs.Sending.{IsSendable}
 use Rattle.driving.specs.Tokens.{token_of}
 use Rattle.driving.proofs.Tokens.{entry_at, open_directories}
 use Rattle.driving.proofs.Entries.{says_news}

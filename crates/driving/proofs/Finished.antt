@@ -2,17 +2,19 @@
 use Rattle.std.proofs.Common.{◌≡◌, ◌<◌, ◌^◌, List, Bool, true, false, ◌&&◌, [], ◌++◌, append-nil, length, drop, Option, Some, None, refl, sym, ap, ◌∙◌, subst, if◌then◌else◌}
 use Rattle.repo_api.specs.Trees.{is_directory_there}
 use Rattle.std.proofs.lemmas.Bool.{false≢true}
-use Rattle.std.specs.Prelude.{All, Result, Ok, Err, ok_or, is_some}
+use Rattle.std.specs.Prelude.{Result, Ok, Err, ok_or, is_some}
 use Rattle.svnpath.specs.Paths.{PathValue, same_path, is_at_or_under}
 use Rattle.svnpath.specs.PathLaws.{same_path_is}
 use Rattle.refusals.specs.declared.Refusal.{Refusal}
 use Rattle.refusals.specs.declared.Refusal.TheVariants as refusals
+use Rattle.repo_api.specs.Soundness.{AreTrees}
 use Rattle.repo_api.specs.States.{RepoState, trees_in}
 use Rattle.repo_api.specs.declared.entry.Entry.{Entry}
 use Rattle.drives.specs.Scopes.{stays_in_scope, top_limit}
 use Rattle.drives.specs.Steps.EntryKind.{DirectoryKind}
 use Rattle.drives.proofs.Joined.{and_front}
 use Rattle.reporter.specs.Visits.{entry_kind, kind_if}
+use Rattle.reports.specs.Named.{IsNamed, AreNamed}
 use Rattle.reports.specs.Refusing.{◌>>=◌, ok_if, OpenState, has_goal, has_anchor, finish_root}
 use Rattle.reports.specs.Reported.{reported_entries, has_directory}
 use Rattle.reports.specs.Targets.{WholeReport, client_tree, reported_tree, target_tree, limit_of, new_tree}
@@ -22,7 +24,7 @@ use Rattle.reporter.specs.declared.visit.Visit.{Visit}
 use Rattle.drive_commands.specs.Sent.{IsDrive}
 use Rattle.drive_sides.specs.Plans.{IsPlan}
 use Rattle.driving.specs.Commands.{drive_of}
-use Rattle.driving.specs.Sending.{IsSendable}
+use Rattle.driving.proofs.Sending.{plan_sendable}
 use Rattle.driving.proofs.Drives.{RootStands, is_drive}
 
 judged : (o : Option ReportRoot) (b : Bool) (root : ReportRoot) → ((ok_or o refusals.MalformedData) >>= (λ r. (ok_if b refusals.NotFound) >>= (λ _. Ok r))) ≡ Ok root → b ≡ true
@@ -78,6 +80,6 @@ module _ (c : RepoState) (report : OpenState) (root : ReportRoot) where
       (directory_stands (trees_in c.revisions report.ask.revision report.ask.goal)
       (anchored none (and_behind (has_goal c report.ask report.ask.purpose) (has_anchor c report.ask report.grafts) (judged report.root (has_goal c report.ask report.ask.purpose && has_anchor c report.ask report.grafts) root finished))))
 
-  -- the drive of a plan of visits that can be sent may be sent
-  pub drive_may_be_sent : (vs : List Visit) → All (IsSendable (new_tree c Whole)) vs → length vs < 2 ^ 64 → finish_root c report ≡ Ok root → IsPlan c Whole vs → IsDrive c Whole (drive_of c Whole vs)
-  drive_may_be_sent vs sendable bound finished plan = is_drive c Whole vs sendable bound (root_stands finished) plan
+  -- the drive of a plan may be sent
+  pub drive_may_be_sent : (vs : List Visit) → AreTrees c.revisions → IsNamed report.ask.target → AreNamed report.grafts → length vs < 2 ^ 64 → finish_root c report ≡ Ok root → IsPlan c Whole vs → IsDrive c Whole (drive_of c Whole vs)
+  drive_may_be_sent vs trees target grafts bound finished plan = is_drive c Whole vs (plan_sendable c Whole trees target grafts vs plan) bound (root_stands finished) plan

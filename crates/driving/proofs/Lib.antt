@@ -1,9 +1,10 @@
 pub mod Tokens
+pub mod Spelled
 pub mod Entries
+pub mod Sending
 pub mod Plans
 pub mod Told
 pub mod Drives
 pub mod Finished
 pub mod Written
-pub mod Spelled
 pub mod Roots

@@ -3,7 +3,7 @@ use Rattle.std.proofs.Common.{arith, add-one, ◌≡◌, ◌<◌, ◌≤◌, ◌
 use Rattle.std.proofs.lemmas.Bool.{false≢true}
 use Rattle.std.proofs.lemmas.List.Elements.{All-head, All-tail}
 use Rattle.std.proofs.lemmas.Option.{none-some, same_Some}
-use Rattle.std.specs.Prelude.{All, option_and_then}
+use Rattle.std.specs.Prelude.{All, is_some, option_and_then}
 use Rattle.svnpath.specs.Paths.{PathValue}
 use Rattle.svnpath.specs.PathLaws.{same_component_refl}
 use Rattle.svndiff0.specs.Window.{limit}
@@ -16,6 +16,7 @@ use Rattle.repo_api.specs.declared.entry.Entry.{Entry}
 use Rattle.forms.specs.Forms.{is_name}
 use Rattle.edit_commands.specs.declared.editing.EditorCommand.{EditorCommand}
 use Rattle.drives.specs.Places.{is_in_directory}
+use Rattle.drives.proofs.Joined.{and_front}
 use Rattle.drives.specs.Steps.{EntryKind, Step}
 use Rattle.drives.specs.Steps.EntryKind.{DirectoryKind, FileKind}
 use Rattle.drives.specs.Steps.Step.{OpenAt, AddAt, DeleteAt}
@@ -34,8 +35,9 @@ use Rattle.drive_commands.proofs.Writing.{reads_entry, reads_close}
 use Rattle.entry_news.specs.News.{news_at, news_steps, steps_if, own_steps_of, other_text, text_sent, old_entry}
 use Rattle.entry_news.specs.declared.news.News.{News}
 use Rattle.driving.specs.Commands.{open_command, add_command, opened_entry, added_entry, news_commands, news_told, or_no_news, plan_commands, deeper_by}
-use Rattle.driving.specs.Sending.{IsSpelledPath, IsTellable, IsSendable}
 use Rattle.driving.specs.Tokens.{token_of}
+use Rattle.driving.proofs.Spelled.{IsSpelledPath}
+use Rattle.driving.proofs.Sending.{IsTellable, IsSendable}
 use Rattle.driving.proofs.Tokens.{entry_at, open_directories, grown, none_open}
 use Rattle.driving.proofs.Entries.{IsTextSent, after_entry, says_news}
 
@@ -216,11 +218,11 @@ module _ (c : RepoState) (report : WholeReport) where
   says_plan (Open p ∷ vs) d ds end sendable bound walked =
       let kind = entry_kind (New p) in
       let tellable : IsTellable New p = All-head (IsSendable New) (Open p) vs sendable in
-      let on = goes_on (is_in_directory Top d p) (if is_directory_there (New p) then p ∷ d ∷ ds else d ∷ ds) (λ mid. walk New Top mid vs) end walked in
+      let on = goes_on (is_in_directory Top d p && is_some (New p)) (if is_directory_there (New p) then p ∷ d ∷ ds else d ∷ ds) (λ mid. walk New Top mid vs) end walked in
       subst (λ s. Says report.ask.purpose Top Base (open_directories (d ∷ ds)) (plan_commands c report (length ds) (Open p ∷ vs)) ((OpenAt p kind ∷ s) ++ plan_steps New (own_steps_of c report) vs) (open_directories end))
       (sym (steps_told p (option_map (news_at c report p false) (New p))))
       (with_entry kind (open_command kind (opened_entry c report (length ds) p kind)) (OpenAt p kind) (base_at kind p) (news_told c report p false) d ds p vs end
-      (reads_open kind d ds p on.0 tellable.spelled (next_bound (length ds) (length vs) (length (Open p ∷ vs)) (one_more (Open p) vs) bound))
+      (reads_open kind d ds p (and_front (is_in_directory Top d p) (is_some (New p)) on.0) tellable.spelled (next_bound (length ds) (length vs) (length (Open p ∷ vs)) (one_more (Open p) vs) bound))
       (bare kind p) (news_silent p false (New p)) (news_short p false (New p) tellable.short) (news_sent p false (New p))
       (goes_below kind d ds p vs end
       (λ w. says_plan vs p (d ∷ ds) end (All-tail (IsSendable New) (Open p) vs sendable) (deep_bound (length (d ∷ ds)) (length ds) (length vs) (length (Open p ∷ vs)) (grown d ds) (one_more (Open p) vs) bound) w)
@@ -229,11 +231,11 @@ module _ (c : RepoState) (report : WholeReport) where
   says_plan (Add p ∷ vs) d ds end sendable bound walked =
       let kind = entry_kind (New p) in
       let tellable : IsTellable New p = All-head (IsSendable New) (Add p) vs sendable in
-      let on = goes_on (is_in_directory Top d p) (if is_directory_there (New p) then p ∷ d ∷ ds else d ∷ ds) (λ mid. walk New Top mid vs) end walked in
+      let on = goes_on (is_in_directory Top d p && is_some (New p)) (if is_directory_there (New p) then p ∷ d ∷ ds else d ∷ ds) (λ mid. walk New Top mid vs) end walked in
       subst (λ s. Says report.ask.purpose Top Base (open_directories (d ∷ ds)) (plan_commands c report (length ds) (Add p ∷ vs)) ((AddAt p kind ∷ s) ++ plan_steps New (own_steps_of c report) vs) (open_directories end))
       (sym (steps_told p (option_map (news_at c report p true) (New p))))
       (with_entry kind (add_command kind (added_entry (length ds) p kind)) (AddAt p kind) [] (news_told c report p true) d ds p vs end
-      (reads_add kind d ds p on.0 tellable.spelled (next_bound (length ds) (length vs) (length (Add p ∷ vs)) (one_more (Add p) vs) bound))
+      (reads_add kind d ds p (and_front (is_in_directory Top d p) (is_some (New p)) on.0) tellable.spelled (next_bound (length ds) (length vs) (length (Add p ∷ vs)) (one_more (Add p) vs) bound))
       (λ _. refl) (news_silent p true (New p)) (news_short p true (New p) tellable.short) (news_sent p true (New p))
       (goes_below kind d ds p vs end
       (λ w. says_plan vs p (d ∷ ds) end (All-tail (IsSendable New) (Add p) vs sendable) (deep_bound (length (d ∷ ds)) (length ds) (length vs) (length (Add p ∷ vs)) (grown d ds) (one_more (Add p) vs) bound) w)

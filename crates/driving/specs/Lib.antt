@@ -1,4 +1,3 @@
 pub mod Tokens
 pub mod Commands
-pub mod Sending
 pub mod Driving

@@ -13,7 +13,6 @@ ghost use Rattle.driving.specs.Tokens.{token_of};
 
 use crate::naming::token;
 use crate::saying::{say_made, say_new};
-use crate::sending::are_sendable;
 use crate::telling::say_root_news;
 use crate::visits::{root_news, say_close, say_visits};
 use drive_sides::{TwoTrees, plan};
@@ -61,7 +60,7 @@ fn say_root<R: Repository, S: ReplySink>(
         (root_commands (R.content trees.now.view.now)
         (whole trees.now.report.now trees.now.root)))) }
 {
-    if !trees.report.ask.target.is_root() {
+    if !trees.report.ask.target.as_path().is_root() {
         return Ok(());
     }
     let news = root_news(alloc, trees)?;
@@ -162,8 +161,7 @@ fn say_planned<R: Repository, S: ReplySink>(
 ///
 /// # Errors
 ///
-/// `AllocError` for want of memory, or where the sink fails; also, before anything is written, for a
-/// path that no text spells, and for a text too long for a delta, which no drive can tell.
+/// `AllocError` for want of memory, or where the sink fails.
 pub fn say_drive<R: Repository, S: ReplySink>(
     alloc: Global,
     view: &R,
@@ -180,8 +178,6 @@ pub fn say_drive<R: Repository, S: ReplySink>(
 {
     let visits = plan(alloc, view, report, root)?;
     let trees = TwoTrees { view, report, root };
-    if !are_sendable(alloc, &trees, visits.as_slice())? {
-        return Err(AllocError);
-    }
+    report.are_named();
     say_planned(alloc, &trees, visits.as_slice(), out)
 }

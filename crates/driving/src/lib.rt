@@ -4,7 +4,6 @@
 mod drive;
 mod naming;
 mod saying;
-mod sending;
 mod telling;
 mod texts;
 mod visits;

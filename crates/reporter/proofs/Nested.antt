@@ -43,12 +43,12 @@ nested_delete t top d p vs inside nested ds =
 
 -- an entry in its directory, with what is below it
 pub nested_entry : (t : Tree) (top d p : PathValue) (v : Visit) (dir : Bool) (rest : List Visit) → ((ds : List PathValue) → after_visit t top ds v ≡ after_entry_visit t top ds p) → dir ≡ is_directory_there (t p) → (dir ≡ false → rest ≡ [])
-    → is_in_directory top d p ≡ true → AreNested t top p rest → AreNested t top d (entry_visits dir v rest)
-nested_entry t top d p v true rest enters kind none inside nested ds =
-    ap (λ o. option_and_then (λ m. walk t top m (rest ++ Close ∷ [])) o) (enters (d ∷ ds) ∙ ap (λ b. if b then Some (if is_directory_there (t p) then p ∷ d ∷ ds else d ∷ ds) else None) inside ∙ ap (λ b. Some (if b then p ∷ d ∷ ds else d ∷ ds)) (sym kind))
+    → is_in_directory top d p ≡ true → is_some (t p) ≡ true → AreNested t top p rest → AreNested t top d (entry_visits dir v rest)
+nested_entry t top d p v true rest enters kind none inside stands nested ds =
+    ap (λ o. option_and_then (λ m. walk t top m (rest ++ Close ∷ [])) o) (enters (d ∷ ds) ∙ ap (λ b. if b then Some (if is_directory_there (t p) then p ∷ d ∷ ds else d ∷ ds) else None) (and_both (is_in_directory top d p) (is_some (t p)) inside stands) ∙ ap (λ b. Some (if b then p ∷ d ∷ ds else d ∷ ds)) (sym kind))
     ∙ walk_append t top rest (Close ∷ []) (p ∷ d ∷ ds) (p ∷ d ∷ ds) (nested (d ∷ ds))
-nested_entry t top d p v false rest enters kind none inside nested ds =
-    ap (λ o. option_and_then (λ m. walk t top m rest) o) (enters (d ∷ ds) ∙ ap (λ b. if b then Some (if is_directory_there (t p) then p ∷ d ∷ ds else d ∷ ds) else None) inside ∙ ap (λ b. Some (if b then p ∷ d ∷ ds else d ∷ ds)) (sym kind))
+nested_entry t top d p v false rest enters kind none inside stands nested ds =
+    ap (λ o. option_and_then (λ m. walk t top m rest) o) (enters (d ∷ ds) ∙ ap (λ b. if b then Some (if is_directory_there (t p) then p ∷ d ∷ ds else d ∷ ds) else None) (and_both (is_in_directory top d p) (is_some (t p)) inside stands) ∙ ap (λ b. Some (if b then p ∷ d ∷ ds else d ∷ ds)) (sym kind))
     ∙ ap (λ vs. walk t top (d ∷ ds) vs) (none refl)
 
 -- a child has its place in its directory

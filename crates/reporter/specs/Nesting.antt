@@ -1,17 +1,17 @@
 -- Which directories are open between the visits of a plan.
-use Rattle.std.specs.Prelude.{◌≡◌, Bool, true, false, if◌then◌else◌, List, [], ◌∷◌, ◌++◌, Option, Some, None, option_and_then}
+use Rattle.std.specs.Prelude.{◌≡◌, Bool, true, false, ◌&&◌, is_some, if◌then◌else◌, List, [], ◌∷◌, ◌++◌, Option, Some, None, option_and_then}
 use Rattle.svnpath.specs.Paths.{PathValue}
 use Rattle.repo_api.specs.Trees.{Tree, is_directory_there}
 use Rattle.drives.specs.Places.{is_in_directory}
 use Rattle.reporter.specs.declared.visit.Visit.{Visit}
 use Rattle.reporter.specs.declared.visit.Visit.TheVariants.{Open, Add, Delete, Close}
 
--- the directories that are open, the innermost first, once an entry is entered, that has its place
--- in the innermost: a directory is open from then on, and a file never
+-- the directories that are open, the innermost first, once an entry is entered, that is to stand
+-- and has its place in the innermost: a directory is open from then on, and a file never
 abbrev pub after_entry_visit : Tree → PathValue → List PathValue → PathValue → Option (List PathValue)
 after_entry_visit new top [] p = None
 after_entry_visit new top (d ∷ ds) p =
-    if is_in_directory top d p
+    if is_in_directory top d p && is_some (new p)
     then Some (if is_directory_there (new p) then p ∷ d ∷ ds else d ∷ ds)
     else None
 

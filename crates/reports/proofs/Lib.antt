@@ -1,3 +1,4 @@
+pub mod Naming
 pub mod Holding
 pub mod Drives
 pub mod Deciding

@@ -1,3 +1,4 @@
+pub mod Named
 pub mod Reported
 pub mod Places
 pub mod Targets

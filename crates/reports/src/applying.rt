@@ -2,6 +2,7 @@
 ghost use Rattle.std.specs.Prelude.{◌≡◌, Some, option_copied, IfOk};
 ghost use Rattle.repo_api.specs.Soundness.{AreTrees};
 ghost use Rattle.reports.specs.Judging.{JudgesReport};
+ghost use Rattle.reports.specs.Named.{IsNamed};
 ghost use Rattle.reports.specs.Refusing.{may_come, may_lack, root_after, graft_of, set_path_graft, set_path_answer, delete_path_graft, delete_path_answer, report_with_graft, kept_report, has_goal, has_anchor, finish_root};
 
 use crate::ask::{DriveAsk, Purpose};
@@ -40,7 +41,7 @@ fn may_come(alloc: Global, report: &OpenReport<Grafts>, link: Link<'_>) -> Resul
         return Ok(false);
     }
     match report_path(alloc, &report.ask, &link.reported.path) {
-        Ok(path) => Ok(path == report.ask.target),
+        Ok(path) => Ok(&path == report.ask.target.as_path()),
         Err(ReportFault::Refused(_)) => Ok(false),
         Err(ReportFault::NoMemory) => Err(AllocError),
     }
@@ -50,7 +51,7 @@ fn may_come(alloc: Global, report: &OpenReport<Grafts>, link: Link<'_>) -> Resul
 fn may_lack(report: &OpenReport<Grafts>) -> bool
     ensures { result ≡ may_lack report.now }
 {
-    report.root.is_none() && !report.ask.target.is_root()
+    report.root.is_none() && !report.ask.target.as_path().is_root()
 }
 
 /// The path that was reported first stays.
@@ -96,10 +97,12 @@ fn set_path_graft<R: Repository>(
     link: Link<'_>,
 ) -> Result<(ReportRoot, Graft), ReportFault>
     requires { AreTrees (R.content view.now).revisions }
-    ensures { JudgesReport result (set_path_graft (R.content view.now) name.now report.now
+    ensures judged { JudgesReport result (set_path_graft (R.content view.now) name.now report.now
         link.entry.reported.now (option_copied link.entry.url)) }
+    ensures named { IfOk result (λ made. IsNamed made.1.path) }
 {
     let ask = &report.ask;
+    let top = ask.target.as_path();
     let grafts = report.grafts.as_slice();
     judge(may_come(alloc, report, link)?, Refusal::MalformedData)?;
     let path = report_path(alloc, ask, &link.reported.path)?;
@@ -107,7 +110,7 @@ fn set_path_graft<R: Repository>(
     let from = url_or(alloc, name, own, link.url)?;
     let revision = revision_read(view, Some(link.reported.revision))?;
     let depth = graft_depth(link.reported.depth)?;
-    let is_placed = has_place(alloc, view, &ask.target, grafts, &path)?;
+    let is_placed = has_place(alloc, view, top, grafts, &path)?;
     judge(is_placed, Refusal::NotFound)?;
     judge(
         is_there(view, revision, &from) || may_lack(report),
@@ -123,7 +126,8 @@ fn delete_path_graft(
     report: &OpenReport<Grafts>,
     text: &ByteString,
 ) -> Result<Graft, ReportFault>
-    ensures { JudgesReport result (delete_path_graft report.now text.now) }
+    ensures judged { JudgesReport result (delete_path_graft report.now text.now) }
+    ensures named { IfOk result (λ graft. IsNamed graft.path) }
 {
     judge(report.root.is_some(), Refusal::MalformedData)?;
     let path = report_path(alloc, &report.ask, text)?;
@@ -142,6 +146,7 @@ fn grafted(
     root: Option<ReportRoot>,
     graft: Graft,
 ) -> Result<Report<Grafts>, AllocError>
+    requires { IsNamed graft.path }
     ensures { IfOk result (λ next. next ≡ report_with_graft report root graft) }
 {
     report.grafts.push(graft)?;
@@ -221,19 +226,14 @@ fn has_anchor<R: Repository>(
         ≡ has_anchor (R.content view.now) report.now.ask report.now.grafts) }
 {
     let ask = &report.ask;
-    if !ask.target.is_root() {
+    let top = ask.target.as_path();
+    if !top.is_root() {
         return Ok(is_directory_there(view, ask.revision, &ask.anchor));
     }
     if !is_directory_there(view, ask.revision, &ask.goal) {
         return Ok(false);
     }
-    has_directory(
-        alloc,
-        view,
-        &ask.target,
-        report.grafts.as_slice(),
-        &ask.target,
-    )
+    has_directory(alloc, view, top, report.grafts.as_slice(), top)
 }
 
 /// The path that was reported first, where there is to be a drive, or why there is none.

@@ -1,4 +1,5 @@
 //! What is asked of a drive.
+use crate::named_path::NamedPath;
 use drives::Depth;
 use svnpath::Path;
 
@@ -24,7 +25,7 @@ pub struct DriveAsk {
     /// The path of the session's URL.
     pub anchor: Path,
     /// The path of what is to be changed, from the anchor on.
-    pub target: Path,
+    pub target: NamedPath,
     /// The path in the repository of what it is to become.
     pub goal: Path,
     /// The revision of what it is to become.

@@ -7,6 +7,7 @@ use crate::ask::{DriveAsk, Purpose};
 use crate::fault::ReportFault;
 use crate::grafts::Grafts;
 use crate::judging::{depth_asked, path_named, revision_read, url_or};
+use crate::named_path::NamedPath;
 use crate::report::{OpenReport, Report};
 use byte_string::ByteString;
 use repo_api::Repository;
@@ -48,7 +49,7 @@ pub fn ask_of<R: Repository>(
     Ok(DriveAsk {
         purpose: errand.purpose,
         anchor: anchor.path.clone()?,
-        target,
+        target: NamedPath::new(target),
         goal,
         revision,
         depth,

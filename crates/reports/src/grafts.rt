@@ -1,11 +1,12 @@
 //! The grafts of a report.
 ghost use Rattle.std.specs.Prelude.{◌≡◌, ◌∷◌, ◌++◌, [], OnOk, OnErr};
+ghost use Rattle.reports.specs.Named.{AreNamed, IsNamed};
 
 use crate::graft::Graft;
 use std::alloc::{AllocError, Global};
 use std::marker::Model;
 
-/// The grafts of a report, in their order.
+/// The grafts of a report, in their order, each at a path that a client can name.
 #[derive(Drop)]
 pub struct Grafts {
     grafts: Vec<Graft>,
@@ -13,11 +14,14 @@ pub struct Grafts {
 
 impl Model for Grafts {
     ghost use Rattle.std.specs.Prelude.{List};
+    ghost use Rattle.reports.specs.Named.{AreNamed};
     ghost use Rattle.reports.specs.declared.graft.Graft.{Graft};
 
     ghost Value = { List Graft };
 
     ghost view = { λ g. g.grafts.items };
+
+    ghost invariant = { λ g. AreNamed g.grafts.items };
 }
 
 impl Grafts {
@@ -32,6 +36,7 @@ impl Grafts {
 
     /// Puts a graft behind the others.
     pub fn push(&mut self, graft: Graft) -> Result<(), AllocError>
+        requires { IsNamed graft.path }
         ensures ok { OnOk result (self.new ≡ self.old ++ graft ∷ []) }
         ensures err { OnErr result (self.new ≡ self.old) }
     {
@@ -43,5 +48,12 @@ impl Grafts {
         ensures { result.now ≡ self.now }
     {
         self.grafts.as_slice()
+    }
+
+    /// Does nothing: its contract says that a client can name the path of each graft.
+    pub fn are_named(&self)
+        ensures { AreNamed self.now }
+    {
+        let _grafts = self.grafts.as_slice();
     }
 }

@@ -1,10 +1,11 @@
 //! The rules by which a command of a report is refused, each by itself.
-ghost use Rattle.std.specs.Prelude.{◌≡◌, is_some, option_copied};
+ghost use Rattle.std.specs.Prelude.{◌≡◌, ◌++◌, drop, length, is_some, option_copied, IfOk};
 ghost use Rattle.repo_api.specs.Trees.{is_directory_there};
 ghost use Rattle.svnpath.specs.Texts.{joined};
 ghost use Rattle.repo_api.specs.States.{trees_in};
 ghost use Rattle.reports.specs.Depths.{graft_depth, depth_asked};
 ghost use Rattle.reports.specs.Judging.{JudgesReport};
+ghost use Rattle.reports.specs.Named.{IsNamed};
 ghost use Rattle.reports.specs.Refusing.{ok_if, or_refusal, url_or, revision_read};
 
 use crate::ask::DepthAsked;
@@ -31,7 +32,9 @@ pub(crate) fn judge(holds: bool, refusal: Refusal) -> Result<(), ReportFault>
 
 /// The path that a text names beneath another.
 pub(crate) fn path_named(alloc: Global, base: &Path, text: &ByteString) -> Result<Path, ReportFault>
-    ensures { JudgesReport result (or_refusal (joined base.now text.now)) }
+    ensures judged { JudgesReport result (or_refusal (joined base.now text.now)) }
+    ensures beneath { IfOk result (λ p. p ≡ base.now ++ drop (length base.now) p) }
+    ensures named { IfOk result (λ p. IsNamed (drop (length base.now) p)) }
 {
     Ok(base.join(alloc, text.as_slice())?)
 }

@@ -9,6 +9,7 @@ mod graft;
 mod grafts;
 mod judging;
 mod laws;
+mod named_path;
 mod report;
 mod reported;
 mod sources;
@@ -23,5 +24,6 @@ pub use laws::{
     drive_trees_hold_together, reported_trees_hold_together, revisions_hold_together,
     whole_reports_are_revisions,
 };
+pub use named_path::NamedPath;
 pub use report::{OpenReport, Report, ReportRoot};
 pub use reported::{ReportedPlace, reported_at};

@@ -1,5 +1,8 @@
 //! A report on its way.
+ghost use Rattle.reports.specs.Named.{AreNamed, IsNamed};
+
 use crate::ask::DriveAsk;
+use crate::grafts::Grafts;
 use drives::Depth;
 use refusals::Refusal;
 
@@ -17,6 +20,17 @@ pub struct OpenReport<G> {
     pub ask: DriveAsk,
     pub root: Option<ReportRoot>,
     pub grafts: G,
+}
+
+impl OpenReport<Grafts> {
+    /// Does nothing: its contract says that a client can name the target, and the path of each graft.
+    pub fn are_named(&self)
+        ensures target { IsNamed self.now.ask.target }
+        ensures grafts { AreNamed self.now.grafts }
+    {
+        let _target = self.ask.target.as_path();
+        self.grafts.are_named();
+    }
 }
 
 /// A report on its way. A refusal is told at its end.

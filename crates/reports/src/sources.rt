@@ -1,6 +1,7 @@
 //! Which paths of the repository the paths of a report stand for.
 ghost use Rattle.std.specs.Prelude.{◌≡◌, ◌++◌, IfOk};
 ghost use Rattle.reports.specs.Judging.{JudgesReport};
+ghost use Rattle.reports.specs.Named.{IsNamed};
 ghost use Rattle.reports.specs.Refusing.{report_path};
 ghost use Rattle.reports.specs.Reported.{path_above, origin, own_source};
 
@@ -25,9 +26,10 @@ pub(crate) fn report_path(
     ask: &DriveAsk,
     text: &ByteString,
 ) -> Result<Path, ReportFault>
-    ensures { JudgesReport result (report_path ask.now text.now) }
+    ensures judged { JudgesReport result (report_path ask.now text.now) }
+    ensures named { IfOk result IsNamed }
 {
-    let own = anchored(alloc, &ask.anchor, &ask.target)?;
+    let own = anchored(alloc, &ask.anchor, ask.target.as_path())?;
     let path = path_named(alloc, &own, text)?;
     Ok(path.rebased(alloc, &ask.anchor, &Path::root(alloc))?)
 }
@@ -64,8 +66,8 @@ pub(crate) fn own_source(
 ) -> Result<Path, AllocError>
     ensures { IfOk result (λ p. p ≡ own_source ask.now.anchor ask.now.target grafts.now path.now) }
 {
-    if path == &ask.target {
-        return anchored(alloc, &ask.anchor, &ask.target);
+    if path == ask.target.as_path() {
+        return anchored(alloc, &ask.anchor, ask.target.as_path());
     }
     let above = above(alloc, path)?;
     let from = origin(alloc, &ask.anchor, grafts, &above)?;

@@ -84,7 +84,7 @@ pub plan_entry-returns-then-is_anew-clause-nests : goal.plan_entry-returns-then-
 plan_entry-returns-then-is_anew-clause-nests g t c =
     IfOk-weaker c.with_entry.result _ _ (λ v h. λ top d inside.
     subst (AreNested (g.S.Sides.new c.args.sides.now) top d) (sym (h ∙ ap (λ p. entry_visits c.args.is_directory (Add p) c.in_ok-rest.rest.items) c.in_ok-clone.ensures.cases))
-    (nested_entry (g.S.Sides.new c.args.sides.now) top d c.args.path.now (Add c.args.path.now) c.args.is_directory c.in_ok-rest.rest.items (λ ds. refl) c.requires.kind c.in_ok-rest.ensures.file inside (c.in_ok-rest.ensures.nests top)))
+    (nested_entry (g.S.Sides.new c.args.sides.now) top d c.args.path.now (Add c.args.path.now) c.args.is_directory c.in_ok-rest.rest.items (λ ds. refl) c.requires.kind c.in_ok-rest.ensures.file inside c.requires.stands (c.in_ok-rest.ensures.nests top)))
     c.with_entry.ensures
 
 pub plan_entry-returns-then-branch-clause-right : goal.plan_entry-returns-then-branch-clause-right
@@ -100,7 +100,7 @@ pub plan_entry-returns-then-branch-clause-nests : goal.plan_entry-returns-then-b
 plan_entry-returns-then-branch-clause-nests g t c =
     IfOk-weaker c.with_entry-then-branch.result _ _ (λ v h. λ top d inside.
     subst (AreNested (g.S.Sides.new c.args.sides.now) top d) (sym (h ∙ ap (λ p. entry_visits c.args.is_directory (Open p) c.in_ok-rest.rest.items) c.in_ok-clone-2.ensures.cases))
-    (nested_entry (g.S.Sides.new c.args.sides.now) top d c.args.path.now (Open c.args.path.now) c.args.is_directory c.in_ok-rest.rest.items (λ ds. refl) c.requires.kind c.in_ok-rest.ensures.file inside (c.in_ok-rest.ensures.nests top)))
+    (nested_entry (g.S.Sides.new c.args.sides.now) top d c.args.path.now (Open c.args.path.now) c.args.is_directory c.in_ok-rest.rest.items (λ ds. refl) c.requires.kind c.in_ok-rest.ensures.file inside c.requires.stands (c.in_ok-rest.ensures.nests top)))
     c.with_entry-then-branch.ensures
 
 pub plan_entry-returns-clause-right : goal.plan_entry-returns-clause-right
