@@ -1,0 +1,69 @@
+//! How many names lie beneath a node.
+ghost use Rattle.std.specs.Prelude.{◌≡◌, ◌<◌, ◌≤◌, ◌⊎◌, false, IfSome, IsSomeAnd, option_copied};
+ghost use Rattle.noderevs.specs.Beneath.{IsShallow};
+ghost use Rattle.noderevs.specs.Heights.{higher, IsHeight};
+ghost use Rattle.noderevs.specs.Held.{node_at};
+ghost use Rattle.noderevs.specs.Nodes.{with_block};
+ghost use Rattle.noderevs.specs.Views.{shared_tree};
+
+use crate::node_rev::{NodeId, NodeRev};
+use crate::nodes::Nodes;
+use byte_string::ByteString;
+use std::collections::BTreeMap;
+use svnpath::Path;
+
+impl Nodes {
+    /// The height of a node with these entries, which are there or in the block of a revision that is
+    /// being made.
+    pub fn height_over(
+        &self,
+        rev: u32,
+        block: &[NodeRev],
+        kids: &BTreeMap<ByteString, NodeId>,
+    ) -> u32
+        ensures { IsHeight (with_block (node_at self.now) rev block.now) kids.now result }
+    {
+        let mut height = 0;
+        for (name, kid) in kids {
+            height = raised(height, self.node_beside(rev, block, *kid));
+        }
+        height
+    }
+
+    /// The node of an id, which is there or in the block of a revision that is being made.
+    fn node_beside<'a>(&'a self, rev: u32, block: &'a [NodeRev], id: NodeId) -> Option<&'a NodeRev>
+        ensures { option_copied result ≡ with_block (node_at self.now) rev block.now id }
+    {
+        if id.rev == rev {
+            block.get(id.place as usize)
+        } else {
+            self.node(id)
+        }
+    }
+
+    /// Whether something stands more than so many names beneath a path of a root's tree.
+    pub fn has_deeper(&self, root: Option<NodeId>, path: &Path, names: usize) -> bool
+        requires { names < 4294967295 }
+        ensures no { result ≡ false → IsShallow (shared_tree (node_at self.now) root) path.now names }
+        ensures yes { IsShallow (shared_tree (node_at self.now) root) path.now names → result ≡ false }
+    {
+        match self.held(self.find_in(root, path.components())) {
+            Some(node) => names < node.height as usize,
+            None => false,
+        }
+    }
+}
+
+/// The greater of a height and that over an entry.
+fn raised(height: u32, kid: Option<&NodeRev>) -> u32
+    ensures least { height ≤ result }
+    ensures over { IfSome (option_copied kid.entry) (λ node. higher node.height ≤ result) }
+    ensures reached { (result ≡ height)
+        ⊎ IsSomeAnd (option_copied kid.entry) (λ node. result ≡ higher node.height) }
+{
+    let Some(node) = kid else {
+        return height;
+    };
+    let over = node.height.saturating_add(1);
+    if over > height { over } else { height }
+}

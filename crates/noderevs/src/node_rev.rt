@@ -1,0 +1,50 @@
+//! Node revisions and their ids.
+ghost use Rattle.std.specs.Prelude.{◌≡◌};
+
+use byte_string::ByteString;
+use repo_api::{Content, Properties};
+use std::alloc::AllocError;
+use std::collections::BTreeMap;
+use std::sync::Arc;
+use svnpath::Path;
+
+/// The revision that made a node, and how many nodes of that revision stand before it.
+#[derive(Copy, Debug, PartialEq, Eq)]
+pub struct NodeId {
+    pub rev: u32,
+    pub place: u64,
+}
+
+/// The revision and the path at which a change was made.
+#[derive(Drop)]
+pub struct Made {
+    pub rev: u32,
+    pub path: Path,
+}
+
+/// What stands at a path from a revision on: the path, the mark of its own last change, its text or that
+/// it is a directory, its properties, the nodes of its entries, and how many names lie beneath it at most.
+#[derive(Drop)]
+pub struct NodeRev {
+    pub path: Path,
+    pub own: Made,
+    pub content: Arc<Content>,
+    pub properties: Arc<Properties>,
+    pub kids: BTreeMap<ByteString, NodeId>,
+    pub height: u32,
+}
+
+/// What a revision adds: its nodes, each behind those of its entries, and which node is its root.
+#[derive(Drop)]
+pub struct Block {
+    pub nodes: Vec<NodeRev>,
+    pub root: NodeId,
+}
+
+impl Clone for NodeId {
+    ghost is_clone = { λ id copy. copy ≡ id };
+
+    fn clone(&self) -> Result<Self, AllocError> {
+        Ok(*self)
+    }
+}

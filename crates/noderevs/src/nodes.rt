@@ -1,0 +1,18 @@
+//! The nodes of all revisions.
+ghost use Rattle.noderevs.specs.Heights.{AreHigh};
+ghost use Rattle.noderevs.specs.Nodes.{node_in, root_in};
+ghost use Rattle.noderevs.specs.Soundness.{AreKidsThere, AreRootsThere, AreApart};
+
+use crate::node_rev::Block;
+use pvec::PVec;
+
+/// The nodes of all revisions, revision by revision. They are never changed: with a further revision
+/// they are another value, which shares them.
+#[derive(Drop)]
+pub struct Nodes {
+    pub(crate) blocks: PVec<Block>,
+    ghost kids: { AreKidsThere (node_in blocks) },
+    ghost roots: { AreRootsThere (node_in blocks) (root_in blocks) },
+    ghost high: { AreHigh (node_in blocks) },
+    ghost apart: { AreApart (node_in blocks) },
+}

@@ -1,0 +1,98 @@
+-- The merge of a transaction's tree into the youngest, path by path. Marks stay open; the seal fills them.
+use Rattle.std.specs.Prelude.{◌≡◌, Bool, true, false, ◌&&◌, Option, Some, None, option_map, if◌then◌else◌}
+use Rattle.std.specs.Prelude.{List, ◌++◌, IsSome, Result, Ok, Err, option_and_then}
+use Rattle.std.specs.Arc.{arc_value}
+use Rattle.std.specs.BTreeMap.{BTreeMap}
+use Rattle.std.specs.Cmp.Lexicographic.{slice_cmp}
+use Rattle.std.specs.Ordering.{nat_cmp}
+use Rattle.std.specs.List.Sorted.{IsStrictlySortedBy}
+use Rattle.std.specs.Map.{keys_of}
+use Rattle.svnpath.specs.Paths.{PathValue, Component}
+use Rattle.noderevs.specs.Nodes.{Look, kid_at, IsThere}
+use Rattle.txntree.specs.Spots.{Spot, flat, over, shared_spot, changed_at}
+use Rattle.txntree.specs.Spots.Spot.{Opened}
+use Rattle.txntree.specs.Sealing.{first_of}
+use Rattle.noderevs.specs.Nodes.{mark_of}
+use Rattle.txntree.specs.Walks.{beneath}
+use Rattle.txntree.specs.Bases.{IsBased, IsFit}
+use Rattle.treemerge.specs.declared.merging.Places.{Places}
+use Rattle.treemerge.specs.declared.merging.MergeFault.{MergeFault}
+use Rattle.treemerge.specs.declared.merging.MergeFault.TheVariants.{Conflict, NoMemory}
+use Rattle.noderevs.specs.declared.node_rev.NodeId.{NodeId}
+use Rattle.noderevs.specs.declared.node_rev.NodeRev.{NodeRev}
+use Rattle.txntree.specs.declared.open.OpenNode.{OpenNode}
+use Rattle.txntree.specs.declared.open.Change.{Change}
+use Rattle.repo_api.specs.Trees.{Tree, same_mark, is_directory_content}
+use Rattle.repo_api.specs.Edits.{touched}
+use Rattle.repo_api.specs.Merge.{is_in_conflict, is_untouched, has_open_last}
+use Rattle.repo_api.specs.declared.entry.Entry.{Entry}
+
+-- the merged entry, with open marks left open, which the seal closes
+abbrev pub merged_open : Option Entry → Option Entry → Option Entry → Option Entry
+merged_open a s t =
+    if is_untouched a s then (if has_open_last s then option_map touched t else t) else s
+
+-- where the transaction left an entry it is the old one, but for `last`
+abbrev pub IsTold : Tree → Tree → Type 0
+IsTold a s = (q : PathValue) → is_untouched (a q) (s q) ≡ true → s q ≡ (if has_open_last (s q) then option_map touched (a q) else a q)
+
+abbrev pub spot_tree : Look → Option NodeId → Tree
+spot_tree look o = flat look (shared_spot o)
+
+-- the spot's tree is the merged one, and no path is in conflict
+abbrev pub IsMergeOf : Look → Spot → Tree → Tree → Tree → Type 0
+IsMergeOf look spot a s t =
+    (q : PathValue)
+    → (flat look spot q ≡ merged_open (a q) (s q) (t q)) × (is_in_conflict (a q) (s q) (t q) ≡ false)
+
+-- changes from the first on: those that are left, and what was made of the others
+pub record IsWalking (self : OpenNode) (left : List (Component × Change))
+    (kept : BTreeMap Component Change) (P : Component → Option Change → Type 0) : Type 0 where
+  pub sorted : IsStrictlySortedBy (slice_cmp nat_cmp) (keys_of left)
+  pub among : (n : Component) (c : Change) → first_of left n ≡ Some c → changed_at self.changed n ≡ Some c
+  pub todo : (n : Component) → IsSome (first_of left n) → changed_at kept n ≡ None
+  pub done : (n : Component) → first_of left n ≡ None → P n (changed_at kept n)
+
+-- the same node to whoever looks
+abbrev pub IsCopied : OpenNode → Component → Option Change → Type 0
+IsCopied self n o =
+    (look : Look) (below : Spot) (q : PathValue) → flat look (over o below) q
+    ≡ flat look (over (changed_at self.changed n) below) q
+
+abbrev pub IsMerged : Look → OpenNode → Option NodeId → Option NodeId → Component → Option Change → Type 0
+IsMerged look self base young n o =
+    IsTold (spot_tree look base) (flat look (Opened self)) → self.base ≡ base
+    → IsMergeOf look (over o (shared_spot (kid_at look young n))) (beneath n (spot_tree look base))
+    (beneath n (flat look (Opened self))) (beneath n (spot_tree look young))
+
+-- what stands at two places may be merged with a spot: it is there, and the spot's open nodes stand over it
+pub record IsMergeable (look : Look) (places : Places) (s : Spot) : Type 0 where
+  pub base : (id : NodeId) → places.base ≡ Some id → IsThere look id
+  pub young : (id : NodeId) → places.young ≡ Some id → IsThere look id
+  pub based : IsBased look s
+  pub over : IsFit look places.base s
+
+-- a path at or under this one is in conflict; the trees are those under this path
+abbrev pub IsConflictUnder : PathValue → Tree → Tree → Tree → PathValue → Type 0
+IsConflictUnder path a s t p =
+    (q : PathValue) × (p ≡ path ++ q) × (is_in_conflict (a q) (s q) (t q) ≡ true)
+
+-- what a refused merge says of the path that it names
+abbrev pub IfConflict : {T : Type 0} → Result T MergeFault → (PathValue → Type 0) → Type 0
+IfConflict (Ok _) P = Unit {0}
+IfConflict (Err (Conflict p)) P = P p
+IfConflict (Err NoMemory) P = Unit {0}
+
+-- three that are one directory
+abbrev pub is_one : OpenNode → NodeRev → NodeRev → Bool
+is_one self was theirs =
+    (is_directory_content (arc_value was.content) && is_directory_content (arc_value self.content) && is_directory_content (arc_value theirs.content))
+    && (same_mark (mark_of was.own) self.own && same_mark (mark_of was.own) (mark_of theirs.own))
+
+-- a directory that the transaction has changed only beneath, and that has stayed the same itself
+pub record IsKept (look : Look) (node : OpenNode) (places : Places) (theirs : NodeRev) : Type 0 where
+  pub was : NodeRev
+  pub old : option_and_then look places.base ≡ Some was
+  pub now : option_and_then look places.young ≡ Some theirs
+  pub one : is_one node was theirs ≡ true
+  pub same : node.base ≡ places.base

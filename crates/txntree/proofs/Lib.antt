@@ -1,0 +1,10 @@
+pub mod Names
+pub mod Walking
+pub mod Grafts
+pub mod Bases
+pub mod Seals
+pub mod High
+pub mod Blocks
+pub mod Staying
+pub mod Sharing
+pub mod Whole

@@ -1,0 +1,18 @@
+use Rattle.std.proofs.Common.{ap, ◌∙◌}
+use Rattle.std.proofs.lemmas.Result.{on_ok_weaker}
+use Rattle.std.specs.Arc.{arc_value}
+use Rattle.repo_api.specs.declared.entry.Content.TheVariants.{File}
+use Rattle.noderevs.specs.Held.{node_at}
+use Rattle.txntree.specs.Spots.{flat}
+use Rattle.txntree.specs.Spots.Spot.{Opened}
+use Rattle.txntree.specs.Walks.{at_path, here, with_content}
+use Rattle.txntree.proofs.Grafts.{revisions_are_changes}
+use Rattle.txntree.proofs.open.OpenNode.set_text.Goals as goal
+
+pub returns-clause-ok : goal.returns-clause-ok
+returns-clause-ok c =
+    let look = node_at c.args.nodes.now in
+    on_ok_weaker c.at.result (λ made q. made q
+    ∙ ap (λ p. at_path p (here (with_content (arc_value c.in_ok-content.content))) (flat look (Opened c.args.self.now)) q) c.components.ensures
+    ∙ ap (λ x. at_path c.args.path.now (here (with_content x)) (flat look (Opened c.args.self.now)) q) c.in_ok-content.ensures
+    ∙ revisions_are_changes (flat look (Opened c.args.self.now)) c.args.path.now (with_content (File c.args.text)) q) c.at.ensures.ok

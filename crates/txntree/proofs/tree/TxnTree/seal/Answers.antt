@@ -1,0 +1,39 @@
+use Rattle.std.proofs.Common.{◌≡◌, [], Some, option_map, sym, subst, ◌∙◌}
+use Rattle.repo_api.specs.Merge.{sealed}
+use Rattle.svnpath.specs.Paths.{PathValue}
+use Rattle.noderevs.specs.Held.{node_at, blocks_of}
+use Rattle.noderevs.specs.Nodes.{with_block, IsBefore}
+use Rattle.noderevs.specs.Views.{shared_tree}
+use Rattle.noderevs.proofs.Pushing.{next_is_free}
+use Rattle.txntree.specs.Sealing.{sealed_at}
+use Rattle.txntree.specs.Spots.{flat}
+use Rattle.txntree.specs.Spots.Spot.{Shared, Opened}
+use Rattle.txntree.specs.Whole.{txn_tree}
+use Rattle.txntree.proofs.Blocks.{closed_is, next_if, ok_weaker}
+use Rattle.txntree.proofs.Sharing.{shared_flat}
+use Rattle.txntree.proofs.tree.TxnTree.seal.Goals as goal
+
+pub returns-clause-next : goal.returns-clause-next
+returns-clause-next c =
+    let look = node_at c.args.nodes.now in
+    let closed = closed_is look c.args.nodes.now.kids in
+    let free = subst (IsBefore look) (sym c.requires) (next_is_free (blocks_of c.args.nodes.now)) in
+    next_if c.block.result look c.args.rev (c.block.ensures.closed closed free) c.block.ensures.there (c.block.ensures.high closed free c.args.nodes.now.high) (c.block.ensures.whole closed free)
+
+pub returns-clause-tree : goal.returns-clause-tree
+returns-clause-tree c =
+    let look = node_at c.args.nodes.now in
+    let rev = c.args.rev in
+    let closed = closed_is look c.args.nodes.now.kids in
+    let free = subst (IsBefore look) (sym c.requires) (next_is_free (blocks_of c.args.nodes.now)) in
+    ok_weaker c.block.result
+    (λ b. (q : PathValue) → flat (with_block look rev b.nodes.items) (Shared b.root) q ≡ sealed_at rev [] (flat look (Opened c.args.self.now.root)) q)
+    (λ b. (q : PathValue) → shared_tree (with_block look rev b.nodes.items) (Some b.root) q ≡ option_map (sealed rev q) (txn_tree c.args.nodes.now c.args.self.now q))
+    (λ b tree q. sym (shared_flat (with_block look rev b.nodes.items) (Some b.root) q) ∙ tree q) (c.block.ensures.tree closed free)
+
+pub returns-clause-whole : goal.returns-clause-whole
+returns-clause-whole c =
+    let look = node_at c.args.nodes.now in
+    let closed = closed_is look c.args.nodes.now.kids in
+    let free = subst (IsBefore look) (sym c.requires) (next_is_free (blocks_of c.args.nodes.now)) in
+    c.block.ensures.whole closed free

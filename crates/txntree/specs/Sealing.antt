@@ -1,0 +1,91 @@
+-- The node revisions of a new revision, behind those that are there.
+use Rattle.std.specs.Prelude.{◌≡◌, ◌≤◌, ◌<◌, length, ℕ, false, List, [], ◌∷◌, ◌++◌, Option, Some, None}
+use Rattle.std.specs.Prelude.{IsSome, IfSome, option_map, slice_get, if◌then◌else◌}
+use Rattle.std.specs.BTreeMap.{BTreeMap, is_at}
+use Rattle.std.specs.Map.{lookup}
+use Rattle.std.specs.Cmp.Lexicographic.{slice_cmp}
+use Rattle.std.specs.Ordering.{nat_cmp}
+use Rattle.svnpath.specs.Paths.{Component, PathValue, same_component}
+use Rattle.repo_api.specs.Trees.{Tree}
+use Rattle.repo_api.specs.Merge.{sealed}
+use Rattle.noderevs.specs.Heights.{AreHigh}
+use Rattle.noderevs.specs.Nodes.{Look, kid_at, kid_named, IsThere, IsClosed, IsBefore, Grows, with_block}
+use Rattle.txntree.specs.Spots.{flat, find, step, shared_spot, change_spot}
+use Rattle.txntree.specs.Spots.Spot.{Shared, Opened}
+use Rattle.txntree.specs.declared.open.OpenNode.{OpenNode}
+use Rattle.repo_api.specs.declared.entry.Entry.{Entry}
+use Rattle.repo_api.specs.declared.entry.Mark.TheVariants as mark
+use Rattle.noderevs.specs.declared.node_rev.NodeId.{NodeId}
+use Rattle.noderevs.specs.declared.node_rev.NodeRev.{NodeRev}
+use Rattle.txntree.specs.declared.open.Change.{Change}
+
+-- the tree of a path as that of the revision
+abbrev pub sealed_at : ℕ → PathValue → Tree → Tree
+sealed_at rev path t q = option_map (sealed rev (path ++ q)) (t q)
+
+-- each entry is a node that is there
+abbrev pub AreThere : Look → BTreeMap Component NodeId → Type 0
+AreThere look kids = (name : Component) → IfSome (kid_named kids name) (IsThere look)
+
+-- the entries, with what a change is sealed as at its name
+abbrev pub with_sealed : Look → ℕ → PathValue → Component → Change → (Component → Tree) → Component → Tree
+with_sealed look rev path name change before n q = if same_component name n then sealed_at rev path (flat look (change_spot change)) q else before n q
+
+abbrev pub kid_trees : Look → BTreeMap Component NodeId → Component → Tree
+kid_trees look kids n = flat look (shared_spot (kid_named kids n))
+
+-- what is sealed already, and the changes that are left
+abbrev pub unless_changed : Look → ℕ → PathValue → Option Change → Tree → Tree
+unless_changed look rev path None before = before
+unless_changed look rev path (Some change) before = sealed_at rev path (flat look (change_spot change))
+
+abbrev pub placed : ℕ → ℕ → NodeId
+placed rev place = record { rev = rev; place = place }
+
+-- a path leads from the node, or from one of the entries, to a place
+abbrev pub IsUnder : Look → NodeId → NodeId → Type 0
+IsUnder look id place = (r : PathValue) × (find look r (Shared id) ≡ Shared place)
+
+abbrev pub IsUnderOne : Look → BTreeMap Component NodeId → NodeId → Type 0
+IsUnderOne look kids place = (n : Component) × ((r : PathValue) × (find look r (shared_spot (kid_named kids n)) ≡ Shared place))
+
+-- each of these places is under the node, or under one of the entries
+abbrev pub AreUnder : Look → ℕ → ℕ → ℕ → NodeId → Type 0
+AreUnder look rev from to id = (k : ℕ) → from ≤ k → k < to → IsUnder look id (placed rev k)
+
+abbrev pub AreUnderOne : Look → ℕ → ℕ → ℕ → BTreeMap Component NodeId → Type 0
+AreUnderOne look rev from to kids = (k : ℕ) → from ≤ k → k < to → IsUnderOne look kids (placed rev k)
+
+-- entries but for that of a name
+abbrev pub SameBut : Component → BTreeMap Component NodeId → BTreeMap Component NodeId → Type 0
+SameBut name before after = (n : Component) → same_component name n ≡ false → kid_named after n ≡ kid_named before n
+
+-- a block of one node for each path that was changed in the revision, under its own path, and of no other
+pub record IsBlockOf (look : Look) (rev : ℕ) (block : List NodeRev) (root : NodeId) : Type 0 where
+  pub each : (q : PathValue) (e : Entry) → flat (with_block look rev block) (Shared root) q ≡ Some e → e.last ≡ mark.Made rev q
+      → (k : ℕ) × ((node : NodeRev) × ((slice_get block k ≡ Some node) × (node.path ≡ q)))
+  pub other : (k : ℕ) (node : NodeRev) → slice_get block k ≡ Some node
+      → (e : Entry) × ((flat (with_block look rev block) (Shared root) node.path ≡ Some e)
+      × (e.last ≡ mark.Made rev node.path))
+  pub once : (j k : ℕ) (m n : NodeRev) → slice_get block j ≡ Some m → slice_get block k ≡ Some n
+      → m.path ≡ n.path → j ≡ k
+
+-- what a seal has done by the time that these changes are left
+pub record IsSealing (look : Look) (rev : ℕ) (path : PathValue) (self : OpenNode)
+    (before now : List NodeRev) (left : Component → Option Change) (kids : BTreeMap Component NodeId) : Type 0 where
+  pub grows : Grows (with_block look rev before) (with_block look rev now)
+  pub closed : IsClosed look → IsBefore look rev → IsClosed (with_block look rev before)
+      → IsClosed (with_block look rev now)
+  pub high : IsClosed look → IsBefore look rev → IsClosed (with_block look rev before)
+      → AreHigh (with_block look rev before) → AreHigh (with_block look rev now)
+  pub there : IsClosed look → IsBefore look rev → AreThere (with_block look rev now) kids
+  pub trees : IsClosed look → IsBefore look rev → IsClosed (with_block look rev before) → (n : Component) (q : PathValue)
+      → unless_changed look rev (path ++ n ∷ []) (left n) (kid_trees (with_block look rev now) kids n) q
+      ≡ sealed_at rev (path ++ n ∷ []) (flat look (step look n (Opened self))) q
+  pub under : IsClosed look → IsBefore look rev → IsClosed (with_block look rev before)
+      → AreUnderOne (with_block look rev now) rev (length before) (length now) kids
+  pub waiting : (n : Component) → IsSome (left n) → kid_named kids n ≡ kid_at look self.base n
+
+-- the first change of a name
+abbrev pub first_of : List (Component × Change) → Component → Option Change
+first_of changes n = lookup (is_at (slice_cmp nat_cmp n)) changes

@@ -1,0 +1,187 @@
+//! The edits of a transaction's tree.
+ghost use Rattle.std.specs.Prelude.{◌≡◌, [], OnOk, OnErr, IfOk, IsErrOf, None, ◌⊎◌};
+ghost use Rattle.std.specs.Arc.{arc_value};
+ghost use Rattle.svnpath.specs.Paths.{PathValue};
+ghost use Rattle.repo_api.specs.Edits.{added, deleted, revised, with_text, with_value, without_value, grafted};
+ghost use Rattle.txntree.specs.Bases.{IsBased, IsNew};
+ghost use Rattle.txntree.specs.Laws.{IsBare};
+ghost use Rattle.noderevs.specs.Held.{node_at};
+ghost use Rattle.txntree.specs.Walks.{Lacks, LacksParent};
+ghost use Rattle.txntree.specs.Spots.{flat, change_spot};
+ghost use Rattle.txntree.specs.Spots.Spot.{Shared, Opened};
+
+use crate::open::{Change, EditFault, Local, OpenNode};
+use byte_string::ByteString;
+use noderevs::{NodeId, Nodes};
+use repo_api::{Content, FileText, Mark};
+use std::alloc::{AllocError, Global};
+use std::sync::Arc;
+use svnpath::Path;
+
+impl OpenNode {
+    /// Adds an entry at a path where nothing stands.
+    pub fn add(
+        &mut self,
+        alloc: Global,
+        nodes: &Nodes,
+        path: &Path,
+        content: Content,
+    ) -> Result<(), EditFault>
+        ensures ok { IsBare (flat (node_at nodes.now) (Opened self.old)) path.now
+            → OnOk result ((q : PathValue) → flat (node_at nodes.now) (Opened self.new) q
+            ≡ added (flat (node_at nodes.now) (Opened self.old)) path.now content q) }
+        ensures err { OnErr result ((q : PathValue) → flat (node_at nodes.now) (Opened self.new) q
+            ≡ flat (node_at nodes.now) (Opened self.old) q) }
+        ensures based { IsBased (node_at nodes.now) (Opened self.old)
+            → IsBased (node_at nodes.now) (Opened self.new) }
+        ensures base { self.new.base ≡ self.old.base }
+        ensures missing { IsErrOf result EditFault.Missing
+            → LacksParent path.now (flat (node_at nodes.now) (Opened self.old)) }
+    {
+        let node = OpenNode::fresh(alloc, content)?;
+        self.put(alloc, nodes, path.components(), Change::Is(node))
+    }
+
+    /// Takes out what stands at a path and beneath it.
+    pub fn delete(&mut self, alloc: Global, nodes: &Nodes, path: &Path) -> Result<(), EditFault>
+        ensures ok { OnOk result ((q : PathValue) → flat (node_at nodes.now) (Opened self.new) q
+            ≡ deleted (flat (node_at nodes.now) (Opened self.old)) path.now q) }
+        ensures err { OnErr result ((q : PathValue) → flat (node_at nodes.now) (Opened self.new) q
+            ≡ flat (node_at nodes.now) (Opened self.old) q) }
+        ensures based { IsBased (node_at nodes.now) (Opened self.old)
+            → IsBased (node_at nodes.now) (Opened self.new) }
+        ensures base { self.new.base ≡ self.old.base }
+        ensures missing { IsErrOf result EditFault.Missing
+            → LacksParent path.now (flat (node_at nodes.now) (Opened self.old)) }
+    {
+        self.put(alloc, nodes, path.components(), Change::Gone)
+    }
+
+    /// Makes this the text of the file at a path.
+    pub fn set_text(
+        &mut self,
+        alloc: Global,
+        nodes: &Nodes,
+        path: &Path,
+        text: FileText,
+    ) -> Result<(), EditFault>
+        ensures ok { OnOk result ((q : PathValue) → flat (node_at nodes.now) (Opened self.new) q
+            ≡ revised (flat (node_at nodes.now) (Opened self.old)) path.now (with_text text) q) }
+        ensures err { OnErr result ((q : PathValue) → flat (node_at nodes.now) (Opened self.new) q
+            ≡ flat (node_at nodes.now) (Opened self.old) q) }
+        ensures based { IsBased (node_at nodes.now) (Opened self.old)
+            → IsBased (node_at nodes.now) (Opened self.new) }
+        ensures base { self.new.base ≡ self.old.base }
+        ensures missing { IsErrOf result EditFault.Missing
+            → Lacks path.now (flat (node_at nodes.now) (Opened self.old)) }
+    {
+        let content = shared(alloc, Content::File(text))?;
+        self.at(alloc, nodes, path.components(), Local::Content(content))
+    }
+
+    /// Gives the entry at a path this value of a property.
+    pub fn set_property(
+        &mut self,
+        alloc: Global,
+        nodes: &Nodes,
+        path: &Path,
+        name: ByteString,
+        value: ByteString,
+    ) -> Result<(), EditFault>
+        ensures ok { OnOk result ((q : PathValue) → flat (node_at nodes.now) (Opened self.new) q
+            ≡ revised (flat (node_at nodes.now) (Opened self.old)) path.now
+            (with_value name value) q) }
+        ensures err { OnErr result ((q : PathValue) → flat (node_at nodes.now) (Opened self.new) q
+            ≡ flat (node_at nodes.now) (Opened self.old) q) }
+        ensures based { IsBased (node_at nodes.now) (Opened self.old)
+            → IsBased (node_at nodes.now) (Opened self.new) }
+        ensures base { self.new.base ≡ self.old.base }
+        ensures missing { IsErrOf result EditFault.Missing
+            → Lacks path.now (flat (node_at nodes.now) (Opened self.old)) }
+    {
+        self.at(
+            alloc,
+            nodes,
+            path.components(),
+            Local::SetProperty(name, value),
+        )
+    }
+
+    /// Takes a property from the entry at a path.
+    pub fn remove_property(
+        &mut self,
+        alloc: Global,
+        nodes: &Nodes,
+        path: &Path,
+        name: ByteString,
+    ) -> Result<(), EditFault>
+        ensures ok { OnOk result ((q : PathValue) → flat (node_at nodes.now) (Opened self.new) q
+            ≡ revised (flat (node_at nodes.now) (Opened self.old)) path.now
+            (without_value name) q) }
+        ensures err { OnErr result ((q : PathValue) → flat (node_at nodes.now) (Opened self.new) q
+            ≡ flat (node_at nodes.now) (Opened self.old) q) }
+        ensures based { IsBased (node_at nodes.now) (Opened self.old)
+            → IsBased (node_at nodes.now) (Opened self.new) }
+        ensures base { self.new.base ≡ self.old.base }
+        ensures missing { IsErrOf result EditFault.Missing
+            → Lacks path.now (flat (node_at nodes.now) (Opened self.old)) }
+    {
+        self.at(alloc, nodes, path.components(), Local::RemoveProperty(name))
+    }
+
+    /// Copies a shared node, with what is beneath it, to a path. The copy's own two marks are open.
+    pub fn copy(
+        &mut self,
+        alloc: Global,
+        nodes: &Nodes,
+        source: NodeId,
+        path: &Path,
+    ) -> Result<(), EditFault>
+        ensures ok { OnOk result ((q : PathValue) → flat (node_at nodes.now) (Opened self.new) q
+            ≡ grafted (flat (node_at nodes.now) (Opened self.old)) path.now (revised (flat
+            (node_at nodes.now) (Shared source)) [] (λ e. e)) q) }
+        ensures err { OnErr result ((q : PathValue) → flat (node_at nodes.now) (Opened self.new) q
+            ≡ flat (node_at nodes.now) (Opened self.old) q) }
+        ensures based { IsBased (node_at nodes.now) (Opened self.old)
+            → IsBased (node_at nodes.now) (Opened self.new) }
+        ensures base { self.new.base ≡ self.old.base }
+        ensures missing { IsErrOf result EditFault.Missing → (node_at nodes.now source ≡ None)
+            ⊎ LacksParent path.now (flat (node_at nodes.now) (Opened self.old)) }
+    {
+        let mut node = OpenNode::over(alloc, nodes, source)?;
+        node.own = Mark::Open;
+        self.put(alloc, nodes, path.components(), Change::Is(node))
+    }
+
+    /// Puts a node, or nothing, at a path beneath this one.
+    fn put(
+        &mut self,
+        alloc: Global,
+        nodes: &Nodes,
+        path: &[ByteString],
+        change: Change,
+    ) -> Result<(), EditFault>
+        ensures ok { OnOk result ((q : PathValue) → flat (node_at nodes.now) (Opened self.new) q
+            ≡ grafted (flat (node_at nodes.now) (Opened self.old)) path.now (flat
+            (node_at nodes.now) (change_spot change)) q) }
+        ensures err { OnErr result ((q : PathValue) → flat (node_at nodes.now) (Opened self.new) q
+            ≡ flat (node_at nodes.now) (Opened self.old) q) }
+        ensures based { IsBased (node_at nodes.now) (change_spot change)
+            → IsNew (change_spot change) → IsBased (node_at nodes.now) (Opened self.old)
+            → IsBased (node_at nodes.now) (Opened self.new) }
+        ensures base { self.new.base ≡ self.old.base }
+        ensures missing { IsErrOf result EditFault.Missing
+            → LacksParent path.now (flat (node_at nodes.now) (Opened self.old)) }
+    {
+        let Some((name, above)) = path.split_last() else {
+            return Err(EditFault::Missing);
+        };
+        self.at(alloc, nodes, above, Local::Entry(name.clone()?, change))
+    }
+}
+
+fn shared(alloc: Global, content: Content) -> Result<Arc<Content>, AllocError>
+    ensures { IfOk result (λ c. arc_value c ≡ content) }
+{
+    Ok(Arc::new(alloc, content)?)
+}

@@ -1,0 +1,65 @@
+//! What stands at the paths of a transaction's tree.
+ghost use Rattle.std.specs.Prelude.{◌≡◌, option_copied, option_map};
+ghost use Rattle.repo_api.specs.Kinds.{created_of};
+ghost use Rattle.noderevs.specs.Held.{node_at};
+ghost use Rattle.txntree.specs.Spots.{change_spot, flat};
+ghost use Rattle.txntree.specs.Spots.Spot.{Opened};
+
+use crate::open::{Change, OpenNode};
+use byte_string::ByteString;
+use noderevs::Nodes;
+use repo_api::Content;
+
+impl OpenNode {
+    /// What stands at a path: that it is a directory, or a file's text.
+    #[cycle(content)]
+    pub fn content_at<'a>(&'a self, nodes: &'a Nodes, path: &[ByteString]) -> Option<&'a Content>
+        ensures { option_copied result ≡ option_map (λ e. e.content)
+            (flat (node_at nodes.now) (Opened self.now) path.now) }
+    {
+        let Some((name, rest)) = path.split_first() else {
+            return Some(&self.content);
+        };
+        if let Some(change) = self.changed.get(name) {
+            return change.content_at(nodes, rest);
+        }
+        nodes.content(nodes.kid(self.base, name), rest)
+    }
+
+    /// The revision that last changed what stands at a path, at or under it: none where the transaction has.
+    #[cycle(made)]
+    pub fn made_at(&self, nodes: &Nodes, path: &[ByteString]) -> Option<u64>
+        ensures { result ≡ created_of (flat (node_at nodes.now) (Opened self.now) path.now) }
+    {
+        let Some((name, rest)) = path.split_first() else {
+            return None;
+        };
+        if let Some(change) = self.changed.get(name) {
+            return change.made_at(nodes, rest);
+        }
+        nodes.made(nodes.kid(self.base, name), rest)
+    }
+}
+
+impl Change {
+    #[cycle(content)]
+    fn content_at<'a>(&'a self, nodes: &'a Nodes, path: &[ByteString]) -> Option<&'a Content>
+        ensures { option_copied result ≡ option_map (λ e. e.content)
+            (flat (node_at nodes.now) (change_spot self.now) path.now) }
+    {
+        match self {
+            Change::Gone => None,
+            Change::Is(node) => node.content_at(nodes, path),
+        }
+    }
+
+    #[cycle(made)]
+    fn made_at(&self, nodes: &Nodes, path: &[ByteString]) -> Option<u64>
+        ensures { result ≡ created_of (flat (node_at nodes.now) (change_spot self.now) path.now) }
+    {
+        match self {
+            Change::Gone => None,
+            Change::Is(node) => node.made_at(nodes, path),
+        }
+    }
+}

@@ -1,0 +1,249 @@
+//! The nodes that a transaction has changed.
+ghost use Rattle.std.specs.Prelude.{◌≡◌, IfOk, OnOk, OnErr, IsErrOf, Some, None, true, false, [], ◌⊎◌, if◌then◌else◌};
+ghost use Rattle.svnpath.specs.Paths.{PathValue, Component, same_component};
+ghost use Rattle.repo_api.specs.Edits.{begun};
+ghost use Rattle.repo_api.specs.Trees.{is_open_mark};
+ghost use Rattle.noderevs.specs.Held.{node_at};
+ghost use Rattle.noderevs.specs.Nodes.{Look};
+ghost use Rattle.txntree.specs.Spots.{changed_at, change_spot, flat};
+ghost use Rattle.std.specs.Arc.{arc_value};
+ghost use Rattle.repo_api.specs.Properties.{with_property, without_property};
+ghost use Rattle.txntree.specs.Bases.{IsBased, IsBasedLocal, IsRootKept};
+ghost use Rattle.txntree.specs.Laws.{leaf};
+ghost use Rattle.txntree.specs.Walks.{at_path, made_there, Lacks};
+ghost use Rattle.txntree.specs.Spots.Spot.{Shared, Opened};
+
+use byte_string::ByteString;
+use noderevs::{NodeId, Nodes};
+use repo_api::{Content, Mark, Properties};
+use std::alloc::{AllocError, Global};
+use std::collections::BTreeMap;
+use std::sync::Arc;
+
+/// Why an edit was not made.
+#[derive(Clone, Copy, Debug, PartialEq, Eq)]
+pub enum EditFault {
+    /// A directory on the way is not there.
+    Missing,
+    NoMemory,
+}
+
+impl From<AllocError> for EditFault {
+    ghost use Rattle.std.specs.Prelude.{◌≡◌};
+    ghost use Rattle.txntree.specs.declared.open.EditFault.TheVariants.{NoMemory};
+
+    ghost from_gives = { λ _ fault. fault ≡ NoMemory };
+
+    fn from(_error: AllocError) -> Self {
+        EditFault::NoMemory
+    }
+}
+
+/// A node that a transaction has changed, at or under it. Its entries are those of `base`, but for
+/// the changed ones.
+#[derive(Drop)]
+#[cycle(open)]
+pub struct OpenNode {
+    pub own: Mark,
+    pub content: Arc<Content>,
+    pub properties: Arc<Properties>,
+    pub base: Option<NodeId>,
+    pub changed: BTreeMap<ByteString, Change>,
+}
+
+/// What became of an entry of a directory.
+#[derive(Drop)]
+#[cycle(open)]
+pub enum Change {
+    Gone,
+    Is(OpenNode),
+}
+
+/// A change at one node: of an entry, or of a part of its own.
+#[derive(Drop)]
+pub enum Local {
+    Entry(ByteString, Change),
+    Content(Arc<Content>),
+    SetProperty(ByteString, ByteString),
+    RemoveProperty(ByteString),
+}
+
+impl OpenNode {
+    /// A new node, with nothing beneath it.
+    pub fn fresh(alloc: Global, content: Content) -> Result<Self, AllocError>
+        ensures ok { IfOk result (λ n. (look : Look) (q : PathValue) → flat look (Opened n) q
+            ≡ leaf content q) }
+        ensures based { IfOk result (λ n. (look : Look) → IsBased look (Opened n)) }
+        ensures own { IfOk result (λ n. is_open_mark n.own ≡ true) }
+    {
+        Ok(OpenNode {
+            own: Mark::Open,
+            content: Arc::new(alloc, content)?,
+            properties: Arc::new(alloc, Properties::new(alloc))?,
+            base: None,
+            changed: BTreeMap::new(alloc),
+        })
+    }
+
+    /// The shared node as a transaction's own, which is changed beneath.
+    pub fn over(alloc: Global, nodes: &Nodes, id: NodeId) -> Result<Self, EditFault>
+        ensures missing { IsErrOf result EditFault.Missing → node_at nodes.now id ≡ None }
+        ensures ok { IfOk result (λ n. (q : PathValue) → flat (node_at nodes.now) (Opened n) q
+            ≡ begun (flat (node_at nodes.now) (Shared id)) q) }
+        ensures based { IfOk result (λ n. IsBased (node_at nodes.now) (Opened n)) }
+        ensures base { IfOk result (λ n. n.base ≡ Some id) }
+    {
+        let Some(node) = nodes.node(id) else {
+            return Err(EditFault::Missing);
+        };
+        Ok(OpenNode {
+            own: Mark::Made(node.own.rev, node.own.path.clone()?),
+            content: Arc::try_clone(&node.content)?,
+            properties: Arc::try_clone(&node.properties)?,
+            base: Some(id),
+            changed: BTreeMap::new(alloc),
+        })
+    }
+
+    /// Makes a change at the node of a path. Without memory, or where a node on the way is missing,
+    /// nothing changes.
+    #[cycle(walk)]
+    pub fn at(
+        &mut self,
+        alloc: Global,
+        nodes: &Nodes,
+        path: &[ByteString],
+        local: Local,
+    ) -> Result<(), EditFault>
+        ensures ok { OnOk result ((q : PathValue) → flat (node_at nodes.now) (Opened self.new) q
+            ≡ at_path path.now (made_there (node_at nodes.now) local) (flat (node_at nodes.now)
+            (Opened self.old)) q) }
+        ensures err { OnErr result ((q : PathValue) → flat (node_at nodes.now) (Opened self.new) q
+            ≡ flat (node_at nodes.now) (Opened self.old) q) }
+        ensures missing { IsErrOf result EditFault.Missing
+            → Lacks path.now (flat (node_at nodes.now) (Opened self.old)) }
+        ensures based { IsBasedLocal (node_at nodes.now) local
+            → IsBased (node_at nodes.now) (Opened self.old)
+            → IsBased (node_at nodes.now) (Opened self.new) }
+        ensures base { self.new.base ≡ self.old.base }
+        ensures own { is_open_mark self.new.own ≡ false → is_open_mark self.old.own ≡ false }
+    {
+        let Some((name, rest)) = path.split_first() else {
+            self.make(alloc, local)?;
+            return Ok(());
+        };
+        if let Some(change) = self.changed.get_mut(name) {
+            return change.at(alloc, nodes, rest, local);
+        }
+        let Some(id) = nodes.kid(self.base, name) else {
+            return Err(EditFault::Missing);
+        };
+        let mut node = OpenNode::over(alloc, nodes, id)?;
+        node.at(alloc, nodes, rest, local)?;
+        put_change(&mut self.changed, name.clone()?, Change::Is(node))?;
+        Ok(())
+    }
+
+    /// Makes a change at this node.
+    fn make(&mut self, alloc: Global, local: Local) -> Result<(), AllocError>
+        ensures ok { OnOk result ((look : Look) (q : PathValue) → flat look (Opened self.new) q
+            ≡ made_there look local (flat look (Opened self.old)) q) }
+        ensures err { OnErr result ((look : Look) (q : PathValue) → flat look (Opened self.new) q
+            ≡ flat look (Opened self.old) q) }
+        ensures based { (look : Look) → IsBasedLocal look local → IsBased look (Opened self.old)
+            → IsBased look (Opened self.new) }
+        ensures base { self.new.base ≡ self.old.base }
+        ensures own { is_open_mark self.new.own ≡ false → is_open_mark self.old.own ≡ false }
+    {
+        match local {
+            Local::Entry(name, change) => put_change(&mut self.changed, name, change)?,
+            Local::Content(content) => {
+                self.content = content;
+                self.own = Mark::Open;
+            }
+            Local::SetProperty(name, value) => {
+                self.properties = with_one(alloc, &self.properties, name, value)?;
+                self.own = Mark::Open;
+            }
+            Local::RemoveProperty(name) => {
+                self.properties = without_one(alloc, &self.properties, &name)?;
+                self.own = Mark::Open;
+            }
+        }
+        Ok(())
+    }
+}
+
+impl Change {
+    /// Makes a change at the node of a path.
+    #[cycle(walk)]
+    fn at(
+        &mut self,
+        alloc: Global,
+        nodes: &Nodes,
+        path: &[ByteString],
+        local: Local,
+    ) -> Result<(), EditFault>
+        ensures ok { OnOk result ((q : PathValue)
+            → flat (node_at nodes.now) (change_spot self.new) q
+            ≡ at_path path.now (made_there (node_at nodes.now) local) (flat (node_at nodes.now)
+            (change_spot self.old)) q) }
+        ensures err { OnErr result ((q : PathValue)
+            → flat (node_at nodes.now) (change_spot self.new) q
+            ≡ flat (node_at nodes.now) (change_spot self.old) q) }
+        ensures missing { IsErrOf result EditFault.Missing
+            → (flat (node_at nodes.now) (change_spot self.old) [] ≡ None)
+            ⊎ Lacks path.now (flat (node_at nodes.now) (change_spot self.old)) }
+        ensures based { IsBasedLocal (node_at nodes.now) local
+            → IsBased (node_at nodes.now) (change_spot self.old)
+            → IsBased (node_at nodes.now) (change_spot self.new) }
+        ensures root { IsRootKept (change_spot self.old) (change_spot self.new) }
+    {
+        match self {
+            Change::Gone => Err(EditFault::Missing),
+            Change::Is(node) => node.at(alloc, nodes, path, local),
+        }
+    }
+}
+
+/// The properties with one set.
+fn with_one(
+    alloc: Global,
+    properties: &Properties,
+    name: ByteString,
+    value: ByteString,
+) -> Result<Arc<Properties>, AllocError>
+    ensures { IfOk result (λ p. arc_value p ≡ with_property properties.now name value) }
+{
+    let mut properties = properties.clone()?;
+    properties.set(name, value)?;
+    Ok(Arc::new(alloc, properties)?)
+}
+
+/// The properties with one taken out.
+fn without_one(
+    alloc: Global,
+    properties: &Properties,
+    name: &ByteString,
+) -> Result<Arc<Properties>, AllocError>
+    ensures { IfOk result (λ p. arc_value p ≡ without_property properties.now name.now) }
+{
+    let mut properties = properties.clone()?;
+    properties.remove(name);
+    Ok(Arc::new(alloc, properties)?)
+}
+
+/// Puts the change of this name, over an earlier one.
+pub fn put_change(
+    changed: &mut BTreeMap<ByteString, Change>,
+    name: ByteString,
+    change: Change,
+) -> Result<(), AllocError>
+    ensures ok { OnOk result ((n : Component) → changed_at changed.new n
+        ≡ (if same_component name n then Some change else changed_at changed.old n)) }
+    ensures err { OnErr result ((n : Component) → changed_at changed.new n
+        ≡ changed_at changed.old n) }
+{
+    changed.insert(name, change)?;
+    Ok(())
+}

@@ -1,0 +1,174 @@
+//! A transaction's nodes as those of a revision.
+ghost use Rattle.std.specs.Prelude.{◌≡◌, ◌++◌, ◌∷◌, [], length, IfOk, OnOk, OnErr};
+ghost use Rattle.repo_api.specs.Merge.{closed};
+ghost use Rattle.svnpath.specs.Paths.{PathValue, Component};
+ghost use Rattle.noderevs.specs.Held.{node_at};
+ghost use Rattle.noderevs.specs.Heights.{AreHigh};
+ghost use Rattle.noderevs.specs.Nodes.{IsThere, IsClosed};
+ghost use Rattle.txntree.specs.Spots.{change_spot, flat};
+ghost use Rattle.txntree.specs.Spots.Spot.{Shared, Opened};
+ghost use Rattle.noderevs.specs.Nodes.{with_block, IsBefore, Grows, mark_of};
+ghost use Rattle.txntree.specs.Sealing.{sealed_at, AreThere, with_sealed, kid_trees, AreUnder, AreUnderOne, SameBut, IsBlockOf};
+
+use crate::open::{Change, OpenNode};
+use byte_string::ByteString;
+use noderevs::{Block, Made, NodeId, NodeRev, Nodes};
+use repo_api::Mark;
+use std::alloc::{AllocError, Global};
+use std::collections::BTreeMap;
+use std::sync::Arc;
+use svnpath::Path;
+
+impl OpenNode {
+    /// The transaction's tree as the nodes of the revision: one for each path that it changed, and no other.
+    pub fn block(&self, alloc: Global, nodes: &Nodes, rev: u32) -> Result<Block, AllocError>
+        ensures closed { IsClosed (node_at nodes.now) → IsBefore (node_at nodes.now) rev
+            → IfOk result (λ b. IsClosed (with_block (node_at nodes.now) rev b.nodes.items)) }
+        ensures high { IsClosed (node_at nodes.now) → IsBefore (node_at nodes.now) rev
+            → AreHigh (node_at nodes.now)
+            → IfOk result (λ b. AreHigh (with_block (node_at nodes.now) rev b.nodes.items)) }
+        ensures there { IfOk result (λ b. IsThere
+            (with_block (node_at nodes.now) rev b.nodes.items) b.root) }
+        ensures tree { IsClosed (node_at nodes.now) → IsBefore (node_at nodes.now) rev
+            → IfOk result (λ b. (q : PathValue)
+            → flat (with_block (node_at nodes.now) rev b.nodes.items) (Shared b.root) q
+            ≡ sealed_at rev [] (flat (node_at nodes.now) (Opened self.now)) q) }
+        ensures whole { IsClosed (node_at nodes.now) → IsBefore (node_at nodes.now) rev
+            → IfOk result (λ b. IsBlockOf (node_at nodes.now) rev b.nodes.items b.root) }
+    {
+        let mut block = Vec::new(alloc);
+        let root = self.sealed(alloc, nodes, rev, Path::root(alloc), &mut block)?;
+        Ok(Block { nodes: block, root })
+    }
+
+    /// Puts this node and those under it into the block of the revision, each behind its entries.
+    #[cycle(seal)]
+    pub fn sealed(
+        &self,
+        alloc: Global,
+        nodes: &Nodes,
+        rev: u32,
+        path: Path,
+        block: &mut Vec<NodeRev>,
+    ) -> Result<NodeId, AllocError>
+        ensures grows { Grows (with_block (node_at nodes.now) rev block.old.items)
+            (with_block (node_at nodes.now) rev block.new.items) }
+        ensures closed { IsClosed (node_at nodes.now) → IsBefore (node_at nodes.now) rev
+            → IsClosed (with_block (node_at nodes.now) rev block.old.items)
+            → IsClosed (with_block (node_at nodes.now) rev block.new.items) }
+        ensures high { IsClosed (node_at nodes.now) → IsBefore (node_at nodes.now) rev
+            → IsClosed (with_block (node_at nodes.now) rev block.old.items)
+            → AreHigh (with_block (node_at nodes.now) rev block.old.items)
+            → AreHigh (with_block (node_at nodes.now) rev block.new.items) }
+        ensures there { IfOk result (IsThere (with_block (node_at nodes.now) rev block.new.items)) }
+        ensures ok { IsClosed (node_at nodes.now) → IsBefore (node_at nodes.now) rev
+            → IsClosed (with_block (node_at nodes.now) rev block.old.items)
+            → IfOk result (λ id. (q : PathValue)
+            → flat (with_block (node_at nodes.now) rev block.new.items) (Shared id) q
+            ≡ sealed_at rev path (flat (node_at nodes.now) (Opened self.now)) q) }
+        ensures under { IsClosed (node_at nodes.now) → IsBefore (node_at nodes.now) rev
+            → IsClosed (with_block (node_at nodes.now) rev block.old.items)
+            → IfOk result (AreUnder (with_block (node_at nodes.now) rev block.new.items) rev
+            (length block.old.items) (length block.new.items)) }
+    {
+        let mut kids = nodes.kids(alloc, self.base)?;
+        for (name, change) in &self.changed {
+            let below = path.child(alloc, name.clone()?)?;
+            change.sealed(alloc, nodes, rev, below, name.clone()?, &mut kids, block)?;
+        }
+        let height = nodes.height_over(rev, block, &kids);
+        let own = closed(rev, &path, &self.own)?;
+        let content = Arc::try_clone(&self.content)?;
+        let properties = Arc::try_clone(&self.properties)?;
+        append(
+            block,
+            rev,
+            NodeRev {
+                path,
+                own,
+                content,
+                properties,
+                kids,
+                height,
+            },
+        )
+    }
+}
+
+impl Change {
+    /// Puts the node of an entry, and those under it, into the block, and its id among the entries.
+    #[cycle(seal)]
+    fn sealed(
+        &self,
+        alloc: Global,
+        nodes: &Nodes,
+        rev: u32,
+        path: Path,
+        name: ByteString,
+        kids: &mut BTreeMap<ByteString, NodeId>,
+        block: &mut Vec<NodeRev>,
+    ) -> Result<(), AllocError>
+        ensures grows { Grows (with_block (node_at nodes.now) rev block.old.items)
+            (with_block (node_at nodes.now) rev block.new.items) }
+        ensures closed { IsClosed (node_at nodes.now) → IsBefore (node_at nodes.now) rev
+            → IsClosed (with_block (node_at nodes.now) rev block.old.items)
+            → IsClosed (with_block (node_at nodes.now) rev block.new.items) }
+        ensures high { IsClosed (node_at nodes.now) → IsBefore (node_at nodes.now) rev
+            → IsClosed (with_block (node_at nodes.now) rev block.old.items)
+            → AreHigh (with_block (node_at nodes.now) rev block.old.items)
+            → AreHigh (with_block (node_at nodes.now) rev block.new.items) }
+        ensures there { AreThere (with_block (node_at nodes.now) rev block.old.items) kids.old
+            → OnOk result (AreThere (with_block (node_at nodes.now) rev block.new.items) kids.new) }
+        ensures ok { IsClosed (node_at nodes.now) → IsBefore (node_at nodes.now) rev
+            → IsClosed (with_block (node_at nodes.now) rev block.old.items)
+            → AreThere (with_block (node_at nodes.now) rev block.old.items) kids.old
+            → OnOk result ((n : Component) (q : PathValue)
+            → kid_trees (with_block (node_at nodes.now) rev block.new.items) kids.new n q
+            ≡ with_sealed (node_at nodes.now) rev path name self.now (kid_trees
+            (with_block (node_at nodes.now) rev block.old.items) kids.old) n q) }
+        ensures under { IsClosed (node_at nodes.now) → IsBefore (node_at nodes.now) rev
+            → IsClosed (with_block (node_at nodes.now) rev block.old.items)
+            → OnOk result (AreUnderOne (with_block (node_at nodes.now) rev block.new.items) rev
+            (length block.old.items) (length block.new.items) kids.new) }
+        ensures others { OnOk result (SameBut name kids.old kids.new) }
+    {
+        match self {
+            Change::Gone => {
+                kids.remove(&name);
+                Ok(())
+            }
+            Change::Is(node) => {
+                let id = node.sealed(alloc, nodes, rev, path, block)?;
+                kids.insert(name, id)?;
+                Ok(())
+            }
+        }
+    }
+}
+
+/// The mark of the revision at the path in an open mark's place.
+fn closed(rev: u32, path: &Path, mark: &Mark) -> Result<Made, AllocError>
+    ensures { IfOk result (λ m. mark_of m ≡ closed rev path.now mark.now) }
+{
+    match mark {
+        Mark::Open => Ok(Made {
+            rev,
+            path: path.clone()?,
+        }),
+        Mark::Made(rev, path) => Ok(Made {
+            rev: *rev,
+            path: path.clone()?,
+        }),
+    }
+}
+
+/// Puts a node behind the others of its block.
+fn append(block: &mut Vec<NodeRev>, rev: u32, node: NodeRev) -> Result<NodeId, AllocError>
+    ensures id { IfOk result (λ id. (id.rev ≡ rev) × (id.place ≡ length block.old.items)) }
+    ensures ok { OnOk result (block.new.items ≡ block.old.items ++ node ∷ []) }
+    ensures err { OnErr result (block.new.items ≡ block.old.items) }
+{
+    let place = block.len() as u64;
+    block.push(node)?;
+    Ok(NodeId { rev, place })
+}

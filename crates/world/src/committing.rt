@@ -1,0 +1,64 @@
+//! The revision that a commit makes.
+ghost use Rattle.std.specs.Prelude.{◌≡◌, length, true, false, IfOk, IsErrOf};
+ghost use Rattle.repo_api.specs.MergedMaps.{has_conflict, merged_map};
+ghost use Rattle.repo_api.specs.States.{TreeMap, tree_at, youngest};
+ghost use Rattle.noderevs.specs.Held.{node_at, root_at, trees_of};
+ghost use Rattle.txntree.specs.Whole.{txn_tree, IsSound};
+ghost use Rattle.treemerge.specs.Merges.{IsTold};
+ghost use Rattle.world.specs.Committing.{commit_fault};
+ghost use Rattle.world.specs.Contents.{held_state, revisions_of};
+ghost use Rattle.world.specs.Maps.{IsMapOf};
+ghost use Rattle.world.specs.Sealed.{sealed_tree};
+
+use crate::held::Held;
+use std::alloc::{AllocError, Global};
+use treemerge::{MergeFault, merge};
+use txntree::TxnTree;
+
+/// Why a commit was not made.
+#[derive(Clone, Copy, Debug, PartialEq, Eq)]
+pub enum CommitFault {
+    /// Others have changed what the transaction changed.
+    Conflict,
+    NoMemory,
+}
+
+impl From<AllocError> for CommitFault {
+    ghost use Rattle.std.specs.Prelude.{◌≡◌};
+    ghost use Rattle.world.specs.declared.committing.CommitFault.TheVariants.{NoMemory};
+
+    ghost from_gives = { λ _ fault. fault ≡ NoMemory };
+
+    fn from(_error: AllocError) -> Self {
+        CommitFault::NoMemory
+    }
+}
+
+impl Held {
+    /// The tree of a transaction that began from this base, merged with the youngest revision.
+    pub fn merged(&self, alloc: Global, base: u64, tree: &TxnTree) -> Result<TxnTree, CommitFault>
+        requires told { IsTold (trees_of self.now.nodes base) (txn_tree self.now.nodes tree.now) }
+        requires standing { IsSound (node_at self.now.nodes) (root_at self.now.nodes base) tree.now }
+        ensures map { IfOk result (λ t. (m : TreeMap) → IsMapOf (txn_tree self.now.nodes tree.now) m
+            → IsMapOf (sealed_tree self.now.nodes t) (merged_map (length (revisions_of self.now)) (tree_at (held_state self.now) base) m (tree_at (held_state self.now) (youngest (held_state self.now))))) }
+        ensures clean { IfOk result (λ t. (m : TreeMap) → IsMapOf (txn_tree self.now.nodes tree.now) m
+            → has_conflict (tree_at (held_state self.now) base) m (tree_at (held_state self.now) (youngest (held_state self.now))) ≡ false) }
+        ensures conflict { IsErrOf result CommitFault.Conflict → (m : TreeMap) → IsMapOf (txn_tree self.now.nodes tree.now) m
+            → has_conflict (tree_at (held_state self.now) base) m (tree_at (held_state self.now) (youngest (held_state self.now))) ≡ true }
+    {
+        match merge(alloc, &self.nodes, base, tree, self.youngest()) {
+            Ok(merged) => Ok(merged),
+            Err(fault) => Err(fault_of(fault)),
+        }
+    }
+}
+
+/// The fault of a merge as that of a commit.
+fn fault_of(fault: MergeFault) -> CommitFault
+    ensures { result ≡ commit_fault fault }
+{
+    match fault {
+        MergeFault::Conflict(_) => CommitFault::Conflict,
+        MergeFault::NoMemory => CommitFault::NoMemory,
+    }
+}
