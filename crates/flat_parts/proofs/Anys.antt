@@ -5,7 +5,7 @@ use Rattle.std.specs.List.{list_any}
 use Rattle.std.specs.Map.{keys_of}
 use Rattle.svnpath.specs.Paths.{PathValue, path_cmp}
 use Rattle.svnpath.specs.PathLaws.{at_is}
-use Rattle.flat_parts.specs.Found.{found}
+use Rattle.revision_data.specs.Found.{found}
 
 pub or_right : (a b : Bool) → b ≡ true → (a || b) ≡ true
 or_right true b h = refl

@@ -11,7 +11,8 @@ use Rattle.svnpath.specs.PathLaws.{same_path_is, same_path_refl, same_path-appen
 use Rattle.repo_api.specs.Edits.{with_open_mark, copy_of}
 use Rattle.repo_api.specs.Trees.{Tree}
 use Rattle.repo_api.specs.declared.entry.Entry.{Entry}
-use Rattle.flat_parts.specs.Found.{found, copied_entry, landed}
+use Rattle.revision_data.specs.Found.{found}
+use Rattle.flat_parts.specs.Found.{copied_entry, landed}
 use Rattle.flat_parts.proofs.Anys.{any_at, found_key}
 
 -- where the copy of the entry at k goes

@@ -1,6 +1,4 @@
-pub mod Retained
 pub mod Rules
-pub mod Seen
 pub mod Anys
 pub mod Parts
 pub mod Aboves

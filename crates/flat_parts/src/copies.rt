@@ -3,11 +3,12 @@ ghost use Rattle.std.specs.Prelude.{◌≡◌, IfOk, OnOk, if◌then◌else◌, 
 ghost use Rattle.std.specs.Option.{option_or};
 ghost use Rattle.svnpath.specs.Paths.{PathValue, same_path};
 ghost use Rattle.repo_api.specs.Edits.{with_open_mark, deleted};
-ghost use Rattle.flat_parts.specs.Found.{found, copied_entry, landed};
+ghost use Rattle.revision_data.specs.Found.{found};
+ghost use Rattle.flat_parts.specs.Found.{copied_entry, landed};
 
 use crate::entries::with_marks;
-use crate::path_map::put;
 use repo_api::{Entry, Mark};
+use revision_data::put;
 use std::alloc::{AllocError, Global};
 use std::collections::BTreeMap;
 use svnpath::Path;

@@ -4,7 +4,8 @@ ghost use Rattle.svnpath.specs.Paths.{PathValue, is_at_or_under};
 ghost use Rattle.repo_api.specs.Edits.{new_entry, with_text};
 ghost use Rattle.repo_api.specs.Opening.{opening_root};
 ghost use Rattle.repo_api.specs.declared.entry.Content.TheVariants.{File};
-ghost use Rattle.flat_parts.specs.Found.{found, part_at, with_properties};
+ghost use Rattle.revision_data.specs.Found.{found};
+ghost use Rattle.flat_parts.specs.Found.{part_at, with_properties};
 
 use repo_api::{Content, Entry, FileText, Mark, Properties};
 use std::alloc::{AllocError, Global};
@@ -52,21 +53,6 @@ pub(crate) fn with_marks(entry: &Entry, own: Mark, last: Mark) -> Result<Entry, 
         own,
         last,
     })
-}
-
-/// Makes the entry at the path a new one with this content.
-pub fn put_new_entry(
-    entries: &mut BTreeMap<Path, Entry>,
-    alloc: Global,
-    path: &Path,
-    content: Content,
-)
-    ensures { (q : PathValue) → found entries.new.entries q
-        ≡ part_at path.now (λ e. new_entry content) q (found entries.old.entries q) }
-{
-    if let Some(entry) = entries.get_mut(path) {
-        *entry = new_entry(alloc, content);
-    }
 }
 
 /// Gives the entry at the path these properties, and opens its marks.

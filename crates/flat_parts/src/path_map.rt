@@ -1,22 +1,13 @@
 //! Maps from paths.
-ghost use Rattle.std.specs.Prelude.{◌≡◌, OnOk, OnErr, Some, None, if◌then◌else◌};
+ghost use Rattle.std.specs.Prelude.{◌≡◌, OnOk, if◌then◌else◌};
 ghost use Rattle.std.specs.Option.{option_or};
 ghost use Rattle.svnpath.specs.Paths.{PathValue, same_path};
-ghost use Rattle.flat_parts.specs.Found.{found};
+ghost use Rattle.revision_data.specs.Found.{found};
 
+use revision_data::put;
 use std::alloc::AllocError;
 use std::collections::BTreeMap;
 use svnpath::Path;
-
-/// Puts the value at the path, over what stood there.
-pub fn put<V: Drop>(entries: &mut BTreeMap<Path, V>, path: Path, value: V) -> Result<(), AllocError>
-    ensures ok { OnOk result ((q : PathValue) → found entries.new.entries q
-        ≡ (if same_path path q then Some value else found entries.old.entries q)) }
-    ensures err { OnErr result (entries.new.entries ≡ entries.old.entries) }
-{
-    entries.insert(path, value)?;
-    Ok(())
-}
 
 /// Puts the value, if there is one, at the path, over what stood there.
 pub fn put_some<V: Drop>(
@@ -25,18 +16,11 @@ pub fn put_some<V: Drop>(
     value: Option<V>,
 ) -> Result<(), AllocError>
     ensures { OnOk result ((q : PathValue)
-        → found entries.new.entries q ≡ (if same_path path.now q then option_or value (found entries.old.entries q) else found entries.old.entries q)) }
+        → found entries.new.entries q ≡ (if same_path path.now q
+        then option_or value (found entries.old.entries q) else found entries.old.entries q)) }
 {
     match value {
         Some(value) => put(entries, path.clone()?, value),
         None => Ok(()),
     }
-}
-
-/// Takes out what stands at the path.
-pub fn take_out<V: Drop>(entries: &mut BTreeMap<Path, V>, path: &Path)
-    ensures { (q : PathValue) → found entries.new.entries q
-        ≡ (if same_path path.now q then None else found entries.old.entries q) }
-{
-    entries.remove(path);
 }

@@ -2,7 +2,7 @@
 ghost use Rattle.std.specs.Prelude.{◌≡◌, ◌++◌, ◌∷◌, [], IfOk, OnOk, OnErr, option_map, if◌then◌else◌};
 ghost use Rattle.svnpath.specs.Paths.{PathValue, same_path};
 ghost use Rattle.repo_api.specs.Edits.{touched, touched_above};
-ghost use Rattle.flat_parts.specs.Found.{found};
+ghost use Rattle.revision_data.specs.Found.{found};
 
 use byte_string::ByteString;
 use repo_api::{Entry, Mark};

@@ -9,7 +9,7 @@ use Rattle.svnpath.specs.Paths.{PathValue, path_cmp}
 use Rattle.svnpath.specs.PathLaws.{at_is_same, same_path_refl}
 use Rattle.repo_api.specs.declared.entry.Entry.{Entry}
 use Rattle.flat_parts.proofs.Anys.{or_right, any_at, found_key}
-use Rattle.flat_parts.proofs.Seen.{seen_at}
+use Rattle.revision_data.proofs.Seen.{seen_at}
 
 is_at_itself : (k : PathValue) → is_at (path_cmp k) k ≡ true
 is_at_itself k = at_is_same k k ∙ same_path_refl k

@@ -10,7 +10,7 @@ use Rattle.svnpath.specs.PathLaws.{at_is}
 use Rattle.repo_api.specs.Merge.{is_untouched, merged_entry}
 use Rattle.repo_api.specs.Trees.{Tree}
 use Rattle.repo_api.specs.declared.entry.Entry.{Entry}
-use Rattle.flat_parts.proofs.Seen.{at_is_same_back}
+use Rattle.revision_data.proofs.Seen.{at_is_same_back}
 
 or_twice : (a : Bool) (l o : Option Entry) → option_or (if a then l else None) (option_or l o) ≡ option_or l o
 or_twice true None o = refl

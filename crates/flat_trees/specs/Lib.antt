@@ -1,4 +1,3 @@
-pub mod Adding
 pub mod Contents
 pub mod Merging
 pub mod Perhaps

@@ -7,11 +7,10 @@ ghost use Rattle.repo_api.specs.RevisionProperties.{property_changed, with_chang
 ghost use Rattle.repo_api.specs.Opening.{new_repository, opening_tree};
 ghost use Rattle.flat_trees.specs.Contents.{fixed_of, values, revisions_of, properties_of, flat_state};
 
-use crate::change_list::ChangeList;
 use crate::flat_tree::FlatTree;
 use byte_string::ByteString;
-use flat_parts::{changed_property, opening_properties};
 use repo_api::{Change, Properties};
+use revision_data::{ChangeList, changed_property, opening_properties};
 use std::alloc::{AllocError, Global};
 use std::sync::Arc;
 use svnpath::Path;

@@ -1,28 +1,29 @@
 //! A tree as one ordered map.
-ghost use Rattle.std.specs.Prelude.{◌≡◌, not, IfOk, OnOk, OnErr, is_some, map, option_map, option_copied, if◌then◌else◌, None};
+ghost use Rattle.std.specs.Prelude.{◌≡◌, IfOk, OnOk, OnErr, map, option_map, option_copied};
 ghost use Rattle.std.specs.FinMap.{get, empty, keys};
 ghost use Rattle.std.specs.List.{list_any};
 ghost use Rattle.std.specs.Map.Iter.{deref};
 ghost use Rattle.std.specs.Option.{option_or};
-ghost use Rattle.svnpath.specs.Paths.{PathValue, same_path};
-ghost use Rattle.repo_api.specs.Edits.{new_entry, touched_above, revised, with_text, deleted, copied, begun};
+ghost use Rattle.svnpath.specs.Paths.{PathValue};
+ghost use Rattle.repo_api.specs.Edits.{added, touched_above, revised, with_text, with_value, without_value, deleted, copied, begun};
 ghost use Rattle.repo_api.specs.Kinds.{has_deeper};
 ghost use Rattle.repo_api.specs.Readings.{names_in};
 ghost use Rattle.repo_api.specs.MergedMaps.{has_conflict, merged_map};
 ghost use Rattle.repo_api.specs.Opening.{opening_tree};
 ghost use Rattle.repo_api.specs.States.{tree_of};
 ghost use Rattle.repo_api.specs.Properties.{with_property, without_property};
-ghost use Rattle.flat_parts.specs.Found.{found, with_properties, landed};
+ghost use Rattle.revision_data.specs.Found.{found};
+ghost use Rattle.flat_parts.specs.Found.{with_properties, landed};
 ghost use Rattle.flat_trees.specs.Merging.{conflict_at, merged_at, put_over};
-ghost use Rattle.flat_trees.specs.Adding.{with_room};
 ghost use Rattle.flat_trees.specs.Perhaps.{map_or_empty};
 
 use byte_string::ByteString;
 use flat_parts::{
-    cut, is_deeper, is_in_conflict, merged_entry, names_beneath, new_entry, opening_root, put,
-    put_copies, put_new_entry, put_properties, put_some, put_text, take_out, touch_above,
+    cut, is_deeper, is_in_conflict, merged_entry, names_beneath, new_entry, opening_root,
+    put_copies, put_properties, put_some, put_text, touch_above,
 };
 use repo_api::{Content, Entry, FileText, Properties};
+use revision_data::put;
 use std::alloc::{AllocError, Global};
 use std::collections::BTreeMap;
 use std::marker::Model;
@@ -82,47 +83,58 @@ impl FlatTree {
         Ok(FlatTree { entries })
     }
 
-    /// Puts a new directory at the path if nothing stands there, and answers whether nothing did.
+    /// Puts a new entry with this content at the path.
     #[tactic(auto, using(repo_api::specs::StateLaws::get_path))]
-    pub fn make_room(&mut self, alloc: Global, path: &Path) -> Result<bool, AllocError>
-        ensures made { IfOk result (λ made. made ≡ not (is_some (get self.old path.now))) }
-        ensures ok { OnOk result ((q : PathValue)
-            → get self.new q ≡ with_room (tree_of self.old) path.now q) }
+    pub fn add(&mut self, alloc: Global, path: &Path, content: Content) -> Result<(), AllocError>
+        ensures ok { OnOk result ((q : PathValue) → get self.new q
+            ≡ added (tree_of self.old) path.now content q) }
         ensures err { OnErr result (self.new ≡ self.old) }
     {
-        if self.entries.contains_key(path) {
-            return Ok(false);
-        }
-        put(
-            &mut self.entries,
-            path.clone()?,
-            new_entry(alloc, Content::Directory),
-        )?;
-        Ok(true)
-    }
-
-    /// Takes out the entry at the path.
-    #[tactic(auto, using(repo_api::specs::StateLaws::get_path))]
-    pub fn remove(&mut self, path: &Path)
-        ensures { (q : PathValue) → get self.new q
-            ≡ (if same_path path.now q then None else get self.old q) }
-    {
-        take_out(&mut self.entries, path);
-    }
-
-    /// Makes the entry at the path a new one with this content, where there is one. It does not fail for want of memory.
-    #[tactic(auto, using(repo_api::specs::StateLaws::get_path))]
-    pub fn renew(&mut self, alloc: Global, path: &Path, content: Content)
-        ensures { (q : PathValue) → get self.new q
-            ≡ revised (tree_of self.old) path.now (λ e. new_entry content) q }
-    {
-        put_new_entry(&mut self.entries, alloc, path, content);
+        put(&mut self.entries, path.clone()?, new_entry(alloc, content))?;
         touch_above(&mut self.entries, alloc, path);
+        Ok(())
     }
 
-    /// The properties of the entry at the path with one set, if there is an entry.
+    /// Sets the property of this name at the path to the value.
+    pub fn set_property(
+        &mut self,
+        alloc: Global,
+        path: &Path,
+        name: &ByteString,
+        value: &ByteString,
+    ) -> Result<(), AllocError>
+        ensures ok { OnOk result ((q : PathValue) → get self.new q
+            ≡ revised (tree_of self.old) path.now (with_value name.now value.now) q) }
+        ensures err { OnErr result (self.new ≡ self.old) }
+    {
+        match self.properties_with(path, name, value)? {
+            Some(properties) => self.set_properties(alloc, path, properties),
+            None => self.touch(alloc, path),
+        }
+        Ok(())
+    }
+
+    /// Takes out the property of this name at the path.
+    pub fn remove_property(
+        &mut self,
+        alloc: Global,
+        path: &Path,
+        name: &ByteString,
+    ) -> Result<(), AllocError>
+        ensures ok { OnOk result ((q : PathValue) → get self.new q
+            ≡ revised (tree_of self.old) path.now (without_value name.now) q) }
+        ensures err { OnErr result (self.new ≡ self.old) }
+    {
+        match self.properties_without(path, name)? {
+            Some(properties) => self.set_properties(alloc, path, properties),
+            None => self.touch(alloc, path),
+        }
+        Ok(())
+    }
+
+    /// Copies the properties of the entry at the path with one set, if there is an entry.
     #[tactic(auto, using(repo_api::specs::StateLaws::get_path))]
-    pub fn properties_with(
+    fn properties_with(
         &self,
         path: &Path,
         name: &ByteString,
@@ -142,9 +154,9 @@ impl FlatTree {
         }
     }
 
-    /// The properties of the entry at the path with one taken out, if there is an entry.
+    /// Copies the properties of the entry at the path with one taken out, if there is an entry.
     #[tactic(auto, using(repo_api::specs::StateLaws::get_path))]
-    pub fn properties_without(
+    fn properties_without(
         &self,
         path: &Path,
         name: &ByteString,
@@ -164,7 +176,7 @@ impl FlatTree {
 
     /// Gives the entry at the path these properties, where there is one. It does not fail for want of memory.
     #[tactic(auto, using(repo_api::specs::StateLaws::get_path))]
-    pub fn set_properties(&mut self, alloc: Global, path: &Path, properties: Properties)
+    fn set_properties(&mut self, alloc: Global, path: &Path, properties: Properties)
         ensures { (q : PathValue) → get self.new q
             ≡ revised (tree_of self.old) path.now (with_properties properties) q }
     {
@@ -172,19 +184,27 @@ impl FlatTree {
         touch_above(&mut self.entries, alloc, path);
     }
 
-    /// Gives the entry at the path this text, where there is one. It does not fail for want of memory.
+    /// Makes this the text of the file at the path.
     #[tactic(auto, using(repo_api::specs::StateLaws::get_path))]
-    pub fn set_text(&mut self, alloc: Global, path: &Path, text: FileText)
-        ensures { (q : PathValue) → get self.new q
-            ≡ revised (tree_of self.old) path.now (with_text text) q }
+    pub fn set_text(
+        &mut self,
+        alloc: Global,
+        path: &Path,
+        text: &FileText,
+    ) -> Result<(), AllocError>
+        ensures ok { OnOk result ((q : PathValue) → get self.new q
+            ≡ revised (tree_of self.old) path.now (with_text text.now) q) }
+        ensures err { OnErr result (self.new ≡ self.old) }
     {
+        let text = text.clone()?;
         put_text(&mut self.entries, path, text);
         touch_above(&mut self.entries, alloc, path);
+        Ok(())
     }
 
     /// Opens `last` at the path and above it. It does not fail for want of memory.
     #[tactic(auto, using(repo_api::specs::StateLaws::get_path))]
-    pub fn touch(&mut self, alloc: Global, path: &Path)
+    fn touch(&mut self, alloc: Global, path: &Path)
         ensures { (q : PathValue) → get self.new q ≡ touched_above path.now (tree_of self.old) q }
     {
         touch_above(&mut self.entries, alloc, path);

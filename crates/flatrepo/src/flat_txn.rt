@@ -2,7 +2,8 @@
 ghost use Rattle.history.specs.Sound.{IsSoundTxn};
 ghost use Rattle.flatrepo.specs.Open.{txn_of};
 
-use flat_trees::{FlatChanges, FlatContent, FlatTree};
+use flat_trees::{FlatContent, FlatTree};
+use revision_data::TxnChanges;
 use std::sync::Arc;
 
 /// An open transaction, which is sound.
@@ -11,6 +12,6 @@ pub struct FlatTxn {
     pub(crate) shown: Arc<FlatContent>,
     pub(crate) base: u64,
     pub(crate) tree: FlatTree,
-    pub(crate) changes: FlatChanges,
+    pub(crate) changes: TxnChanges,
     ghost sound: { ∥ IsSoundTxn (txn_of shown.value base tree changes) ∥₁ },
 }

@@ -3,7 +3,6 @@
 
 mod flat_repo;
 mod flat_txn;
-mod locking;
 mod marks;
 mod repository;
 mod settling;

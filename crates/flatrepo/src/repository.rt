@@ -4,14 +4,14 @@ ghost use Rattle.std.specs.FinMap.{get};
 ghost use Rattle.dates.specs.Dates.{IsDateText};
 ghost use Rattle.dates.specs.declared.TheConstants.{LAST_MOMENT};
 ghost use Rattle.svnpath.specs.Paths.{PathValue};
-ghost use Rattle.repo_api.specs.Changes.{changes_after, noted_copy, noted_delete};
+ghost use Rattle.repo_api.specs.Changes.{changes_after};
 ghost use Rattle.repo_api.specs.declared.limits.TheConstants.{REVISION_LIMIT};
 ghost use Rattle.repo_api.specs.Commits.{commit_refusal, committed, revision_properties};
 ghost use Rattle.repo_api.specs.Accepted.{IfRefused, IsOfMemory};
 ghost use Rattle.repo_api.specs.Kinds.{kind_at, created_at};
-ghost use Rattle.repo_api.specs.Locking.{check_refusal, current_refusal, with_lock};
-ghost use Rattle.repo_api.specs.RevisionProperties.{property_name_refusal, property_refusal, with_changed_property};
-ghost use Rattle.repo_api.specs.Edits.{edited, copied, deleted};
+ghost use Rattle.repo_api.specs.Locking.{check_refusal, with_lock};
+ghost use Rattle.repo_api.specs.RevisionProperties.{property_refusal, with_changed_property};
+ghost use Rattle.repo_api.specs.Edits.{edited};
 ghost use Rattle.repo_api.specs.Opening.{new_repository};
 ghost use Rattle.repo_api.specs.MergedMaps.{has_conflict, merged_map};
 ghost use Rattle.repo_api.specs.declared.ask.CommitAsk.{CommitAsk};
@@ -23,24 +23,21 @@ ghost use Rattle.flatrepo.specs.Whole.{state_of, repo_content, txn_state_of};
 
 use crate::flat_repo::FlatRepo;
 use crate::flat_txn::FlatTxn;
-use crate::locking;
 use crate::marks::is_same_in;
 use crate::settling::settled_in;
 use byte_string::ByteString;
-use dates::date_text;
-use flat_parts::{empty_file, revision_properties};
 use flat_trees::{
-    FlatChanges, FlatContent, FlatRevision, FlatTree, add, begun_tree, created, delete, entry_at,
-    has_deeper, kind_at, names, properties, remove_property, set_property, set_text, take_copy,
-    take_replacement, text,
+    FlatContent, FlatRevision, FlatTree, begun_tree, created, edit_tree, entry_at, has_deeper,
+    kind_at, names, properties, text,
 };
 use history::{repositories_stay_sound, transactions_stay_sound};
-use pathlocks::Locks;
+use pathlocks::{Locks, lock_shared, put_shared, release_shared, unlock_shared};
 use refusals::Refusal;
 use repo_api::{
-    Change, ChangeFault, CommitAsk, Content, EditOp, FileText, Lock, LockAsk, LockTokens, NodeKind,
-    Properties, REVISION_LIMIT, Repository, Source, UnlockAsk, is_property_name,
+    Change, ChangeFault, CommitAsk, EditOp, FileText, Lock, LockAsk, LockTokens, NodeKind,
+    Properties, REVISION_LIMIT, Repository, UnlockAsk,
 };
+use revision_data::{TxnChanges, current_refusal, date_of, property_refusal, revision_properties};
 use std::alloc::{AllocError, Global};
 use std::sync::Arc;
 use svnpath::Path;
@@ -70,7 +67,7 @@ impl FlatRepo {
             ≡ with_lock (repo_content self.old) path lock) }
         ensures err { OnErr result (repo_content self.new ≡ repo_content self.old) }
     {
-        locking::put(&mut self.locks, path, lock)
+        put_shared(&mut self.locks, path, lock)
     }
 }
 
@@ -170,7 +167,7 @@ impl Repository for FlatRepo {
             shown: Arc::try_clone(&self.content)?,
             base,
             tree: begun_tree(self.alloc, self.content.tree(base))?,
-            changes: FlatChanges::new(self.alloc),
+            changes: TxnChanges::new(self.alloc),
         })
     }
 
@@ -189,16 +186,16 @@ impl Repository for FlatRepo {
     }
 
     fn lock(&mut self, ask: LockAsk) -> Result<(), ChangeFault> {
-        if let Some(refusal) = current_refusal(&self.content, ask.current) {
+        if let Some(refusal) = current_refusal(self.content.youngest(), ask.current) {
             std::mem::drop(ask);
             return Err(ChangeFault::Refused(refusal));
         }
         let (kind, created) = standing(&self.content, &ask.path);
-        locking::lock(self.alloc, &mut self.locks, kind, created, ask)
+        lock_shared(self.alloc, &mut self.locks, kind, created, ask)
     }
 
     fn unlock(&mut self, ask: &UnlockAsk) -> Result<(), ChangeFault> {
-        locking::unlock(&mut self.locks, ask)
+        unlock_shared(&mut self.locks, ask)
     }
 
     fn change_property(
@@ -207,7 +204,7 @@ impl Repository for FlatRepo {
         name: ByteString,
         value: Option<ByteString>,
     ) -> Result<(), ChangeFault> {
-        if let Some(refusal) = property_refusal(&self.content, revision, &name) {
+        if let Some(refusal) = refusal_of(&self.content, revision, &name) {
             std::mem::drop((name, value));
             return Err(ChangeFault::Refused(refusal));
         }
@@ -220,41 +217,17 @@ impl Repository for FlatRepo {
         user: Option<&ByteString>,
         tokens: &LockTokens,
     ) -> Result<(), ChangeFault> {
-        locking::release(self.alloc, &mut self.locks, user, tokens)?;
+        release_shared(self.alloc, &mut self.locks, user, tokens)?;
         Ok(())
     }
 }
 
-/// A client cannot have seen a revision above the youngest.
-fn current_refusal(content: &FlatContent, current: Option<u64>) -> Option<Refusal>
-    ensures { result ≡ current_refusal (youngest (flat_state content.now)) current }
-{
-    match current {
-        Some(current) if current > content.youngest() => Some(Refusal::NoSuchRevision),
-        _ => None,
-    }
-}
-
-/// Why a change of a property of a revision is refused: there is no such revision, or none has such a
+/// Refuses a change of a property of a revision: there is no such revision, or none has such a
 /// name.
-fn property_refusal(content: &FlatContent, revision: u64, name: &ByteString) -> Option<Refusal>
+fn refusal_of(content: &FlatContent, revision: u64, name: &ByteString) -> Option<Refusal>
     ensures { result ≡ property_refusal (flat_state content.now) revision name.now }
 {
-    if revision > content.youngest() {
-        return Some(Refusal::NoSuchRevision);
-    }
-    property_name_refusal(name.as_slice())
-}
-
-/// A property's name has 1 to 255 bytes.
-fn property_name_refusal(name: &[u8]) -> Option<Refusal>
-    ensures { result ≡ property_name_refusal name.now }
-{
-    if is_property_name(name) {
-        None
-    } else {
-        Some(Refusal::NotSupported)
-    }
+    property_refusal(content.youngest(), revision, name)
 }
 
 /// What is held after a change of a property of a revision. What was shared before stays as it was.
@@ -286,14 +259,6 @@ fn standing(content: &FlatContent, path: &Path) -> (NodeKind, Option<u64>)
 /// What a commit that is not made was asked for.
 fn let_go(_ask: CommitAsk, _txn: FlatTxn) {}
 
-/// The date of the moment.
-fn date_of(alloc: Global, moment: u64) -> Result<ByteString, AllocError>
-    requires { moment ≤ LAST_MOMENT }
-    ensures { IfOk result (λ date. IsDateText moment date) }
-{
-    Ok(ByteString::new(date_text(alloc, moment)?.into_bytes()))
-}
-
 /// Makes the edit in the transaction, and shows it this content.
 fn edit_txn(
     alloc: Global,
@@ -315,12 +280,13 @@ fn edit_txn(
     Ok(())
 }
 
-/// Makes the edit in the tree and the changes of a transaction.
+/// Makes the edit in the tree and the changes of a transaction. What the changes need is taken first, and taken back
+/// where the tree's edit lacks memory.
 fn edit_parts(
     alloc: Global,
     content: &FlatContent,
     tree: &mut FlatTree,
-    changes: &mut FlatChanges,
+    changes: &mut TxnChanges,
     op: &EditOp,
 ) -> Result<(), AllocError>
     ensures tree { OnOk result ((q : PathValue) → get tree.new q
@@ -330,72 +296,17 @@ fn edit_parts(
     ensures tree_stays { OnErr result (tree.new ≡ tree.old) }
     ensures changes_stay { OnErr result (changes.new ≡ changes.old) }
 {
-    match op {
-        EditOp::AddDirectory(path) => add(alloc, tree, changes, path, Content::Directory),
-        EditOp::AddFile(path) => add(alloc, tree, changes, path, empty_file()),
-        EditOp::Copy(source, path) => copy(alloc, content, tree, changes, source, path),
-        EditOp::Replace(source, path) => replace(alloc, content, tree, changes, source, path),
-        EditOp::Delete(path) => delete(tree, changes, path),
-        EditOp::SetProperty(path, name, value) => set_property(
-            alloc, tree, changes, path, name, value,
-        ),
-        EditOp::RemoveProperty(path, name) => remove_property(alloc, tree, changes, path, name),
-        EditOp::SetText(path, text) => set_text(alloc, tree, changes, path, text),
+    let note = changes.prepare(op)?;
+    match edit_tree(alloc, content, tree, op) {
+        Ok(()) => {
+            changes.settle(op, note);
+            Ok(())
+        }
+        Err(error) => {
+            changes.take_back(op, note);
+            Err(error)
+        }
     }
-}
-
-/// Puts a copy of the source at the path, where nothing stands.
-fn copy(
-    alloc: Global,
-    content: &FlatContent,
-    tree: &mut FlatTree,
-    changes: &mut FlatChanges,
-    source: &Source,
-    path: &Path,
-) -> Result<(), AllocError>
-    ensures tree { OnOk result ((q : PathValue)
-        → get tree.new q ≡ copied (trees_in (revisions_of content.now) source.now.revision) source.now.path (tree_of tree.old) path.now q) }
-    ensures changes { OnOk result ((q : PathValue)
-        → get changes.new q ≡ noted_copy source.now (changes_of changes.old) path.now q) }
-    ensures tree_stays { OnErr result (tree.new ≡ tree.old) }
-    ensures changes_stay { OnErr result (changes.new ≡ changes.old) }
-{
-    let copied = copied_tree(alloc, content, tree, source, path)?;
-    take_copy(tree, changes, copied, path, source)
-}
-
-/// Puts a copy of the source at the path, in the place of what stands there.
-fn replace(
-    alloc: Global,
-    content: &FlatContent,
-    tree: &mut FlatTree,
-    changes: &mut FlatChanges,
-    source: &Source,
-    path: &Path,
-) -> Result<(), AllocError>
-    ensures tree { OnOk result ((q : PathValue)
-        → get tree.new q ≡ copied (trees_in (revisions_of content.now) source.now.revision) source.now.path (tree_of tree.old) path.now q) }
-    ensures changes { OnOk result ((q : PathValue)
-        → get changes.new q ≡ noted_copy source.now (noted_delete (changes_of changes.old) path.now) path.now q) }
-    ensures tree_stays { OnErr result (tree.new ≡ tree.old) }
-    ensures changes_stay { OnErr result (changes.new ≡ changes.old) }
-{
-    let copied = copied_tree(alloc, content, tree, source, path)?;
-    take_replacement(tree, changes, copied, path, source)
-}
-
-/// The tree after a copy of the source to the path.
-fn copied_tree(
-    alloc: Global,
-    content: &FlatContent,
-    tree: &FlatTree,
-    source: &Source,
-    path: &Path,
-) -> Result<FlatTree, AllocError>
-    ensures { IfOk result (λ t. (q : PathValue)
-        → get t q ≡ copied (trees_in (revisions_of content.now) source.now.revision) source.now.path (tree_of tree.now) path.now q) }
-{
-    tree.with_copy(alloc, content.tree(source.revision), &source.path, path)
 }
 
 /// Whether the commit is accepted: there is no conflict, no lock in its way, and a number left.
@@ -426,7 +337,7 @@ fn judge(
 fn check_locks(
     alloc: Global,
     locks: &Locks,
-    changes: &FlatChanges,
+    changes: &TxnChanges,
     ask: &CommitAsk,
 ) -> Result<(), ChangeFault>
     ensures accepted { OnOk result (check_refusal locks.now changes.now ask.now.author ask.now.tokens
@@ -485,7 +396,7 @@ fn with_revision(
     content: &FlatContent,
     ask: CommitAsk,
     tree: FlatTree,
-    changes: FlatChanges,
+    changes: TxnChanges,
 ) -> Result<Arc<FlatContent>, AllocError>
     ensures revisions { IfOk result (λ c. revisions_of c.value ≡ revisions_of content.now
         ++ record { tree = tree; changes = changes } ∷ []) }
@@ -502,7 +413,7 @@ fn with_revision(
 fn shared_revision(
     alloc: Global,
     tree: FlatTree,
-    changes: FlatChanges,
+    changes: TxnChanges,
 ) -> Result<Arc<FlatRevision>, AllocError>
     ensures { IfOk result (λ r. fixed_of r.value ≡ record { tree = tree; changes = changes }) }
 {

@@ -1,5 +1,5 @@
 -- The block of revision 0.
-use Rattle.std.specs.Prelude.{◌≡◌, [], ◌∷◌, None}
+use Rattle.std.specs.Prelude.{◌≡◌, List, [], ◌∷◌, None}
 use Rattle.svnpath.specs.Paths.{Component}
 use Rattle.repo_api.specs.Opening.{opening_root}
 use Rattle.noderevs.specs.Nodes.{kid_of}
@@ -23,3 +23,9 @@ pub record IsOpeningBlock (block : Block) : Type 0 where
   pub nodes : block.nodes.items ≡ node ∷ []
   pub root : block.root ≡ opening_id
   pub is : IsOpeningNode node
+
+-- such a block alone
+pub record AreOpening (blocks : List Block) : Type 0 where
+  pub block : Block
+  pub is : IsOpeningBlock block
+  pub alone : blocks ≡ block ∷ []

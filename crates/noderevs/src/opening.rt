@@ -3,8 +3,8 @@ ghost use Rattle.std.specs.Prelude.{◌≡◌, IfOk};
 ghost use Rattle.svnpath.specs.Paths.{PathValue};
 ghost use Rattle.repo_api.specs.Opening.{opening_tree};
 ghost use Rattle.repo_api.specs.States.{tree_of};
-ghost use Rattle.noderevs.specs.Held.{count, trees_of};
-ghost use Rattle.noderevs.specs.OpeningBlocks.{IsOpeningBlock, IsOpeningNode};
+ghost use Rattle.noderevs.specs.Held.{blocks_of, count, trees_of};
+ghost use Rattle.noderevs.specs.OpeningBlocks.{AreOpening, IsOpeningBlock, IsOpeningNode};
 
 use crate::node_rev::{Block, Made, NodeId, NodeRev};
 use crate::nodes::Nodes;
@@ -20,6 +20,7 @@ impl Nodes {
         ensures count { IfOk result (λ nodes. count nodes ≡ 1) }
         ensures tree { IfOk result (λ nodes. (q : PathValue) → trees_of nodes 0 q
             ≡ tree_of opening_tree q) }
+        ensures blocks { IfOk result (λ nodes. AreOpening (blocks_of nodes)) }
     {
         let block = opening_block(alloc)?;
         let nodes = Nodes::new(alloc)?;

@@ -6,9 +6,11 @@ mod finding;
 mod laws;
 mod locks;
 mod refusing;
+mod sharing;
 
 pub use laws::{
     a_release_of_none_changes_nothing, accepted_commits_hold_locks, locks_in_the_way_are_held,
     other_locks_stay, tokens_stay_distinct, unnamed_locks_stay,
 };
 pub use locks::Locks;
+pub use sharing::{lock_shared, put_shared, release_shared, unlock_shared};

@@ -47,6 +47,9 @@ pub enum ScriptFault {
     /// The line of this number, from 1 on, is not played.
     #[error("line {0}: {1}")]
     Line(usize, LineFault),
+    /// The command line has other words than those that there are.
+    #[error("the words may be `--flat` or `--help`")]
+    Words,
     /// The script is not read, or an answer is not written.
     #[error("{0}")]
     Stream(io::Error),
@@ -57,7 +60,7 @@ impl ScriptFault {
     pub fn exit_code(&self) -> ExitCode {
         match self {
             ScriptFault::Line(_, LineFault::NoMemory) => ExitCode::FAILURE,
-            ScriptFault::Line(_, _) => ExitCode::from(2),
+            ScriptFault::Line(_, _) | ScriptFault::Words => ExitCode::from(2),
             ScriptFault::Stream(_) => ExitCode::FAILURE,
         }
     }

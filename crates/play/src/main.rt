@@ -1,4 +1,6 @@
-//! Plays a script of calls to a hub: reads its lines from standard input and prints what each call answers.
+//! Plays a script of calls to a hub: reads its lines from standard input and prints what each call answers. The
+//! hub's repository is the server's, over shared node revisions; with `--flat` it is the plain program of the
+//! definitions, `flatrepo`, and each answer is the same.
 //!
 //!     # any text                             nothing
 //!     hub NAME UUID MOMENT                   a new hub, in place of the one before, over an empty repository
@@ -24,16 +26,33 @@
 mod answer;
 mod fault;
 mod line;
+mod order;
 mod plan;
 mod player;
 mod script;
 mod words;
 
+use fault::ScriptFault;
+use flatrepo::FlatRepo;
+use order::Order;
 use script::play_script;
 use std::process::ExitCode;
+use world::World;
+
+/// Does what the command line asks for.
+fn run(rt: &HostRuntime) -> Result<(), ScriptFault> {
+    match Order::read(rt)? {
+        Order::Shared => play_script::<World>(rt, rt.alloc()),
+        Order::Flat => play_script::<FlatRepo>(rt, rt.alloc()),
+        Order::Help => {
+            println!(rt; "play [--flat] < SCRIPT")?;
+            Ok(())
+        }
+    }
+}
 
 fn main(rt: HostRuntime) -> ExitCode {
-    match play_script(&rt, rt.alloc()) {
+    match run(&rt) {
         Ok(()) => ExitCode::SUCCESS,
         Err(fault) => {
             let _ = eprintln!(rt; "play: {fault}");

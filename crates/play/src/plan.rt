@@ -7,19 +7,19 @@ use crate::fault::LineFault;
 use crate::line::{NewHub, NewUser};
 use access::SoleRepository;
 use cram::Users;
-use flatrepo::FlatRepo;
 use hub::Hub;
+use in_memory::InMemory;
 use std::alloc::{AllocError, Global};
 
 /// A hub over a repository in memory.
-pub type MemoryHub = Hub<SoleRepository<FlatRepo>>;
+pub type MemoryHub<R> = Hub<SoleRepository<R>>;
 
 /// A hub without sessions over an empty repository.
-fn make_hub(alloc: Global, asked: NewHub) -> Result<MemoryHub, LineFault>
+fn make_hub<R: InMemory>(alloc: Global, asked: NewHub) -> Result<MemoryHub<R>, LineFault>
     ensures { IfOk result (λ hub. (date : List ℕ) × IsDateText asked.moment date
         × (hub ≡ new_hub asked.options asked.uuid date)) }
 {
-    let repository = FlatRepo::new(alloc, asked.uuid, asked.moment)?;
+    let repository = R::empty(alloc, asked.uuid, asked.moment)?;
     match Hub::over_new(alloc, repository, asked.options) {
         Ok(hub) => Ok(hub),
         Err(_) => Err(LineFault::NoMemory),
@@ -71,7 +71,7 @@ impl Plan {
     }
 
     /// The hub.
-    pub fn into_hub(self, alloc: Global) -> Result<MemoryHub, LineFault> {
+    pub fn into_hub<R: InMemory>(self, alloc: Global) -> Result<MemoryHub<R>, LineFault> {
         let Plan {
             mut hub,
             users,

@@ -8,6 +8,7 @@ use crate::line::{Line, Piece};
 use crate::plan::{MemoryHub, Plan};
 use access::SoleAccess;
 use hub::{Call, Hub, SessionId, make_call};
+use in_memory::InMemory;
 use std::alloc::{AllocError, Global};
 use std::mem;
 
@@ -25,23 +26,23 @@ fn answer_call<A: SoleAccess>(
 
 /// What a script has come to.
 #[derive(Drop)]
-enum Stage {
+enum Stage<R: InMemory> {
     /// No hub is asked for yet.
     Beginning,
     /// A hub is asked for, and no call to it was made.
     Asked(Plan),
     /// Calls are made to a hub.
-    Calling(MemoryHub),
+    Calling(MemoryHub<R>),
 }
 
-/// Plays lines, one after another.
+/// Plays lines, one after another. `R` is what the hubs' repositories are.
 #[derive(Drop)]
-pub struct Player {
+pub struct Player<R: InMemory> {
     alloc: Global,
-    stage: Stage,
+    stage: Stage<R>,
 }
 
-impl Player {
+impl<R: InMemory> Player<R> {
     /// A player that has no hub yet.
     pub fn new(alloc: Global) -> Self {
         Player {
@@ -110,7 +111,7 @@ impl Player {
     }
 
     /// The hub, which is made at its first call.
-    fn hub(&mut self) -> Result<&mut MemoryHub, LineFault> {
+    fn hub(&mut self) -> Result<&mut MemoryHub<R>, LineFault> {
         self.make_hub()?;
         match &mut self.stage {
             Stage::Calling(hub) => Ok(hub),

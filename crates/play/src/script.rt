@@ -3,21 +3,25 @@
 use crate::fault::ScriptFault;
 use crate::line::Line;
 use crate::player::Player;
+use in_memory::InMemory;
 use std::alloc::Global;
 use std::io::{self, BufRead, BufReader, BufWriter, Write};
 
 /// Plays the script on standard input, up to its end or to the first line that is not played.
-pub fn play_script(rt: &(impl Input + Print), alloc: Global) -> Result<(), ScriptFault> {
+pub fn play_script<R: InMemory>(
+    rt: &(impl Input + Print),
+    alloc: Global,
+) -> Result<(), ScriptFault> {
     let mut output = BufWriter::new(alloc, io::writer(rt))?;
-    let mut player = Player::new(alloc);
+    let mut player: Player<R> = Player::new(alloc);
     play_lines(rt, alloc, &mut player, &mut output)
 }
 
 /// Plays the lines of standard input.
-fn play_lines<W: Write>(
+fn play_lines<R: InMemory, W: Write>(
     rt: &impl Input,
     alloc: Global,
-    player: &mut Player,
+    player: &mut Player<R>,
     output: &mut W,
 ) -> Result<(), ScriptFault> {
     for (i, text) in BufReader::new(alloc, rt.reader())?
@@ -30,9 +34,9 @@ fn play_lines<W: Write>(
 }
 
 /// Plays the line of this number, and writes what it is answered at once, so that who asks may wait for it.
-fn play_line<W: Write>(
+fn play_line<R: InMemory, W: Write>(
     alloc: Global,
-    player: &mut Player,
+    player: &mut Player<R>,
     number: usize,
     text: &[u8],
     output: &mut W,

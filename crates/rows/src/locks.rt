@@ -1,17 +1,18 @@
 //! Hubs over repositories in which locks stand that nobody asked for there.
 ghost use Rattle.std.specs.Prelude.{◌≡◌, OnOk, IfOk};
 ghost use Rattle.repo_api.specs.Soundness.{AreSound};
-ghost use Rattle.flatrepo.specs.Whole.{repo_content};
 
 use access::SoleRepository;
 use byte_string::ByteString;
 use cram::Users;
 use flatrepo::FlatRepo;
 use hub::{Env, Hub, Options, new_repositories_are_sound};
+use in_memory::InMemory;
 use repo_api::{LOCK_LIMIT, Lock};
 use std::alloc::{AllocError, Global};
 use std::test::Fail;
 use svnpath::Path;
+use world::World;
 
 const ENV: Env = Env {
     moment: 0,
@@ -30,18 +31,22 @@ fn lock_of_another(alloc: Global) -> Result<Lock, AllocError> {
 }
 
 /// Puts a lock at a path, whatever stands there.
-fn put_lock(alloc: Global, repository: &mut FlatRepo, path: &str) -> Result<(), Fail>
-    ensures { (repo_content repository.new).revisions ≡ (repo_content repository.old).revisions }
+fn put_lock<R: InMemory>(alloc: Global, repository: &mut R, path: &str) -> Result<(), Fail>
+    ensures { (R.content repository.new).revisions ≡ (R.content repository.old).revisions }
 {
     let path = Path::parse(alloc, path.as_bytes())?;
     let lock = lock_of_another(alloc)?;
-    repository.put_lock(path, lock)?;
+    repository.plant_lock(path, lock)?;
     Ok(())
 }
 
 /// Puts so many locks at paths where nothing stands.
-fn put_locks(alloc: Global, repository: &mut FlatRepo, count: usize) -> Result<(), Fail>
-    ensures { (repo_content repository.new).revisions ≡ (repo_content repository.old).revisions }
+fn put_locks<R: InMemory>(
+    alloc: Global,
+    repository: &mut R,
+    count: usize,
+) -> Result<(), Fail>
+    ensures { (R.content repository.new).revisions ≡ (R.content repository.old).revisions }
 {
     for n in 0..count {
         let path = format!(in alloc; "/l{n}")?;
@@ -51,15 +56,24 @@ fn put_locks(alloc: Global, repository: &mut FlatRepo, count: usize) -> Result<(
 }
 
 /// A new repository.
-fn new_repository(alloc: Global) -> Result<FlatRepo, Fail>
-    ensures { IfOk result (λ repository. AreSound (repo_content repository).revisions) }
+fn new_repository<R: InMemory>(alloc: Global) -> Result<R, Fail>
+    ensures { IfOk result (λ repository. AreSound (R.content repository).revisions) }
 {
     new_repositories_are_sound();
-    let repository = FlatRepo::new(alloc, 0, 0)?;
+    let repository = R::empty(alloc, 0, 0)?;
     Ok(repository)
 }
 
 const GREETING: &[u8] = b"( 2 ( edit-pipeline ) 9:svn://h/r ) ";
+
+/// What alice is told up to the end of her login.
+const LOGIN_OF_ALICE: &[u8] = b"( success ( ( ANONYMOUS CRAM-MD5 ) 1:r ) ) \
+      ( step ( 7:<0.0@r> ) ) ( success ( ) ) \
+      ( success ( 36:00000000-0000-0000-0000-000000000000 9:svn://h/r ( ) ) ) ";
+
+/// What a client without a name is told up to the end of its login.
+const LOGIN_WITHOUT_A_NAME: &[u8] = b"( success ( ( ANONYMOUS ) 1:r ) ) ( success ( ) ) \
+      ( success ( 36:00000000-0000-0000-0000-000000000000 9:svn://h/r ( ) ) ) ";
 
 const ADD_FILES: &[u8] = b"( commit ( 5:first ( ) false ) ) ( open-root ( ( ) 2:d0 ) ) \
       ( add-file ( 1:a 2:d0 2:c1 ( ) ) ) ( add-file ( 1:b 2:d0 2:c2 ( ) ) ) ( close-edit ( ) ) ";
@@ -68,81 +82,110 @@ const LOCK_OF_A: &[u8] = b"( success ( ( ) 0: ) ) ( success ( ( 2:/a \
       52:opaquelocktoken:00000000-0000-0000-0000-000000000000 5:alice ( ) \
       27:1970-01-01T00:00:00.000000Z ( ) ) ) ) ";
 
-#[test]
-fn as_many_locks_as_may_stand(rt: HostRuntime) -> Result<(), Fail> {
-    let alloc = rt.alloc();
-    let mut repository = new_repository(alloc)?;
+/// What a client is told for these pieces.
+fn told<R: InMemory>(
+    alloc: Global,
+    hub: &mut Hub<SoleRepository<R>>,
+    pieces: &[&[u8]],
+) -> Result<Vec<u8>, Fail> {
+    let (client, _) = hub.connect()?;
+    let mut out = Vec::new(alloc);
+    for piece in pieces {
+        let replies = hub.feed(client, piece, ENV)?;
+        out.extend_from_slice(replies.as_slice())?;
+    }
+    Ok(out)
+}
+
+/// What alice is told, where as many locks stand as may, but for one.
+fn told_of_the_last_lock<R: InMemory>(alloc: Global, pieces: &[&[u8]]) -> Result<Vec<u8>, Fail> {
+    let mut repository: R = new_repository(alloc)?;
     put_locks(alloc, &mut repository, LOCK_LIMIT - 1)?;
     let users = Users::read(alloc, b"[users]\nalice = p\n")?;
     let options = Options::new(alloc, "r")?.with_users(users);
     let mut hub = Hub::over(alloc, repository, options)?;
-    let (alice, _) = hub.connect()?;
-    hub.feed(alice, GREETING, ENV)?;
-    hub.feed(alice, b"( CRAM-MD5 ( ) ) ", ENV)?;
-    hub.feed(alice, b"38:alice 1ff4edffd136d795aaff36134c8379a7 ", ENV)?;
-    let out = hub.feed(alice, ADD_FILES, ENV)?;
-    assert_eq!(rt;
-        out.as_slice(),
+    told(alloc, &mut hub, pieces)
+}
+
+/// Alice locks one file, and then no second one.
+const LOCKS_OF_ALICE: [&[u8]; 8] = [
+    GREETING,
+    b"( CRAM-MD5 ( ) ) ",
+    b"38:alice 1ff4edffd136d795aaff36134c8379a7 ",
+    ADD_FILES,
+    b"( lock ( 1:a ( ) false ( ) ) ) ",
+    b"( lock ( 1:b ( ) false ( ) ) ) ",
+    b"( lock ( 1:a ( ) true ( ) ) ) ",
+    b"( unlock ( 1:a ( ) true ) ) ( lock ( 1:b ( ) false ( ) ) ) ",
+];
+
+/// What she is told.
+fn wanted_of_alice(alloc: Global) -> Result<Vec<u8>, AllocError> {
+    let mut wanted = Vec::from_slice(alloc, LOGIN_OF_ALICE)?;
+    wanted.extend_from_slice(
         b"( success ( ( ) 0: ) ) ( success ( ) ) \
           ( success ( ) ) ( success ( ( ) 0: ) ) \
-          ( 1 ( 27:1970-01-01T00:00:00.000000Z ) ( 5:alice ) ( ) ) "
-            .as_slice()
-    );
-    let out = hub.feed(alice, b"( lock ( 1:a ( ) false ( ) ) ) ", ENV)?;
-    assert_eq!(rt; out.as_slice(), LOCK_OF_A);
-    let out = hub.feed(alice, b"( lock ( 1:b ( ) false ( ) ) ) ", ENV)?;
-    assert_eq!(rt;
-        out.as_slice(),
-        b"( success ( ( ) 0: ) ) \
-          ( failure ( ( 200007 13:not supported 0: 0 ) ) ) "
-            .as_slice()
-    );
-    let out = hub.feed(alice, b"( lock ( 1:a ( ) true ( ) ) ) ", ENV)?;
-    assert_eq!(rt; out.as_slice(), LOCK_OF_A);
-    let out = hub.feed(
-        alice,
-        b"( unlock ( 1:a ( ) true ) ) ( lock ( 1:b ( ) false ( ) ) ) ",
-        ENV,
+          ( 1 ( 27:1970-01-01T00:00:00.000000Z ) ( 5:alice ) ( ) ) ",
     )?;
-    assert_eq!(rt;
-        out.as_slice(),
+    wanted.extend_from_slice(LOCK_OF_A)?;
+    wanted.extend_from_slice(
+        b"( success ( ( ) 0: ) ) \
+          ( failure ( ( 200007 13:not supported 0: 0 ) ) ) ",
+    )?;
+    wanted.extend_from_slice(LOCK_OF_A)?;
+    wanted.extend_from_slice(
         b"( success ( ( ) 0: ) ) ( success ( ) ) \
           ( success ( ( ) 0: ) ) ( success ( ( 2:/b \
           52:opaquelocktoken:00000000-0000-0000-0000-000000000000 5:alice ( ) \
-          27:1970-01-01T00:00:00.000000Z ( ) ) ) ) "
-            .as_slice()
-    );
+          27:1970-01-01T00:00:00.000000Z ( ) ) ) ) ",
+    )?;
+    Ok(wanted)
+}
+
+#[test]
+fn as_many_locks_as_may_stand(rt: HostRuntime) -> Result<(), Fail> {
+    let out = told_of_the_last_lock::<World>(rt.alloc(), &LOCKS_OF_ALICE)?;
+    let wanted = wanted_of_alice(rt.alloc())?;
+    assert_eq!(rt; out.as_slice(), wanted.as_slice());
     Ok(())
 }
 
 #[test]
-fn a_lock_that_stood_before_refuses_a_commit_without_a_user(rt: HostRuntime) -> Result<(), Fail> {
-    let alloc = rt.alloc();
-    let mut repository = new_repository(alloc)?;
+fn as_many_locks_as_may_stand_in_flat(rt: HostRuntime) -> Result<(), Fail> {
+    let out = told_of_the_last_lock::<FlatRepo>(rt.alloc(), &LOCKS_OF_ALICE)?;
+    let wanted = wanted_of_alice(rt.alloc())?;
+    assert_eq!(rt; out.as_slice(), wanted.as_slice());
+    Ok(())
+}
+
+/// What a client without a name is told where another's lock stands at `/a`.
+fn told_beside_a_lock<R: InMemory>(alloc: Global, pieces: &[&[u8]]) -> Result<Vec<u8>, Fail> {
+    let mut repository: R = new_repository(alloc)?;
     put_lock(alloc, &mut repository, "/a")?;
     let options = Options::new(alloc, "r")?;
-    let mut hub: Hub<SoleRepository<FlatRepo>> = Hub::over(alloc, repository, options)?;
-    let (nameless, _) = hub.connect()?;
-    hub.feed(nameless, GREETING, ENV)?;
-    hub.feed(nameless, b"( ANONYMOUS ( ) ) ", ENV)?;
-    let out = hub.feed(nameless, ADD_FILES, ENV)?;
-    assert_eq!(rt;
-        out.as_slice(),
-        b"( success ( ( ) 0: ) ) ( success ( ) ) \
-          ( failure ( ( 160034 7:no user 0: 0 ) ) ) "
-            .as_slice()
-    );
-    let out = hub.feed(
-        nameless,
+    let mut hub = Hub::over(alloc, repository, options)?;
+    told(alloc, &mut hub, pieces)
+}
+
+#[test]
+fn a_lock_that_stood_before_refuses_a_commit_without_a_user(rt: HostRuntime) -> Result<(), Fail> {
+    let pieces: [&[u8]; 4] = [
+        GREETING,
+        b"( ANONYMOUS ( ) ) ",
+        ADD_FILES,
         b"( get-latest-rev ( ) ) ( get-lock ( 1:a ) ) ",
-        ENV,
+    ];
+    let out = over_both!(rt, told_beside_a_lock(rt.alloc(), &pieces));
+    let mut wanted = Vec::from_slice(rt.alloc(), LOGIN_WITHOUT_A_NAME)?;
+    wanted.extend_from_slice(
+        b"( success ( ( ) 0: ) ) ( success ( ) ) \
+          ( failure ( ( 160034 7:no user 0: 0 ) ) ) ",
     )?;
-    assert_eq!(rt;
-        out.as_slice(),
+    wanted.extend_from_slice(
         b"( success ( ( ) 0: ) ) ( success ( 0 ) ) \
           ( success ( ( ) 0: ) ) ( success ( ( ( 2:/a 17:opaquelocktoken:x 3:eve ( ) \
-          27:1970-01-01T00:00:00.000000Z ( ) ) ) ) ) "
-            .as_slice()
-    );
+          27:1970-01-01T00:00:00.000000Z ( ) ) ) ) ) ",
+    )?;
+    assert_eq!(rt; out.as_slice(), wanted.as_slice());
     Ok(())
 }

@@ -4,11 +4,13 @@ ghost use Rattle.std.specs.Prelude.{◌≡◌};
 use access::SoleRepository;
 use flatrepo::FlatRepo;
 use hub::{Hub, Options};
+use in_memory::InMemory;
 use std::alloc::Global;
 use std::io;
 use std::io::{ErrorKind, Read, Write};
 use std::test::Fail;
 use streams::{Env, EnvSource, ServeFault, run_stdio};
+use world::World;
 
 /// The UUID of the repository.
 const UUID: u128 = 0x0000_0000_0000_4000_8000_0000_0000_0000;
@@ -121,8 +123,11 @@ fn drip(bytes: &'static [u8], fails: bool) -> Dripping {
 }
 
 /// A hub of the repository `r`, where clients may change the properties of revisions or not.
-fn hub_of_r(alloc: Global, revprops: bool) -> Result<Hub<SoleRepository<FlatRepo>>, Fail> {
-    let repository = FlatRepo::new(alloc, UUID, 0)?;
+fn hub_of_r<R: InMemory>(
+    alloc: Global,
+    revprops: bool,
+) -> Result<Hub<SoleRepository<R>>, Fail> {
+    let repository = R::empty(alloc, UUID, 0)?;
     let options = Options::new(alloc, "r")?;
     let options = if revprops {
         options.with_revprops()
@@ -132,18 +137,31 @@ fn hub_of_r(alloc: Global, revprops: bool) -> Result<Hub<SoleRepository<FlatRepo
     Ok(Hub::over_new(alloc, repository, options)?)
 }
 
+/// What is written for these bytes, where clients may change the properties of revisions or not.
+fn written<R: InMemory>(
+    alloc: Global,
+    bytes: &'static [u8],
+    revprops: bool,
+) -> Result<Vec<u8>, Fail> {
+    let mut hub: Hub<SoleRepository<R>> = hub_of_r(alloc, revprops)?;
+    let mut output = Vec::new(alloc);
+    run_stdio(&mut hub, &mut drip(bytes, false), &mut output, &mut Still)?;
+    Ok(output)
+}
+
 #[test]
 fn answers_byte_by_byte(rt: HostRuntime) -> Result<(), Fail> {
-    let mut hub = hub_of_r(rt.alloc(), false)?;
-    let mut output = Vec::new(rt.alloc());
-    run_stdio(&mut hub, &mut drip(INPUT, false), &mut output, &mut Still)?;
+    let output = over_both!(rt, written(rt.alloc(), INPUT, false));
     assert_eq!(rt; output.as_slice(), OUTPUT);
     Ok(())
 }
 
 /// What is written where the reader fails behind these bytes, if it is told so.
-fn written_before(alloc: Global, bytes: &'static [u8]) -> Result<Option<Vec<u8>>, Fail> {
-    let mut hub = hub_of_r(alloc, false)?;
+fn written_before<R: InMemory>(
+    alloc: Global,
+    bytes: &'static [u8],
+) -> Result<Option<Vec<u8>>, Fail> {
+    let mut hub: Hub<SoleRepository<R>> = hub_of_r(alloc, false)?;
     let mut output = Vec::new(alloc);
     match run_stdio(&mut hub, &mut drip(bytes, true), &mut output, &mut Still) {
         Err(ServeFault::Read(_)) => Ok(Some(output)),
@@ -153,7 +171,7 @@ fn written_before(alloc: Global, bytes: &'static [u8]) -> Result<Option<Vec<u8>>
 
 #[test]
 fn greets_before_the_first_read(rt: HostRuntime) -> Result<(), Fail> {
-    let written = written_before(rt.alloc(), b"")?;
+    let written = over_both!(rt, written_before(rt.alloc(), b""));
     assert!(rt; written.is_some());
     assert_eq!(rt;
         written.unwrap_or(Vec::new(rt.alloc())).as_slice(),
@@ -164,35 +182,33 @@ fn greets_before_the_first_read(rt: HostRuntime) -> Result<(), Fail> {
 
 #[test]
 fn answers_what_was_read_before_the_reader_fails(rt: HostRuntime) -> Result<(), Fail> {
-    let written = written_before(rt.alloc(), BEGINNING)?;
+    let written = over_both!(rt, written_before(rt.alloc(), BEGINNING));
     assert!(rt; written.is_some());
     assert_eq!(rt; written.unwrap_or(Vec::new(rt.alloc())).as_slice(), ANSWERS);
     Ok(())
 }
 
-#[test]
-fn stops_where_the_writer_fails(rt: HostRuntime) -> Result<(), Fail> {
-    let mut hub = hub_of_r(rt.alloc(), false)?;
+/// Whether the loop ends where the writer fails.
+fn stops_at_the_writer<R: InMemory>(alloc: Global) -> Result<bool, Fail> {
+    let mut hub: Hub<SoleRepository<R>> = hub_of_r(alloc, false)?;
     let mut output = Closing { is_greeted: false };
     let ended = run_stdio(&mut hub, &mut drip(INPUT, false), &mut output, &mut Still);
-    assert!(rt; matches!(ended, Err(ServeFault::Write(_))));
-    Ok(())
+    Ok(matches!(ended, Err(ServeFault::Write(_))))
 }
 
-/// What a client is told that changes the date of revision 0.
-fn told_of_a_change(alloc: Global, revprops: bool) -> Result<Vec<u8>, Fail> {
-    let mut hub = hub_of_r(alloc, revprops)?;
-    let mut output = Vec::new(alloc);
-    run_stdio(&mut hub, &mut drip(CHANGE, false), &mut output, &mut Still)?;
-    Ok(output)
+#[test]
+fn stops_where_the_writer_fails(rt: HostRuntime) -> Result<(), Fail> {
+    let stops = over_both!(rt, stops_at_the_writer(rt.alloc()));
+    assert!(rt; stops);
+    Ok(())
 }
 
 #[test]
 fn lets_clients_change_properties_of_revisions_where_asked_to(rt: HostRuntime) -> Result<(), Fail> {
-    let closed = told_of_a_change(rt.alloc(), false)?;
+    let closed = over_both!(rt, written(rt.alloc(), CHANGE, false));
     assert!(rt; closed.as_slice().starts_with(ANSWERS));
     assert!(rt; closed.as_slice().ends_with(CLOSED));
-    let changed = told_of_a_change(rt.alloc(), true)?;
+    let changed = over_both!(rt, written(rt.alloc(), CHANGE, true));
     assert!(rt; changed.as_slice().starts_with(ANSWERS));
     assert!(rt; changed.as_slice().ends_with(CHANGED));
     Ok(())

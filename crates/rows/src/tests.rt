@@ -3,12 +3,14 @@
 use access::RepoAccess;
 use flatrepo::FlatRepo;
 use hub::{Call, Env, Hub, Options, Outcome, SoleRepository, make_call, make_calls};
+use in_memory::InMemory;
 use machine::Turn;
 use std::alloc::{AllocError, Global};
 use std::io;
 use std::io::{ErrorKind, Write};
 use std::test::Fail;
 use streams::OutputSink;
+use world::World;
 
 const UUID: u128 = 0x0000_0000_0000_4000_8000_0000_0000_0000;
 
@@ -29,8 +31,8 @@ const ANSWER: &[u8] = b"( success ( ( ANONYMOUS ) 1:r ) ) ( success ( ) ) \
       ( success ( 36:00000000-0000-4000-8000-000000000000 9:svn://h/r ( ) ) ) \
       ( success ( ( ) 0: ) ) ( success ( 0 ) ) ";
 
-fn new_hub(alloc: Global) -> Result<Hub<SoleRepository<FlatRepo>>, Fail> {
-    let repository = FlatRepo::new(alloc, UUID, 0)?;
+fn new_hub<R: InMemory>(alloc: Global) -> Result<Hub<SoleRepository<R>>, Fail> {
+    let repository = R::empty(alloc, UUID, 0)?;
     let options = Options::new(alloc, "r")?;
     Ok(Hub::over_new(alloc, repository, options)?)
 }
@@ -48,28 +50,47 @@ fn wrote(outcome: &Outcome) -> &[u8] {
     }
 }
 
-#[test]
-fn one_call_after_another(rt: HostRuntime) -> Result<(), Fail> {
-    let alloc = rt.alloc();
-    let mut hub = new_hub(alloc)?;
-    let connected = make_call(&mut hub, &Call::Connect);
-    assert_eq!(rt; wrote(&connected), GREETING);
+/// Where a hub's session stands.
+fn standing<R: InMemory>(hub: &Hub<SoleRepository<R>>, number: u64) -> &'static [u8] {
+    if hub.access().is_halted() {
+        b"halted "
+    } else if hub.is_open(number) {
+        b"open "
+    } else {
+        b"closed "
+    }
+}
+
+/// What two sessions are told, and where the second stands before it goes and then.
+fn told_one_by_one<R: InMemory>(alloc: Global) -> Result<Vec<u8>, Fail> {
+    let mut hub: Hub<SoleRepository<R>> = new_hub(alloc)?;
+    let mut out = Vec::new(alloc);
+    out.extend_from_slice(wrote(&make_call(&mut hub, &Call::Connect)))?;
     let (number, greeting) = hub.connect()?;
-    assert_eq!(rt; number, 2);
-    assert_eq!(rt; greeting.as_slice(), GREETING);
-    let out = hub.feed(number, CLIENT, ENV)?;
-    assert_eq!(rt; out.as_slice(), ANSWER);
-    assert!(rt; hub.is_open(number));
-    assert!(rt; !hub.access().is_halted());
+    out.extend_from_slice(greeting.as_slice())?;
+    out.extend_from_slice(format!(in alloc; "session {number} ")?.as_bytes())?;
+    let replies = hub.feed(number, CLIENT, ENV)?;
+    out.extend_from_slice(replies.as_slice())?;
+    out.extend_from_slice(standing(&hub, number))?;
     hub.disconnect(number);
-    assert!(rt; !hub.is_open(number));
-    Ok(())
+    out.extend_from_slice(standing(&hub, number))?;
+    Ok(out)
 }
 
 #[test]
-fn a_list_of_calls(rt: HostRuntime) -> Result<(), Fail> {
-    let alloc = rt.alloc();
-    let mut hub = new_hub(alloc)?;
+fn one_call_after_another(rt: HostRuntime) -> Result<(), Fail> {
+    let out = over_both!(rt, told_one_by_one(rt.alloc()));
+    let mut wanted = repeated(rt.alloc(), GREETING, 2)?;
+    wanted.extend_from_slice(b"session 2 ")?;
+    wanted.extend_from_slice(ANSWER)?;
+    wanted.extend_from_slice(b"open closed ")?;
+    assert_eq!(rt; out.as_slice(), wanted.as_slice());
+    Ok(())
+}
+
+/// What a list of calls writes, call by call.
+fn told_at_once<R: InMemory>(alloc: Global) -> Result<Vec<u8>, Fail> {
+    let mut hub: Hub<SoleRepository<R>> = new_hub(alloc)?;
     let calls = vec![in alloc;
         Call::Connect,
         feed_call(alloc)?,
@@ -77,11 +98,21 @@ fn a_list_of_calls(rt: HostRuntime) -> Result<(), Fail> {
         Call::Connect,
     ]?;
     let outcomes = make_calls(alloc, &mut hub, calls.as_slice())?;
-    assert_eq!(rt; outcomes.len(), 4);
-    assert_eq!(rt; wrote(&outcomes[0]), GREETING);
-    assert_eq!(rt; wrote(&outcomes[1]), ANSWER);
-    assert_eq!(rt; wrote(&outcomes[2]), b"dropped".as_slice());
-    assert_eq!(rt; wrote(&outcomes[3]), GREETING);
+    let mut out = Vec::new(alloc);
+    for outcome in outcomes.as_slice() {
+        out.extend_from_slice(wrote(outcome))?;
+    }
+    Ok(out)
+}
+
+#[test]
+fn a_list_of_calls(rt: HostRuntime) -> Result<(), Fail> {
+    let out = over_both!(rt, told_at_once(rt.alloc()));
+    let mut wanted = Vec::from_slice(rt.alloc(), GREETING)?;
+    wanted.extend_from_slice(ANSWER)?;
+    wanted.extend_from_slice(b"dropped")?;
+    wanted.extend_from_slice(GREETING)?;
+    assert_eq!(rt; out.as_slice(), wanted.as_slice());
     Ok(())
 }
 
@@ -91,7 +122,7 @@ const COMMAND: &[u8] = b"( get-latest-rev ( ) ) ";
 const REPLIES: &[u8] = b"( success ( ( ) 0: ) ) ( success ( 0 ) ) ";
 
 /// Notes how it is called.
-#[derive(Drop)]
+#[derive(Drop, PartialEq, Eq)]
 struct Noting {
     bytes: Vec<u8>,
     writes: usize,
@@ -122,8 +153,8 @@ fn repeated(alloc: Global, bytes: &[u8], times: usize) -> Result<Vec<u8>, AllocE
 }
 
 /// Feeds a piece whose replies go to the output.
-fn feed_through(
-    hub: &mut Hub<SoleRepository<FlatRepo>>,
+fn feed_through<R: InMemory>(
+    hub: &mut Hub<SoleRepository<R>>,
     number: u64,
     piece: &[u8],
     output: &mut Noting,
@@ -142,20 +173,25 @@ fn feed_through(
     Ok(())
 }
 
-#[test]
-fn replies_go_out_as_they_are_made(rt: HostRuntime) -> Result<(), Fail> {
-    let alloc = rt.alloc();
-    let mut hub = new_hub(alloc)?;
+/// What is noted where many commands come in one piece.
+fn noted<R: InMemory>(alloc: Global) -> Result<Noting, Fail> {
+    let mut hub: Hub<SoleRepository<R>> = new_hub(alloc)?;
     let (number, _) = hub.connect()?;
     hub.feed(number, CLIENT, ENV)?;
-    let commands = repeated(alloc, COMMAND, 100_000)?;
+    let commands = repeated(alloc, COMMAND, 30_000)?;
     let mut output = Noting {
         bytes: Vec::new(alloc),
         writes: 0,
         largest: 0,
     };
     feed_through(&mut hub, number, commands.as_slice(), &mut output)?;
-    let wanted = repeated(alloc, REPLIES, 100_000)?;
+    Ok(output)
+}
+
+#[test]
+fn replies_go_out_as_they_are_made(rt: HostRuntime) -> Result<(), Fail> {
+    let output = over_both!(rt, noted(rt.alloc()));
+    let wanted = repeated(rt.alloc(), REPLIES, 30_000)?;
     assert!(rt; output.bytes.as_slice() == wanted.as_slice());
     assert_eq!(rt; output.largest, 65_536);
     assert_eq!(rt; output.writes, wanted.len().div_ceil(65_536));

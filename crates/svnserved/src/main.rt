@@ -7,13 +7,13 @@ mod fault;
 use command_line::{CommandLineFault, Order, read_command_line};
 use envs::SystemEnvs;
 use fault::ProgramFault;
-use flatrepo::FlatRepo;
 use hub::{Hub, HubFault, Options, SoleRepository, is_repository_name};
 use std::alloc::Global;
 use std::env;
 use std::io::ErrorKind;
 use std::process::ExitCode;
 use streams::run_stdio;
+use world::World;
 
 /// The UUID of an empty repository in memory.
 const EMPTY_UUID: u128 = 0x0000_0000_0000_4000_8000_0000_0000_0000;
@@ -60,11 +60,8 @@ fn options(alloc: Global, name: &str, revprops: bool) -> Result<Options, Program
 }
 
 /// A hub over an empty repository in memory.
-fn empty_hub(
-    alloc: Global,
-    options: Options,
-) -> Result<Hub<SoleRepository<FlatRepo>>, ProgramFault> {
-    let repository = FlatRepo::new(alloc, EMPTY_UUID, 0)?;
+fn empty_hub(alloc: Global, options: Options) -> Result<Hub<SoleRepository<World>>, ProgramFault> {
+    let repository = World::new(alloc, EMPTY_UUID, 0)?;
     Ok(Hub::over_new(alloc, repository, options)?)
 }
 

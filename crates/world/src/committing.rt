@@ -1,64 +1,141 @@
-//! The revision that a commit makes.
-ghost use Rattle.std.specs.Prelude.{◌≡◌, length, true, false, IfOk, IsErrOf};
-ghost use Rattle.repo_api.specs.MergedMaps.{has_conflict, merged_map};
-ghost use Rattle.repo_api.specs.States.{TreeMap, tree_at, youngest};
-ghost use Rattle.noderevs.specs.Held.{node_at, root_at, trees_of};
-ghost use Rattle.txntree.specs.Whole.{txn_tree, IsSound};
-ghost use Rattle.treemerge.specs.Merges.{IsTold};
-ghost use Rattle.world.specs.Committing.{commit_fault};
-ghost use Rattle.world.specs.Contents.{held_state, revisions_of};
-ghost use Rattle.world.specs.Maps.{IsMapOf};
-ghost use Rattle.world.specs.Sealed.{sealed_tree};
+//! What is held after a commit, and what refuses it.
+ghost use Rattle.std.specs.Prelude.{◌≡◌, ◌<◌, ◌++◌, ◌∷◌, [], true, false, length, IfOk, OnOk, None, Some};
+ghost use Rattle.refusals.specs.declared.Refusal.TheVariants as refusals;
+ghost use Rattle.repo_api.specs.Accepted.{IfRefused, IsOfMemory};
+ghost use Rattle.repo_api.specs.Commits.{commit_refusal, committed, limit_refusal, revision_properties};
+ghost use Rattle.repo_api.specs.Locking.{check_refusal};
+ghost use Rattle.repo_api.specs.States.{TreeMap, IsBeginning};
+ghost use Rattle.repo_api.specs.declared.limits.TheConstants.{REVISION_LIMIT};
+ghost use Rattle.history.specs.Sound.{IsSoundRepo};
+ghost use Rattle.held.specs.Committing.{conflicts, next_map};
+ghost use Rattle.held.specs.Contents.{held_state, revisions_of, state_of};
+ghost use Rattle.held.specs.Maps.{IsMapOf, Mapped};
+ghost use Rattle.held.specs.Sealed.{sealed_tree};
+ghost use Rattle.world.specs.Whole.{txn_state_of};
 
-use crate::held::Held;
+use crate::world_txn::WorldTxn;
+use held::{CommitFault, Held};
+use pathlocks::Locks;
+use refusals::Refusal;
+use repo_api::{ChangeFault, CommitAsk, REVISION_LIMIT};
+use revision_data::{TxnChanges, revision_properties};
 use std::alloc::{AllocError, Global};
-use treemerge::{MergeFault, merge};
+use std::sync::Arc;
 use txntree::TxnTree;
 
-/// Why a commit was not made.
-#[derive(Clone, Copy, Debug, PartialEq, Eq)]
-pub enum CommitFault {
-    /// Others have changed what the transaction changed.
-    Conflict,
-    NoMemory,
-}
-
-impl From<AllocError> for CommitFault {
-    ghost use Rattle.std.specs.Prelude.{◌≡◌};
-    ghost use Rattle.world.specs.declared.committing.CommitFault.TheVariants.{NoMemory};
-
-    ghost from_gives = { λ _ fault. fault ≡ NoMemory };
-
-    fn from(_error: AllocError) -> Self {
-        CommitFault::NoMemory
-    }
-}
-
-impl Held {
-    /// The tree of a transaction that began from this base, merged with the youngest revision.
-    pub fn merged(&self, alloc: Global, base: u64, tree: &TxnTree) -> Result<TxnTree, CommitFault>
-        requires told { IsTold (trees_of self.now.nodes base) (txn_tree self.now.nodes tree.now) }
-        requires standing { IsSound (node_at self.now.nodes) (root_at self.now.nodes base) tree.now }
-        ensures map { IfOk result (λ t. (m : TreeMap) → IsMapOf (txn_tree self.now.nodes tree.now) m
-            → IsMapOf (sealed_tree self.now.nodes t) (merged_map (length (revisions_of self.now)) (tree_at (held_state self.now) base) m (tree_at (held_state self.now) (youngest (held_state self.now))))) }
-        ensures clean { IfOk result (λ t. (m : TreeMap) → IsMapOf (txn_tree self.now.nodes tree.now) m
-            → has_conflict (tree_at (held_state self.now) base) m (tree_at (held_state self.now) (youngest (held_state self.now))) ≡ false) }
-        ensures conflict { IsErrOf result CommitFault.Conflict → (m : TreeMap) → IsMapOf (txn_tree self.now.nodes tree.now) m
-            → has_conflict (tree_at (held_state self.now) base) m (tree_at (held_state self.now) (youngest (held_state self.now))) ≡ true }
-    {
-        match merge(alloc, &self.nodes, base, tree, self.youngest()) {
-            Ok(merged) => Ok(merged),
-            Err(fault) => Err(fault_of(fault)),
+/// What is held after the commit, if it is accepted.
+pub(crate) fn with_commit(
+    alloc: Global,
+    held: &Held,
+    locks: &Locks,
+    ask: CommitAsk,
+    txn: WorldTxn,
+) -> Result<Arc<Held>, ChangeFault>
+    requires sound { ∥ IsSoundRepo (held_state held.now) ∥₁ }
+    requires rests { IsBeginning (txn_state_of txn).shown (revisions_of held.now) }
+    ensures accepted { OnOk result (commit_refusal (state_of held.now locks.now) ask
+        (txn_state_of txn) ≡ None) }
+    ensures ok { IfOk result (λ h. held_state h.value
+        ≡ committed (held_state held.now) ask (txn_state_of txn)) }
+    ensures refused { IfRefused result (λ r. commit_refusal (state_of held.now locks.now) ask
+        (txn_state_of txn) ≡ Some r) }
+    ensures memory { IsOfMemory result }
+{
+    match judge(alloc, held, locks, &ask, &txn) {
+        Ok(tree) => Ok(with_tree(alloc, held, &tree, ask, txn.changes)?),
+        Err(fault) => {
+            let_go(ask, txn);
+            Err(fault)
         }
     }
 }
 
-/// The fault of a merge as that of a commit.
-fn fault_of(fault: MergeFault) -> CommitFault
-    ensures { result ≡ commit_fault fault }
+/// What a commit that is not made was asked for.
+fn let_go(_ask: CommitAsk, _txn: WorldTxn) {}
+
+/// The tree of the next revision, if the commit is accepted: there is no conflict, no lock in its way, and
+/// a number left.
+fn judge(
+    alloc: Global,
+    held: &Held,
+    locks: &Locks,
+    ask: &CommitAsk,
+    txn: &WorldTxn,
+) -> Result<TxnTree, ChangeFault>
+    requires sound { ∥ IsSoundRepo (held_state held.now) ∥₁ }
+    requires rests { IsBeginning (txn_state_of txn.now).shown (revisions_of held.now) }
+    ensures tree { IfOk result (λ t. IsMapOf (sealed_tree held.now.nodes t)
+        (next_map held.now txn.now.base (txn_state_of txn.now).tree)) }
+    ensures accepted { OnOk result (commit_refusal (state_of held.now locks.now) ask.now
+        (txn_state_of txn.now) ≡ None) }
+    ensures refused { IfRefused result (λ r. commit_refusal (state_of held.now locks.now) ask.now
+        (txn_state_of txn.now) ≡ Some r) }
+    ensures memory { IsOfMemory result }
 {
-    match fault {
-        MergeFault::Conflict(_) => CommitFault::Conflict,
-        MergeFault::NoMemory => CommitFault::NoMemory,
+    let tree = merged(alloc, held, txn)?;
+    check_locks(alloc, locks, &txn.changes, ask)?;
+    if held.count() >= REVISION_LIMIT {
+        return Err(ChangeFault::Refused(Refusal::NotSupported));
     }
+    Ok(tree)
+}
+
+/// The transaction's tree merged with the youngest revision, if they are in no conflict.
+fn merged(alloc: Global, held: &Held, txn: &WorldTxn) -> Result<TxnTree, ChangeFault>
+    requires sound { ∥ IsSoundRepo (held_state held.now) ∥₁ }
+    requires rests { IsBeginning (txn_state_of txn.now).shown (revisions_of held.now) }
+    ensures tree { IfOk result (λ t. IsMapOf (sealed_tree held.now.nodes t)
+        (next_map held.now txn.now.base (txn_state_of txn.now).tree)) }
+    ensures clean { OnOk result
+        (conflicts held.now txn.now.base (txn_state_of txn.now).tree ≡ false) }
+    ensures conflict { IfRefused result (λ r.
+        conflicts held.now txn.now.base (txn_state_of txn.now).tree ≡ true) }
+    ensures refused { IfRefused result (λ r. r ≡ refusals.Conflict) }
+    ensures memory { IsOfMemory result }
+{
+    let tree = held.moved(alloc, &txn.shown, &txn.tree, txn.base)?;
+    match held.merged(alloc, txn.base, &tree) {
+        Ok(merged) => Ok(merged),
+        Err(CommitFault::Conflict) => Err(ChangeFault::Refused(Refusal::Conflict)),
+        Err(CommitFault::NoMemory) => Err(ChangeFault::NoMemory),
+    }
+}
+
+/// Whether the locks in the way of the changes let the commit pass.
+fn check_locks(
+    alloc: Global,
+    locks: &Locks,
+    changes: &TxnChanges,
+    ask: &CommitAsk,
+) -> Result<(), ChangeFault>
+    ensures accepted { OnOk result (check_refusal locks.now changes.now ask.now.author ask.now.tokens
+        ≡ None) }
+    ensures refused { IfRefused result (λ r.
+        check_refusal locks.now changes.now ask.now.author ask.now.tokens ≡ Some r) }
+    ensures memory { IsOfMemory result }
+{
+    let tokens = ask.tokens.as_slice();
+    locks.check(alloc, changes.as_map(), ask.author.as_ref(), tokens)
+}
+
+/// What is held after a revision with this tree and these changes, and with the properties that are asked for.
+fn with_tree(
+    alloc: Global,
+    held: &Held,
+    tree: &TxnTree,
+    ask: CommitAsk,
+    changes: TxnChanges,
+) -> Result<Arc<Held>, AllocError>
+    requires mapped { ∥ Mapped (sealed_tree held.now.nodes tree.now) ∥₁ }
+    requires room { length (revisions_of held.now) < REVISION_LIMIT }
+    ensures revisions { IfOk result (λ h. (m : TreeMap) → IsMapOf (sealed_tree held.now.nodes tree.now) m
+        → revisions_of h.value ≡ revisions_of held.now ++ record { tree = m; changes = changes } ∷ []) }
+    ensures properties { IfOk result (λ h. h.value.properties ≡ held.now.properties
+        ++ revision_properties ask ∷ []) }
+    ensures uuid { IfOk result (λ h. h.value.uuid ≡ held.now.uuid) }
+{
+    let properties = revision_properties(alloc, ask)?;
+    let changes = changes.into_list(alloc)?;
+    let next = held.with_tree(alloc, tree, changes, properties)?;
+    Ok(Arc::new(alloc, next)?)
 }

@@ -1,15 +1,11 @@
-//! A repository whose revisions share what did not change.
+//! A repository over node revisions, which share what did not change.
 #![tactic(auto)]
 
 mod committing;
-mod finding;
-mod growing;
-mod held;
-mod laws;
-mod naming;
-mod sealing;
-mod settling;
+mod editing;
+mod repository;
+mod world;
+mod world_txn;
 
-pub use committing::CommitFault;
-pub use held::Held;
-pub use laws::{beginnings_show_the_same, transactions_are_told};
+pub use world::World;
+pub use world_txn::WorldTxn;

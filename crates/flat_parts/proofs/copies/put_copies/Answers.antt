@@ -6,7 +6,8 @@ use Rattle.std.specs.List.{list_any}
 use Rattle.std.specs.Map.{keys_of}
 use Rattle.std.specs.Map.Iter.{deref_pair}
 use Rattle.svnpath.specs.Paths.{path_cmp_total, same_path, is_at_or_under}
-use Rattle.flat_parts.specs.Found.{found, copied_entry, landed}
+use Rattle.revision_data.specs.Found.{found}
+use Rattle.flat_parts.specs.Found.{copied_entry, landed}
 use Rattle.flat_parts.proofs.Copied.{target, lands, start_copy, copy_more}
 use Rattle.flat_parts.proofs.copies.put_copies.Goals as goal
 

@@ -4,7 +4,8 @@ use Rattle.std.specs.Option.{option_or}
 use Rattle.std.specs.List.{list_any}
 use Rattle.std.specs.Map.{keys_of}
 use Rattle.svnpath.specs.Paths.{PathValue}
-use Rattle.flat_parts.specs.Found.{found, landed}
+use Rattle.revision_data.specs.Found.{found}
+use Rattle.flat_parts.specs.Found.{landed}
 use Rattle.flat_parts.proofs.Copied.{lands}
 use Rattle.flat_parts.proofs.copies.put_copies.Given as goal
 

@@ -4,9 +4,9 @@ use Rattle.std.specs.BTreeMap.{is_at}
 use Rattle.svnpath.specs.Paths.{path_cmp, is_at_or_under}
 use Rattle.svnpath.specs.PathLaws.{at_is}
 use Rattle.repo_api.specs.Edits.{touched}
-use Rattle.flat_parts.specs.Found.{found}
-use Rattle.flat_parts.proofs.Retained.{lookup-retained}
-use Rattle.flat_parts.proofs.Rules.{map_if}
+use Rattle.revision_data.specs.Found.{found}
+use Rattle.revision_data.proofs.Retained.{lookup-retained}
+use Rattle.revision_data.proofs.Written.{map_if}
 use Rattle.flat_parts.proofs.touching.touch_all.Goals as goal
 
 pub returns : goal.returns

@@ -2,7 +2,7 @@ use Rattle.std.proofs.Common.{refl, sym, ap, ◌∙◌}
 use Rattle.std.specs.Prelude.{is_some}
 use Rattle.std.specs.Option.{option_copied_mut}
 use Rattle.repo_api.specs.Edits.{touched}
-use Rattle.flat_parts.proofs.Parts.{written, missing}
+use Rattle.revision_data.proofs.Written.{written, missing}
 use Rattle.flat_parts.proofs.touching.touch_at.Goals as goal
 
 pub returns-in-Some : goal.returns-in-Some

@@ -3,7 +3,7 @@ use Rattle.std.proofs.lemmas.List.{take_more}
 use Rattle.std.specs.Prelude.{if◌then◌else◌}
 use Rattle.svnpath.specs.Paths.{Component, same_path}
 use Rattle.repo_api.specs.Edits.{touched, touched_above}
-use Rattle.flat_parts.specs.Found.{found}
+use Rattle.revision_data.specs.Found.{found}
 use Rattle.flat_parts.proofs.Aboves.{root_touched, child_touched, part_touched_whole}
 use Rattle.flat_parts.proofs.touching.touch_down.Goals as goal
 

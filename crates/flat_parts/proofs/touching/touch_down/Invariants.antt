@@ -1,7 +1,7 @@
 use Rattle.std.proofs.Common.{◌≡◌, take}
 use Rattle.svnpath.specs.Paths.{PathValue}
 use Rattle.repo_api.specs.Edits.{touched_above}
-use Rattle.flat_parts.specs.Found.{found}
+use Rattle.revision_data.specs.Found.{found}
 use Rattle.flat_parts.proofs.touching.touch_down.Given as goal
 
 -- `last` is open down to the part of the path that was walked

@@ -3,10 +3,11 @@ use Rattle.std.proofs.lemmas.Result.{on_ok_weaker}
 use Rattle.std.specs.Prelude.{option_copied}
 use Rattle.std.specs.Option.{option_or}
 use Rattle.repo_api.specs.States.{tree_of}
-use Rattle.flat_parts.specs.Found.{found, landed}
+use Rattle.revision_data.specs.Found.{found}
+use Rattle.flat_parts.specs.Found.{landed}
 use Rattle.flat_trees.specs.Perhaps.{map_or_empty}
 use Rattle.flat_trees.proofs.Landed.{landed_same, landed_none}
-use Rattle.flat_parts.proofs.Seen.{seen_at}
+use Rattle.revision_data.proofs.Seen.{seen_at}
 use Rattle.flat_trees.proofs.flat_tree.graft.Goals as goal
 
 pub returns-in-Some : goal.returns-in-Some

@@ -1,4 +1,4 @@
-use Rattle.std.proofs.Common.{Some, Option, sym, ap, ◌∙◌}
+use Rattle.std.proofs.Common.{Some, sym, ap, ◌∙◌}
 use Rattle.std.specs.Prelude.{option_copied}
 use Rattle.repo_api.proofs.Naming.{same_mark_is}
 use Rattle.repo_api.specs.Marks.{last_of}

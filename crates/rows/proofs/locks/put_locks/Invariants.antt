@@ -1,6 +1,6 @@
 use Rattle.std.proofs.Common.{◌≡◌}
-use Rattle.flatrepo.specs.Whole.{repo_content}
 use Rattle.rows.proofs.locks.put_locks.Given as goal
 
 abbrev pub invariant-loop-n : goal.invariant-loop-n
-invariant-loop-n l = (repo_content l.repository).revisions ≡ (repo_content l.fn.repository).revisions
+invariant-loop-n g l = (g.R.Repository.content l.repository).revisions
+    ≡ (g.R.Repository.content l.fn.repository).revisions

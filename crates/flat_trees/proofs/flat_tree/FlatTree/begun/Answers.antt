@@ -1,7 +1,7 @@
 use Rattle.std.proofs.Common.{[], ap, ◌∙◌}
 use Rattle.std.proofs.lemmas.Map.Entries.{entries_from_clone}
 use Rattle.repo_api.specs.Edits.{touched_above}
-use Rattle.flat_parts.specs.Found.{found}
+use Rattle.revision_data.specs.Found.{found}
 use Rattle.flat_trees.proofs.MapEdits.{touch_seen}
 use Rattle.flat_trees.proofs.flat_tree.FlatTree.begun.Goals as goal
 

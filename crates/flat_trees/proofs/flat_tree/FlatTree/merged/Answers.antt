@@ -8,7 +8,7 @@ use Rattle.repo_api.specs.MergedMaps.{merged_map}
 use Rattle.repo_api.specs.MergeLaws.{get_merged_map}
 use Rattle.repo_api.specs.States.{tree_of}
 use Rattle.repo_api.specs.StateLaws.{same_tree, get_path}
-use Rattle.flat_parts.specs.Found.{found}
+use Rattle.revision_data.specs.Found.{found}
 use Rattle.flat_trees.specs.Perhaps.{map_or_empty}
 use Rattle.flat_trees.proofs.Merged.{put_both}
 use Rattle.flat_trees.proofs.flat_tree.FlatTree.merged.Goals as goal

@@ -7,12 +7,12 @@ use Rattle.std.specs.List.{list_any}
 use Rattle.std.specs.BTreeMap.{is_at}
 use Rattle.std.specs.Map.Iter.{deref}
 use Rattle.svnpath.specs.Paths.{path_cmp}
-use Rattle.flat_parts.specs.Found.{found}
+use Rattle.revision_data.specs.Found.{found}
 use Rattle.flat_trees.specs.Merging.{merged_at, put_over}
 use Rattle.flat_trees.specs.Perhaps.{map_or_empty}
 use Rattle.flat_parts.proofs.Anys.{found_key}
 use Rattle.flat_trees.proofs.Merged.{put_more, put_none}
-use Rattle.flat_parts.proofs.Seen.{seen_at}
+use Rattle.revision_data.proofs.Seen.{seen_at}
 use Rattle.flat_trees.proofs.flat_tree.FlatTree.put_merged.Goals as goal
 
 pub returns-in_default : goal.returns-in_default

@@ -6,10 +6,11 @@ use Rattle.svnpath.specs.Paths.{is_at_or_under}
 use Rattle.repo_api.specs.Edits.{touched, deleted}
 use Rattle.repo_api.specs.States.{tree_of}
 use Rattle.repo_api.specs.StateLaws.{get_path}
-use Rattle.flat_parts.specs.Found.{found, landed}
+use Rattle.revision_data.specs.Found.{found}
+use Rattle.flat_parts.specs.Found.{landed}
 use Rattle.flat_trees.specs.Perhaps.{map_or_empty}
 use Rattle.flat_trees.proofs.Landed.{copied_over}
-use Rattle.flat_parts.proofs.Seen.{seen_at}
+use Rattle.revision_data.proofs.Seen.{seen_at}
 use Rattle.flat_trees.proofs.flat_tree.FlatTree.with_copy.Goals as goal
 
 pub returns : goal.returns

@@ -1,9 +1,10 @@
-use Rattle.std.proofs.Common.{◌≡◌, Some, length, sym, ap, ◌∙◌}
+use Rattle.std.proofs.Common.{◌≡◌, [], ◌∷◌, ◌++◌, Some, length, sym, ap, ◌∙◌}
 use Rattle.svnpath.specs.Paths.{PathValue}
 use Rattle.repo_api.specs.Opening.{opening_tree}
 use Rattle.repo_api.specs.States.{tree_of}
-use Rattle.noderevs.specs.Held.{node_at, count, trees_of}
+use Rattle.noderevs.specs.Held.{blocks_of, node_at, count, trees_of}
 use Rattle.noderevs.specs.Nodes.{node_in, with_block}
+use Rattle.noderevs.specs.OpeningBlocks.{AreOpening}
 use Rattle.noderevs.specs.Views.{shared_tree}
 use Rattle.noderevs.specs.declared.nodes.Nodes.{Nodes}
 use Rattle.noderevs.proofs.FirstBlock.{opening_trees, ok_weaker}
@@ -18,3 +19,16 @@ returns-clause-tree c =
     (λ nodes tree q. ap (λ bs. trees_of nodes (length bs) q) (sym c.in_ok-nodes.ensures) ∙ tree q
     ∙ ap (λ bs. shared_tree (with_block (node_in bs) (length bs) block.nodes.items) (Some block.root) q) c.in_ok-nodes.ensures
     ∙ opening_trees block c.in_ok-block.ensures q) c.with_block.ensures.tree
+
+pub returns-clause-blocks : goal.returns-clause-blocks
+returns-clause-blocks c =
+    let block = c.in_ok-block.block in
+    ok_weaker c.with_block.result
+    (λ (nodes : Nodes). blocks_of nodes ≡ blocks_of c.in_ok-nodes.nodes ++ block ∷ [])
+    (λ (nodes : Nodes). AreOpening (blocks_of nodes))
+    (λ nodes is. record {
+      block = block;
+      is = c.in_ok-block.ensures;
+      alone = is ∙ ap (λ bs. bs ++ block ∷ []) c.in_ok-nodes.ensures;
+    })
+    c.with_block.ensures.blocks

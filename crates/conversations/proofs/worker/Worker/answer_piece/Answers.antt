@@ -1,0 +1,55 @@
+use Rattle.std.proofs.Common.{◌∙◌, rules}
+use Rattle.std.specs.Io.KnownBytes.{Appends}
+use Rattle.replies.specs.Replies.{print}
+use Rattle.conversations.proofs.Gathered.{all_written}
+use Rattle.conversations.proofs.worker.Worker.answer_piece.Goals as goal
+
+pub returns-in-Ok-fed-clause-ok : goal.returns-in-Ok-fed-clause-ok
+returns-in-Ok-fed-clause-ok g c =
+    let contents = g.O.Write.contents in
+    let t = c.feed-fed.new.turn.out in
+    let u = c.finish-finished.new.self in
+    let fed = c.in-Ok-fed.ensures.ok in
+    let name = c.finish-finished.ensures.same_reference ∙ fed.written.0 in
+    let gathered = (fed.written.1 c.in-Ok.ensures.sound).1 in
+    let landed : Appends (contents c.args.output.now) (contents u.output.now) (print fed.told) =
+    all_written (contents c.args.output.now) (contents t.output.now) (contents u.output.now) c.new-buffer.result.items t.buffer.items (print fed.told) c.new-buffer.ensures.items gathered c.in-Ok.ensures.written in
+    record {
+      inputs = fed.inputs;
+      yields = fed.yields;
+      settled = fed.settled;
+      told = fed.told;
+      env_after = fed.env_after;
+      run = fed.run;
+      written = search rules;
+    }
+
+pub returns-in-Ok-clause-lost : goal.returns-in-Ok-clause-lost
+returns-in-Ok-clause-lost g c =
+    let contents = g.O.Write.contents in
+    let t = c.feed-fed.new.turn.out in
+    let u = c.finish-finished.new.self in
+    let lost = c.in-Err-fed.ensures.lost c.requires.open in
+    let wrote = lost.written.wrote in
+    let name = c.finish-finished.ensures.same_reference ∙ wrote.0 in
+    let gathered = (wrote.1 c.in-Ok.ensures.sound).1 in
+    let landed : Appends (contents c.args.output.now) (contents u.output.now) lost.written.part =
+    all_written (contents c.args.output.now) (contents t.output.now) (contents u.output.now) c.new-buffer.result.items t.buffer.items lost.written.part c.new-buffer.ensures.items gathered c.in-Ok.ensures.written in
+    record {
+      inputs = lost.inputs;
+      left = lost.left;
+      rest = lost.rest;
+      yields = lost.yields;
+      told = lost.told;
+      env_after = lost.env_after;
+      point_after = lost.point_after;
+      phase_after = lost.phase_after;
+      run = lost.run;
+      leaves = lost.leaves;
+      written = record {
+        part = lost.written.part;
+        rest = lost.written.rest;
+        whole = lost.written.whole;
+        wrote = search rules;
+      };
+    }

@@ -1,0 +1,87 @@
+use Rattle.std.proofs.Common.{◌≡◌, ◌<◌, ◌≤◌, ◌++◌, length, take, refl, sym, subst, ◌∙◌, arith}
+use Rattle.std.specs.Io.{ReadsAtMost}
+use Rattle.std.specs.Io.KnownBytes.{Appends, ReadConsumes}
+use Rattle.machine.specs.Steps.{FeedWritten, FeedLost}
+use Rattle.conversations.specs.Conversation.{sight, Breaks}
+use Rattle.conversations.proofs.Conversing.{begins, converses_end, converses_more, breaks_at, was_ok, if_lost}
+use Rattle.conversations.proofs.worker.Worker.converse.Goals as goal
+
+pub loop-turn-init : goal.loop-turn-init
+loop-turn-init g c =
+    let old = sight (g.A.RepoAccess.point c.args.self.now.access) (g.I.Read.remaining c.args.input.now) (g.O.Write.contents c.args.output.now) c.args.self.now.envs in
+    let h = begins g.A.RepoAccess.rules c.args.self.now.options.now g.E.EnvSource.gives old c.new-session.result c.new-session.ensures c.requires in
+    (refl, h.0, refl, h.1)
+
+pub returns-in_err-answer_piece-clause-lost : goal.returns-in_err-answer_piece-clause-lost
+returns-in_err-answer_piece-clause-lost g c =
+    let remaining = g.I.Read.remaining in
+    let contents = g.O.Write.contents in
+    let point = g.A.RepoAccess.point in
+    let buffer = c.read_piece.new.buffer in
+    let count = was_ok c.read_piece.result c.in_ok-count.count c.in_ok-count.ensures.cases in
+    let bytes = subst (λ r. ReadConsumes (remaining c.loop-turn.input) (remaining c.read_piece.new.input) r buffer) count c.read_piece.ensures.bytes in
+    let old = sight (point c.args.self.now.access) (remaining c.args.input.now) (contents c.args.output.now) c.args.self.now.envs in
+    let mid = sight (point c.loop-turn.self.access) (remaining c.loop-turn.input) (contents c.loop-turn.output) c.loop-turn.self.envs in
+    let new = sight (point c.answer_piece.new.self.access) (remaining c.read_piece.new.input) (contents c.answer_piece.new.output) c.answer_piece.new.self.envs in
+    let piece = take c.in_ok-count.count buffer in
+    let given = subst (λ e. g.E.EnvSource.gives c.loop-turn.self.envs c.next_env-env.result e) (sym c.answer_piece.ensures.envs) c.next_env-env.ensures in
+    let x = c.loop-turn.session in
+    if_lost (Unit {0}) c.from_residual-in_err-answer_piece.result c.in_err-answer_piece.field-0.0
+    (FeedLost g.A.RepoAccess.rules c.loop-turn.self.options.now c.next_env-env.result mid.point x.phase (x.rest ++ piece) new.point (Appends mid.output new.output))
+    (Breaks g.A.RepoAccess.rules c.args.self.now.options.now g.E.EnvSource.gives old new)
+    (λ lost. breaks_at g.A.RepoAccess.rules c.args.self.now.options.now g.E.EnvSource.gives old mid new x.phase x.rest piece c.next_env-env.result
+    c.loop-turn.invariant.3 bytes.0 given
+    (subst (λ s. FeedLost g.A.RepoAccess.rules s c.next_env-env.result mid.point x.phase (x.rest ++ piece) new.point (Appends mid.output new.output))
+    c.loop-turn.invariant.2 lost))
+    c.from_residual-in_err-answer_piece.ensures.1 c.in_err-answer_piece.ensures.lost
+
+pub loop-turn-preserved : goal.loop-turn-preserved
+loop-turn-preserved g c =
+    let remaining = g.I.Read.remaining in
+    let contents = g.O.Write.contents in
+    let point = g.A.RepoAccess.point in
+    let buffer = c.read_piece.new.buffer in
+    let read = was_ok c.read_piece.result c.in_ok-count.count c.in_ok-count.ensures.cases in
+    let bound = subst (λ r. ReadsAtMost r buffer) read c.read_piece.ensures.bound in
+    let bytes = subst (λ r. ReadConsumes (remaining c.loop-turn.input) (remaining c.read_piece.new.input) r buffer) read c.read_piece.ensures.bytes in
+    let full : length buffer ≡ 65536 = c.read_piece.auto.buffer ∙ c.loop-turn.invariant.0 in
+    let given = subst (λ e. g.E.EnvSource.gives c.loop-turn.self.envs c.next_env-env.result e) (sym c.answer_piece.ensures.envs) c.next_env-env.ensures in
+    let y = c.loop-turn.session in
+    let fed = subst (λ s. FeedWritten g.A.RepoAccess.rules s c.next_env-env.result (point c.loop-turn.self.access) y.phase
+        (y.rest ++ take c.in_ok-count.count buffer) c.answer_piece.new.session.rest (point c.answer_piece.new.self.access)
+        c.answer_piece.new.session.phase (Appends (contents c.loop-turn.output) (contents c.answer_piece.new.output)))
+        c.loop-turn.invariant.2 c.in_ok-answer_piece.ensures.ok in
+    let some : 0 < length (take c.in_ok-count.count buffer) = omega (arith, bound.1, c.if-count-eq0.false) in
+    let at_most : length (take c.in_ok-count.count buffer) ≤ 65536 = omega (arith, bound.0, bound.1, full) in (
+      full,
+      c.answer_piece.ensures.rests,
+      c.answer_piece.ensures.options ∙ c.loop-turn.invariant.2,
+      converses_more g.A.RepoAccess.rules c.args.self.now.options.now g.E.EnvSource.gives
+          (sight (point c.args.self.now.access) (remaining c.args.input.now) (contents c.args.output.now) c.args.self.now.envs)
+          (sight (point c.loop-turn.self.access) (remaining c.loop-turn.input) (contents c.loop-turn.output) c.loop-turn.self.envs)
+          (sight (point c.answer_piece.new.self.access) (remaining c.read_piece.new.input) (contents c.answer_piece.new.output) c.answer_piece.new.self.envs)
+          c.loop-turn.session.phase c.answer_piece.new.session.phase c.loop-turn.session.rest c.answer_piece.new.session.rest
+          (take c.in_ok-count.count buffer) c.next_env-env.result
+          some at_most c.loop-turn.invariant.3 bytes.0 given fed,
+    )
+
+pub returns-then-count-eq0-clause-served : goal.returns-then-count-eq0-clause-served
+returns-then-count-eq0-clause-served g c =
+    let remaining = g.I.Read.remaining in
+    let contents = g.O.Write.contents in
+    let point = g.A.RepoAccess.point in
+    let buffer = c.read_piece.new.buffer in
+    let read = was_ok c.read_piece.result c.in_ok-count.count c.in_ok-count.ensures.cases in
+    let bytes = subst (λ r. ReadConsumes (remaining c.loop-turn.input) (remaining c.read_piece.new.input) r buffer) read c.read_piece.ensures.bytes in
+    let full : length buffer ≡ 65536 = c.read_piece.auto.buffer ∙ c.loop-turn.invariant.0 in
+    let some : 0 < length buffer = omega (arith, full) in
+    let zero : c.in_ok-count.count ≡ 0 = omega (arith, c.if-count-eq0.true) in
+    let x = c.loop-turn.session in (
+      x.phase,
+      x.rest,
+      converses_end g.A.RepoAccess.rules c.args.self.now.options.now g.E.EnvSource.gives
+          (sight (point c.args.self.now.access) (remaining c.args.input.now) (contents c.args.output.now) c.args.self.now.envs)
+          (sight (point c.loop-turn.self.access) (remaining c.loop-turn.input) (contents c.loop-turn.output) c.loop-turn.self.envs)
+          x.phase x.rest (remaining c.read_piece.new.input) c.in_ok-count.count buffer c.loop-turn.invariant.3 zero bytes.0,
+      λ _. bytes.1 zero some,
+    )

@@ -1,0 +1,16 @@
+//! Sessions one after another, each between a reader and a writer, at a repository that others may change.
+#![tactic(auto)]
+
+mod envs;
+mod fault;
+mod gate;
+mod pieces;
+mod sink;
+mod worker;
+
+pub use envs::EnvSource;
+pub use fault::TalkFault;
+pub use gate::{Gate, OpenGate};
+pub use machine::Env;
+pub use sink::OutputSink;
+pub use worker::Worker;

@@ -1,0 +1,177 @@
+//! One session between a reader and a writer, at a repository that others may change.
+ghost use Rattle.std.specs.Prelude.{◌≡◌, ◌++◌, [], ◌∷◌, true, OnOk, OnErr, IfOk, IfErr};
+ghost use Rattle.std.specs.Io.KnownBytes.{Appends, IsAtEnd};
+ghost use Rattle.repo_api.specs.Soundness.{AreSound};
+ghost use Rattle.access.specs.Points.{content_of};
+ghost use Rattle.replies.specs.Replies.{print};
+ghost use Rattle.replies.specs.declared.reply.Reply.TheVariants.{Greeting};
+ghost use Rattle.machine.specs.Stages.{is_open, StandsOn};
+ghost use Rattle.machine.specs.Steps.{FeedWritten, FeedLost};
+ghost use Rattle.machine.specs.declared.phase.Phase.TheVariants.{Greeted};
+ghost use Rattle.conversations.specs.declared.fault.TalkFault.{TalkFault};
+ghost use Rattle.conversations.specs.Conversation.{sight, Answers, Breaks, Converses, Hears, Serves, Stops, IfRead, IfLost};
+
+use crate::envs::EnvSource;
+use crate::fault::TalkFault;
+use crate::gate::Gate;
+use crate::pieces::read_piece;
+use crate::sink::{OutputSink, PIECE, write_now};
+use access::RepoAccess;
+use machine::{Env, Options, Turn};
+use replies::Reply;
+use session::Session;
+use std::alloc::Global;
+use std::io;
+use std::io::{Read, Write};
+
+/// The greeting.
+fn greeting(alloc: Global) -> Result<Vec<u8>, TalkFault>
+    ensures ok { IfOk result (λ out. out.items ≡ print (Greeting ∷ [])) }
+    ensures err { IfErr result (λ fault. fault ≡ TalkFault.NoMemory) }
+{
+    let mut out = Vec::new(alloc);
+    match Reply::Greeting.write(alloc, &mut out) {
+        Ok(()) => Ok(out),
+        Err(_) => Err(TalkFault::NoMemory),
+    }
+}
+
+/// What one thread serves sessions with, one after another.
+#[derive(Drop)]
+pub struct Worker<'w, A, E, G> {
+    pub alloc: Global,
+    pub options: &'w Options,
+    pub access: A,
+    pub envs: E,
+    pub gate: &'w G,
+}
+
+impl<'w, A: RepoAccess + Drop, E: EnvSource + Drop, G: Gate> Worker<'w, A, E, G> {
+    /// Feeds a piece, and writes what it draws as it is made.
+    fn answer_piece<O: Write>(
+        &mut self,
+        session: &mut Session<A::View>,
+        piece: &[u8],
+        env: Env,
+        output: &mut O,
+    ) -> Result<(), TalkFault>
+        requires open { is_open session.old.phase ≡ true }
+        requires rests { StandsOn session.old.phase (content_of (A.point self.old.access)) }
+        ensures options { self.new.options.now ≡ self.old.options.now }
+        ensures envs { self.new.envs ≡ self.old.envs }
+        ensures rests { StandsOn session.new.phase (content_of (A.point self.new.access)) }
+        ensures ok { OnOk result (FeedWritten A.rules self.old.options.now env
+            (A.point self.old.access) session.old.phase (session.old.rest ++ piece.now)
+            session.new.rest (A.point self.new.access) session.new.phase
+            (Appends (O.contents output.old) (O.contents output.new))) }
+        ensures read { IfRead result ⊥ }
+        ensures lost { IfLost result (FeedLost A.rules self.old.options.now env
+            (A.point self.old.access) session.old.phase (session.old.rest ++ piece.now)
+            (A.point self.new.access) (Appends (O.contents output.old) (O.contents output.new))) }
+    {
+        let alloc = self.alloc;
+        let buffer = Vec::new(alloc);
+        let mut turn = Turn {
+            alloc,
+            env,
+            out: OutputSink {
+                alloc,
+                output,
+                buffer,
+                fault: None,
+            },
+        };
+        let fed = session.feed(self.options, piece, &mut self.access, &mut turn);
+        let finished = turn.out.finish();
+        let OutputSink {
+            alloc: _,
+            output,
+            buffer: _buffer,
+            fault: _fault,
+        } = turn.out;
+        // No effect at run time. The proof reads what the writer holds from this use of it.
+        let _ = &*output;
+        match finished {
+            Ok(()) => match fed {
+                Ok(()) => Ok(()),
+                Err(_) => Err(TalkFault::NoMemory),
+            },
+            Err(error) => Err(TalkFault::Write(error)),
+        }
+    }
+
+    /// Answers pieces of the input, each before the next is read, until it ends or the session isn't open any more.
+    fn converse<I: Read, O: Write>(
+        &mut self,
+        number: u64,
+        input: &mut I,
+        output: &mut O,
+    ) -> Result<(), TalkFault>
+        requires { AreSound (content_of (A.point self.old.access)).revisions }
+        ensures sound { AreSound (content_of (A.point self.new.access)).revisions }
+        ensures served { OnOk result ((phase : _) × (rest : _)
+            × Converses A.rules self.old.options.now E.gives
+            (sight (A.point self.old.access) (I.remaining input.old) (O.contents output.old)
+                self.old.envs) phase rest
+            (sight (A.point self.new.access) (I.remaining input.new) (O.contents output.new)
+                self.new.envs)
+            × (is_open phase ≡ true → IsAtEnd (I.remaining input.new))) }
+        ensures read { IfRead result (Hears A.rules self.old.options.now E.gives
+            (sight (A.point self.old.access) (I.remaining input.old) (O.contents output.old)
+                self.old.envs)
+            (sight (A.point self.new.access) (I.remaining input.new) (O.contents output.new)
+                self.new.envs)) }
+        ensures lost { IfLost result (Breaks A.rules self.old.options.now E.gives
+            (sight (A.point self.old.access) (I.remaining input.old) (O.contents output.old)
+                self.old.envs)
+            (sight (A.point self.new.access) (I.remaining input.new) (O.contents output.new)
+                self.new.envs)) }
+    {
+        let mut session = Session::new(self.alloc);
+        let mut buffer = [0; PIECE];
+        for turn in 0..u64::MAX {
+            if !session.is_open() {
+                return Ok(());
+            }
+            let count = read_piece(input, &mut buffer).map_err(TalkFault::Read)?;
+            if count == 0 {
+                return Ok(());
+            }
+            self.gate.pass(number, turn + 1);
+            let env = self.envs.next_env();
+            self.answer_piece(&mut session, &buffer[..count], env, output)?;
+        }
+        Err(TalkFault::Read(io::Error::from(io::ErrorKind::Other)))
+    }
+
+    /// Serves one session: greets it, and answers each piece of the input before the next is read, until the input
+    /// ends or the session isn't open any more. The gate is passed before each piece is fed.
+    pub fn serve<I: Read, O: Write>(
+        &mut self,
+        number: u64,
+        input: &mut I,
+        output: &mut O,
+    ) -> Result<(), TalkFault>
+        requires { AreSound (content_of (A.point self.old.access)).revisions }
+        ensures sound { AreSound (content_of (A.point self.new.access)).revisions }
+        ensures served { OnOk result (Serves A.rules self.old.options.now E.gives
+            (sight (A.point self.old.access) (I.remaining input.old) (O.contents output.old)
+                self.old.envs)
+            (sight (A.point self.new.access) (I.remaining input.new) (O.contents output.new)
+                self.new.envs)) }
+        ensures answered { IfRead result (Answers A.rules self.old.options.now E.gives
+            (sight (A.point self.old.access) (I.remaining input.old) (O.contents output.old)
+                self.old.envs)
+            (sight (A.point self.new.access) (I.remaining input.new) (O.contents output.new)
+                self.new.envs)) }
+        ensures stopped { IfLost result (Stops A.rules self.old.options.now E.gives
+            (sight (A.point self.old.access) (I.remaining input.old) (O.contents output.old)
+                self.old.envs)
+            (sight (A.point self.new.access) (I.remaining input.new) (O.contents output.new)
+                self.new.envs)) }
+    {
+        let out = greeting(self.alloc)?;
+        write_now(output, out.as_slice()).map_err(TalkFault::Write)?;
+        self.converse(number, input, output)
+    }
+}

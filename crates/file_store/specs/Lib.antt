@@ -1,0 +1,7 @@
+pub mod Names
+pub mod NameLaws
+pub mod Faults
+pub mod Folders
+pub mod Moments
+pub mod Memory
+pub mod Fuses

@@ -1,0 +1,15 @@
+//! The files of a repository: what a store of files promises, also where it is stopped; a store in memory, and one
+//! that fails once.
+#![tactic(auto)]
+
+mod fault;
+mod fuse;
+mod memory;
+mod name;
+mod store;
+
+pub use fault::StoreFault;
+pub use fuse::{FuseStore, Left};
+pub use memory::MemoryStore;
+pub use name::FileName;
+pub use store::Store;

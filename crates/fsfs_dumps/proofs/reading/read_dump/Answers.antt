@@ -1,0 +1,13 @@
+use Rattle.std.proofs.Common.{◌≡◌, length, List, Result, Ok, ap, subst, sym, ◌∙◌, arith}
+use Rattle.fsfs_lines.specs.declared.fault.FileFault.{FileFault}
+use Rattle.fsfs_lines.specs.Reading.{Answers}
+use Rattle.fsfs_dumps.specs.declared.pair.DumpPair.{DumpPair}
+use Rattle.fsfs_dumps.specs.Dumps.{dump}
+use Rattle.fsfs_dumps.specs.Reading.{dump_of}
+use Rattle.fsfs_dumps.proofs.Again.{dump_again}
+use Rattle.fsfs_dumps.proofs.reading.read_dump.Goals as goal
+
+pub returns-clause-again : goal.returns-clause-again
+returns-clause-again c = λ pairs e.
+    let same = ap length e in
+    subst (λ (read : Result (List DumpPair) FileFault). Answers (λ v. v.items) c.all_pairs.result read) (ap dump_of e ∙ dump_again pairs (omega arith)) c.all_pairs.ensures

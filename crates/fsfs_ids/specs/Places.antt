@@ -1,0 +1,16 @@
+-- A path in a revision, as lines name it.
+use Rattle.std.specs.Prelude.{ℕ, ◌-◌, ◌^◌, List, ◌∷◌, ◌++◌, Option, Some, None}
+use Rattle.fsfs_lines.specs.Splits.{split_once}
+use Rattle.fsfs_lines.specs.Numerals.{numeral, decimal_of}
+use Rattle.fsfs_ids.specs.Maybe.{◌>>=◌}
+use Rattle.fsfs_ids.specs.declared.place.Place.{Place}
+
+-- `<revision> <path>`
+abbrev pub place_text : Place → List ℕ
+place_text place = numeral 10 place.revision ++ 32 ∷ place.path
+
+unfoldable pub place_of : List ℕ → Option Place
+place_of text = do
+  (digits, path) ← split_once 32 text
+  revision ← decimal_of (2 ^ 32 - 1) digits
+  Some (record { revision = revision; path = path })

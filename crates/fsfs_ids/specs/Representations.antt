@@ -1,0 +1,35 @@
+-- Lines that say where a representation stands.
+use Rattle.std.specs.Prelude.{ℕ, ◌-◌, ◌^◌, ◌==◌, List, ◌∷◌, ◌++◌, Option, Some, None, Result, Ok, Err, if◌then◌else◌}
+use Rattle.std.specs.Result.{result_ok}
+use Rattle.hex.specs.Hex.{encode_lower, decode_sized}
+use Rattle.fsfs_lines.specs.Splits.{split_once}
+use Rattle.fsfs_lines.specs.Numerals.{numeral, decimal_of}
+use Rattle.fsfs_ids.specs.Maybe.{◌>>=◌}
+use Rattle.fsfs_ids.specs.declared.representation.Representation.{Representation}
+
+-- `<revision> <offset> <length> <size> <digest>`; a plain one's size is its length
+abbrev pub representation_text : Representation → List ℕ
+representation_text representation =
+    numeral 10 representation.revision ++ 32 ∷ (numeral 10 representation.offset
+    ++ 32 ∷ (numeral 10 representation.length ++ 32 ∷ (numeral 10 representation.length
+    ++ 32 ∷ encode_lower representation.digest)))
+
+-- the digest that 32 hexadecimal digits spell
+abbrev pub digest_of : List ℕ → Option (List ℕ)
+digest_of digits = result_ok (decode_sized digits 16)
+
+-- the line that a text spells
+unfoldable pub representation_of : List ℕ → Option Representation
+representation_of text = do
+  (revision, rest) ← split_once 32 text
+  (offset, rest) ← split_once 32 rest
+  (length, rest) ← split_once 32 rest
+  (size, digest) ← split_once 32 rest
+  revision ← decimal_of (2 ^ 32 - 1) revision
+  offset ← decimal_of (2 ^ 64 - 1) offset
+  length ← decimal_of (2 ^ 64 - 1) length
+  size ← decimal_of (2 ^ 64 - 1) size
+  (if size == length
+    then (digest_of digest >>= λ digest.
+    Some (record { revision = revision; offset = offset; length = length; digest = digest }))
+    else None)

@@ -1,0 +1,4 @@
+pub mod Parts
+pub mod Entries
+pub mod Descent
+pub mod Again

@@ -1,0 +1,70 @@
+//! Writing a revision file.
+ghost use Rattle.std.specs.Prelude.{◌≡◌, ◌++◌, length, IfOk, option_copied};
+ghost use Rattle.fsfs_parts.specs.Changes.{changes_bytes};
+ghost use Rattle.fsfs_parts.specs.Trailers.{trailer_bytes};
+ghost use Rattle.fsfs_writing.specs.Files.{brought, named_line, placed_node, piece_bytes};
+
+use fsfs_ids::Representation;
+use fsfs_nodes::{FileNode, append_node};
+use fsfs_parts::{FileChange, Trailer, append_body, append_changes, append_trailer};
+use std::alloc::AllocError;
+
+/// Appends a new representation, if there is one, and gives the line: its own, or the one that is
+/// kept.
+fn write_body(
+    out: &mut Vec<u8>,
+    revision: u32,
+    body: Option<&[u8]>,
+    kept: Option<Representation>,
+) -> Result<Option<Representation>, AllocError>
+    ensures { IfOk result (λ line.
+        (line ≡ named_line revision (length out.old.items) (option_copied body.entry) kept)
+        × (out.new.items ≡ out.old.items ++ brought (option_copied body.entry))) }
+{
+    match body {
+        None => Ok(kept),
+        Some(body) => Ok(Some(append_body(out, revision, body)?)),
+    }
+}
+
+/// Appends the new text (or entries) and the new properties of a node revision, if it has such, and
+/// then its lines, and gives it with its place in the file. The draft says all but these places:
+/// its lines for the text and the properties are those that are kept where nothing new comes.
+pub fn write_node(
+    out: &mut Vec<u8>,
+    text: Option<&[u8]>,
+    properties: Option<&[u8]>,
+    draft: FileNode,
+) -> Result<FileNode, AllocError>
+    ensures { IfOk result (λ node.
+        (node ≡ placed_node (length out.old.items) (option_copied text.entry)
+            (option_copied properties.entry) draft)
+        × (out.new.items ≡ out.old.items ++ piece_bytes (record {
+            text = option_copied text.entry;
+            properties = option_copied properties.entry;
+            node = node;
+        }))) }
+{
+    let mut node = draft;
+    node.text = write_body(out, node.id.revision, text, node.text)?;
+    node.properties = write_body(out, node.id.revision, properties, node.properties)?;
+    node.id.offset = out.len() as u64;
+    append_node(out, &node)?;
+    Ok(node)
+}
+
+/// Appends the changes and the last line, which ends the file.
+pub fn finish_file(out: &mut Vec<u8>, root: u64, changes: &[FileChange]) -> Result<(), AllocError>
+    ensures { IfOk result (λ _. out.new.items ≡ out.old.items ++ changes_bytes changes.now
+        ++ trailer_bytes (record { root = root; changes = length out.old.items })) }
+{
+    let place = out.len() as u64;
+    append_changes(out, changes)?;
+    append_trailer(
+        out,
+        Trailer {
+            root,
+            changes: place,
+        },
+    )
+}

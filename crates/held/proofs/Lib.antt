@@ -1,0 +1,15 @@
+pub mod Ordered
+pub mod Listing
+pub mod Showing
+pub mod Seen
+pub mod Named
+pub mod OneMore
+pub mod Placing
+pub mod PlacedBlocks
+pub mod Merging
+pub mod Telling
+pub mod Beginning
+pub mod Marks
+pub mod Opened
+pub mod Again
+pub mod Deep

@@ -1,0 +1,131 @@
+-- What a commit of a transaction's tree makes, as the map of the definitions.
+use Rattle.std.proofs.Common.{◌≡◌, ℕ, Bool, true, false, ◌&&◌, ◌||◌, Option, Some, None, option_map, refl, sym, ap, ◌∙◌}
+use Rattle.std.proofs.lemmas.Bool.{false≢true}
+use Rattle.std.proofs.Math.Logic.{∥∥₁_map}
+use Rattle.std.specs.Prelude.{if◌then◌else◌, IsErrOf, Result, Ok, Err}
+use Rattle.svnpath.specs.Paths.{PathValue}
+use Rattle.repo_api.specs.Edits.{touched}
+use Rattle.repo_api.specs.Marks.{shown, own_of, AreMarked, IsTransactionOf}
+use Rattle.repo_api.specs.Merge.{is_in_conflict, is_untouched, has_open_last, merged_entry, merged, HasNoConflict}
+use Rattle.repo_api.specs.MergedMaps.{has_conflict, merged_map}
+use Rattle.repo_api.specs.MergeLaws.{get_merged_map, no_conflict_is, conflict_is}
+use Rattle.repo_api.specs.Properties.{PropertyList}
+use Rattle.repo_api.specs.States.{TreeMap}
+use Rattle.repo_api.specs.Trees.{Tree, same_mark, is_open_mark}
+use Rattle.repo_api.specs.declared.entry.Content.{Content}
+use Rattle.repo_api.specs.declared.entry.Entry.{Entry}
+use Rattle.repo_api.specs.declared.entry.Mark.{Mark}
+use Rattle.repo_api.specs.declared.entry.Mark.TheVariants.{Open, Made}
+use Rattle.repo_api.proofs.MergeLaws.{untouched_own, same_look}
+use Rattle.repo_api.proofs.Naming.{same_mark_is}
+use Rattle.treemerge.specs.Merges.{IsTold, IfConflict}
+use Rattle.treemerge.specs.declared.merging.MergeFault.{MergeFault}
+use Rattle.treemerge.specs.declared.merging.MergeFault.TheVariants as merges
+use Rattle.held.specs.Committing.{commit_fault}
+use Rattle.held.specs.declared.committing.CommitFault.{CommitFault}
+use Rattle.held.specs.declared.committing.CommitFault.TheVariants as commits
+use Rattle.held.specs.Maps.{IsMapOf, Mapped}
+
+-- maps of three trees
+module _ (n : ℕ) (a s t : Tree) (ma ms mt : TreeMap) (isa : IsMapOf a ma) (iss : IsMapOf s ms)
+    (ist : IsMapOf t mt) where
+  pub merged_is : (new : Tree) → ((q : PathValue) → new q ≡ merged n a s t q)
+      → IsMapOf new (merged_map n ma ms mt)
+  merged_is new is p = get_merged_map n ma ms mt p
+      ∙ (λ i. merged_entry n p (isa p i) (iss p i) (ist p i)) ∙ sym (is p)
+
+  pub clean_is : HasNoConflict a s t → has_conflict ma ms mt ≡ false
+  clean_is none =
+      no_conflict_is ma ms mt (λ p. (λ i. is_in_conflict (isa p i) (iss p i) (ist p i)) ∙ none p)
+
+  pub conflict_at : (p : PathValue) → is_in_conflict (a p) (s p) (t p) ≡ true
+      → has_conflict ma ms mt ≡ true
+  conflict_at p is =
+      conflict_is ma ms mt p ((λ i. is_in_conflict (isa p i) (iss p i) (ist p i)) ∙ is)
+
+pub merged_mapped : (n : ℕ) (a s t new : Tree) (ma mt : TreeMap) → IsMapOf a ma → IsMapOf t mt
+    → ((q : PathValue) → new q ≡ merged n a s t q) → ∥ Mapped s ∥₁ → ∥ Mapped new ∥₁
+merged_mapped n a s t new ma mt isa ist is mapped =
+    ∥∥₁_map mapped (λ m. (merged_map n ma m.0 mt, merged_is n a s t ma m.0 mt isa m.1 ist new is))
+
+-- ---- where a transaction left an entry it is the old one, but for `last`
+
+abbrev pair_or : Content × PropertyList → Option (Content × PropertyList) → Content × PropertyList
+pair_or d None = d
+pair_or d (Some x) = x
+
+both_of : (b c : Bool) → (b && c) ≡ true → (b ≡ true) × (c ≡ true)
+both_of true c h = (refl, h)
+both_of false c h = absurd (false≢true h)
+
+open_is : (m : Mark) → is_open_mark m ≡ true → m ≡ Open
+open_is Open h = refl
+open_is (Made r p) h = absurd (false≢true h)
+
+left_alone : (a s : Entry) → shown (Some a) ≡ shown (Some s)
+    → (same_mark a.own s.own && (same_mark a.last s.last || is_open_mark s.last)) ≡ true
+    → Some s ≡ (if is_open_mark s.last then Some (touched a) else Some a)
+left_alone a s look h = by (is_open_mark s.last) refl
+  where
+    both : (same_mark a.own s.own ≡ true)
+        × ((same_mark a.last s.last || is_open_mark s.last) ≡ true)
+    both = both_of (same_mark a.own s.own) (same_mark a.last s.last || is_open_mark s.last) h
+
+    own : s.own ≡ a.own
+    own = sym (same_mark_is a.own s.own both.0)
+
+    parts : ◌≡◌ {A = Content × PropertyList} (s.content, s.properties) (a.content, a.properties)
+    parts = sym (ap (pair_or (a.content, a.properties)) look)
+
+    or_false : (b : Bool) → (b || false) ≡ true → b ≡ true
+    or_false true e = refl
+    or_false false e = e
+
+    by : (b : Bool) → is_open_mark s.last ≡ b → Some s ≡ (if b then Some (touched a) else Some a)
+    by true e =
+        let last : s.last ≡ Open = open_is s.last e in
+        λ i. Some
+        (record { content = (parts i).0; properties = (parts i).1; own = own i; last = last i })
+    by false e =
+        let last : s.last ≡ a.last =
+        sym (same_mark_is a.last s.last
+        (or_false (same_mark a.last s.last)
+        (ap (λ b. same_mark a.last s.last || b) (sym e) ∙ both.1))) in
+        λ i. Some
+        (record { content = (parts i).0; properties = (parts i).1; own = own i; last = last i })
+
+pub told : (trees : ℕ → Tree) (b : ℕ) (txn : Tree) → AreMarked trees
+    → IsTransactionOf trees (trees b) txn → IsTold (trees b) txn
+told trees b txn marked is_of q = by (trees b q) (txn q) refl refl
+  where
+    by : (a s : Option Entry) → trees b q ≡ a → txn q ≡ s → is_untouched a s ≡ true
+        → s ≡ (if has_open_last s then option_map touched a else a)
+    by None None ea es h = refl
+    by None (Some s) ea es h = absurd (false≢true h)
+    by (Some a) None ea es h = absurd (false≢true h)
+    by (Some a) (Some s) ea es h =
+        let own : own_of (trees b q) ≡ own_of (txn q) = ap own_of ea
+        ∙ untouched_own (Some a) (Some s) h ∙ sym (ap own_of es) in
+        let look : shown (Some a) ≡ shown (Some s) =
+        sym (ap shown ea)
+        ∙ same_look trees (trees b) txn q (marked.named b) is_of.named (marked.closed b q).0 own
+        ∙ ap shown es in
+        left_alone a s look h
+
+-- ---- a merge that was refused
+
+abbrev is_conflict : CommitFault → Bool
+is_conflict commits.Conflict = true
+is_conflict commits.NoMemory = false
+
+abbrev of_conflict : {R : Type 0} → Result R CommitFault → Bool
+of_conflict (Ok x) = false
+of_conflict (Err fault) = is_conflict fault
+
+pub conflict_of : {R : Type 0} (S : Type 0) (P : PathValue → Type 0) (fault : MergeFault)
+    (answer : CommitFault) → answer ≡ commit_fault fault
+    → IsErrOf {T = R} (Err answer) commits.Conflict
+    → IfConflict {T = S} (Err fault) P → (p : PathValue) × P p
+conflict_of S P (merges.Conflict p) answer is refused at = (p, at)
+conflict_of S P merges.NoMemory answer is refused at =
+    absurd (false≢true (sym (ap is_conflict is) ∙ ap of_conflict refused))

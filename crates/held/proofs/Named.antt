@@ -1,0 +1,94 @@
+-- The names of a directory's entries.
+use Rattle.std.proofs.Common.{◌≡◌, Bool, true, false, ◌||◌, cond, ℕ, List, [], ◌∷◌, ◌++◌, Option, Some, None, is_some, option_map, option_and_then, refl, sym, ap, ◌∙◌}
+use Rattle.std.specs.BTreeMap.{is_at}
+use Rattle.std.specs.Cmp.Lexicographic.{slice_cmp}
+use Rattle.std.specs.FinMap.{get}
+use Rattle.std.specs.List.{list_any}
+use Rattle.std.specs.List.Sorted.{IsStrictlySortedBy}
+use Rattle.std.specs.Map.{lookup, keys_of}
+use Rattle.std.specs.Ordering.{nat_cmp, is_eq}
+use Rattle.std.specs.Prelude.{slice_get}
+use Rattle.svnpath.specs.Paths.{PathValue, Component}
+use Rattle.repo_api.specs.Readings.{names_in}
+use Rattle.repo_api.specs.States.{tree_in}
+use Rattle.noderevs.specs.Nodes.{Look, kid_at, kid_of, IsThere}
+use Rattle.noderevs.specs.Views.{find_id, shared_entry, entry_at, shared_tree}
+use Rattle.noderevs.specs.Held.{node_at, root_at}
+use Rattle.noderevs.specs.Soundness.{AreKidsThere}
+use Rattle.noderevs.specs.declared.node_rev.NodeId.{NodeId}
+use Rattle.noderevs.specs.declared.node_rev.NodeRev.{NodeRev}
+use Rattle.held.specs.Contents.{revisions_of}
+use Rattle.held.specs.declared.held.Held.{Held}
+use Rattle.held.proofs.Listing.{names_are}
+use Rattle.held.proofs.Seen.{held_seen, shared_on}
+
+none_sorted : IsStrictlySortedBy (slice_cmp nat_cmp) []
+unfolding IsStrictlySortedBy
+none_sorted = tt
+
+-- a name is among the keys where an entry has it
+among : {X : Type 0} (es : List (Component × X)) (n : Component)
+    → list_any (λ x. is_eq (slice_cmp nat_cmp n x)) (keys_of es)
+    ≡ is_some (lookup (is_at (slice_cmp nat_cmp n)) es)
+among [] n = refl
+among (e ∷ es) n = ap (λ b. is_eq (slice_cmp nat_cmp n e.0) || b) (among es n)
+    ∙ by e.1 (is_eq (slice_cmp nat_cmp n e.0)) (lookup (is_at (slice_cmp nat_cmp n)) es)
+  where
+    by : {Y : Type 0} (y : Y) (b : Bool) (o : Option Y)
+        → (b || is_some o) ≡ is_some (cond b (Some y) o)
+    by y true o = refl
+    by y false o = refl
+
+-- an entry that has an id is there
+there : (look : Look) (k : Option NodeId) → ((id : NodeId) → k ≡ Some id → IsThere look id)
+    → is_some k ≡ is_some (option_and_then (entry_at look) k)
+there look None all = refl
+there look (Some id) all = by (look id) (all id refl)
+  where
+    by : (o : Option NodeRev) → is_some o ≡ true → true ≡ is_some (option_map (shared_entry id) o)
+    by None h = sym h
+    by (Some node) h = refl
+
+kids_seen : (look : Look) → AreKidsThere look → (o : Option NodeId) (node : NodeRev)
+    → option_and_then look o ≡ Some node → (n : Component)
+    → is_some (kid_of n node) ≡ is_some (shared_tree look o (n ∷ []))
+kids_seen look kids None node is n = absurd (none_is_not_some is)
+  where
+    none_is_not_some : None ≡ Some node → ⊥
+    none_is_not_some e = cc
+kids_seen look kids (Some id) node is n = ap (λ f. is_some (option_and_then (kid_of n) f)) (sym is)
+    ∙ there look (kid_at look (Some id) n) (λ kid at. kids id kid n at)
+
+no_kids : (look : Look) (o : Option NodeId) → option_and_then look o ≡ None → (n : Component)
+    → false ≡ is_some (shared_tree look o (n ∷ []))
+no_kids look None is n = refl
+no_kids look (Some id) is n =
+    ap (λ f. is_some (option_and_then (entry_at look) (option_and_then (kid_of n) f))) (sym is)
+
+seen_beneath : (h : Held) (n : ℕ) (p : PathValue) (name : Component)
+    → is_some
+    (shared_tree (node_at h.nodes) (find_id (node_at h.nodes) p (root_at h.nodes n)) (name ∷ []))
+    ≡ is_some (get (tree_in (slice_get (revisions_of h) n)) (p ++ name ∷ []))
+seen_beneath h n p name =
+    ap is_some
+    (sym (held_seen h n (p ++ name ∷ [])
+    ∙ shared_on (node_at h.nodes) p (name ∷ []) (root_at h.nodes n)))
+
+pub names_held : (h : Held) (n : ℕ) (p : PathValue) (node : NodeRev)
+    → option_and_then (node_at h.nodes) (find_id (node_at h.nodes) p (root_at h.nodes n))
+    ≡ Some node
+    → IsStrictlySortedBy (slice_cmp nat_cmp) (keys_of node.kids.entries)
+    → keys_of node.kids.entries ≡ names_in (tree_in (slice_get (revisions_of h) n)) p
+names_held h n p node is sorted =
+    names_are (tree_in (slice_get (revisions_of h) n)) p (keys_of node.kids.entries) sorted
+    (λ name. among node.kids.entries name
+    ∙ kids_seen (node_at h.nodes) h.nodes.kids
+    (find_id (node_at h.nodes) p (root_at h.nodes n)) node is name ∙ seen_beneath h n p name)
+
+pub names_missing : (h : Held) (n : ℕ) (p : PathValue)
+    → option_and_then (node_at h.nodes) (find_id (node_at h.nodes) p (root_at h.nodes n)) ≡ None
+    → [] ≡ names_in (tree_in (slice_get (revisions_of h) n)) p
+names_missing h n p is =
+    names_are (tree_in (slice_get (revisions_of h) n)) p [] none_sorted
+    (λ name. no_kids (node_at h.nodes) (find_id (node_at h.nodes) p (root_at h.nodes n)) is name
+    ∙ seen_beneath h n p name)

@@ -1,0 +1,91 @@
+-- What is held, seen by paths and ids.
+use Rattle.std.proofs.Common.{◌≡◌, ◌≤◌, ◌<◌, ℕ, zero, suc, List, [], ◌∷◌, ◌++◌, length, arith, Option, Some, None, is_some, option_map, option_and_then, refl, sym, ap, subst, ◌∙◌}
+use Rattle.std.proofs.lemmas.Bool.{false≢true}
+use Rattle.std.proofs.lemmas.Option.{slice_get_past}
+use Rattle.std.specs.FinMap.{entries}
+use Rattle.std.specs.Prelude.{IsSome, slice_get}
+use Rattle.svnpath.specs.Paths.{PathValue}
+use Rattle.repo_api.specs.Readings.{IsSameAt}
+use Rattle.repo_api.specs.Histories.{changes_in}
+use Rattle.repo_api.specs.States.{ChangeMap, trees_in}
+use Rattle.noderevs.specs.Nodes.{Look, kid_at}
+use Rattle.noderevs.specs.Views.{find_id, entry_at, shared_tree}
+use Rattle.noderevs.specs.Held.{blocks_of, node_at, root_at, trees_of}
+use Rattle.noderevs.specs.declared.node_rev.Block.{Block}
+use Rattle.noderevs.specs.declared.node_rev.NodeId.{NodeId}
+use Rattle.held.specs.Shown.{the_shown}
+use Rattle.held.specs.Contents.{revisions_of, held_state, tree_held}
+use Rattle.held.specs.declared.held.Held.{Held}
+use Rattle.held.proofs.Showing.{as_many, seen_at, listed_at, listed_is, listed_none}
+
+lost : (look : Look) (p : PathValue) → find_id look p None ≡ None
+lost look [] = refl
+lost look (c ∷ p) = lost look p
+
+no_tree : (look : Look) (p : PathValue) → shared_tree look None p ≡ None
+no_tree look p = ap (option_and_then (entry_at look)) (lost look p)
+
+-- what a path and then another lead to
+pub find_on : (look : Look) (p q : PathValue) (o : Option NodeId)
+    → find_id look (p ++ q) o ≡ find_id look q (find_id look p o)
+find_on look [] q o = refl
+find_on look (c ∷ p) q o = find_on look p q (kid_at look o c)
+
+pub shared_on : (look : Look) (p q : PathValue) (o : Option NodeId)
+    → shared_tree look o (p ++ q) ≡ shared_tree look (find_id look p o) q
+shared_on look p q o = ap (option_and_then (entry_at look)) (find_on look p q o)
+
+-- what stands in a revision is what its nodes lead to
+pub held_seen : (h : Held) (n : ℕ) (p : PathValue) → tree_held h n p ≡ trees_of h.nodes n p
+held_seen h n p =
+    let s = the_shown (trees_of h.nodes) h.changes h.shown in
+    seen_at (trees_of h.nodes) h.changes s.0 s.1
+    (λ m past q.
+    ap (λ o. shared_tree (node_at h.nodes) (option_map (λ b. b.root) o) q)
+    (slice_get_past (blocks_of h.nodes) m (subst (λ k. k ≤ m) (sym h.even) past))
+    ∙ no_tree (node_at h.nodes) q) n p
+
+pub trees_seen : (h : Held) → trees_in (revisions_of h) ≡ trees_of h.nodes
+trees_seen h = λ i n p. held_seen h n p i
+
+pub held_many : (h : Held) → length (revisions_of h) ≡ length h.changes
+held_many h = let s = the_shown (trees_of h.nodes) h.changes h.shown in
+    as_many (trees_of h.nodes) h.changes s.0 s.1
+
+-- where two places have one node, all beneath them is the same
+pub same_held : (h : Held) (n m : ℕ) (p q : PathValue)
+    → find_id (node_at h.nodes) p (root_at h.nodes n)
+    ≡ find_id (node_at h.nodes) q (root_at h.nodes m) → IsSameAt (held_state h) n p m q
+same_held h n m p q one rest =
+    held_seen h n (p ++ rest) ∙ shared_on (node_at h.nodes) p rest (root_at h.nodes n)
+    ∙ ap (λ o. shared_tree (node_at h.nodes) o rest) one
+    ∙ sym (shared_on (node_at h.nodes) q rest (root_at h.nodes m)) ∙ sym (held_seen h m (q ++ rest))
+
+-- the changes that are listed of a revision
+pub held_changes : (h : Held) (n : ℕ) (c : ChangeMap) → slice_get h.changes n ≡ Some c
+    → changes_in (slice_get (revisions_of h) n) ≡ entries c
+held_changes h n c is =
+    let s = the_shown (trees_of h.nodes) h.changes h.shown in
+    listed_at (trees_of h.nodes) h.changes s.0 s.1 n ∙ listed_is h.changes n c is
+
+pub held_no_changes : (h : Held) (n : ℕ) → slice_get h.changes n ≡ None
+    → changes_in (slice_get (revisions_of h) n) ≡ []
+held_no_changes h n is =
+    let s = the_shown (trees_of h.nodes) h.changes h.shown in
+    listed_at (trees_of h.nodes) h.changes s.0 s.1 n ∙ listed_none h.changes n is
+
+-- ---- the root of a revision
+
+get_within : {X : Type 0} (xs : List X) (n : ℕ) → n < length xs → IsSome (slice_get xs n)
+get_within [] n within = absurd (omega (arith, within))
+get_within (x ∷ xs) zero within = refl
+get_within (x ∷ xs) (suc n) within = get_within xs n (omega (arith, within))
+
+pub root_there : (h : Held) (n : ℕ) → n < length (revisions_of h) → root_at h.nodes n ≡ None → ⊥
+root_there h n within none = by (slice_get (blocks_of h.nodes) n) refl
+    (get_within (blocks_of h.nodes) n (subst (λ k. n < k) (held_many h ∙ sym h.even) within))
+  where
+    by : (o : Option Block) → slice_get (blocks_of h.nodes) n ≡ o → IsSome o → ⊥
+    by None is some = false≢true some
+    by (Some block) is some =
+        false≢true (sym (ap is_some none) ∙ ap (λ o. is_some (option_map (λ b. b.root) o)) is)

@@ -1,0 +1,21 @@
+use Rattle.std.proofs.Common.{sym, ap, subst, ◌∙◌}
+use Rattle.std.proofs.lemmas.Result.{on_ok_weaker}
+use Rattle.repo_api.specs.Edits.{edited}
+use Rattle.repo_api.specs.RightEdits.{IsRightEdit}
+use Rattle.txntree.specs.Whole.{txn_tree}
+use Rattle.held.proofs.Seen.{trees_seen}
+use Rattle.held.proofs.held.Held.edit.Goals as goal
+
+pub edit-requires : goal.edit-requires
+edit-requires c =
+    subst (λ trees. IsRightEdit trees
+    (txn_tree c.args.self.now.nodes c.args.tree.now) c.args.op.now)
+    (trees_seen c.args.self.now) c.requires
+
+pub returns-clause-ok : goal.returns-clause-ok
+returns-clause-ok c =
+    on_ok_weaker c.edit.result
+    (λ made q. made q
+    ∙ ap (λ trees. edited trees (txn_tree c.args.self.now.nodes c.args.tree.now) c.args.op.now q)
+    (sym (trees_seen c.args.self.now)))
+    c.edit.ensures.ok

@@ -1,0 +1,57 @@
+use Rattle.std.proofs.Common.{◌≡◌, ◌<◌, ◌+◌, length, sym, ap, subst, arith, ◌∙◌}
+use Rattle.std.proofs.lemmas.List.{length_push}
+use Rattle.noderevs.specs.Held.{blocks_of, trees_of}
+use Rattle.held.specs.Contents.{block_tree}
+use Rattle.held.proofs.OneMore.{grown, grown_is}
+use Rattle.noderevs.specs.Nodes.{node_in, root_in}
+use Rattle.held.specs.Placed.{ArePlaced}
+use Rattle.held.proofs.Placing.{placed_pushed}
+use Rattle.held.proofs.Seen.{held_many}
+use Rattle.held.proofs.held.Held.with_revision.Goals as goal
+
+pub with_block-requires-clause-room : goal.with_block-requires-clause-room
+with_block-requires-clause-room c =
+    subst (λ n. n < 262144) (held_many c.args.self.now ∙ sym c.args.self.now.even) c.requires.room
+
+pub with_one_more-requires : goal.with_one_more-requires
+with_one_more-requires c = subst (λ n. n < 262144) (held_many c.args.self.now) c.requires.room
+
+pub with_one_more-requires-2 : goal.with_one_more-requires-2
+with_one_more-requires-2 c =
+    subst (λ n. n < 262144) (held_many c.args.self.now ∙ sym c.args.self.now.all) c.requires.room
+
+pub invariant_of-result : goal.invariant_of-result
+invariant_of-result c =
+    let old = c.args.self.now in
+    let more : length c.in_ok-changes.changes ≡ length old.changes + 1 =
+    ap length c.in_ok-changes.ensures ∙ length_push old.changes c.args.changes in
+    record {
+      even = ap length c.in_ok-nodes.ensures.blocks ∙ length_push (blocks_of old.nodes) c.args.block
+          ∙ ap (λ n. n + 1) old.even ∙ sym more;
+      all = ap length c.in_ok-properties.ensures ∙ length_push old.properties c.args.properties
+          ∙ ap (λ n. n + 1) old.all ∙ sym more;
+      begun = subst (λ n. 0 < n) (sym more) (omega arith);
+      placed =
+          subst (λ bs. ArePlaced (node_in bs) (root_in bs)) (sym c.in_ok-nodes.ensures.blocks)
+          (placed_pushed
+          (blocks_of old.nodes)
+          c.args.block old.nodes.kids old.nodes.roots old.placed c.requires.placed);
+      shown =
+          grown (trees_of old.nodes)
+          (trees_of c.in_ok-nodes.nodes) old.changes c.in_ok-changes.changes c.args.changes
+          (block_tree old.nodes c.args.block) c.in_ok-changes.ensures
+          (λ k within. c.in_ok-nodes.ensures.stays k (subst (λ n. k < n) (sym old.even) within))
+          (λ q. ap (λ n. trees_of c.in_ok-nodes.nodes n q) (sym old.even)
+          ∙ c.in_ok-nodes.ensures.tree q)
+          c.requires.tree old.shown;
+    }
+
+pub returns-clause-revisions : goal.returns-clause-revisions
+returns-clause-revisions c = λ m is.
+    let old = c.args.self.now in
+    grown_is (trees_of old.nodes)
+    (trees_of c.in_ok-nodes.nodes) old.changes c.in_ok-changes.changes c.args.changes
+    (block_tree old.nodes c.args.block) c.in_ok-changes.ensures
+    (λ k within. c.in_ok-nodes.ensures.stays k (subst (λ n. k < n) (sym old.even) within))
+    (λ q. ap (λ n. trees_of c.in_ok-nodes.nodes n q) (sym old.even) ∙ c.in_ok-nodes.ensures.tree q)
+    old.shown _ m is

@@ -1,0 +1,27 @@
+-- What a commit makes, and why it was not made.
+use Rattle.std.specs.Prelude.{ℕ, Bool, length}
+use Rattle.repo_api.specs.MergedMaps.{has_conflict, merged_map}
+use Rattle.repo_api.specs.States.{TreeMap, tree_at, youngest}
+use Rattle.treemerge.specs.declared.merging.MergeFault.{MergeFault}
+use Rattle.treemerge.specs.declared.merging.MergeFault.TheVariants as merges
+use Rattle.held.specs.declared.committing.CommitFault.{CommitFault}
+use Rattle.held.specs.declared.committing.CommitFault.TheVariants as commits
+use Rattle.held.specs.declared.held.Held.{Held}
+use Rattle.held.specs.Contents.{revisions_of, held_state}
+
+-- the tree of the revision that comes next, of a transaction from this base that has this tree
+abbrev pub next_map : Held → ℕ → TreeMap → TreeMap
+next_map h base txn =
+    merged_map (length (revisions_of h)) (tree_at (held_state h) base) txn
+    (tree_at (held_state h) (youngest (held_state h)))
+
+-- others have changed since its base what such a transaction changed
+abbrev pub conflicts : Held → ℕ → TreeMap → Bool
+conflicts h base txn =
+    has_conflict (tree_at (held_state h) base) txn
+    (tree_at (held_state h) (youngest (held_state h)))
+
+-- why a commit was not made, by why the merge was not
+abbrev pub commit_fault : MergeFault → CommitFault
+commit_fault (merges.Conflict p) = commits.Conflict
+commit_fault merges.NoMemory = commits.NoMemory

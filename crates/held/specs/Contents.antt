@@ -1,0 +1,36 @@
+-- What is held, as the state of a repository.
+use Rattle.std.specs.Prelude.{ℕ, List, Some}
+use Rattle.std.specs.FinMap.{empty}
+use Rattle.repo_api.specs.States.{Revision, RepoState, LockMap, trees_in}
+use Rattle.repo_api.specs.Trees.{Tree}
+use Rattle.noderevs.specs.Held.{node_at, count, trees_of}
+use Rattle.noderevs.specs.Nodes.{with_block}
+use Rattle.noderevs.specs.Views.{shared_tree}
+use Rattle.noderevs.specs.declared.node_rev.Block.{Block}
+use Rattle.noderevs.specs.declared.nodes.Nodes.{Nodes}
+use Rattle.held.specs.Shown.{the_shown}
+use Rattle.held.specs.declared.held.Held.{Held}
+
+abbrev pub revisions_of : Held → List Revision
+revisions_of h = (the_shown (trees_of h.nodes) h.changes h.shown).0
+
+-- what is held, with no locks
+abbrev pub held_state : Held → RepoState
+held_state h = record {
+  uuid = h.uuid;
+  revisions = revisions_of h;
+  properties = h.properties;
+  locks = empty;
+}
+
+-- what is held, with these locks
+abbrev pub state_of : Held → LockMap → RepoState
+state_of h locks = record (held_state h) { locks = locks }
+
+-- the tree of a revision
+abbrev pub tree_held : Held → ℕ → Tree
+tree_held h n = trees_in (revisions_of h) n
+
+-- the tree of a block that comes behind those that are there
+abbrev pub block_tree : Nodes → Block → Tree
+block_tree ns b = shared_tree (with_block (node_at ns) (count ns) b.nodes.items) (Some b.root)

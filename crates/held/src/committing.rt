@@ -1,0 +1,66 @@
+//! The revision that a commit makes.
+ghost use Rattle.std.specs.Prelude.{◌≡◌, true, false, IfOk, IsErrOf};
+ghost use Rattle.repo_api.specs.States.{TreeMap};
+ghost use Rattle.noderevs.specs.Held.{node_at, root_at, trees_of};
+ghost use Rattle.txntree.specs.Whole.{txn_tree, IsSound};
+ghost use Rattle.treemerge.specs.Merges.{IsTold};
+ghost use Rattle.held.specs.Committing.{commit_fault, conflicts, next_map};
+ghost use Rattle.held.specs.Maps.{IsMapOf};
+ghost use Rattle.held.specs.Sealed.{sealed_tree};
+
+use crate::held::Held;
+use std::alloc::{AllocError, Global};
+use treemerge::{MergeFault, merge};
+use txntree::TxnTree;
+
+/// Why a commit was not made.
+#[derive(Clone, Copy, Debug, PartialEq, Eq)]
+pub enum CommitFault {
+    /// Others have changed what the transaction changed.
+    Conflict,
+    NoMemory,
+}
+
+impl From<AllocError> for CommitFault {
+    ghost use Rattle.std.specs.Prelude.{◌≡◌};
+    ghost use Rattle.held.specs.declared.committing.CommitFault.TheVariants.{NoMemory};
+
+    ghost from_gives = { λ _ fault. fault ≡ NoMemory };
+
+    fn from(_error: AllocError) -> Self {
+        CommitFault::NoMemory
+    }
+}
+
+impl Held {
+    /// The tree of a transaction that began from this base, merged with the youngest revision.
+    pub fn merged(&self, alloc: Global, base: u64, tree: &TxnTree) -> Result<TxnTree, CommitFault>
+        requires told { IsTold (trees_of self.now.nodes base) (txn_tree self.now.nodes tree.now) }
+        requires standing { IsSound (node_at self.now.nodes) (root_at self.now.nodes base)
+            tree.now }
+        ensures map { IfOk result (λ t. (m : TreeMap)
+            → IsMapOf (txn_tree self.now.nodes tree.now) m
+            → IsMapOf (sealed_tree self.now.nodes t) (next_map self.now base m)) }
+        ensures clean { IfOk result (λ t. (m : TreeMap)
+            → IsMapOf (txn_tree self.now.nodes tree.now) m
+            → conflicts self.now base m ≡ false) }
+        ensures conflict { IsErrOf result CommitFault.Conflict → (m : TreeMap)
+            → IsMapOf (txn_tree self.now.nodes tree.now) m
+            → conflicts self.now base m ≡ true }
+    {
+        match merge(alloc, &self.nodes, base, tree, self.youngest()) {
+            Ok(merged) => Ok(merged),
+            Err(fault) => Err(fault_of(fault)),
+        }
+    }
+}
+
+/// The fault of a merge as that of a commit.
+fn fault_of(fault: MergeFault) -> CommitFault
+    ensures { result ≡ commit_fault fault }
+{
+    match fault {
+        MergeFault::Conflict(_) => CommitFault::Conflict,
+        MergeFault::NoMemory => CommitFault::NoMemory,
+    }
+}

@@ -1,0 +1,145 @@
+//! What is found in what is held. It takes no memory but for a list of names.
+ghost use Rattle.std.specs.Prelude.{◌≡◌, ◌<◌, true, length, map, IfOk, option_copied, slice_get};
+ghost use Rattle.std.specs.Map.Iter.{deref};
+ghost use Rattle.repo_api.specs.Histories.{changes_in};
+ghost use Rattle.history.specs.Sound.{IsSoundRepo};
+ghost use Rattle.repo_api.specs.Kinds.{kind_of, created_of, has_deeper_at, node_properties, text_of};
+ghost use Rattle.repo_api.specs.Readings.{names_in, IsSameAt};
+ghost use Rattle.repo_api.specs.States.{tree_in, youngest};
+ghost use Rattle.noderevs.specs.Held.{node_at, root_at};
+ghost use Rattle.noderevs.specs.Views.{find_id};
+ghost use Rattle.held.specs.Contents.{revisions_of, held_state, tree_held};
+
+use crate::held::Held;
+use crate::naming::names_of;
+use byte_string::ByteString;
+use noderevs::NodeId;
+use repo_api::{Change, FileText, NodeKind, Properties};
+use std::alloc::{AllocError, Global};
+use svnpath::{DEPTH_LIMIT, Path};
+
+impl Held {
+    /// The repository's name among all repositories, as a number of 128 bits.
+    pub fn uuid(&self) -> u128
+        ensures { result ≡ (held_state self.now).uuid }
+    {
+        self.uuid
+    }
+
+    /// How many revisions there are.
+    pub fn count(&self) -> u64
+        ensures { result ≡ length (revisions_of self.now) }
+    {
+        self.changes.len() as u64
+    }
+
+    /// The number of the youngest revision.
+    pub fn youngest(&self) -> u64
+        ensures is { result ≡ youngest (held_state self.now) }
+        ensures within { result < length (revisions_of self.now) }
+    {
+        self.count().saturating_sub(1)
+    }
+
+    /// What stands at a path of a revision.
+    pub fn kind(&self, revision: u64, path: &Path) -> NodeKind
+        ensures { result ≡ kind_of (tree_held self.now revision path.now) }
+    {
+        self.nodes.kind(self.nodes.root(revision), path)
+    }
+
+    /// Whether something stands more than so many names beneath a path of a revision. No path is
+    /// deeper than the limit.
+    pub fn has_deeper(&self, revision: u64, path: &Path, names: usize) -> bool
+        requires { ∥ IsSoundRepo (held_state self.now) ∥₁ }
+        ensures { result ≡ has_deeper_at (held_state self.now) revision path.now names }
+    {
+        if names >= DEPTH_LIMIT {
+            return false;
+        }
+        self.nodes
+            .has_deeper(self.nodes.root(revision), path, names)
+    }
+
+    /// The revision that last changed what stands at a path of a revision, at or under it.
+    pub fn created(&self, revision: u64, path: &Path) -> Option<u64>
+        ensures { result ≡ created_of (tree_held self.now revision path.now) }
+    {
+        self.nodes.created(self.nodes.root(revision), path)
+    }
+
+    /// The properties of what stands at a path of a revision.
+    pub fn node_properties(&self, revision: u64, path: &Path) -> Option<&Properties>
+        ensures { option_copied result ≡ node_properties (tree_held self.now revision path.now) }
+    {
+        self.nodes.properties(self.nodes.root(revision), path)
+    }
+
+    /// The text of the file at a path of a revision.
+    pub fn text(&self, revision: u64, path: &Path) -> Option<&FileText>
+        ensures { option_copied result ≡ text_of (tree_held self.now revision path.now) }
+    {
+        self.nodes.text(self.nodes.root(revision), path)
+    }
+
+    /// The id that a path of a revision leads to.
+    pub(crate) fn find(&self, revision: u64, path: &Path) -> Option<NodeId>
+        ensures { result ≡ find_id (node_at self.now.nodes) path.now
+            (root_at self.now.nodes revision) }
+    {
+        self.nodes
+            .find_in(self.nodes.root(revision), path.components())
+    }
+
+    /// Whether two places have one node: then all beneath them is the same.
+    pub fn is_same(&self, revision: u64, path: &Path, other: u64, other_path: &Path) -> bool
+        ensures { result ≡ true
+            → IsSameAt (held_state self.now) revision path.now other other_path.now }
+    {
+        is_one(self.find(revision, path), self.find(other, other_path))
+    }
+
+    /// The names of what stands straight beneath a path of a revision, by their bytes.
+    pub fn names(
+        &self,
+        alloc: Global,
+        revision: u64,
+        path: &Path,
+    ) -> Result<Vec<&ByteString>, AllocError>
+        ensures { IfOk result (λ names. map deref names.items
+            ≡ names_in (tree_in (slice_get (revisions_of self.now) revision)) path.now) }
+    {
+        match self.nodes.held(self.find(revision, path)) {
+            Some(node) => {
+                let names = names_of(alloc, node)?;
+                Ok(names)
+            }
+            None => Ok(Vec::new(alloc)),
+        }
+    }
+
+    /// The changes of the revision in the order of their paths, none for a number that is no
+    /// revision.
+    pub fn changes(&self, revision: u64) -> &[(Path, Change)]
+        ensures { result.now ≡ changes_in (slice_get (revisions_of self.now) revision) }
+    {
+        match self.changes.get(revision as usize) {
+            Some(changes) => changes.as_slice(),
+            None => &[],
+        }
+    }
+
+    /// The properties of the revision, none for a number that is no revision.
+    pub fn properties(&self, revision: u64) -> Option<&Properties>
+        ensures { option_copied result ≡ slice_get self.now.properties revision }
+    {
+        self.properties.get(revision as usize)
+    }
+}
+
+/// Whether two ids are one.
+fn is_one(id: Option<NodeId>, other: Option<NodeId>) -> bool
+    ensures { result ≡ true → id ≡ other }
+{
+    id == other
+}

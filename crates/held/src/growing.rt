@@ -1,0 +1,56 @@
+//! A further revision.
+ghost use Rattle.std.specs.Prelude.{◌≡◌, ◌<◌, ◌++◌, ◌∷◌, [], length, IfOk};
+ghost use Rattle.repo_api.specs.States.{TreeMap};
+ghost use Rattle.noderevs.specs.Held.{node_at, count};
+ghost use Rattle.noderevs.specs.Soundness.{IsNext};
+ghost use Rattle.held.specs.Contents.{revisions_of, block_tree};
+ghost use Rattle.held.specs.Maps.{IsMapOf, Mapped};
+ghost use Rattle.held.specs.Placed.{IsPlacedBlock};
+
+use crate::held::Held;
+use noderevs::Block;
+use pvec::PVec;
+use repo_api::Properties;
+use revision_data::ChangeList;
+use std::alloc::{AllocError, Global};
+use std::sync::Arc;
+
+impl Held {
+    /// The same with a further revision: its nodes, its changes and its properties.
+    pub fn with_revision(
+        &self,
+        alloc: Global,
+        block: Block,
+        changes: ChangeList,
+        properties: Properties,
+    ) -> Result<Held, AllocError>
+        requires next { IsNext (node_at self.now.nodes) (count self.now.nodes) block }
+        requires placed { IsPlacedBlock (node_at self.now.nodes) (count self.now.nodes) block }
+        requires tree { ∥ Mapped (block_tree self.now.nodes block) ∥₁ }
+        requires room { length (revisions_of self.now) < 262144 }
+        ensures revisions { IfOk result (λ h. (m : TreeMap)
+            → IsMapOf (block_tree self.now.nodes block) m → revisions_of h
+            ≡ revisions_of self.now ++ record { tree = m; changes = changes } ∷ []) }
+        ensures properties { IfOk result (λ h. h.properties
+            ≡ self.now.properties ++ properties ∷ []) }
+        ensures uuid { IfOk result (λ h. h.uuid ≡ self.now.uuid) }
+    {
+        let nodes = self.nodes.with_block(alloc, block)?;
+        let changes = with_one_more(alloc, &self.changes, changes)?;
+        let properties = with_one_more(alloc, &self.properties, properties)?;
+        Ok(Held {
+            uuid: self.uuid,
+            nodes,
+            changes,
+            properties,
+        })
+    }
+}
+
+/// The list with one item more, for which there is a place.
+fn with_one_more<T: Drop>(alloc: Global, items: &PVec<T>, more: T) -> Result<PVec<T>, AllocError>
+    requires { length items.now < 262144 }
+    ensures { IfOk result (λ v. v ≡ items.now ++ more ∷ []) }
+{
+    items.with_one(alloc, Arc::new(alloc, more)?)
+}

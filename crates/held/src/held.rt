@@ -1,0 +1,25 @@
+//! What a repository holds.
+ghost use Rattle.std.specs.Prelude.{◌≡◌, ◌<◌, length};
+ghost use Rattle.noderevs.specs.Held.{node_at, root_at, count, trees_of};
+ghost use Rattle.held.specs.Placed.{ArePlaced};
+ghost use Rattle.held.specs.Shown.{Shown};
+
+use noderevs::Nodes;
+use pvec::PVec;
+use repo_api::Properties;
+use revision_data::ChangeList;
+
+/// The repository's name, the nodes of its revisions, and the changes and the properties of each
+/// from revision 0 on. With a further revision it is another value, which shares all of it.
+#[derive(Drop)]
+pub struct Held {
+    pub(crate) uuid: u128,
+    pub(crate) nodes: Nodes,
+    pub(crate) changes: PVec<ChangeList>,
+    pub(crate) properties: PVec<Properties>,
+    ghost even: { count nodes ≡ length changes },
+    ghost all: { length properties ≡ length changes },
+    ghost begun: { 0 < length changes },
+    ghost placed: { ArePlaced (node_at nodes) (root_at nodes) },
+    ghost shown: { ∥ Shown (trees_of nodes) changes ∥₁ },
+}

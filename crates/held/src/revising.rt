@@ -1,0 +1,57 @@
+//! A changed property of a revision.
+ghost use Rattle.std.specs.Prelude.{◌≡◌, IfOk, slice_get, slice_set};
+ghost use Rattle.repo_api.specs.Kinds.{or_empty};
+ghost use Rattle.repo_api.specs.RevisionProperties.{property_changed, with_changed_property};
+ghost use Rattle.held.specs.Contents.{held_state};
+
+use crate::held::Held;
+use byte_string::ByteString;
+use pvec::PVec;
+use repo_api::Properties;
+use revision_data::changed_property;
+use std::alloc::{AllocError, Global};
+use std::sync::Arc;
+
+impl Held {
+    /// The same with a property of a revision changed.
+    pub fn with_property(
+        &self,
+        alloc: Global,
+        revision: u64,
+        name: ByteString,
+        value: Option<ByteString>,
+    ) -> Result<Held, AllocError>
+        ensures { IfOk result (λ h. held_state h
+            ≡ with_changed_property (held_state self.now) revision name value) }
+    {
+        let properties = with_changed(alloc, &self.properties, revision, name, value)?;
+        let nodes = self.nodes.share()?;
+        let changes = self.changes.share()?;
+        Ok(Held {
+            uuid: self.uuid,
+            nodes,
+            changes,
+            properties,
+        })
+    }
+}
+
+/// The lists of properties, of which this one has a property changed, if it is there.
+fn with_changed(
+    alloc: Global,
+    lists: &PVec<Properties>,
+    number: u64,
+    name: ByteString,
+    value: Option<ByteString>,
+) -> Result<PVec<Properties>, AllocError>
+    ensures { IfOk result (λ v. v ≡ slice_set lists.now number
+        (property_changed name value (or_empty (slice_get lists.now number)))) }
+{
+    let place = number as usize;
+    let Some(list) = lists.get(place) else {
+        std::mem::drop((name, value));
+        return lists.share();
+    };
+    let list = changed_property(list, name, value)?;
+    lists.replaced(alloc, place, Arc::new(alloc, list)?)
+}

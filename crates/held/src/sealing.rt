@@ -1,0 +1,38 @@
+//! The revision that a transaction's tree makes.
+ghost use Rattle.std.specs.Prelude.{◌≡◌, ◌<◌, ◌++◌, ◌∷◌, [], length, IfOk};
+ghost use Rattle.repo_api.specs.States.{TreeMap};
+ghost use Rattle.held.specs.Contents.{revisions_of};
+ghost use Rattle.held.specs.Maps.{IsMapOf, Mapped};
+ghost use Rattle.held.specs.Sealed.{sealed_tree};
+
+use crate::held::Held;
+use repo_api::Properties;
+use revision_data::ChangeList;
+use std::alloc::{AllocError, Global};
+use txntree::TxnTree;
+
+impl Held {
+    /// The same with the revision that the transaction's tree makes, with these changes and
+    /// properties.
+    pub fn with_tree(
+        &self,
+        alloc: Global,
+        tree: &TxnTree,
+        changes: ChangeList,
+        properties: Properties,
+    ) -> Result<Held, AllocError>
+        requires mapped { ∥ Mapped (sealed_tree self.now.nodes tree.now) ∥₁ }
+        requires room { length (revisions_of self.now) < 262144 }
+        ensures revisions { IfOk result (λ h. (m : TreeMap)
+            → IsMapOf (sealed_tree self.now.nodes tree.now) m → revisions_of h
+            ≡ revisions_of self.now ++ record { tree = m; changes = changes } ∷ []) }
+        ensures properties { IfOk result (λ h. h.properties
+            ≡ self.now.properties ++ properties ∷ []) }
+        ensures uuid { IfOk result (λ h. h.uuid ≡ self.now.uuid) }
+    {
+        let revision = self.count() as u32;
+        let block = tree.seal(alloc, &self.nodes, revision)?;
+        let held = self.with_revision(alloc, block, changes, properties)?;
+        Ok(held)
+    }
+}

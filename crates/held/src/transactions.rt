@@ -1,0 +1,93 @@
+//! The trees of open transactions: how they begin, what is read and edited in them, and the same
+//! over the nodes of what is held now.
+ghost use Rattle.std.specs.Prelude.{◌≡◌, ◌<◌, IfOk, OnOk, OnErr, Option, length, option_copied};
+ghost use Rattle.svnpath.specs.Paths.{PathValue};
+ghost use Rattle.repo_api.specs.Edits.{begun, edited};
+ghost use Rattle.repo_api.specs.Kinds.{kind_of, created_of, text_of};
+ghost use Rattle.repo_api.specs.RightEdits.{IsRightEdit};
+ghost use Rattle.repo_api.specs.States.{IsBeginning, trees_in, youngest};
+ghost use Rattle.noderevs.specs.Held.{node_at, root_at, trees_of};
+ghost use Rattle.noderevs.specs.declared.node_rev.NodeId.{NodeId};
+ghost use Rattle.txntree.specs.Whole.{txn_tree, IsSound};
+ghost use Rattle.held.specs.Contents.{revisions_of, held_state};
+
+use crate::held::Held;
+use repo_api::{EditOp, FileText, NodeKind};
+use std::alloc::{AllocError, Global};
+use svnpath::Path;
+use txnmove::moved_tree;
+use txntree::TxnTree;
+
+impl Held {
+    /// The tree of a transaction that begins from the youngest revision.
+    pub fn begun(&self, alloc: Global) -> Result<TxnTree, AllocError>
+        ensures tree { IfOk result (λ t. (q : PathValue) → txn_tree self.now.nodes t q
+            ≡ begun (trees_of self.now.nodes (youngest (held_state self.now))) q) }
+        ensures sound { IfOk result (IsSound (node_at self.now.nodes)
+            (root_at self.now.nodes (youngest (held_state self.now)))) }
+    {
+        let Some(root) = self.nodes.root(self.youngest()) else {
+            unreachable!();
+        };
+        let tree = TxnTree::at(alloc, &self.nodes, root)?;
+        Ok(tree)
+    }
+
+    /// Makes the tree of a transaction, over the nodes of another that these revisions go on from, one
+    /// over these nodes.
+    pub fn moved(
+        &self,
+        alloc: Global,
+        from: &Held,
+        tree: &TxnTree,
+        base: u64,
+    ) -> Result<TxnTree, AllocError>
+        requires begins { IsBeginning (revisions_of from.now) (revisions_of self.now) }
+        requires within { base < length (revisions_of from.now) }
+        requires sound { IsSound (node_at from.now.nodes) (root_at from.now.nodes base) tree.now }
+        ensures tree { IfOk result (λ t. (q : PathValue) → txn_tree self.now.nodes t q
+            ≡ txn_tree from.now.nodes tree.now q) }
+        ensures sound { IfOk result (IsSound (node_at self.now.nodes)
+            (root_at self.now.nodes base)) }
+    {
+        let tree = moved_tree(alloc, tree, &from.nodes, &self.nodes, base)?;
+        Ok(tree)
+    }
+
+    /// What stands at a path of a transaction.
+    pub fn kind_in(&self, tree: &TxnTree, path: &Path) -> NodeKind
+        ensures { result ≡ kind_of (txn_tree self.now.nodes tree.now path.now) }
+    {
+        tree.kind(&self.nodes, path)
+    }
+
+    /// The revision that last changed what stands at a path of a transaction, at or under it: none
+    /// where the transaction has.
+    pub fn created_in(&self, tree: &TxnTree, path: &Path) -> Option<u64>
+        ensures { result ≡ created_of (txn_tree self.now.nodes tree.now path.now) }
+    {
+        tree.created(&self.nodes, path)
+    }
+
+    /// The text of the file at a path of a transaction.
+    pub fn text_in<'a>(&'a self, tree: &'a TxnTree, path: &Path) -> Option<&'a FileText>
+        ensures { option_copied result ≡ text_of (txn_tree self.now.nodes tree.now path.now) }
+    {
+        tree.text(&self.nodes, path)
+    }
+
+    /// Makes an edit in a transaction. Without memory nothing is changed.
+    pub fn edit(&self, alloc: Global, tree: &mut TxnTree, op: &EditOp) -> Result<(), AllocError>
+        requires { IsRightEdit (trees_in (revisions_of self.now))
+            (txn_tree self.now.nodes tree.old) op.now }
+        ensures ok { OnOk result ((q : PathValue) → txn_tree self.now.nodes tree.new q
+            ≡ edited (trees_in (revisions_of self.now))
+            (txn_tree self.now.nodes tree.old) op.now q) }
+        ensures err { OnErr result ((q : PathValue) → txn_tree self.now.nodes tree.new q
+            ≡ txn_tree self.now.nodes tree.old q) }
+        ensures sound { (root : Option NodeId) → IsSound (node_at self.now.nodes) root tree.old
+            → IsSound (node_at self.now.nodes) root tree.new }
+    {
+        tree.edit(alloc, &self.nodes, op)
+    }
+}

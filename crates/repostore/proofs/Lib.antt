@@ -1,0 +1,4 @@
+pub mod Reaching
+pub mod Steps
+pub mod Joining
+pub mod Readings

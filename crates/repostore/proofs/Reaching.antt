@@ -1,0 +1,236 @@
+-- Which files are reached where some of a folder's are changed.
+use Rattle.std.proofs.Common.{◌≡◌, ◌≢◌, refl, sym, ap, ◌∙◌, subst, ◌⊎◌, inl, inr, ℕ, zero, suc, ◌+◌, List, [], ◌∷◌, ◌++◌, Option, Some, None, arith, length, length-append, add-one}
+use Rattle.std.specs.Prelude.{◌<◌, ◌≤◌, option_map}
+use Rattle.std.proofs.lemmas.Bool.{cases_eq}
+use Rattle.file_store.specs.Folders.{Folder, text_of, SameBut, IsSame}
+use Rattle.file_store.specs.NameLaws.{all_same}
+use Rattle.file_store.specs.declared.name.FileName.{FileName}
+use Rattle.file_store.specs.declared.name.FileName.TheVariants.{Format, Kind, Uuid, Current, Locks, Revision, Properties}
+use Rattle.std.proofs.Common.{cond}
+use Rattle.std.proofs.lemmas.Bool.Decides.{leb_tells}
+use Rattle.repostore.specs.Current.{count_in, counted, number_in}
+use Rattle.repostore.specs.Files.{RevisionFiles, Files, revision_files, revisions_below, reached, files_in, HasFiles, with_revision, with_locks, with_second, with_properties, HasEither}
+use Rattle.repostore.specs.Reading.{read_below, with_read_locks}
+use Rattle.repostore.specs.Saving.{HasNext}
+
+pub length-below : (f : Folder) (n : ℕ) → length (revisions_below f n) ≡ n
+length-below f zero = refl
+length-below f (suc n) = omega (arith, length-append (revisions_below f n) (revision_files f n ∷ []), length-below f n)
+
+-- what the count and the files say of each other
+pub record Opened (f : Folder) (files : Files) : Type 0 where
+  pub n : ℕ
+  pub count : count_in (text_of (f Current)) ≡ Some n
+  pub is : reached f n ≡ files
+
+opened_at : (f : Folder) (files : Files) (c : Option ℕ) → count_in (text_of (f Current)) ≡ c → option_map (reached f) c ≡ Some files → Opened f files
+opened_at f files None e h = absurd (cc)
+opened_at f files (Some n) e h = let is : reached f n ≡ files = cc in record { n = n; count = e; is = is }
+
+pub opened : (f : Folder) (files : Files) → HasFiles files f → Opened f files
+opened f files h = opened_at f files (count_in (text_of (f Current))) refl h
+
+pub closed : (f : Folder) (files : Files) (n : ℕ) → count_in (text_of (f Current)) ≡ Some n → reached f n ≡ files → HasFiles files f
+closed f files n count is = ap (option_map (reached f)) count ∙ ap (λ (x : Files). Some x) is
+
+-- there are as many revisions as `current` says
+pub as_many : (f : Folder) (files : Files) (o : Opened f files) → o.n ≡ length files.revisions
+as_many f files o = sym (length-below f o.n) ∙ ap (λ (x : Files). length x.revisions) o.is
+
+pub below_same : (d f : Folder) (n : ℕ) → ((k : ℕ) → k < n → revision_files f k ≡ revision_files d k) → revisions_below f n ≡ revisions_below d n
+below_same d f zero same = refl
+below_same d f (suc n) same =
+    let first : revisions_below f n ≡ revisions_below d n = below_same d f n (λ k lt. same k (omega (arith, lt))) in
+    let last : revision_files f n ≡ revision_files d n = same n (omega arith) in
+    λ i. first i ++ last i ∷ []
+
+-- the same files are reached where those that are reached are the same
+pub reached_same : (d f : Folder) (n : ℕ) → f Format ≡ d Format → f Uuid ≡ d Uuid → f Current ≡ d Current → f Locks ≡ d Locks
+    → ((k : ℕ) → k < n → revision_files f k ≡ revision_files d k) → reached f n ≡ reached d n
+reached_same d f n format uuid current locks same =
+    let revisions : revisions_below f n ≡ revisions_below d n = below_same d f n same in
+    λ i. record { format = format i; uuid = text_of (uuid i); current = text_of (current i); revisions = revisions i; locks = locks i }
+
+-- a file behind the revisions does not matter
+pub behind_revision : (d f : Folder) (files : Files) (m : ℕ) → length files.revisions ≤ m → SameBut (Revision m) d f → HasFiles files d → HasFiles files f
+behind_revision d f files m le same has =
+    let o : Opened d files = opened d files has in
+    let many : o.n ≡ length files.revisions = as_many d files o in
+    let current : f Current ≡ d Current = same Current (λ e. cc) in
+    let below : (k : ℕ) → k < o.n → revision_files f k ≡ revision_files d k = λ k lt.
+    (let text : f (Revision k) ≡ d (Revision k) = same (Revision k) (λ e. let is : k ≡ m = cc in omega (arith, many, le, lt, is)) in
+    let properties : f (Properties k) ≡ d (Properties k) = same (Properties k) (λ e. cc) in
+    λ i. (text_of (text i), text_of (properties i))) in
+    closed f files o.n (ap (λ (x : Option (List ℕ)). count_in (text_of x)) current ∙ o.count)
+    (reached_same d f o.n (same Format (λ e. cc)) (same Uuid (λ e. cc)) current (same Locks (λ e. cc)) below ∙ o.is)
+
+pub behind_properties : (d f : Folder) (files : Files) (m : ℕ) → length files.revisions ≤ m → SameBut (Properties m) d f → HasFiles files d → HasFiles files f
+behind_properties d f files m le same has =
+    let o : Opened d files = opened d files has in
+    let many : o.n ≡ length files.revisions = as_many d files o in
+    let current : f Current ≡ d Current = same Current (λ e. cc) in
+    let below : (k : ℕ) → k < o.n → revision_files f k ≡ revision_files d k = λ k lt.
+    (let text : f (Revision k) ≡ d (Revision k) = same (Revision k) (λ e. cc) in
+    let properties : f (Properties k) ≡ d (Properties k) = same (Properties k) (λ e. let is : k ≡ m = cc in omega (arith, many, le, lt, is)) in
+    λ i. (text_of (text i), text_of (properties i))) in
+    closed f files o.n (ap (λ (x : Option (List ℕ)). count_in (text_of x)) current ∙ o.count)
+    (reached_same d f o.n (same Format (λ e. cc)) (same Uuid (λ e. cc)) current (same Locks (λ e. cc)) below ∙ o.is)
+
+-- folders that are the same have the same files
+pub same_files : (files : Files) (d f : Folder) → IsSame d f → HasFiles files d → HasFiles files f
+same_files files d f same has = subst (λ (x : Folder). HasFiles files x) (λ i n. sym (same n) i) has
+
+-- `current` is replaced, and the next revision is reached
+pub published : (files : Files) (n : ℕ) (revision properties current : List ℕ) → length files.revisions ≡ n → count_in current ≡ Some (n + 1)
+    → (d f : Folder) → SameBut Current d f → HasNext files n revision properties d → f Current ≡ Some current → HasFiles (with_revision files (revision, properties) current) f
+published files n revision properties current many count d f same next is =
+    let o : Opened d files = opened d files next.files_are in
+    let at : o.n ≡ n = as_many d files o ∙ many in
+    let text : f (Revision n) ≡ Some revision = same (Revision n) (λ e. cc) ∙ next.revision_is in
+    let values : f (Properties n) ≡ Some properties = same (Properties n) (λ e. cc) ∙ next.properties_are in
+    let below : revisions_below f n ≡ files.revisions =
+    below_same d f n (λ k lt. λ i. (text_of (same (Revision k) (λ e. cc) i), text_of (same (Properties k) (λ e. cc) i)))
+    ∙ ap (revisions_below d) (sym at) ∙ ap (λ (x : Files). x.revisions) o.is in
+    let format : f Format ≡ files.format = same Format (λ e. cc) ∙ ap (λ (x : Files). x.format) o.is in
+    let uuid : text_of (f Uuid) ≡ files.uuid = ap text_of (same Uuid (λ e. cc)) ∙ ap (λ (x : Files). x.uuid) o.is in
+    let locks : f Locks ≡ files.locks = same Locks (λ e. cc) ∙ ap (λ (x : Files). x.locks) o.is in
+    closed f (with_revision files (revision, properties) current) (suc n)
+    (ap (λ (x : Option (List ℕ)). count_in (text_of x)) is ∙ count ∙ ap (λ (m : ℕ). Some m) (add-one n))
+    (λ i. record { format = format i; uuid = uuid i; current = text_of (is i); revisions = below i ++ (text_of (text i), text_of (values i)) ∷ []; locks = locks i })
+
+-- `current` may be replaced, or not
+pub publishing : (files : Files) (n : ℕ) (revision properties current : List ℕ) → length files.revisions ≡ n → count_in current ≡ Some (n + 1)
+    → (d f : Folder) → SameBut Current d f → HasNext files n revision properties d → (f Current ≡ d Current) ⊎ (f Current ≡ Some current)
+    → HasEither files (with_revision files (revision, properties) current) f
+publishing files n revision properties current many count d f same next (inr new) =
+    inr (published files n revision properties current many count d f same next new)
+publishing files n revision properties current many count d f same next (inl old) =
+    inl (same_files files d f (all_same d f Current same old) next.files_are)
+
+-- the locks are replaced
+pub locks_are : (files : Files) (locks : List ℕ) (d f : Folder) → SameBut Locks d f → HasFiles files d → f Locks ≡ Some locks → HasFiles (with_locks files locks) f
+locks_are files locks d f same has is =
+    let o : Opened d files = opened d files has in
+    let current : f Current ≡ d Current = same Current (λ e. cc) in
+    let below : revisions_below f o.n ≡ revisions_below d o.n =
+    below_same d f o.n (λ k lt. λ i. (text_of (same (Revision k) (λ e. cc) i), text_of (same (Properties k) (λ e. cc) i))) in
+    let format = same Format (λ e. cc) in
+    let uuid = same Uuid (λ e. cc) in
+    let all : reached f o.n ≡ record (reached d o.n) { locks = Some locks } =
+    λ i. record { format = format i; uuid = text_of (uuid i); current = text_of (current i); revisions = below i; locks = is i } in
+    closed f (with_locks files locks) o.n (ap (λ (x : Option (List ℕ)). count_in (text_of x)) current ∙ o.count)
+    (all ∙ ap (λ (x : Files). with_locks x locks) o.is)
+
+pub locks_may_be : (files : Files) (locks : List ℕ) (d f : Folder) → SameBut Locks d f → HasFiles files d → (f Locks ≡ d Locks) ⊎ (f Locks ≡ Some locks)
+    → HasEither files (with_locks files locks) f
+locks_may_be files locks d f same has (inl old) = inl (same_files files d f (all_same d f Locks same old) has)
+locks_may_be files locks d f same has (inr new) = inr (locks_are files locks d f same has new)
+
+second-append : (rs : List RevisionFiles) (r : RevisionFiles) (m : ℕ) (bytes : List ℕ) → m < length rs → with_second (rs ++ r ∷ []) m bytes ≡ with_second rs m bytes ++ r ∷ []
+second-append [] r m bytes lt = absurd (omega (arith, lt))
+second-append (x ∷ rs) r zero bytes lt = refl
+second-append (x ∷ rs) r (suc m) bytes lt = ap (λ (l : List RevisionFiles). x ∷ l) (second-append rs r m bytes (omega (arith, lt)))
+
+second-last : (rs : List RevisionFiles) (r : RevisionFiles) (m : ℕ) (bytes : List ℕ) → m ≡ length rs → with_second (rs ++ r ∷ []) m bytes ≡ rs ++ (r.0, bytes) ∷ []
+second-last [] r zero bytes e = refl
+second-last [] r (suc m) bytes e = absurd (omega (arith, e))
+second-last (x ∷ rs) r zero bytes e = absurd (omega (arith, e))
+second-last (x ∷ rs) r (suc m) bytes e = ap (λ (l : List RevisionFiles). x ∷ l) (second-last rs r m bytes (omega (arith, e)))
+
+below_second : (d f : Folder) (m : ℕ) (bytes : List ℕ) → SameBut (Properties m) d f → f (Properties m) ≡ Some bytes
+    → (n : ℕ) → m < n → revisions_below f n ≡ with_second (revisions_below d n) m bytes
+below_second d f m bytes same is zero lt = absurd (omega (arith, lt))
+below_second d f m bytes same is (suc n) lt = elim (cases_eq m n) [
+  | inl e ↦
+      let front : revisions_below f n ≡ revisions_below d n = below_same d f n (λ k less. λ i. (text_of (same (Revision k) (λ x. cc) i), text_of (same (Properties k) (λ x. let at : k ≡ m = cc in omega (arith, at, e, less)) i))) in
+      let last : revision_files f n ≡ (text_of (d (Revision n)), bytes) =
+      λ i. (text_of (same (Revision n) (λ x. cc) i), text_of ((ap (λ k. f (Properties k)) (sym e) ∙ is) i)) in
+      (λ i. front i ++ last i ∷ []) ∙ sym (second-last (revisions_below d n) (revision_files d n) m bytes (e ∙ sym (length-below d n)))
+  | inr other ↦
+      let front : revisions_below f n ≡ with_second (revisions_below d n) m bytes = below_second d f m bytes same is n (omega (arith, lt, other)) in
+      let last : revision_files f n ≡ revision_files d n =
+      λ i. (text_of (same (Revision n) (λ x. cc) i), text_of (same (Properties n) (λ x. let at : n ≡ m = cc in other (sym at)) i)) in
+      (λ i. front i ++ last i ∷ []) ∙ sym (second-append (revisions_below d n) (revision_files d n) m bytes (omega (arith, lt, other, length-below d n)))
+]
+
+-- the properties of a revision that is there are replaced
+pub properties_are : (files : Files) (m : ℕ) (bytes : List ℕ) → m < length files.revisions → (d f : Folder) → SameBut (Properties m) d f → HasFiles files d → f (Properties m) ≡ Some bytes
+    → HasFiles (with_properties files m bytes) f
+properties_are files m bytes lt d f same has is =
+    let o : Opened d files = opened d files has in
+    let many : o.n ≡ length files.revisions = as_many d files o in
+    let current : f Current ≡ d Current = same Current (λ e. cc) in
+    let below : revisions_below f o.n ≡ with_second (revisions_below d o.n) m bytes = below_second d f m bytes same is o.n (omega (arith, lt, many)) in
+    let format = same Format (λ e. cc) in
+    let uuid = same Uuid (λ e. cc) in
+    let locks = same Locks (λ e. cc) in
+    let all : reached f o.n ≡ with_properties (reached d o.n) m bytes =
+    λ i. record { format = format i; uuid = text_of (uuid i); current = text_of (current i); revisions = below i; locks = locks i } in
+    closed f (with_properties files m bytes) o.n (ap (λ (x : Option (List ℕ)). count_in (text_of x)) current ∙ o.count)
+    (all ∙ ap (λ (x : Files). with_properties x m bytes) o.is)
+
+pub properties_may_be : (files : Files) (m : ℕ) (bytes : List ℕ) → m < length files.revisions → (d f : Folder) → SameBut (Properties m) d f → HasFiles files d
+    → (f (Properties m) ≡ d (Properties m)) ⊎ (f (Properties m) ≡ Some bytes) → HasEither files (with_properties files m bytes) f
+properties_may_be files m bytes lt d f same has (inl old) = inl (same_files files d f (all_same d f (Properties m) same old) has)
+properties_may_be files m bytes lt d f same has (inr new) = inr (properties_are files m bytes lt d f same has new)
+
+pub length-second : (rs : List RevisionFiles) (m : ℕ) (bytes : List ℕ) → length (with_second rs m bytes) ≡ length rs
+length-second [] m bytes = refl
+length-second (r ∷ rs) zero bytes = refl
+length-second (r ∷ rs) (suc m) bytes = ap (λ n. suc n) (length-second rs m bytes)
+
+-- the next revision's files are written, and are not reached
+pub next_is : (files : Files) (n : ℕ) (revision properties : List ℕ) (f : Folder) → HasFiles files f × (f (Revision n) ≡ Some revision) → f (Properties n) ≡ Some properties → HasNext files n revision properties f
+next_is files n revision properties f has values = record { files_are = has.0; revision_is = has.1; properties_are = values }
+
+pub behind_properties_too : (d f : Folder) (files : Files) (m : ℕ) (revision : List ℕ) → length files.revisions ≤ m → SameBut (Properties m) d f → HasFiles files d × (d (Revision m) ≡ Some revision)
+    → HasFiles files f × (f (Revision m) ≡ Some revision)
+behind_properties_too d f files m revision le same has = (behind_properties d f files m le same has.0, same (Revision m) (λ e. cc) ∙ has.1)
+
+pub same_revision_files : (d f : Folder) (n : ℕ) → IsSame d f → revision_files f n ≡ revision_files d n
+same_revision_files d f n same = λ i. (text_of (same (Revision n) i), text_of (same (Properties n) i))
+
+-- what the reader has taken where the files are the same all the time
+pub all_taken : (old mid later : Folder) (first more all : Files) (n : ℕ) → IsSame old mid → IsSame mid later → first ≡ read_below old 0
+    → (first ≡ read_below mid 0 → more ≡ read_below mid n) → all ≡ with_read_locks more (later Locks) → all ≡ reached old n
+all_taken old mid later first more all n same again is goes last =
+    let stays : mid ≡ old = λ i m. same m i in
+    let taken : more ≡ read_below old n = goes (is ∙ ap (λ (x : Folder). read_below x 0) (sym stays)) ∙ ap (λ (x : Folder). read_below x n) stays in
+    last ∙ (λ i. with_read_locks (taken i) ((again Locks ∙ same Locks) i))
+
+pub all_read : (f : Folder) (files : Files) (n : ℕ) → count_in (text_of (f Current)) ≡ Some n → files ≡ reached f n → HasFiles files f
+all_read f files n count is = closed f files n count (sym is)
+
+pub all_counted : (f : Folder) (files : Files) (n : ℕ) → files ≡ reached f n → n ≡ length files.revisions
+all_counted f files n is = sym (length-below f n) ∙ ap (λ (x : Files). length x.revisions) (sym is)
+
+few : (o : Option ℕ) (n : ℕ) → counted o ≡ Some (n + 1) → n ≤ 262143
+few None n e = absurd (cc)
+few (Some m) n e = elim (leb_tells m 262143) [
+  | inl small ↦ let is : m + 1 ≡ n + 1 = some_is (m + 1) (n + 1) (sym (ap (λ b. cond b (Some (m + 1)) None) small.0) ∙ e) in omega (arith, is, small.1)
+  | inr large ↦ absurd (none_is (n + 1) (sym (ap (λ b. cond b (Some (m + 1)) None) large.0) ∙ e))
+]
+  where
+    some_is : (a b : ℕ) → Some a ≡ Some b → a ≡ b
+    some_is a b h = cc
+
+    none_is : (b : ℕ) → None ≡ Some b → ⊥
+    none_is b h = cc
+
+-- a count is within the limit of revisions
+pub counts_few : (current : List ℕ) (n : ℕ) → count_in current ≡ Some (n + 1) → n ≤ 262143
+counts_few current n e = few (number_in current) n e
+
+-- what stands once the files of a new repository are written
+pub created : (f0 f1 f2 f3 f4 f5 f6 : Folder) (format uuid revision properties current : List ℕ) → count_in current ≡ Some 1
+    → SameBut Kind f0 f1 → SameBut Uuid f1 f2 → SameBut (Revision 0) f2 f3 → SameBut (Properties 0) f3 f4 → SameBut Current f4 f5 → SameBut Format f5 f6
+    → f2 Uuid ≡ Some uuid → f3 (Revision 0) ≡ Some revision → f4 (Properties 0) ≡ Some properties → f5 Current ≡ Some current → f6 Format ≡ Some format
+    → HasFiles (record { format = Some format; uuid = uuid; current = current; revisions = (revision, properties) ∷ []; locks = f0 Locks }) f6
+created f0 f1 f2 f3 f4 f5 f6 format uuid revision properties current count s1 s2 s3 s4 s5 s6 u r p c f =
+    let locks : f6 Locks ≡ f0 Locks = s6 Locks (λ e. cc) ∙ s5 Locks (λ e. cc) ∙ s4 Locks (λ e. cc) ∙ s3 Locks (λ e. cc) ∙ s2 Locks (λ e. cc) ∙ s1 Locks (λ e. cc) in
+    let u6 : f6 Uuid ≡ Some uuid = s6 Uuid (λ e. cc) ∙ s5 Uuid (λ e. cc) ∙ s4 Uuid (λ e. cc) ∙ s3 Uuid (λ e. cc) ∙ u in
+    let r6 : f6 (Revision 0) ≡ Some revision = s6 (Revision 0) (λ e. cc) ∙ s5 (Revision 0) (λ e. cc) ∙ s4 (Revision 0) (λ e. cc) ∙ r in
+    let p6 : f6 (Properties 0) ≡ Some properties = s6 (Properties 0) (λ e. cc) ∙ s5 (Properties 0) (λ e. cc) ∙ p in
+    let c6 : f6 Current ≡ Some current = s6 Current (λ e. cc) ∙ c in
+    closed f6 _ 1 (ap (λ (x : Option (List ℕ)). count_in (text_of x)) c6 ∙ count)
+    (λ i. record { format = f i; uuid = text_of (u6 i); current = text_of (c6 i); revisions = (text_of (r6 i), text_of (p6 i)) ∷ []; locks = locks i })

@@ -1,0 +1,30 @@
+use Rattle.std.proofs.Common.{◌<◌, sym, ◌∙◌, inl, arith, length}
+use Rattle.file_store.specs.declared.name.FileName.TheVariants.{Properties}
+use Rattle.repostore.specs.Files.{Files, HasFiles, with_properties, HasEither}
+use Rattle.repostore.proofs.Reaching.{properties_are, properties_may_be, length-second}
+use Rattle.repostore.proofs.Steps.{begun, swapped, replaced, ok_gives_both}
+use Rattle.repostore.proofs.saves.Saves.save_rev_prop.Goals as goal
+
+pub returns-clause-saved : goal.returns-clause-saved
+returns-clause-saved g c = λ files saved there.
+    let s = g.S.Store in
+    let start = c.args.self.now.store in
+    let new = c.publish.new.self.store in
+    let lt : c.args.revision < length files.revisions = omega (arith, saved.count, there) in
+    let at = begun s.is_honest s.holds s.may_leave s.moment s.left_since start (HasFiles files) (λ f. g.met.S.Store.only_now start f) saved.stands in
+    ok_gives_both c.publish.result (λ written done. record {
+      stands = replaced s.is_honest s.holds s.may_leave s.moment s.left_since start start new (Properties c.args.revision) c.args.properties.now (HasFiles files) (HasFiles files) (HasFiles (with_properties files c.args.revision c.args.properties.now)) at
+          (c.publish.ensures.replaces saved.stands.honest) written (properties_are files c.args.revision c.args.properties.now lt);
+      count = c.publish.ensures.count ∙ saved.count ∙ sym (length-second files.revisions c.args.revision c.args.properties.now);
+      goes_on = done ∙ saved.goes_on;
+    }) (c.publish.ensures.ok saved.stands.honest) c.publish.ensures.done
+
+pub returns-clause-any_moment : goal.returns-clause-any_moment
+returns-clause-any_moment g c = λ files saved there.
+    let s = g.S.Store in
+    let start = c.args.self.now.store in
+    let new = c.publish.new.self.store in
+    let lt : c.args.revision < length files.revisions = omega (arith, saved.count, there) in
+    let at = begun s.is_honest s.holds s.may_leave s.moment s.left_since start (HasFiles files) (λ f. g.met.S.Store.only_now start f) saved.stands in
+    swapped s.is_honest s.holds s.may_leave s.moment s.left_since start start new (Properties c.args.revision) c.args.properties.now (HasFiles files) (HasFiles files) (HasEither files (with_properties files c.args.revision c.args.properties.now)) at
+    (c.publish.ensures.replaces saved.stands.honest) (properties_may_be files c.args.revision c.args.properties.now lt) (λ f p. inl p)

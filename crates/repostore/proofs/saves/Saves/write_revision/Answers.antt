@@ -1,0 +1,58 @@
+use Rattle.std.proofs.Common.{◌≡◌, ◌≤◌, List, ℕ, Some, refl, sym, arith, length}
+use Rattle.file_store.specs.Folders.{Folder}
+use Rattle.file_store.specs.declared.name.FileName.TheVariants.{Revision, Properties}
+use Rattle.repostore.specs.Files.{Files, HasFiles}
+use Rattle.repostore.specs.Saving.{HasNext}
+use Rattle.repostore.proofs.Reaching.{behind_revision, behind_properties, behind_properties_too, next_is}
+use Rattle.repostore.proofs.Steps.{begun, wrote, with_bytes, ok_gives_both}
+use Rattle.repostore.proofs.saves.Saves.write_revision.Goals as goal
+
+pub returns-in_err-write_new-clause-going : goal.returns-in_err-write_new-clause-going
+returns-in_err-write_new-clause-going g c = λ files saved.
+    let s = g.S.Store in
+    let n = c.args.self.now.count in
+    let start = c.args.self.now.store in
+    let P = HasFiles files in
+    let le : length files.revisions ≤ n = omega (arith, saved.count) in
+    let at = begun s.is_honest s.holds s.may_leave s.moment s.left_since start P (λ f. g.met.S.Store.only_now start f) saved.stands in
+    let w = c.write_new.ensures in
+    wrote s.is_honest s.holds s.may_leave s.moment s.left_since start start c.write_new.new.self (Revision n) P P P at w.honest w.others w.stop w.time
+    (λ d f same. behind_revision d f files n le same) (λ f p. p)
+
+pub returns-clause-going : goal.returns-clause-going
+returns-clause-going g c = λ files saved.
+    let s = g.S.Store in
+    let n = c.args.self.now.count in
+    let start = c.args.self.now.store in
+    let P = HasFiles files in
+    let le : length files.revisions ≤ n = omega (arith, saved.count) in
+    let at = begun s.is_honest s.holds s.may_leave s.moment s.left_since start P (λ f. g.met.S.Store.only_now start f) saved.stands in
+    let w = c.write_new.ensures in
+    let first = wrote s.is_honest s.holds s.may_leave s.moment s.left_since start start c.write_new.new.self (Revision n) P P P at w.honest w.others w.stop w.time
+    (λ d f same. behind_revision d f files n le same) (λ f p. p) in
+    let v = c.write_new-2.ensures in
+    wrote s.is_honest s.holds s.may_leave s.moment s.left_since start c.write_new.new.self c.write_new-2.new.self (Properties n) P P P first v.honest v.others v.stop v.time
+    (λ d f same. behind_properties d f files n le same) (λ f p. p)
+
+pub returns-clause-ok : goal.returns-clause-ok
+returns-clause-ok g c = λ files saved.
+    let s = g.S.Store in
+    let n = c.args.self.now.count in
+    let start = c.args.self.now.store in
+    let P = HasFiles files in
+    let Q : Folder → Type 0 = λ f. HasFiles files f × (f (Revision n) ≡ Some c.args.revision.now) in
+    let le : length files.revisions ≤ n = omega (arith, saved.count) in
+    let at = begun s.is_honest s.holds s.may_leave s.moment s.left_since start P (λ f. g.met.S.Store.only_now start f) saved.stands in
+    let w = c.write_new.ensures in
+    let first = wrote s.is_honest s.holds s.may_leave s.moment s.left_since start start c.write_new.new.self (Revision n) P P P at w.honest w.others w.stop w.time
+    (λ d f same. behind_revision d f files n le same) (λ f p. p) in
+    let u = c.in_ok-write_new.ensures in
+    let here = with_bytes s.is_honest s.holds s.may_leave s.moment s.left_since start c.write_new.new.self (Revision n) c.args.revision.now P P Q first
+    (u.written saved.stands.honest) (u.kept saved.stands.honest) (λ f has is. (has, is)) in
+    let v = c.write_new-2.ensures in
+    let second = wrote s.is_honest s.holds s.may_leave s.moment s.left_since start c.write_new.new.self c.write_new-2.new.self (Properties n) P Q Q here v.honest v.others v.stop v.time
+    (λ d f same. behind_properties_too d f files n c.args.revision.now le same) (λ f q. q.0) in
+    ok_gives_both c.write_new-2.result
+    (λ written kept. with_bytes s.is_honest s.holds s.may_leave s.moment s.left_since start c.write_new-2.new.self (Properties n) c.args.properties.now P Q (HasNext files n c.args.revision.now c.args.properties.now) second
+    written kept (next_is files n c.args.revision.now c.args.properties.now))
+    (v.written (w.honest.0 saved.stands.honest)) (v.kept (w.honest.0 saved.stands.honest))

@@ -1,0 +1,24 @@
+//! What the promises of saves say together.
+ghost use Rattle.std.specs.Prelude.{◌≡◌, ◌⊎◌};
+ghost use Rattle.file_store.specs.Folders.{Folder};
+ghost use Rattle.file_store.specs.Moments.{LeavesOnly};
+ghost use Rattle.repostore.specs.Files.{Files, HasFiles, HasEither};
+
+use file_store::Store;
+
+/// What is opened after a stop in a save are the files from before it or those behind it, and nothing
+/// else.
+pub fn a_stop_is_opened_as_old_or_new()
+    ensures { (old new found : Files) (f : Folder) → HasEither old new f → HasFiles found f
+        → (found ≡ old) ⊎ (found ≡ new) }
+{}
+
+/// A stop in one of two saves, the one behind the other, leaves the files from before the first, from
+/// between them or from behind the second.
+pub fn runs_of_saves_join<S: Store>()
+    ensures { (start mid end : S) (before between behind : Files)
+        → LeavesOnly S.moment S.left_since start mid (HasEither before between)
+        → LeavesOnly S.moment S.left_since mid end (HasEither between behind)
+        → LeavesOnly S.moment S.left_since start end
+        (λ f. HasEither before between f ⊎ HasEither between behind f) }
+{}

@@ -1,0 +1,217 @@
+//! Changes saved to files.
+ghost use Rattle.std.specs.Prelude.{◌≡◌, ◌⊎◌, ◌<◌, ◌≤◌, ◌+◌, ◌↔◌, true, false, Some, length, OnOk, IsErr, IsErrOf};
+ghost use Rattle.file_store.specs.Moments.{LeavesOnly, HasRisen, HasCause};
+ghost use Rattle.repostore.specs.Current.{count_in};
+ghost use Rattle.repostore.specs.Files.{Files, with_revision, with_locks, with_properties, HasFiles, HasEither};
+ghost use Rattle.repostore.specs.Saving.{IsSaved, Going, Replaces, IsWritten, IsUnchanged, HasNext};
+
+use file_store::{FileName, Store, StoreFault};
+
+/// The files of a repository that are saved: how many revisions they have, and whether a replacement has
+/// failed, since when nothing is written any more.
+#[derive(Drop)]
+pub struct Saves<S: Store> {
+    pub(crate) store: S,
+    pub(crate) count: u32,
+    pub(crate) is_halted: bool,
+}
+
+impl<S: Store> Saves<S> {
+    /// Saves a revision: its file and that of its properties, and then `current`, with which it is
+    /// there.
+    pub fn save_commit(
+        &mut self,
+        revision: &[u8],
+        properties: &[u8],
+        current: &[u8],
+    ) -> Result<(), StoreFault>
+        ensures saved { (files : Files)
+            → IsSaved S.is_honest S.holds S.may_leave self.old files
+            → count_in current.now ≡ Some (self.old.count + 1)
+            → OnOk result (IsSaved S.is_honest S.holds S.may_leave self.new
+            (with_revision files (revision.now, properties.now) current.now)) }
+        // A fault that does not halt leaves the files as they were.
+        ensures refused { (files : Files)
+            → IsSaved S.is_honest S.holds S.may_leave self.old files
+            → IsErr result → self.new.is_halted ≡ false
+            → IsSaved S.is_honest S.holds S.may_leave self.new files }
+        // A stop at any moment of the call leaves the files from before it, or those with the revision.
+        ensures any_moment { (files : Files)
+            → IsSaved S.is_honest S.holds S.may_leave self.old files
+            → count_in current.now ≡ Some (self.old.count + 1)
+            → LeavesOnly S.moment S.left_since self.old.store self.new.store
+            (HasEither files (with_revision files (revision.now, properties.now) current.now)) }
+        ensures honest { S.is_honest self.old.store ↔ S.is_honest self.new.store }
+        ensures halts { (self.new.is_halted ≡ true)
+            ↔ ((self.old.is_halted ≡ true)
+            ⊎ (S.in_doubt self.old.store < S.in_doubt self.new.store)) }
+        ensures by_device { self.new.is_halted ≡ true
+            → (self.old.is_halted ≡ true) ⊎ IsErrOf result StoreFault.Device }
+        ensures halted { IsErrOf result StoreFault.Halted ↔ (self.old.is_halted ≡ true) }
+        ensures stays { self.old.is_halted ≡ true → self.new ≡ self.old }
+        ensures device { IsErrOf result StoreFault.Device
+            → HasRisen (S.failed self.old.store) (S.failed self.new.store) }
+        ensures steady { (IsErrOf result StoreFault.Device → ⊥)
+            → S.failed self.new.store ≡ S.failed self.old.store }
+        ensures only { IsErr result → IsErrOf result StoreFault.Device
+            ⊎ IsErrOf result StoreFault.NoMemory ⊎ IsErrOf result StoreFault.Halted }
+    {
+        if self.is_halted {
+            return Err(StoreFault::Halted);
+        }
+        self.write_revision(revision, properties)?;
+        self.publish(FileName::Current, current)?;
+        self.count = self.count.saturating_add(1);
+        Ok(())
+    }
+
+    /// Writes the files of the next revision, which are not reached yet.
+    fn write_revision(&mut self, revision: &[u8], properties: &[u8]) -> Result<(), StoreFault>
+        ensures going { (files : Files)
+            → IsSaved S.is_honest S.holds S.may_leave self.old files
+            → Going S.is_honest S.holds S.may_leave S.moment S.left_since self.old.store
+            self.new.store (HasFiles files) (HasFiles files) }
+        ensures ok { (files : Files)
+            → IsSaved S.is_honest S.holds S.may_leave self.old files
+            → OnOk result (Going S.is_honest S.holds S.may_leave S.moment S.left_since
+            self.old.store self.new.store (HasFiles files)
+            (HasNext files self.old.count revision.now properties.now)) }
+        ensures honest { S.is_honest self.old.store ↔ S.is_honest self.new.store }
+        ensures count { self.new.count ≡ self.old.count }
+        ensures goes_on { self.new.is_halted ≡ self.old.is_halted }
+        ensures doubt { S.in_doubt self.new.store ≡ S.in_doubt self.old.store }
+        ensures cause { HasCause (S.failed self.old.store) (S.failed self.new.store) result }
+    {
+        let number = self.count;
+        self.store.write_new(FileName::Revision(number), revision)?;
+        self.store
+            .write_new(FileName::Properties(number), properties)
+    }
+
+    /// Replaces a file. Where the device fails, no save is made any more.
+    fn publish(&mut self, name: FileName, bytes: &[u8]) -> Result<(), StoreFault>
+        ensures replaces { S.is_honest self.old.store
+            → Replaces S.is_honest S.holds S.may_leave S.moment S.left_since name bytes.now
+            self.old.store self.new.store }
+        ensures ok { S.is_honest self.old.store
+            → OnOk result (IsWritten S.is_honest S.holds S.may_leave name bytes.now
+            self.new.store) }
+        ensures refused { S.is_honest self.old.store → IsErr result
+            → self.new.is_halted ≡ false
+            → IsUnchanged S.is_honest S.holds S.may_leave self.old.store self.new.store }
+        ensures count { self.new.count ≡ self.old.count }
+        ensures honest { S.is_honest self.old.store ↔ S.is_honest self.new.store }
+        ensures halts { (self.new.is_halted ≡ true)
+            ↔ ((self.old.is_halted ≡ true)
+            ⊎ (S.in_doubt self.old.store < S.in_doubt self.new.store)) }
+        ensures done { OnOk result (self.new.is_halted ≡ self.old.is_halted) }
+        ensures by_device { (self.new.is_halted ≡ true)
+            ↔ ((self.old.is_halted ≡ true) ⊎ IsErrOf result StoreFault.Device) }
+        ensures cause { HasCause (S.failed self.old.store) (S.failed self.new.store) result }
+    {
+        match self.store.replace(name, bytes) {
+            Ok(()) => Ok(()),
+            Err(fault) => Err(self.after_failure(fault)),
+        }
+    }
+
+    /// A replacement has failed by this.
+    fn after_failure(&mut self, fault: StoreFault) -> StoreFault
+        ensures same { result ≡ fault }
+        ensures store { self.new.store ≡ self.old.store }
+        ensures count { self.new.count ≡ self.old.count }
+        ensures honest { S.is_honest self.old.store ↔ S.is_honest self.new.store }
+        ensures halts { (self.new.is_halted ≡ true)
+            ↔ ((self.old.is_halted ≡ true) ⊎ (fault ≡ StoreFault.Device)) }
+    {
+        if let StoreFault::Device = fault {
+            self.is_halted = true;
+        }
+        fault
+    }
+
+    /// Saves the locks.
+    pub fn save_locks(&mut self, locks: &[u8]) -> Result<(), StoreFault>
+        ensures saved { (files : Files)
+            → IsSaved S.is_honest S.holds S.may_leave self.old files
+            → OnOk result (IsSaved S.is_honest S.holds S.may_leave self.new
+            (with_locks files locks.now)) }
+        ensures refused { (files : Files)
+            → IsSaved S.is_honest S.holds S.may_leave self.old files
+            → IsErr result → self.new.is_halted ≡ false
+            → IsSaved S.is_honest S.holds S.may_leave self.new files }
+        ensures any_moment { (files : Files)
+            → IsSaved S.is_honest S.holds S.may_leave self.old files
+            → LeavesOnly S.moment S.left_since self.old.store self.new.store
+            (HasEither files (with_locks files locks.now)) }
+        ensures honest { S.is_honest self.old.store ↔ S.is_honest self.new.store }
+        ensures halts { (self.new.is_halted ≡ true)
+            ↔ ((self.old.is_halted ≡ true)
+            ⊎ (S.in_doubt self.old.store < S.in_doubt self.new.store)) }
+        ensures by_device { (self.new.is_halted ≡ true)
+            ↔ ((self.old.is_halted ≡ true) ⊎ IsErrOf result StoreFault.Device) }
+        ensures halted { IsErrOf result StoreFault.Halted ↔ (self.old.is_halted ≡ true) }
+        ensures stays { self.old.is_halted ≡ true → self.new ≡ self.old }
+        ensures device { IsErrOf result StoreFault.Device
+            → HasRisen (S.failed self.old.store) (S.failed self.new.store) }
+        ensures steady { (IsErrOf result StoreFault.Device → ⊥)
+            → S.failed self.new.store ≡ S.failed self.old.store }
+        ensures only { IsErr result → IsErrOf result StoreFault.Device
+            ⊎ IsErrOf result StoreFault.NoMemory ⊎ IsErrOf result StoreFault.Halted }
+    {
+        if self.is_halted {
+            return Err(StoreFault::Halted);
+        }
+        self.publish(FileName::Locks, locks)
+    }
+
+    /// Saves the properties of a revision that is there.
+    pub fn save_rev_prop(&mut self, revision: u32, properties: &[u8]) -> Result<(), StoreFault>
+        ensures saved { (files : Files)
+            → IsSaved S.is_honest S.holds S.may_leave self.old files
+            → revision < self.old.count → OnOk result (IsSaved S.is_honest S.holds S.may_leave self.new
+            (with_properties files revision properties.now)) }
+        ensures refused { (files : Files)
+            → IsSaved S.is_honest S.holds S.may_leave self.old files
+            → IsErr result → self.new.is_halted ≡ false
+            → IsSaved S.is_honest S.holds S.may_leave self.new files }
+        ensures any_moment { (files : Files)
+            → IsSaved S.is_honest S.holds S.may_leave self.old files
+            → revision < self.old.count
+            → LeavesOnly S.moment S.left_since self.old.store self.new.store
+            (HasEither files (with_properties files revision properties.now)) }
+        ensures honest { S.is_honest self.old.store ↔ S.is_honest self.new.store }
+        ensures halts { (self.new.is_halted ≡ true)
+            ↔ ((self.old.is_halted ≡ true)
+            ⊎ (S.in_doubt self.old.store < S.in_doubt self.new.store)) }
+        ensures by_device { (self.new.is_halted ≡ true)
+            ↔ ((self.old.is_halted ≡ true) ⊎ IsErrOf result StoreFault.Device) }
+        ensures halted { IsErrOf result StoreFault.Halted ↔ (self.old.is_halted ≡ true) }
+        ensures stays { self.old.is_halted ≡ true → self.new ≡ self.old }
+        ensures device { IsErrOf result StoreFault.Device
+            → HasRisen (S.failed self.old.store) (S.failed self.new.store) }
+        ensures steady { (IsErrOf result StoreFault.Device → ⊥)
+            → S.failed self.new.store ≡ S.failed self.old.store }
+        ensures only { IsErr result → IsErrOf result StoreFault.Device
+            ⊎ IsErrOf result StoreFault.NoMemory ⊎ IsErrOf result StoreFault.Halted }
+    {
+        if self.is_halted {
+            return Err(StoreFault::Halted);
+        }
+        self.publish(FileName::Properties(revision), properties)
+    }
+
+    /// Whether a replacement has failed, so that nothing is written any more.
+    pub fn is_halted(&self) -> bool
+        ensures { result ≡ self.now.is_halted }
+    {
+        self.is_halted
+    }
+
+    /// The store as it is now.
+    pub fn store(&self) -> &S
+        ensures { result.now ≡ self.now.store }
+    {
+        &self.store
+    }
+}

@@ -1,0 +1,4 @@
+pub mod Seen
+pub mod Retained
+pub mod Written
+pub mod Noted

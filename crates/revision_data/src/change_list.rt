@@ -1,0 +1,62 @@
+//! The changes of a revision as one list.
+ghost use Rattle.std.specs.Prelude.{◌≡◌, IfOk};
+ghost use Rattle.std.specs.FinMap.{empty, entries, from_entries};
+
+use repo_api::Change;
+use std::alloc::{AllocError, Global};
+use std::collections::BTreeMap;
+use std::marker::Model;
+use svnpath::Path;
+
+/// The changes of a revision, in the order of their paths.
+#[derive(Drop)]
+pub struct ChangeList {
+    changes: Vec<(Path, Change)>,
+}
+
+impl Model for ChangeList {
+    ghost use Rattle.std.specs.Coded.{codes};
+    ghost use Rattle.std.specs.FinMap.{from_entries, code as map_code};
+    ghost use Rattle.std.specs.List.Sorted.{IsStrictlySortedBy};
+    ghost use Rattle.std.specs.Map.{keys_of};
+    ghost use Rattle.svnpath.specs.Paths.{path_cmp};
+    ghost use Rattle.repo_api.specs.States.{ChangeMap};
+
+    ghost Value = { ChangeMap };
+
+    ghost coded = { Prim.hlevel (map_code, codes) };
+
+    ghost view = { λ l. from_entries l.changes.items };
+
+    ghost invariant = { λ l. IsStrictlySortedBy path_cmp (keys_of l.changes.items) };
+}
+
+impl ChangeList {
+    /// Makes a list of no changes.
+    pub fn new(alloc: Global) -> Self
+        ensures { result ≡ empty }
+    {
+        ChangeList {
+            changes: Vec::new(alloc),
+        }
+    }
+
+    /// Makes a list of the changes of a map.
+    pub(crate) fn from_map(
+        alloc: Global,
+        changes: BTreeMap<Path, Change>,
+    ) -> Result<Self, AllocError>
+        ensures { IfOk result (λ list. list ≡ from_entries changes.entries) }
+    {
+        Ok(ChangeList {
+            changes: changes.into_iter().collect::<Vec<_>>(alloc)?,
+        })
+    }
+
+    /// Shows the changes in the order of their paths.
+    pub fn as_slice(&self) -> &[(Path, Change)]
+        ensures { result.now ≡ entries self.now }
+    {
+        self.changes.as_slice()
+    }
+}

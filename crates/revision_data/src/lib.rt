@@ -1,0 +1,19 @@
+//! What a revision has beside its tree: its changes, noted edit by edit while its transaction is open, and its
+//! properties; and what is judged by the number of the youngest revision alone.
+#![tactic(auto)]
+
+mod change_list;
+mod changes;
+mod dating;
+mod judging;
+mod noting;
+mod path_map;
+mod properties;
+mod txn_changes;
+
+pub use change_list::ChangeList;
+pub use dating::date_of;
+pub use judging::{current_refusal, property_refusal};
+pub use path_map::put;
+pub use properties::{changed_property, opening_properties, revision_properties};
+pub use txn_changes::{Note, TxnChanges};

@@ -1,0 +1,5 @@
+mod Ordered
+mod InParts
+mod Copies
+mod Maps
+mod Places

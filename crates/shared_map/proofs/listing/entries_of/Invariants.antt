@@ -1,0 +1,7 @@
+use Rattle.std.proofs.Common.{◌≡◌, take, map}
+use Rattle.std.specs.Map.Iter.{deref}
+use Rattle.shared_map.specs.Entries.{all_entries}
+use Rattle.shared_map.proofs.listing.entries_of.Given as goal
+
+abbrev pub invariant-loop-part : goal.invariant-loop-part
+invariant-loop-part g l = map deref l.list.items ≡ all_entries (take l.part-index l.parts)

@@ -1,0 +1,97 @@
+//! The map as a whole.
+ghost use Rattle.std.specs.Prelude.{◌≡◌, map, IfOk, OnOk, OnErr, option_copied};
+ghost use Rattle.std.specs.FinMap.{empty, get, insert, remove, entries, keys};
+ghost use Rattle.std.specs.List.Sorted.{IsStrictlySortedBy};
+ghost use Rattle.std.specs.Map.Iter.{deref};
+ghost use Rattle.shared_map.specs.Entries.{by_bytes};
+
+use crate::listing::{entries_of, names_of};
+use crate::parts::{Part, shared};
+use crate::putting::put_entry;
+use crate::removing::remove_entry;
+use crate::searching::find;
+use byte_string::ByteString;
+use std::alloc::{AllocError, Global};
+use std::marker::Model;
+use std::sync::Arc;
+
+/// A map from names, which go by their bytes. Its entries are in parts of up to 128, which copies
+/// share: a change copies the parts that it is in, if they are shared, and no other.
+#[derive(Drop)]
+pub struct SharedMap<V: Drop> {
+    parts: Vec<Arc<Part<V>>>,
+}
+
+impl<V: Drop> Model for SharedMap<V> {
+    ghost use Rattle.std.specs.Coded.{coded_ℕ, coded_list};
+    ghost use Rattle.std.specs.FinMap.{FinMap, code, from_sorted};
+    ghost use Rattle.shared_map.specs.Entries.{by_bytes, all_entries, AreParts};
+
+    ghost Value = { FinMap by_bytes V };
+
+    ghost coded = { code (coded_list coded_ℕ) V.code };
+
+    ghost view = { λ m. from_sorted {R = by_bytes} (all_entries m.parts.items) };
+
+    ghost invariant = { λ m. AreParts m.parts.items };
+}
+
+impl<V: Drop> SharedMap<V> {
+    /// No entries.
+    pub fn new(alloc: Global) -> Self
+        ensures { result ≡ empty }
+    {
+        SharedMap {
+            parts: Vec::new(alloc),
+        }
+    }
+
+    /// The value at the name.
+    pub fn get(&self, name: &ByteString) -> Option<&V>
+        ensures { option_copied result ≡ get self.now name.now }
+    {
+        find(&self.parts, name)
+    }
+
+    /// Puts the value at the name, in place of another one there. Copies stay as they are.
+    pub fn put(&mut self, alloc: Global, name: ByteString, value: V) -> Result<(), AllocError>
+        ensures ok { OnOk result (self.new ≡ insert self.old name value) }
+        ensures err { OnErr result (self.new ≡ self.old) }
+    {
+        let entry = Arc::new(alloc, (name, value))?;
+        put_entry(&mut self.parts, alloc, entry)
+    }
+
+    /// Takes the value at the name out, if there is one. Copies stay as they are.
+    pub fn remove(&mut self, name: &ByteString) -> Result<(), AllocError>
+        ensures ok { OnOk result (self.new ≡ remove self.old name.now) }
+        ensures err { OnErr result (self.new ≡ self.old) }
+    {
+        remove_entry(&mut self.parts, name)
+    }
+
+    /// A copy, which shares the parts.
+    pub fn share(&self, alloc: Global) -> Result<Self, AllocError>
+        ensures { IfOk result (λ copy. copy ≡ self.now) }
+    {
+        Ok(SharedMap {
+            parts: shared(alloc, &self.parts)?,
+        })
+    }
+
+    /// The entries, in the order of their names.
+    pub fn entries(&self, alloc: Global) -> Result<Vec<&(ByteString, V)>, AllocError>
+        ensures entries { IfOk result (λ list. map deref list.items ≡ entries self.now) }
+        ensures ordered { IsStrictlySortedBy by_bytes (keys self.now) }
+    {
+        entries_of(alloc, &self.parts)
+    }
+
+    /// The names, by their bytes.
+    pub fn names(&self, alloc: Global) -> Result<Vec<&ByteString>, AllocError>
+        ensures names { IfOk result (λ list. map deref list.items ≡ keys self.now) }
+        ensures ordered { IsStrictlySortedBy by_bytes (keys self.now) }
+    {
+        names_of(alloc, &self.parts)
+    }
+}

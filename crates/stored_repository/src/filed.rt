@@ -1,0 +1,121 @@
+//! A repository that can be written to files.
+ghost use Rattle.std.specs.Prelude.{◌≡◌, ◌+◌, ◌<◌, Option, Some, None, length, IfOk, OnOk, option_copied};
+ghost use Rattle.repo_api.specs.States.{RepoState, IsBeginning, tree_of};
+ghost use Rattle.repo_api.specs.Transactions.{IsMarkedTxn};
+ghost use Rattle.repo_api.specs.Trees.{IsTree};
+ghost use Rattle.repo_api.specs.Commits.{commit_refusal, committed};
+ghost use Rattle.repo_api.specs.Accepted.{IfRefused, IsOfMemory};
+ghost use Rattle.repo_api.specs.Locking.{lock_refusal, locked, unlock_refusal, unlocked, without_released};
+ghost use Rattle.repo_api.specs.RevisionProperties.{property_refusal, with_changed_property};
+ghost use Rattle.repostore.specs.Current.{count_in};
+ghost use Rattle.repostore.specs.Files.{Files, with_revision, with_locks, with_properties};
+
+use byte_string::ByteString;
+use repo_api::{ChangeFault, CommitAsk, LockAsk, LockTokens, Repository, UnlockAsk};
+
+/// A new revision: its number and its files, and `current` once it is there.
+#[derive(Drop)]
+pub struct NewRevision {
+    pub number: u64,
+    pub revision: Vec<u8>,
+    pub properties: Vec<u8>,
+    pub current: Vec<u8>,
+}
+
+/// New properties of a revision: its number, and the file of its properties.
+#[derive(Drop)]
+pub struct NewProperties {
+    pub revision: u32,
+    pub file: Vec<u8>,
+}
+
+/// A repository that is never changed once it is made: a change gives the repository behind it, and what
+/// its files are then.
+pub trait Filed: Repository {
+    /// What files stand for, if for anything.
+    ghost state_in: { Files → Option RepoState };
+
+    /// The repository is that of these files.
+    ghost is_of: { Self → Files → Type 0 };
+
+    /// The repository with the next revision.
+    fn committed(
+        &self,
+        ask: &CommitAsk,
+        txn: &Self::Txn,
+    ) -> Result<(Self, NewRevision), ChangeFault>
+        requires rests { IsBeginning (Self.txn_state txn.now).shown
+            (Self.content self.now).revisions }
+        requires tree { IsTree (tree_of (Self.txn_state txn.now).tree) }
+        requires marked { IsMarkedTxn (Self.txn_state txn.now) }
+        ensures accepted { OnOk result (commit_refusal (Self.content self.now) ask.now
+            (Self.txn_state txn.now) ≡ None) }
+        ensures ok { IfOk result (λ made. Self.content made.0
+            ≡ committed (Self.content self.now) ask.now (Self.txn_state txn.now)) }
+        ensures number { IfOk result (λ made. made.1.number
+            ≡ length (Self.content self.now).revisions) }
+        ensures files { IfOk result (λ made. (files : Files) → is_of self.now files
+            → (is_of made.0 (with_revision files (made.1.revision.items, made.1.properties.items)
+            made.1.current.items))
+            × (count_in made.1.current.items ≡ Some (length files.revisions + 1))) }
+        ensures refused { IfRefused result (λ r. commit_refusal (Self.content self.now) ask.now
+            (Self.txn_state txn.now) ≡ Some r) }
+        ensures memory { IsOfMemory result };
+
+    /// The repository with the lock, and the file of its locks.
+    fn locked(&self, ask: &LockAsk) -> Result<(Self, Vec<u8>), ChangeFault>
+        ensures accepted { OnOk result (lock_refusal (Self.content self.now) ask.now ≡ None) }
+        ensures ok { IfOk result (λ made. Self.content made.0
+            ≡ locked (Self.content self.now) ask.now) }
+        ensures files { IfOk result (λ made. (files : Files) → is_of self.now files
+            → is_of made.0 (with_locks files made.1.items)) }
+        ensures refused { IfRefused result (λ r. lock_refusal (Self.content self.now) ask.now
+            ≡ Some r) }
+        ensures memory { IsOfMemory result };
+
+    /// The repository without the lock, and the file of its locks.
+    fn unlocked(&self, ask: &UnlockAsk) -> Result<(Self, Vec<u8>), ChangeFault>
+        ensures accepted { OnOk result (unlock_refusal (Self.content self.now) ask.now ≡ None) }
+        ensures ok { IfOk result (λ made. Self.content made.0
+            ≡ unlocked (Self.content self.now) ask.now) }
+        ensures files { IfOk result (λ made. (files : Files) → is_of self.now files
+            → is_of made.0 (with_locks files made.1.items)) }
+        ensures refused { IfRefused result (λ r. unlock_refusal (Self.content self.now) ask.now
+            ≡ Some r) }
+        ensures memory { IsOfMemory result };
+
+    /// The repository without the locks that are the user's and were handed in, and the file of its locks.
+    fn released(
+        &self,
+        user: Option<&ByteString>,
+        tokens: &LockTokens,
+    ) -> Result<(Self, Vec<u8>), ChangeFault>
+        ensures ok { IfOk result (λ made. Self.content made.0
+            ≡ without_released (Self.content self.now) (option_copied user.entry) tokens.now) }
+        ensures files { IfOk result (λ made. (files : Files) → is_of self.now files
+            → is_of made.0 (with_locks files made.1.items)) };
+
+    /// The repository with a property of a revision changed, and the file of the revision's properties.
+    fn property_changed(
+        &self,
+        revision: u64,
+        name: &ByteString,
+        value: Option<&ByteString>,
+    ) -> Result<(Self, NewProperties), ChangeFault>
+        ensures accepted { OnOk result (property_refusal (Self.content self.now) revision name.now
+            ≡ None) }
+        ensures ok { IfOk result (λ made. Self.content made.0
+            ≡ with_changed_property (Self.content self.now) revision name.now
+            (option_copied value.entry)) }
+        ensures number { IfOk result (λ made. made.1.revision ≡ revision) }
+        ensures files { IfOk result (λ made. (files : Files) → is_of self.now files
+            → (is_of made.0 (with_properties files revision made.1.file.items))
+            × (revision < length files.revisions)) }
+        ensures refused { IfRefused result (λ r. property_refusal (Self.content self.now) revision
+            name.now ≡ Some r) }
+        ensures memory { IsOfMemory result };
+
+    /// Files stand for what their repository contains.
+    ghost is_state: { (r : Self) (files : Files) → is_of r files
+        → state_in files ≡ Some (Self.content r) };
+}

@@ -1,0 +1,16 @@
+//! A repository in files, as a session reaches it: each change is saved before it is made.
+#![tactic(auto)]
+
+mod change;
+mod changing;
+mod filed;
+mod laws;
+mod opening;
+mod settling;
+mod stored;
+
+pub use change::SavedChange;
+pub use filed::{Filed, NewProperties, NewRevision};
+pub use laws::a_stop_is_opened_as_before_or_after;
+pub use opening::{Loader, open_repository};
+pub use stored::StoredRepository;

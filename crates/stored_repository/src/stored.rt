@@ -1,0 +1,49 @@
+//! A repository in files that one hub alone has.
+ghost use Rattle.std.specs.Prelude.{◌≡◌, false};
+ghost use Rattle.file_store.specs.Folders.{Folder};
+ghost use Rattle.stored_repository.specs.Keeping.{Keeps, StandsFor};
+
+use crate::change::SavedChange;
+use crate::filed::Filed;
+use file_store::Store;
+use repostore::Saves;
+
+/// A repository in files that one hub alone has: each change is saved, and then made. Where a save
+/// fails, nothing is changed; where nobody knows whether a file was replaced, no change is made any more.
+#[derive(Drop)]
+pub struct StoredRepository<F: Filed, S: Store> {
+    pub(crate) repository: F,
+    pub(crate) saves: Saves<S>,
+    /// The change that was being saved when changes came to a halt.
+    pub(crate) pending: Option<SavedChange<F::Txn>>,
+    ghost kept: { ∥ Keeps S.is_honest S.holds S.may_leave F.is_of saves repository ∥₁ },
+}
+
+impl<F: Filed, S: Store> StoredRepository<F, S> {
+    /// The access to a repository and its files.
+    pub fn new(repository: F, saves: Saves<S>) -> Self
+        requires { ∥ Keeps S.is_honest S.holds S.may_leave F.is_of saves repository ∥₁ }
+        ensures repository { result.repository ≡ repository }
+        ensures saves { result.saves ≡ saves }
+    {
+        StoredRepository {
+            repository,
+            saves,
+            pending: None,
+        }
+    }
+
+    /// The store of the files. While changes are made, what it reads stands for what the repository contains, and
+    /// so does what a stop leaves now.
+    pub fn store(&self) -> &S
+        ensures store { result.now ≡ self.now.saves.store }
+        ensures holds { S.is_honest self.now.saves.store → self.now.saves.is_halted ≡ false
+            → ∥ StandsFor F.state_in (F.content self.now.repository)
+            (S.holds self.now.saves.store) ∥₁ }
+        ensures leaves { S.is_honest self.now.saves.store → self.now.saves.is_halted ≡ false
+            → (f : Folder) → S.may_leave self.now.saves.store f
+            → ∥ StandsFor F.state_in (F.content self.now.repository) f ∥₁ }
+    {
+        self.saves.store()
+    }
+}

@@ -1,0 +1,125 @@
+use Rattle.std.proofs.Common.{◌≡◌, ◌<◌, length, refl, sym, ap, subst, ◌∙◌}
+use Rattle.std.proofs.Math.Logic.{∥∥₁_map₂}
+use Rattle.std.specs.Prelude.{Option}
+use Rattle.svnpath.specs.Paths.{PathValue}
+use Rattle.repo_api.specs.Edits.{edited}
+use Rattle.repo_api.specs.RightEdits.{IsRightEdit}
+use Rattle.repo_api.specs.States.{trees_in}
+use Rattle.noderevs.specs.Held.{node_at, root_at}
+use Rattle.noderevs.specs.declared.node_rev.NodeId.{NodeId}
+use Rattle.txntree.specs.Whole.{txn_tree, IsSound}
+use Rattle.held.specs.Contents.{revisions_of}
+use Rattle.held.specs.Maps.{IsMapOf}
+use Rattle.held.specs.declared.held.Held.{Held}
+use Rattle.world.specs.Open.{IsOpen}
+use Rattle.world.specs.Whole.{txn_map, txn_state_of}
+use Rattle.world.proofs.Lists.{still_within}
+use Rattle.world.proofs.Mapping.{on_err, state_stays, txn_map_is, txn_sound}
+use Rattle.world.proofs.Opening.{edited_open, edited_txn}
+use Rattle.world.proofs.editing.edit_there.Goals as goal
+
+pub edit_parts-requires : goal.edit_parts-requires
+edit_parts-requires c =
+    let old = c.args.txn.now in
+    let h = c.args.held.now.value in
+    let tree = c.in_ok-tree.tree in
+    let was : IsMapOf (txn_tree h.nodes tree) (txn_map old) = λ q. txn_map_is old q
+    ∙ sym (sym (ap (λ (x : Held). txn_tree x.nodes tree q) c.deref.ensures)
+    ∙ c.in_ok-tree.ensures.tree q
+    ∙ ap (λ (y : Held). txn_tree y.nodes old.tree q) c.deref-2.ensures) in
+    subst (λ (x : Held). IsRightEdit (trees_in (revisions_of x)) (txn_tree x.nodes tree)
+    c.args.op.now) (sym c.deref-3.ensures)
+    (subst (λ s. IsRightEdit (trees_in (revisions_of h)) s c.args.op.now) (λ i q. was q i)
+    c.requires.right)
+
+pub invariant_of-txn-2 : goal.invariant_of-txn-2
+invariant_of-txn-2 c =
+    let old = c.args.txn.now in
+    let h = c.args.held.now.value in
+    let tree = c.in_ok-tree.tree in
+    let new = c.edit_parts.new.tree in
+    let e : c.in_ok-shown.shown.value ≡ h = c.in_ok-shown.ensures in
+    let was : IsMapOf (txn_tree h.nodes tree) (txn_map old) = λ q. txn_map_is old q
+    ∙ sym (sym (ap (λ (x : Held). txn_tree x.nodes tree q) c.deref.ensures)
+    ∙ c.in_ok-tree.ensures.tree q
+    ∙ ap (λ (y : Held). txn_tree y.nodes old.tree q) c.deref-2.ensures) in
+    let made : (q : PathValue) → txn_tree h.nodes new q
+    ≡ edited (trees_in (revisions_of h)) (txn_tree h.nodes tree) c.args.op.now q =
+    subst (λ (x : Held). (q : PathValue) → txn_tree x.nodes new q
+    ≡ edited (trees_in (revisions_of x)) (txn_tree x.nodes tree) c.args.op.now q)
+    c.deref-3.ensures c.in_ok-edit_parts.ensures.tree in
+    let stands : (root : Option NodeId) → IsSound (node_at h.nodes) root tree
+    → IsSound (node_at h.nodes) root new =
+    subst (λ (x : Held). (root : Option NodeId) → IsSound (node_at x.nodes) root tree
+    → IsSound (node_at x.nodes) root new) c.deref-3.ensures c.edit_parts.ensures.standing in
+    let stood : IsSound (node_at h.nodes) (root_at h.nodes old.base) tree =
+    subst (λ (x : Held). IsSound (node_at x.nodes) (root_at x.nodes old.base) tree)
+    c.deref.ensures c.in_ok-tree.ensures.sound in
+    record {
+      within = subst (λ (x : Held). old.base < length (revisions_of x)) (sym e)
+          (still_within (revisions_of old.shown.value) (revisions_of h) c.requires.rests
+          old.base old.within);
+      standing = subst (λ (x : Held). IsSound (node_at x.nodes) (root_at x.nodes old.base) new)
+          (sym e) (stands (root_at h.nodes old.base) stood);
+      sound = ∥∥₁_map₂ c.requires.sound (txn_sound old) (λ s t.
+          subst (λ (x : Held). IsOpen x old.base new c.edit_parts.new.changes) (sym e)
+          (edited_open h (txn_state_of old) (txn_tree h.nodes tree) new
+          c.edit_parts.new.changes c.args.op.now was made
+          c.in_ok-edit_parts.ensures.changes s.revisions c.requires.rests
+          c.requires.right t));
+    }
+
+pub returns-in_err-tree-clause-err : goal.returns-in_err-tree-clause-err
+returns-in_err-tree-clause-err c =
+    let old = c.args.txn.now in
+    on_err c.from_residual-in_err-tree.result _
+    (state_stays old (record {
+      shown = old.shown;
+      base = old.base;
+      tree = old.tree;
+      changes = old.changes;
+      within = c.in_err-tree.txn-1-own.given.0;
+      standing = c.in_err-tree.txn-1-own.given.1.0;
+      sound = c.in_err-tree.txn-1-own.given.1.1.0;
+    }) refl refl (λ q. refl) refl)
+
+pub returns-in_err-edit_parts-clause-err : goal.returns-in_err-edit_parts-clause-err
+returns-in_err-edit_parts-clause-err c =
+    let old = c.args.txn.now in
+    on_err c.from_residual-in_err-edit_parts.result _
+    (state_stays old (record {
+      shown = old.shown;
+      base = old.base;
+      tree = old.tree;
+      changes = c.edit_parts.new.changes;
+      within = c.in_err-edit_parts.txn-in-Break-branch-3-1-own.given.0;
+      standing = c.in_err-edit_parts.txn-in-Break-branch-3-1-own.given.1.0;
+      sound = c.in_err-edit_parts.txn-in-Break-branch-3-1-own.given.1.1.0;
+    }) refl refl (λ q. refl) c.in_err-edit_parts.ensures.changes_stay)
+
+pub returns-clause-ok : goal.returns-clause-ok
+returns-clause-ok c =
+    let old = c.args.txn.now in
+    let h = c.args.held.now.value in
+    let tree = c.in_ok-tree.tree in
+    let new = c.edit_parts.new.tree in
+    let was : IsMapOf (txn_tree h.nodes tree) (txn_map old) = λ q. txn_map_is old q
+    ∙ sym (sym (ap (λ (x : Held). txn_tree x.nodes tree q) c.deref.ensures)
+    ∙ c.in_ok-tree.ensures.tree q
+    ∙ ap (λ (y : Held). txn_tree y.nodes old.tree q) c.deref-2.ensures) in
+    let made : (q : PathValue) → txn_tree h.nodes new q
+    ≡ edited (trees_in (revisions_of h)) (txn_tree h.nodes tree) c.args.op.now q =
+    subst (λ (x : Held). (q : PathValue) → txn_tree x.nodes new q
+    ≡ edited (trees_in (revisions_of x)) (txn_tree x.nodes tree) c.args.op.now q)
+    c.deref-3.ensures c.in_ok-edit_parts.ensures.tree in
+    edited_txn h (txn_state_of old) (txn_tree h.nodes tree) new c.edit_parts.new.changes
+    c.args.op.now was made c.in_ok-edit_parts.ensures.changes
+    (record {
+      shown = c.in_ok-shown.shown;
+      base = old.base;
+      tree = new;
+      changes = c.edit_parts.new.changes;
+      within = c.txn-2-1.given.0;
+      standing = c.txn-2-1.given.1.0;
+      sound = c.txn-2-1.given.1.1.0;
+    }) c.in_ok-shown.ensures refl refl refl

@@ -1,0 +1,46 @@
+use Rattle.std.proofs.Common.{◌≡◌, length, sym, ap, subst, ◌∙◌}
+use Rattle.std.proofs.Math.Logic.{∥∥₁_map}
+use Rattle.std.specs.Prelude.{OnOk}
+use Rattle.repo_api.specs.RightEdits.{IsRightEdit}
+use Rattle.repo_api.specs.States.{IsEdited, tree_of, trees_in}
+use Rattle.held.specs.Contents.{held_state, revisions_of}
+use Rattle.held.specs.declared.held.Held.{Held}
+use Rattle.world.specs.Whole.{txn_map, txn_state_of}
+use Rattle.world.proofs.Keeping.{same_revisions}
+use Rattle.world.proofs.Lists.{as_many}
+use Rattle.world.proofs.editing.edit_txn.Goals as goal
+
+pub edit_here-requires-clause-sound : goal.edit_here-requires-clause-sound
+edit_here-requires-clause-sound c =
+    let old = revisions_of c.args.txn.now.shown.value in
+    let new = revisions_of c.args.held.now.value in
+    let many : length old ≡ length new =
+    sym (c.count.ensures ∙ ap (λ (h : Held). length (revisions_of h)) c.deref.ensures)
+    ∙ c.if-count.true
+    ∙ c.count-2.ensures ∙ ap (λ (h : Held). length (revisions_of h)) c.deref-2.ensures in
+    ∥∥₁_map c.requires.sound (λ s.
+    same_revisions (held_state c.args.held.now.value) (held_state c.args.txn.now.shown.value)
+    (as_many old new c.requires.rests many) s)
+
+pub edit_here-requires-clause-right : goal.edit_here-requires-clause-right
+edit_here-requires-clause-right c =
+    let old = revisions_of c.args.txn.now.shown.value in
+    let new = revisions_of c.args.held.now.value in
+    let many : length old ≡ length new =
+    sym (c.count.ensures ∙ ap (λ (h : Held). length (revisions_of h)) c.deref.ensures)
+    ∙ c.if-count.true
+    ∙ c.count-2.ensures ∙ ap (λ (h : Held). length (revisions_of h)) c.deref-2.ensures in
+    subst (λ rs. IsRightEdit (trees_in rs) (tree_of (txn_map c.args.txn.now)) c.args.op.now)
+    (sym (as_many old new c.requires.rests many)) c.requires.right
+
+pub returns-then-count-clause-ok : goal.returns-then-count-clause-ok
+returns-then-count-clause-ok c =
+    let old = revisions_of c.args.txn.now.shown.value in
+    let new = revisions_of c.args.held.now.value in
+    let many : length old ≡ length new =
+    sym (c.count.ensures ∙ ap (λ (h : Held). length (revisions_of h)) c.deref.ensures)
+    ∙ c.if-count.true
+    ∙ c.count-2.ensures ∙ ap (λ (h : Held). length (revisions_of h)) c.deref-2.ensures in
+    subst (λ rs. OnOk c.edit_here.result (IsEdited rs (txn_state_of c.args.txn.now) c.args.op.now
+    (txn_state_of c.edit_here.new.txn)))
+    (as_many old new c.requires.rests many) c.edit_here.ensures.ok

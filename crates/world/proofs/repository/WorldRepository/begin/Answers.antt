@@ -1,0 +1,65 @@
+use Rattle.std.proofs.Common.{◌≡◌, ◌<◌, length, refl, sym, ap, subst, ◌∙◌}
+use Rattle.std.proofs.Math.Logic.{∥∥₁_map}
+use Rattle.svnpath.specs.Paths.{PathValue}
+use Rattle.repo_api.specs.Edits.{begun}
+use Rattle.repo_api.specs.States.{youngest}
+use Rattle.noderevs.specs.Held.{node_at, root_at, trees_of}
+use Rattle.txntree.specs.Whole.{txn_tree, IsSound}
+use Rattle.held.specs.Contents.{held_state, revisions_of}
+use Rattle.held.specs.declared.held.Held.{Held}
+use Rattle.world.specs.Open.{IsOpen}
+use Rattle.world.proofs.Opening.{begun_open, begun_txn}
+use Rattle.world.proofs.repository.WorldRepository.begin.Goals as goal
+
+pub invariant_of-result : goal.invariant_of-result
+invariant_of-result c =
+    let h = c.args.self.now.held.value in
+    let base = c.youngest.result in
+    let tree = c.in_ok-tree.tree in
+    let e : c.in_ok-try_clone.field-0.value ≡ h = c.in_ok-try_clone.ensures in
+    let last : base ≡ youngest (held_state h) =
+    c.youngest.ensures.is ∙ ap (λ (x : Held). youngest (held_state x)) c.deref-2.ensures in
+    let is : (q : PathValue) → txn_tree h.nodes tree q
+    ≡ begun (trees_of h.nodes (youngest (held_state h))) q =
+    subst (λ (x : Held). (q : PathValue) → txn_tree x.nodes tree q
+    ≡ begun (trees_of x.nodes (youngest (held_state x))) q)
+    c.deref.ensures c.in_ok-tree.ensures.tree in
+    let stands : IsSound (node_at h.nodes) (root_at h.nodes base) tree =
+    subst (λ n. IsSound (node_at h.nodes) (root_at h.nodes n) tree) (sym last)
+    (subst (λ (x : Held). IsSound (node_at x.nodes)
+    (root_at x.nodes (youngest (held_state x))) tree)
+    c.deref.ensures c.in_ok-tree.ensures.sound) in
+    record {
+      within = subst (λ (x : Held). base < length (revisions_of x))
+          (c.deref-2.ensures ∙ sym e) c.youngest.ensures.within;
+      standing = subst (λ (x : Held). IsSound (node_at x.nodes) (root_at x.nodes base) tree)
+          (sym e) stands;
+      sound = ∥∥₁_map c.args.self.now.sound (λ s.
+          subst (λ (x : Held). IsOpen x base tree c.new.result) (sym e)
+          (begun_open h base tree c.new.result last is c.new.ensures
+          c.beginnings_are_trees.ensures s));
+    }
+
+pub returns : goal.returns
+returns c =
+    let h = c.args.self.now.held.value in
+    let base = c.youngest.result in
+    let tree = c.in_ok-tree.tree in
+    let e : c.in_ok-try_clone.field-0.value ≡ h = c.in_ok-try_clone.ensures in
+    let last : base ≡ youngest (held_state h) =
+    c.youngest.ensures.is ∙ ap (λ (x : Held). youngest (held_state x)) c.deref-2.ensures in
+    let is : (q : PathValue) → txn_tree h.nodes tree q
+    ≡ begun (trees_of h.nodes (youngest (held_state h))) q =
+    subst (λ (x : Held). (q : PathValue) → txn_tree x.nodes tree q
+    ≡ begun (trees_of x.nodes (youngest (held_state x))) q)
+    c.deref.ensures c.in_ok-tree.ensures.tree in
+    begun_txn h base tree c.new.result last is c.new.ensures c.args.self.now.locks.value
+    (record {
+      shown = c.in_ok-try_clone.field-0;
+      base = base;
+      tree = tree;
+      changes = c.new.result;
+      within = c.result-2-1.given.0;
+      standing = c.result-2-1.given.1.0;
+      sound = c.result-2-1.given.1.1.0;
+    }) e refl refl refl

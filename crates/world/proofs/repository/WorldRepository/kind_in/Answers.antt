@@ -1,0 +1,13 @@
+use Rattle.std.proofs.Common.{◌≡◌, sym, ap, ◌∙◌}
+use Rattle.repo_api.specs.Kinds.{kind_of}
+use Rattle.txntree.specs.Whole.{txn_tree}
+use Rattle.held.specs.declared.held.Held.{Held}
+use Rattle.world.proofs.Mapping.{txn_map_is}
+use Rattle.world.proofs.repository.WorldRepository.kind_in.Goals as goal
+
+pub returns : goal.returns
+returns c =
+    let txn = c.args.txn.now in
+    c.kind_in.ensures
+    ∙ ap (λ (h : Held). kind_of (txn_tree h.nodes txn.tree c.args.path.now)) c.deref.ensures
+    ∙ ap kind_of (sym (txn_map_is txn c.args.path.now))

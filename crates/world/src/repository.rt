@@ -1,0 +1,231 @@
+//! The repository and its transactions.
+ghost use Rattle.std.specs.Prelude.{◌≡◌, ◌≤◌, List, ℕ, IfOk, OnOk, OnErr};
+ghost use Rattle.dates.specs.Dates.{IsDateText};
+ghost use Rattle.dates.specs.declared.TheConstants.{LAST_MOMENT};
+ghost use Rattle.repo_api.specs.Kinds.{kind_at, created_at};
+ghost use Rattle.repo_api.specs.Locking.{with_lock};
+ghost use Rattle.repo_api.specs.Opening.{new_repository};
+ghost use Rattle.repo_api.specs.RevisionProperties.{with_changed_property};
+ghost use Rattle.repo_api.specs.States.{youngest};
+ghost use Rattle.held.specs.Contents.{held_state};
+ghost use Rattle.world.specs.Whole.{world_content};
+
+use crate::committing::with_commit;
+use crate::editing::edit_txn;
+use crate::world::World;
+use crate::world_txn::WorldTxn;
+use byte_string::ByteString;
+use held::Held;
+use history::{repositories_stay_sound, transactions_stay_sound};
+use pathlocks::{Locks, lock_shared, put_shared, release_shared, unlock_shared};
+use repo_api::{
+    Change, ChangeFault, CommitAsk, EditOp, FileText, Lock, LockAsk, LockTokens, NodeKind,
+    Properties, Repository, UnlockAsk,
+};
+use revision_data::{TxnChanges, current_refusal, date_of, property_refusal};
+use std::alloc::{AllocError, Global};
+use std::sync::Arc;
+use svnpath::Path;
+
+impl World {
+    /// An empty repository: revision 0, whose date is the moment's, a count of microseconds since the
+    /// beginning of 1970.
+    pub fn new(alloc: Global, uuid: u128, moment: u64) -> Result<Self, AllocError>
+        requires { moment ≤ LAST_MOMENT }
+        ensures { IfOk result (λ w. (date : List ℕ) × IsDateText moment date
+            × (world_content w ≡ new_repository uuid date)) }
+    {
+        repositories_stay_sound();
+        let date = date_of(alloc, moment)?;
+        let held = Held::opened(alloc, uuid, date)?;
+        Ok(World {
+            alloc,
+            held: Arc::new(alloc, held)?,
+            locks: Arc::new(alloc, Locks::new(alloc))?,
+        })
+    }
+
+    /// Puts a lock at a path, over what stood there, and whatever refuses a lock: for a repository in
+    /// which locks stand that nobody asked for here.
+    pub fn put_lock(&mut self, path: Path, lock: Lock) -> Result<(), AllocError>
+        ensures ok { OnOk result (world_content self.new
+            ≡ with_lock (world_content self.old) path lock) }
+        ensures err { OnErr result (world_content self.new ≡ world_content self.old) }
+    {
+        put_shared(&mut self.locks, path, lock)
+    }
+}
+
+impl Repository for World {
+    ghost use Rattle.world.specs.Whole.{world_content, txn_state_of};
+
+    type Txn = WorldTxn;
+
+    ghost content = { world_content };
+
+    ghost txn_state = { txn_state_of };
+
+    fn share(&self) -> Result<Self, AllocError> {
+        Ok(World {
+            alloc: self.alloc,
+            held: Arc::try_clone(&self.held)?,
+            locks: Arc::try_clone(&self.locks)?,
+        })
+    }
+
+    fn uuid(&self) -> u128 {
+        self.held.uuid()
+    }
+
+    fn youngest(&self) -> u64 {
+        self.held.youngest()
+    }
+
+    fn kind(&self, revision: u64, path: &Path) -> NodeKind {
+        self.held.kind(revision, path)
+    }
+
+    fn has_deeper(&self, revision: u64, path: &Path, names: usize) -> bool {
+        self.held.has_deeper(revision, path, names)
+    }
+
+    fn created(&self, revision: u64, path: &Path) -> Option<u64> {
+        self.held.created(revision, path)
+    }
+
+    fn properties(&self, revision: u64, path: &Path) -> Option<&Properties> {
+        self.held.node_properties(revision, path)
+    }
+
+    fn text(&self, revision: u64, path: &Path) -> Option<&FileText> {
+        self.held.text(revision, path)
+    }
+
+    fn names(&self, revision: u64, path: &Path) -> Result<Vec<&ByteString>, AllocError> {
+        self.held.names(self.alloc, revision, path)
+    }
+
+    fn is_same(&self, revision: u64, path: &Path, other: u64, other_path: &Path) -> bool {
+        self.held.is_same(revision, path, other, other_path)
+    }
+
+    fn changes(&self, revision: u64) -> &[(Path, Change)] {
+        self.held.changes(revision)
+    }
+
+    fn settled(&self, revision: u64, path: &Path) -> u64 {
+        self.held.settled(revision, path)
+    }
+
+    fn revision_properties(&self, revision: u64) -> Option<&Properties> {
+        self.held.properties(revision)
+    }
+
+    fn lock_at(&self, path: &Path) -> Option<&Lock> {
+        self.locks.get(path)
+    }
+
+    fn locks_under(&self, path: &Path) -> Result<Vec<(&Path, &Lock)>, AllocError> {
+        self.locks.at_or_under(self.alloc, path)
+    }
+
+    fn releases(&self, user: Option<&ByteString>, tokens: &LockTokens) -> bool {
+        self.locks.releases(user, tokens.as_slice())
+    }
+
+    fn kind_in(&self, txn: &WorldTxn, path: &Path) -> NodeKind {
+        txn.shown.kind_in(&txn.tree, path)
+    }
+
+    fn created_in(&self, txn: &WorldTxn, path: &Path) -> Option<u64> {
+        txn.shown.created_in(&txn.tree, path)
+    }
+
+    fn text_in<'a>(&'a self, txn: &'a WorldTxn, path: &Path) -> Option<&'a FileText> {
+        txn.shown.text_in(&txn.tree, path)
+    }
+
+    fn begin(&self) -> Result<WorldTxn, AllocError> {
+        transactions_stay_sound();
+        repo_api::beginnings_are_trees();
+        let tree = self.held.begun(self.alloc)?;
+        Ok(WorldTxn {
+            shown: Arc::try_clone(&self.held)?,
+            base: self.held.youngest(),
+            tree,
+            changes: TxnChanges::new(self.alloc),
+        })
+    }
+
+    fn edit(&self, txn: &mut WorldTxn, op: EditOp) -> Result<(), AllocError> {
+        edit_txn(self.alloc, &self.held, txn, &op)
+    }
+
+    fn commit(&mut self, ask: CommitAsk, txn: WorldTxn) -> Result<u64, ChangeFault> {
+        let number = self.held.count();
+        self.held = with_commit(self.alloc, &self.held, &self.locks, ask, txn)?;
+        Ok(number)
+    }
+
+    fn lock(&mut self, ask: LockAsk) -> Result<(), ChangeFault> {
+        if let Some(refusal) = current_refusal(self.held.youngest(), ask.current) {
+            std::mem::drop(ask);
+            return Err(ChangeFault::Refused(refusal));
+        }
+        let (kind, created) = standing(&self.held, &ask.path);
+        lock_shared(self.alloc, &mut self.locks, kind, created, ask)
+    }
+
+    fn unlock(&mut self, ask: &UnlockAsk) -> Result<(), ChangeFault> {
+        unlock_shared(&mut self.locks, ask)
+    }
+
+    fn change_property(
+        &mut self,
+        revision: u64,
+        name: ByteString,
+        value: Option<ByteString>,
+    ) -> Result<(), ChangeFault> {
+        if let Some(refusal) = property_refusal(self.held.youngest(), revision, &name) {
+            std::mem::drop((name, value));
+            return Err(ChangeFault::Refused(refusal));
+        }
+        self.held = with_property(self.alloc, &self.held, revision, name, value)?;
+        Ok(())
+    }
+
+    fn release(
+        &mut self,
+        user: Option<&ByteString>,
+        tokens: &LockTokens,
+    ) -> Result<(), ChangeFault> {
+        release_shared(self.alloc, &mut self.locks, user, tokens)?;
+        Ok(())
+    }
+}
+
+/// What stands at the path in the youngest revision, and the revision of its last change.
+fn standing(held: &Held, path: &Path) -> (NodeKind, Option<u64>)
+    ensures kind { result.0
+        ≡ kind_at (held_state held.now) (youngest (held_state held.now)) path.now }
+    ensures created { result.1
+        ≡ created_at (held_state held.now) (youngest (held_state held.now)) path.now }
+{
+    let youngest = held.youngest();
+    (held.kind(youngest, path), held.created(youngest, path))
+}
+
+/// What is held after a change of a property of a revision. What was shared before stays as it was.
+fn with_property(
+    alloc: Global,
+    held: &Held,
+    revision: u64,
+    name: ByteString,
+    value: Option<ByteString>,
+) -> Result<Arc<Held>, AllocError>
+    ensures { IfOk result (λ h. held_state h.value
+        ≡ with_changed_property (held_state held.now) revision name value) }
+{
+    let changed = held.with_property(alloc, revision, name, value)?;
+    Ok(Arc::new(alloc, changed)?)
+}

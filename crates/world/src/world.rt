@@ -1,0 +1,18 @@
+//! What a repository over node revisions has.
+ghost use Rattle.history.specs.Sound.{IsSoundRepo};
+ghost use Rattle.held.specs.Contents.{held_state};
+
+use held::Held;
+use pathlocks::Locks;
+use std::alloc::Global;
+use std::sync::Arc;
+
+/// A repository over node revisions, which is sound. A commit makes another value of what is held, and a
+/// change of locks that are shared copies them, so that what was shared before stays as it was.
+#[derive(Drop)]
+pub struct World {
+    pub(crate) alloc: Global,
+    pub(crate) held: Arc<Held>,
+    pub(crate) locks: Arc<Locks>,
+    ghost sound: { ∥ IsSoundRepo (held_state held.value) ∥₁ },
+}
