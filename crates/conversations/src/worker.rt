@@ -112,20 +112,20 @@ impl<'w, A: RepoAccess + Drop, E: EnvSource + Drop, G: Gate> Worker<'w, A, E, G>
         ensures served { OnOk result ((phase : _) × (rest : _)
             × Converses A.rules self.old.options.now E.gives
             (sight (A.point self.old.access) (I.remaining input.old) (O.contents output.old)
-                self.old.envs) phase rest
+            self.old.envs) phase rest
             (sight (A.point self.new.access) (I.remaining input.new) (O.contents output.new)
-                self.new.envs)
+            self.new.envs)
             × (is_open phase ≡ true → IsAtEnd (I.remaining input.new))) }
         ensures read { IfRead result (Hears A.rules self.old.options.now E.gives
             (sight (A.point self.old.access) (I.remaining input.old) (O.contents output.old)
-                self.old.envs)
+            self.old.envs)
             (sight (A.point self.new.access) (I.remaining input.new) (O.contents output.new)
-                self.new.envs)) }
+            self.new.envs)) }
         ensures lost { IfLost result (Breaks A.rules self.old.options.now E.gives
             (sight (A.point self.old.access) (I.remaining input.old) (O.contents output.old)
-                self.old.envs)
+            self.old.envs)
             (sight (A.point self.new.access) (I.remaining input.new) (O.contents output.new)
-                self.new.envs)) }
+            self.new.envs)) }
     {
         let mut session = Session::new(self.alloc);
         let mut buffer = [0; PIECE];
@@ -156,19 +156,19 @@ impl<'w, A: RepoAccess + Drop, E: EnvSource + Drop, G: Gate> Worker<'w, A, E, G>
         ensures sound { AreSound (content_of (A.point self.new.access)).revisions }
         ensures served { OnOk result (Serves A.rules self.old.options.now E.gives
             (sight (A.point self.old.access) (I.remaining input.old) (O.contents output.old)
-                self.old.envs)
+            self.old.envs)
             (sight (A.point self.new.access) (I.remaining input.new) (O.contents output.new)
-                self.new.envs)) }
+            self.new.envs)) }
         ensures answered { IfRead result (Answers A.rules self.old.options.now E.gives
             (sight (A.point self.old.access) (I.remaining input.old) (O.contents output.old)
-                self.old.envs)
+            self.old.envs)
             (sight (A.point self.new.access) (I.remaining input.new) (O.contents output.new)
-                self.new.envs)) }
+            self.new.envs)) }
         ensures stopped { IfLost result (Stops A.rules self.old.options.now E.gives
             (sight (A.point self.old.access) (I.remaining input.old) (O.contents output.old)
-                self.old.envs)
+            self.old.envs)
             (sight (A.point self.new.access) (I.remaining input.new) (O.contents output.new)
-                self.new.envs)) }
+            self.new.envs)) }
     {
         let out = greeting(self.alloc)?;
         write_now(output, out.as_slice()).map_err(TalkFault::Write)?;

@@ -30,6 +30,6 @@ representation_of text = do
   length ← decimal_of (2 ^ 64 - 1) length
   size ← decimal_of (2 ^ 64 - 1) size
   (if size == length
-    then (digest_of digest >>= λ digest.
-    Some (record { revision = revision; offset = offset; length = length; digest = digest }))
-    else None)
+      then (digest_of digest >>= λ digest.
+      Some (record { revision = revision; offset = offset; length = length; digest = digest }))
+      else None)

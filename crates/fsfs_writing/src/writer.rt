@@ -38,11 +38,11 @@ pub fn write_node(
 ) -> Result<FileNode, AllocError>
     ensures { IfOk result (λ node.
         (node ≡ placed_node (length out.old.items) (option_copied text.entry)
-            (option_copied properties.entry) draft)
+        (option_copied properties.entry) draft)
         × (out.new.items ≡ out.old.items ++ piece_bytes (record {
-            text = option_copied text.entry;
-            properties = option_copied properties.entry;
-            node = node;
+          text = option_copied text.entry;
+          properties = option_copied properties.entry;
+          node = node;
         }))) }
 {
     let mut node = draft;

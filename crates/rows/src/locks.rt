@@ -41,11 +41,7 @@ fn put_lock<R: InMemory>(alloc: Global, repository: &mut R, path: &str) -> Resul
 }
 
 /// Puts so many locks at paths where nothing stands.
-fn put_locks<R: InMemory>(
-    alloc: Global,
-    repository: &mut R,
-    count: usize,
-) -> Result<(), Fail>
+fn put_locks<R: InMemory>(alloc: Global, repository: &mut R, count: usize) -> Result<(), Fail>
     ensures { (R.content repository.new).revisions ≡ (R.content repository.old).revisions }
 {
     for n in 0..count {

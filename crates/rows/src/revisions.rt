@@ -10,6 +10,7 @@ use txntree::{EditFault, OpenNode, TxnTree};
 
 /// How many directories stand under the root, and how many files in each.
 const DIRECTORIES: u32 = 10;
+
 const FILES: u32 = 100;
 
 /// What an edit is answered, where nothing lacks.
@@ -76,7 +77,10 @@ fn planted(alloc: Global) -> Result<Nodes, Fail> {
         made(tree.root.add(alloc, &nodes, &path(alloc, &directory)?, Content::Directory))?;
         for f in 0..FILES {
             let file = path(alloc, &format!(in alloc; "/d{d}/f{f}")?)?;
-            made(tree.root.add(alloc, &nodes, &file, Content::File(FileText::empty())))?;
+            made(
+                tree.root
+                    .add(alloc, &nodes, &file, Content::File(FileText::empty())),
+            )?;
         }
     }
     committed(alloc, &nodes, &tree)
@@ -89,7 +93,10 @@ fn a_revision_adds_a_node_for_each_path_that_it_changes(rt: HostRuntime) -> Resu
     assert_eq!(rt; added(&nodes), 1_011);
     let mut tree = begun(alloc, &nodes)?;
     let file = path(alloc, "/d3/f7")?;
-    made(tree.root.set_text(alloc, &nodes, &file, text(alloc, b"text")?))?;
+    made(
+        tree.root
+            .set_text(alloc, &nodes, &file, text(alloc, b"text")?),
+    )?;
     let nodes = committed(alloc, &nodes, &tree)?;
     assert_eq!(rt; added(&nodes), 3);
     let mut tree = begun(alloc, &nodes)?;
@@ -97,7 +104,10 @@ fn a_revision_adds_a_node_for_each_path_that_it_changes(rt: HostRuntime) -> Resu
         ByteString::from_slice(alloc, b"p")?,
         ByteString::from_slice(alloc, b"v")?,
     );
-    made(tree.root.set_property(alloc, &nodes, &Path::root(alloc), name, value))?;
+    made(
+        tree.root
+            .set_property(alloc, &nodes, &Path::root(alloc), name, value),
+    )?;
     let nodes = committed(alloc, &nodes, &tree)?;
     assert_eq!(rt; added(&nodes), 1);
     let mut tree = begun(alloc, &nodes)?;

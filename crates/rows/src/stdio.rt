@@ -123,10 +123,7 @@ fn drip(bytes: &'static [u8], fails: bool) -> Dripping {
 }
 
 /// A hub of the repository `r`, where clients may change the properties of revisions or not.
-fn hub_of_r<R: InMemory>(
-    alloc: Global,
-    revprops: bool,
-) -> Result<Hub<SoleRepository<R>>, Fail> {
+fn hub_of_r<R: InMemory>(alloc: Global, revprops: bool) -> Result<Hub<SoleRepository<R>>, Fail> {
     let repository = R::empty(alloc, UUID, 0)?;
     let options = Options::new(alloc, "r")?;
     let options = if revprops {

@@ -48,9 +48,9 @@ loop-turn-preserved g c =
     let given = subst (λ e. g.E.EnvSource.gives c.loop-turn.self.envs c.next_env-env.result e) (sym c.answer_piece.ensures.envs) c.next_env-env.ensures in
     let y = c.loop-turn.session in
     let fed = subst (λ s. FeedWritten g.A.RepoAccess.rules s c.next_env-env.result (point c.loop-turn.self.access) y.phase
-        (y.rest ++ take c.in_ok-count.count buffer) c.answer_piece.new.session.rest (point c.answer_piece.new.self.access)
-        c.answer_piece.new.session.phase (Appends (contents c.loop-turn.output) (contents c.answer_piece.new.output)))
-        c.loop-turn.invariant.2 c.in_ok-answer_piece.ensures.ok in
+    (y.rest ++ take c.in_ok-count.count buffer) c.answer_piece.new.session.rest (point c.answer_piece.new.self.access)
+    c.answer_piece.new.session.phase (Appends (contents c.loop-turn.output) (contents c.answer_piece.new.output)))
+    c.loop-turn.invariant.2 c.in_ok-answer_piece.ensures.ok in
     let some : 0 < length (take c.in_ok-count.count buffer) = omega (arith, bound.1, c.if-count-eq0.false) in
     let at_most : length (take c.in_ok-count.count buffer) ≤ 65536 = omega (arith, bound.0, bound.1, full) in (
       full,
