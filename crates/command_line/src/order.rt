@@ -1,10 +1,41 @@
 //! What the program is asked for.
 
-/// What the program is asked for.
+/// Where a repository is.
+#[derive(Debug, Drop)]
+pub enum Location {
+    /// In memory: it is empty, and gone with the program.
+    Memory,
+    /// In this folder.
+    Folder(String),
+}
+
+/// Sessions over TCP: the repository of this name, where to listen, the file of users, whether clients may change the
+/// properties of revisions, and whether nothing is told on standard error but a fault.
+#[derive(Debug, Drop)]
+pub struct Service {
+    pub location: Location,
+    pub listen: String,
+    pub name: String,
+    pub users: String,
+    pub revprops: bool,
+    pub quiet: bool,
+}
+
+/// What the program is asked for. Whether a repository may have the name, whether the address has its form and what
+/// stands in the file of users is not judged here.
 #[derive(Debug, Drop)]
 pub enum Order {
-    /// Serve one session over the standard streams, on an empty repository in memory of this name,
-    /// whose clients may change the properties of revisions or not. Whether a repository may have
-    /// the name is not judged here.
-    Stdio { name: String, revprops: bool },
+    /// Make an empty repository in this folder.
+    Create {
+        folder: String,
+    },
+    /// Serve one session over the standard streams, on the repository of this name, whose clients may change the
+    /// properties of revisions or not.
+    Stdio {
+        location: Location,
+        name: String,
+        revprops: bool,
+    },
+    /// Serve sessions over TCP.
+    Serve(Service),
 }

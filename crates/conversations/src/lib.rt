@@ -12,5 +12,6 @@ pub use envs::EnvSource;
 pub use fault::TalkFault;
 pub use gate::{Gate, OpenGate};
 pub use machine::Env;
-pub use sink::OutputSink;
+pub use pieces::read_piece;
+pub use sink::{OutputSink, PIECE, write_now};
 pub use worker::Worker;

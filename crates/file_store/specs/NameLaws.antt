@@ -5,7 +5,7 @@ use Rattle.std.proofs.lemmas.Bool.{cases_eq}
 use Rattle.std.proofs.lemmas.Bool.Decides.{eqb_tells}
 use Rattle.file_store.specs.Names.{kind_of, number_of, same_name}
 use Rattle.file_store.specs.declared.name.FileName.{FileName}
-use Rattle.file_store.specs.declared.name.FileName.TheVariants.{Format, Kind, Uuid, Current, Locks, Revision, Properties}
+use Rattle.file_store.specs.declared.name.FileName.TheVariants.{Format, Kind, Uuid, Current, Locks, Revision, Properties, RepositoryFormat}
 
 named : ℕ → ℕ → FileName
 named zero n = Format
@@ -14,7 +14,8 @@ named (suc (suc zero)) n = Uuid
 named (suc (suc (suc zero))) n = Current
 named (suc (suc (suc (suc zero)))) n = Locks
 named (suc (suc (suc (suc (suc zero))))) n = Revision n
-named (suc (suc (suc (suc (suc (suc k)))))) n = Properties n
+named (suc (suc (suc (suc (suc (suc zero)))))) n = Properties n
+named (suc (suc (suc (suc (suc (suc (suc k))))))) n = RepositoryFormat
 
 named_is : (a : FileName) → named (kind_of a) (number_of a) ≡ a
 unfolding named
@@ -25,6 +26,7 @@ named_is Current = refl
 named_is Locks = refl
 named_is (Revision n) = refl
 named_is (Properties n) = refl
+named_is RepositoryFormat = refl
 
 same_parts : (a b : FileName) → kind_of a ≡ kind_of b → number_of a ≡ number_of b → a ≡ b
 same_parts a b kind number = sym (named_is a) ∙ (λ i. named (kind i) (number i)) ∙ named_is b

@@ -1,7 +1,7 @@
 -- The names of the files of a repository.
 use Rattle.std.specs.Prelude.{ℕ, zero, suc, Bool, ◌==◌, ◌&&◌}
 use Rattle.file_store.specs.declared.name.FileName.{FileName}
-use Rattle.file_store.specs.declared.name.FileName.TheVariants.{Format, Kind, Uuid, Current, Locks, Revision, Properties}
+use Rattle.file_store.specs.declared.name.FileName.TheVariants.{Format, Kind, Uuid, Current, Locks, Revision, Properties, RepositoryFormat}
 
 -- which kind of file a name is of, and of which revision it is
 abbrev pub kind_of : FileName → ℕ
@@ -12,6 +12,7 @@ kind_of Current = 3
 kind_of Locks = 4
 kind_of (Revision n) = 5
 kind_of (Properties n) = 6
+kind_of RepositoryFormat = 7
 
 abbrev pub number_of : FileName → ℕ
 number_of Format = 0
@@ -21,6 +22,7 @@ number_of Current = 0
 number_of Locks = 0
 number_of (Revision n) = n
 number_of (Properties n) = n
+number_of RepositoryFormat = 0
 
 abbrev pub same_name : FileName → FileName → Bool
 same_name a b = (kind_of a == kind_of b) && (number_of a == number_of b)

@@ -17,6 +17,8 @@ pub enum FileName {
     Revision(u32),
     /// The properties of a revision.
     Properties(u32),
+    /// Which format the folder around the files is of, for other programs; it is not read.
+    RepositoryFormat,
 }
 
 impl FileName {
@@ -32,6 +34,7 @@ impl FileName {
             FileName::Locks => 4,
             FileName::Revision(_) => 5,
             FileName::Properties(_) => 6,
+            FileName::RepositoryFormat => 7,
         }
     }
 

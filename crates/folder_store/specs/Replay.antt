@@ -4,7 +4,7 @@ use Rattle.std.proofs.Common.{inl, inr, le_refl, arith}
 use Rattle.file_store.specs.Folders.{with_file}
 use Rattle.file_store.specs.Folders.{Folder, IsSame, Scribbled, Swapped}
 use Rattle.file_store.specs.Moments.{last_count}
-use Rattle.file_store.specs.declared.name.FileName.TheVariants.{Format, Kind, Uuid, Current, Locks, Revision, Properties}
+use Rattle.file_store.specs.declared.name.FileName.TheVariants.{Format, Kind, Uuid, Current, Locks, Revision, Properties, RepositoryFormat}
 use Rattle.file_store.specs.declared.name.FileName.{FileName}
 use Rattle.folder_store.specs.Note.{Event}
 
@@ -19,7 +19,8 @@ named (suc (suc zero)) n = Uuid
 named (suc (suc (suc zero))) n = Current
 named (suc (suc (suc (suc zero)))) n = Locks
 named (suc (suc (suc (suc (suc zero))))) n = Revision n
-named (suc (suc (suc (suc (suc (suc k)))))) n = Properties n
+named (suc (suc (suc (suc (suc (suc zero)))))) n = Properties n
+named (suc (suc (suc (suc (suc (suc (suc k))))))) n = RepositoryFormat
 
 abbrev pub name_of : Event → FileName
 name_of e = named e.1 e.2

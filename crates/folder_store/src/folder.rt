@@ -170,11 +170,12 @@ fn store_fault(trouble: Trouble) -> StoreFault
     }
 }
 
-/// The folder in which a file stands, beneath that of the store.
+/// The folder in which a file stands, from that of the store.
 fn folder_of(name: FileName) -> &'static str {
     match name {
         FileName::Revision(_) => "/revs",
         FileName::Properties(_) => "/revprops",
+        FileName::RepositoryFormat => "/..",
         _ => "",
     }
 }
@@ -197,6 +198,7 @@ fn file_path(alloc: Global, folder: &str, name: FileName) -> Result<String, Allo
         FileName::Locks => format!(in alloc; "{folder}/locks.dump"),
         FileName::Revision(number) => format!(in alloc; "{folder}/{number}"),
         FileName::Properties(number) => format!(in alloc; "{folder}/{number}"),
+        FileName::RepositoryFormat => format!(in alloc; "{folder}/format"),
     }
 }
 

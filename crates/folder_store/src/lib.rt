@@ -13,6 +13,7 @@ mod tests {
     use super::*;
     use file_store::{FileName, Store};
     use std::alloc::{AllocError, Global};
+    use std::fs;
     use std::test::Fail;
 
     /// Files that are written, replaced and read back, some in folders that are missing.
@@ -29,6 +30,11 @@ mod tests {
         assert!(rt; found.is_some_and(|bytes| bytes.as_slice() == b"1 2 1\n".as_slice()));
         let zero = store.read(alloc, FileName::Revision(0))?;
         assert!(rt; zero.is_some_and(|bytes| bytes.as_slice() == b"zero".as_slice()));
+        store.write_new(FileName::RepositoryFormat, b"5\n")?;
+        store.replace(FileName::Format, b"2\n")?;
+        let around = store.read(alloc, FileName::RepositoryFormat)?;
+        assert!(rt; around.is_some_and(|bytes| bytes.as_slice() == b"5\n".as_slice()));
+        assert!(rt; fs::read(&rt, "repo/format")?.as_slice() == b"5\n".as_slice());
         assert!(rt; store.failures() == 0);
         Ok(())
     }

@@ -8,10 +8,8 @@ use Rattle.fsfs_lines.specs.Reading.{or_bad}
 use Rattle.fsfs_lines.specs.Reading as reading
 use Rattle.fsfs_lines.specs.Splits.{split_once, line_at}
 use Rattle.fsfs_ids.specs.Maybe.{◌>>=◌}
-use Rattle.fsfs_ids.specs.Ids.{id_text, id_of}
 use Rattle.fsfs_ids.specs.Places.{place_text, place_of}
 use Rattle.fsfs_nodes.specs.Headers.{optional}
-use Rattle.fsfs_ids.specs.declared.id.FileId.{FileId}
 use Rattle.fsfs_ids.specs.declared.place.Place.{Place}
 use Rattle.fsfs_parts.specs.declared.change.FileAction.{FileAction}
 use Rattle.fsfs_parts.specs.declared.change.FileAction.TheVariants.{Add, Delete, Replace, Modify}
@@ -47,9 +45,9 @@ abbrev pub source_text : Option Place → List ℕ
 source_text None = 10 ∷ []
 source_text (Some place) = place_text place ++ 10 ∷ []
 
--- `<id> <action> `
+-- `<id> <action> `, whatever word the id is
 abbrev pub what_text : FileChange → List ℕ
-what_text change = id_text change.id ++ 32 ∷ (action_text change.action ++ 32 ∷ [])
+what_text change = change.id ++ 32 ∷ (action_text change.action ++ 32 ∷ [])
 
 -- `<text> <properties> `
 abbrev pub flags_text : FileChange → List ℕ
@@ -65,7 +63,7 @@ changes_bytes changes = flat_map change_bytes changes
 
 -- the first line of a change
 pub record ChangeFront : Type 0 where
-  pub id : FileId
+  pub id : List ℕ
   pub action : FileAction
   pub text : Bool
   pub properties : Bool
@@ -74,7 +72,7 @@ pub record ChangeFront : Type 0 where
 -- the same that the code has read
 abbrev pub change_front : ChangeLine → ChangeFront
 change_front line = record {
-  id = line.id;
+  id = line.id.now;
   action = line.action;
   text = line.text;
   properties = line.properties;
@@ -87,7 +85,6 @@ change_line line = do
   (action, rest) ← split_once 32 rest
   (text, rest) ← split_once 32 rest
   (properties, path) ← split_once 32 rest
-  id ← id_of id
   action ← action_of action
   text ← flag_of text
   properties ← flag_of properties
@@ -98,9 +95,9 @@ abbrev pub source_of : List ℕ → Result (Option Place) FileFault
 source_of [] = Ok None
 source_of (b ∷ line) = optional place_of (Some (b ∷ line))
 
-abbrev pub change_with : ChangeFront → List ℕ → Option Place → FileChange
-change_with front path source = record {
-  id = front.id;
+abbrev pub change_with : ChangeFront → List ℕ → List ℕ → Option Place → FileChange
+change_with front id path source = record {
+  id = id;
   action = front.action;
   text = front.text;
   properties = front.properties;
@@ -113,7 +110,7 @@ unfoldable pub change_of : List ℕ → Result (FileChange × List ℕ) FileFaul
 change_of bytes =
     reading.◌>>=◌ (line_at bytes) (λ first. reading.◌>>=◌ (or_bad (change_line first.0)) (λ front.
     reading.◌>>=◌ (line_at first.1) (λ second. reading.◌>>=◌ (source_of second.0) (λ source.
-    Ok (change_with front front.path source, second.1)))))
+    Ok (change_with front front.id front.path source, second.1)))))
 
 -- a change in front of others
 abbrev pub before : FileChange → Result (List FileChange) FileFault

@@ -1,5 +1,5 @@
 -- The last line of a revision file.
-use Rattle.std.specs.Prelude.{ℕ, ◌-◌, ◌^◌, List, [], ◌∷◌, ◌++◌, Option, Some, None, option_map, Result, Ok, Err}
+use Rattle.std.specs.Prelude.{ℕ, ◌-◌, ◌^◌, List, [], ◌∷◌, ◌++◌, Option, Some, None, Result, Err}
 use Rattle.fsfs_lines.specs.declared.fault.FileFault.{FileFault}
 use Rattle.fsfs_lines.specs.declared.fault.FileFault.TheVariants.{Truncated}
 use Rattle.fsfs_lines.specs.Reading.{or_bad}

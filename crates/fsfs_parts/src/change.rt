@@ -4,7 +4,7 @@ ghost use Rattle.fsfs_lines.specs.Reading.{Gives, Answers, or_bad};
 ghost use Rattle.fsfs_parts.specs.Changes.{action_text, action_of, flag_text, flag_of, source_text, what_text, flags_text, change_bytes, changes_bytes, change_line, source_of, change_front, change_with, change_of, changes_of};
 
 use byte_string::ByteString;
-use fsfs_ids::{FileId, Place, append_id, append_place, parse_id, parse_place};
+use fsfs_ids::{Place, append_place, parse_place};
 use fsfs_lines::{FileFault, line_at, split_once};
 use std::alloc::{AllocError, Global};
 
@@ -18,10 +18,11 @@ pub enum FileAction {
 }
 
 /// Says what was done at a path, whether the text and the properties were changed, and where it was
-/// copied from. The id is that of what stands there, or of what was deleted.
+/// copied from. The word in front is the id of what stands there, or of what was deleted; other
+/// servers leave the id there that it had in its transaction. No reader rests on it.
 #[derive(Debug, Drop)]
 pub struct FileChange {
-    pub id: FileId,
+    pub id: ByteString,
     pub action: FileAction,
     pub text: bool,
     pub properties: bool,
@@ -32,7 +33,7 @@ pub struct FileChange {
 /// Holds the parts of the first line of a change.
 #[derive(Clone, Copy)]
 struct ChangeLine<'a> {
-    id: FileId,
+    id: &'a [u8],
     action: FileAction,
     text: bool,
     properties: bool,
@@ -77,7 +78,7 @@ fn append_source(out: &mut Vec<u8>, source: &Option<Place>) -> Result<(), AllocE
 fn append_what(out: &mut Vec<u8>, change: &FileChange) -> Result<(), AllocError>
     ensures { OnOk result (out.new.items ≡ out.old.items ++ what_text change.now) }
 {
-    append_id(out, change.id)?;
+    out.extend_from_slice(change.id.as_slice())?;
     out.push(b' ')?;
     append_action(out, change.action)?;
     out.push(b' ')?;
@@ -157,7 +158,6 @@ fn parse_line(line: &[u8]) -> Option<ChangeLine<'_>>
     let (action, rest) = split_once(rest, b' ')?;
     let (text, rest) = split_once(rest, b' ')?;
     let (properties, path) = split_once(rest, b' ')?;
-    let id = parse_id(id)?;
     let action = parse_action(action)?;
     let text = parse_flag(text)?;
     let properties = parse_flag(properties)?;
@@ -194,16 +194,22 @@ fn read_change(alloc: Global, bytes: &[u8]) -> Result<(FileChange, &[u8]), FileF
     };
     let (line, rest) = line_at(rest)?;
     let source = read_source(alloc, line)?;
+    let id = ByteString::from_slice(alloc, front.id)?;
     let path = ByteString::from_slice(alloc, front.path)?;
-    Ok((change_with(front, path, source), rest))
+    Ok((change_with(front, id, path, source), rest))
 }
 
 /// Makes a change of these parts.
-fn change_with(front: ChangeLine<'_>, path: ByteString, source: Option<Place>) -> FileChange
-    ensures { result ≡ change_with (change_front front.entry) path source }
+fn change_with(
+    front: ChangeLine<'_>,
+    id: ByteString,
+    path: ByteString,
+    source: Option<Place>,
+) -> FileChange
+    ensures { result ≡ change_with (change_front front.entry) id path source }
 {
     FileChange {
-        id: front.id,
+        id,
         action: front.action,
         text: front.text,
         properties: front.properties,

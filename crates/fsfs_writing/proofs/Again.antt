@@ -13,11 +13,10 @@ use Rattle.fsfs_lines.specs.Splits.{split_once, split_last, line_at, line_of, is
 use Rattle.fsfs_lines.specs.Numerals.{numeral}
 use Rattle.fsfs_lines.proofs.Splits.{split_again, split_last_again, prefix_again, same_bytes}
 use Rattle.fsfs_lines.proofs.Numbers.{number_again}
-use Rattle.fsfs_ids.specs.Ids.{id_text, id_of}
 use Rattle.fsfs_ids.specs.Places.{place_text, place_of}
 use Rattle.fsfs_ids.specs.declared.representation.Representation.{Representation}
 use Rattle.fsfs_ids.specs.declared.place.Place.{Place}
-use Rattle.fsfs_ids.proofs.Again.{free-join, space_apart, feed_apart, decimal_free, id_free, id_again, place_free, place_again}
+use Rattle.fsfs_ids.proofs.Again.{free-join, decimal_free, place_free, place_again}
 use Rattle.fsfs_nodes.specs.declared.node.FileNode.{FileNode}
 use Rattle.fsfs_nodes.specs.Headers.{optional, there}
 use Rattle.fsfs_nodes.specs.Nodes.{node_bytes, node_at}
@@ -153,7 +152,7 @@ source_again (Some place) fits =
 
 -- the first line of a change
 abbrev first_line : FileChange → List ℕ
-first_line change = id_text change.id ++ 32 ∷ (action_text change.action ++ 32 ∷ (flag_text change.text ++ 32 ∷ (flag_text change.properties ++ 32 ∷ change.path)))
+first_line change = change.id ++ 32 ∷ (action_text change.action ++ 32 ∷ (flag_text change.text ++ 32 ∷ (flag_text change.properties ++ 32 ∷ change.path)))
 
 abbrev front_of : FileChange → ChangeFront
 front_of change = record { id = change.id; action = change.action; text = change.text; properties = change.properties; path = change.path }
@@ -165,11 +164,10 @@ line_again change fits =
     let t : List ℕ = flag_text change.text in
     let p : List ℕ = flag_text change.properties in
     rw (
-      split_again 32 (id_text change.id) (a ++ 32 ∷ (t ++ 32 ∷ (p ++ 32 ∷ change.path))) (id_free 32 change.id space_apart),
+      split_again 32 change.id (a ++ 32 ∷ (t ++ 32 ∷ (p ++ 32 ∷ change.path))) fits.word,
       split_again 32 a (t ++ 32 ∷ (p ++ 32 ∷ change.path)) (action_again change.action).1,
       split_again 32 t (p ++ 32 ∷ change.path) (flag_again change.text).1,
       split_again 32 p change.path (flag_again change.properties).1,
-      id_again change.id fits.id,
       (action_again change.action).0,
       (flag_again change.text).0,
       (flag_again change.properties).0,
@@ -177,7 +175,7 @@ line_again change fits =
 
 change-append : (change : FileChange) (rest : List ℕ) → change_bytes change ++ rest ≡ first_line change ++ 10 ∷ (source_line change.source ++ 10 ∷ rest)
 change-append change rest =
-    regroup (id_text change.id) (action_text change.action) (flag_text change.text) (flag_text change.properties) change.path (source_text change.source) rest
+    regroup change.id (action_text change.action) (flag_text change.text) (flag_text change.properties) change.path (source_text change.source) rest
     ∙ ap (λ (x : List ℕ). first_line change ++ 10 ∷ x) (ap (λ (x : List ℕ). x ++ rest) (source-line change.source) ∙ append_assoc (source_line change.source) (10 ∷ []) rest)
   where
     regroup : (i a t p path s rest : List ℕ) → ((i ++ 32 ∷ (a ++ 32 ∷ [])) ++ (t ++ 32 ∷ (p ++ 32 ∷ [])) ++ path ++ 10 ∷ s) ++ rest
@@ -192,7 +190,7 @@ change_again change rest fits =
     let t = flag_again change.text in
     let p = flag_again change.properties in
     let free : is_free 10 (first_line change) ≡ true =
-    free-join 10 32 (id_text change.id) _ refl (id_free 10 change.id feed_apart)
+    free-join 10 32 change.id _ refl fits.line
     (free-join 10 32 (action_text change.action) _ refl a.2
     (free-join 10 32 (flag_text change.text) _ refl t.2
     (free-join 10 32 (flag_text change.properties) change.path refl p.2 fits.path))) in

@@ -4,7 +4,6 @@ use Rattle.std.specs.List.{flat_map}
 use Rattle.fsfs_lines.specs.Splits.{is_free}
 use Rattle.fsfs_ids.specs.declared.id.FileId.{FileId}
 use Rattle.fsfs_ids.specs.declared.representation.Representation.{Representation}
-use Rattle.fsfs_ids.specs.Fits.{IdFits}
 use Rattle.fsfs_nodes.specs.declared.node.FileNode.{FileNode}
 use Rattle.fsfs_nodes.specs.Nodes.{node_bytes, node_at}
 use Rattle.fsfs_nodes.specs.Fits.{NodeFits, PlaceFits}
@@ -101,9 +100,10 @@ AreFound revision file [] = Unit {0}
 AreFound revision file (piece ∷ pieces) =
     IsFound revision file piece × AreFound revision file pieces
 
--- what a change can say
+-- what a change can say: its id has no space and no line feed, its path no line feed
 pub record ChangeFits (change : FileChange) : Type 0 where
-  pub id : IdFits change.id
+  pub word : is_free 32 change.id ≡ true
+  pub line : is_free 10 change.id ≡ true
   pub path : is_free 10 change.path ≡ true
   pub source : IfSome change.source PlaceFits
 

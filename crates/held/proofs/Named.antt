@@ -1,17 +1,15 @@
 -- The names of a directory's entries.
-use Rattle.std.proofs.Common.{◌≡◌, Bool, true, false, ◌||◌, cond, ℕ, List, [], ◌∷◌, ◌++◌, Option, Some, None, is_some, option_map, option_and_then, refl, sym, ap, ◌∙◌}
-use Rattle.std.specs.BTreeMap.{is_at}
+use Rattle.std.proofs.Common.{◌≡◌, true, false, ℕ, [], ◌∷◌, ◌++◌, Option, Some, None, is_some, option_map, option_and_then, refl, sym, ap, ◌∙◌}
 use Rattle.std.specs.Cmp.Lexicographic.{slice_cmp}
-use Rattle.std.specs.FinMap.{get}
+use Rattle.std.specs.FinMap.{get, keys, contains_key-keys}
 use Rattle.std.specs.List.{list_any}
 use Rattle.std.specs.List.Sorted.{IsStrictlySortedBy}
-use Rattle.std.specs.Map.{lookup, keys_of}
 use Rattle.std.specs.Ordering.{nat_cmp, is_eq}
 use Rattle.std.specs.Prelude.{slice_get}
 use Rattle.svnpath.specs.Paths.{PathValue, Component}
 use Rattle.repo_api.specs.Readings.{names_in}
 use Rattle.repo_api.specs.States.{tree_in}
-use Rattle.noderevs.specs.Nodes.{Look, kid_at, kid_of, IsThere}
+use Rattle.noderevs.specs.Nodes.{Look, Kids, kid_at, kid_named, kid_of, IsThere}
 use Rattle.noderevs.specs.Views.{find_id, shared_entry, entry_at, shared_tree}
 use Rattle.noderevs.specs.Held.{node_at, root_at}
 use Rattle.noderevs.specs.Soundness.{AreKidsThere}
@@ -27,17 +25,9 @@ unfolding IsStrictlySortedBy
 none_sorted = tt
 
 -- a name is among the keys where an entry has it
-among : {X : Type 0} (es : List (Component × X)) (n : Component)
-    → list_any (λ x. is_eq (slice_cmp nat_cmp n x)) (keys_of es)
-    ≡ is_some (lookup (is_at (slice_cmp nat_cmp n)) es)
-among [] n = refl
-among (e ∷ es) n = ap (λ b. is_eq (slice_cmp nat_cmp n e.0) || b) (among es n)
-    ∙ by e.1 (is_eq (slice_cmp nat_cmp n e.0)) (lookup (is_at (slice_cmp nat_cmp n)) es)
-  where
-    by : {Y : Type 0} (y : Y) (b : Bool) (o : Option Y)
-        → (b || is_some o) ≡ is_some (cond b (Some y) o)
-    by y true o = refl
-    by y false o = refl
+among : (kids : Kids) (n : Component)
+    → list_any (λ x. is_eq (slice_cmp nat_cmp n x)) (keys kids) ≡ is_some (kid_named kids n)
+among kids n = sym (contains_key-keys kids n)
 
 -- an entry that has an id is there
 there : (look : Look) (k : Option NodeId) → ((id : NodeId) → k ≡ Some id → IsThere look id)
@@ -77,11 +67,11 @@ seen_beneath h n p name =
 pub names_held : (h : Held) (n : ℕ) (p : PathValue) (node : NodeRev)
     → option_and_then (node_at h.nodes) (find_id (node_at h.nodes) p (root_at h.nodes n))
     ≡ Some node
-    → IsStrictlySortedBy (slice_cmp nat_cmp) (keys_of node.kids.entries)
-    → keys_of node.kids.entries ≡ names_in (tree_in (slice_get (revisions_of h) n)) p
+    → IsStrictlySortedBy (slice_cmp nat_cmp) (keys node.kids)
+    → keys node.kids ≡ names_in (tree_in (slice_get (revisions_of h) n)) p
 names_held h n p node is sorted =
-    names_are (tree_in (slice_get (revisions_of h) n)) p (keys_of node.kids.entries) sorted
-    (λ name. among node.kids.entries name
+    names_are (tree_in (slice_get (revisions_of h) n)) p (keys node.kids) sorted
+    (λ name. among node.kids name
     ∙ kids_seen (node_at h.nodes) h.nodes.kids
     (find_id (node_at h.nodes) p (root_at h.nodes n)) node is name ∙ seen_beneath h n p name)
 

@@ -11,7 +11,6 @@ ghost use Rattle.noderevs.specs.Views.{find_id};
 ghost use Rattle.held.specs.Contents.{revisions_of, held_state, tree_held};
 
 use crate::held::Held;
-use crate::naming::names_of;
 use byte_string::ByteString;
 use noderevs::NodeId;
 use repo_api::{Change, FileText, NodeKind, Properties};
@@ -110,10 +109,7 @@ impl Held {
             ≡ names_in (tree_in (slice_get (revisions_of self.now) revision)) path.now) }
     {
         match self.nodes.held(self.find(revision, path)) {
-            Some(node) => {
-                let names = names_of(alloc, node)?;
-                Ok(names)
-            }
+            Some(node) => node.kids.names(alloc),
             None => Ok(Vec::new(alloc)),
         }
     }

@@ -4,6 +4,7 @@ ghost use Rattle.repo_api.specs.States.{TreeMap};
 ghost use Rattle.noderevs.specs.Held.{node_at, count};
 ghost use Rattle.noderevs.specs.Soundness.{IsNext};
 ghost use Rattle.held.specs.Contents.{revisions_of, block_tree};
+ghost use Rattle.held.specs.Growing.{HasOneMore};
 ghost use Rattle.held.specs.Maps.{IsMapOf, Mapped};
 ghost use Rattle.held.specs.Placed.{IsPlacedBlock};
 
@@ -34,6 +35,7 @@ impl Held {
         ensures properties { IfOk result (λ h. h.properties
             ≡ self.now.properties ++ properties ∷ []) }
         ensures uuid { IfOk result (λ h. h.uuid ≡ self.now.uuid) }
+        ensures more { IfOk result (λ h. HasOneMore self.now h) }
     {
         let nodes = self.nodes.with_block(alloc, block)?;
         let changes = with_one_more(alloc, &self.changes, changes)?;

@@ -2,11 +2,11 @@
 #![tactic(auto)]
 
 mod committing;
+mod filing;
 mod finding;
 mod growing;
 mod held;
 mod laws;
-mod naming;
 mod opening;
 mod revising;
 mod sealing;

@@ -3,6 +3,7 @@ ghost use Rattle.std.specs.Prelude.{◌≡◌, IfOk, slice_get, slice_set};
 ghost use Rattle.repo_api.specs.Kinds.{or_empty};
 ghost use Rattle.repo_api.specs.RevisionProperties.{property_changed, with_changed_property};
 ghost use Rattle.held.specs.Contents.{held_state};
+ghost use Rattle.held.specs.Growing.{HasSame};
 
 use crate::held::Held;
 use byte_string::ByteString;
@@ -21,8 +22,9 @@ impl Held {
         name: ByteString,
         value: Option<ByteString>,
     ) -> Result<Held, AllocError>
-        ensures { IfOk result (λ h. held_state h
+        ensures ok { IfOk result (λ h. held_state h
             ≡ with_changed_property (held_state self.now) revision name value) }
+        ensures same { IfOk result (λ h. HasSame self.now h) }
     {
         let properties = with_changed(alloc, &self.properties, revision, name, value)?;
         let nodes = self.nodes.share()?;

@@ -2,6 +2,7 @@
 ghost use Rattle.std.specs.Prelude.{◌≡◌, ◌<◌, ◌++◌, ◌∷◌, [], length, IfOk};
 ghost use Rattle.repo_api.specs.States.{TreeMap};
 ghost use Rattle.held.specs.Contents.{revisions_of};
+ghost use Rattle.held.specs.Growing.{HasOneMore};
 ghost use Rattle.held.specs.Maps.{IsMapOf, Mapped};
 ghost use Rattle.held.specs.Sealed.{sealed_tree};
 
@@ -29,6 +30,7 @@ impl Held {
         ensures properties { IfOk result (λ h. h.properties
             ≡ self.now.properties ++ properties ∷ []) }
         ensures uuid { IfOk result (λ h. h.uuid ≡ self.now.uuid) }
+        ensures more { IfOk result (λ h. HasOneMore self.now h) }
     {
         let revision = self.count() as u32;
         let block = tree.seal(alloc, &self.nodes, revision)?;

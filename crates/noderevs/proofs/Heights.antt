@@ -2,11 +2,13 @@
 use Rattle.std.proofs.Common.{◌≡◌, ℕ, zero, suc, ◌<◌, ◌≤◌, ◌-◌, ◌+◌, Bool, true, false, cond, List, [], ◌∷◌, Option, Some, None, option_map, option_and_then, length, is_some, refl, sym, ap, subst, ◌∙◌, arith, rules, ◌⊎◌, inl, inr, ⊎_elim}
 use Rattle.std.proofs.lemmas.Bool.{false≢true, cases_lt}
 use Rattle.std.proofs.Math.Nat.{min-le_left, min-eq_left, min-eq_right}
-use Rattle.std.specs.BTreeMap.{BTreeMap, is_at}
+use Rattle.std.specs.BTreeMap.{is_at}
+use Rattle.std.specs.FinMap.{entries, get-entries}
+use Rattle.std.specs.FinMap.Entries.{find}
 use Rattle.std.specs.Cmp.Lexicographic.{slice_cmp, texts_ties}
 use Rattle.std.specs.List.{AllByRecursion}
 use Rattle.std.specs.List.Sorted.{IsStrictlySortedBy}
-use Rattle.std.specs.Map.{keys_of, lookup}
+use Rattle.std.specs.Map.{keys_of}
 use Rattle.std.specs.Ordering.{nat_cmp, is_eq}
 use Rattle.std.specs.Prelude.{ltb, IfSome, IsSomeAnd}
 use Rattle.std.specs.declared.cmp.Ordering.TheVariants.{Less}
@@ -14,7 +16,7 @@ use Rattle.svnpath.specs.Paths.{Component, PathValue, same_component}
 use Rattle.svnpath.specs.PathLaws.{same_component_is, same_component_refl}
 use Rattle.noderevs.specs.Beneath.{IsShallow}
 use Rattle.noderevs.specs.Heights.{higher, IsEnough, IsHeight, AreHigh}
-use Rattle.noderevs.specs.Nodes.{Look, kid_of, kid_named, IsThere}
+use Rattle.noderevs.specs.Nodes.{Look, Kids, kid_of, kid_named, IsThere}
 use Rattle.noderevs.specs.Soundness.{AreKidsThere}
 use Rattle.noderevs.specs.Views.{shared_entry, shared_tree}
 use Rattle.noderevs.specs.declared.node_rev.NodeId.{NodeId}
@@ -138,10 +140,10 @@ none_at look (Some id) there (name ∷ rest) =
 -- ---- how a height is found, entry by entry
 
 abbrev pub kid_among : List (Component × NodeId) → Component → Option NodeId
-kid_among kids n = lookup (is_at (slice_cmp nat_cmp n)) kids
+kid_among kids n = find (slice_cmp nat_cmp) n kids
 
 -- the height over the entries that are not left any more
-pub record IsRising (look : Look) (kids : BTreeMap Component NodeId) (height : ℕ)
+pub record IsRising (look : Look) (kids : Kids) (height : ℕ)
     (left : List (Component × NodeId)) : Type 0 where
   pub sorted : IsStrictlySortedBy (slice_cmp nat_cmp) (keys_of left)
   pub among : (n : Component) (k : NodeId) → kid_among left n ≡ Some k → kid_named kids n ≡ Some k
@@ -174,17 +176,17 @@ or_else d None = d
 or_else d (Some x) = x
 
 -- before the first entry
-pub rising_begins : (look : Look) (kids : BTreeMap Component NodeId) (left : List (Component × NodeId))
-    → left ≡ kids.entries → IsStrictlySortedBy (slice_cmp nat_cmp) (keys_of left) → IsRising look kids 0 left
+pub rising_begins : (look : Look) (kids : Kids) (left : List (Component × NodeId))
+    → left ≡ entries kids → IsStrictlySortedBy (slice_cmp nat_cmp) (keys_of left) → IsRising look kids 0 left
 rising_begins look kids left all sorted = record {
   sorted = sorted;
-  among = λ n k is. ap (λ es. kid_among es n) (sym all) ∙ is;
-  done = λ n k m is there. inl (ap (λ es. kid_among es n) all ∙ is);
+  among = λ n k is. get-entries kids n ∙ ap (λ es. kid_among es n) (sym all) ∙ is;
+  done = λ n k m is there. inl (ap (λ es. kid_among es n) all ∙ sym (get-entries kids n) ∙ is);
   least = λ n enough. omega arith;
 }
 
 -- one entry more
-pub rising_goes_on : (look : Look) (kids : BTreeMap Component NodeId) (old new : ℕ) (name : Component)
+pub rising_goes_on : (look : Look) (kids : Kids) (old new : ℕ) (name : Component)
     (kid : NodeId) (left : List (Component × NodeId)) → IsRising look kids old ((name, kid) ∷ left)
     → old ≤ new → IfSome (look kid) (λ m. higher m.height ≤ new)
     → (new ≡ old) ⊎ IsSomeAnd (look kid) (λ m. new ≡ higher m.height) → IsRising look kids new left
@@ -227,7 +229,7 @@ rising_goes_on look kids old new name kid left so more over one = record {
     least n enough (inr h) = this n enough (look kid) refl h
 
 -- after the last
-pub rising_ends : (look : Look) (kids : BTreeMap Component NodeId) (height : ℕ) (left : List (Component × NodeId))
+pub rising_ends : (look : Look) (kids : Kids) (height : ℕ) (left : List (Component × NodeId))
     → left ≡ [] → IsRising look kids height left → IsHeight look kids height
 rising_ends look kids height left end so = record {
   enough = λ n k m is there. by n k m (so.done n k m is there);

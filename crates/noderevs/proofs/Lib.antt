@@ -1,5 +1,6 @@
 pub mod Finding
 pub mod Pushing
+pub mod Empty
 pub mod FirstBlock
 pub mod Names
 pub mod Heights

@@ -1,6 +1,6 @@
 -- What stands beneath a path.
 use Rattle.std.specs.Prelude.{◌≡◌, ◌<◌, ◌++◌, ℕ, List, [], Option, Some, None, length}
-use Rattle.std.specs.Map.{keys_of}
+use Rattle.std.specs.FinMap.{keys}
 use Rattle.svnpath.specs.Paths.{Component, PathValue}
 use Rattle.repo_api.specs.Trees.{Tree}
 use Rattle.noderevs.specs.declared.node_rev.NodeRev.{NodeRev}
@@ -12,4 +12,4 @@ IsShallow t path names = (rest : PathValue) → names < length rest → t (path 
 -- the names of a directory's entries, by their bytes
 abbrev pub kid_names : Option NodeRev → List Component
 kid_names None = []
-kid_names (Some node) = keys_of node.kids.entries
+kid_names (Some node) = keys node.kids

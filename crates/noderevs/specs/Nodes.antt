@@ -1,9 +1,8 @@
 -- Node revisions: which node an id names, and which entries a directory has.
 use Rattle.std.specs.Prelude.{◌≡◌, ◌==◌, ℕ, false, List, Option, Some, None, option_and_then}
 use Rattle.std.specs.Prelude.{option_map, slice_get, IsSome, IfSome, if◌then◌else◌}
-use Rattle.std.specs.BTreeMap.{BTreeMap, get}
-use Rattle.std.specs.Cmp.Lexicographic.{slice_cmp}
-use Rattle.std.specs.Ordering.{nat_cmp}
+use Rattle.std.specs.FinMap.{FinMap, get}
+use Rattle.shared_map.specs.Entries.{by_bytes}
 use Rattle.svnpath.specs.Paths.{Component}
 use Rattle.repo_api.specs.declared.entry.Mark.{Mark}
 use Rattle.repo_api.specs.declared.entry.Mark.TheVariants as mark
@@ -25,8 +24,12 @@ node_in blocks id =
 abbrev pub root_in : List Block → ℕ → Option NodeId
 root_in blocks n = option_map (λ b. b.root) (slice_get blocks n)
 
-abbrev pub kid_named : BTreeMap Component NodeId → Component → Option NodeId
-kid_named kids name = get (slice_cmp nat_cmp) kids name
+-- the ids of a directory's entries, by their names
+abbrev pub Kids : Type 0
+Kids = FinMap by_bytes NodeId
+
+abbrev pub kid_named : Kids → Component → Option NodeId
+kid_named kids name = get kids name
 
 abbrev pub kid_of : Component → NodeRev → Option NodeId
 kid_of name node = kid_named node.kids name

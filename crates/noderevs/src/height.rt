@@ -1,5 +1,5 @@
 //! How many names lie beneath a node.
-ghost use Rattle.std.specs.Prelude.{◌≡◌, ◌<◌, ◌≤◌, ◌⊎◌, false, IfSome, IsSomeAnd, option_copied};
+ghost use Rattle.std.specs.Prelude.{◌≡◌, ◌<◌, ◌≤◌, ◌⊎◌, false, IfOk, IfSome, IsSomeAnd, option_copied};
 ghost use Rattle.noderevs.specs.Beneath.{IsShallow};
 ghost use Rattle.noderevs.specs.Heights.{higher, IsHeight};
 ghost use Rattle.noderevs.specs.Held.{node_at};
@@ -8,8 +8,8 @@ ghost use Rattle.noderevs.specs.Views.{shared_tree};
 
 use crate::node_rev::{NodeId, NodeRev};
 use crate::nodes::Nodes;
-use byte_string::ByteString;
-use std::collections::BTreeMap;
+use shared_map::SharedMap;
+use std::alloc::{AllocError, Global};
 use svnpath::Path;
 
 impl Nodes {
@@ -17,17 +17,19 @@ impl Nodes {
     /// being made.
     pub fn height_over(
         &self,
+        alloc: Global,
         rev: u32,
         block: &[NodeRev],
-        kids: &BTreeMap<ByteString, NodeId>,
-    ) -> u32
-        ensures { IsHeight (with_block (node_at self.now) rev block.now) kids.now result }
+        kids: &SharedMap<NodeId>,
+    ) -> Result<u32, AllocError>
+        ensures { IfOk result (IsHeight (with_block (node_at self.now) rev block.now) kids.now) }
     {
         let mut height = 0;
-        for (name, kid) in kids {
-            height = raised(height, self.node_beside(rev, block, *kid));
+        let entries = kids.entries(alloc)?;
+        for entry in &entries {
+            height = raised(height, self.node_beside(rev, block, entry.1));
         }
-        height
+        Ok(height)
     }
 
     /// The node of an id, which is there or in the block of a revision that is being made.

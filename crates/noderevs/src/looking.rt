@@ -10,8 +10,8 @@ use crate::node_rev::{Block, NodeId, NodeRev};
 use crate::nodes::Nodes;
 use byte_string::ByteString;
 use repo_api::{Content, FileText, NodeKind, Properties};
+use shared_map::SharedMap;
 use std::alloc::{AllocError, Global};
-use std::collections::BTreeMap;
 use svnpath::Path;
 
 impl Nodes {
@@ -50,21 +50,21 @@ impl Nodes {
         self.node(id?)
     }
 
-    /// A copy of the entries of a directory.
+    /// A copy of the entries of a directory, which shares what does not change.
     pub fn kids(
         &self,
         alloc: Global,
         directory: Option<NodeId>,
-    ) -> Result<BTreeMap<ByteString, NodeId>, AllocError>
+    ) -> Result<SharedMap<NodeId>, AllocError>
         ensures { IfOk result (λ kids. (name : Component) → kid_named kids name
             ≡ kid_at (node_at self.now) directory name) }
     {
         let Some(id) = directory else {
-            return Ok(BTreeMap::new(alloc));
+            return Ok(SharedMap::new(alloc));
         };
         match self.node(id) {
-            Some(node) => node.kids.clone(),
-            None => Ok(BTreeMap::new(alloc)),
+            Some(node) => node.kids.share(alloc),
+            None => Ok(SharedMap::new(alloc)),
         }
     }
 

@@ -1,10 +1,9 @@
 //! Node revisions and their ids.
 ghost use Rattle.std.specs.Prelude.{◌≡◌};
 
-use byte_string::ByteString;
 use repo_api::{Content, Properties};
+use shared_map::SharedMap;
 use std::alloc::AllocError;
-use std::collections::BTreeMap;
 use std::sync::Arc;
 use svnpath::Path;
 
@@ -30,7 +29,7 @@ pub struct NodeRev {
     pub own: Made,
     pub content: Arc<Content>,
     pub properties: Arc<Properties>,
-    pub kids: BTreeMap<ByteString, NodeId>,
+    pub kids: SharedMap<NodeId>,
     pub height: u32,
 }
 

@@ -9,8 +9,8 @@ ghost use Rattle.noderevs.specs.OpeningBlocks.{AreOpening, IsOpeningBlock, IsOpe
 use crate::node_rev::{Block, Made, NodeId, NodeRev};
 use crate::nodes::Nodes;
 use repo_api::{Content, Properties};
+use shared_map::SharedMap;
 use std::alloc::{AllocError, Global};
-use std::collections::BTreeMap;
 use std::sync::Arc;
 use svnpath::Path;
 
@@ -54,7 +54,7 @@ fn opening_node(alloc: Global) -> Result<NodeRev, AllocError>
         },
         content,
         properties,
-        kids: BTreeMap::new(alloc),
+        kids: SharedMap::new(alloc),
         height: 0,
     })
 }

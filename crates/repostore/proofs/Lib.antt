@@ -2,3 +2,4 @@ pub mod Reaching
 pub mod Steps
 pub mod Joining
 pub mod Readings
+pub mod Beginning

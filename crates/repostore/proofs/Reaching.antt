@@ -1,15 +1,14 @@
 -- Which files are reached where some of a folder's are changed.
-use Rattle.std.proofs.Common.{◌≡◌, ◌≢◌, refl, sym, ap, ◌∙◌, subst, ◌⊎◌, inl, inr, ℕ, zero, suc, ◌+◌, List, [], ◌∷◌, ◌++◌, Option, Some, None, arith, length, length-append, add-one}
+use Rattle.std.proofs.Common.{◌≡◌, refl, sym, ap, ◌∙◌, subst, ◌⊎◌, inl, inr, ℕ, zero, suc, ◌+◌, List, [], ◌∷◌, ◌++◌, Option, Some, None, arith, length, length-append, add-one}
 use Rattle.std.specs.Prelude.{◌<◌, ◌≤◌, option_map}
 use Rattle.std.proofs.lemmas.Bool.{cases_eq}
 use Rattle.file_store.specs.Folders.{Folder, text_of, SameBut, IsSame}
 use Rattle.file_store.specs.NameLaws.{all_same}
-use Rattle.file_store.specs.declared.name.FileName.{FileName}
-use Rattle.file_store.specs.declared.name.FileName.TheVariants.{Format, Kind, Uuid, Current, Locks, Revision, Properties}
+use Rattle.file_store.specs.declared.name.FileName.TheVariants.{Format, Kind, Uuid, Current, Locks, Revision, Properties, RepositoryFormat}
 use Rattle.std.proofs.Common.{cond}
 use Rattle.std.proofs.lemmas.Bool.Decides.{leb_tells}
 use Rattle.repostore.specs.Current.{count_in, counted, number_in}
-use Rattle.repostore.specs.Files.{RevisionFiles, Files, revision_files, revisions_below, reached, files_in, HasFiles, with_revision, with_locks, with_second, with_properties, HasEither}
+use Rattle.repostore.specs.Files.{RevisionFiles, Files, revision_files, revisions_below, reached, HasFiles, with_revision, with_locks, with_second, with_properties, HasEither}
 use Rattle.repostore.specs.Reading.{read_below, with_read_locks}
 use Rattle.repostore.specs.Saving.{HasNext}
 
@@ -222,12 +221,12 @@ pub counts_few : (current : List ℕ) (n : ℕ) → count_in current ≡ Some (n
 counts_few current n e = few (number_in current) n e
 
 -- what stands once the files of a new repository are written
-pub created : (f0 f1 f2 f3 f4 f5 f6 : Folder) (format uuid revision properties current : List ℕ) → count_in current ≡ Some 1
-    → SameBut Kind f0 f1 → SameBut Uuid f1 f2 → SameBut (Revision 0) f2 f3 → SameBut (Properties 0) f3 f4 → SameBut Current f4 f5 → SameBut Format f5 f6
+pub created : (start f0 f1 f2 f3 f4 f5 f6 : Folder) (format uuid revision properties current : List ℕ) → count_in current ≡ Some 1
+    → SameBut RepositoryFormat start f0 → SameBut Kind f0 f1 → SameBut Uuid f1 f2 → SameBut (Revision 0) f2 f3 → SameBut (Properties 0) f3 f4 → SameBut Current f4 f5 → SameBut Format f5 f6
     → f2 Uuid ≡ Some uuid → f3 (Revision 0) ≡ Some revision → f4 (Properties 0) ≡ Some properties → f5 Current ≡ Some current → f6 Format ≡ Some format
-    → HasFiles (record { format = Some format; uuid = uuid; current = current; revisions = (revision, properties) ∷ []; locks = f0 Locks }) f6
-created f0 f1 f2 f3 f4 f5 f6 format uuid revision properties current count s1 s2 s3 s4 s5 s6 u r p c f =
-    let locks : f6 Locks ≡ f0 Locks = s6 Locks (λ e. cc) ∙ s5 Locks (λ e. cc) ∙ s4 Locks (λ e. cc) ∙ s3 Locks (λ e. cc) ∙ s2 Locks (λ e. cc) ∙ s1 Locks (λ e. cc) in
+    → HasFiles (record { format = Some format; uuid = uuid; current = current; revisions = (revision, properties) ∷ []; locks = start Locks }) f6
+created start f0 f1 f2 f3 f4 f5 f6 format uuid revision properties current count s0 s1 s2 s3 s4 s5 s6 u r p c f =
+    let locks : f6 Locks ≡ start Locks = s6 Locks (λ e. cc) ∙ s5 Locks (λ e. cc) ∙ s4 Locks (λ e. cc) ∙ s3 Locks (λ e. cc) ∙ s2 Locks (λ e. cc) ∙ s1 Locks (λ e. cc) ∙ s0 Locks (λ e. cc) in
     let u6 : f6 Uuid ≡ Some uuid = s6 Uuid (λ e. cc) ∙ s5 Uuid (λ e. cc) ∙ s4 Uuid (λ e. cc) ∙ s3 Uuid (λ e. cc) ∙ u in
     let r6 : f6 (Revision 0) ≡ Some revision = s6 (Revision 0) (λ e. cc) ∙ s5 (Revision 0) (λ e. cc) ∙ s4 (Revision 0) (λ e. cc) ∙ r in
     let p6 : f6 (Properties 0) ≡ Some properties = s6 (Properties 0) (λ e. cc) ∙ s5 (Properties 0) (λ e. cc) ∙ p in

@@ -1,5 +1,5 @@
 -- How reads go on.
-use Rattle.std.proofs.Common.{◌≡◌, ◌⊎◌, inl, inr, ⊎_elim, ℕ, refl, sym, ◌∙◌, arith, le_refl}
+use Rattle.std.proofs.Common.{◌≡◌, inl, inr, ⊎_elim, ℕ, ◌∙◌, arith, le_refl}
 use Rattle.std.specs.Prelude.{◌≤◌}
 use Rattle.file_store.specs.Folders.{Folder, IsSame}
 use Rattle.file_store.specs.Moments.{Elapses, LeavesOnly}

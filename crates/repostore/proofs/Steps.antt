@@ -1,6 +1,6 @@
 -- How a run of calls goes on.
-use Rattle.std.proofs.Common.{◌≡◌, refl, ◌⊎◌, inl, inr, ⊎_elim, ℕ, List, Some, arith, le_refl, subst}
-use Rattle.std.specs.Prelude.{◌≤◌, ◌↔◌, Result, Ok, Err, OnOk}
+use Rattle.std.proofs.Common.{◌≡◌, refl, ◌⊎◌, inl, inr, ⊎_elim, ℕ, List, Some, arith, le_refl}
+use Rattle.std.specs.Prelude.{◌↔◌, Result, Ok, Err, OnOk}
 use Rattle.file_store.specs.Folders.{Folder, SameBut, Scribbled, Swapped}
 use Rattle.file_store.specs.Moments.{Elapses, LeavesOnly}
 use Rattle.file_store.specs.declared.name.FileName.{FileName}

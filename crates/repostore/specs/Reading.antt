@@ -1,6 +1,6 @@
 -- How the files of a repository are read.
-use Rattle.std.specs.Prelude.{◌≡◌, ◌⊎◌, ◌≤◌, ◌<◌, ℕ, List, [], ◌++◌, ◌∷◌, Option, None, Some, Result, Ok, Err, length}
-use Rattle.file_store.specs.Folders.{Folder, IsSame, text_of}
+use Rattle.std.specs.Prelude.{◌≡◌, ◌⊎◌, ◌<◌, ℕ, List, [], ◌++◌, ◌∷◌, Option, None, Some, Result, Ok, Err}
+use Rattle.file_store.specs.Folders.{Folder, text_of}
 use Rattle.file_store.specs.declared.name.FileName.TheVariants.{Format, Uuid, Current, Locks}
 use Rattle.fsfs_lines.specs.declared.fault.FileFault.{FileFault}
 use Rattle.fsfs_lines.specs.declared.fault.FileFault.TheVariants.{Truncated, BadLine, Delta, Digest, Dangling, WrongFormat, NoMemory}

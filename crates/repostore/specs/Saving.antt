@@ -1,5 +1,5 @@
 -- How files are saved, call by call.
-use Rattle.std.specs.Prelude.{◌≡◌, ◌⊎◌, ◌≤◌, ℕ, List, false, length, Some}
+use Rattle.std.specs.Prelude.{◌≡◌, ◌≤◌, ℕ, List, false, length, Some}
 use Rattle.file_store.specs.Folders.{Folder, IsSame, SameBut, Swapped}
 use Rattle.file_store.specs.Moments.{LeavesOnly, Elapses}
 use Rattle.file_store.specs.declared.name.FileName.{FileName}

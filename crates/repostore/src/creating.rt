@@ -1,11 +1,12 @@
 //! The files of a repository that is new.
-ghost use Rattle.std.specs.Prelude.{◌≡◌, ◌∷◌, [], ◌↔◌, Some, None, IsSome, OnOk, IsErrOf};
+ghost use Rattle.std.specs.Prelude.{◌≡◌, ◌∷◌, [], ◌↔◌, ℕ, List, Option, Some, None, IsSome, OnOk, IsErr, IsErrOf};
 ghost use Rattle.file_store.specs.Folders.{IsSame};
-ghost use Rattle.file_store.specs.Moments.{HasRisen, HasCause};
+ghost use Rattle.file_store.specs.Moments.{LeavesOnly, HasRisen, HasCause};
 ghost use Rattle.file_store.specs.declared.name.FileName.TheVariants.{Format, Locks};
 ghost use Rattle.repostore.specs.Current.{count_in};
 ghost use Rattle.repostore.specs.Files.{HasFiles};
-ghost use Rattle.repostore.specs.Creating.{opening_files};
+ghost use Rattle.repostore.specs.Creating.{opening_files, IsFreeWith, IsFreeOrHas};
+ghost use Rattle.repostore.specs.Saving.{Stands};
 
 use file_store::{FileName, Store, StoreFault};
 use std::alloc::Global;
@@ -14,6 +15,8 @@ use std::alloc::Global;
 #[derive(Clone, Copy)]
 pub struct Opening<'a> {
     pub format: &'a [u8],
+    /// The format of the folder around the files, for other programs.
+    pub repository_format: &'a [u8],
     pub kind: &'a [u8],
     pub uuid: &'a [u8],
     pub current: &'a [u8],
@@ -21,7 +24,8 @@ pub struct Opening<'a> {
     pub properties: &'a [u8],
 }
 
-/// Writes the files of a new repository, `format` last. Where `format` is there, nothing is changed.
+/// Writes the files of a new repository, `format` last and at once. Where `format` is there, nothing is
+/// changed; where it is not, what a stopped call left is written over.
 pub fn create<S: Store>(
     alloc: Global,
     store: &mut S,
@@ -33,6 +37,23 @@ pub fn create<S: Store>(
     ensures made { S.is_honest store.new → count_in opening.entry.current.now ≡ Some 1
         → OnOk result (HasFiles (opening_files opening.entry (S.holds store.old Locks))
         (S.holds store.new)) }
+    // A stop at any moment of the call leaves no `format`, so that `create` may be asked again, or
+    // the whole new repository.
+    ensures stop { (locks : Option (List ℕ)) → S.is_honest store.new
+        → Stands S.is_honest S.holds S.may_leave store.old (IsFreeWith locks)
+        → count_in opening.entry.current.now ≡ Some 1
+        → LeavesOnly S.moment S.left_since store.old store.new
+        (IsFreeOrHas (opening_files opening.entry locks)) }
+    ensures kept { (locks : Option (List ℕ)) → S.is_honest store.new
+        → Stands S.is_honest S.holds S.may_leave store.old (IsFreeWith locks)
+        → count_in opening.entry.current.now ≡ Some 1
+        → OnOk result (Stands S.is_honest S.holds S.may_leave store.new
+        (HasFiles (opening_files opening.entry locks))) }
+    // So does a fault, where it is known which bytes stand.
+    ensures again { (locks : Option (List ℕ)) → S.is_honest store.new
+        → Stands S.is_honest S.holds S.may_leave store.old (IsFreeWith locks)
+        → IsErr result → S.in_doubt store.new ≡ S.in_doubt store.old
+        → Stands S.is_honest S.holds S.may_leave store.new (IsFreeWith locks) }
     ensures device { IsErrOf result StoreFault.Device
         → HasRisen (S.failed store.old) (S.failed store.new) }
 {
@@ -42,18 +63,33 @@ pub fn create<S: Store>(
     write_opening(store, opening)
 }
 
-/// Writes the files, `format` last.
+/// Writes the files, `format` last and at once.
 fn write_opening<S: Store>(store: &mut S, opening: Opening<'_>) -> Result<(), StoreFault>
     ensures honest { S.is_honest store.old ↔ S.is_honest store.new }
     ensures made { S.is_honest store.old → count_in opening.entry.current.now ≡ Some 1
         → OnOk result (HasFiles (opening_files opening.entry (S.holds store.old Locks))
         (S.holds store.new)) }
+    ensures stop { (locks : Option (List ℕ))
+        → Stands S.is_honest S.holds S.may_leave store.old (IsFreeWith locks)
+        → count_in opening.entry.current.now ≡ Some 1
+        → LeavesOnly S.moment S.left_since store.old store.new
+        (IsFreeOrHas (opening_files opening.entry locks)) }
+    ensures kept { (locks : Option (List ℕ))
+        → Stands S.is_honest S.holds S.may_leave store.old (IsFreeWith locks)
+        → count_in opening.entry.current.now ≡ Some 1
+        → OnOk result (Stands S.is_honest S.holds S.may_leave store.new
+        (HasFiles (opening_files opening.entry locks))) }
+    ensures again { (locks : Option (List ℕ))
+        → Stands S.is_honest S.holds S.may_leave store.old (IsFreeWith locks)
+        → IsErr result → S.in_doubt store.new ≡ S.in_doubt store.old
+        → Stands S.is_honest S.holds S.may_leave store.new (IsFreeWith locks) }
     ensures cause { HasCause (S.failed store.old) (S.failed store.new) result }
 {
+    store.write_new(FileName::RepositoryFormat, opening.repository_format)?;
     store.write_new(FileName::Kind, opening.kind)?;
     store.write_new(FileName::Uuid, opening.uuid)?;
     store.write_new(FileName::Revision(0), opening.revision)?;
     store.write_new(FileName::Properties(0), opening.properties)?;
     store.write_new(FileName::Current, opening.current)?;
-    store.write_new(FileName::Format, opening.format)
+    store.replace(FileName::Format, opening.format)
 }

@@ -2,6 +2,7 @@
 ghost use Rattle.std.specs.Prelude.{◌≡◌, IfOk};
 ghost use Rattle.std.specs.FinMap.{empty, entries, from_entries};
 
+use crate::changes::copied_change;
 use repo_api::Change;
 use std::alloc::{AllocError, Global};
 use std::collections::BTreeMap;
@@ -51,6 +52,20 @@ impl ChangeList {
         Ok(ChangeList {
             changes: changes.into_iter().collect::<Vec<_>>(alloc)?,
         })
+    }
+
+    /// Makes a list of the changes of a map, which has them still.
+    pub(crate) fn of_map(
+        alloc: Global,
+        changes: &BTreeMap<Path, Change>,
+    ) -> Result<Self, AllocError>
+        ensures { IfOk result (λ list. list ≡ from_entries changes.now.entries) }
+    {
+        let mut list = Vec::new(alloc);
+        for (path, change) in changes.iter() {
+            list.push((path.clone()?, copied_change(change)?))?;
+        }
+        Ok(ChangeList { changes: list })
     }
 
     /// Shows the changes in the order of their paths.

@@ -108,14 +108,21 @@ fn after_text(before: Option<&Change>) -> Result<Change, AllocError>
 fn or_modified(before: Option<&Change>) -> Result<Change, AllocError>
     ensures { IfOk result (λ change. change ≡ or_modified (option_copied before.entry)) }
 {
-    let Some(before) = before else {
-        return Ok(plain(Action::Modify, None));
-    };
+    match before {
+        None => Ok(plain(Action::Modify, None)),
+        Some(before) => copied_change(before),
+    }
+}
+
+/// Copies a change.
+pub(crate) fn copied_change(change: &Change) -> Result<Change, AllocError>
+    ensures { IfOk result (λ copy. copy ≡ change.now) }
+{
     Ok(Change {
-        action: before.action,
-        text: before.text,
-        properties: before.properties,
-        source: copy_of(before.source.as_ref())?,
+        action: change.action,
+        text: change.text,
+        properties: change.properties,
+        source: copy_of(change.source.as_ref())?,
     })
 }
 

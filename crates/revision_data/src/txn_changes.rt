@@ -66,6 +66,13 @@ impl TxnChanges {
         ChangeList::from_map(alloc, self.changes)
     }
 
+    /// Makes a list of the same changes, which stay here.
+    pub fn to_list(&self, alloc: Global) -> Result<ChangeList, AllocError>
+        ensures { IfOk result (λ list. list ≡ self.now) }
+    {
+        ChangeList::of_map(alloc, &self.changes)
+    }
+
     /// Takes all the memory that the note of the edit needs: nothing else of it can fail.
     pub fn prepare(&mut self, op: &EditOp) -> Result<Note, AllocError>
         ensures ok { IfOk result (λ note. IsPrepared op.now self.old note self.new) }

@@ -2,6 +2,7 @@
 ghost use Rattle.std.specs.Prelude.{◌≡◌};
 
 use access::SoleRepository;
+use conversations::{Env, EnvSource};
 use flatrepo::FlatRepo;
 use hub::{Hub, Options};
 use in_memory::InMemory;
@@ -9,7 +10,7 @@ use std::alloc::Global;
 use std::io;
 use std::io::{ErrorKind, Read, Write};
 use std::test::Fail;
-use streams::{Env, EnvSource, ServeFault, run_stdio};
+use streams::{ServeFault, run_stdio};
 use world::World;
 
 /// The UUID of the repository.

@@ -1,6 +1,7 @@
 //! Calls of a hub over a repository in memory.
 
 use access::RepoAccess;
+use conversations::OutputSink;
 use flatrepo::FlatRepo;
 use hub::{Call, Env, Hub, Options, Outcome, SoleRepository, make_call, make_calls};
 use in_memory::InMemory;
@@ -9,7 +10,6 @@ use std::alloc::{AllocError, Global};
 use std::io;
 use std::io::{ErrorKind, Write};
 use std::test::Fail;
-use streams::OutputSink;
 use world::World;
 
 const UUID: u128 = 0x0000_0000_0000_4000_8000_0000_0000_0000;

@@ -1,9 +1,9 @@
 -- What the files of a repository stand for, as they are read and behind a stop.
-use Rattle.std.specs.Prelude.{◌≡◌, ◌⊎◌, ℕ, false, Option, Some, None}
+use Rattle.std.specs.Prelude.{◌≡◌, ◌⊎◌, ℕ, false}
 use Rattle.repo_api.specs.States.{RepoState}
 use Rattle.file_store.specs.Folders.{Folder}
 use Rattle.file_store.specs.Moments.{LeavesOnly}
-use Rattle.repostore.specs.Files.{Files, files_in}
+use Rattle.repostore.specs.Files.{Files, HasFiles}
 use Rattle.repostore.specs.Saving.{IsSaved}
 use Rattle.repostore.specs.declared.saves.Saves.{Saves}
 
@@ -22,28 +22,24 @@ Keeps is_honest holds may_leave is_of saves repository =
     is_honest saves.store → saves.is_halted ≡ false
     → IsKept is_honest holds may_leave is_of saves repository
 
-abbrev pub state_of : (Files → Option RepoState) → Option Files → Option RepoState
-state_of state_in None = None
-state_of state_in (Some files) = state_in files
-
 -- the folder's files stand for this state
-abbrev pub StandsFor : (Files → Option RepoState) → RepoState → Folder → Type 0
-StandsFor state_in c f = state_of state_in (files_in f) ≡ Some c
+abbrev pub StandsFor : (Files → RepoState → Type 0) → RepoState → Folder → Type 0
+StandsFor stands_for c f = (files : Files) × HasFiles files f × stands_for files c
 
 -- they stand for the one or the other
-abbrev pub StandsForEither : (Files → Option RepoState) → RepoState → RepoState → Folder → Type 0
-StandsForEither state_in before after f =
-    StandsFor state_in before f ⊎ StandsFor state_in after f
+abbrev pub StandsForEither : (Files → RepoState → Type 0) → RepoState → RepoState → Folder → Type 0
+StandsForEither stands_for before after f =
+    StandsFor stands_for before f ⊎ StandsFor stands_for after f
 
 -- a stop within a call, from here to there, leaves files that stand for the one or the other
 abbrev pub LeavesEither : {S : Type 0} → (S → ℕ) → (S → ℕ → Folder → Type 0)
-    → (Files → Option RepoState) → S → S → RepoState → RepoState → Type 0
-LeavesEither moment left_since state_in old new before after =
-    LeavesOnly moment left_since old new (StandsForEither state_in before after)
+    → (Files → RepoState → Type 0) → S → S → RepoState → RepoState → Type 0
+LeavesEither moment left_since stands_for old new before after =
+    LeavesOnly moment left_since old new (StandsForEither stands_for before after)
 
 -- or for a third
 abbrev pub LeavesOneOf : {S : Type 0} → (S → ℕ) → (S → ℕ → Folder → Type 0)
-    → (Files → Option RepoState) → S → S → RepoState → RepoState → RepoState → Type 0
-LeavesOneOf moment left_since state_in old new before between after =
+    → (Files → RepoState → Type 0) → S → S → RepoState → RepoState → RepoState → Type 0
+LeavesOneOf moment left_since stands_for old new before between after =
     LeavesOnly moment left_since old new
-    (λ f. StandsForEither state_in before between f ⊎ StandsFor state_in after f)
+    (λ f. StandsForEither stands_for before between f ⊎ StandsFor stands_for after f)

@@ -36,7 +36,7 @@ impl<F: Filed, S: Store> StoredRepository<F, S> {
             (point_in F.content S.failed F.txn_state self.new.repository self.new.saves
             self.new.pending) }
         ensures stop { S.is_honest self.old.saves.store → self.old.saves.is_halted ≡ false
-            → ∥ LeavesOneOf S.moment S.left_since F.state_in self.old.saves.store
+            → ∥ LeavesOneOf S.moment S.left_since F.stands_for self.old.saves.store
             self.new.saves.store (F.content self.old.repository)
             (committed (F.content self.old.repository) ask (F.txn_state txn))
             (without_released (committed (F.content self.old.repository) ask (F.txn_state txn))
@@ -75,7 +75,7 @@ impl<F: Filed, S: Store> StoredRepository<F, S> {
             (point_in F.content S.failed F.txn_state self.new.repository self.new.saves
             self.new.pending) }
         ensures stop { S.is_honest self.old.saves.store
-            → ∥ LeavesOneOf S.moment S.left_since F.state_in self.old.saves.store
+            → ∥ LeavesOneOf S.moment S.left_since F.stands_for self.old.saves.store
             self.new.saves.store (F.content self.old.repository)
             (committed (F.content self.old.repository) ask (F.txn_state txn))
             (without_released (committed (F.content self.old.repository) ask (F.txn_state txn))
@@ -110,7 +110,7 @@ impl<F: Filed, S: Store> StoredRepository<F, S> {
             (point_in F.content S.failed F.txn_state self.new.repository self.new.saves
             self.new.pending) }
         ensures stop { S.is_honest self.old.saves.store → self.old.saves.is_halted ≡ false
-            → ∥ LeavesEither S.moment S.left_since F.state_in self.old.saves.store
+            → ∥ LeavesEither S.moment S.left_since F.stands_for self.old.saves.store
             self.new.saves.store (F.content self.old.repository)
             (locked (F.content self.old.repository) ask) ∥₁ }
         ensures stays { self.old.saves.is_halted ≡ true → self.new.saves ≡ self.old.saves }
@@ -133,7 +133,7 @@ impl<F: Filed, S: Store> StoredRepository<F, S> {
             (point_in F.content S.failed F.txn_state self.new.repository self.new.saves
             self.new.pending) }
         ensures stop { S.is_honest self.old.saves.store → self.old.saves.is_halted ≡ false
-            → ∥ LeavesEither S.moment S.left_since F.state_in self.old.saves.store
+            → ∥ LeavesEither S.moment S.left_since F.stands_for self.old.saves.store
             self.new.saves.store (F.content self.old.repository)
             (unlocked (F.content self.old.repository) ask.now) ∥₁ }
         ensures stays { self.old.saves.is_halted ≡ true → self.new.saves ≡ self.old.saves }
@@ -164,7 +164,7 @@ impl<F: Filed, S: Store> StoredRepository<F, S> {
             (point_in F.content S.failed F.txn_state self.new.repository self.new.saves
             self.new.pending) }
         ensures stop { S.is_honest self.old.saves.store → self.old.saves.is_halted ≡ false
-            → ∥ LeavesEither S.moment S.left_since F.state_in self.old.saves.store
+            → ∥ LeavesEither S.moment S.left_since F.stands_for self.old.saves.store
             self.new.saves.store (F.content self.old.repository)
             (with_changed_property (F.content self.old.repository) revision name value) ∥₁ }
         ensures stays { self.old.saves.is_halted ≡ true → self.new.saves ≡ self.old.saves }

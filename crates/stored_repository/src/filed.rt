@@ -32,8 +32,8 @@ pub struct NewProperties {
 /// A repository that is never changed once it is made: a change gives the repository behind it, and what
 /// its files are then.
 pub trait Filed: Repository {
-    /// What files stand for, if for anything.
-    ghost state_in: { Files → Option RepoState };
+    /// The files stand for this state.
+    ghost stands_for: { Files → RepoState → Type 0 };
 
     /// The repository is that of these files.
     ghost is_of: { Self → Files → Type 0 };
@@ -115,7 +115,11 @@ pub trait Filed: Repository {
             name.now ≡ Some r) }
         ensures memory { IsOfMemory result };
 
+    /// Files stand for one state at most.
+    ghost one_state: { (files : Files) (a b : RepoState) → stands_for files a → stands_for files b
+        → a ≡ b };
+
     /// Files stand for what their repository contains.
     ghost is_state: { (r : Self) (files : Files) → is_of r files
-        → state_in files ≡ Some (Self.content r) };
+        → stands_for files (Self.content r) };
 }

@@ -10,6 +10,6 @@ use crate::filed::Filed;
 /// else.
 pub fn a_stop_is_opened_as_before_or_after<F: Filed>()
     ensures { (before after found : RepoState) (f : Folder)
-        → StandsForEither F.state_in before after f → StandsFor F.state_in found f
+        → StandsForEither F.stands_for before after f → StandsFor F.stands_for found f
         → (found ≡ before) ⊎ (found ≡ after) }
 {}

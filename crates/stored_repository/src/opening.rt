@@ -30,7 +30,7 @@ pub fn open_repository<S: Store, L: Loader>(
 ) -> Result<StoredRepository<L::Repository, S>, Unopened<S>>
     requires { S.is_honest store → (f : Folder) → S.may_leave store f → IsSame (S.holds store) f }
     ensures found { IfOk result (λ opened. S.is_honest opened.saves.store
-        → StandsFor L.Repository.state_in (L.Repository.content opened.repository)
+        → StandsFor L.Repository.stands_for (L.Repository.content opened.repository)
         (S.holds store)) }
     ensures faulty { IfErr result (λ unopened. S.is_honest unopened.store
         → IfFaulty unopened.fault (IsFaulty L.faulty (S.holds store))) }

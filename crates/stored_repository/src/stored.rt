@@ -38,11 +38,11 @@ impl<F: Filed, S: Store> StoredRepository<F, S> {
     pub fn store(&self) -> &S
         ensures store { result.now ≡ self.now.saves.store }
         ensures holds { S.is_honest self.now.saves.store → self.now.saves.is_halted ≡ false
-            → ∥ StandsFor F.state_in (F.content self.now.repository)
+            → ∥ StandsFor F.stands_for (F.content self.now.repository)
             (S.holds self.now.saves.store) ∥₁ }
         ensures leaves { S.is_honest self.now.saves.store → self.now.saves.is_halted ≡ false
             → (f : Folder) → S.may_leave self.now.saves.store f
-            → ∥ StandsFor F.state_in (F.content self.now.repository) f ∥₁ }
+            → ∥ StandsFor F.stands_for (F.content self.now.repository) f ∥₁ }
     {
         self.saves.store()
     }

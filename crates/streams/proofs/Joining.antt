@@ -19,7 +19,9 @@ use Rattle.hub.specs.Laws.{IsUnbroken}
 use Rattle.hub.specs.SessionLaws.{session_of-updated, updated_updated, session_of-without, kept-updated, yields_more}
 use Rattle.std.specs.List.{flat_map}
 use Rattle.hub.proofs.Composing.{runs_on}
-use Rattle.streams.specs.Stream.{Piece, bytes_of, inputs_of, events_of, ComesInPieces, PiecesRun, StreamRun, Draws}
+use Rattle.conversations.specs.Pieces.{Piece, bytes_of, inputs_of, ComesInPieces}
+use Rattle.conversations.proofs.Growing.{fed_piece, both_cuts}
+use Rattle.streams.specs.Stream.{events_of, PiecesRun, StreamRun, Draws}
 
 -- ---- the events of a session's inputs
 
@@ -250,16 +252,6 @@ both_runs n (piece ∷ pieces) others old mid new told more (events, first, betw
   both_runs n pieces others between mid new rest more later next,
   ap (λ (rs : List Reply). rs ++ more) is ∙ append_assoc first rest more,
 )
-
--- one cut after another
-both_cuts : (pieces others : List Piece) (stream mid rest : List ℕ) → ComesInPieces stream pieces mid → ComesInPieces mid others rest → ComesInPieces stream (pieces ++ others) rest
-both_cuts [] others stream mid rest is next = subst (λ (xs : List ℕ). ComesInPieces xs others rest) is next
-both_cuts (piece ∷ pieces) others stream mid rest (some, bound, after, yields, cut) next =
-    (some, bound, after, yields, both_cuts pieces others after mid rest cut next)
-
--- what a feed brings is a piece
-abbrev pub fed_piece : (env : Env) (bytes : List ℕ) → List Input → Piece
-fed_piece env bytes inputs = record { env = env; bytes = bytes; inputs = inputs }
 
 -- a piece is a stream of its own
 of_piece : (old : HubState) (env : Env) (n : ℕ) (bytes out : List ℕ) (new : HubState) → 0 < length bytes → length bytes ≤ 65536 → (f : Feeds old env n bytes out new)

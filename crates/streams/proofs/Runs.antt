@@ -1,7 +1,6 @@
 -- What is heard grows by a piece.
-use Rattle.std.proofs.Common.{◌≡◌, ℕ, ◌<◌, ◌≤◌, true, List, [], ◌∷◌, ◌++◌, length, refl, sym, ap, subst, ◌∙◌, append-nil, inr}
-use Rattle.std.specs.Prelude.{Option, Result, Ok, Err, OnOk, IsErrAnd, MatchResult}
-use Rattle.std.proofs.lemmas.Grind.{flat_map-append}
+use Rattle.std.proofs.Common.{◌≡◌, ℕ, ◌<◌, ◌≤◌, true, List, [], ◌∷◌, ◌++◌, length, refl, sym, subst, inr}
+use Rattle.std.specs.Prelude.{Option, Result, Ok, Err, OnOk, IsErrAnd}
 use Rattle.std.proofs.KnownBytes.{Consumes-nil, Appends-nil, Consumes-trans, Appends-trans, Consumes-kept}
 use Rattle.std.specs.Io.KnownBytes.{Consumes, Appends, Keeps}
 use Rattle.machine.specs.declared.env.Env.{Env}
@@ -9,17 +8,10 @@ use Rattle.hub.specs.declared.hub.HubFault.{HubFault}
 use Rattle.hub.specs.Calls.{ConnectsAs, FeedsAs, FeedBreaks}
 use Rattle.streams.specs.declared.fault.ServeFault.{ServeFault}
 use Rattle.streams.specs.declared.fault.ServeFault.TheVariants.{Read, Write, Hub}
-use Rattle.streams.specs.Stream.{Piece, bytes_of, GivesAll, Scene, scene, HearsPieces, is_hearing, IsServed, HearsUntil, Answered, AnswersStream, ServesStreams, HubFails, IfRead, IfHub}
-use Rattle.streams.proofs.Joining.{fed_piece, draws_more}
-
--- a piece more was handed in
-gives_more : {E : Type 0} (gives : E → Env → E → Type 0) (pieces : List Piece) (piece : Piece) (a b c : E)
-    → GivesAll gives a pieces b → gives b piece.env c → GivesAll gives a (pieces ++ piece ∷ []) c
-gives_more {E} gives [] piece a b c same next = (c, subst (λ (x : E). gives x piece.env c) same next, refl)
-gives_more gives (first ∷ pieces) piece a b c (between, given, rest) next = (between, given, gives_more gives pieces piece between b c rest next)
-
-bytes_of-more : (pieces : List Piece) (piece : Piece) → bytes_of pieces ++ piece.bytes ≡ bytes_of (pieces ++ piece ∷ [])
-bytes_of-more pieces piece = ap (λ (bs : List ℕ). bytes_of pieces ++ bs) (sym (append-nil piece.bytes)) ∙ sym (flat_map-append _ pieces (piece ∷ []))
+use Rattle.conversations.specs.Pieces.{Piece, bytes_of, GivesAll}
+use Rattle.conversations.proofs.Growing.{fed_piece, gives_more, bytes_of-more}
+use Rattle.streams.specs.Stream.{Scene, scene, HearsPieces, is_hearing, IsServed, HearsUntil, Answered, AnswersStream, ServesStreams, HubFails, IfRead, IfHub}
+use Rattle.streams.proofs.Joining.{draws_more}
 
 -- nothing was heard yet
 pub hears_nothing : {E : Type 0} (gives : E → Env → E → Type 0) (n : ℕ) (old : Scene E) → HearsPieces gives n old old
@@ -76,17 +68,6 @@ answered {E} gives n old greeted greeting connects unread written unasked new h 
 }
 
 -- ---- what is known of a result
-
-ok_same : {T E : Type 0} (x y : T) → ◌≡◌ {A = Result T E} (Ok x) (Ok y) → x ≡ y
-ok_same x y e = cc
-
-err_not_ok : {T E : Type 0} (e : E) (x : T) → ◌≡◌ {A = Result T E} (Err e) (Ok x) → ⊥
-err_not_ok e x same = cc
-
--- what `map_err` left an `Ok` was one
-pub was_ok : {T E : Type 0} (r : Result T E) (x : T) → MatchResult r (λ (y : T). ◌≡◌ {A = Result T ServeFault} (Ok x) (Ok y)) (λ e. ⊥) → r ≡ Ok x
-was_ok (Ok y) x same = let is = ok_same x y same in cc
-was_ok (Err e) x bad = absurd bad
 
 abbrev as_err : (T : Type 0) → ServeFault → Result T ServeFault
 as_err T e = Err e

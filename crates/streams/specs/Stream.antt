@@ -1,9 +1,8 @@
 -- What it is to serve one session over a stream.
-use Rattle.std.specs.Prelude.{◌≡◌, ◌⊎◌, ◌<◌, ◌≤◌, ℕ, Bool, true, ◌&&◌, not, is_some, List, [], ◌∷◌, ◌++◌, length, map, Option, Some, Result, Ok, Err}
-use Rattle.std.specs.List.{flat_map}
+use Rattle.std.specs.Prelude.{◌≡◌, ◌⊎◌, ℕ, Bool, true, ◌&&◌, not, is_some, List, [], ◌∷◌, ◌++◌, map, Option, Some, Result, Ok, Err}
 use Rattle.std.specs.Io.KnownBytes.{Consumes, Appends, IsAtEnd}
 use Rattle.replies.specs.declared.reply.Reply.{Reply}
-use Rattle.machine.specs.Hearing.{Input, Yields}
+use Rattle.machine.specs.Hearing.{Yields}
 use Rattle.machine.specs.Stages.{SessionState}
 use Rattle.replies.specs.Replies.{print}
 use Rattle.machine.specs.declared.env.Env.{Env}
@@ -12,39 +11,9 @@ use Rattle.hub.specs.State.{HubState, session_of}
 use Rattle.hub.specs.Runs.{Event, HubRun, InputsAre, IfOpen, with_rest}
 use Rattle.hub.specs.Runs.Event.{HandsIn, Hears}
 use Rattle.hub.specs.Calls.{ConnectsAs, ConnectFails, FeedBreaks}
-use Rattle.streams.specs.declared.sink.TheConstants.{PIECE}
+use Rattle.conversations.specs.Pieces.{Piece, bytes_of, inputs_of, GivesAll, ComesInPieces}
 use Rattle.streams.specs.declared.fault.ServeFault.{ServeFault}
 use Rattle.streams.specs.declared.fault.ServeFault.TheVariants.{Read, Write, Hub}
-
--- What was read at once: what the source handed in for it, its bytes, and the inputs that they
--- complete.
-pub record Piece : Type 0 where
-  pub env : Env
-  pub bytes : List ℕ
-  pub inputs : List Input
-
--- the bytes of all pieces, in a row
-abbrev pub bytes_of : List Piece → List ℕ
-bytes_of pieces = flat_map (λ (piece : Piece). piece.bytes) pieces
-
--- the inputs of all pieces, in a row
-abbrev pub inputs_of : List Piece → List Input
-inputs_of pieces = flat_map (λ (piece : Piece). piece.inputs) pieces
-
--- a source hands in what the pieces have, one after another
-abbrev pub GivesAll : {E : Type 0} → (E → Env → E → Type 0) → E → List Piece → E → Type 0
-GivesAll gives source [] source' = source' ≡ source
-GivesAll {E} gives source (piece ∷ pieces) source' =
-    (next : E) × gives source piece.env next × GivesAll gives next pieces source'
-
--- a stream, of which this had come, goes on by these pieces of 1 to 65,536 bytes each, which
--- complete their inputs
-abbrev pub ComesInPieces : List ℕ → List Piece → List ℕ → Type 0
-ComesInPieces stream [] rest = rest ≡ stream
-ComesInPieces stream (piece ∷ pieces) rest =
-    (0 < length piece.bytes) × (length piece.bytes ≤ PIECE)
-    × (after : List ℕ) × Yields (stream ++ piece.bytes) piece.inputs after
-    × ComesInPieces after pieces rest
 
 -- the inputs happen in order, those of each piece with what was handed in for it
 abbrev pub PiecesRun : HubState → ℕ → List Piece → List Reply → HubState → Type 0

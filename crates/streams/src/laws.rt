@@ -5,7 +5,8 @@ ghost use Rattle.replies.specs.declared.reply.Reply.{Reply};
 ghost use Rattle.machine.specs.declared.env.Env.{Env};
 ghost use Rattle.hub.specs.Runs.{HubRun};
 ghost use Rattle.hub.specs.State.{HubState};
-ghost use Rattle.streams.specs.Stream.{Piece, PiecesRun, events_of};
+ghost use Rattle.conversations.specs.Pieces.{Piece};
+ghost use Rattle.streams.specs.Stream.{PiecesRun, events_of};
 
 /// Pieces of a stream are one run of the hub, in which the moment and the words of each piece are handed in before its
 /// inputs come. So what holds of all runs holds of a session that is served over a stream.

@@ -1,33 +1,16 @@
 //! One session over a reader and a writer.
 ghost use Rattle.std.specs.Prelude.{OnOk};
 ghost use Rattle.hub.specs.Calls.{FeedsTo, FeedBreaks};
-ghost use Rattle.std.specs.Io.{ReadsAtMost};
-ghost use Rattle.std.specs.Io.KnownBytes.{Appends, ReadConsumes};
+ghost use Rattle.std.specs.Io.KnownBytes.{Appends};
 ghost use Rattle.streams.specs.Stream.{scene, AnswersStream, HearsPieces, HearsUntil, HubFails, IfHub, IfRead, IsServed, ServesStreams};
 
-use crate::envs::EnvSource;
 use crate::fault::ServeFault;
-use crate::sink::{OutputSink, PIECE, write_now};
 use access::SoleAccess;
+use conversations::{Env, EnvSource, OutputSink, PIECE, read_piece, write_now};
 use hub::{Hub, SessionId};
-use machine::{Env, Turn};
+use machine::Turn;
 use std::io;
 use std::io::{ErrorKind, Read, Write};
-
-/// Reads once; a read that was interrupted is tried again.
-fn read_piece<R: Read>(input: &mut R, buffer: &mut [u8]) -> io::Result<usize>
-    ensures bound { ReadsAtMost result buffer.new }
-    ensures bytes { ReadConsumes (R.remaining input.old) (R.remaining input.new) result buffer.new }
-{
-    for _ in 0..u64::MAX {
-        match input.read(buffer) {
-            Ok(count) => return Ok(count),
-            Err(error) if error.kind() == ErrorKind::Interrupted => {}
-            Err(error) => return Err(error),
-        }
-    }
-    Err(io::Error::from(ErrorKind::Interrupted))
-}
 
 /// Feeds a piece, and writes what it draws as it is made.
 fn answer_piece<A: SoleAccess, W: Write>(
@@ -74,7 +57,7 @@ fn answer_piece<A: SoleAccess, W: Write>(
     }
 }
 
-/// AnswersStream pieces of the input, each before the next is read, until it ends or the session isn't open any more.
+/// Answers pieces of the input, each before the next is read, until it ends or the session isn't open any more.
 fn serve_pieces<A: SoleAccess, R: Read, W: Write, E: EnvSource>(
     hub: &mut Hub<A>,
     number: SessionId,

@@ -4,7 +4,7 @@
 mod envs;
 mod fault;
 
-use command_line::{CommandLineFault, Order, read_command_line};
+use command_line::{CommandLineFault, Location, Order, read_command_line};
 use envs::SystemEnvs;
 use fault::ProgramFault;
 use hub::{Hub, HubFault, Options, SoleRepository, is_repository_name};
@@ -74,10 +74,36 @@ fn serve_stdio(rt: &HostRuntime, name: &str, revprops: bool) -> Result<(), Progr
     Ok(())
 }
 
+/// An order that nothing serves yet, told so.
+fn not_served(alloc: Global, text: &str) -> ProgramFault {
+    match String::from_str(alloc, text) {
+        Ok(text) => ProgramFault::CommandLine(text),
+        Err(_) => ProgramFault::Hub(HubFault::NoMemory),
+    }
+}
+
 /// Does what the command line asks for.
 fn run(rt: &HostRuntime) -> Result<(), ProgramFault> {
     match order(rt)? {
-        Some(Order::Stdio { name, revprops }) => serve_stdio(rt, name.as_str(), revprops),
+        Some(
+            Order::Stdio {
+                location: Location::Memory,
+                name,
+                revprops,
+            },
+        ) => serve_stdio(rt, name.as_str(), revprops),
+        Some(Order::Stdio { .. }) => Err(not_served(
+            rt.alloc(),
+            "error: DIR can only be `-`, an empty repository in memory\n",
+        )),
+        Some(Order::Create { .. }) => Err(not_served(
+            rt.alloc(),
+            "error: `create` isn't there yet: there is no repository on disk\n",
+        )),
+        Some(Order::Serve(_)) => Err(not_served(
+            rt.alloc(),
+            "error: `serve` isn't there yet: there are no sessions over TCP\n",
+        )),
         None => Ok(()),
     }
 }

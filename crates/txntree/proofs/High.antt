@@ -2,17 +2,16 @@
 use Rattle.std.proofs.Common.{◌≡◌, ◌==◌, Bool, true, false, ℕ, List, [], ◌∷◌, ◌++◌, Option, Some, None, option_and_then, is_some, refl, sym, ap, subst, ◌∙◌, ⊎_elim}
 use Rattle.std.proofs.lemmas.Bool.{false≢true}
 use Rattle.std.specs.Prelude.{Result, Ok, Err, OnOk, OnErr, IfSome, if◌then◌else◌, slice_get}
-use Rattle.std.specs.BTreeMap.{BTreeMap}
 use Rattle.svnpath.specs.Paths.{Component}
 use Rattle.noderevs.specs.Heights.{IsHeight, AreHigh}
-use Rattle.noderevs.specs.Nodes.{Look, kid_of, kid_named, IsThere, IsClosed, IsBefore, Grows, with_block}
+use Rattle.noderevs.specs.Nodes.{Look, Kids, kid_of, kid_named, IsThere, IsClosed, IsBefore, Grows, with_block}
 use Rattle.noderevs.specs.declared.node_rev.NodeId.{NodeId}
 use Rattle.noderevs.specs.declared.node_rev.NodeRev.{NodeRev}
 use Rattle.txntree.specs.Sealing.{AreThere}
 use Rattle.txntree.proofs.Seals.{behind, block_grows, more_or_same}
 
 -- the height over entries that are there stays
-height_stays : (a b : Look) → Grows a b → (kids : BTreeMap Component NodeId) → AreThere a kids → (height : ℕ)
+height_stays : (a b : Look) → Grows a b → (kids : Kids) → AreThere a kids → (height : ℕ)
     → IsHeight a kids height → IsHeight b kids height
 height_stays a b grows kids there height high = record {
   enough = λ name kid node named found. high.enough name kid node named (sym (grows kid (is_there name kid named)) ∙ found);

@@ -3,6 +3,7 @@ pub mod Walking
 pub mod Grafts
 pub mod Bases
 pub mod Seals
+pub mod Entries
 pub mod High
 pub mod Blocks
 pub mod Staying

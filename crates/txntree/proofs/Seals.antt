@@ -2,7 +2,7 @@
 use Rattle.std.proofs.Common.{◌≡◌, ◌==◌, ℕ, ◌<◌, ◌≤◌, Bool, true, false, cond, List, [], ◌∷◌, ◌++◌, Option, Some, None, option_map, length, refl, sym, ap, subst, ◌∙◌, arith, option_and_then, length-append, ◌⊎◌, inl, inr, rules, ◌≢◌, ⊎_elim}
 use Rattle.std.proofs.lemmas.Bool.{false≢true, cases_eq, cases_lt}
 use Rattle.std.specs.Prelude.{Result, Ok, Err, OnOk, OnErr, IfOk, IsSome, IfSome, if◌then◌else◌, slice_get}
-use Rattle.std.specs.BTreeMap.{BTreeMap, is_at}
+use Rattle.std.specs.BTreeMap.{is_at}
 use Rattle.std.specs.Cmp.Lexicographic.{slice_cmp}
 use Rattle.std.specs.Ordering.{nat_cmp, is_eq}
 use Rattle.std.specs.declared.cmp.Ordering.TheVariants.{Less}
@@ -20,7 +20,7 @@ use Rattle.noderevs.specs.Nodes.{Look, kid_of, kid_at, IsThere, IsClosed}
 use Rattle.txntree.specs.Spots.{Spot, changed_at, change_spot, shared_spot, over, step, find, flat, open_entry}
 use Rattle.noderevs.specs.Views.{shared_entry}
 use Rattle.txntree.specs.Spots.Spot.{Nothing, Shared, Opened}
-use Rattle.noderevs.specs.Nodes.{with_block, IsBefore, Grows, kid_named}
+use Rattle.noderevs.specs.Nodes.{with_block, IsBefore, Grows, Kids, kid_named}
 use Rattle.txntree.specs.Sealing.{sealed_at, placed, IsUnder, IsUnderOne, AreUnder, AreUnderOne, SameBut, AreThere, with_sealed, kid_trees, unless_changed, IsSealing, first_of}
 use Rattle.noderevs.specs.declared.node_rev.NodeId.{NodeId}
 use Rattle.noderevs.specs.declared.node_rev.NodeRev.{NodeRev}
@@ -122,7 +122,7 @@ kids_there look closed None n = tt {0}
 kids_there look closed (Some id) n = closed id n
 
 -- before the first change
-pub begins : (look : Look) (rev : ℕ) (path : PathValue) (self : OpenNode) (block : List NodeRev) (left : Component → Option Change) (kids : BTreeMap Component NodeId)
+pub begins : (look : Look) (rev : ℕ) (path : PathValue) (self : OpenNode) (block : List NodeRev) (left : Component → Option Change) (kids : Kids)
     → ((n : Component) → left n ≡ changed_at self.changed n)
     → ((n : Component) → kid_named kids n ≡ kid_at look self.base n) → IsSealing look rev path self block block left kids
 begins look rev path self block left kids all copied = record {
@@ -147,7 +147,7 @@ begins look rev path self block left kids all copied = record {
     by closed before n q (Some change) = refl
 
 -- one change more
-pub goes_on : (look : Look) (rev : ℕ) (path below : PathValue) (self : OpenNode) (before now next : List NodeRev) (left rest : Component → Option Change) (kids more : BTreeMap Component NodeId)
+pub goes_on : (look : Look) (rev : ℕ) (path below : PathValue) (self : OpenNode) (before now next : List NodeRev) (left rest : Component → Option Change) (kids more : Kids)
     (name : Component) (change : Change) → IsSealing look rev path self before now left kids
     → Some change ≡ left name
     → ((n : Component) → rest n ≡ cond (same_component name n) None (left n))
@@ -241,7 +241,7 @@ first_gone name change changes sorted n = by (same_component name n) refl
     by false apart = sym (ap (λ b. cond b (Some change) (first_of changes n)) (at_is_name n name ∙ same_back name n ∙ apart))
 
 -- an entry that is gone
-pub sealed_gone : (look : Look) (rev : ℕ) (block : List NodeRev) (path : PathValue) (kids after : BTreeMap Component NodeId) (name : Component) (change : Change)
+pub sealed_gone : (look : Look) (rev : ℕ) (block : List NodeRev) (path : PathValue) (kids after : Kids) (name : Component) (change : Change)
     → change_spot change ≡ Nothing
     → ((n : Component) → kid_named after n ≡ cond (is_at (slice_cmp nat_cmp name) n) None (kid_named kids n))
     → (n : Component) (q : PathValue) → kid_trees (with_block look rev block) after n q ≡ with_sealed look rev path name change (kid_trees (with_block look rev block) kids) n q
@@ -255,7 +255,7 @@ sealed_gone look rev block path kids after name change is gone n q =
     by false = refl
 
 -- an entry that is sealed as a node
-pub sealed_put : (look : Look) (rev : ℕ) (now next : List NodeRev) (path : PathValue) (kids after : BTreeMap Component NodeId) (name : Component) (change : Change) (node : OpenNode) (id : NodeId)
+pub sealed_put : (look : Look) (rev : ℕ) (now next : List NodeRev) (path : PathValue) (kids after : Kids) (name : Component) (change : Change) (node : OpenNode) (id : NodeId)
     → change_spot change ≡ Opened node
     → ((n : Component) → kid_named after n ≡ cond (is_at (slice_cmp nat_cmp name) n) (Some id) (kid_named kids n))
     → Grows (with_block look rev now) (with_block look rev next) → IsClosed (with_block look rev now) → AreThere (with_block look rev now) kids
@@ -271,17 +271,17 @@ sealed_put look rev now next path kids after name change node id is put grows cl
     by false = same_tree (with_block look rev now) (with_block look rev next) grows closed (kid_named kids n) (there n) q
 
 -- what is under it
-pub under_put : (look : Look) (rev from to : ℕ) (kids after : BTreeMap Component NodeId) (name : Component) (id : NodeId)
+pub under_put : (look : Look) (rev from to : ℕ) (kids after : Kids) (name : Component) (id : NodeId)
     → ((n : Component) → kid_named after n ≡ cond (is_at (slice_cmp nat_cmp name) n) (Some id) (kid_named kids n))
     → AreUnder look rev from to id → AreUnderOne look rev from to after
 under_put look rev from to kids after name id put under k lo hi =
     let u = under k lo hi in
     (name, (u.0, ap (λ o. find look u.0 (shared_spot o)) (put name ∙ ap (λ x. cond x (Some id) (kid_named kids name)) (at_is_name name name ∙ same_component_refl name)) ∙ u.1))
 
-pub under_none : (look : Look) (rev from : ℕ) (kids : BTreeMap Component NodeId) → AreUnderOne look rev from from kids
+pub under_none : (look : Look) (rev from : ℕ) (kids : Kids) → AreUnderOne look rev from from kids
 under_none look rev from kids k lo hi = absurd (no_room from k lo hi)
 
-pub others_put : (kids after : BTreeMap Component NodeId) (name : Component) (o : Option NodeId)
+pub others_put : (kids after : Kids) (name : Component) (o : Option NodeId)
     → ((n : Component) → kid_named after n ≡ cond (is_at (slice_cmp nat_cmp name) n) o (kid_named kids n)) → SameBut name kids after
 others_put kids after name o put n apart = put n ∙ ap (λ x. cond x o (kid_named kids n)) (at_is_name name n ∙ apart)
 
@@ -334,7 +334,7 @@ one_more [] q n = refl
 one_more (m ∷ path) q n = ap (λ r. m ∷ r) (one_more path q n)
 
 -- the whole node
-pub ends : (look : Look) (rev : ℕ) (path : PathValue) (self : OpenNode) (before now : List NodeRev) (left : Component → Option Change) (kids : BTreeMap Component NodeId)
+pub ends : (look : Look) (rev : ℕ) (path : PathValue) (self : OpenNode) (before now : List NodeRev) (left : Component → Option Change) (kids : Kids)
     (node : NodeRev) (id : NodeId) → IsSealing look rev path self before now left kids → ((n : Component) → left n ≡ None)
     → id.rev ≡ rev → id.place ≡ length now → node.kids ≡ kids → Some (shared_entry id node) ≡ option_map (sealed rev path) (Some (open_entry self))
     → IsClosed look → IsBefore look rev → IsClosed (with_block look rev before)
@@ -371,7 +371,7 @@ after_there (Ok id) look rev now next node ok is =
     subst (λ b. IsThere (with_block look rev b) id) (sym ok) (subst (λ o. IsSome o) (sym (put_place look rev now node id is.0 is.1)) refl)
 after_there (Err y) look rev now next node ok is = is
 
-pub after_ends : {Y : Type 0} (r : Result NodeId Y) (look : Look) (rev : ℕ) (path : PathValue) (self : OpenNode) (before now next : List NodeRev) (left : Component → Option Change) (kids : BTreeMap Component NodeId)
+pub after_ends : {Y : Type 0} (r : Result NodeId Y) (look : Look) (rev : ℕ) (path : PathValue) (self : OpenNode) (before now next : List NodeRev) (left : Component → Option Change) (kids : Kids)
     (node : NodeRev) → OnOk r (next ≡ now ++ node ∷ []) → IfOk r (λ id. (id.rev ≡ rev) × (id.place ≡ length now))
     → IsSealing look rev path self before now left kids → ((n : Component) → left n ≡ None) → node.kids ≡ kids
     → ((id : NodeId) → id.rev ≡ rev → Some (shared_entry id node) ≡ option_map (sealed rev path) (Some (open_entry self)))
@@ -383,7 +383,7 @@ after_ends (Ok id) look rev path self before now next left kids node ok is so no
 after_ends (Err y) look rev path self before now next left kids node ok is so none mine own c b h = is
 
 -- each place of the block is under the node
-under_ends : (look : Look) (rev : ℕ) (path : PathValue) (self : OpenNode) (before now : List NodeRev) (left : Component → Option Change) (kids : BTreeMap Component NodeId)
+under_ends : (look : Look) (rev : ℕ) (path : PathValue) (self : OpenNode) (before now : List NodeRev) (left : Component → Option Change) (kids : Kids)
     (node : NodeRev) (id : NodeId) → IsSealing look rev path self before now left kids → id.rev ≡ rev → id.place ≡ length now → node.kids ≡ kids
     → IsClosed look → IsBefore look rev → IsClosed (with_block look rev before)
     → AreUnder (with_block look rev (now ++ node ∷ [])) rev (length before) (length (now ++ node ∷ [])) id
@@ -404,7 +404,7 @@ under_ends look rev path self before now left kids node id so here place mine c 
           ∙ find_grows (with_block look rev now) next (block_grows look rev now (node ∷ [])) (so.closed c b h) (kid_named kids n) (so.there c b n) r ∙ is,
     )
 
-pub after_under : {Y : Type 0} (r : Result NodeId Y) (look : Look) (rev : ℕ) (path : PathValue) (self : OpenNode) (before now next : List NodeRev) (left : Component → Option Change) (kids : BTreeMap Component NodeId)
+pub after_under : {Y : Type 0} (r : Result NodeId Y) (look : Look) (rev : ℕ) (path : PathValue) (self : OpenNode) (before now next : List NodeRev) (left : Component → Option Change) (kids : Kids)
     (node : NodeRev) → OnOk r (next ≡ now ++ node ∷ []) → IfOk r (λ id. (id.rev ≡ rev) × (id.place ≡ length now))
     → IsSealing look rev path self before now left kids → node.kids ≡ kids
     → IsClosed look → IsBefore look rev → IsClosed (with_block look rev before)

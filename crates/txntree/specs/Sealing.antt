@@ -1,7 +1,7 @@
 -- The node revisions of a new revision, behind those that are there.
 use Rattle.std.specs.Prelude.{◌≡◌, ◌≤◌, ◌<◌, length, ℕ, false, List, [], ◌∷◌, ◌++◌, Option, Some, None}
 use Rattle.std.specs.Prelude.{IsSome, IfSome, option_map, slice_get, if◌then◌else◌}
-use Rattle.std.specs.BTreeMap.{BTreeMap, is_at}
+use Rattle.std.specs.BTreeMap.{is_at}
 use Rattle.std.specs.Map.{lookup}
 use Rattle.std.specs.Cmp.Lexicographic.{slice_cmp}
 use Rattle.std.specs.Ordering.{nat_cmp}
@@ -9,7 +9,7 @@ use Rattle.svnpath.specs.Paths.{Component, PathValue, same_component}
 use Rattle.repo_api.specs.Trees.{Tree}
 use Rattle.repo_api.specs.Merge.{sealed}
 use Rattle.noderevs.specs.Heights.{AreHigh}
-use Rattle.noderevs.specs.Nodes.{Look, kid_at, kid_named, IsThere, IsClosed, IsBefore, Grows, with_block}
+use Rattle.noderevs.specs.Nodes.{Look, Kids, kid_at, kid_named, IsThere, IsClosed, IsBefore, Grows, with_block}
 use Rattle.txntree.specs.Spots.{flat, find, step, shared_spot, change_spot}
 use Rattle.txntree.specs.Spots.Spot.{Shared, Opened}
 use Rattle.txntree.specs.declared.open.OpenNode.{OpenNode}
@@ -24,14 +24,14 @@ abbrev pub sealed_at : ℕ → PathValue → Tree → Tree
 sealed_at rev path t q = option_map (sealed rev (path ++ q)) (t q)
 
 -- each entry is a node that is there
-abbrev pub AreThere : Look → BTreeMap Component NodeId → Type 0
+abbrev pub AreThere : Look → Kids → Type 0
 AreThere look kids = (name : Component) → IfSome (kid_named kids name) (IsThere look)
 
 -- the entries, with what a change is sealed as at its name
 abbrev pub with_sealed : Look → ℕ → PathValue → Component → Change → (Component → Tree) → Component → Tree
 with_sealed look rev path name change before n q = if same_component name n then sealed_at rev path (flat look (change_spot change)) q else before n q
 
-abbrev pub kid_trees : Look → BTreeMap Component NodeId → Component → Tree
+abbrev pub kid_trees : Look → Kids → Component → Tree
 kid_trees look kids n = flat look (shared_spot (kid_named kids n))
 
 -- what is sealed already, and the changes that are left
@@ -46,18 +46,18 @@ placed rev place = record { rev = rev; place = place }
 abbrev pub IsUnder : Look → NodeId → NodeId → Type 0
 IsUnder look id place = (r : PathValue) × (find look r (Shared id) ≡ Shared place)
 
-abbrev pub IsUnderOne : Look → BTreeMap Component NodeId → NodeId → Type 0
+abbrev pub IsUnderOne : Look → Kids → NodeId → Type 0
 IsUnderOne look kids place = (n : Component) × ((r : PathValue) × (find look r (shared_spot (kid_named kids n)) ≡ Shared place))
 
 -- each of these places is under the node, or under one of the entries
 abbrev pub AreUnder : Look → ℕ → ℕ → ℕ → NodeId → Type 0
 AreUnder look rev from to id = (k : ℕ) → from ≤ k → k < to → IsUnder look id (placed rev k)
 
-abbrev pub AreUnderOne : Look → ℕ → ℕ → ℕ → BTreeMap Component NodeId → Type 0
+abbrev pub AreUnderOne : Look → ℕ → ℕ → ℕ → Kids → Type 0
 AreUnderOne look rev from to kids = (k : ℕ) → from ≤ k → k < to → IsUnderOne look kids (placed rev k)
 
 -- entries but for that of a name
-abbrev pub SameBut : Component → BTreeMap Component NodeId → BTreeMap Component NodeId → Type 0
+abbrev pub SameBut : Component → Kids → Kids → Type 0
 SameBut name before after = (n : Component) → same_component name n ≡ false → kid_named after n ≡ kid_named before n
 
 -- a block of one node for each path that was changed in the revision, under its own path, and of no other
@@ -72,7 +72,7 @@ pub record IsBlockOf (look : Look) (rev : ℕ) (block : List NodeRev) (root : No
 
 -- what a seal has done by the time that these changes are left
 pub record IsSealing (look : Look) (rev : ℕ) (path : PathValue) (self : OpenNode)
-    (before now : List NodeRev) (left : Component → Option Change) (kids : BTreeMap Component NodeId) : Type 0 where
+    (before now : List NodeRev) (left : Component → Option Change) (kids : Kids) : Type 0 where
   pub grows : Grows (with_block look rev before) (with_block look rev now)
   pub closed : IsClosed look → IsBefore look rev → IsClosed (with_block look rev before)
       → IsClosed (with_block look rev now)

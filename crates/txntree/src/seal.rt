@@ -14,8 +14,8 @@ use crate::open::{Change, OpenNode};
 use byte_string::ByteString;
 use noderevs::{Block, Made, NodeId, NodeRev, Nodes};
 use repo_api::Mark;
+use shared_map::SharedMap;
 use std::alloc::{AllocError, Global};
-use std::collections::BTreeMap;
 use std::sync::Arc;
 use svnpath::Path;
 
@@ -76,7 +76,7 @@ impl OpenNode {
             let below = path.child(alloc, name.clone()?)?;
             change.sealed(alloc, nodes, rev, below, name.clone()?, &mut kids, block)?;
         }
-        let height = nodes.height_over(rev, block, &kids);
+        let height = nodes.height_over(alloc, rev, block, &kids)?;
         let own = closed(rev, &path, &self.own)?;
         let content = Arc::try_clone(&self.content)?;
         let properties = Arc::try_clone(&self.properties)?;
@@ -105,7 +105,7 @@ impl Change {
         rev: u32,
         path: Path,
         name: ByteString,
-        kids: &mut BTreeMap<ByteString, NodeId>,
+        kids: &mut SharedMap<NodeId>,
         block: &mut Vec<NodeRev>,
     ) -> Result<(), AllocError>
         ensures grows { Grows (with_block (node_at nodes.now) rev block.old.items)
@@ -133,14 +133,10 @@ impl Change {
         ensures others { OnOk result (SameBut name kids.old kids.new) }
     {
         match self {
-            Change::Gone => {
-                kids.remove(&name);
-                Ok(())
-            }
+            Change::Gone => { kids.remove(&name) }
             Change::Is(node) => {
                 let id = node.sealed(alloc, nodes, rev, path, block)?;
-                kids.insert(name, id)?;
-                Ok(())
+                kids.put(alloc, name, id)
             }
         }
     }

@@ -9,6 +9,7 @@ ghost use Rattle.repo_api.specs.declared.limits.TheConstants.{REVISION_LIMIT};
 ghost use Rattle.history.specs.Sound.{IsSoundRepo};
 ghost use Rattle.held.specs.Committing.{conflicts, next_map};
 ghost use Rattle.held.specs.Contents.{held_state, revisions_of, state_of};
+ghost use Rattle.held.specs.Growing.{HasOneMore};
 ghost use Rattle.held.specs.Maps.{IsMapOf, Mapped};
 ghost use Rattle.held.specs.Sealed.{sealed_tree};
 ghost use Rattle.world.specs.Whole.{txn_state_of};
@@ -28,30 +29,24 @@ pub(crate) fn with_commit(
     alloc: Global,
     held: &Held,
     locks: &Locks,
-    ask: CommitAsk,
-    txn: WorldTxn,
+    ask: &CommitAsk,
+    txn: &WorldTxn,
 ) -> Result<Arc<Held>, ChangeFault>
     requires sound { ∥ IsSoundRepo (held_state held.now) ∥₁ }
-    requires rests { IsBeginning (txn_state_of txn).shown (revisions_of held.now) }
-    ensures accepted { OnOk result (commit_refusal (state_of held.now locks.now) ask
-        (txn_state_of txn) ≡ None) }
+    requires rests { IsBeginning (txn_state_of txn.now).shown (revisions_of held.now) }
+    ensures accepted { OnOk result (commit_refusal (state_of held.now locks.now) ask.now
+        (txn_state_of txn.now) ≡ None) }
     ensures ok { IfOk result (λ h. held_state h.value
-        ≡ committed (held_state held.now) ask (txn_state_of txn)) }
-    ensures refused { IfRefused result (λ r. commit_refusal (state_of held.now locks.now) ask
-        (txn_state_of txn) ≡ Some r) }
+        ≡ committed (held_state held.now) ask.now (txn_state_of txn.now)) }
+    ensures refused { IfRefused result (λ r. commit_refusal (state_of held.now locks.now) ask.now
+        (txn_state_of txn.now) ≡ Some r) }
     ensures memory { IsOfMemory result }
+    ensures more { IfOk result (λ h. HasOneMore held.now h.value) }
 {
-    match judge(alloc, held, locks, &ask, &txn) {
-        Ok(tree) => Ok(with_tree(alloc, held, &tree, ask, txn.changes)?),
-        Err(fault) => {
-            let_go(ask, txn);
-            Err(fault)
-        }
-    }
+    let tree = judge(alloc, held, locks, ask, txn)?;
+    let next = with_tree(alloc, held, &tree, ask, &txn.changes)?;
+    Ok(next)
 }
-
-/// What a commit that is not made was asked for.
-fn let_go(_ask: CommitAsk, _txn: WorldTxn) {}
 
 /// The tree of the next revision, if the commit is accepted: there is no conflict, no lock in its way, and
 /// a number left.
@@ -123,19 +118,35 @@ fn with_tree(
     alloc: Global,
     held: &Held,
     tree: &TxnTree,
-    ask: CommitAsk,
-    changes: TxnChanges,
+    ask: &CommitAsk,
+    changes: &TxnChanges,
 ) -> Result<Arc<Held>, AllocError>
     requires mapped { ∥ Mapped (sealed_tree held.now.nodes tree.now) ∥₁ }
     requires room { length (revisions_of held.now) < REVISION_LIMIT }
     ensures revisions { IfOk result (λ h. (m : TreeMap) → IsMapOf (sealed_tree held.now.nodes tree.now) m
-        → revisions_of h.value ≡ revisions_of held.now ++ record { tree = m; changes = changes } ∷ []) }
+        → revisions_of h.value
+        ≡ revisions_of held.now ++ record { tree = m; changes = changes.now } ∷ []) }
     ensures properties { IfOk result (λ h. h.value.properties ≡ held.now.properties
-        ++ revision_properties ask ∷ []) }
+        ++ revision_properties ask.now ∷ []) }
     ensures uuid { IfOk result (λ h. h.value.uuid ≡ held.now.uuid) }
+    ensures more { IfOk result (λ h. HasOneMore held.now h.value) }
 {
-    let properties = revision_properties(alloc, ask)?;
-    let changes = changes.into_list(alloc)?;
+    let properties = revision_properties(alloc, copied(ask)?)?;
+    let changes = changes.to_list(alloc)?;
     let next = held.with_tree(alloc, tree, changes, properties)?;
     Ok(Arc::new(alloc, next)?)
+}
+
+/// Copies what is asked of a commit.
+fn copied(ask: &CommitAsk) -> Result<CommitAsk, AllocError>
+    ensures { IfOk result (λ copy. copy ≡ ask.now) }
+{
+    Ok(CommitAsk {
+        date: ask.date.clone()?,
+        author: ask.author.clone()?,
+        message: ask.message.clone()?,
+        properties: ask.properties.clone()?,
+        tokens: ask.tokens.clone()?,
+        keep_locks: ask.keep_locks,
+    })
 }

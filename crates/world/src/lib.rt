@@ -3,6 +3,8 @@
 
 mod committing;
 mod editing;
+mod filing;
+mod next;
 mod repository;
 mod world;
 mod world_txn;

@@ -8,6 +8,7 @@ ghost use Rattle.repo_api.specs.Opening.{new_repository};
 ghost use Rattle.repo_api.specs.RevisionProperties.{with_changed_property};
 ghost use Rattle.repo_api.specs.States.{youngest};
 ghost use Rattle.held.specs.Contents.{held_state};
+ghost use Rattle.held.specs.Growing.{HasSame};
 ghost use Rattle.world.specs.Whole.{world_content};
 
 use crate::committing::with_commit;
@@ -163,7 +164,9 @@ impl Repository for World {
 
     fn commit(&mut self, ask: CommitAsk, txn: WorldTxn) -> Result<u64, ChangeFault> {
         let number = self.held.count();
-        self.held = with_commit(self.alloc, &self.held, &self.locks, ask, txn)?;
+        let next = with_commit(self.alloc, &self.held, &self.locks, &ask, &txn);
+        std::mem::drop((ask, txn));
+        self.held = next?;
         Ok(number)
     }
 
@@ -205,7 +208,7 @@ impl Repository for World {
 }
 
 /// What stands at the path in the youngest revision, and the revision of its last change.
-fn standing(held: &Held, path: &Path) -> (NodeKind, Option<u64>)
+pub(crate) fn standing(held: &Held, path: &Path) -> (NodeKind, Option<u64>)
     ensures kind { result.0
         ≡ kind_at (held_state held.now) (youngest (held_state held.now)) path.now }
     ensures created { result.1
@@ -216,15 +219,16 @@ fn standing(held: &Held, path: &Path) -> (NodeKind, Option<u64>)
 }
 
 /// What is held after a change of a property of a revision. What was shared before stays as it was.
-fn with_property(
+pub(crate) fn with_property(
     alloc: Global,
     held: &Held,
     revision: u64,
     name: ByteString,
     value: Option<ByteString>,
 ) -> Result<Arc<Held>, AllocError>
-    ensures { IfOk result (λ h. held_state h.value
+    ensures ok { IfOk result (λ h. held_state h.value
         ≡ with_changed_property (held_state held.now) revision name value) }
+    ensures same { IfOk result (λ h. HasSame held.now h.value) }
 {
     let changed = held.with_property(alloc, revision, name, value)?;
     Ok(Arc::new(alloc, changed)?)

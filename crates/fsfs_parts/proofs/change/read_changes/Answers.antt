@@ -1,4 +1,4 @@
-use Rattle.std.proofs.Common.{◌≡◌, length, [], sym, ap, ◌∙◌, inl, inr}
+use Rattle.std.proofs.Common.{length, sym, ap, ◌∙◌, inl, inr}
 use Rattle.std.proofs.lemmas.Result.{err_from_is_err_and}
 use Rattle.std.proofs.lemmas.List.{nil_from_length}
 use Rattle.std.proofs.lemmas.Bool.{eqb-true, eqb-false}

@@ -1,17 +1,22 @@
-use Rattle.std.proofs.Common.{◌≡◌, ◌⊎◌, inl, inr, Option, Some, sym, ◌∙◌}
+use Rattle.std.proofs.Common.{◌≡◌, ◌⊎◌, inl, inr, Some, sym, subst, ◌∙◌}
 use Rattle.repo_api.specs.States.{RepoState}
 use Rattle.file_store.specs.Folders.{Folder}
-use Rattle.repostore.specs.Files.{Files, files_in}
-use Rattle.stored_repository.specs.Keeping.{state_of, StandsFor, StandsForEither}
+use Rattle.repostore.specs.Files.{Files}
+use Rattle.stored_repository.specs.Keeping.{StandsFor, StandsForEither}
 use Rattle.stored_repository.proofs.laws.a_stop_is_opened_as_before_or_after.Goals as goal
 
-one : (a b : RepoState) (o : Option RepoState) → o ≡ Some a → o ≡ Some b → b ≡ a
-one a b o x y = let e : Some b ≡ Some a = sym y ∙ x in cc
+module _ (stands_for : Files → RepoState → Type 0)
+    (one_state : (files : Files) (a b : RepoState) → stands_for files a → stands_for files b → a ≡ b) where
+  one : (a b : RepoState) (f : Folder) → StandsFor stands_for a f → StandsFor stands_for b f → b ≡ a
+  one a b f x y =
+      let e : Some y.0 ≡ Some x.0 = sym y.1 ∙ x.1 in
+      let same : y.0 ≡ x.0 = cc in
+      one_state x.0 b a (subst (λ (files : Files). stands_for files b) same y.2) x.2
 
-either : (state_in : Files → Option RepoState) (before after found : RepoState) (f : Folder)
-    → StandsForEither state_in before after f → StandsFor state_in found f → (found ≡ before) ⊎ (found ≡ after)
-either state_in before after found f (inl was) has = inl (one before found (state_of state_in (files_in f)) was has)
-either state_in before after found f (inr is) has = inr (one after found (state_of state_in (files_in f)) is has)
+  either : (before after found : RepoState) (f : Folder)
+      → StandsForEither stands_for before after f → StandsFor stands_for found f → (found ≡ before) ⊎ (found ≡ after)
+  either before after found f (inl was) has = inl (one before found f was has)
+  either before after found f (inr is) has = inr (one after found f is has)
 
 pub returns : goal.returns
-returns g c = either g.F.Filed.state_in
+returns g c = either g.F.Filed.stands_for g.met.F.Filed.one_state

@@ -1,7 +1,7 @@
 use Rattle.std.proofs.Common.{◌∙◌, rules}
 use Rattle.std.specs.Io.KnownBytes.{Appends}
 use Rattle.hub.proofs.Sinks.{breaks_as}
-use Rattle.streams.proofs.Gathered.{all_written}
+use Rattle.conversations.proofs.Gathered.{all_written}
 use Rattle.streams.proofs.stdio.answer_piece.Goals as goal
 
 pub returns-in-Ok-fed-clause-ok : goal.returns-in-Ok-fed-clause-ok

@@ -4,7 +4,8 @@ use Rattle.std.specs.Io.KnownBytes.{Appends, ReadConsumes}
 use Rattle.hub.specs.declared.hub.HubFault.{HubFault}
 use Rattle.hub.specs.Calls.{FeedBreaks}
 use Rattle.streams.specs.Stream.{scene, HearsPieces, HearsUntil}
-use Rattle.streams.proofs.Runs.{hears_more, hears_until, if_hub, if_read, was_ok}
+use Rattle.conversations.proofs.Conversing.{was_ok}
+use Rattle.streams.proofs.Runs.{hears_more, hears_until, if_hub, if_read}
 use Rattle.streams.proofs.stdio.serve_pieces.Goals as goal
 
 pub returns-in_err-answer_piece-clause-stopped : goal.returns-in_err-answer_piece-clause-stopped
@@ -12,7 +13,7 @@ returns-in_err-answer_piece-clause-stopped g c =
     let remaining = g.R.Read.remaining in
     let contents = g.W.Write.contents in
     let buffer = c.read_piece.new.buffer in
-    let count = was_ok c.read_piece.result c.in_ok-count.count c.in_ok-count.ensures.cases in
+    let count = was_ok _ c.read_piece.result c.in_ok-count.count c.in_ok-count.ensures.cases in
     let bytes = subst (λ r. ReadConsumes (remaining c.loop.input) (remaining c.read_piece.new.input) r buffer) count c.read_piece.ensures.bytes in
     let old = scene c.args.hub.now (remaining c.args.input.now) (contents c.args.output.now) c.args.envs.now in
     let mid = scene c.loop.hub (remaining c.loop.input) (contents c.loop.output) c.loop.envs in
@@ -38,7 +39,7 @@ loop-preserved g c =
     let remaining = g.R.Read.remaining in
     let contents = g.W.Write.contents in
     let buffer = c.read_piece.new.buffer in
-    let read = was_ok c.read_piece.result c.in_ok-count.count c.in_ok-count.ensures.cases in
+    let read = was_ok _ c.read_piece.result c.in_ok-count.count c.in_ok-count.ensures.cases in
     let bound = subst (λ r. ReadsAtMost r buffer) read c.read_piece.ensures.bound in
     let bytes = subst (λ r. ReadConsumes (remaining c.loop.input) (remaining c.read_piece.new.input) r buffer) read c.read_piece.ensures.bytes in
     let fed = c.in_ok-answer_piece.ensures.ok in

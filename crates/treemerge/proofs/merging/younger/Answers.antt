@@ -22,3 +22,12 @@ returns-then-not-is_one-clause-refused c = λ none may ne.
     opened_conflict look c.args.nodes.now.apart node places.base places.young may.base may.young ne
     (not_one_here look node places.base places.young c.in_ok-was.was'.now c.in_ok-theirs.theirs.now
     (sym c.in_ok-was.ensures) (sym c.in_ok-theirs.ensures) (sym c.is_one.ensures ∙ c.if-not-is_one.true))
+
+pub returns-clause-kept : goal.returns-clause-kept
+returns-clause-kept c = record {
+  was = c.in_ok-was.was'.now;
+  old = sym c.in_ok-was.ensures;
+  now = sym c.in_ok-theirs.ensures;
+  one = sym c.is_one.ensures ∙ c.if-not-is_one.false;
+  same = c.is_same.ensures.same c.if-not-is_same.false;
+}

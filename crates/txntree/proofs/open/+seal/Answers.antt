@@ -11,36 +11,62 @@ use Rattle.noderevs.specs.Held.{node_at}
 use Rattle.txntree.specs.Spots.{change_spot}
 use Rattle.txntree.specs.Sealing.{IsSealing, first_of, with_sealed, kid_trees, SameBut}
 use Rattle.noderevs.specs.Nodes.{with_block}
+use Rattle.std.proofs.lemmas.Result.{on_ok_weaker}
+use Rattle.txntree.proofs.Entries.{named_put, named_gone, there_put, there_gone}
 use Rattle.txntree.proofs.High.{after_high}
 use Rattle.txntree.proofs.Walking.{is_spot, gone_spot}
 use Rattle.txntree.proofs.Seals.{sealed_gone, sealed_put, begins, goes_on, first_here, first_gone, sorted_rest, after_grows, after_closed, after_there, after_ends, after_under, under_put, under_none, others_put}
 use Rattle.txntree.proofs.open.+seal.Goals as goal
 
+pub Change::sealed-returns-in-Gone-clause-there : goal.Change::sealed-returns-in-Gone-clause-there
+Change::sealed-returns-in-Gone-clause-there t c = λ there.
+    on_ok_weaker c.remove.result
+    (λ gone. there_gone (with_block (node_at c.args.nodes.now) c.args.rev c.args.block.now.items) c.args.kids.now c.remove.new.self c.args.name gone there)
+    c.remove.ensures.ok
+
 pub Change::sealed-returns-in-Gone-clause-ok : goal.Change::sealed-returns-in-Gone-clause-ok
 Change::sealed-returns-in-Gone-clause-ok t c = λ closed before block there.
-    sealed_gone (node_at c.args.nodes.now) c.args.rev c.args.block.now.items c.args.path c.args.kids.now c.remove.new.self c.args.name c.args.self.now
-    (ap change_spot c.in-Gone.is ∙ gone_spot) c.remove.ensures.updates.0
-
-pub Change::sealed-returns-in_ok-insert-in-Is-clause-ok : goal.Change::sealed-returns-in_ok-insert-in-Is-clause-ok
-Change::sealed-returns-in_ok-insert-in-Is-clause-ok t c = λ closed before block there.
-    sealed_put (node_at c.args.nodes.now) c.args.rev c.args.block.now.items c.sealed.new.block.items c.args.path c.args.kids.now c.insert.new.self c.args.name c.args.self.now c.in-Is.node c.in_ok-id-in-Is.id
-    (ap change_spot c.in-Is.is ∙ is_spot c.in-Is.node) c.in_ok-insert-in-Is.ensures.updates.0
-    c.sealed.ensures.grows block there (c.in_ok-id-in-Is.ensures.ok closed before block)
+    on_ok_weaker c.remove.result
+    (λ gone. sealed_gone (node_at c.args.nodes.now) c.args.rev c.args.block.now.items c.args.path c.args.kids.now c.remove.new.self c.args.name c.args.self.now
+    (ap change_spot c.in-Gone.is ∙ gone_spot) (named_gone c.args.kids.now c.remove.new.self c.args.name gone)) c.remove.ensures.ok
 
 pub Change::sealed-returns-in-Gone-clause-under : goal.Change::sealed-returns-in-Gone-clause-under
 Change::sealed-returns-in-Gone-clause-under t c = λ closed before block.
-    under_none (with_block (node_at c.args.nodes.now) c.args.rev c.args.block.now.items) c.args.rev (length c.args.block.now.items) c.remove.new.self
+    on_ok_weaker c.remove.result
+    (λ gone. under_none (with_block (node_at c.args.nodes.now) c.args.rev c.args.block.now.items) c.args.rev (length c.args.block.now.items) c.remove.new.self)
+    c.remove.ensures.ok
 
 pub Change::sealed-returns-in-Gone-clause-others : goal.Change::sealed-returns-in-Gone-clause-others
-Change::sealed-returns-in-Gone-clause-others t c = others_put c.args.kids.now c.remove.new.self c.args.name None c.remove.ensures.updates.0
+Change::sealed-returns-in-Gone-clause-others t c =
+    on_ok_weaker c.remove.result
+    (λ gone. others_put c.args.kids.now c.remove.new.self c.args.name None (named_gone c.args.kids.now c.remove.new.self c.args.name gone))
+    c.remove.ensures.ok
 
-pub Change::sealed-returns-in_ok-insert-in-Is-clause-under : goal.Change::sealed-returns-in_ok-insert-in-Is-clause-under
-Change::sealed-returns-in_ok-insert-in-Is-clause-under t c = λ closed before block.
-    under_put (with_block (node_at c.args.nodes.now) c.args.rev c.sealed.new.block.items) c.args.rev (length c.args.block.now.items) (length c.sealed.new.block.items)
-    c.args.kids.now c.insert.new.self c.args.name c.in_ok-id-in-Is.id c.in_ok-insert-in-Is.ensures.updates.0 (c.in_ok-id-in-Is.ensures.under closed before block)
+pub Change::sealed-returns-in_ok-id-in-Is-clause-there : goal.Change::sealed-returns-in_ok-id-in-Is-clause-there
+Change::sealed-returns-in_ok-id-in-Is-clause-there t c = λ there.
+    on_ok_weaker c.put.result
+    (λ put. there_put (with_block (node_at c.args.nodes.now) c.args.rev c.args.block.now.items) (with_block (node_at c.args.nodes.now) c.args.rev c.sealed.new.block.items)
+    c.sealed.ensures.grows c.args.kids.now c.put.new.self c.args.name c.in_ok-id-in-Is.id c.in_ok-id-in-Is.ensures.there put there) c.put.ensures.ok
 
-pub Change::sealed-returns-in_ok-insert-in-Is-clause-others : goal.Change::sealed-returns-in_ok-insert-in-Is-clause-others
-Change::sealed-returns-in_ok-insert-in-Is-clause-others t c = others_put c.args.kids.now c.insert.new.self c.args.name (Some c.in_ok-id-in-Is.id) c.in_ok-insert-in-Is.ensures.updates.0
+pub Change::sealed-returns-in_ok-id-in-Is-clause-ok : goal.Change::sealed-returns-in_ok-id-in-Is-clause-ok
+Change::sealed-returns-in_ok-id-in-Is-clause-ok t c = λ closed before block there.
+    on_ok_weaker c.put.result
+    (λ put. sealed_put (node_at c.args.nodes.now) c.args.rev c.args.block.now.items c.sealed.new.block.items c.args.path c.args.kids.now c.put.new.self c.args.name c.args.self.now c.in-Is.node c.in_ok-id-in-Is.id
+    (ap change_spot c.in-Is.is ∙ is_spot c.in-Is.node) (named_put c.args.kids.now c.put.new.self c.args.name c.in_ok-id-in-Is.id put)
+    c.sealed.ensures.grows block there (c.in_ok-id-in-Is.ensures.ok closed before block)) c.put.ensures.ok
+
+pub Change::sealed-returns-in_ok-id-in-Is-clause-under : goal.Change::sealed-returns-in_ok-id-in-Is-clause-under
+Change::sealed-returns-in_ok-id-in-Is-clause-under t c = λ closed before block.
+    on_ok_weaker c.put.result
+    (λ put. under_put (with_block (node_at c.args.nodes.now) c.args.rev c.sealed.new.block.items) c.args.rev (length c.args.block.now.items) (length c.sealed.new.block.items)
+    c.args.kids.now c.put.new.self c.args.name c.in_ok-id-in-Is.id (named_put c.args.kids.now c.put.new.self c.args.name c.in_ok-id-in-Is.id put)
+    (c.in_ok-id-in-Is.ensures.under closed before block)) c.put.ensures.ok
+
+pub Change::sealed-returns-in_ok-id-in-Is-clause-others : goal.Change::sealed-returns-in_ok-id-in-Is-clause-others
+Change::sealed-returns-in_ok-id-in-Is-clause-others t c =
+    on_ok_weaker c.put.result
+    (λ put. others_put c.args.kids.now c.put.new.self c.args.name (Some c.in_ok-id-in-Is.id) (named_put c.args.kids.now c.put.new.self c.args.name c.in_ok-id-in-Is.id put))
+    c.put.ensures.ok
 
 pub OpenNode::sealed-loop-name-init : goal.OpenNode::sealed-loop-name-init
 OpenNode::sealed-loop-name-init t c =
@@ -101,7 +127,7 @@ pub OpenNode::sealed-returns-clause-high : goal.OpenNode::sealed-returns-clause-
 OpenNode::sealed-returns-clause-high t c = λ closed before block high.
     after_high c.append.result (node_at c.args.nodes.now) c.args.rev c.loop-name.block.items c.append.new.block.items _ c.append.ensures.ok c.append.ensures.err
     (c.loop-name.invariant.1.closed closed before block) (c.loop-name.invariant.1.there closed before)
-    (subst (λ b. IsHeight (with_block (node_at c.args.nodes.now) c.args.rev b) c.loop-name.kids c.height_over-height.result) c.deref.ensures.value c.height_over-height.ensures)
+    (subst (λ b. IsHeight (with_block (node_at c.args.nodes.now) c.args.rev b) c.loop-name.kids c.in_ok-height.height) c.deref.ensures.value c.in_ok-height.ensures)
     (c.loop-name.invariant.1.high closed before block high)
 
 pub OpenNode::sealed-returns-in_err-sealed-clause-high : goal.OpenNode::sealed-returns-in_err-sealed-clause-high

@@ -6,9 +6,9 @@ use Rattle.world.proofs.committing.with_commit.Goals as goal
 
 pub with_tree-requires-clause-mapped : goal.with_tree-requires-clause-mapped
 with_tree-requires-clause-mapped c =
-    ∣ (next_map c.args.held.now c.args.txn.base (txn_map c.args.txn), c.in-Ok.ensures.tree) ∣₁
+    ∣ (next_map c.args.held.now c.args.txn.now.base (txn_map c.args.txn.now), c.in_ok-tree.ensures.tree) ∣₁
 
 pub with_tree-requires-clause-room : goal.with_tree-requires-clause-room
 with_tree-requires-clause-room c =
-    under_limit (state_of c.args.held.now c.args.locks.now) c.args.ask (txn_state_of c.args.txn)
-    c.in-Ok.ensures.accepted
+    under_limit (state_of c.args.held.now c.args.locks.now) c.args.ask.now (txn_state_of c.args.txn.now)
+    c.in_ok-tree.ensures.accepted

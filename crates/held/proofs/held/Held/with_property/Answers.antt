@@ -24,8 +24,8 @@ invariant_of-result c =
           old.changes c.in_ok-changes.changes blocks changes old.shown;
     }
 
-pub returns : goal.returns
-returns c =
+pub returns-clause-ok : goal.returns-clause-ok
+returns-clause-ok c =
     same_state _ _ _ _ _
     (revisions_again (blocks_of c.args.self.now.nodes) (blocks_of c.in_ok-nodes.nodes)
     c.args.self.now.changes c.in_ok-changes.changes c.in_ok-nodes.ensures c.in_ok-changes.ensures

@@ -1,6 +1,6 @@
-use Rattle.std.proofs.Common.{◌≡◌, ◌+◌, [], ◌∷◌, ◌++◌, sym, ◌∙◌, inl, arith, length, length-append}
+use Rattle.std.proofs.Common.{[], ◌∷◌, sym, ◌∙◌, inl, arith, length-append}
 use Rattle.file_store.specs.declared.name.FileName.TheVariants.{Current}
-use Rattle.repostore.specs.Files.{RevisionFiles, Files, HasFiles, with_revision, HasEither}
+use Rattle.repostore.specs.Files.{RevisionFiles, HasFiles, with_revision, HasEither}
 use Rattle.repostore.specs.Saving.{HasNext}
 use Rattle.repostore.proofs.Reaching.{published, publishing, counts_few}
 use Rattle.repostore.proofs.Steps.{swapped, replaced}

@@ -1,6 +1,6 @@
 use Rattle.std.proofs.Common.{◌∙◌, inl}
 use Rattle.file_store.specs.declared.name.FileName.TheVariants.{Locks}
-use Rattle.repostore.specs.Files.{Files, HasFiles, with_locks, HasEither}
+use Rattle.repostore.specs.Files.{HasFiles, with_locks, HasEither}
 use Rattle.repostore.proofs.Reaching.{locks_are, locks_may_be}
 use Rattle.repostore.proofs.Steps.{begun, swapped, replaced, ok_gives_both}
 use Rattle.repostore.proofs.saves.Saves.save_locks.Goals as goal

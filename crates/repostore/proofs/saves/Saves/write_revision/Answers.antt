@@ -1,7 +1,7 @@
-use Rattle.std.proofs.Common.{◌≡◌, ◌≤◌, List, ℕ, Some, refl, sym, arith, length}
+use Rattle.std.proofs.Common.{◌≡◌, ◌≤◌, Some, arith, length}
 use Rattle.file_store.specs.Folders.{Folder}
 use Rattle.file_store.specs.declared.name.FileName.TheVariants.{Revision, Properties}
-use Rattle.repostore.specs.Files.{Files, HasFiles}
+use Rattle.repostore.specs.Files.{HasFiles}
 use Rattle.repostore.specs.Saving.{HasNext}
 use Rattle.repostore.proofs.Reaching.{behind_revision, behind_properties, behind_properties_too, next_is}
 use Rattle.repostore.proofs.Steps.{begun, wrote, with_bytes, ok_gives_both}

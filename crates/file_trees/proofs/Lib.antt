@@ -1,0 +1,8 @@
+mod Lists
+mod Named
+mod Kept
+mod Read
+mod Growing
+mod Compared
+pub mod Seen
+pub mod States

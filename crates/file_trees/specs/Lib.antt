@@ -1,0 +1,6 @@
+pub mod Pieces
+pub mod Changes
+pub mod Trees
+pub mod Tables
+pub mod StandsFor
+pub mod Comparing

@@ -1,0 +1,22 @@
+//! The trees that the files of revisions say, and where the node revisions of a repository stand in
+//! these files.
+#![tactic(auto)]
+
+mod body;
+mod changes;
+mod content;
+mod kids;
+mod laws;
+mod own;
+mod places;
+mod table;
+mod tabulating;
+
+pub use changes::changes_by_path;
+pub use content::check_same_properties;
+pub use laws::{
+    files_stand_for_one_state, nothing_is_tabled, tabled_revisions_are_those_of_the_files,
+    tabled_trees_are_those_of_the_files,
+};
+pub use table::{Placed, Table};
+pub use tabulating::tabulated;

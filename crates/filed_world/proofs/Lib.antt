@@ -1,0 +1,5 @@
+pub mod Changed
+pub mod Counts
+pub mod Listed
+pub mod Lists
+pub mod Newest

@@ -1,0 +1,114 @@
+-- A listing of all locks finds what their map does.
+use Rattle.std.proofs.Common.{◌≡◌, ◌&&◌, Bool, true, false, List, [], ◌∷◌, Option, Some, None, refl, sym, ap, ◌∙◌}
+use Rattle.std.specs.Prelude.{T, if◌then◌else◌}
+use Rattle.std.specs.Cmp.{eq_by_cmp_equiv}
+use Rattle.std.specs.BTreeMap.{is_at}
+use Rattle.std.specs.FinMap.{get, entries, entries_sorted}
+use Rattle.std.specs.FinMap.Entries.{is_sorted, below_all}
+use Rattle.std.specs.List.{AllByRecursion, IsDistinct, filter}
+use Rattle.std.specs.List.Sorted.{IsPermutation, IsStrictlySortedBy}
+use Rattle.std.specs.Map.{lookup, keys_of}
+use Rattle.std.specs.Ordering.{is_lt, eq_by_cmp}
+use Rattle.std.specs.declared.cmp.Ordering.{Ordering}
+use Rattle.std.specs.declared.cmp.Ordering.TheVariants.{Less, Equal, Greater}
+use Rattle.std.proofs.lemmas.Bool.{false≢true}
+use Rattle.std.proofs.lemmas.List.Sorted.{Contains-permutation, IsPermutation-sym, IsPermutation-map}
+use Rattle.std.proofs.lemmas.Map.Keys.{IsDistinct-from_sorted, IsDistinct-IsPermutation}
+use Rattle.std.proofs.lemmas.Map.Views.{lookup-from_Contains, Contains-from_lookup}
+use Rattle.svnpath.specs.Paths.{PathValue, same_path, path_cmp, path_cmp_total, path_ties}
+use Rattle.svnpath.specs.PathLaws.{at_is}
+use Rattle.svnpath.specs.Listings.{listing, listing_permutation}
+use Rattle.repo_api.specs.StateLaws.{get_entries}
+use Rattle.repo_api.specs.Locking.{at_or_under}
+use Rattle.repo_api.specs.States.{LockMap}
+use Rattle.repo_api.specs.declared.lock.Lock.{Lock}
+use Rattle.file_trees.specs.StandsFor.{lock_of}
+
+-- ---- the keys of a map differ
+
+is_true : (b : Bool) → T b → b ≡ true
+is_true true h = refl
+is_true false h = absurd h
+
+both_true : (a b : Bool) → (a && b) ≡ true → (a ≡ true) × (b ≡ true)
+both_true true b h = (refl, h)
+both_true false b h = absurd (false≢true h)
+
+is_less : (o : Ordering) → is_lt o ≡ true → o ≡ Less
+is_less Less h = refl
+is_less Equal h = absurd (false≢true h)
+is_less Greater h = absurd (false≢true h)
+
+below_keys : (p : PathValue) (es : List (PathValue × Lock)) → below_all path_cmp p es ≡ true
+    → AllByRecursion (λ k. path_cmp p k ≡ Less) (keys_of es)
+below_keys p [] h = tt
+below_keys p (e ∷ es) h =
+    let both = both_true (is_lt (path_cmp p e.0)) (below_all path_cmp p es) h in
+    (is_less (path_cmp p e.0) both.0, below_keys p es both.1)
+
+sorted_keys : (es : List (PathValue × Lock)) → is_sorted path_cmp es ≡ true
+    → IsStrictlySortedBy path_cmp (keys_of es)
+unfolding IsStrictlySortedBy
+sorted_keys [] h = tt
+sorted_keys (e ∷ es) h =
+    let both = both_true (below_all path_cmp e.0 es) (is_sorted path_cmp es) h in
+    (below_keys e.0 es both.0, sorted_keys es both.1)
+
+keys_differ : (m : LockMap) → IsDistinct (eq_by_cmp path_cmp) (keys_of (entries m))
+keys_differ m =
+    IsDistinct-from_sorted path_cmp (keys_of (entries m))
+    (sorted_keys (entries m) (is_true (is_sorted path_cmp (entries m)) (entries_sorted m)))
+
+-- ---- a look-up finds the same in whatever order the entries stand
+
+module _ (p : PathValue) (es ls : List (PathValue × Lock)) (perm : IsPermutation es ls)
+    (apart : IsDistinct (eq_by_cmp path_cmp) (keys_of es)) where
+  apart_there : IsDistinct (eq_by_cmp path_cmp) (keys_of ls)
+  apart_there =
+      IsDistinct-IsPermutation (eq_by_cmp path_cmp) (eq_by_cmp_equiv path_cmp_total).symm
+      (keys_of es) (keys_of ls) (IsPermutation-map (λ e. e.0) es ls perm) apart
+
+  there : (l : Lock) → lookup (is_at (path_cmp p)) es ≡ Some l
+      → lookup (is_at (path_cmp p)) ls ≡ Some l
+  there l at =
+      lookup-from_Contains (eq_by_cmp_equiv path_cmp_total) p l ls apart_there
+      (Contains-permutation es ls (p, l) perm (Contains-from_lookup at_is p l es at))
+
+  back : (l : Lock) → lookup (is_at (path_cmp p)) ls ≡ Some l
+      → lookup (is_at (path_cmp p)) es ≡ Some l
+  back l at =
+      lookup-from_Contains (eq_by_cmp_equiv path_cmp_total) p l es apart
+      (Contains-permutation ls es (p, l) (IsPermutation-sym es ls perm)
+      (Contains-from_lookup at_is p l ls at))
+
+  found_same : lookup (is_at (path_cmp p)) ls ≡ lookup (is_at (path_cmp p)) es
+  found_same = by (lookup (is_at (path_cmp p)) es) (lookup (is_at (path_cmp p)) ls) refl refl
+    where
+      by : (e l : Option Lock) → lookup (is_at (path_cmp p)) es ≡ e
+          → lookup (is_at (path_cmp p)) ls ≡ l → l ≡ e
+      by None None in_es in_ls = refl
+      by None (Some l) in_es in_ls = sym (back l in_ls) ∙ in_es
+      by (Some e) l in_es in_ls = sym in_ls ∙ there e in_es
+
+-- ---- by the definition of what files say
+
+turned : (p q : PathValue) → same_path q p ≡ is_at (path_cmp p) q
+turned p q = path_ties q p ∙ (eq_by_cmp_equiv path_cmp_total).symm q p
+
+looked_up : (ls : List (PathValue × Lock)) (p : PathValue)
+    → lock_of ls p ≡ lookup (is_at (path_cmp p)) ls
+looked_up [] p = refl
+looked_up (l ∷ ls) p = rw (turned p l.0, looked_up ls p) refl
+
+all_under : (es : List (PathValue × Lock)) → filter (λ e. true) es ≡ es
+all_under [] = refl
+all_under (e ∷ es) = ap (λ l. e ∷ l) (all_under es)
+
+-- all locks, by the bytes of their paths
+pub all_listed : (m : LockMap) (p : PathValue) → get m p ≡ lock_of (at_or_under m []) p
+all_listed m p =
+    get_entries m p
+    ∙ sym (found_same p (entries m) (listing (entries m)) (listing_permutation (entries m))
+    (keys_differ m))
+    ∙ sym (looked_up (listing (entries m)) p)
+    ∙ ap (λ es. lock_of (listing es) p) (sym (all_under (entries m)))

@@ -1,0 +1,49 @@
+use Rattle.std.proofs.Common.{◌≡◌, ◌+◌, ◌++◌, ◌∷◌, [], Some, length, sym, ap, subst, ◌∙◌}
+use Rattle.std.specs.Prelude.{slice_get}
+use Rattle.repostore.specs.Files.{with_revision}
+use Rattle.held.proofs.Seen.{held_many}
+use Rattle.fsfs_folder.specs.declared.current.Current.{Current}
+use Rattle.file_trees.specs.StandsFor.{revision_bytes}
+use Rattle.filed_world.specs.Files.{AreFilesOf}
+use Rattle.filed_world.proofs.Changed.{many_tables, revision_added}
+use Rattle.filed_world.proofs.Newest.{youngest_is}
+use Rattle.filed_world.proofs.filed_world.FiledWorld.with_revision.Goals as goal
+
+pub returns-clause-number : goal.returns-clause-number
+returns-clause-number c =
+    c.youngest-number.ensures
+    ∙ youngest_is c.args.self.now.world.held.value c.args.world.held.value
+    c.args.world.locks.value c.requires.more
+    ∙ sym (held_many c.args.self.now.world.held.value)
+
+pub returns-clause-files : goal.returns-clause-files
+returns-clause-files c = λ files is.
+    let old = c.args.self.now in
+    let held = old.world.held.value in
+    let new = c.args.world in
+    let table = c.in_ok-written.table in
+    let next : Current = record {
+      youngest = c.len.result;
+      node = c.in_ok-written.written.current.node;
+      copy = c.in_ok-written.written.current.copy;
+    } in
+    let file = c.in_ok-written.written.file.items in
+    let properties = c.in_ok-properties.properties.items in
+    let says = c.in_ok-current_file.field-0.items in
+    let after = with_revision files (file, properties) says in
+    let young = c.youngest-number.ensures
+    ∙ youngest_is held new.held.value new.locks.value c.requires.more in
+    let at : slice_get new.held.value.properties (length held.changes) ≡ Some c.in-Some.list.now =
+    ap (slice_get new.held.value.properties) (sym young) ∙ sym c.in-Some.ensures in
+    let are = revision_added held old.world.locks.value old.tables old.current files is
+    new.held.value c.in-Some.list.now table next file properties says c.requires.uuid c.requires.list
+    at (c.in_ok-written.ensures (revision_bytes files) is.tabled) c.in_ok-properties.ensures
+    c.in_ok-current_file.ensures.read c.len.ensures.length in (
+      subst (λ ls. AreFilesOf new.held.value ls c.in_ok-tables.tables next after)
+          (sym c.requires.locks)
+          (subst (λ ts. AreFilesOf new.held.value old.world.locks.value ts next after)
+          (sym c.in_ok-tables.ensures) are),
+      c.in_ok-current_file.ensures.count
+          ∙ ap (λ n. Some (n + 1)) (c.len.ensures.length
+          ∙ many_tables held old.world.locks.value old.tables old.current files is),
+    )

@@ -1,0 +1,57 @@
+-- The files of a repository that shares what did not change.
+use Rattle.std.specs.Prelude.{◌≡◌, ℕ, suc, List, [], ◌∷◌, ◌++◌, Option, Some, codes, length, slice_get, slice_set}
+use Rattle.std.specs.FinMap.{get}
+use Rattle.std.specs.Result.{result_ok}
+use Rattle.svnpath.specs.Paths.{PathValue}
+use Rattle.repo_api.specs.Properties.{PropertyList}
+use Rattle.repo_api.specs.States.{RepoState, LockMap}
+use Rattle.repo_api.specs.declared.lock.Lock.{Lock}
+use Rattle.noderevs.specs.Held.{blocks_of}
+use Rattle.held.specs.declared.held.Held.{Held}
+use Rattle.world.specs.Whole.{world_content}
+use Rattle.repostore.specs.Files.{Files}
+use Rattle.fsfs_folder.specs.Current.{current_of}
+use Rattle.fsfs_folder.specs.Identity.{uuid_of}
+use Rattle.fsfs_folder.specs.declared.current.Current.{Current}
+use Rattle.file_trees.specs.StandsFor.{revision_bytes, revision_properties, locks_in, lock_of}
+use Rattle.file_trees.specs.Tables.{AreTabled}
+use Rattle.file_trees.specs.declared.table.Table.{Table}
+use Rattle.filed_world.specs.declared.filed_world.FiledWorld.{FiledWorld}
+
+abbrev pub filed_content : FiledWorld → RepoState
+filed_content f = world_content f.world
+
+-- the file of locks says these
+pub record AreLocks (file : Option (List ℕ)) (locks : LockMap) : Type 0 where
+  pub said : List (PathValue × Lock)
+  pub read : locks_in file ≡ Some said
+  pub each : (p : PathValue) → get locks p ≡ lock_of said p
+
+-- the file `current` says that this revision is the youngest, and the ids that come next
+pub record IsCurrent (file : List ℕ) (current : Current) : Type 0 where
+  pub read : result_ok (current_of file) ≡ Some current
+
+-- files of what is held and of locks, in which the tables place the nodes
+pub record AreFilesOf (h : Held) (locks : LockMap) (tables : List Table) (current : Current)
+    (files : Files) : Type 0 where
+  pub format : files.format ≡ Some (codes "2\n")
+  pub uuid : result_ok (uuid_of files.uuid) ≡ Some h.uuid
+  pub current_is : result_ok (current_of files.current) ≡ Some current
+  pub youngest : suc current.youngest ≡ length files.revisions
+  pub tabled : AreTabled (revision_bytes files) (blocks_of h.nodes) tables h.changes
+  pub properties : (n : ℕ) → slice_get h.properties n ≡ revision_properties files n
+  pub locked : AreLocks files.locks locks
+
+-- the files are those of the repository
+abbrev pub IsOf : FiledWorld → Files → Type 0
+IsOf f files = AreFilesOf f.world.held.value f.world.locks.value f.tables f.current files
+
+-- one list of properties has come behind those that were held
+pub record HasOneMoreList (before after : Held) : Type 0 where
+  pub list : PropertyList
+  pub lists : after.properties ≡ before.properties ++ list ∷ []
+
+-- the list of properties of a revision has become another
+pub record HasOtherList (before after : Held) (revision : ℕ) : Type 0 where
+  pub list : PropertyList
+  pub lists : after.properties ≡ slice_set before.properties revision list

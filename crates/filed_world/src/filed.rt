@@ -1,0 +1,67 @@
+//! The repository as one that can be written to files.
+ghost use Rattle.std.specs.Prelude.{◌≡◌};
+
+use crate::filed_world::FiledWorld;
+use byte_string::ByteString;
+use repo_api::{ChangeFault, CommitAsk, LockAsk, LockTokens, UnlockAsk};
+use stored_repository::{Filed, NewProperties, NewRevision};
+use world::WorldTxn;
+
+impl Filed for FiledWorld {
+    ghost use Rattle.file_trees.specs.StandsFor.{StandsFor};
+    ghost use Rattle.file_trees.proofs.States.{one_state};
+    ghost use Rattle.filed_world.specs.Files.{IsOf};
+    ghost use Rattle.filed_world.specs.Standing.{stand_for};
+
+    ghost stands_for = { StandsFor };
+
+    ghost is_of = { IsOf };
+
+    fn committed(
+        &self,
+        ask: &CommitAsk,
+        txn: &WorldTxn,
+    ) -> Result<(Self, NewRevision), ChangeFault> {
+        let world = self.world.committed(ask, txn)?;
+        let made = self.with_revision(world)?;
+        Ok(made)
+    }
+
+    fn locked(&self, ask: &LockAsk) -> Result<(Self, Vec<u8>), ChangeFault> {
+        let world = self.world.locked(ask)?;
+        let made = self.with_locks(world)?;
+        Ok(made)
+    }
+
+    fn unlocked(&self, ask: &UnlockAsk) -> Result<(Self, Vec<u8>), ChangeFault> {
+        let world = self.world.unlocked(ask)?;
+        let made = self.with_locks(world)?;
+        Ok(made)
+    }
+
+    fn released(
+        &self,
+        user: Option<&ByteString>,
+        tokens: &LockTokens,
+    ) -> Result<(Self, Vec<u8>), ChangeFault> {
+        let world = self.world.released(user, tokens)?;
+        let made = self.with_locks(world)?;
+        Ok(made)
+    }
+
+    fn property_changed(
+        &self,
+        revision: u64,
+        name: &ByteString,
+        value: Option<&ByteString>,
+    ) -> Result<(Self, NewProperties), ChangeFault> {
+        let world = self.world.property_changed(revision, name, value)?;
+        let made = self.with_properties(world, revision)?;
+        Ok(made)
+    }
+
+    ghost one_state = { one_state };
+
+    ghost is_state = { λ r files are. stand_for r.world.held.value r.world.locks.value r.tables
+        r.current files are };
+}

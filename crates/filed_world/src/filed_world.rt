@@ -1,0 +1,17 @@
+//! A repository, and where its node revisions stand in its files.
+
+use file_trees::Table;
+use fsfs_folder::Current;
+use pvec::PVec;
+use std::alloc::Global;
+use world::World;
+
+/// A repository whose revisions share what did not change, where its node revisions stand in its
+/// files, and which ids come next there.
+#[derive(Drop)]
+pub struct FiledWorld {
+    pub(crate) alloc: Global,
+    pub(crate) world: World,
+    pub(crate) tables: PVec<Table>,
+    pub(crate) current: Current,
+}

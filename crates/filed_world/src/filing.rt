@@ -1,0 +1,175 @@
+//! The repository behind each change, with its files.
+ghost use Rattle.std.specs.Prelude.{◌≡◌, ◌+◌, ◌<◌, ◌++◌, ◌∷◌, [], Some, IfOk, length};
+ghost use Rattle.noderevs.specs.Held.{blocks_of};
+ghost use Rattle.held.specs.Growing.{HasOneMore, HasSame};
+ghost use Rattle.repostore.specs.Current.{count_in};
+ghost use Rattle.repostore.specs.Files.{Files, with_locks, with_properties, with_revision};
+ghost use Rattle.file_trees.specs.Pieces.{RevisionBytes};
+ghost use Rattle.file_trees.specs.Tables.{AreTabled};
+ghost use Rattle.filed_world.specs.Files.{AreLocks, HasOneMoreList, HasOtherList, IsOf, filed_content};
+
+use crate::filed_world::FiledWorld;
+use crate::written::{current_file, locks_file, properties_file};
+use file_trees::{Table, tabulated};
+use fsfs_folder::Current;
+use pvec::PVec;
+use repo_api::Repository;
+use revision_writing::{Written, write_revision};
+use std::alloc::{AllocError, Global};
+use std::sync::Arc;
+use stored_repository::{NewProperties, NewRevision};
+use svnpath::Path;
+use world::World;
+
+/// Makes the file of all locks of a repository.
+#[tactic(auto, using(crate::proofs::Listed::all_listed))]
+fn all_locks_file(alloc: Global, world: &World) -> Result<Vec<u8>, AllocError>
+    ensures { IfOk result (λ file. AreLocks (Some file.items) world.now.locks.value) }
+{
+    let root = Path::root(alloc);
+    let locks = world.locks_under(&root)?;
+    locks_file(alloc, locks.as_slice())
+}
+
+/// The tables with one more, for which there is a place.
+fn with_table(alloc: Global, tables: &PVec<Table>, table: Table) -> Result<PVec<Table>, AllocError>
+    ensures { IfOk result (λ made. made ≡ tables.now ++ table ∷ []) }
+{
+    if tables.len() >= 262_144 {
+        std::mem::drop(table);
+        return Err(AllocError);
+    }
+    tables.with_one(alloc, Arc::new(alloc, table)?)
+}
+
+impl FiledWorld {
+    /// Makes the repository with other locks, and the file of its locks.
+    pub(crate) fn with_locks(&self, world: World) -> Result<(FiledWorld, Vec<u8>), AllocError>
+        requires { world.held.value ≡ self.now.world.held.value }
+        ensures content { IfOk result (λ made. made.0.world ≡ world) }
+        ensures files { IfOk result (λ made. (files : Files) → IsOf self.now files
+            → IsOf made.0 (with_locks files made.1.items)) }
+    {
+        let file = all_locks_file(self.alloc, &world)?;
+        let tables = self.tables.share()?;
+        let made = FiledWorld {
+            alloc: self.alloc,
+            world,
+            tables,
+            current: self.current,
+        };
+        Ok((made, file))
+    }
+
+    /// Makes the repository with other properties of a revision, and the file of these.
+    pub(crate) fn with_properties(
+        &self,
+        world: World,
+        revision: u64,
+    ) -> Result<(FiledWorld, NewProperties), AllocError>
+        requires same { HasSame self.now.world.held.value world.held.value }
+        requires uuid { world.held.value.uuid ≡ self.now.world.held.value.uuid }
+        requires locks { world.locks.value ≡ self.now.world.locks.value }
+        requires other { HasOtherList self.now.world.held.value world.held.value revision }
+        ensures content { IfOk result (λ made. made.0.world ≡ world) }
+        ensures number { IfOk result (λ made. made.1.revision ≡ revision) }
+        ensures files { IfOk result (λ made. (files : Files) → IsOf self.now files
+            → IsOf made.0 (with_properties files revision made.1.file.items)
+            × (revision < length files.revisions)) }
+    {
+        let Some(list) = world.revision_properties(revision) else {
+            return Err(AllocError);
+        };
+        if revision >= 262_144 {
+            return Err(AllocError);
+        }
+        let file = properties_file(self.alloc, list)?;
+        let tables = self.tables.share()?;
+        let made = FiledWorld {
+            alloc: self.alloc,
+            world,
+            tables,
+            current: self.current,
+        };
+        let new = NewProperties {
+            revision: revision as u32,
+            file,
+        };
+        Ok((made, new))
+    }
+
+    /// Writes the file of the youngest revision of a repository that has one more than this one, and
+    /// compares it with the revision. What could not be read back is not made.
+    fn written(&self, world: &World) -> Result<(Written, Table), AllocError>
+        requires { HasOneMore self.now.world.held.value world.now.held.value }
+        ensures { IfOk result (λ made. (files : RevisionBytes)
+            → AreTabled files (blocks_of self.now.world.held.value.nodes) self.now.tables
+            self.now.world.held.value.changes
+            → AreTabled (files ++ made.0.file.items ∷ [])
+            (blocks_of world.now.held.value.nodes) (self.now.tables ++ made.1 ∷ [])
+            world.now.held.value.changes) }
+    {
+        let changes = world.changes(world.youngest());
+        let written = write_revision(
+            self.alloc,
+            world.nodes(),
+            &self.tables,
+            changes,
+            self.current,
+        )?;
+        match tabulated(
+            self.alloc,
+            world.nodes(),
+            &self.tables,
+            changes,
+            written.file.as_slice(),
+        ) {
+            Ok(table) => Ok((written, table)),
+            Err(_) => Err(AllocError),
+        }
+    }
+
+    /// Makes the repository with one more revision, and the files of it.
+    pub(crate) fn with_revision(
+        &self,
+        world: World,
+    ) -> Result<(FiledWorld, NewRevision), AllocError>
+        requires more { HasOneMore self.now.world.held.value world.held.value }
+        requires uuid { world.held.value.uuid ≡ self.now.world.held.value.uuid }
+        requires locks { world.locks.value ≡ self.now.world.locks.value }
+        requires list { HasOneMoreList self.now.world.held.value world.held.value }
+        ensures content { IfOk result (λ made. made.0.world ≡ world) }
+        ensures number { IfOk result (λ made. made.1.number
+            ≡ length (filed_content self.now).revisions) }
+        ensures files { IfOk result (λ made. (files : Files) → IsOf self.now files
+            → IsOf made.0 (with_revision files (made.1.revision.items, made.1.properties.items)
+            made.1.current.items)
+            × (count_in made.1.current.items ≡ Some (length files.revisions + 1))) }
+    {
+        let number = world.youngest();
+        let (written, table) = self.written(&world)?;
+        let Some(list) = world.revision_properties(number) else {
+            return Err(AllocError);
+        };
+        let properties = properties_file(self.alloc, list)?;
+        let current = Current {
+            youngest: self.tables.len() as u32,
+            node: written.current.node,
+            copy: written.current.copy,
+        };
+        let new = NewRevision {
+            number,
+            revision: written.file,
+            properties,
+            current: current_file(self.alloc, current)?,
+        };
+        let tables = with_table(self.alloc, &self.tables, table)?;
+        let made = FiledWorld {
+            alloc: self.alloc,
+            world,
+            tables,
+            current,
+        };
+        Ok((made, new))
+    }
+}

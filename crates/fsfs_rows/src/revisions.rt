@@ -1,0 +1,166 @@
+use fsfs_lines::FileFault;
+use fsfs_nodes::EntryKind;
+use fsfs_parts::{FileAction, FileChange};
+use fsfs_reading::{FilePiece, RevisionFile, read_revision};
+use std::alloc::Global;
+use std::test::Fail;
+
+// Revision 1 of the page of formats, with Python's digest of its 30 bytes: a file `/a` of `hello`.
+const FILE: &[u8] =
+    b"PLAIN\nhello\nENDREP\nid: 1.0.r1/19\ntype: file\ncount: 0\ntext: 1 0 6 6 b1946ac92492d2347c6235b4d2611184\ncpath: /a\ncopyroot: 0 /\n\nPLAIN\nK 1\na\nV 14\nfile 1.0.r1/19\nEND\nENDREP\nid: 0.0.r1/168\ntype: dir\npred: 0.0.r0/17\ncount: 1\ntext: 1 125 30 30 4885e3681d4e920f6506e681bebd1ebe\ncpath: /\ncopyroot: 0 /\n\n1.0.r1/19 add true false /a\n\n\n168 293\n";
+
+// Its entry names offset 99, where no node revision stands, and the digest is Python's of that.
+const DANGLING: &[u8] =
+    b"PLAIN\nhello\nENDREP\nid: 1.0.r1/19\ntype: file\ncount: 0\ntext: 1 0 6 6 b1946ac92492d2347c6235b4d2611184\ncpath: /a\ncopyroot: 0 /\n\nPLAIN\nK 1\na\nV 14\nfile 1.0.r1/99\nEND\nENDREP\nid: 0.0.r1/168\ntype: dir\npred: 0.0.r0/17\ncount: 1\ntext: 1 125 30 30 3944a8b7a0d2215e3350c68abc32a5be\ncpath: /\ncopyroot: 0 /\n\n1.0.r1/19 add true false /a\n\n\n168 293\n";
+
+// Revisions 0 to 3 of Debian's `svnadmin create --compatible-version 1.4`, `svn mkdir` of `/trunk` and
+// `/tags`, `svn cp` of `/trunk` to `/tags/first`, and `svn rm` of `/trunk`.
+const REVISIONS: [&[u8]; 4] = [
+    b"PLAIN\nEND\nENDREP\nid: 0.0.r0/17\ntype: dir\ncount: 0\ntext: 0 0 4 4 2d2977d1c96f487abe4a1e202dd03b4e\ncpath: /\n\n\n17 107\n",
+    b"id: 1.0.r1/0\ntype: dir\ncount: 0\ncpath: /tags\ncopyroot: 0 /\n\nid: 2.0.r1/60\ntype: dir\ncount: 0\ncpath: /trunk\ncopyroot: 0 /\n\nPLAIN\nK 4\ntags\nV 12\ndir 1.0.r1/0\nK 5\ntrunk\nV 13\ndir 2.0.r1/60\nEND\nENDREP\nid: 0.0.r1/195\ntype: dir\npred: 0.0.r0/17\ncount: 1\ntext: 1 122 60 60 19712ea9b8ed36f7d04357671c7dae47\ncpath: /\ncopyroot: 0 /\n\n_0.0.t0-1 add false false /tags\n\n_1.0.t0-1 add false false /trunk\n\n\n195 320\n",
+    b"id: 2.1.r2/0\ntype: dir\npred: 2.0.r1/60\ncount: 1\ncpath: /tags/first\ncopyfrom: 1 /trunk\n\nPLAIN\nK 5\nfirst\nV 12\ndir 2.1.r2/0\nEND\nENDREP\nid: 1.0.r2/132\ntype: dir\npred: 1.0.r1/0\ncount: 1\ntext: 2 87 32 32 9c57950ca3a1da0b168109572d614afb\ncpath: /tags\ncopyroot: 0 /\n\nPLAIN\nK 4\ntags\nV 14\ndir 1.0.r2/132\nK 5\ntrunk\nV 13\ndir 2.0.r1/60\nEND\nENDREP\nid: 0.0.r2/334\ntype: dir\npred: 0.0.r1/195\ncount: 2\ntext: 2 259 62 62 622eee461c4609a1da7b78ae24fa602c\ncpath: /\ncopyroot: 0 /\n\n2._0.t1-1 add false false /tags/first\n1 /trunk\n\n334 460\n",
+    b"PLAIN\nK 4\ntags\nV 14\ndir 1.0.r2/132\nEND\nENDREP\nid: 0.0.r3/46\ntype: dir\npred: 0.0.r2/334\ncount: 3\ntext: 3 0 33 33 a9001df220ea641a3f5ff93279e78c34\ncpath: /\ncopyroot: 0 /\n\n2.0.r1/60 delete false false /trunk\n\n\n46 169\n",
+];
+
+/// The bytes with another byte at a place.
+fn changed(alloc: Global, place: usize, byte: u8) -> Result<Vec<u8>, Fail> {
+    let mut bytes = Vec::from_slice(alloc, FILE)?;
+    if let Some(old) = bytes.get_mut(place) {
+        *old = byte;
+    }
+    Ok(bytes)
+}
+
+/// The node revision that was made at a path.
+fn piece<'a>(file: &'a RevisionFile, path: &[u8]) -> Result<&'a FilePiece, Fail> {
+    for piece in &file.pieces {
+        if piece.node.path.as_slice() == path {
+            return Ok(piece);
+        }
+    }
+    Err(Fail::from("there is no such node revision"))
+}
+
+#[test]
+fn the_row_is_read(rt: HostRuntime) -> Result<(), Fail> {
+    let file = read_revision(rt.alloc(), 1, FILE)?;
+    assert_eq!(rt; file.pieces.len(), 2);
+    let root = piece(&file, b"/")?;
+    assert!(rt; root.node.kind == EntryKind::Directory);
+    assert_eq!(rt; root.node.id.offset, 168);
+    assert_eq!(rt; root.node.count, 1);
+    let a = piece(&file, b"/a")?;
+    assert!(rt; a.node.kind == EntryKind::File);
+    assert_eq!(rt; a.node.id.offset, 19);
+    let text = a.text.as_ref().ok_or("there is a text")?;
+    assert!(rt; text.as_slice() == b"hello\n".as_slice());
+    assert!(rt; a.properties.is_none());
+    assert_eq!(rt; file.changes.len(), 1);
+    let change = file.changes.first().ok_or("there is a change")?;
+    assert!(rt; change.action == FileAction::Add && change.text && !change.properties);
+    assert!(rt; change.path.as_slice() == b"/a".as_slice());
+    assert!(rt; change.source.is_none());
+    Ok(())
+}
+
+#[test]
+fn a_beginning_is_a_fault(rt: HostRuntime) {
+    for end in 0..FILE.len() {
+        if let Some(front) = FILE.get(..end) {
+            assert!(rt; read_revision(rt.alloc(), 1, front).is_err());
+        }
+    }
+}
+
+#[test]
+fn a_changed_byte_is_read_or_a_fault(rt: HostRuntime) -> Result<(), Fail> {
+    for place in 0..FILE.len() {
+        for byte in [0, 10, 255] {
+            let bytes = changed(rt.alloc(), place, byte)?;
+            if let Err(fault) = read_revision(rt.alloc(), 1, bytes.as_slice()) {
+                assert!(rt; !matches!(fault, FileFault::NoMemory | FileFault::WrongFormat));
+            }
+        }
+    }
+    Ok(())
+}
+
+#[test]
+fn faults_are_named(rt: HostRuntime) -> Result<(), Fail> {
+    let mut delta = Vec::from_slice(rt.alloc(), b"DELTA")?;
+    delta.extend_from_slice(FILE.get(5..).unwrap_or(&[]))?;
+    let found = read_revision(rt.alloc(), 1, delta.as_slice());
+    assert!(rt; matches!(found, Err(FileFault::Delta)));
+    let digit = changed(rt.alloc(), 67, b'0')?;
+    let found = read_revision(rt.alloc(), 1, digit.as_slice());
+    assert!(rt; matches!(found, Err(FileFault::Digest)));
+    let found = read_revision(rt.alloc(), 1, DANGLING);
+    assert!(rt; matches!(found, Err(FileFault::Dangling)));
+    Ok(())
+}
+
+/// Whether a change is of the folder's: what was done, at which path, and the word in front.
+fn is_change(change: &FileChange, wanted: &(FileAction, &[u8], &[u8])) -> bool {
+    let (action, path, id) = wanted;
+    change.action == *action
+        && change.path.as_slice() == *path
+        && change.id.as_slice() == *id
+        && !change.text
+        && !change.properties
+}
+
+/// Reads a revision of the folder, which has so many node revisions and these changes.
+fn read_folder(
+    alloc: Global,
+    revision: u32,
+    pieces: usize,
+    wanted: &[(FileAction, &[u8], &[u8])],
+) -> Result<RevisionFile, Fail> {
+    let bytes = REVISIONS.get(revision as usize).ok_or("there is a file")?;
+    let file = read_revision(alloc, revision, bytes)?;
+    if file.pieces.len() != pieces || file.changes.len() != wanted.len() {
+        return Err(Fail::from("it has more or fewer"));
+    }
+    for (change, said) in file.changes.iter().zip(wanted) {
+        if !is_change(change, said) {
+            return Err(Fail::from("a change is another"));
+        }
+    }
+    Ok(file)
+}
+
+#[test]
+fn a_folder_of_another_server_is_read(rt: HostRuntime) -> Result<(), Fail> {
+    read_folder(rt.alloc(), 0, 1, &[])?;
+    let first = read_folder(
+        rt.alloc(),
+        1,
+        3,
+        &[
+            (FileAction::Add, b"/tags", b"_0.0.t0-1"),
+            (FileAction::Add, b"/trunk", b"_1.0.t0-1"),
+        ],
+    )?;
+    assert_eq!(rt; piece(&first, b"/tags")?.node.id.offset, 0);
+    assert_eq!(rt; piece(&first, b"/trunk")?.node.id.offset, 60);
+    let second = read_folder(
+        rt.alloc(),
+        2,
+        3,
+        &[(FileAction::Add, b"/tags/first", b"2._0.t1-1")],
+    )?;
+    let change = second.changes.first().ok_or("there is a change")?;
+    let source = change.source.as_ref().ok_or("it has a source")?;
+    assert_eq!(rt; source.revision, 1);
+    assert!(rt; source.path.as_slice() == b"/trunk".as_slice());
+    let copy = piece(&second, b"/tags/first")?;
+    let from = copy.node.copyfrom.as_ref().ok_or("it is a copy")?;
+    assert_eq!(rt; from.revision, 1);
+    read_folder(
+        rt.alloc(),
+        3,
+        1,
+        &[(FileAction::Delete, b"/trunk", b"2.0.r1/60")],
+    )?;
+    Ok(())
+}

@@ -1,0 +1,4 @@
+pub mod Fronts
+pub mod Adding
+pub mod Histories
+pub mod Commits

@@ -1,0 +1,17 @@
+use Rattle.std.proofs.Common.{sym, ◌∙◌, ap}
+use Rattle.published.specs.Events.{MayFollow}
+use Rattle.published.proofs.Adding.{adds_moves}
+use Rattle.published.proofs.history.Front.add.Goals as goal
+
+pub compare_exchange-found-requires : goal.compare_exchange-found-requires
+compare_exchange-found-requires g c =
+    let h = c.args.book.now.head_is in
+    let offer = c.plain-offer.ensures in
+    let pen = c.no_pen-pen.ensures in
+    let may : MayFollow c.self.inside.seen.log c.plain-offer.result.ask = rw (c.self.view_is, offer.1) c.requires.may in (
+      ap (λ w. w.tracked) h,
+      c.self.invariant.1 ∙ sym (ap (λ w. w.book) h),
+      pen.0 ∙ (c.self.invariant.1 ∙ sym (ap (λ w. w.book) h)),
+      offer.0,
+      rw (ap (λ w. w.key) h, pen.1, offer.3 ∙ c.requires.plain) (adds_moves c.self.inside.seen.log c.plain-offer.result.ask c.self.inside.events (sym c.self.invariant.0) may),
+    )

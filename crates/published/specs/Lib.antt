@@ -1,0 +1,5 @@
+pub mod Changes
+pub mod Events
+pub mod Rules
+pub mod Moments
+pub mod Edition

@@ -1,0 +1,54 @@
+//! Whether one more session may begin.
+ghost use Rattle.std.specs.Prelude.{◌≡◌, ◌-◌, true, false};
+ghost use Rattle.session_pool.specs.Places.{IsAdmitted};
+
+use crate::admission::Admission;
+use crate::places::{MAX_SESSIONS, Places};
+
+impl Places {
+    /// All places are free, and there was no session yet.
+    pub(crate) fn new() -> Places
+        ensures taken { result.taken ≡ 0 }
+        ensures begun { result.begun ≡ 0 }
+        ensures halted { result.halted ≡ false }
+    {
+        Places {
+            taken: 0,
+            begun: 0,
+            halted: false,
+        }
+    }
+
+    /// Whether one more connection becomes a session, which has a place then.
+    pub(crate) fn admit(&mut self) -> Admission
+        ensures { IsAdmitted self.old result self.new }
+    {
+        if self.halted {
+            return Admission::Halted;
+        }
+        if self.taken >= MAX_SESSIONS {
+            return Admission::Full;
+        }
+        self.taken += 1;
+        self.begun = self.begun.saturating_add(1);
+        Admission::Session(self.begun)
+    }
+
+    /// Gives a place back.
+    pub(crate) fn leave(&mut self)
+        ensures taken { self.new.taken ≡ self.old.taken - 1 }
+        ensures begun { self.new.begun ≡ self.old.begun }
+        ensures halted { self.new.halted ≡ self.old.halted }
+    {
+        self.taken = self.taken.saturating_sub(1);
+    }
+
+    /// No session begins any more.
+    pub(crate) fn halt(&mut self)
+        ensures taken { self.new.taken ≡ self.old.taken }
+        ensures begun { self.new.begun ≡ self.old.begun }
+        ensures halted { self.new.halted ≡ true }
+    {
+        self.halted = true;
+    }
+}

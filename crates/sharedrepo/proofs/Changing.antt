@@ -1,0 +1,146 @@
+-- A change that a keeper makes.
+use Rattle.std.proofs.Common.{◌≡◌, ℕ, List, [], ◌∷◌, arith, length-append, Bool, true, false, not, ◌&&◌, true≢false, length, Option, Some, None, Ok, Err, inl, inr, refl, ◌∙◌, ap, sym, subst}
+use Rattle.std.specs.Prelude.{Result}
+use Rattle.repo_api.specs.States.{RepoState, TxnState, youngest}
+use Rattle.repo_api.specs.Commits.{committed, next_tree}
+use Rattle.repo_api.specs.Soundness.{AreSound}
+use Rattle.repo_api.specs.Accepted.{Accepted, IsAccepted, changed, IfRefused, IsOfMemory}
+use Rattle.repo_api.specs.Accepted.Accepted.{Commits, Locks, Unlocks, Releases, ChangesProperty}
+use Rattle.repo_api.specs.Locking.{HandedTokens, releases}
+use Rattle.repo_api.specs.declared.ask.CommitAsk.{CommitAsk}
+use Rattle.repo_api.specs.declared.fault.ChangeFault.{ChangeFault}
+use Rattle.repo_api.specs.declared.fault.ChangeFault.TheVariants as faults
+use Rattle.refusals.specs.declared.Refusal.{Refusal}
+use Rattle.access.specs.Points.{Point, content_of}
+use Rattle.access.specs.Changing.{ChangesAt, ReplacesAt, ReleasesAfter, IsFailure, IsHalt, wants_release}
+use Rattle.access.specs.Handed.{IsHandedIn}
+use Rattle.access.specs.declared.access.Released.{Released}
+use Rattle.access.specs.declared.access.Released.TheVariants.{Settled, NoMemory, StoreFailed}
+use Rattle.access.specs.declared.handed.Handed.{Handed}
+use Rattle.published.specs.Changes.{IsRight}
+use Rattle.published.specs.Moments.{added, shared_rules}
+use Rattle.sharedrepo.specs.Archives.{Kept, IsMade, IsNext, is_commit}
+use Rattle.sharedrepo.specs.Settling.{SettlesTo, ReleasesTo, ReleasesHanded, released_as}
+use Rattle.sharedrepo.specs.Standing.{Standing, IsSteady, now_of, NotBegun}
+use Rattle.sharedrepo.proofs.Keeping.{files_now, sound_now}
+
+-- a change of locks or of a property is right wherever the rules accept it
+pub quiet_right : (c : RepoState) (e : Accepted) → is_commit e ≡ false → AreSound c.revisions → IsAccepted c e → IsRight c e
+quiet_right c (Commits ask t) quiet s a = absurd (true≢false quiet)
+quiet_right c (Locks ask) quiet s a = record { accepted = a; meets = λ x t is. absurd (cc is); sound = s }
+quiet_right c (Unlocks ask) quiet s a = record { accepted = a; meets = λ x t is. absurd (cc is); sound = s }
+quiet_right c (Releases user tokens) quiet s a = record { accepted = a; meets = λ x t is. absurd (cc is); sound = s }
+quiet_right c (ChangesProperty n name value) quiet s a = record { accepted = a; meets = λ x t is. absurd (cc is); sound = s }
+
+-- what a change that was asked for has led to, if it was no commit
+pub settled_all : (p q : Point) (refusal : Option Refusal) (e : Accepted) (r : Result (Unit {0}) ChangeFault)
+    → p.halted ≡ false → refusal ≡ None → is_commit e ≡ false → SettlesTo e p r q → ReplacesAt shared_rules refusal e p r q
+settled_all p q refusal e (Ok x) running none quiet s = (running, none, s)
+settled_all p q refusal e (Err (faults.Refused r)) running none quiet s = absurd s
+settled_all p q refusal e (Err faults.StoreFailed) running none quiet s = absurd (true≢false (sym s.0 ∙ quiet))
+settled_all p q refusal e (Err faults.Halted) running none quiet s = inr (running, none, s)
+settled_all p q refusal e (Err faults.NoMemory) running none quiet s = s
+
+-- and a commit that was not saved
+pub commit_fails : {T : Type 0} (p q : Point) (refusal : Option Refusal) (e : Accepted) (Made : T → Point → Type 0) (fault : ChangeFault)
+    → p.halted ≡ false → refusal ≡ None → SettlesTo e p (Err fault) q → ChangesAt refusal e (IsFailure p) Made p (Err fault) q
+commit_fails p q refusal e Made (faults.Refused r) running none s = absurd s
+commit_fails p q refusal e Made faults.StoreFailed running none s = (running, none, s.1)
+commit_fails p q refusal e Made faults.Halted running none s = inr (running, none, s)
+commit_fails p q refusal e Made faults.NoMemory running none s = s
+
+-- where nothing refuses, anything may be said of a refusal
+pub nothing_refuses : (U : Type 0) (P : Refusal → Type 0) (fault : ChangeFault) → IfRefused {T = U} (Err fault) (λ r. ⊥) → IfRefused {T = U} (Err fault) P
+nothing_refuses U P (faults.Refused r) why = absurd why
+nothing_refuses U P faults.StoreFailed why = tt
+nothing_refuses U P faults.Halted why = tt
+nothing_refuses U P faults.NoMemory why = tt
+
+module _ {S : Type 0} (kept : S → Kept) (k : Standing S) where
+  -- a change that was not begun
+  pub not_begun : {T : Type 0} (refusal : Option Refusal) (e : Accepted) (Fails : Point → Type 0) (Made : T → Point → Type 0) (fault : ChangeFault)
+      → NotBegun kept fault k → ChangesAt refusal e Fails Made (now_of kept k) (Err fault) (now_of kept k)
+  not_begun refusal e Fails Made (faults.Refused r) why = absurd why
+  not_begun refusal e Fails Made faults.StoreFailed why = absurd why
+  not_begun refusal e Fails Made faults.Halted why = inl (why, refl)
+  not_begun refusal e Fails Made faults.NoMemory why = refl
+
+  module _ (steady : IsSteady kept k) (running : (kept k.archive).halted ≡ false) where
+    -- a change that was refused, or lacked memory, before it was saved
+    pub refused : (U : Type 0) {T : Type 0} (refusal : RepoState → Option Refusal) (e : Accepted) (Fails : Point → Type 0) (Made : T → Point → Type 0) (fault : ChangeFault)
+        → IfRefused {T = U} (Err fault) (λ r. refusal (kept k.archive).content ≡ Some r) → IsOfMemory {T = U} (Err fault)
+        → ChangesAt (refusal (content_of (now_of kept k))) e Fails Made (now_of kept k) (Err fault) (now_of kept k)
+    refused U refusal e Fails Made (faults.Refused r) why memory =
+        (running, subst (λ (c : RepoState). refusal c ≡ Some r) (files_now kept k steady running) why, refl)
+    refused U refusal e Fails Made faults.StoreFailed why memory = absurd memory
+    refused U refusal e Fails Made faults.Halted why memory = absurd memory
+    refused U refusal e Fails Made faults.NoMemory why memory = refl
+
+    -- what the archive has made is accepted where the keeper stands
+    pub accepted_now : (e : Accepted) (d : RepoState) → IsMade (kept k.archive).content e d → IsAccepted (content_of (now_of kept k)) e
+    accepted_now e d made = subst (λ (c : RepoState). IsAccepted c e) (files_now kept k steady running) made.accepted
+
+    -- and is what comes next
+    pub next_by : (e asked : Accepted) (d : RepoState) → IsMade (kept k.archive).content e d → asked ≡ e
+        → (AreSound (content_of (now_of kept k)).revisions → IsAccepted (content_of (now_of kept k)) e → IsRight (content_of (now_of kept k)) e)
+        → IsNext k.content asked d
+    next_by e asked d made is right =
+        let there : content_of (now_of kept k) ≡ k.content = sym steady.content in
+        subst (λ (x : Accepted). IsNext k.content x d) (sym is) (record {
+          right = subst (λ (c : RepoState). IsRight c e) there (right (sound_now kept k steady) (accepted_now e d made));
+          made = made.made ∙ ap (λ (c : RepoState). changed c e) (files_now kept k steady running ∙ there);
+        })
+
+    -- what it has led to, if it was no commit
+    pub settled_by : (q : Point) (e asked : Accepted) (d : RepoState) (refusal : Option Refusal) (r : Result (Unit {0}) ChangeFault)
+        → IsMade (kept k.archive).content e d → asked ≡ e → is_commit e ≡ false → (IsAccepted (content_of (now_of kept k)) e → refusal ≡ None)
+        → SettlesTo asked (now_of kept k) r q → ReplacesAt shared_rules refusal e (now_of kept k) r q
+    settled_by q e asked d refusal r made is quiet accepts s =
+        settled_all (now_of kept k) q refusal e r running (accepts (accepted_now e d made)) quiet
+        (subst (λ (x : Accepted). SettlesTo x (now_of kept k) r q) is s)
+
+-- the youngest revision behind a commit is the one that it has made
+pub number_is : (c : RepoState) (ask : CommitAsk) (t : TxnState) (at d : RepoState) → c ≡ at → d ≡ committed c ask t
+    → youngest d ≡ length at.revisions
+number_is c ask t at d same made =
+    let n : youngest (committed c ask t) ≡ length c.revisions = omega (arith, length-append c.revisions (record { tree = next_tree c t; changes = t.changes } ∷ [])) in
+    ap youngest made ∙ (n ∙ ap (λ (x : RepoState). length x.revisions) same)
+
+-- ---- the release after a commit
+
+wanted : (ask : CommitAsk) (handed : Handed) (c : RepoState) → ask.keep_locks ≡ false
+    → handed.user ≡ ask.author → handed.tokens ≡ ask.tokens → wants_release ask c ≡ releases handed.user handed.tokens c.locks
+wanted ask handed c gone user tokens =
+    ap (λ (k : Bool). not k && releases ask.author ask.tokens c.locks) gone
+    ∙ (ap (λ (u : Option (List ℕ)). releases u ask.tokens c.locks) (sym user)
+    ∙ ap (λ (ts : HandedTokens). releases handed.user ts c.locks) (sym tokens))
+
+-- how the save of a release is told
+pub release_settled : (handed : Handed) (p q : Point) (r : Result (Unit {0}) ChangeFault) (told : Released)
+    → p.halted ≡ false → releases handed.user handed.tokens (content_of p).locks ≡ true
+    → ReplacesAt shared_rules None (Releases handed.user handed.tokens) p r q
+    → told ≡ released_as r → ReleasesTo handed p told q
+release_settled handed p q (Ok x) told running wants s is = subst (λ (t : Released). ReleasesTo handed p t q) (sym is) (inl (wants, s.2))
+release_settled handed p q (Err (faults.Refused r)) told running wants s is = let e : None ≡ Some r = s.1 in absurd (cc e)
+release_settled handed p q (Err faults.StoreFailed) told running wants s is = absurd s.2
+release_settled handed p q (Err faults.Halted) told running wants (inl s) is = absurd (true≢false (sym s.0 ∙ running))
+release_settled handed p q (Err faults.Halted) told running wants (inr s) is = subst (λ (t : Released). ReleasesTo handed p t q) (sym is) (wants, s.2)
+release_settled handed p q (Err faults.NoMemory) told running wants s is = subst (λ (t : Released). ReleasesTo handed p t q) (sym is) (wants, s)
+
+released_some : (ask : CommitAsk) (handed : Handed) (mid q : Point) (r : Released) → ask.keep_locks ≡ false
+    → handed.user ≡ ask.author → handed.tokens ≡ ask.tokens → ReleasesTo handed mid r q → ReleasesAfter shared_rules ask mid r q
+released_some ask handed mid q Settled gone user tokens (inl s) =
+    inl (wanted ask handed (content_of mid) gone user tokens ∙ s.0, s.1 ∙ (λ i. added mid (Releases (user i) (tokens i))))
+released_some ask handed mid q Settled gone user tokens (inr s) = inr (wanted ask handed (content_of mid) gone user tokens ∙ s.0, s.1)
+released_some ask handed mid q NoMemory gone user tokens s = (wanted ask handed (content_of mid) gone user tokens ∙ s.0, s.1)
+released_some ask handed mid q StoreFailed gone user tokens s = (
+  wanted ask handed (content_of mid) gone user tokens ∙ s.0,
+  subst (λ (e : Accepted). IsHalt e mid q) (λ i. Releases (user i) (tokens i)) s.1,
+)
+
+-- the release behind a commit
+pub released : (ask : CommitAsk) (handed : Option Handed) (mid q : Point) (r : Released) → IsHandedIn ask handed
+    → ReleasesHanded handed mid r q → ReleasesAfter shared_rules ask mid r q
+released ask None mid q r kept s =
+    subst (λ (x : Released). ReleasesAfter shared_rules ask mid x q) (sym s.0) (inr (kept (content_of mid), s.1))
+released ask (Some handed) mid q r kept s = released_some ask handed mid q r kept.0 kept.1 kept.2 s

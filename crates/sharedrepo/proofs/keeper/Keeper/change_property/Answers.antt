@@ -1,0 +1,14 @@
+use Rattle.std.proofs.Common.{inl, refl, sym, subst, ◌∙◌}
+use Rattle.access.specs.Points.{Point}
+use Rattle.access.specs.Changing.{ChangesPropertyAt}
+use Rattle.published.specs.Moments.{shared_rules, stays}
+use Rattle.sharedrepo.specs.Standing.{now_of}
+use Rattle.sharedrepo.proofs.keeper.Keeper.change_property.Goals as goal
+
+pub returns-clause-shared : goal.returns-clause-shared
+returns-clause-shared g c =
+    let p = now_of g.S.Archive.kept c.args.self.now in
+    (p, c.meet.ensures.later, subst (λ (q : Point). ChangesPropertyAt shared_rules c.args.revision c.args.name c.args.value p c.make_property-answer.result q) (sym c.tell.ensures.told) c.make_property-answer.ensures)
+
+pub returns-then-turns_away-clause-shared : goal.returns-then-turns_away-clause-shared
+returns-then-turns_away-clause-shared g c = (_, stays _, inl (sym c.turns_away.ensures.knows ∙ c.if-turns_away.true, refl))

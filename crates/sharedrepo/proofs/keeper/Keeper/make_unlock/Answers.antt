@@ -1,0 +1,40 @@
+use Rattle.std.proofs.Common.{◌≡◌, None, Some, Err, refl, ap, sym, subst, ◌∙◌}
+use Rattle.access.specs.Points.{Point, content_of}
+use Rattle.published.specs.Moments.{added}
+use Rattle.repo_api.specs.Accepted.{Accepted, IfRefused}
+use Rattle.repo_api.specs.Accepted.Accepted.{Unlocks}
+use Rattle.repo_api.specs.States.{RepoState}
+use Rattle.sharedrepo.specs.Archives.{IsMade}
+use Rattle.sharedrepo.specs.Standing.{Standing, now_of}
+use Rattle.sharedrepo.proofs.Changing.{quiet_right, next_by, settled_by, refused, not_begun}
+use Rattle.repo_api.specs.Locking.{unlock_refusal}
+use Rattle.sharedrepo.proofs.keeper.Keeper.make_unlock.Goals as goal
+
+pub settle-requires-clause-next : goal.settle-requires-clause-next
+settle-requires-clause-next g c =
+    let kept = g.S.Archive.kept in
+    let made = subst (λ (k : Standing g.row.S.Denot). IsMade (kept k.archive).content (Unlocks c.args.ask.now) (g.R.Repository.content c.in-Ok-unlocked.next)) c.self.view_is c.in-Ok-unlocked.ensures.made in
+    next_by kept c.args.self.now c.readiness.ensures.steady c.in-Ok.ensures.running (Unlocks c.args.ask.now) _ (g.R.Repository.content c.in-Ok-unlocked.next) made (ap (λ a. Unlocks a) c.of.ensures) (quiet_right _ (Unlocks c.args.ask.now) refl)
+
+pub settle-requires-clause-writes : goal.settle-requires-clause-writes
+settle-requires-clause-writes g c =
+    subst (λ (x : Accepted). g.S.Archive.writes c.args.self.now.archive c.in-Ok-unlocked.unsaved x) (sym (ap (λ a. Unlocks a) c.of.ensures))
+    (subst (λ (k : Standing g.row.S.Denot). g.S.Archive.writes k.archive c.in-Ok-unlocked.unsaved (Unlocks c.args.ask.now)) c.self.view_is c.in-Ok-unlocked.ensures.writes)
+
+pub returns-in-Ok-unlocked : goal.returns-in-Ok-unlocked
+returns-in-Ok-unlocked g c =
+    let kept = g.S.Archive.kept in
+    let made = subst (λ (k : Standing g.row.S.Denot). IsMade (kept k.archive).content (Unlocks c.args.ask.now) (g.R.Repository.content c.in-Ok-unlocked.next)) c.self.view_is c.in-Ok-unlocked.ensures.made in
+    settled_by kept c.args.self.now c.readiness.ensures.steady c.in-Ok.ensures.running (now_of kept c.settle.new.self) (Unlocks c.args.ask.now) _ (g.R.Repository.content c.in-Ok-unlocked.next) (unlock_refusal (content_of (now_of kept c.args.self.now)) c.args.ask.now) c.settle.result made (ap (λ a. Unlocks a) c.of.ensures) refl (λ a. a) c.settle.ensures
+
+pub returns-in-Err : goal.returns-in-Err
+returns-in-Err g c =
+    let p = now_of g.S.Archive.kept c.args.self.now in
+    not_begun g.S.Archive.kept c.args.self.now {T = Unit {0}} (unlock_refusal (content_of p) c.args.ask.now) (Unlocks c.args.ask.now) (λ q. ⊥) (λ (_ : Unit {0}) q. q ≡ added p (Unlocks c.args.ask.now)) c.in-Err.fault c.in-Err.ensures.err
+
+pub returns-in-Err-unlocked : goal.returns-in-Err-unlocked
+returns-in-Err-unlocked g c =
+    let kept = g.S.Archive.kept in
+    let p = now_of kept c.args.self.now in
+    refused kept c.args.self.now c.readiness.ensures.steady c.in-Ok.ensures.running (Unit {0}) {T = Unit {0}} (λ x. unlock_refusal x c.args.ask.now) (Unlocks c.args.ask.now) (λ q. ⊥) (λ (_ : Unit {0}) q. q ≡ added p (Unlocks c.args.ask.now)) c.in-Err-unlocked.fault
+    (subst (λ (k : Standing g.row.S.Denot). IfRefused {T = Unit {0}} (Err c.in-Err-unlocked.fault) (λ r. unlock_refusal (kept k.archive).content c.args.ask.now ≡ Some r)) c.self.view_is c.in-Err-unlocked.ensures.refused) c.in-Err-unlocked.ensures.memory

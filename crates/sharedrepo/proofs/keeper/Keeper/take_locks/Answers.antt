@@ -1,0 +1,50 @@
+use Rattle.std.proofs.Common.{◌≡◌, true, None, Some, Err, refl, ap, sym, subst, ◌∙◌}
+use Rattle.access.specs.Points.{Point, content_of}
+use Rattle.published.specs.Moments.{added}
+use Rattle.repo_api.specs.Accepted.{Accepted, IfRefused}
+use Rattle.repo_api.specs.Accepted.Accepted.{Releases}
+use Rattle.repo_api.specs.States.{RepoState}
+use Rattle.sharedrepo.specs.Archives.{IsMade}
+use Rattle.sharedrepo.specs.Standing.{Standing, now_of}
+use Rattle.sharedrepo.proofs.Changing.{quiet_right, next_by, settled_by, refused, not_begun}
+use Rattle.sharedrepo.proofs.Changing.{nothing_refuses}
+use Rattle.sharedrepo.proofs.Keeping.{files_now}
+use Rattle.repo_api.specs.Locking.{releases}
+use Rattle.sharedrepo.proofs.keeper.Keeper.take_locks.Goals as goal
+
+pub settle-requires-clause-next : goal.settle-requires-clause-next
+settle-requires-clause-next g c =
+    let kept = g.S.Archive.kept in
+    let made = subst (λ (k : Standing g.row.S.Denot). IsMade (kept k.archive).content (Releases c.args.handed.now.user c.args.handed.now.tokens) (g.R.Repository.content c.in-Ok-released.next)) c.self.view_is c.in-Ok-released.ensures.made in
+    next_by kept c.args.self.now c.readiness.ensures.steady c.in-Ok.ensures.running (Releases c.args.handed.now.user c.args.handed.now.tokens) _ (g.R.Repository.content c.in-Ok-released.next) made (ap (λ h. Releases h.user h.tokens) c.of.ensures) (quiet_right _ (Releases c.args.handed.now.user c.args.handed.now.tokens) refl)
+
+pub settle-requires-clause-writes : goal.settle-requires-clause-writes
+settle-requires-clause-writes g c =
+    subst (λ (x : Accepted). g.S.Archive.writes c.args.self.now.archive c.in-Ok-released.unsaved x) (sym (ap (λ h. Releases h.user h.tokens) c.of.ensures))
+    (subst (λ (k : Standing g.row.S.Denot). g.S.Archive.writes k.archive c.in-Ok-released.unsaved (Releases c.args.handed.now.user c.args.handed.now.tokens)) c.self.view_is c.in-Ok-released.ensures.writes)
+
+pub returns-in-Ok-released : goal.returns-in-Ok-released
+returns-in-Ok-released g c =
+    let kept = g.S.Archive.kept in
+    let made = subst (λ (k : Standing g.row.S.Denot). IsMade (kept k.archive).content (Releases c.args.handed.now.user c.args.handed.now.tokens) (g.R.Repository.content c.in-Ok-released.next)) c.self.view_is c.in-Ok-released.ensures.made in
+    settled_by kept c.args.self.now c.readiness.ensures.steady c.in-Ok.ensures.running (now_of kept c.settle.new.self) (Releases c.args.handed.now.user c.args.handed.now.tokens) _ (g.R.Repository.content c.in-Ok-released.next) (None) c.settle.result made (ap (λ h. Releases h.user h.tokens) c.of.ensures) refl (λ a. refl) c.settle.ensures
+
+pub returns-in-Err : goal.returns-in-Err
+returns-in-Err g c =
+    let p = now_of g.S.Archive.kept c.args.self.now in
+    not_begun g.S.Archive.kept c.args.self.now {T = Unit {0}} (None) (Releases c.args.handed.now.user c.args.handed.now.tokens) (λ q. ⊥) (λ (_ : Unit {0}) q. q ≡ added p (Releases c.args.handed.now.user c.args.handed.now.tokens)) c.in-Err.fault c.in-Err.ensures.err
+
+pub returns-in-Err-released : goal.returns-in-Err-released
+returns-in-Err-released g c =
+    let kept = g.S.Archive.kept in
+    let p = now_of kept c.args.self.now in
+    refused kept c.args.self.now c.readiness.ensures.steady c.in-Ok.ensures.running (Unit {0}) {T = Unit {0}} (λ x. None) (Releases c.args.handed.now.user c.args.handed.now.tokens) (λ q. ⊥) (λ (_ : Unit {0}) q. q ≡ added p (Releases c.args.handed.now.user c.args.handed.now.tokens)) c.in-Err-released.fault
+    (nothing_refuses (Unit {0}) (λ r. None ≡ Some r) c.in-Err-released.fault c.in-Err-released.ensures.refused) c.in-Err-released.ensures.memory
+
+pub released-requires : goal.released-requires
+released-requires g c =
+    let kept = g.S.Archive.kept in
+    let h = c.args.handed.now in
+    let there : (kept c.args.self.now.archive).content ≡ content_of (now_of kept c.args.self.now) = files_now kept c.args.self.now c.readiness.ensures.steady c.in-Ok.ensures.running in
+    subst (λ (k : Standing g.row.S.Denot). releases h.user h.tokens (kept k.archive).content.locks ≡ true) (sym c.self.view_is)
+    (subst (λ (x : RepoState). releases h.user h.tokens x.locks ≡ true) (sym there) c.requires)

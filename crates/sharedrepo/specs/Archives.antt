@@ -1,0 +1,72 @@
+-- What keeps the files of a repository, and what a save leaves.
+use Rattle.std.specs.Prelude.{◌≡◌, ◌⊎◌, ℕ, Bool, true, false, List, Option, Some, Result, Ok, Err}
+use Rattle.repo_api.specs.States.{RepoState}
+use Rattle.repo_api.specs.Accepted.{Accepted, IsAccepted, changed}
+use Rattle.repo_api.specs.Accepted.Accepted.{Commits, Locks, Unlocks, Releases, ChangesProperty}
+use Rattle.repo_api.specs.declared.fault.ChangeFault.{ChangeFault}
+use Rattle.repo_api.specs.declared.fault.ChangeFault.TheVariants as faults
+use Rattle.access.specs.Points.{HasRisen}
+use Rattle.published.specs.Changes.{IsRight}
+use Rattle.published.specs.Events.{Event, state_of}
+use Rattle.sharedrepo.specs.declared.archive.SaveFault.{SaveFault}
+use Rattle.sharedrepo.specs.declared.archive.SaveFault.TheVariants.{Device, NoMemory, Halted}
+
+-- an archive: the repository for which its files stand, whether it saves no more, and how often a
+-- save has failed
+pub record Kept : Type 0 where
+  pub content : RepoState
+  pub halted : Bool
+  pub failures : ℕ
+
+-- the rules accept the change, and this is what it makes
+pub record IsMade (c : RepoState) (e : Accepted) (d : RepoState) : Type 0 where
+  pub accepted : IsAccepted c e
+  pub made : d ≡ changed c e
+
+-- a right change, and what it makes
+pub record IsNext (c : RepoState) (e : Accepted) (d : RepoState) : Type 0 where
+  pub right : IsRight c e
+  pub made : d ≡ changed c e
+
+abbrev pub is_commit : Accepted → Bool
+is_commit (Commits ask t) = true
+is_commit (Locks ask) = false
+is_commit (Unlocks ask) = false
+is_commit (Releases user tokens) = false
+is_commit (ChangesProperty n name value) = false
+
+-- what the save of a change leaves. The files of a revision are written before the one replacement
+-- that makes it the youngest, so the device may fail before it; every other change is one replacement.
+-- Where that fails, the files are the old ones or the new
+abbrev pub SaveLeaves : Accepted → Kept → Result (Unit {0}) SaveFault → Kept → Type 0
+SaveLeaves e old (Ok _) new =
+    (new.content ≡ changed old.content e) × (new.halted ≡ old.halted)
+    × (new.failures ≡ old.failures)
+SaveLeaves e old (Err Device) new =
+    (is_commit e ≡ true) × (new.content ≡ old.content) × (new.halted ≡ old.halted)
+    × HasRisen old.failures new.failures
+SaveLeaves e old (Err NoMemory) new = new ≡ old
+SaveLeaves e old (Err Halted) new =
+    ((new.content ≡ old.content) ⊎ (new.content ≡ changed old.content e)) × (new.halted ≡ true)
+    × HasRisen old.failures new.failures
+
+-- a change that was right was not saved, for this reason
+abbrev pub NotSaved : Accepted → ChangeFault → Kept → Kept → Type 0
+NotSaved e (faults.Refused r) old new = ⊥
+NotSaved e faults.StoreFailed old new = SaveLeaves e old (Err Device) new
+NotSaved e faults.Halted old new = SaveLeaves e old (Err Halted) new
+NotSaved e faults.NoMemory old new = SaveLeaves e old (Err NoMemory) new
+
+-- what a fault of a save is answered by
+abbrev pub fault_of : SaveFault → ChangeFault
+fault_of Device = faults.StoreFailed
+fault_of NoMemory = faults.NoMemory
+fault_of Halted = faults.Halted
+
+-- the files stand for the repository after the events. After a halt the change is known that was being
+-- saved: they stand for the repository before it, or behind it
+abbrev pub FilesFor : Kept → Bool → Option Accepted → List Event → Type 0
+FilesFor kept false pending log = kept.content ≡ state_of log
+FilesFor kept true pending log =
+    (e : Accepted) × (pending ≡ Some e) × IsAccepted (state_of log) e
+    × ((kept.content ≡ state_of log) ⊎ (kept.content ≡ changed (state_of log) e))

@@ -1,0 +1,3 @@
+pub mod Archives
+pub mod Standing
+pub mod Settling

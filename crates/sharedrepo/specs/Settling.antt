@@ -1,0 +1,48 @@
+-- What a right change leads to once it is saved and published, or not.
+use Rattle.std.specs.Prelude.{◌≡◌, ◌⊎◌, true, false, Option, Some, None, Result, Ok, Err}
+use Rattle.repo_api.specs.Accepted.{Accepted}
+use Rattle.repo_api.specs.Accepted.Accepted.{Releases}
+use Rattle.repo_api.specs.Locking.{releases}
+use Rattle.repo_api.specs.declared.fault.ChangeFault.{ChangeFault}
+use Rattle.repo_api.specs.declared.fault.ChangeFault.TheVariants as faults
+use Rattle.access.specs.Changing.{IsFailure, IsHalt}
+use Rattle.access.specs.Points.{Point, content_of}
+use Rattle.access.specs.declared.access.Released.{Released}
+use Rattle.access.specs.declared.access.Released.TheVariants.{Settled, NoMemory, StoreFailed}
+use Rattle.access.specs.declared.handed.Handed.{Handed}
+use Rattle.published.specs.Moments.{added}
+use Rattle.sharedrepo.specs.Archives.{is_commit}
+
+-- it is made; or the store failed, and goes on or not; or memory was refused
+abbrev pub SettlesTo : Accepted → Point → Result (Unit {0}) ChangeFault → Point → Type 0
+SettlesTo e p (Ok _) q = q ≡ added p e
+SettlesTo e p (Err (faults.Refused r)) q = ⊥
+SettlesTo e p (Err faults.StoreFailed) q = (is_commit e ≡ true) × IsFailure p q
+SettlesTo e p (Err faults.Halted) q = IsHalt e p q
+SettlesTo e p (Err faults.NoMemory) q = q ≡ p
+
+-- what a release leads to: it is made where there is one; or memory is refused for it; or the store
+-- fails at it, and changes have come to a halt
+abbrev pub ReleasesTo : Handed → Point → Released → Point → Type 0
+ReleasesTo handed p Settled q =
+    ((releases handed.user handed.tokens (content_of p).locks ≡ true)
+    × (q ≡ added p (Releases handed.user handed.tokens)))
+    ⊎ ((releases handed.user handed.tokens (content_of p).locks ≡ false) × (q ≡ p))
+ReleasesTo handed p NoMemory q =
+    (releases handed.user handed.tokens (content_of p).locks ≡ true) × (q ≡ p)
+ReleasesTo handed p StoreFailed q =
+    (releases handed.user handed.tokens (content_of p).locks ≡ true)
+    × IsHalt (Releases handed.user handed.tokens) p q
+
+-- how the save of a release is told
+abbrev pub released_as : Result (Unit {0}) ChangeFault → Released
+released_as (Ok x) = Settled
+released_as (Err (faults.Refused r)) = StoreFailed
+released_as (Err faults.StoreFailed) = StoreFailed
+released_as (Err faults.Halted) = StoreFailed
+released_as (Err faults.NoMemory) = NoMemory
+
+-- where nothing was kept, there is no release
+abbrev pub ReleasesHanded : Option Handed → Point → Released → Point → Type 0
+ReleasesHanded None p released q = (released ≡ Settled) × (q ≡ p)
+ReleasesHanded (Some handed) p released q = ReleasesTo handed p released q

@@ -1,0 +1,192 @@
+//! The changes that a keeper makes for a seat of its.
+ghost use Rattle.std.specs.Prelude.{◌≡◌, ◌≤◌, true, false, Err};
+ghost use Rattle.access.specs.Points.{Point, content_of};
+ghost use Rattle.access.specs.Changing.{CommitsAt, LocksAt, UnlocksAt, ChangesPropertyAt};
+ghost use Rattle.published.specs.Moments.{GoesOn, shared_rules};
+ghost use Rattle.repo_api.specs.States.{IsBeginning, tree_of};
+ghost use Rattle.repo_api.specs.Transactions.{IsMarkedTxn};
+ghost use Rattle.repo_api.specs.Trees.{IsTree};
+ghost use Rattle.sharedrepo.specs.Standing.{IsSteady, now_of};
+
+use crate::archive::Archive;
+use crate::keeper::Keeper;
+use crate::seat::Seat;
+use access::Committed;
+use byte_string::ByteString;
+use left_right::Absorb;
+use published::{Carries, Naming, Published, Sets, wait_forever};
+use repo_api::{ChangeFault, CommitAsk, LockAsk, Repository, UnlockAsk};
+use std::mem::drop;
+use std::snapshot::Snapshot;
+use std::sync::Wait;
+
+impl<
+    R: Repository,
+    S: Archive<R>,
+    J: Naming,
+    T: Absorb<O> + Carries<Published<R, J>> + Drop,
+    O: Sets<Published<R, J>> + Drop,
+> Keeper<R, S, J, T, O> {
+    /// Whether a seat knows of a halt.
+    fn turns_away(&self, seat: &Seat<R, J, T>) -> bool
+        ensures knows { result ≡ seat.now.halted }
+        ensures steady { IsSteady S.kept self.now }
+    {
+        let _is_halted = self.archive.is_halted();
+        seat.is_halted()
+    }
+
+    /// Shows a seat that knows of no halt where the keeper stands. Its events begin with those of the seat.
+    fn meet<W: Wait>(&self, rt: &W, seat: &mut Seat<R, J, T>)
+        requires { seat.old.halted ≡ false }
+        ensures met { seat.new ≡ now_of S.kept self.now }
+        ensures later { GoesOn seat.old (now_of S.kept self.now) }
+        ensures steady { IsSteady S.kept self.now }
+    {
+        let failures = self.archive.failures();
+        if failures < seat.failures {
+            wait_forever(rt);
+            unreachable!()
+        }
+        if !seat.front.take(&self.front) {
+            wait_forever(rt);
+            unreachable!()
+        }
+        seat.halted = self.archive.is_halted();
+        seat.failures = failures;
+        seat.pending = Snapshot::of(&self.pending);
+    }
+
+    /// Shows a seat what the keeper has come to.
+    fn tell(&self, seat: &mut Seat<R, J, T>)
+        ensures told { seat.new ≡ now_of S.kept self.now }
+        ensures steady { IsSteady S.kept self.now }
+    {
+        seat.front = self.front.again();
+        seat.halted = self.archive.is_halted();
+        seat.failures = self.archive.failures();
+        seat.pending = Snapshot::of(&self.pending);
+    }
+
+    /// Makes the transaction the next revision, and then, unless the locks are to stay, releases those of
+    /// the user's that were handed in.
+    pub fn commit<W: Wait>(
+        &mut self,
+        rt: &W,
+        seat: &mut Seat<R, J, T>,
+        ask: CommitAsk,
+        txn: R::Txn,
+    ) -> Result<Committed, ChangeFault>
+        requires rests { IsBeginning (R.txn_state txn).shown (content_of seat.old).revisions }
+        requires tree { IsTree (tree_of (R.txn_state txn).tree) }
+        requires marked { IsMarkedTxn (R.txn_state txn) }
+        ensures later { seat.old.halted ≡ false → GoesOn seat.old (now_of S.kept self.old) }
+        ensures made { seat.old.halted ≡ false
+            → CommitsAt shared_rules ask (R.txn_state txn) (now_of S.kept self.old) result
+            (now_of S.kept self.new) }
+        ensures told { seat.old.halted ≡ false → seat.new ≡ now_of S.kept self.new }
+        ensures halted { seat.old.halted ≡ true → (result ≡ Err ChangeFault.Halted)
+            × (seat.new ≡ seat.old) × (self.new ≡ self.old) }
+        ensures shared { (at : Point) × GoesOn seat.old at
+            × CommitsAt shared_rules ask (R.txn_state txn) at result
+            seat.new }
+        ensures steady { IsSteady S.kept self.new }
+    {
+        if self.turns_away(seat) {
+            drop((ask, txn));
+            return Err(ChangeFault::Halted);
+        }
+        self.meet(rt, seat);
+        let answer = self.make_commit(rt, ask, txn);
+        self.tell(seat);
+        answer
+    }
+
+    /// Locks the path of a file, in place of a lock that stands there if that may be stolen.
+    pub fn lock<W: Wait>(
+        &mut self,
+        rt: &W,
+        seat: &mut Seat<R, J, T>,
+        ask: LockAsk,
+    ) -> Result<(), ChangeFault>
+        ensures later { seat.old.halted ≡ false → GoesOn seat.old (now_of S.kept self.old) }
+        ensures made { seat.old.halted ≡ false
+            → LocksAt shared_rules ask (now_of S.kept self.old) result
+            (now_of S.kept self.new) }
+        ensures told { seat.old.halted ≡ false → seat.new ≡ now_of S.kept self.new }
+        ensures halted { seat.old.halted ≡ true → (result ≡ Err ChangeFault.Halted)
+            × (seat.new ≡ seat.old) × (self.new ≡ self.old) }
+        ensures shared { (at : Point) × GoesOn seat.old at
+            × LocksAt shared_rules ask at result
+            seat.new }
+        ensures steady { IsSteady S.kept self.new }
+    {
+        if self.turns_away(seat) {
+            drop(ask);
+            return Err(ChangeFault::Halted);
+        }
+        self.meet(rt, seat);
+        let answer = self.make_lock(rt, ask);
+        self.tell(seat);
+        answer
+    }
+
+    /// Takes the lock at a path away.
+    pub fn unlock<W: Wait>(
+        &mut self,
+        rt: &W,
+        seat: &mut Seat<R, J, T>,
+        ask: &UnlockAsk,
+    ) -> Result<(), ChangeFault>
+        ensures later { seat.old.halted ≡ false → GoesOn seat.old (now_of S.kept self.old) }
+        ensures made { seat.old.halted ≡ false
+            → UnlocksAt shared_rules ask.now (now_of S.kept self.old) result
+            (now_of S.kept self.new) }
+        ensures told { seat.old.halted ≡ false → seat.new ≡ now_of S.kept self.new }
+        ensures halted { seat.old.halted ≡ true → (result ≡ Err ChangeFault.Halted)
+            × (seat.new ≡ seat.old) × (self.new ≡ self.old) }
+        ensures shared { (at : Point) × GoesOn seat.old at
+            × UnlocksAt shared_rules ask.now at result
+            seat.new }
+        ensures steady { IsSteady S.kept self.new }
+    {
+        if self.turns_away(seat) {
+            return Err(ChangeFault::Halted);
+        }
+        self.meet(rt, seat);
+        let answer = self.make_unlock(rt, ask);
+        self.tell(seat);
+        answer
+    }
+
+    /// Makes this the value of a property of a revision, or takes the property out where there is no value.
+    pub fn change_property<W: Wait>(
+        &mut self,
+        rt: &W,
+        seat: &mut Seat<R, J, T>,
+        revision: u64,
+        name: ByteString,
+        value: Option<ByteString>,
+    ) -> Result<(), ChangeFault>
+        ensures later { seat.old.halted ≡ false → GoesOn seat.old (now_of S.kept self.old) }
+        ensures made { seat.old.halted ≡ false
+            → ChangesPropertyAt shared_rules revision name value (now_of S.kept self.old) result
+            (now_of S.kept self.new) }
+        ensures told { seat.old.halted ≡ false → seat.new ≡ now_of S.kept self.new }
+        ensures halted { seat.old.halted ≡ true → (result ≡ Err ChangeFault.Halted)
+            × (seat.new ≡ seat.old) × (self.new ≡ self.old) }
+        ensures shared { (at : Point) × GoesOn seat.old at
+            × ChangesPropertyAt shared_rules revision name value at result
+            seat.new }
+        ensures steady { IsSteady S.kept self.new }
+    {
+        if self.turns_away(seat) {
+            drop((name, value));
+            return Err(ChangeFault::Halted);
+        }
+        self.meet(rt, seat);
+        let answer = self.make_property(rt, revision, name, value);
+        self.tell(seat);
+        answer
+    }
+}

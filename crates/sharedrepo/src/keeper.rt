@@ -1,0 +1,193 @@
+//! The keeper of a repository: it alone changes it.
+ghost use Rattle.std.specs.Prelude.{◌≡◌, ◌<◌, ◌^◌, [], ◌∷◌, false, None, length, All, IfOk};
+ghost use Rattle.repo_api.specs.Soundness.{AreSound};
+ghost use Rattle.published.specs.Events.{state_of, point_of};
+ghost use Rattle.published.specs.Events.Event.{Opened};
+ghost use Rattle.sharedrepo.specs.Standing.{IsSteady};
+
+use crate::archive::Archive;
+use crate::seat::Seat;
+use left_right::Absorb;
+use published::{
+    AskedChange, Book, Carries, Desk, Front, Naming, NewHistory, OpeningEvent, Published, Sets,
+};
+use repo_api::Repository;
+use std::alloc::{AllocError, Global};
+use std::marker::{Model, PhantomData};
+use std::mem;
+use std::snapshot::Snapshot;
+use std::sync::Wait;
+
+/// How many seats there are at most.
+pub const MAX_SEATS: usize = 65_536;
+
+pub(crate) const MAX_EVENTS: u64 = 1 << 60;
+
+/// A repository, what publishes it, and its archive.
+#[derive(Drop)]
+pub struct Keeper<
+    R: Repository,
+    S: Archive<R>,
+    J: Naming,
+    T: Absorb<O> + Carries<Published<R, J>> + Drop,
+    O: Sets<Published<R, J>> + Drop,
+> {
+    pub(crate) alloc: Global,
+    pub(crate) book: Book<J>,
+    pub(crate) front: Front<J>,
+    pub(crate) repository: R,
+    pub(crate) desk: Desk<T, O>,
+    pub(crate) archive: S,
+    /// The change that was being saved when changes came to a halt.
+    pub(crate) pending: Option<AskedChange<R::Txn>>,
+    pub(crate) has_ended: bool,
+}
+
+impl<
+    R: Repository,
+    S: Archive<R>,
+    J: Naming,
+    T: Absorb<O> + Carries<Published<R, J>> + Drop,
+    O: Sets<Published<R, J>> + Drop,
+> Model for Keeper<R, S, J, T, O> {
+    ghost use Rattle.std.specs.Coded.{codes};
+    ghost use Rattle.std.specs.FinMap.{code as map_code};
+    ghost use Rattle.sharedrepo.specs.Standing.{Standing, standing, pending_in, IsSteady};
+
+    ghost Value = { Standing S };
+
+    ghost coded = { Prim.hlevel (map_code, codes) };
+
+    ghost view = { λ k. standing k.front (R.content k.repository)
+        (T.carried_value k.desk.writer.desk.shown.value) k.archive
+        (pending_in R.txn_state k.pending) };
+
+    ghost invariant = { λ k. IsSteady S.kept (standing k.front (R.content k.repository)
+        (T.carried_value k.desk.writer.desk.shown.value) k.archive
+        (pending_in R.txn_state k.pending)) };
+}
+
+/// So many seats at this front.
+fn seat_all<
+    R: Repository,
+    J: Naming,
+    T: Absorb<O> + Carries<Published<R, J>> + Drop,
+    O: Sets<Published<R, J>> + Drop,
+>(
+    alloc: Global,
+    desk: &Desk<T, O>,
+    front: &Front<J>,
+    failures: u64,
+    seats: usize,
+) -> Result<Vec<Seat<R, J, T>>, AllocError>
+    requires { 0 < length front.now }
+    ensures { IfOk result (λ v. All (λ s. s ≡ point_of front.now false failures None) v.items) }
+{
+    let mut all = Vec::new(alloc);
+    for _ in 0..seats {
+        let seat = seat_at(desk, front, failures)?;
+        all.push(seat)?;
+    }
+    Ok(all)
+}
+
+fn seat_at<
+    R: Repository,
+    J: Naming,
+    T: Absorb<O> + Carries<Published<R, J>> + Drop,
+    O: Sets<Published<R, J>> + Drop,
+>(desk: &Desk<T, O>, front: &Front<J>, failures: u64) -> Result<Seat<R, J, T>, AllocError>
+    requires { 0 < length front.now }
+    ensures { IfOk result (λ s. s ≡ point_of front.now false failures None) }
+{
+    let reader = desk.reader()?;
+    Ok(Seat {
+        reader: Some(reader),
+        front: front.again(),
+        halted: false,
+        failures,
+        pending: Snapshot::of(&None),
+        of: PhantomData,
+    })
+}
+
+/// The two copies, and the writer over them.
+fn desk_at<
+    R: Repository,
+    J: Naming,
+    T: Absorb<O> + Carries<Published<R, J>> + Drop,
+    O: Sets<Published<R, J>> + Drop,
+>(alloc: Global, repository: &R, front: &Front<J>, seats: usize) -> Result<Desk<T, O>, AllocError>
+    requires seats { (0 < seats) × (seats < 2 ^ 32) }
+    requires alike { (x y : T) → T.state x ≡ T.state y }
+    requires stands { R.content repository.now ≡ state_of front.now }
+    ensures { IfOk result (λ d. ((T.carried_value d.writer.desk.shown.value).list ≡ front.now)
+        × ((T.carried_value d.writer.desk.shown.value).content ≡ R.content repository.now)) }
+{
+    let first = T::carry(Published::new(repository.share()?, front.again()));
+    let second = T::carry(Published::new(repository.share()?, front.again()));
+    Desk::new(alloc, first, second, seats)
+}
+
+impl<
+    R: Repository,
+    S: Archive<R>,
+    J: Naming,
+    T: Absorb<O> + Carries<Published<R, J>> + Drop,
+    O: Sets<Published<R, J>> + Drop,
+> Keeper<R, S, J, T, O> {
+    /// A keeper of a repository, whose files the archive has, and so many seats.
+    pub fn open(
+        alloc: Global,
+        repository: R,
+        archive: S,
+        seats: usize,
+        history: NewHistory,
+    ) -> Result<(Keeper<R, S, J, T, O>, Vec<Seat<R, J, T>>), AllocError>
+        requires book { history.seen.book ≡ J.book }
+        requires alike { (x y : T) → T.state x ≡ T.state y }
+        requires files { (S.kept archive).content ≡ R.content repository }
+        requires running { (S.kept archive).halted ≡ false }
+        requires sound { AreSound (R.content repository).revisions }
+        ensures opened { IfOk result (λ r. r.0.list ≡ Opened (R.content repository) ∷ []) }
+        ensures seats { IfOk result (λ r. All (λ s. s ≡ point_of r.0.list false
+            (S.kept archive).failures None) r.1.items) }
+        ensures archive { IfOk result (λ r. r.0.archive ≡ archive) }
+        ensures steady { IfOk result (λ r. IsSteady S.kept r.0) }
+    {
+        if seats == 0 || seats > MAX_SEATS {
+            return Err(AllocError);
+        }
+        let failures = archive.failures();
+        let (book, mut front) = history.named::<J>();
+        if !front.add::<R, OpeningEvent>(&book, &repository) {
+            return Err(AllocError);
+        }
+        let desk = desk_at(alloc, &repository, &front, seats)?;
+        let seats = seat_all(alloc, &desk, &front, failures, seats)?;
+        let keeper = Keeper {
+            alloc,
+            book,
+            front,
+            repository,
+            desk,
+            archive,
+            pending: None,
+            has_ended: false,
+        };
+        Ok((keeper, seats))
+    }
+
+    /// Ends it, unless memory is refused: looks and changes are then refused. What it has published is
+    /// given up, and a copy of it that no seat reads stands in its place.
+    pub fn end<W: Wait>(&mut self, rt: &W) -> Result<(), AllocError>
+        requires { (x y : T) → T.state x ≡ T.state y }
+        ensures { self.new ≡ self.old }
+    {
+        let desk = desk_at(self.alloc, &self.repository, &self.front, 1)?;
+        let ended = mem::replace(&mut self.desk, desk);
+        ended.close(rt);
+        self.has_ended = true;
+        Ok(())
+    }
+}

@@ -1,0 +1,203 @@
+//! What a change has made is saved, and published.
+ghost use Rattle.std.specs.Prelude.{◌≡◌, ◌<◌, ◌^◌, false, length, IfErr, IfOk, OnOk, Ok, Some};
+ghost use Rattle.published.specs.Events.{state_of, accepted_by};
+ghost use Rattle.repo_api.specs.Accepted.{Accepted};
+ghost use Rattle.sharedrepo.specs.Archives.{IsNext, SaveLeaves, NotSaved, fault_of};
+ghost use Rattle.sharedrepo.specs.Settling.{SettlesTo};
+ghost use Rattle.sharedrepo.specs.Standing.{now_of};
+
+use crate::archive::{Archive, SaveFault};
+use crate::keeper::Keeper;
+use left_right::Absorb;
+use published::{
+    AskedChange, Carries, ChangeEvent, Desk, Front, Naming, Places, Published, Sets, next_front,
+};
+use repo_api::{ChangeFault, Repository};
+use std::alloc::{AllocError, Global};
+use std::mem::drop;
+use std::sync::{Arc, Wait};
+
+/// The next repository for what is published, with the places of the operation that is pending.
+#[derive(Drop)]
+pub(crate) struct Ready<R: Repository, J: Naming> {
+    pub(crate) first: R,
+    pub(crate) second: R,
+    pub(crate) places: Arc<Places<Published<R, J>>>,
+}
+
+/// All that a change needs of memory.
+pub(crate) fn make_ready<
+    R: Repository,
+    J: Naming,
+    T: Absorb<O> + Carries<Published<R, J>> + Drop,
+    O: Sets<Published<R, J>> + Drop,
+>(alloc: Global, desk: &mut Desk<T, O>, next: &R) -> Result<Ready<R, J>, AllocError>
+    ensures desk { desk.new.writer.desk ≡ desk.old.writer.desk }
+    ensures ready { IfOk result (λ r. (R.content r.first ≡ R.content next.now)
+        × (R.content r.second ≡ R.content next.now)) }
+{
+    let first = next.share()?;
+    let second = next.share()?;
+    let places = Arc::new(alloc, Places::new())?;
+    let pending = Arc::try_clone(&places)?;
+    if desk.pend(O::set(pending)).is_err() {
+        return Err(AllocError);
+    }
+    Ok(Ready {
+        first,
+        second,
+        places,
+    })
+}
+
+/// Saves what comes next, once all else that needs memory is at hand.
+pub(crate) fn save_next<
+    R: Repository,
+    S: Archive<R>,
+    J: Naming,
+    T: Absorb<O> + Carries<Published<R, J>> + Drop,
+    O: Sets<Published<R, J>> + Drop,
+>(
+    alloc: Global,
+    desk: &mut Desk<T, O>,
+    archive: &mut S,
+    next: &R,
+    unsaved: S::Unsaved,
+) -> Result<Ready<R, J>, ChangeFault>
+    requires { (S.kept archive.old).halted ≡ false }
+    ensures desk { desk.new.writer.desk ≡ desk.old.writer.desk }
+    ensures ready { IfOk result (λ r. (R.content r.first ≡ R.content next.now)
+        × (R.content r.second ≡ R.content next.now)) }
+    ensures saved { OnOk result ((e : Accepted) → S.writes archive.old unsaved e
+        → SaveLeaves e (S.kept archive.old) (Ok tt) (S.kept archive.new)) }
+    ensures fault { IfErr result (λ f. (e : Accepted) → S.writes archive.old unsaved e
+        → NotSaved e f (S.kept archive.old) (S.kept archive.new)) }
+{
+    match make_ready(alloc, desk, next) {
+        Err(AllocError) => {
+            drop(unsaved);
+            Err(ChangeFault::NoMemory)
+        }
+        Ok(ready) => match archive.save(unsaved) {
+            Ok(()) => Ok(ready),
+            Err(fault) => {
+                drop(ready);
+                Err(change_fault(fault))
+            }
+        },
+    }
+}
+
+/// Puts the two copies into their places, at this front.
+pub(crate) fn fill<R: Repository, J: Naming>(ready: Ready<R, J>, front: &Front<J>)
+    requires first { R.content ready.first ≡ state_of front.now }
+    requires second { R.content ready.second ≡ state_of front.now }
+{
+    let Ready {
+        first,
+        second,
+        places,
+    } = ready;
+    let first = Published::new(first, front.again());
+    let second = Published::new(second, front.again());
+    places.fill(first, second);
+}
+
+pub(crate) fn change_fault(fault: SaveFault) -> ChangeFault
+    ensures { result ≡ fault_of fault }
+{
+    match fault {
+        SaveFault::Device => ChangeFault::StoreFailed,
+        SaveFault::NoMemory => ChangeFault::NoMemory,
+        SaveFault::Halted => ChangeFault::Halted,
+    }
+}
+
+/// Publishes what is pending, until it is the value at this front.
+pub(crate) fn publish<
+    R: Repository,
+    J: Naming,
+    T: Absorb<O> + Carries<Published<R, J>> + Drop,
+    O: Sets<Published<R, J>> + Drop,
+    W: Wait,
+>(rt: &W, desk: &mut Desk<T, O>, front: &Front<J>)
+    ensures { ((T.carried_value desk.new.writer.desk.shown.value).list ≡ front.now)
+        × ((T.carried_value desk.new.writer.desk.shown.value).content ≡ state_of front.now) }
+{
+    for _ in rt.forever() {
+        let _ = desk.show(rt);
+        if desk.published().carried().front().is_same(front) {
+            return;
+        }
+    }
+    unreachable!()
+}
+
+/// The change of which nobody knows whether it was saved is kept.
+fn keep_pending<T: Drop>(
+    pending: &mut Option<AskedChange<T>>,
+    fault: ChangeFault,
+    asked: AskedChange<T>,
+)
+    ensures halted { fault ≡ ChangeFault.Halted → pending.new ≡ Some asked }
+    ensures other { (fault ≡ ChangeFault.Halted → ⊥) → pending.new ≡ pending.old }
+{
+    if let ChangeFault::Halted = fault {
+        *pending = Some(asked);
+    } else {
+        drop(asked);
+    }
+}
+
+impl<
+    R: Repository,
+    S: Archive<R>,
+    J: Naming,
+    T: Absorb<O> + Carries<Published<R, J>> + Drop,
+    O: Sets<Published<R, J>> + Drop,
+> Keeper<R, S, J, T, O> {
+    /// Saves what a change has made, and publishes it.
+    pub(crate) fn settle<W: Wait>(
+        &mut self,
+        rt: &W,
+        next: R,
+        unsaved: S::Unsaved,
+        asked: AskedChange<R::Txn>,
+    ) -> Result<(), ChangeFault>
+        requires running { (S.kept self.old.archive).halted ≡ false }
+        requires room { length self.old.list < 2 ^ 60 }
+        requires next { IsNext self.old.content (accepted_by R.txn_state asked)
+            (R.content next) }
+        requires writes { S.writes self.old.archive unsaved (accepted_by R.txn_state asked) }
+        ensures { SettlesTo (accepted_by R.txn_state asked) (now_of S.kept self.old) result
+            (now_of S.kept self.new) }
+    {
+        match save_next(
+            self.alloc,
+            &mut self.desk,
+            &mut self.archive,
+            &next,
+            unsaved,
+        ) {
+            Err(fault) => {
+                drop(next);
+                keep_pending(&mut self.pending, fault, asked);
+                Err(fault)
+            }
+            Ok(ready) => {
+                let front = next_front::<AskedChange<R::Txn>, ChangeEvent<R>, J, W>(
+                    rt,
+                    &self.book,
+                    &self.front,
+                    &asked,
+                );
+                drop(asked);
+                fill(ready, &front);
+                publish(rt, &mut self.desk, &front);
+                self.front = front;
+                self.repository = next;
+                Ok(())
+            }
+        }
+    }
+}

@@ -1,0 +1,162 @@
+//! The keeper under a lock, by which threads change the repository, each by a seat of its own.
+ghost use Rattle.std.specs.Prelude.{◌≡◌, false, None, ◌∷◌, [], All, IfOk};
+ghost use Rattle.access.specs.Points.{Point, content_of};
+ghost use Rattle.access.specs.Changing.{CommitsAt, LocksAt, UnlocksAt, ChangesPropertyAt};
+ghost use Rattle.published.specs.Events.{point_of};
+ghost use Rattle.published.specs.Events.Event.{Opened};
+ghost use Rattle.published.specs.Moments.{GoesOn, shared_rules};
+ghost use Rattle.repo_api.specs.Soundness.{AreSound};
+ghost use Rattle.repo_api.specs.States.{IsBeginning, tree_of};
+ghost use Rattle.repo_api.specs.Transactions.{IsMarkedTxn};
+ghost use Rattle.repo_api.specs.Trees.{IsTree};
+
+use crate::archive::Archive;
+use crate::keeper::Keeper;
+use crate::seat::Seat;
+use access::Committed;
+use byte_string::ByteString;
+use left_right::Absorb;
+use published::{Carries, Naming, NewHistory, Published, Sets, Setting, Shown};
+use repo_api::{ChangeFault, CommitAsk, LockAsk, Repository, UnlockAsk};
+use std::alloc::{AllocError, Global};
+use std::sync::atomic::{AtomicBool, Ordering};
+use std::sync::{Mutex, Wait};
+
+/// A keeper that threads share, and whether changes have come to a halt: that is read without a wait.
+#[derive(Drop)]
+pub struct Locked<
+    R: Repository,
+    S: Archive<R>,
+    J: Naming,
+    T: Absorb<O> + Carries<Published<R, J>> + Drop,
+    O: Sets<Published<R, J>> + Drop,
+> {
+    keeper: Mutex<Keeper<R, S, J, T, O>>,
+    has_halted: AtomicBool,
+}
+
+/// The shared repository.
+pub type SharedRepo<R, S, J> = Locked<R, S, J, Shown<Published<R, J>>, Setting<Published<R, J>>>;
+
+impl<
+    R: Repository,
+    S: Archive<R>,
+    J: Naming,
+    T: Absorb<O> + Carries<Published<R, J>> + Drop,
+    O: Sets<Published<R, J>> + Drop,
+> Locked<R, S, J, T, O> {
+    /// A shared repository, whose files the archive has, and so many seats.
+    pub fn open(
+        alloc: Global,
+        repository: R,
+        archive: S,
+        seats: usize,
+        history: NewHistory,
+    ) -> Result<(Locked<R, S, J, T, O>, Vec<Seat<R, J, T>>), AllocError>
+        requires book { history.seen.book ≡ J.book }
+        requires alike { (x y : T) → T.state x ≡ T.state y }
+        requires files { (S.kept archive).content ≡ R.content repository }
+        requires running { (S.kept archive).halted ≡ false }
+        requires sound { AreSound (R.content repository).revisions }
+        ensures { IfOk result (λ r. All (λ s. s ≡ point_of (Opened (R.content repository) ∷ [])
+            false (S.kept archive).failures None) r.1.items) }
+    {
+        let (keeper, seats) = Keeper::open(alloc, repository, archive, seats, history)?;
+        Ok((
+            Locked {
+                keeper: Mutex::new(keeper),
+                has_halted: AtomicBool::new(false),
+            },
+            seats,
+        ))
+    }
+
+    /// Ends it, unless memory is refused: looks and changes are then refused.
+    pub fn end<W: Wait>(&self, rt: &W) -> Result<(), AllocError>
+        requires { (x y : T) → T.state x ≡ T.state y }
+    {
+        self.keeper.lock(rt).end(rt)
+    }
+
+    /// Whether some call has found that changes have come to a halt. It waits for nobody.
+    pub fn has_halted(&self) -> bool {
+        self.has_halted.load(Ordering::SeqCst)
+    }
+
+    /// Notes for all what a seat has learned.
+    fn note(&self, seat: &Seat<R, J, T>) {
+        if seat.is_halted() {
+            self.has_halted.store(true, Ordering::SeqCst);
+        }
+    }
+
+    /// Makes the transaction the next revision, and then, unless the locks are to stay, releases those of
+    /// the user's that were handed in.
+    pub fn commit<W: Wait>(
+        &self,
+        rt: &W,
+        seat: &mut Seat<R, J, T>,
+        ask: CommitAsk,
+        txn: R::Txn,
+    ) -> Result<Committed, ChangeFault>
+        requires rests { IsBeginning (R.txn_state txn).shown (content_of seat.old).revisions }
+        requires tree { IsTree (tree_of (R.txn_state txn).tree) }
+        requires marked { IsMarkedTxn (R.txn_state txn) }
+        ensures { (at : Point) × GoesOn seat.old at
+            × CommitsAt shared_rules ask (R.txn_state txn) at result seat.new }
+    {
+        let answer = self.keeper.lock(rt).commit(rt, seat, ask, txn);
+        self.note(seat);
+        answer
+    }
+
+    /// Locks the path of a file, in place of a lock that stands there if that may be stolen.
+    pub fn lock<W: Wait>(
+        &self,
+        rt: &W,
+        seat: &mut Seat<R, J, T>,
+        ask: LockAsk,
+    ) -> Result<(), ChangeFault>
+        ensures { (at : Point) × GoesOn seat.old at × LocksAt shared_rules ask at result seat.new }
+    {
+        let answer = self.keeper.lock(rt).lock(rt, seat, ask);
+        self.note(seat);
+        answer
+    }
+
+    /// Takes the lock at a path away.
+    pub fn unlock<W: Wait>(
+        &self,
+        rt: &W,
+        seat: &mut Seat<R, J, T>,
+        ask: &UnlockAsk,
+    ) -> Result<(), ChangeFault>
+        ensures { (at : Point) × GoesOn seat.old at
+            × UnlocksAt shared_rules ask.now at result seat.new }
+    {
+        let answer = self.keeper.lock(rt).unlock(rt, seat, ask);
+        self.note(seat);
+        answer
+    }
+
+    /// Makes this the value of a property of a revision, or takes the property out where there is no
+    /// value.
+    pub fn change_property<W: Wait>(
+        &self,
+        rt: &W,
+        seat: &mut Seat<R, J, T>,
+        revision: u64,
+        name: ByteString,
+        value: Option<ByteString>,
+    ) -> Result<(), ChangeFault>
+        ensures { (at : Point) × GoesOn seat.old at
+            × ChangesPropertyAt shared_rules revision name value at result seat.new }
+    {
+        let answer = self
+            .keeper
+            .lock(rt)
+            .change_property(rt, seat, revision, name, value);
+        self.note(seat);
+        answer
+    }
+}

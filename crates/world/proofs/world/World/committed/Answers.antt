@@ -1,0 +1,22 @@
+use Rattle.std.proofs.Common.{rules, ◌≡◌}
+use Rattle.std.specs.Prelude.{None}
+use Rattle.repo_api.specs.Commits.{commit_refusal, committed}
+use Rattle.history.specs.Sound.{IsSoundRepo}
+use Rattle.held.specs.Contents.{held_state, state_of}
+use Rattle.held.specs.declared.held.Held.{Held}
+use Rattle.world.specs.Whole.{txn_state_of}
+use Rattle.world.proofs.Keeping.{commit_keeps}
+use Rattle.world.proofs.Mapping.{txn_sound}
+use Rattle.world.proofs.world.World.committed.Goals as goal
+
+pub invariant_of-result : goal.invariant_of-result
+invariant_of-result c =
+    let old = c.args.self.now.held.value in
+    let locks = c.args.self.now.locks.value in
+    let t = txn_state_of c.args.txn.now in
+    let accepted : commit_refusal (state_of old locks) c.args.ask.now t ≡ None = search rules in
+    let keeps : (new : Held) → held_state new ≡ committed (held_state old) c.args.ask.now t
+    → ∥ IsSoundRepo (held_state new) ∥₁ =
+    λ new is. commit_keeps old new locks c.args.ask.now t c.requires accepted is
+    (txn_sound c.args.txn.now) c.args.self.now.sound in
+    record { sound = search (keeps, rules) }
