@@ -12,6 +12,7 @@ UUID = "00000000-0000-4000-8000-000000000000"
 MOMENT = 1_000_000
 
 TEXTS = {
+    160000: "store failed",
     160005: "bad path",
     160006: "no such revision",
     160013: "not found",
@@ -123,6 +124,12 @@ def revision_properties(properties):
 def committed(revision, moment=MOMENT, author=None):
     """What a client is told of a commit that is accepted, by a user or without a name."""
     return EMPTY + NO_LOGIN + b"( %d ( %s) %s( ) ) " % (revision, string(date(moment)), optional(author))
+
+
+def committed_unreleased(revision, moment=MOMENT, author=None):
+    """The same, where the store failed at the release of locks."""
+    told = b"( " + string("store failed") + b") "
+    return EMPTY + NO_LOGIN + b"( %d ( %s) %s%s) " % (revision, string(date(moment)), optional(author), told)
 
 
 def greeting_answer(url, version=2, capabilities=b"edit-pipeline ", rest=b""):
@@ -363,6 +370,19 @@ def open_file(path, parent, token, revision=b"( ) "):
 def optional(content):
     """A list of one string, or of none."""
     return b"( ) " if content is None else b"( " + string(content) + b") "
+
+
+def hash_dump(pairs):
+    """A list of names and values as files have it, in the order of the names' bytes."""
+    dump = b""
+    for name, value in sorted((text_bytes(name), text_bytes(value)) for name, value in pairs.items()):
+        dump += b"K %d\n%s\nV %d\n%s\n" % (len(name), name, len(value), value)
+    return dump + b"END\n"
+
+
+def text_bytes(text):
+    """The bytes of a text."""
+    return text.encode() if isinstance(text, str) else text
 
 
 def directory_property(token, name, value=None):

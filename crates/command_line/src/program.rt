@@ -64,12 +64,11 @@ fn revprops_argument<'a>(alloc: Global) -> Arg<'a> {
 
 /// `create DIR`.
 fn create_command<'a>(alloc: Global) -> Result<Command<'a>, AllocError> {
-    let folder = Arg::new(alloc, FOLDER)
-        .required(true)
-        .help("The repository's folder");
+    let folder = Arg::new(alloc, FOLDER).required(true).help(
+        "The repository's folder, which is made where it is missing",
+    );
     Command::new(alloc, CREATE)
         .about("Makes an empty repository")
-        .hide(true)
         .arg(folder)
 }
 

@@ -42,12 +42,21 @@ fn value_of(
     }
 }
 
+/// The folder of the repository.
+fn folder_of(alloc: Global, matches: &ArgMatches<'_>) -> Result<String, CommandLineFault> {
+    let folder = value_of(alloc, matches, FOLDER)?;
+    if folder.is_empty() {
+        return Err(bad(alloc, "error: DIR is empty\n"));
+    }
+    Ok(folder)
+}
+
 /// Where the repository is.
 fn location_of(alloc: Global, matches: &ArgMatches<'_>) -> Result<Location, CommandLineFault> {
     if matches.get_str(FOLDER) == Some(IN_MEMORY) {
         return Ok(Location::Memory);
     }
-    Ok(Location::Folder(value_of(alloc, matches, FOLDER)?))
+    Ok(Location::Folder(folder_of(alloc, matches)?))
 }
 
 /// The order that the arguments of `create` give.
@@ -55,8 +64,9 @@ fn create_order(alloc: Global, matches: &ArgMatches<'_>) -> Result<Order, Comman
     if matches.get_str(FOLDER) == Some(IN_MEMORY) {
         return Err(bad(alloc, "error: DIR of `create` is a folder\n"));
     }
-    let folder = value_of(alloc, matches, FOLDER)?;
-    Ok(Order::Create { folder })
+    Ok(Order::Create {
+        folder: folder_of(alloc, matches)?,
+    })
 }
 
 /// The order that the arguments of `stdio` give.

@@ -107,6 +107,8 @@ fn refuses_other_lines(rt: HostRuntime) -> Result<(), Fail> {
         "svnserved stdio - --revprops",
         "svnserved create",
         "svnserved create -",
+        "svnserved create ",
+        "svnserved stdio  --name r",
         "svnserved create folder --name r",
         "svnserved serve - --name r --users file",
         "svnserved serve - --listen 127.0.0.1:1 --users file",

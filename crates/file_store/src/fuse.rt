@@ -84,6 +84,13 @@ impl<S: Store> FuseStore<S> {
         }
     }
 
+    /// Shows the store behind it.
+    pub fn inner(&self) -> &S
+        ensures { result.now ≡ self.now.inner }
+    {
+        &self.inner
+    }
+
     /// The store behind it.
     pub fn into_inner(self) -> S
         ensures { result ≡ self.inner }

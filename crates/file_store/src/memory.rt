@@ -1,5 +1,5 @@
 //! Files in memory.
-ghost use Rattle.std.specs.Prelude.{◌≡◌, None, OnOk, OnErr};
+ghost use Rattle.std.specs.Prelude.{◌≡◌, None, OnOk, OnErr, option_copied};
 ghost use Rattle.file_store.specs.Folders.{IsSame, nothing, with_file};
 ghost use Rattle.file_store.specs.Memory.{files_of};
 ghost use Rattle.file_store.specs.declared.name.FileName.{FileName};
@@ -27,6 +27,14 @@ impl MemoryStore {
             alloc,
             files: BTreeMap::new(alloc),
         }
+    }
+
+    /// Shows the bytes of a file, if it is there.
+    pub fn bytes(&self, name: FileName) -> Option<&[u8]>
+        ensures { option_copied result ≡ files_of self.now.files name }
+    {
+        let found = self.files.get(&(name.kind(), name.number()))?;
+        Some(found.as_slice())
     }
 
     /// Puts these bytes in a file.

@@ -21,13 +21,13 @@ use Rattle.filed_world.specs.Files.{AreFilesOf, AreLocks, HasOneMoreList, HasOth
 
 -- ---- properties, revision by revision
 
-abbrev said : RevisionFiles → Option PropertyList
+abbrev pub said : RevisionFiles → Option PropertyList
 said r = result_ok (properties_of r.1)
 
-abbrev AreSaid : List PropertyList → List RevisionFiles → Type 0
+abbrev pub AreSaid : List PropertyList → List RevisionFiles → Type 0
 AreSaid lists revisions = (n : ℕ) → slice_get lists n ≡ option_and_then said (slice_get revisions n)
 
-said_is : (files : Files) (n : ℕ)
+pub said_is : (files : Files) (n : ℕ)
     → revision_properties files n ≡ option_and_then said (slice_get files.revisions n)
 unfolding revision_properties
 said_is files n = refl
@@ -35,7 +35,7 @@ said_is files n = refl
 none_is_some : {X : Type 0} {x : X} → None ≡ Some x → ⊥
 none_is_some is = absurd (false≢true (ap is_some is))
 
-one_more_said : (lists : List PropertyList) (revisions : List RevisionFiles) (list : PropertyList)
+pub one_more_said : (lists : List PropertyList) (revisions : List RevisionFiles) (list : PropertyList)
     (new : RevisionFiles) → length lists ≡ length revisions → said new ≡ Some list
     → AreSaid lists revisions → AreSaid (lists ++ list ∷ []) (revisions ++ new ∷ [])
 one_more_said [] [] list new many is are zero = sym is

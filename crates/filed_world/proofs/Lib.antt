@@ -3,3 +3,4 @@ pub mod Counts
 pub mod Listed
 pub mod Lists
 pub mod Newest
+pub mod Taken

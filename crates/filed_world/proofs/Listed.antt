@@ -95,7 +95,7 @@ module _ (p : PathValue) (es ls : List (PathValue × Lock)) (perm : IsPermutatio
 turned : (p q : PathValue) → same_path q p ≡ is_at (path_cmp p) q
 turned p q = path_ties q p ∙ (eq_by_cmp_equiv path_cmp_total).symm q p
 
-looked_up : (ls : List (PathValue × Lock)) (p : PathValue)
+pub looked_up : (ls : List (PathValue × Lock)) (p : PathValue)
     → lock_of ls p ≡ lookup (is_at (path_cmp p)) ls
 looked_up [] p = refl
 looked_up (l ∷ ls) p = rw (turned p l.0, looked_up ls p) refl

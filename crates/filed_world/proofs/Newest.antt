@@ -15,7 +15,7 @@ use Rattle.file_trees.specs.Pieces.{RevisionBytes}
 use Rattle.file_trees.specs.Tables.{AreTabled}
 use Rattle.file_trees.specs.declared.table.Table.{Table}
 
-last_of : {X : Type 0} (xs : List X) (x : X) → slice_get (xs ++ x ∷ []) (length xs) ≡ Some x
+pub last_of : {X : Type 0} (xs : List X) (x : X) → slice_get (xs ++ x ∷ []) (length xs) ≡ Some x
 last_of [] x = refl
 last_of (y ∷ ys) x = last_of ys x
 

@@ -1,2 +1,4 @@
+pub mod Creating
 pub mod Files
+pub mod Reading
 pub mod Standing

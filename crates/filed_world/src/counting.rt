@@ -17,7 +17,7 @@ fn is_end(byte: u8) -> bool
 }
 
 /// Says how many revisions there are, by the bytes of `current`.
-pub(crate) fn count_of(bytes: &[u8]) -> Option<u32>
+pub fn count_of(bytes: &[u8]) -> Option<u32>
     ensures { result ≡ count_in bytes.now }
 {
     if bytes.is_empty() || !is_digit(bytes[0]) {

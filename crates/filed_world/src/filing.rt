@@ -32,7 +32,11 @@ fn all_locks_file(alloc: Global, world: &World) -> Result<Vec<u8>, AllocError>
 }
 
 /// The tables with one more, for which there is a place.
-fn with_table(alloc: Global, tables: &PVec<Table>, table: Table) -> Result<PVec<Table>, AllocError>
+pub(crate) fn with_table(
+    alloc: Global,
+    tables: &PVec<Table>,
+    table: Table,
+) -> Result<PVec<Table>, AllocError>
     ensures { IfOk result (λ made. made ≡ tables.now ++ table ∷ []) }
 {
     if tables.len() >= 262_144 {

@@ -2,10 +2,14 @@
 #![tactic(auto)]
 
 mod counting;
+mod creating;
 mod filed;
 mod filed_world;
 mod filing;
+mod reading;
 mod repository;
 mod written;
 
+pub use counting::count_of;
+pub use creating::{NewFiles, new_filed};
 pub use filed_world::FiledWorld;

@@ -1,9 +1,9 @@
 //! Files in a folder: each is on the disk before its call answers.
-ghost use Rattle.std.specs.Prelude.{◌≡◌, [], ◌∷◌, Result, Ok, Err};
-ghost use Rattle.file_store.specs.Folders.{Folder};
+ghost use Rattle.std.specs.Prelude.{◌≡◌, [], ◌∷◌, Result, Ok, Err, IfOk};
+ghost use Rattle.file_store.specs.Folders.{Folder, IsSame};
 ghost use Rattle.file_store.specs.Names.{kind_of, number_of};
 ghost use Rattle.folder_store.specs.Note.{event_of};
-ghost use Rattle.folder_store.specs.Replay.{failed_in};
+ghost use Rattle.folder_store.specs.Replay.{Leaves, failed_in, held};
 ghost use Rattle.folder_store.specs.Answers.{fault_of, trouble_number, done_number, done_result};
 
 use crate::lock::LockFolder;
@@ -96,8 +96,11 @@ pub struct FolderStore<R: Files + AllocGlobal + LockFolder + Drop, H: Held> {
 }
 
 impl<R: Files + AllocGlobal + LockFolder + Drop, H: Held> FolderStore<R, H> {
-    /// The files in a folder that is there.
-    pub fn open(rt: R, folder: String) -> Result<Self, FolderFault> {
+    /// The files in a folder that is there. A stop that comes at once leaves them as they are.
+    pub fn open(rt: R, folder: String) -> Result<Self, FolderFault>
+        ensures rests { IfOk result (λ store. (f : Folder)
+            → Leaves H.held store.log.events f → IsSame (held H.held store.log.events) f) }
+    {
         let lock = locked(&rt, &folder)?;
         Ok(FolderStore {
             rt,
@@ -109,8 +112,11 @@ impl<R: Files + AllocGlobal + LockFolder + Drop, H: Held> FolderStore<R, H> {
         })
     }
 
-    /// The files in a folder, which is made where it is missing.
-    pub fn make(rt: R, folder: String) -> Result<Self, FolderFault> {
+    /// The files in a folder, which is made where it is missing. A stop that comes at once leaves them as they are.
+    pub fn make(rt: R, folder: String) -> Result<Self, FolderFault>
+        ensures rests { IfOk result (λ store. (f : Folder)
+            → Leaves H.held store.log.events f → IsSame (held H.held store.log.events) f) }
+    {
         make_root(&rt, &folder)?;
         FolderStore::open(rt, folder)
     }

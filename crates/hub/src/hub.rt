@@ -177,6 +177,25 @@ impl<A: SoleAccess> Hub<A> {
         &self.access
     }
 
+    /// Lets go of its sessions: how the repository is reached, and the options.
+    pub fn into_parts(self) -> (A, Options)
+        ensures content { content_of (A.point result.0) ≡ self.content }
+        ensures halted { (A.point result.0).halted ≡ self.halted }
+        ensures failures { (A.point result.0).failures ≡ self.failures }
+        ensures pending { (A.point result.0).pending ≡ self.pending }
+        ensures settings { result.1 ≡ self.settings }
+    {
+        let Hub {
+            alloc: _,
+            options,
+            access,
+            sessions,
+            used: _,
+        } = self;
+        std::mem::drop(sessions);
+        (access, options)
+    }
+
     /// The number of the next session: none where as many are open as may be, or all numbers are used.
     fn next_number(&self) -> Option<SessionId>
         ensures { MatchOption result (IsFull self.now)

@@ -1,7 +1,55 @@
 //! What calls are answered, as lines.
 
+use file_store::StoreFault;
+use fsfs_lines::FileFault;
 use hub::{Call, HubFault, Outcome};
 use std::alloc::{AllocError, Global};
+
+/// The line that says how a repository was opened again.
+pub fn reopening_line(alloc: Global, fault: Option<StoreFault>) -> Result<String, AllocError> {
+    match fault {
+        None => String::from_str(alloc, "reopen"),
+        Some(fault) => {
+            let fault = store_fault_text(fault);
+            format!(in alloc; "reopen {fault}")
+        }
+    }
+}
+
+/// The line that says what a file has.
+pub fn file_line(alloc: Global, name: &str, bytes: Option<&[u8]>) -> Result<String, AllocError> {
+    match bytes {
+        None => format!(in alloc; "file {name} none"),
+        Some(bytes) => {
+            let bytes = bytes_text(alloc, bytes)?;
+            format!(in alloc; "file {name} {bytes}")
+        }
+    }
+}
+
+/// The number of a fault of a store.
+fn store_fault_text(fault: StoreFault) -> &'static str {
+    match fault {
+        StoreFault::Device => "O1",
+        StoreFault::Halted => "O3",
+        StoreFault::NoMemory => "O4",
+        StoreFault::Exists => "O5",
+        StoreFault::File(fault) => file_fault_text(fault),
+    }
+}
+
+/// The number of a fault of a file.
+fn file_fault_text(fault: FileFault) -> &'static str {
+    match fault {
+        FileFault::Truncated => "X1",
+        FileFault::BadLine => "X2",
+        FileFault::Delta => "X3",
+        FileFault::Digest => "X4",
+        FileFault::Dangling => "X5",
+        FileFault::WrongFormat => "X6",
+        FileFault::NoMemory => "X7",
+    }
+}
 
 /// The line that a call is answered by.
 pub fn answer_line(alloc: Global, call: &Call, outcome: &Outcome) -> Result<String, AllocError> {

@@ -1,6 +1,8 @@
 //! Why a script is not played to its end.
 
 use cram::CramFault;
+use file_store::StoreFault;
+use folder_store::FolderFault;
 use std::alloc::AllocError;
 use std::io;
 use std::process::ExitCode;
@@ -21,9 +23,34 @@ pub enum LineFault {
     /// It is a hub's first call, and its users file is not read.
     #[error("{0}")]
     BadUsers(CramFault),
+    /// It asks something of the files of a repository that has none.
+    #[error("the repository has no files")]
+    NoFiles,
+    /// The folder of the repository has it open elsewhere.
+    #[error("the folder is in use")]
+    InUse,
+    /// The repository is not made, not opened, or not read.
+    #[error("{0}")]
+    Store(StoreFault),
     /// Memory was refused.
     #[error("no memory")]
     NoMemory,
+}
+
+impl From<StoreFault> for LineFault {
+    fn from(fault: StoreFault) -> Self {
+        LineFault::Store(fault)
+    }
+}
+
+impl From<FolderFault> for LineFault {
+    fn from(fault: FolderFault) -> Self {
+        match fault {
+            FolderFault::InUse => LineFault::InUse,
+            FolderFault::Device => LineFault::Store(StoreFault::Device),
+            FolderFault::NoMemory => LineFault::NoMemory,
+        }
+    }
 }
 
 impl From<AllocError> for LineFault {

@@ -3,7 +3,10 @@ ghost use Rattle.std.specs.Prelude.{◌≤◌};
 ghost use Rattle.dates.specs.declared.TheConstants.{LAST_MOMENT};
 
 use crate::fault::LineFault;
-use crate::words::{parse_bytes, parse_moment, parse_number, parse_uuid, parse_wide_number};
+use crate::words::{
+    parse_bytes, parse_file, parse_fuse, parse_moment, parse_number, parse_uuid, parse_wide_number,
+};
+use file_store::{FileName, Left};
 use hub::{Env, Options, SessionId, is_repository_name};
 use std::alloc::Global;
 use std::str;
@@ -22,6 +25,31 @@ pub struct NewHub {
 pub struct NewUser {
     pub name: String,
     pub password: Vec<u8>,
+}
+
+/// Where the repository of a hub is.
+#[derive(Drop)]
+pub enum Place {
+    /// In memory, without files.
+    Plain,
+    /// In files in memory.
+    Memory,
+    /// In the files of this folder.
+    Folder(String),
+}
+
+/// How a store fails: how many calls that write it passes before the one that fails, and what that leaves.
+#[derive(Clone, Copy)]
+pub struct Failing {
+    pub passes: u64,
+    pub left: Left,
+}
+
+/// A file of a repository, and how a script names it.
+#[derive(Drop)]
+pub struct NamedFile {
+    pub name: FileName,
+    pub text: String,
 }
 
 /// A piece for a session.
@@ -45,6 +73,14 @@ pub enum Line {
     Users,
     /// One more user in the file.
     User(NewUser),
+    /// The repository of the hub that is asked for is in files.
+    Place(Place),
+    /// The store that is opened next fails once.
+    Fuse(Failing),
+    /// The hub is dropped, and its repository opened again.
+    Reopen,
+    /// What a file of the repository has is asked.
+    File(NamedFile),
     /// A new session.
     Connect,
     /// A session is sent a piece.
@@ -75,6 +111,13 @@ impl Line {
                 name: String::from_str(alloc, name)?,
                 password: parse_bytes(alloc, password)?,
             })),
+            ["memory"] => Ok(Line::Place(Place::Memory)),
+            ["folder", path] if !path.is_empty() => {
+                Ok(Line::Place(Place::Folder(String::from_str(alloc, path)?)))
+            }
+            ["fuse", call, left] => Ok(Line::Fuse(parse_failing(call, left)?)),
+            ["reopen"] => Ok(Line::Reopen),
+            ["file", name] => Ok(Line::File(parse_named(alloc, name)?)),
             ["connect"] => Ok(Line::Connect),
             ["feed", session, moment, token, nonce, bytes] => {
                 let session = parse_session(session)?;
@@ -95,6 +138,23 @@ impl Line {
 /// The number of a session.
 fn parse_session(word: &str) -> Result<SessionId, LineFault> {
     parse_number(word).ok_or(LineFault::Unknown)
+}
+
+/// How a store fails at its call of this number, which counts from 1 on.
+fn parse_failing(call: &str, left: &str) -> Result<Failing, LineFault> {
+    let call = parse_number(call).ok_or(LineFault::Unknown)?;
+    let passes = call.checked_sub(1).ok_or(LineFault::Unknown)?;
+    let left = parse_fuse(left).ok_or(LineFault::Unknown)?;
+    Ok(Failing { passes, left })
+}
+
+/// The file of this name.
+fn parse_named(alloc: Global, text: &str) -> Result<NamedFile, LineFault> {
+    let name = parse_file(text).ok_or(LineFault::Unknown)?;
+    Ok(NamedFile {
+        name,
+        text: String::from_str(alloc, text)?,
+    })
 }
 
 /// What a call hands in from outside.

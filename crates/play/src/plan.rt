@@ -4,7 +4,8 @@ ghost use Rattle.dates.specs.Dates.{IsDateText};
 ghost use Rattle.hub.specs.Laws.{new_hub};
 
 use crate::fault::LineFault;
-use crate::line::{NewHub, NewUser};
+use crate::hubs::{PlayedHub, new_folder_hub, new_memory_hub};
+use crate::line::{Failing, NewHub, NewUser, Place};
 use access::SoleRepository;
 use cram::Users;
 use hub::Hub;
@@ -26,28 +27,36 @@ fn make_hub<R: InMemory>(alloc: Global, asked: NewHub) -> Result<MemoryHub<R>, L
     }
 }
 
-/// A hub that is asked for, the bytes of its users file, if it has one, and whether its clients may
-/// change the properties of revisions.
+/// A hub that is asked for, the bytes of its users file, if it has one, whether its clients may change
+/// the properties of revisions, and where its repository is.
 #[derive(Drop)]
 pub struct Plan {
     hub: NewHub,
     users: Option<Vec<u8>>,
     revprops: bool,
+    place: Place,
 }
 
 impl Plan {
-    /// A hub without a users file, whose clients may not change the properties of revisions.
+    /// A hub without a users file, over a repository without files, whose clients may not change the
+    /// properties of revisions.
     pub fn new(hub: NewHub) -> Self {
         Plan {
             hub,
             users: None,
             revprops: false,
+            place: Place::Plain,
         }
     }
 
     /// Lets its clients change the properties of revisions.
     pub fn open_revprops(&mut self) {
         self.revprops = true;
+    }
+
+    /// Has its repository at another place.
+    pub fn put(&mut self, place: Place) {
+        self.place = place;
     }
 
     /// A users file without users, in place of the one before.
@@ -70,12 +79,13 @@ impl Plan {
         Ok(())
     }
 
-    /// The hub.
-    pub fn into_hub<R: InMemory>(self, alloc: Global) -> Result<MemoryHub<R>, LineFault> {
+    /// The hub that is to be made, with all its options, and where its repository is.
+    fn settled(self, alloc: Global) -> Result<(NewHub, Place), LineFault> {
         let Plan {
             mut hub,
             users,
             revprops,
+            place,
         } = self;
         if let Some(users) = users {
             let users = Users::read(alloc, &users)?;
@@ -84,6 +94,23 @@ impl Plan {
         if revprops {
             hub.options = hub.options.with_revprops();
         }
-        make_hub(alloc, hub)
+        Ok((hub, place))
+    }
+
+    /// The hub. Its store, if it has one, fails so.
+    pub fn into_hub<R: InMemory>(
+        self,
+        rt: &HostRuntime,
+        failing: Failing,
+    ) -> Result<PlayedHub<R>, LineFault> {
+        let (hub, place) = self.settled(rt.alloc())?;
+        match place {
+            Place::Plain => Ok(PlayedHub::Plain(make_hub(rt.alloc(), hub)?)),
+            Place::Memory => Ok(PlayedHub::Memory(new_memory_hub(rt.alloc(), hub, failing)?)),
+            Place::Folder(folder) => {
+                let hub = new_folder_hub(rt, &folder, hub, failing)?;
+                Ok(PlayedHub::Folder(hub, folder))
+            }
+        }
     }
 }

@@ -1,28 +1,20 @@
 //! What plays the lines.
-ghost use Rattle.hub.specs.Calls.{CallStep};
-ghost use Rattle.hub.specs.declared.calls.Outcome.{Outcome};
 
-use crate::answer::answer_line;
+use crate::answer::{file_line, reopening_line};
 use crate::fault::LineFault;
-use crate::line::{Line, Piece};
-use crate::plan::{MemoryHub, Plan};
-use access::SoleAccess;
-use hub::{Call, Hub, SessionId, make_call};
+use crate::hubs::PlayedHub;
+use crate::line::{Failing, Line, NamedFile, Piece};
+use crate::plan::Plan;
+use file_store::Left;
+use hub::{Call, SessionId};
 use in_memory::InMemory;
-use std::alloc::{AllocError, Global};
 use std::mem;
 
-/// Makes a call, and gives the line that it is answered by.
-fn answer_call<A: SoleAccess>(
-    alloc: Global,
-    hub: &mut Hub<A>,
-    call: &Call,
-) -> Result<String, AllocError>
-    ensures { (outcome : Outcome) × CallStep hub.old call.now outcome hub.new }
-{
-    let outcome = make_call(hub, call);
-    answer_line(alloc, call, &outcome)
-}
+/// A store that passes all calls on.
+const NEVER: Failing = Failing {
+    passes: u64::MAX,
+    left: Left::Old,
+};
 
 /// What a script has come to.
 #[derive(Drop)]
@@ -32,22 +24,25 @@ enum Stage<R: InMemory> {
     /// A hub is asked for, and no call to it was made.
     Asked(Plan),
     /// Calls are made to a hub.
-    Calling(MemoryHub<R>),
+    Calling(PlayedHub<R>),
 }
 
-/// Plays lines, one after another. `R` is what the hubs' repositories are.
+/// Plays lines, one after another. `R` is what the hubs' repositories without files are.
 #[derive(Drop)]
 pub struct Player<R: InMemory> {
-    alloc: Global,
+    rt: HostRuntime,
     stage: Stage<R>,
+    /// How the store that is opened next fails.
+    failing: Failing,
 }
 
 impl<R: InMemory> Player<R> {
     /// A player that has no hub yet.
-    pub fn new(alloc: Global) -> Self {
+    pub fn new(rt: HostRuntime) -> Self {
         Player {
-            alloc,
+            rt,
             stage: Stage::Beginning,
+            failing: NEVER,
         }
     }
 
@@ -57,6 +52,7 @@ impl<R: InMemory> Player<R> {
             Line::Comment => Ok(None),
             Line::Hub(asked) => {
                 self.stage = Stage::Asked(Plan::new(asked));
+                self.failing = NEVER;
                 Ok(None)
             }
             Line::Revprops => {
@@ -64,15 +60,25 @@ impl<R: InMemory> Player<R> {
                 Ok(None)
             }
             Line::Users => {
-                let alloc = self.alloc;
+                let alloc = self.rt.alloc();
                 self.plan()?.begin_users(alloc)?;
                 Ok(None)
             }
             Line::User(user) => {
-                let alloc = self.alloc;
+                let alloc = self.rt.alloc();
                 self.plan()?.add_user(alloc, &user)?;
                 Ok(None)
             }
+            Line::Place(place) => {
+                self.plan()?.put(place);
+                Ok(None)
+            }
+            Line::Fuse(failing) => {
+                self.failing = failing;
+                Ok(None)
+            }
+            Line::Reopen => self.reopen(),
+            Line::File(file) => self.ask_file(&file),
             Line::Connect => self.call(&Call::Connect),
             Line::Feed(piece) => {
                 let Piece {
@@ -89,16 +95,46 @@ impl<R: InMemory> Player<R> {
 
     /// Makes a call.
     fn call(&mut self, call: &Call) -> Result<Option<String>, LineFault> {
-        let alloc = self.alloc;
-        let answer = answer_call(alloc, self.hub()?, call)?;
+        let alloc = self.rt.alloc();
+        let answer = self.hub()?.answer(alloc, call)?;
         Ok(Some(answer))
     }
 
     /// Whether a session is open.
     fn ask_open(&mut self, session: SessionId) -> Result<Option<String>, LineFault> {
-        let alloc = self.alloc;
+        let alloc = self.rt.alloc();
         let is_open = self.hub()?.is_open(session);
         Ok(Some(format!(in alloc; "open {session} {is_open}")?))
+    }
+
+    /// What a file of the repository has.
+    fn ask_file(&mut self, file: &NamedFile) -> Result<Option<String>, LineFault> {
+        let rt = self.rt;
+        let bytes = self.hub()?.file(&rt, file)?;
+        let line = match &bytes {
+            Some(bytes) => file_line(rt.alloc(), &file.text, Some(bytes.as_slice()))?,
+            None => file_line(rt.alloc(), &file.text, None)?,
+        };
+        Ok(Some(line))
+    }
+
+    /// Drops the hub, and opens its repository again; where the hub wasn't made yet, it is made.
+    fn reopen(&mut self) -> Result<Option<String>, LineFault> {
+        let alloc = self.rt.alloc();
+        let failing = mem::replace(&mut self.failing, NEVER);
+        let opened = match mem::replace(&mut self.stage, Stage::Beginning) {
+            Stage::Beginning => Err(LineFault::NoHub),
+            Stage::Asked(plan) => plan.into_hub(&self.rt, failing),
+            Stage::Calling(hub) => hub.reopened(&self.rt, failing),
+        };
+        match opened {
+            Ok(hub) => {
+                self.stage = Stage::Calling(hub);
+                Ok(Some(reopening_line(alloc, None)?))
+            }
+            Err(LineFault::Store(fault)) => Ok(Some(reopening_line(alloc, Some(fault))?)),
+            Err(fault) => Err(fault),
+        }
     }
 
     /// The hub that is asked for, before its first call.
@@ -111,7 +147,7 @@ impl<R: InMemory> Player<R> {
     }
 
     /// The hub, which is made at its first call.
-    fn hub(&mut self) -> Result<&mut MemoryHub<R>, LineFault> {
+    fn hub(&mut self) -> Result<&mut PlayedHub<R>, LineFault> {
         self.make_hub()?;
         match &mut self.stage {
             Stage::Calling(hub) => Ok(hub),
@@ -122,7 +158,10 @@ impl<R: InMemory> Player<R> {
     /// Makes the hub that is asked for, if it isn't made yet.
     fn make_hub(&mut self) -> Result<(), LineFault> {
         self.stage = match mem::replace(&mut self.stage, Stage::Beginning) {
-            Stage::Asked(plan) => Stage::Calling(plan.into_hub(self.alloc)?),
+            Stage::Asked(plan) => {
+                let failing = mem::replace(&mut self.failing, NEVER);
+                Stage::Calling(plan.into_hub(&self.rt, failing)?)
+            }
             stage => stage,
         };
         Ok(())

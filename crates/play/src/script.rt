@@ -8,12 +8,10 @@ use std::alloc::Global;
 use std::io::{self, BufRead, BufReader, BufWriter, Write};
 
 /// Plays the script on standard input, up to its end or to the first line that is not played.
-pub fn play_script<R: InMemory>(
-    rt: &(impl Input + Print),
-    alloc: Global,
-) -> Result<(), ScriptFault> {
+pub fn play_script<R: InMemory>(rt: &HostRuntime) -> Result<(), ScriptFault> {
+    let alloc = rt.alloc();
     let mut output = BufWriter::new(alloc, io::writer(rt))?;
-    let mut player: Player<R> = Player::new(alloc);
+    let mut player: Player<R> = Player::new(*rt);
     play_lines(rt, alloc, &mut player, &mut output)
 }
 

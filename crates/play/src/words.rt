@@ -4,6 +4,7 @@ ghost use Rattle.dates.specs.declared.TheConstants.{LAST_MOMENT};
 
 use crate::fault::LineFault;
 use dates::LAST_MOMENT;
+use file_store::{FileName, Left};
 use hex::FromHexError;
 use std::alloc::Global;
 use uuid::Uuid;
@@ -67,5 +68,38 @@ pub fn parse_bytes(alloc: Global, word: &str) -> Result<Vec<u8>, LineFault> {
         Ok(bytes) => Ok(bytes),
         Err(FromHexError::OutOfMemory) => Err(LineFault::NoMemory),
         Err(_) => Err(LineFault::Unknown),
+    }
+}
+
+/// What a call that fails leaves.
+pub fn parse_fuse(word: &str) -> Option<Left> {
+    match word {
+        "old" => Some(Left::Old),
+        "new" => Some(Left::New),
+        "torn" => Some(Left::Torn),
+        _ => None,
+    }
+}
+
+/// The number of a revision.
+fn parse_revision(word: &str) -> Option<u32> {
+    u32::try_from(parse_number(word)?).ok()
+}
+
+/// The file of a repository that has this name in its folder.
+pub fn parse_file(word: &str) -> Option<FileName> {
+    if let Some(number) = word.strip_prefix("revs/") {
+        return Some(FileName::Revision(parse_revision(number)?));
+    }
+    if let Some(number) = word.strip_prefix("revprops/") {
+        return Some(FileName::Properties(parse_revision(number)?));
+    }
+    match word {
+        "format" => Some(FileName::Format),
+        "fs-type" => Some(FileName::Kind),
+        "uuid" => Some(FileName::Uuid),
+        "current" => Some(FileName::Current),
+        "locks.dump" => Some(FileName::Locks),
+        _ => None,
     }
 }

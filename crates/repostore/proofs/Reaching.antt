@@ -9,7 +9,7 @@ use Rattle.std.proofs.Common.{cond}
 use Rattle.std.proofs.lemmas.Bool.Decides.{leb_tells}
 use Rattle.repostore.specs.Current.{count_in, counted, number_in}
 use Rattle.repostore.specs.Files.{RevisionFiles, Files, revision_files, revisions_below, reached, HasFiles, with_revision, with_locks, with_second, with_properties, HasEither}
-use Rattle.repostore.specs.Reading.{read_below, with_read_locks}
+use Rattle.repostore.specs.Reading.{read_below, with_one_more}
 use Rattle.repostore.specs.Saving.{HasNext}
 
 pub length-below : (f : Folder) (n : ℕ) → length (revisions_below f n) ≡ n
@@ -189,19 +189,34 @@ behind_properties_too d f files m revision le same has = (behind_properties d f 
 pub same_revision_files : (d f : Folder) (n : ℕ) → IsSame d f → revision_files f n ≡ revision_files d n
 same_revision_files d f n same = λ i. (text_of (same (Revision n) i), text_of (same (Properties n) i))
 
--- what the reader has taken where the files are the same all the time
-pub all_taken : (old mid later : Folder) (first more all : Files) (n : ℕ) → IsSame old mid → IsSame mid later → first ≡ read_below old 0
-    → (first ≡ read_below mid 0 → more ≡ read_below mid n) → all ≡ with_read_locks more (later Locks) → all ≡ reached old n
-all_taken old mid later first more all n same again is goes last =
-    let stays : mid ≡ old = λ i m. same m i in
-    let taken : more ≡ read_below old n = goes (is ∙ ap (λ (x : Folder). read_below x 0) (sym stays)) ∙ ap (λ (x : Folder). read_below x n) stays in
-    last ∙ (λ i. with_read_locks (taken i) ((again Locks ∙ same Locks) i))
+-- folders that are the same are one
+pub are_one : (d f : Folder) → IsSame d f → f ≡ d
+are_one d f same i name = same name i
 
-pub all_read : (f : Folder) (files : Files) (n : ℕ) → count_in (text_of (f Current)) ≡ Some n → files ≡ reached f n → HasFiles files f
-all_read f files n count is = closed f files n count (sym is)
+-- one more revision behind those below a number
+pub read_more : (d f : Folder) (n : ℕ) → IsSame d f
+    → with_one_more (read_below d n) (revision_files f n) ≡ read_below d (n + 1)
+read_more d f n same =
+    ap (with_one_more (read_below d n)) (same_revision_files d f n same)
+    ∙ ap (read_below d) (sym (add-one n))
 
-pub all_counted : (f : Folder) (files : Files) (n : ℕ) → files ≡ reached f n → n ≡ length files.revisions
-all_counted f files n is = sym (length-below f n) ∙ ap (λ (x : Files). length x.revisions) (sym is)
+-- the files that are reached are those of the folder
+pub reached_has : (f : Folder) (n : ℕ) → count_in (text_of (f Current)) ≡ Some n → HasFiles (reached f n) f
+reached_has f n count = closed f (reached f n) n count refl
+
+-- `current` says how many revisions a folder's files have
+pub counted_in : (f : Folder) (files : Files) → HasFiles files f → count_in (text_of (f Current)) ≡ Some (length files.revisions)
+counted_in f files has =
+    let o : Opened f files = opened f files has in
+    o.count ∙ ap (λ (m : ℕ). Some m) (as_many f files o)
+
+pub has_count : (f : Folder) (files : Files) → HasFiles files f → count_in files.current ≡ Some (length files.revisions)
+has_count f files has =
+    let o : Opened f files = opened f files has in
+    ap (λ (x : Files). count_in x.current) (sym o.is) ∙ counted_in f files has
+
+pub is_length : (f : Folder) (files : Files) (n : ℕ) → HasFiles files f → count_in (text_of (f Current)) ≡ Some n → n ≡ length files.revisions
+is_length f files n has count = let is : Some n ≡ Some (length files.revisions) = sym count ∙ counted_in f files has in cc
 
 few : (o : Option ℕ) (n : ℕ) → counted o ≡ Some (n + 1) → n ≤ 262143
 few None n e = absurd (cc)

@@ -7,7 +7,7 @@ use Rattle.fsfs_lines.specs.declared.fault.FileFault.TheVariants.{Truncated, Bad
 use Rattle.file_store.specs.declared.fault.StoreFault.{StoreFault}
 use Rattle.file_store.specs.declared.fault.StoreFault.TheVariants as store
 use Rattle.repostore.specs.Current.{count_in}
-use Rattle.repostore.specs.Files.{RevisionFiles, Files, revision_files, revisions_below}
+use Rattle.repostore.specs.Files.{RevisionFiles, Files, HasFiles, revision_files, revisions_below}
 
 -- what a reader finds faulty: the first files, that of a revision behind others, the locks
 pub record Faulty : Type 1 where
@@ -35,6 +35,13 @@ read_below f n = record {
   revisions = revisions_below f n;
   locks = None;
 }
+
+-- the reader has taken the files that the folder has
+pub record HasTaken {R : Type 0} (took : R → Files → Type 0) (f : Folder)
+    (reader : R) : Type 0 where
+  pub files : Files
+  pub are : HasFiles files f
+  pub taken : took reader files
 
 -- one of so many revisions is faulty
 abbrev pub HasFaultyRevision : Faulty → Folder → ℕ → Type 0

@@ -1,12 +1,12 @@
 //! The files of a repository read back.
-ghost use Rattle.std.specs.Prelude.{◌≡◌, ◌≤◌, ◌++◌, ◌∷◌, [], Some, ℕ, IfOk, IfErr, OnOk, IsErrOf, length};
+ghost use Rattle.std.specs.Prelude.{◌≡◌, ◌⊎◌, Some, IfOk, IfErr, OnOk, IsErrOf};
 ghost use Rattle.file_store.specs.Folders.{bytes_of};
 ghost use Rattle.file_store.specs.Folders.{Folder, IsSame, text_of};
 ghost use Rattle.file_store.specs.Moments.{HasRisen, HasCause};
 ghost use Rattle.file_store.specs.declared.name.FileName.TheVariants.{Format, Uuid, Current, Locks};
 ghost use Rattle.repostore.specs.Current.{count_in};
-ghost use Rattle.repostore.specs.Files.{Files, HasFiles, revision_files, revisions_below};
-ghost use Rattle.repostore.specs.Reading.{Faulty, IsFaulty, HasFaultyRevision, IfFaulty, IfFindsFaulty, IfStoreFindsFaulty, with_head, with_one_more, with_read_locks, read_below};
+ghost use Rattle.repostore.specs.Files.{Files, HasFiles, revision_files, reached};
+ghost use Rattle.repostore.specs.Reading.{Faulty, HasTaken, IsFaulty, HasFaultyRevision, IfFaulty, IfFindsFaulty, IfStoreFindsFaulty, with_head, with_one_more, with_read_locks, read_below};
 ghost use Rattle.repostore.specs.Saving.{IsSaved, OnlyReads};
 
 use crate::saves::Saves;
@@ -14,37 +14,38 @@ use file_store::{FileName, Store, StoreFault};
 use fsfs_lines::FileFault;
 use std::alloc::Global;
 
-/// What makes a repository of its files, which it takes one after another.
+/// Makes a repository of its files, which it takes one after another.
 pub trait Reader: Drop {
-    /// The files that it has taken.
-    ghost taken: { Self → Files };
+    /// It has taken these files.
+    ghost took: { Self → Files → Type 0 };
 
     /// What it finds faulty.
     ghost faulty: { Faulty };
 
-    /// Takes the first files, and answers how many revisions there are.
-    fn take_head(
-        &mut self,
+    /// Begins with the first files, and answers how many revisions there are.
+    fn begin(
+        alloc: Global,
         format: Option<Vec<u8>>,
         uuid: Vec<u8>,
         current: Vec<u8>,
-    ) -> Result<u32, FileFault>
-        ensures ok { OnOk result (taken self.new
-            ≡ with_head (bytes_of format) uuid.items current.items) }
-        ensures count { IfOk result (λ n. count_in current.items ≡ Some n) }
+    ) -> Result<(Self, u32), FileFault>
+        ensures took { IfOk result (λ begun. took begun.0
+            (with_head (bytes_of format) uuid.items current.items)) }
+        ensures count { IfOk result (λ begun. count_in current.items ≡ Some begun.1) }
         ensures faulty { IfFindsFaulty result (faulty.head (bytes_of format) uuid.items current.items) };
 
     /// Takes the file of the next revision, and that of its properties.
     fn take_revision(&mut self, revision: Vec<u8>, properties: Vec<u8>) -> Result<(), FileFault>
-        ensures ok { OnOk result (taken self.new
-            ≡ with_one_more (taken self.old) (revision.items, properties.items)) }
-        ensures faulty { IfFindsFaulty result (faulty.revision (taken self.old).revisions
+        ensures took { OnOk result ((files : Files) → took self.old files
+            → took self.new (with_one_more files (revision.items, properties.items))) }
+        ensures faulty { (files : Files) → took self.old files
+            → IfFindsFaulty result (faulty.revision files.revisions
             (revision.items, properties.items)) };
 
     /// Takes the locks, if there is a file of them.
     fn take_locks(&mut self, locks: Option<Vec<u8>>) -> Result<(), FileFault>
-        ensures ok { OnOk result (taken self.new
-            ≡ with_read_locks (taken self.old) (bytes_of locks)) }
+        ensures took { OnOk result ((files : Files) → took self.old files
+            → took self.new (with_read_locks files (bytes_of locks))) }
         ensures faulty { IfFindsFaulty result (faulty.locks (bytes_of locks)) };
 }
 
@@ -55,18 +56,15 @@ pub struct Unopened<S: Store> {
     pub store: S,
 }
 
-/// Opens a repository: whatever a stop has left, it finds the files that are reached from `current`. Whether it is
-/// opened or not, nothing is written: what a stop leaves is what it would have left before.
-pub fn open<S: Store, R: Reader>(
-    alloc: Global,
-    store: S,
-    reader: R,
-) -> Result<(Saves<S>, R), Unopened<S>>
+/// Opens a repository: whatever a stop has left, its reader takes the files that are reached from `current`.
+/// Whether it is opened or not, nothing is written: what a stop leaves is what it would have left before.
+pub fn open<S: Store, R: Reader>(alloc: Global, store: S) -> Result<(Saves<S>, R), Unopened<S>>
     ensures found { IfOk result (λ opened. S.is_honest opened.0.store
-        → HasFiles (R.taken opened.1) (S.holds store)) }
+        → HasTaken R.took (S.holds store) opened.1) }
     ensures saved { IfOk result (λ opened. S.is_honest opened.0.store
         → ((f : Folder) → S.may_leave store f → IsSame (S.holds store) f)
-        → IsSaved S.is_honest S.holds S.may_leave opened.0 (R.taken opened.1)) }
+        → (files : Files) → HasFiles files (S.holds store)
+        → IsSaved S.is_honest S.holds S.may_leave opened.0 files) }
     ensures reads { IfOk result (λ opened. OnlyReads S.is_honest S.holds S.may_leave S.moment
         S.left_since S.in_doubt S.failed store opened.0.store) }
     ensures faulty { IfErr result (λ unopened. S.is_honest unopened.store
@@ -77,9 +75,8 @@ pub fn open<S: Store, R: Reader>(
         S.left_since S.in_doubt S.failed store unopened.store) }
 {
     let mut store = store;
-    let mut reader = reader;
-    match read_all(alloc, &mut store, &mut reader) {
-        Ok(count) => Ok((
+    match read_all(alloc, &mut store) {
+        Ok((reader, count)) => Ok((
             Saves {
                 store,
                 count,
@@ -87,57 +84,72 @@ pub fn open<S: Store, R: Reader>(
             },
             reader,
         )),
-        Err(fault) => {
-            std::mem::drop(reader);
-            Err(Unopened { fault, store })
-        }
+        Err(fault) => Err(Unopened { fault, store }),
     }
 }
 
 /// Reads all files, and answers how many revisions there are.
-fn read_all<S: Store, R: Reader>(
-    alloc: Global,
-    store: &mut S,
-    reader: &mut R,
-) -> Result<u32, StoreFault>
+fn read_all<S: Store, R: Reader>(alloc: Global, store: &mut S) -> Result<(R, u32), StoreFault>
     ensures reads { OnlyReads S.is_honest S.holds S.may_leave S.moment S.left_since S.in_doubt
         S.failed store.old store.new }
-    ensures found { S.is_honest store.new → OnOk result (HasFiles (R.taken reader.new)
-        (S.holds store.old)) }
-    ensures count { S.is_honest store.new → IfOk result (λ n. n
-        ≡ length (R.taken reader.new).revisions) }
+    ensures found { S.is_honest store.new → IfOk result (λ read. HasTaken R.took
+        (S.holds store.old) read.0) }
+    ensures count { S.is_honest store.new → IfOk result (λ read. count_in
+        (text_of (S.holds store.old Current)) ≡ Some read.1) }
     ensures faulty { S.is_honest store.new → IfStoreFindsFaulty result (IsFaulty R.faulty
         (S.holds store.old)) }
     ensures device { IsErrOf result StoreFault.Device
         → HasRisen (S.failed store.old) (S.failed store.new) }
 {
-    let count = read_head(alloc, store, reader)?;
-    read_revisions(alloc, store, reader, count)?;
-    read_locks(alloc, store, reader)?;
-    Ok(count)
+    let (mut reader, count) = read_head(alloc, store)?;
+    match read_rest(alloc, store, &mut reader, count) {
+        Ok(()) => Ok((reader, count)),
+        Err(fault) => {
+            std::mem::drop(reader);
+            Err(fault)
+        }
+    }
 }
 
-/// Reads the files that say what is there.
-fn read_head<S: Store, R: Reader>(
-    alloc: Global,
-    store: &mut S,
-    reader: &mut R,
-) -> Result<u32, StoreFault>
+/// Reads the files that say what is there, and begins with them.
+fn read_head<S: Store, R: Reader>(alloc: Global, store: &mut S) -> Result<(R, u32), StoreFault>
     ensures reads { OnlyReads S.is_honest S.holds S.may_leave S.moment S.left_since S.in_doubt
         S.failed store.old store.new }
-    ensures ok { S.is_honest store.new → OnOk result (R.taken reader.new
-        ≡ read_below (S.holds store.old) 0) }
-    ensures count { S.is_honest store.new → IfOk result (λ n. count_in
-        (text_of (S.holds store.old Current)) ≡ Some n) }
-    ensures faulty { S.is_honest store.new → IfStoreFindsFaulty result (IsFaulty R.faulty
-        (S.holds store.old)) }
+    ensures took { S.is_honest store.new → IfOk result (λ begun. R.took begun.0
+        (read_below (S.holds store.old) 0)) }
+    ensures count { S.is_honest store.new → IfOk result (λ begun. count_in
+        (text_of (S.holds store.old Current)) ≡ Some begun.1) }
+    ensures faulty { S.is_honest store.new → IfStoreFindsFaulty result (R.faulty.head
+        (S.holds store.old Format) (text_of (S.holds store.old Uuid))
+        (text_of (S.holds store.old Current))) }
     ensures device { IsErrOf result StoreFault.Device
         → HasRisen (S.failed store.old) (S.failed store.new) }
 {
     let format = store.read(alloc, FileName::Format)?;
     let uuid = read_text(alloc, store, FileName::Uuid)?;
     let current = read_text(alloc, store, FileName::Current)?;
-    Ok(reader.take_head(format, uuid, current)?)
+    Ok(R::begin(alloc, format, uuid, current)?)
+}
+
+/// Reads so many revisions, and the locks.
+fn read_rest<S: Store, R: Reader>(
+    alloc: Global,
+    store: &mut S,
+    reader: &mut R,
+    count: u32,
+) -> Result<(), StoreFault>
+    ensures reads { OnlyReads S.is_honest S.holds S.may_leave S.moment S.left_since S.in_doubt
+        S.failed store.old store.new }
+    ensures took { S.is_honest store.new → R.took reader.old (read_below (S.holds store.old) 0)
+        → OnOk result (R.took reader.new (reached (S.holds store.old) count)) }
+    ensures faulty { S.is_honest store.new → R.took reader.old (read_below (S.holds store.old) 0)
+        → IfStoreFindsFaulty result (HasFaultyRevision R.faulty (S.holds store.old) count
+        ⊎ R.faulty.locks (S.holds store.old Locks)) }
+    ensures device { IsErrOf result StoreFault.Device
+        → HasRisen (S.failed store.old) (S.failed store.new) }
+{
+    read_revisions(alloc, store, reader, count)?;
+    read_locks(alloc, store, reader)
 }
 
 /// The bytes of a file; one that is missing has none.
@@ -163,9 +175,9 @@ fn read_revisions<S: Store, R: Reader>(
 ) -> Result<(), StoreFault>
     ensures reads { OnlyReads S.is_honest S.holds S.may_leave S.moment S.left_since S.in_doubt
         S.failed store.old store.new }
-    ensures ok { S.is_honest store.new → R.taken reader.old ≡ read_below (S.holds store.old) 0
-        → OnOk result (R.taken reader.new ≡ read_below (S.holds store.old) count) }
-    ensures faulty { S.is_honest store.new → R.taken reader.old ≡ read_below (S.holds store.old) 0
+    ensures took { S.is_honest store.new → R.took reader.old (read_below (S.holds store.old) 0)
+        → OnOk result (R.took reader.new (read_below (S.holds store.old) count)) }
+    ensures faulty { S.is_honest store.new → R.took reader.old (read_below (S.holds store.old) 0)
         → IfStoreFindsFaulty result (HasFaultyRevision R.faulty (S.holds store.old) count) }
     ensures device { IsErrOf result StoreFault.Device
         → HasRisen (S.failed store.old) (S.failed store.new) }
@@ -185,10 +197,11 @@ fn read_revision<S: Store, R: Reader>(
 ) -> Result<(), StoreFault>
     ensures reads { OnlyReads S.is_honest S.holds S.may_leave S.moment S.left_since S.in_doubt
         S.failed store.old store.new }
-    ensures ok { S.is_honest store.new → OnOk result (R.taken reader.new
-        ≡ with_one_more (R.taken reader.old) (revision_files (S.holds store.old) number)) }
-    ensures faulty { S.is_honest store.new → IfStoreFindsFaulty result (R.faulty.revision
-        (R.taken reader.old).revisions (revision_files (S.holds store.old) number)) }
+    ensures took { S.is_honest store.new → OnOk result ((files : Files) → R.took reader.old files
+        → R.took reader.new (with_one_more files (revision_files (S.holds store.old) number))) }
+    ensures faulty { S.is_honest store.new → (files : Files) → R.took reader.old files
+        → IfStoreFindsFaulty result (R.faulty.revision files.revisions
+        (revision_files (S.holds store.old) number)) }
     ensures device { IsErrOf result StoreFault.Device
         → HasRisen (S.failed store.old) (S.failed store.new) }
 {
@@ -205,8 +218,8 @@ fn read_locks<S: Store, R: Reader>(
 ) -> Result<(), StoreFault>
     ensures reads { OnlyReads S.is_honest S.holds S.may_leave S.moment S.left_since S.in_doubt
         S.failed store.old store.new }
-    ensures ok { S.is_honest store.new → OnOk result (R.taken reader.new
-        ≡ with_read_locks (R.taken reader.old) (S.holds store.old Locks)) }
+    ensures took { S.is_honest store.new → OnOk result ((files : Files) → R.took reader.old files
+        → R.took reader.new (with_read_locks files (S.holds store.old Locks))) }
     ensures faulty { S.is_honest store.new → IfStoreFindsFaulty result (R.faulty.locks
         (S.holds store.old Locks)) }
     ensures device { IsErrOf result StoreFault.Device

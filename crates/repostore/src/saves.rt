@@ -214,4 +214,11 @@ impl<S: Store> Saves<S> {
     {
         &self.store
     }
+
+    /// Lets go of the count: the store.
+    pub fn into_store(self) -> S
+        ensures { result ≡ self.store }
+    {
+        self.store
+    }
 }

@@ -1,10 +1,13 @@
 //! The commit of a revision that is done once more.
-ghost use Rattle.std.specs.Prelude.{◌≡◌};
+ghost use Rattle.std.specs.Prelude.{◌≡◌, IfOk};
+ghost use Rattle.revision_replaying.specs.Replayed.{HasReplayed};
 ghost use Rattle.revision_replaying.specs.Rests.{RestsOn};
 
+use crate::faults::fault_of;
+use crate::revising::set_revision_properties;
 use byte_string::ByteString;
 use fsfs_lines::FileFault;
-use repo_api::{ChangeFault, CommitAsk, LockTokens, Properties, Repository};
+use repo_api::{CommitAsk, LockTokens, Properties, Repository};
 use std::alloc::{AllocError, Global};
 use world::{World, WorldTxn};
 
@@ -38,50 +41,36 @@ fn ask(alloc: Global, properties: &Properties) -> Result<CommitAsk, AllocError> 
     })
 }
 
-/// Gives why a change that was asked for once more is not made.
-fn fault_of(fault: ChangeFault) -> FileFault {
-    match fault {
-        ChangeFault::NoMemory => FileFault::NoMemory,
-        _ => FileFault::BadLine,
-    }
-}
-
-/// Takes out the date of a revision whose properties have none.
-fn settle_date(
+/// Makes the world in which a transaction is the next revision.
+fn committed(
     alloc: Global,
-    world: &mut World,
-    number: u64,
+    world: &World,
+    txn: &WorldTxn,
     properties: &Properties,
-) -> Result<(), FileFault> {
-    let name = ByteString::from_slice(alloc, b"svn:date")?;
-    if properties.get(&name).is_some() {
-        return Ok(());
-    }
-    world.change_property(number, name, None).map_err(fault_of)
+) -> Result<World, FileFault>
+    requires { RestsOn world.now txn.now }
+    ensures { IfOk result (λ after. HasReplayed world.now after) }
+{
+    let asked = ask(alloc, properties)?;
+    world.committed(&asked, txn).map_err(fault_of)
 }
 
-/// Makes a transaction the next revision, with these properties.
+/// Makes the world in which a transaction is the next revision, with these properties.
 ///
 /// # Errors
 ///
 /// `BadLine` where it is refused, or `NoMemory`.
 pub fn commit(
     alloc: Global,
-    world: &mut World,
-    txn: WorldTxn,
+    world: &World,
+    txn: &WorldTxn,
     properties: &Properties,
-) -> Result<(), FileFault>
-    requires { RestsOn world.old txn }
+) -> Result<World, FileFault>
+    requires { RestsOn world.now txn.now }
+    ensures { IfOk result (λ after. HasReplayed world.now after) }
 {
-    let asked = match ask(alloc, properties) {
-        Ok(asked) => asked,
-        Err(error) => {
-            std::mem::drop(txn);
-            return Err(FileFault::from(error));
-        }
-    };
-    match world.commit(asked, txn) {
-        Ok(number) => settle_date(alloc, world, number, properties),
-        Err(fault) => Err(fault_of(fault)),
-    }
+    let next = committed(alloc, world, txn, properties)?;
+    let revised = set_revision_properties(alloc, &next, next.youngest(), properties);
+    std::mem::drop(next);
+    revised
 }

@@ -4,10 +4,14 @@
 mod changes;
 mod commit;
 mod edits;
+mod faults;
 mod pieces;
 mod properties;
+mod renewing;
 mod replay;
 mod replaying;
+mod revising;
 mod texts;
 
 pub use replaying::replay_revision;
+pub use revising::set_revision_properties;

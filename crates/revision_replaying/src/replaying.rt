@@ -1,6 +1,7 @@
 //! Doing a revision once more.
 ghost use Rattle.std.specs.Prelude.{◌≡◌, IfOk};
 ghost use Rattle.svnpath.specs.Components.{IsRightPath};
+ghost use Rattle.revision_replaying.specs.Replayed.{HasReplayed};
 ghost use Rattle.revision_replaying.specs.Rests.{RestsOn};
 
 use crate::changes::{read_changes, read_path};
@@ -95,11 +96,12 @@ fn replayed(alloc: Global, world: &World, file: &RevisionFile) -> Result<WorldTx
         pieces: pieces.as_slice(),
     };
     replay.redo_all(&mut txn)?;
+    replay.renew_all(&mut txn)?;
     Ok(txn)
 }
 
 /// Does a revision that was read once more, as a commit behind those of the world, with these
-/// properties. After a fault the world is to be let go.
+/// properties. The world itself stays as it was.
 ///
 /// # Errors
 ///
@@ -107,10 +109,14 @@ fn replayed(alloc: Global, world: &World, file: &RevisionFile) -> Result<WorldTx
 /// `NoMemory`.
 pub fn replay_revision(
     alloc: Global,
-    world: &mut World,
+    world: &World,
     file: &RevisionFile,
     properties: &Properties,
-) -> Result<(), FileFault> {
+) -> Result<World, FileFault>
+    ensures { IfOk result (λ after. HasReplayed world.now after) }
+{
     let txn = replayed(alloc, world, file)?;
-    commit(alloc, world, txn, properties)
+    let after = commit(alloc, world, &txn, properties);
+    std::mem::drop(txn);
+    after
 }

@@ -5,6 +5,7 @@ ghost use Rattle.repo_api.specs.Soundness.{AreSound};
 
 use crate::admission::Admission;
 use crate::places::Places;
+use crate::watch::Watch;
 use access::RepoAccess;
 use conversations::{EnvSource, Gate, Worker};
 use crossbeam_channel::Receiver;
@@ -22,11 +23,13 @@ pub struct Caller<I, O> {
     pub output: O,
 }
 
-/// What the threads of a server share: what it was started with, the gate that each piece passes, and the places.
+/// What the threads of a server share: what it was started with, the gate that each piece passes, who is told how
+/// sessions end, and the places.
 #[derive(Drop)]
-pub struct SessionPool<'p, G> {
+pub struct SessionPool<'p, G, W> {
     options: &'p Options,
     gate: &'p G,
+    watch: &'p W,
     places: Mutex<Places>,
 }
 
@@ -53,12 +56,13 @@ fn serve_caller<
     worker.access.is_halted()
 }
 
-impl<'p, G: Gate> SessionPool<'p, G> {
+impl<'p, G: Gate, W: Watch> SessionPool<'p, G, W> {
     /// No session is open.
-    pub fn new(options: &'p Options, gate: &'p G) -> Self {
+    pub fn new(options: &'p Options, gate: &'p G, watch: &'p W) -> Self {
         SessionPool {
             options,
             gate,
+            watch,
             places: Mutex::new(Places::new()),
         }
     }
@@ -97,10 +101,13 @@ impl<'p, G: Gate> SessionPool<'p, G> {
             let Ok(caller) = callers.recv(rt) else {
                 return;
             };
-            if serve_caller(&mut worker, caller) {
+            let number = caller.number;
+            let is_halted = serve_caller(&mut worker, caller);
+            if is_halted {
                 self.places.lock(rt).halt();
             }
             self.leave(rt);
+            self.watch.ended(number, is_halted);
         }
     }
 }

@@ -105,9 +105,10 @@ pub trait Archive<R: Repository>: Drop {
             revision name ≡ Some r) }
         ensures memory { IsOfMemory result };
 
-    /// Saves a change.
+    /// Saves a change that was made of the repository for which the files stand.
     fn save(&mut self, unsaved: Self::Unsaved) -> Result<(), SaveFault>
-        requires { (kept self.old).halted ≡ false }
+        requires running { (kept self.old).halted ≡ false }
+        requires writes { (e : Accepted) × writes self.old unsaved e }
         ensures { (e : Accepted) → writes self.old unsaved e
             → SaveLeaves e (kept self.old) result (kept self.new) };
 }

@@ -64,7 +64,8 @@ pub(crate) fn save_next<
     next: &R,
     unsaved: S::Unsaved,
 ) -> Result<Ready<R, J>, ChangeFault>
-    requires { (S.kept archive.old).halted ≡ false }
+    requires running { (S.kept archive.old).halted ≡ false }
+    requires writes { (e : Accepted) × S.writes archive.old unsaved e }
     ensures desk { desk.new.writer.desk ≡ desk.old.writer.desk }
     ensures ready { IfOk result (λ r. (R.content r.first ≡ R.content next.now)
         × (R.content r.second ≡ R.content next.now)) }

@@ -2,7 +2,7 @@
 use Rattle.std.proofs.Common.{◌≡◌, ◌⊎◌, inl, inr, ⊎_elim, ℕ, Bool, true, false, not, ◌&&◌, List, Option, Some, None, Result, Ok, Err, refl, sym, ap, ◌∙◌, subst}
 use Rattle.std.proofs.lemmas.Bool.{false≢true}
 use Rattle.refusals.specs.declared.Refusal.{Refusal}
-use Rattle.repo_api.specs.States.{RepoState, TxnState}
+use Rattle.repo_api.specs.States.{RepoState}
 use Rattle.repo_api.specs.Accepted.{Accepted, changed, IfRefused, IsOfMemory}
 use Rattle.repo_api.specs.Accepted.Accepted.{Releases}
 use Rattle.repo_api.specs.Locking.{HandedTokens, releases, without_released}
@@ -16,8 +16,8 @@ use Rattle.access.specs.declared.access.Released.TheVariants as releases_so
 use Rattle.access.specs.declared.handed.Handed.{Handed}
 use Rattle.access.specs.Handed.{IsHandedIn}
 use Rattle.access.specs.Points.{Point, content_of, HasRisen}
-use Rattle.access.specs.Sole.{sole_rules, point_after}
-use Rattle.access.specs.Changing.{ChangesAt, wants_release, ReleasesAfter, IsHalt}
+use Rattle.access.specs.Sole.{sole_rules}
+use Rattle.access.specs.Changing.{ChangesAt, wants_release, ReleasesAfter}
 use Rattle.stored_repository.specs.Stored.{stored_at, SavesTo, ReleasesBy, ReleasesKept, released_as}
 
 -- a save that failed, as it is told

@@ -1,5 +1,5 @@
 -- What the files stand for while a change is saved.
-use Rattle.std.proofs.Common.{◌≡◌, ◌⊎◌, inl, inr, ⊎_elim, refl, sym, ap, ◌∙◌, ℕ, false, Option, Some, None, subst}
+use Rattle.std.proofs.Common.{◌≡◌, ◌⊎◌, inl, inr, ⊎_elim, ℕ, false, Option, Some, None, subst}
 use Rattle.std.proofs.Math.Logic.{∥∥₁_map, ∥∥₁_map₂}
 use Rattle.repo_api.specs.States.{RepoState}
 use Rattle.repo_api.specs.Locking.{without_released}
@@ -10,12 +10,12 @@ use Rattle.stored_repository.specs.Stored.{without_handed}
 use Rattle.stored_repository.proofs.Changes.{without}
 use Rattle.file_store.specs.Folders.{Folder}
 use Rattle.file_store.specs.Moments.{LeavesOnly}
-use Rattle.repostore.specs.Files.{Files, files_in, HasFiles, HasEither}
+use Rattle.repostore.specs.Files.{Files, HasFiles, HasEither}
 use Rattle.repostore.specs.Saving.{IsSaved}
 use Rattle.repostore.specs.declared.saves.Saves.{Saves}
 use Rattle.repostore.proofs.Steps.{begun, weaker}
 use Rattle.repostore.proofs.Joining.{join}
-use Rattle.stored_repository.specs.Keeping.{IsKept, Keeps, StandsFor, StandsForEither, LeavesEither, LeavesOneOf}
+use Rattle.stored_repository.specs.Keeping.{Keeps, StandsFor, StandsForEither, LeavesEither, LeavesOneOf}
 
 module _ {S F : Type 0} (is_honest : S → Type 0) (holds : S → Folder)
     (may_leave : S → Folder → Type 0) (moment : S → ℕ) (left_since : S → ℕ → Folder → Type 0)

@@ -1,7 +1,9 @@
 //! A repository opened from its files.
-ghost use Rattle.std.specs.Prelude.{◌≡◌, IfOk, IfErr};
+ghost use Rattle.std.specs.Prelude.{◌≡◌, Some, IfOk, IfErr, length};
 ghost use Rattle.file_store.specs.Folders.{Folder, IsSame};
 ghost use Rattle.file_store.specs.Moments.{HasRisen};
+ghost use Rattle.repostore.specs.Current.{count_in};
+ghost use Rattle.repostore.specs.Files.{Files};
 ghost use Rattle.repostore.specs.Reading.{IsFaulty, IfFaulty};
 ghost use Rattle.repostore.specs.Saving.{OnlyReads};
 ghost use Rattle.stored_repository.specs.Keeping.{StandsFor};
@@ -12,13 +14,15 @@ use file_store::{Store, StoreFault};
 use repostore::{Reader, Unopened, open};
 use std::alloc::Global;
 
-/// A reader that has a repository once it has taken all files.
+/// Makes a repository once it has taken all files.
 pub trait Loader: Reader {
     type Repository: Filed;
 
-    /// The repository of the files that it has taken.
+    /// Gives the repository of the files that it has taken, where those of all revisions are among them.
     fn finish(self) -> Self::Repository
-        ensures { Self.Repository.is_of result (Self.taken self) };
+        ensures { (files : Files) → Self.took self files
+            → count_in files.current ≡ Some (length files.revisions)
+            → Self.Repository.is_of result files };
 }
 
 /// Opens a repository: whatever a stop has left, it finds the repository for which the files stand that are
@@ -26,7 +30,6 @@ pub trait Loader: Reader {
 pub fn open_repository<S: Store, L: Loader>(
     alloc: Global,
     store: S,
-    loader: L,
 ) -> Result<StoredRepository<L::Repository, S>, Unopened<S>>
     requires { S.is_honest store → (f : Folder) → S.may_leave store f → IsSame (S.holds store) f }
     ensures found { IfOk result (λ opened. S.is_honest opened.saves.store
@@ -39,6 +42,6 @@ pub fn open_repository<S: Store, L: Loader>(
     ensures unchanged { IfErr result (λ unopened. OnlyReads S.is_honest S.holds S.may_leave
         S.moment S.left_since S.in_doubt S.failed store unopened.store) }
 {
-    let (saves, loader) = open(alloc, store, loader)?;
+    let (saves, loader) = open::<S, L>(alloc, store)?;
     Ok(StoredRepository::new(loader.finish(), saves))
 }

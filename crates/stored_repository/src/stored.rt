@@ -33,6 +33,28 @@ impl<F: Filed, S: Store> StoredRepository<F, S> {
         }
     }
 
+    /// The repository that the files stand for.
+    pub fn repository(&self) -> &F
+        ensures { result.now ≡ self.now.repository }
+    {
+        &self.repository
+    }
+
+    /// The repository and its saves. While changes are made, its files are those of the repository.
+    pub fn into_parts(self) -> (F, Saves<S>)
+        ensures repository { result.0 ≡ self.repository }
+        ensures saves { result.1 ≡ self.saves }
+        ensures kept { ∥ Keeps S.is_honest S.holds S.may_leave F.is_of result.1 result.0 ∥₁ }
+    {
+        let StoredRepository {
+            repository,
+            saves,
+            pending,
+        } = self;
+        std::mem::drop(pending);
+        (repository, saves)
+    }
+
     /// The store of the files. While changes are made, what it reads stands for what the repository contains, and
     /// so does what a stop leaves now.
     pub fn store(&self) -> &S
@@ -45,5 +67,14 @@ impl<F: Filed, S: Store> StoredRepository<F, S> {
             → ∥ StandsFor F.stands_for (F.content self.now.repository) f ∥₁ }
     {
         self.saves.store()
+    }
+
+    /// Lets go of the repository: the store of its files.
+    pub fn into_store(self) -> S
+        ensures { result ≡ self.saves.store }
+    {
+        let (repository, saves) = self.into_parts();
+        std::mem::drop(repository);
+        saves.into_store()
     }
 }

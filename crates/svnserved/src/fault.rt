@@ -1,5 +1,8 @@
 //! Why the program ends before its time.
 
+use file_store::StoreFault;
+use folder_store::FolderFault;
+use fsfs_lines::FileFault;
 use hub::HubFault;
 use std::alloc::{AllocError, AllocFailed};
 use std::{fmt, io};
@@ -16,6 +19,12 @@ pub enum ProgramFault {
     Io,
     /// The hub failed, or memory was refused.
     Hub(HubFault),
+    /// There is no folder of a repository.
+    Missing,
+    /// The repository's folder is not opened.
+    Folder(FolderFault),
+    /// The repository's files are not read, or not made.
+    Store(StoreFault),
 }
 
 impl ProgramFault {
@@ -23,8 +32,41 @@ impl ProgramFault {
     pub fn status(&self) -> u8 {
         match self {
             ProgramFault::CommandLine(_) | ProgramFault::Name => 2,
-            ProgramFault::Io | ProgramFault::Hub(_) => 1,
+            _ => 1,
         }
+    }
+}
+
+/// The number of a fault of a file, and what it means.
+fn file_text(fault: FileFault) -> &'static str {
+    match fault {
+        FileFault::Truncated => "X1: a file of the repository is cut off",
+        FileFault::BadLine => "X2: a file of the repository has a bad line",
+        FileFault::Delta => "X3: a text of the repository is stored as a delta",
+        FileFault::Digest => "X4: a file of the repository does not have its digest",
+        FileFault::Dangling => "X5: a file of the repository names what is not there",
+        FileFault::WrongFormat => "X6: the folder has no repository of format 2",
+        FileFault::NoMemory => "no memory",
+    }
+}
+
+/// What is said where the files of a repository are not read, or not made.
+fn store_text(fault: StoreFault) -> &'static str {
+    match fault {
+        StoreFault::Exists => "exists",
+        StoreFault::Device => "O1: the device failed",
+        StoreFault::Halted => "O3: changes have come to a halt",
+        StoreFault::NoMemory => "no memory",
+        StoreFault::File(fault) => file_text(fault),
+    }
+}
+
+/// What is said where a folder is not opened.
+fn folder_text(fault: FolderFault) -> &'static str {
+    match fault {
+        FolderFault::InUse => "the folder is in use",
+        FolderFault::Device => "O1: the folder cannot be opened",
+        FolderFault::NoMemory => "no memory",
     }
 }
 
@@ -38,6 +80,9 @@ impl fmt::Display for ProgramFault {
             ),
             ProgramFault::Io => writeln!(f, "svnserved: io"),
             ProgramFault::Hub(fault) => writeln!(f, "svnserved: {fault}"),
+            ProgramFault::Missing => writeln!(f, "svnserved: X6: there is no repository"),
+            ProgramFault::Folder(fault) => writeln!(f, "svnserved: {}", folder_text(*fault)),
+            ProgramFault::Store(fault) => writeln!(f, "svnserved: {}", store_text(*fault)),
         }
     }
 }
@@ -51,6 +96,18 @@ impl From<io::Error> for ProgramFault {
 impl From<HubFault> for ProgramFault {
     fn from(fault: HubFault) -> Self {
         ProgramFault::Hub(fault)
+    }
+}
+
+impl From<FolderFault> for ProgramFault {
+    fn from(fault: FolderFault) -> Self {
+        ProgramFault::Folder(fault)
+    }
+}
+
+impl From<StoreFault> for ProgramFault {
+    fn from(fault: StoreFault) -> Self {
+        ProgramFault::Store(fault)
     }
 }
 

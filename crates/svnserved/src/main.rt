@@ -3,20 +3,20 @@
 
 mod envs;
 mod fault;
+mod repositories;
 
 use command_line::{CommandLineFault, Location, Order, read_command_line};
 use envs::SystemEnvs;
 use fault::ProgramFault;
-use hub::{Hub, HubFault, Options, SoleRepository, is_repository_name};
+use file_store::Store;
+use folder_hub::FolderHub;
+use hub::{HubFault, Options, is_repository_name};
+use repositories::{create_in_folder, empty_hub, folder_hub};
 use std::alloc::Global;
 use std::env;
 use std::io::ErrorKind;
 use std::process::ExitCode;
 use streams::run_stdio;
-use world::World;
-
-/// The UUID of an empty repository in memory.
-const EMPTY_UUID: u128 = 0x0000_0000_0000_4000_8000_0000_0000_0000;
 
 /// The words of the command line.
 fn words(rt: &HostRuntime) -> Result<Vec<String>, ProgramFault> {
@@ -59,19 +59,23 @@ fn options(alloc: Global, name: &str, revprops: bool) -> Result<Options, Program
     })
 }
 
-/// A hub over an empty repository in memory.
-fn empty_hub(alloc: Global, options: Options) -> Result<Hub<SoleRepository<World>>, ProgramFault> {
-    let repository = World::new(alloc, EMPTY_UUID, 0)?;
-    Ok(Hub::over_new(alloc, repository, options)?)
-}
-
-/// Serves one session over the standard streams, on an empty repository in memory.
-fn serve_stdio(rt: &HostRuntime, name: &str, revprops: bool) -> Result<(), ProgramFault> {
-    let options = options(rt.alloc(), name, revprops)?;
-    let mut hub = empty_hub(rt.alloc(), options)?;
+/// Serves one session over the standard streams.
+fn serve<S: Store>(rt: &HostRuntime, mut hub: FolderHub<S>) -> Result<(), ProgramFault> {
     let mut envs = SystemEnvs::new(rt)?;
     run_stdio(&mut hub, &mut rt.stdin(), &mut rt.stdout(), &mut envs)?;
     Ok(())
+}
+
+/// Serves one session over the standard streams, on the repository at a location.
+fn serve_stdio(
+    rt: &HostRuntime,
+    location: &Location,
+    options: Options,
+) -> Result<(), ProgramFault> {
+    match location {
+        Location::Memory => serve(rt, empty_hub(rt.alloc(), options)?),
+        Location::Folder(folder) => serve(rt, folder_hub(rt, folder, options)?),
+    }
 }
 
 /// An order that nothing serves yet, told so.
@@ -85,21 +89,17 @@ fn not_served(alloc: Global, text: &str) -> ProgramFault {
 /// Does what the command line asks for.
 fn run(rt: &HostRuntime) -> Result<(), ProgramFault> {
     match order(rt)? {
+        Some(Order::Create { folder }) => create_in_folder(rt, folder.as_str()),
         Some(
             Order::Stdio {
-                location: Location::Memory,
+                location,
                 name,
                 revprops,
             },
-        ) => serve_stdio(rt, name.as_str(), revprops),
-        Some(Order::Stdio { .. }) => Err(not_served(
-            rt.alloc(),
-            "error: DIR can only be `-`, an empty repository in memory\n",
-        )),
-        Some(Order::Create { .. }) => Err(not_served(
-            rt.alloc(),
-            "error: `create` isn't there yet: there is no repository on disk\n",
-        )),
+        ) => {
+            let options = options(rt.alloc(), name.as_str(), revprops)?;
+            serve_stdio(rt, &location, options)
+        }
         Some(Order::Serve(_)) => Err(not_served(
             rt.alloc(),
             "error: `serve` isn't there yet: there are no sessions over TCP\n",

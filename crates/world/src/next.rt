@@ -122,7 +122,7 @@ impl World {
     }
 
     /// Makes the repository with these locks.
-    fn with_locks(&self, locks: Arc<Locks>) -> Result<World, AllocError>
+    pub(crate) fn with_locks(&self, locks: Arc<Locks>) -> Result<World, AllocError>
         ensures held { IfOk result (λ w. w.held.value ≡ self.now.held.value) }
         ensures locks { IfOk result (λ w. w.locks.value ≡ locks.value) }
     {

@@ -1,4 +1,4 @@
-use Rattle.std.proofs.Common.{◌≡◌, Bool, true, false, sym, arith, ◌∙◌}
+use Rattle.std.proofs.Common.{sym, arith, ◌∙◌}
 use Rattle.world.specs.Whole.{world_content}
 use Rattle.revision_replaying.proofs.Right.{has_room, is_false}
 use Rattle.revision_replaying.proofs.replay.Replay.has_room.Goals as goal

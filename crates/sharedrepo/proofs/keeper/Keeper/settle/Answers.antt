@@ -11,6 +11,11 @@ use Rattle.sharedrepo.specs.Standing.{Standing, now_of, pending_in}
 use Rattle.sharedrepo.proofs.Keeping.{files_after, not_saved, saved, files_now}
 use Rattle.sharedrepo.proofs.keeper.Keeper.settle.Goals as goal
 
+pub save_next-requires-clause-writes : goal.save_next-requires-clause-writes
+save_next-requires-clause-writes g c =
+    let e = accepted_by g.R.Repository.txn_state c.args.asked in
+    (e, subst (λ (k : Standing g.row.S.Denot). g.S.Archive.writes k.archive c.args.unsaved e) (sym c.self.view_is) c.requires.writes)
+
 pub next_front-front-requires-clause-may : goal.next_front-front-requires-clause-may
 next_front-front-requires-clause-may g c =
     let e = accepted_by g.R.Repository.txn_state c.args.asked in

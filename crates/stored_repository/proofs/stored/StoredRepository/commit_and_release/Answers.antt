@@ -1,4 +1,4 @@
-use Rattle.std.proofs.Common.{◌≡◌, refl, sym, ap, ◌∙◌, length, rules, subst}
+use Rattle.std.proofs.Common.{◌≡◌, ap, ◌∙◌, length, subst}
 use Rattle.repo_api.specs.States.{RepoState}
 use Rattle.repo_api.specs.Commits.{committed}
 use Rattle.repo_api.specs.Locking.{without_released}

@@ -1,5 +1,5 @@
 use Rattle.std.proofs.Common.{refl}
-use Rattle.repostore.specs.Files.{Files, with_locks}
+use Rattle.repostore.specs.Files.{with_locks}
 use Rattle.stored_repository.proofs.Stops.{kept_next, kept_still, saves_either}
 use Rattle.stored_repository.proofs.stored.StoredRepository.settle_locks.Goals as goal
 

@@ -1,0 +1,87 @@
+//! The archive of a repository in files.
+use crate::filed_archive::FiledArchive;
+use crate::unsaved::{ChangedFiles, Unsaved, with_hold};
+use access::Handed;
+use byte_string::ByteString;
+use file_store::Store;
+use repo_api::{ChangeFault, CommitAsk, LockAsk, UnlockAsk};
+use sharedrepo::{Archive, SaveFault};
+use std::mem::drop;
+use stored_repository::Filed;
+
+impl<F: Filed, S: Store> Archive<F> for FiledArchive<F, S> {
+    ghost use Rattle.filed_archive.specs.Writing.{Writes, kept_in};
+
+    type Unsaved = Unsaved<F>;
+
+    ghost kept = { λ a. kept_in F.content S.failed a.repository a.saves };
+
+    ghost writes = { λ a unsaved e. Writes F.content F.is_of a.repository unsaved e };
+
+    fn is_halted(&self) -> bool {
+        self.saves.is_halted()
+    }
+
+    fn failures(&self) -> u64 {
+        self.saves.store().failures()
+    }
+
+    fn committed(&self, ask: CommitAsk, txn: F::Txn) -> Result<(F, Unsaved<F>), ChangeFault> {
+        let made = self.repository.committed(&ask, &txn);
+        drop((ask, txn));
+        match made {
+            Ok((next, new)) => with_hold(next, ChangedFiles::Revision(new)),
+            Err(fault) => Err(fault),
+        }
+    }
+
+    fn locked(&self, ask: LockAsk) -> Result<(F, Unsaved<F>), ChangeFault> {
+        let made = self.repository.locked(&ask);
+        drop(ask);
+        match made {
+            Ok((next, file)) => with_hold(next, ChangedFiles::Locks(file)),
+            Err(fault) => Err(fault),
+        }
+    }
+
+    fn unlocked(&self, ask: &UnlockAsk) -> Result<(F, Unsaved<F>), ChangeFault> {
+        match self.repository.unlocked(ask) {
+            Ok((next, file)) => with_hold(next, ChangedFiles::Locks(file)),
+            Err(fault) => Err(fault),
+        }
+    }
+
+    fn released(&self, handed: &Handed) -> Result<(F, Unsaved<F>), ChangeFault> {
+        match self
+            .repository
+            .released(handed.user.as_ref(), &handed.tokens)
+        {
+            Ok((next, file)) => with_hold(next, ChangedFiles::Locks(file)),
+            // locks that there are are released, or memory was refused
+            Err(fault) => {
+                drop(fault);
+                Err(ChangeFault::NoMemory)
+            }
+        }
+    }
+
+    fn property_changed(
+        &self,
+        revision: u64,
+        name: ByteString,
+        value: Option<ByteString>,
+    ) -> Result<(F, Unsaved<F>), ChangeFault> {
+        let made = self
+            .repository
+            .property_changed(revision, &name, value.as_ref());
+        drop((name, value));
+        match made {
+            Ok((next, new)) => with_hold(next, ChangedFiles::Properties(new)),
+            Err(fault) => Err(fault),
+        }
+    }
+
+    fn save(&mut self, unsaved: Unsaved<F>) -> Result<(), SaveFault> {
+        self.save_change(unsaved)
+    }
+}

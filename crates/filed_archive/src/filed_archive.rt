@@ -1,0 +1,48 @@
+//! A repository in files that a keeper alone changes.
+ghost use Rattle.std.specs.Prelude.{◌≡◌, false};
+ghost use Rattle.file_store.specs.Folders.{Folder};
+ghost use Rattle.stored_repository.specs.Keeping.{Keeps, StandsFor};
+
+use file_store::Store;
+use repostore::Saves;
+use stored_repository::{Filed, StoredRepository};
+
+/// A repository in files. While changes are saved, the files are those of the repository.
+#[derive(Drop)]
+pub struct FiledArchive<F: Filed, S: Store> {
+    pub(crate) repository: F,
+    pub(crate) saves: Saves<S>,
+    ghost kept: { ∥ Keeps S.is_honest S.holds S.may_leave F.is_of saves repository ∥₁ },
+}
+
+impl<F: Filed, S: Store> FiledArchive<F, S> {
+    /// The archive of a repository that was opened or made.
+    pub fn new(stored: StoredRepository<F, S>) -> Self
+        ensures repository { result.repository ≡ stored.repository }
+        ensures saves { result.saves ≡ stored.saves }
+    {
+        let (repository, saves) = stored.into_parts();
+        FiledArchive { repository, saves }
+    }
+
+    /// The repository for which the files stand while changes are saved.
+    pub fn repository(&self) -> &F
+        ensures { result.now ≡ self.now.repository }
+    {
+        &self.repository
+    }
+
+    /// The store of the files. While changes are saved, what it reads stands for what the repository contains, and
+    /// so does what a stop leaves now.
+    pub fn store(&self) -> &S
+        ensures store { result.now ≡ self.now.saves.store }
+        ensures holds { S.is_honest self.now.saves.store → self.now.saves.is_halted ≡ false
+            → ∥ StandsFor F.stands_for (F.content self.now.repository)
+            (S.holds self.now.saves.store) ∥₁ }
+        ensures leaves { S.is_honest self.now.saves.store → self.now.saves.is_halted ≡ false
+            → (f : Folder) → S.may_leave self.now.saves.store f
+            → ∥ StandsFor F.stands_for (F.content self.now.repository) f ∥₁ }
+    {
+        self.saves.store()
+    }
+}

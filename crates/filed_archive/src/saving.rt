@@ -1,0 +1,104 @@
+//! What a change writes is saved, and then the repository is the next one.
+ghost use Rattle.std.specs.Prelude.{◌≡◌, ◌⊎◌, ◌↔◌, false, true, OnOk, IsErr, IsErrOf};
+ghost use Rattle.file_store.specs.Moments.{LeavesOnly, HasRisen};
+ghost use Rattle.filed_archive.specs.Writing.{Fits, Writes, is_revision, kept_in, written};
+ghost use Rattle.repo_api.specs.Accepted.{Accepted, changed};
+ghost use Rattle.repostore.specs.Files.{Files, HasEither};
+ghost use Rattle.repostore.specs.Saving.{IsSaved};
+ghost use Rattle.sharedrepo.specs.Archives.{SaveLeaves};
+ghost use Rattle.stored_repository.specs.Keeping.{LeavesEither};
+
+use crate::filed_archive::FiledArchive;
+use crate::unsaved::{ChangedFiles, Unsaved};
+use file_store::{Store, StoreFault};
+use repostore::Saves;
+use sharedrepo::SaveFault;
+use std::mem::drop;
+use stored_repository::Filed;
+
+/// How a save that failed is told, by whether saves have come to a halt.
+fn told(is_halted: bool, fault: StoreFault) -> SaveFault
+    ensures memory { fault ≡ StoreFault.NoMemory → result ≡ SaveFault.NoMemory }
+    ensures halted { (fault ≡ StoreFault.NoMemory → ⊥) → is_halted ≡ true
+        → result ≡ SaveFault.Halted }
+    ensures other { (fault ≡ StoreFault.NoMemory → ⊥) → is_halted ≡ false
+        → result ≡ SaveFault.Device }
+{
+    if let StoreFault::NoMemory = fault {
+        return SaveFault::NoMemory;
+    }
+    if is_halted {
+        SaveFault::Halted
+    } else {
+        SaveFault::Device
+    }
+}
+
+/// Saves what a change writes. Only of a revision the device may fail without a halt.
+fn save_files<S: Store>(saves: &mut Saves<S>, new: &ChangedFiles) -> Result<(), StoreFault>
+    ensures saved { (files : Files) → IsSaved S.is_honest S.holds S.may_leave saves.old files
+        → Fits new.now files
+        → OnOk result (IsSaved S.is_honest S.holds S.may_leave saves.new (written new.now files)) }
+    ensures refused { (files : Files) → IsSaved S.is_honest S.holds S.may_leave saves.old files
+        → IsErr result → saves.new.is_halted ≡ false
+        → IsSaved S.is_honest S.holds S.may_leave saves.new files }
+    ensures any_moment { (files : Files) → IsSaved S.is_honest S.holds S.may_leave saves.old files
+        → Fits new.now files
+        → LeavesOnly S.moment S.left_since saves.old.store saves.new.store
+        (HasEither files (written new.now files)) }
+    ensures honest { S.is_honest saves.old.store ↔ S.is_honest saves.new.store }
+    ensures by_device { saves.new.is_halted ≡ true
+        → (saves.old.is_halted ≡ true) ⊎ IsErrOf result StoreFault.Device }
+    ensures halts { IsErrOf result StoreFault.Device → saves.new.is_halted ≡ false
+        → is_revision new.now ≡ true }
+    ensures halted { IsErrOf result StoreFault.Halted → saves.old.is_halted ≡ true }
+    ensures device { IsErrOf result StoreFault.Device
+        → HasRisen (S.failed saves.old.store) (S.failed saves.new.store) }
+    ensures steady { (IsErrOf result StoreFault.Device → ⊥)
+        → S.failed saves.new.store ≡ S.failed saves.old.store }
+    ensures only { IsErr result → IsErrOf result StoreFault.Device
+        ⊎ IsErrOf result StoreFault.NoMemory ⊎ IsErrOf result StoreFault.Halted }
+{
+    match new {
+        ChangedFiles::Revision(new) => saves.save_commit(
+            new.revision.as_slice(),
+            new.properties.as_slice(),
+            new.current.as_slice(),
+        ),
+        ChangedFiles::Locks(file) => saves.save_locks(file.as_slice()),
+        ChangedFiles::Properties(new) => saves.save_rev_prop(new.revision, new.file.as_slice()),
+    }
+}
+
+impl<F: Filed, S: Store> FiledArchive<F, S> {
+    /// Saves a change that was made of this repository, and then has the repository behind it. A stop at any moment
+    /// of the call leaves files that stand for the repository from before the change, or behind it.
+    pub fn save_change(&mut self, unsaved: Unsaved<F>) -> Result<(), SaveFault>
+        requires running { self.old.saves.is_halted ≡ false }
+        requires writes { (e : Accepted)
+            × Writes F.content F.is_of self.old.repository unsaved e }
+        ensures leaves { (e : Accepted)
+            → Writes F.content F.is_of self.old.repository unsaved e
+            → SaveLeaves e (kept_in F.content S.failed self.old.repository self.old.saves) result
+            (kept_in F.content S.failed self.new.repository self.new.saves) }
+        ensures stop { (e : Accepted)
+            → Writes F.content F.is_of self.old.repository unsaved e
+            → S.is_honest self.old.saves.store
+            → ∥ LeavesEither S.moment S.left_since F.stands_for self.old.saves.store
+            self.new.saves.store (F.content self.old.repository)
+            (changed (F.content self.old.repository) e) ∥₁ }
+    {
+        let Unsaved { next, files } = unsaved;
+        match save_files(&mut self.saves, &files) {
+            Ok(()) => {
+                drop(files);
+                self.repository = next;
+                Ok(())
+            }
+            Err(fault) => {
+                drop((next, files));
+                Err(told(self.saves.is_halted(), fault))
+            }
+        }
+    }
+}

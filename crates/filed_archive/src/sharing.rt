@@ -1,0 +1,55 @@
+//! A repository in files that threads share.
+ghost use Rattle.std.specs.Prelude.{◌≡◌, false, None, ◌∷◌, [], All, IfOk};
+ghost use Rattle.access.specs.Points.{content_of};
+ghost use Rattle.published.specs.Events.{point_of};
+ghost use Rattle.published.specs.Events.Event.{Opened};
+ghost use Rattle.repo_api.specs.Soundness.{AreSound};
+
+use crate::filed_archive::FiledArchive;
+use file_store::{Store, StoreFault};
+use published::{Naming, NewHistory, Published, Shown};
+use sharedrepo::{Archive, Seat, SharedRepo};
+use std::alloc::Global;
+use std::mem::drop;
+use stored_repository::{Filed, StoredRepository};
+
+/// A repository in files that threads share.
+pub type ServedRepo<F, S, J> = SharedRepo<F, FiledArchive<F, S>, J>;
+
+/// A seat of it.
+pub type ServedSeat<F, J> = Seat<F, J, Shown<Published<F, J>>>;
+
+/// A repository in files, shared, with so many seats. The files stand for it, and each change is saved before it is
+/// seen.
+///
+/// # Errors
+///
+/// `Halted` where changes have come to a halt already; `NoMemory`.
+pub fn share<F: Filed, S: Store, J: Naming>(
+    alloc: Global,
+    stored: StoredRepository<F, S>,
+    seats: usize,
+    history: NewHistory,
+) -> Result<(ServedRepo<F, S, J>, Vec<ServedSeat<F, J>>), StoreFault>
+    requires book { history.seen.book ≡ J.book }
+    requires sound { AreSound (F.content stored.repository).revisions }
+    ensures opened { IfOk result (λ r. All (λ s. s
+        ≡ point_of (Opened (F.content stored.repository) ∷ []) false
+        (S.failed stored.saves.store) None) r.1.items) }
+    ensures sound { IfOk result (λ r. All (λ s. AreSound (content_of s).revisions) r.1.items) }
+{
+    let archive = FiledArchive::new(stored);
+    if archive.is_halted() {
+        drop((archive, history));
+        return Err(StoreFault::Halted);
+    }
+    match archive.repository().share() {
+        Ok(repository) => Ok(SharedRepo::<F, FiledArchive<F, S>, J>::open(
+            alloc, repository, archive, seats, history,
+        )?),
+        Err(error) => {
+            drop((archive, history));
+            Err(StoreFault::from(error))
+        }
+    }
+}

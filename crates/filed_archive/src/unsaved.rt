@@ -1,0 +1,42 @@
+//! A change that was made and is yet to be saved.
+ghost use Rattle.std.specs.Prelude.{◌≡◌, IfOk};
+ghost use Rattle.repo_api.specs.Accepted.{IfRefused, IsOfMemory};
+
+use repo_api::ChangeFault;
+use stored_repository::{Filed, NewProperties, NewRevision};
+
+/// What a change writes.
+#[derive(Drop)]
+pub enum ChangedFiles {
+    Revision(NewRevision),
+    /// The file of the locks.
+    Locks(Vec<u8>),
+    Properties(NewProperties),
+}
+
+/// A change that is yet to be saved: the repository behind it, and what it writes.
+#[derive(Drop)]
+pub struct Unsaved<F: Drop> {
+    pub next: F,
+    pub files: ChangedFiles,
+}
+
+/// A change that is yet to be saved, with another hold of the repository behind it.
+pub(crate) fn with_hold<F: Filed>(
+    next: F,
+    files: ChangedFiles,
+) -> Result<(F, Unsaved<F>), ChangeFault>
+    ensures content { IfOk result (λ made. F.content made.0 ≡ F.content next) }
+    ensures next { IfOk result (λ made. made.1.next ≡ next) }
+    ensures files { IfOk result (λ made. made.1.files ≡ files) }
+    ensures refused { IfRefused result (λ r. ⊥) }
+    ensures memory { IsOfMemory result }
+{
+    match next.share() {
+        Ok(shown) => Ok((shown, Unsaved { next, files })),
+        Err(_) => {
+            std::mem::drop((next, files));
+            Err(ChangeFault::NoMemory)
+        }
+    }
+}

@@ -1,0 +1,38 @@
+use Rattle.std.proofs.Common.{◌≡◌, suc, [], ◌∷◌, Some, None, refl, sym, ap, subst, ◌∙◌}
+use Rattle.std.specs.Prelude.{codes}
+use Rattle.repo_api.specs.States.{RepoState}
+use Rattle.repostore.specs.Files.{Files}
+use Rattle.repostore.specs.Reading.{with_one_more}
+use Rattle.filed_world.specs.Reading.{AreFirst, HasRead}
+use Rattle.filed_world.specs.Creating.{new_files}
+use Rattle.filed_world.proofs.creating.with_files.Goals as goal
+
+pub returns-in-Ok-with_read_revision-clause-files : goal.returns-in-Ok-with_read_revision-clause-files
+returns-in-Ok-with_read_revision-clause-files c = λ uuid date same.
+    let files = c.args.files.now in
+    let made = c.in-Ok-with_read_revision.made in
+    let head : Files = record {
+      format = Some (codes "2\n");
+      uuid = files.uuid.items;
+      current = files.current.items;
+      revisions = [];
+      locks = None;
+    } in
+    let first : AreFirst uuid c.args.current head = record {
+      head = record {
+        format = refl;
+        uuid_is = c.requires.uuid ∙ ap (λ (r : RepoState). Some r.uuid) same;
+        current_is = c.requires.current;
+        count = c.requires.count ∙ ap (λ n. Some (suc n)) (sym c.requires.youngest);
+      };
+      none = refl;
+      unlocked = refl;
+    } in
+    let read = c.in-Ok-with_read_revision.ensures.read head
+    (c.in-Ok.ensures.read uuid date head same first) (c.in-Ok.ensures.next uuid date same) in
+    c.read_whole.ensures (new_files files)
+    (subst (λ r. HasRead made (with_one_more head (r, files.properties.items)))
+    c.as_slice-revision.ensures.value
+    (subst (λ p. HasRead made (with_one_more head (c.as_slice-revision.result.now, p)))
+    c.as_slice.ensures.value read))
+    c.requires.count

@@ -1,0 +1,67 @@
+-- The files of a repository that are read, one revision after another.
+use Rattle.std.specs.Prelude.{◌≡◌, ℕ, suc, List, [], ◌∷◌, ◌++◌, None, Some, codes, length, slice_get}
+use Rattle.std.specs.Result.{result_ok}
+use Rattle.repo_api.specs.Properties.{PropertyList}
+use Rattle.repo_api.specs.States.{ChangeMap, LockMap}
+use Rattle.noderevs.specs.Held.{blocks_of}
+use Rattle.noderevs.specs.declared.node_rev.Block.{Block}
+use Rattle.held.specs.declared.held.Held.{Held}
+use Rattle.world.specs.declared.world.World.{World}
+use Rattle.repostore.specs.Current.{count_in}
+use Rattle.repostore.specs.Files.{Files}
+use Rattle.fsfs_folder.specs.Current.{current_of}
+use Rattle.fsfs_folder.specs.Identity.{uuid_of}
+use Rattle.fsfs_folder.specs.declared.current.Current.{Current}
+use Rattle.file_trees.specs.StandsFor.{revision_bytes, revision_properties}
+use Rattle.file_trees.specs.Tables.{AreTabled}
+use Rattle.file_trees.specs.declared.table.Table.{Table}
+use Rattle.filed_world.specs.Files.{AreLocks}
+use Rattle.filed_world.specs.declared.filed_world.FiledWorld.{FiledWorld}
+
+-- the first files say a format, the name of the repository, and the youngest of its revisions
+pub record SayHead (uuid : ℕ) (current : Current) (files : Files) : Type 0 where
+  pub format : files.format ≡ Some (codes "2\n")
+  pub uuid_is : result_ok (uuid_of files.uuid) ≡ Some uuid
+  pub current_is : result_ok (current_of files.current) ≡ Some current
+  pub count : count_in files.current ≡ Some (suc current.youngest)
+
+-- only the first files have been read
+pub record AreFirst (uuid : ℕ) (current : Current) (files : Files) : Type 0 where
+  pub head : SayHead uuid current files
+  pub none : files.revisions ≡ []
+  pub unlocked : files.locks ≡ None
+
+-- what is held of the revisions that have tables: nothing before the first one is read
+abbrev pub so_far : {X : Type 0} → List Table → List X → List X
+so_far [] xs = []
+so_far (table ∷ tables) xs = xs
+
+-- the files that have been read say what is held of them; before the first revision is read, there is
+-- one to compare it with
+pub record AreRead (h : Held) (locks : LockMap) (tables : List Table) (current : Current)
+    (files : Files) : Type 0 where
+  pub head : SayHead h.uuid current files
+  pub begins : tables ≡ [] → length h.changes ≡ 1
+  pub tabled : AreTabled (revision_bytes files) (so_far tables (blocks_of h.nodes)) tables
+      (so_far tables h.changes)
+  pub properties : (n : ℕ) → slice_get (so_far tables h.properties) n ≡ revision_properties files n
+  pub locked : AreLocks files.locks locks
+
+-- it is that of these files, as far as they have been read
+abbrev pub HasRead : FiledWorld → Files → Type 0
+HasRead f files = AreRead f.world.held.value f.world.locks.value f.tables f.current files
+
+-- behind the revisions that have tables comes one more
+pub record IsNext (before : Held) (tables : List Table) (after : Held) : Type 0 where
+  pub uuid : after.uuid ≡ before.uuid
+  pub block : Block
+  pub blocks : blocks_of after.nodes ≡ so_far tables (blocks_of before.nodes) ++ block ∷ []
+  pub change : ChangeMap
+  pub changes : after.changes ≡ so_far tables before.changes ++ change ∷ []
+  pub list : PropertyList
+  pub lists : after.properties ≡ so_far tables before.properties ++ list ∷ []
+
+-- and the locks stay
+abbrev pub IsNextOf : FiledWorld → World → Type 0
+IsNextOf f world = IsNext f.world.held.value f.tables world.held.value
+    × (world.locks.value ≡ f.world.locks.value)

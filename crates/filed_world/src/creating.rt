@@ -1,0 +1,172 @@
+//! A new repository, and its files.
+ghost use Rattle.std.specs.Prelude.{◌≡◌, ◌≤◌, List, ℕ, IfOk, None, Some};
+ghost use Rattle.dates.specs.Dates.{IsDateText};
+ghost use Rattle.dates.specs.declared.TheConstants.{LAST_MOMENT};
+ghost use Rattle.repo_api.specs.Opening.{new_repository};
+ghost use Rattle.repostore.specs.Creating.{opening_files};
+ghost use Rattle.repostore.specs.Current.{count_in};
+ghost use Rattle.std.specs.Result.{result_ok};
+ghost use Rattle.fsfs_folder.specs.Identity.{uuid_of};
+ghost use Rattle.filed_world.specs.Files.{IsOf, filed_content};
+ghost use Rattle.repostore.specs.Files.{Files};
+ghost use Rattle.filed_world.specs.Creating.{new_files};
+ghost use Rattle.filed_world.specs.Reading.{AreFirst, HasRead, IsNextOf};
+ghost use Rattle.fsfs_folder.specs.Current.{current_of};
+ghost use Rattle.world.specs.Whole.{world_content};
+
+use crate::filed_world::FiledWorld;
+use crate::written::{current_file, properties_file};
+use fsfs_folder::{Current, FORMAT_BYTES, append_uuid, read_uuid};
+use pvec::PVec;
+use repo_api::Repository;
+use repostore::Opening;
+use revision_writing::write_revision;
+use std::alloc::{AllocError, Global};
+use world::World;
+
+/// The ids before those of revision 0: the root's copy has the first one.
+const FIRST_IDS: Current = Current {
+    youngest: 0,
+    node: 0,
+    copy: 1,
+};
+
+/// The files of a new repository that are not the same in all.
+#[derive(Drop)]
+pub struct NewFiles {
+    pub uuid: Vec<u8>,
+    pub current: Vec<u8>,
+    pub revision: Vec<u8>,
+    pub properties: Vec<u8>,
+}
+
+impl NewFiles {
+    /// Gives all files of the repository.
+    pub fn opening(&self) -> Opening<'_>
+        ensures { opening_files result None ≡ new_files self.now }
+    {
+        Opening {
+            format: FORMAT_BYTES,
+            repository_format: b"5\n",
+            kind: b"fsfs\n",
+            uuid: self.uuid.as_slice(),
+            current: self.current.as_slice(),
+            revision: self.revision.as_slice(),
+            properties: self.properties.as_slice(),
+        }
+    }
+}
+
+/// Makes the file `uuid`. Where it could not be read back it is not made.
+fn uuid_file(alloc: Global, uuid: u128) -> Result<Vec<u8>, AllocError>
+    ensures { IfOk result (λ file. result_ok (uuid_of file.items) ≡ Some uuid) }
+{
+    let mut file = Vec::new(alloc);
+    append_uuid(&mut file, uuid)?;
+    match read_uuid(file.as_slice()) {
+        Ok(read) if read == uuid => Ok(file),
+        _ => Err(AllocError),
+    }
+}
+
+/// Makes the files of a new repository, and says which ids come next behind them.
+fn first_files(alloc: Global, world: &World) -> Result<(NewFiles, Current), AllocError>
+    ensures uuid { IfOk result (λ made.
+        result_ok (uuid_of made.0.uuid.items) ≡ Some world.now.held.value.uuid) }
+    ensures current { IfOk result (λ made. result_ok (current_of made.0.current.items)
+        ≡ Some made.1) }
+    ensures youngest { IfOk result (λ made. made.1.youngest ≡ 0) }
+    ensures count { IfOk result (λ made. count_in made.0.current.items ≡ Some 1) }
+{
+    let Some(list) = world.revision_properties(0) else {
+        return Err(AllocError);
+    };
+    let properties = properties_file(alloc, list)?;
+    let tables = PVec::new(alloc)?;
+    let changes = world.changes(0);
+    let written = write_revision(alloc, world.nodes(), &tables, changes, FIRST_IDS)?;
+    let current = Current {
+        youngest: 0,
+        node: written.current.node,
+        copy: written.current.copy,
+    };
+    let files = NewFiles {
+        uuid: uuid_file(alloc, world.uuid())?,
+        current: current_file(alloc, current)?,
+        revision: written.file,
+        properties,
+    };
+    Ok((files, current))
+}
+
+/// Begins with a new repository, of which no revision has been read.
+fn unread(alloc: Global, world: &World, current: Current) -> Result<FiledWorld, AllocError>
+    ensures read { IfOk result (λ unread. (uuid : ℕ) (date : List ℕ) (files : Files)
+        → world_content world.now ≡ new_repository uuid date → AreFirst uuid current files
+        → HasRead unread files) }
+    ensures next { IfOk result (λ unread. (uuid : ℕ) (date : List ℕ)
+        → world_content world.now ≡ new_repository uuid date → IsNextOf unread world.now) }
+{
+    FiledWorld::unread(alloc, world.share()?, current)
+}
+
+/// Makes a new repository of which these are the files.
+fn with_files(
+    alloc: Global,
+    world: World,
+    files: &NewFiles,
+    current: Current,
+) -> Result<FiledWorld, AllocError>
+    requires uuid { result_ok (uuid_of files.now.uuid.items) ≡ Some world.held.value.uuid }
+    requires current { result_ok (current_of files.now.current.items) ≡ Some current }
+    requires youngest { current.youngest ≡ 0 }
+    requires count { count_in files.now.current.items ≡ Some 1 }
+    ensures world { IfOk result (λ made. made.world ≡ world) }
+    ensures files { IfOk result (λ made. (uuid : ℕ) (date : List ℕ)
+        → world_content world ≡ new_repository uuid date → IsOf made (new_files files.now)) }
+{
+    let unread = match unread(alloc, &world, current) {
+        Ok(unread) => unread,
+        Err(error) => {
+            std::mem::drop(world);
+            return Err(error);
+        }
+    };
+    let revision = files.revision.as_slice();
+    match unread.with_read_revision(world, revision, files.properties.as_slice()) {
+        Ok(made) => {
+            made.read_whole();
+            Ok(made)
+        }
+        Err(_) => Err(AllocError),
+    }
+}
+
+/// Makes a new repository, whose revision 0 is dated at the moment, a count of microseconds since the
+/// beginning of 1970; and its files.
+pub fn new_filed(
+    alloc: Global,
+    uuid: u128,
+    moment: u64,
+) -> Result<(FiledWorld, NewFiles), AllocError>
+    requires { moment ≤ LAST_MOMENT }
+    ensures content { IfOk result (λ made. (date : List ℕ) × IsDateText moment date
+        × (filed_content made.0 ≡ new_repository uuid date)) }
+    ensures files { IfOk result (λ made. IsOf made.0 (new_files made.1)) }
+    ensures count { IfOk result (λ made. count_in made.1.current.items ≡ Some 1) }
+{
+    let world = World::new(alloc, uuid, moment)?;
+    match first_files(alloc, &world) {
+        Ok((files, current)) => match with_files(alloc, world, &files, current) {
+            Ok(made) => Ok((made, files)),
+            Err(error) => {
+                std::mem::drop(files);
+                Err(error)
+            }
+        },
+        Err(error) => {
+            std::mem::drop(world);
+            Err(error)
+        }
+    }
+}

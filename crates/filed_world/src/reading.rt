@@ -1,0 +1,185 @@
+//! A repository whose files are read, one revision after another.
+ghost use Rattle.std.specs.Prelude.{◌≡◌, ◌≤◌, [], ℕ, List, Option, Some, length, slice_get, IfOk, None, option_copied};
+ghost use Rattle.std.specs.Result.{result_ok};
+ghost use Rattle.repo_api.specs.Opening.{new_repository};
+ghost use Rattle.repo_api.specs.Properties.{PropertyList};
+ghost use Rattle.world.specs.Whole.{world_content};
+ghost use Rattle.repostore.specs.Current.{count_in};
+ghost use Rattle.repostore.specs.Files.{Files};
+ghost use Rattle.repostore.specs.Reading.{IfFindsFaulty, with_one_more, with_read_locks};
+ghost use Rattle.fsfs_folder.specs.Properties.{properties_of};
+ghost use Rattle.file_trees.specs.StandsFor.{locks_in};
+ghost use Rattle.filed_world.specs.Files.{IsOf};
+ghost use Rattle.filed_world.specs.Reading.{AreFirst, AreRead, HasRead, IsNextOf};
+
+use crate::filed_world::FiledWorld;
+use crate::filing::with_table;
+use file_trees::{Table, check_same_properties, nothing_is_tabled, tabulated};
+use fsfs_folder::{Current, read_locks, read_properties};
+use fsfs_lines::FileFault;
+use pvec::PVec;
+use repo_api::{Lock, Repository};
+use std::alloc::{AllocError, Global};
+use svnpath::Path;
+use world::World;
+
+/// Lists the locks that their file says, if there is one.
+fn listed(alloc: Global, locks: Option<&[u8]>) -> Result<Vec<(Path, Lock)>, FileFault>
+    ensures ok { IfOk result (λ listed. locks_in (option_copied locks.entry) ≡ Some listed.items) }
+    ensures faulty { IfFindsFaulty result (locks_in (option_copied locks.entry) ≡ None) }
+{
+    match locks {
+        Some(bytes) => read_locks(alloc, bytes),
+        None => Ok(Vec::new(alloc)),
+    }
+}
+
+impl FiledWorld {
+    /// Begins with a new repository, of which no revision has been read.
+    pub fn unread(alloc: Global, world: World, current: Current) -> Result<FiledWorld, AllocError>
+        ensures world { IfOk result (λ made. made.world ≡ world) }
+        ensures none { IfOk result (λ made. made.tables ≡ []) }
+        ensures read { IfOk result (λ made. (uuid : ℕ) (date : List ℕ) (files : Files)
+            → world_content world ≡ new_repository uuid date → AreFirst uuid current files
+            → HasRead made files) }
+    {
+        nothing_is_tabled();
+        match PVec::new(alloc) {
+            Ok(tables) => Ok(FiledWorld {
+                alloc,
+                world,
+                tables,
+                current,
+            }),
+            Err(error) => {
+                std::mem::drop(world);
+                Err(error)
+            }
+        }
+    }
+
+    /// Shows the repository of the revisions that have been read.
+    pub fn world(&self) -> &World
+        ensures { result.now ≡ self.now.world }
+    {
+        &self.world
+    }
+
+    /// Says how many revisions have been read.
+    pub fn count(&self) -> usize
+        ensures count { result ≡ length self.now.tables }
+        ensures limit { result ≤ 262144 }
+    {
+        self.tables.len()
+    }
+
+    /// Compares the files of the next revision with the youngest revision of a world, and gives the
+    /// tables with that of the revision.
+    fn compared(
+        &self,
+        world: &World,
+        revision: &[u8],
+        properties: &[u8],
+    ) -> Result<PVec<Table>, FileFault>
+        ensures { IfOk result (λ tables. (files : Files) → HasRead self.now files
+            → IsNextOf self.now world.now
+            → AreRead world.now.held.value world.now.locks.value tables self.now.current
+            (with_one_more files (revision.now, properties.now))) }
+    {
+        let number = self.tables.len() as u64;
+        let table = tabulated(
+            self.alloc,
+            world.nodes(),
+            &self.tables,
+            world.changes(number),
+            revision,
+        )?;
+        match self.check_list(world, properties) {
+            Ok(()) => Ok(with_table(self.alloc, &self.tables, table)?),
+            Err(fault) => {
+                std::mem::drop(table);
+                Err(fault)
+            }
+        }
+    }
+
+    /// Checks that the file of the next revision's properties says those of the world.
+    fn check_list(&self, world: &World, properties: &[u8]) -> Result<(), FileFault>
+        ensures { IfOk result (λ _. (list : PropertyList)
+            → slice_get world.now.held.value.properties (length self.now.tables) ≡ Some list
+            → result_ok (properties_of properties.now) ≡ Some list) }
+    {
+        let Some(list) = world.revision_properties(self.tables.len() as u64) else {
+            return Err(FileFault::BadLine);
+        };
+        let said = read_properties(self.alloc, properties)?;
+        check_same_properties(self.alloc, &said, list)
+    }
+
+    /// Takes the files of the next revision, if they say what the youngest revision of a world is.
+    ///
+    /// # Errors
+    ///
+    /// As `tabulated` and `read_properties`; `BadLine` where properties differ.
+    pub fn with_read_revision(
+        &self,
+        world: World,
+        revision: &[u8],
+        properties: &[u8],
+    ) -> Result<FiledWorld, FileFault>
+        ensures world { IfOk result (λ made. made.world ≡ world) }
+        ensures read { IfOk result (λ made. (files : Files) → HasRead self.now files
+            → IsNextOf self.now world
+            → HasRead made (with_one_more files (revision.now, properties.now))) }
+    {
+        match self.compared(&world, revision, properties) {
+            Ok(tables) => Ok(FiledWorld {
+                alloc: self.alloc,
+                world,
+                tables,
+                current: self.current,
+            }),
+            Err(fault) => {
+                std::mem::drop(world);
+                Err(fault)
+            }
+        }
+    }
+
+    /// Makes the repository with the locks of a list and no others.
+    fn with_listed_locks(&self, locks: &[(Path, Lock)]) -> Result<FiledWorld, AllocError>
+        ensures { IfOk result (λ made. (files : Files) (file : Option (List ℕ))
+            → HasRead self.now files → locks_in file ≡ Some locks.now
+            → HasRead made (with_read_locks files file)) }
+    {
+        let world = self.world.with_listed_locks(locks)?;
+        let tables = self.tables.share()?;
+        Ok(FiledWorld {
+            alloc: self.alloc,
+            world,
+            tables,
+            current: self.current,
+        })
+    }
+
+    /// Takes the file of locks, if there is one.
+    ///
+    /// # Errors
+    ///
+    /// As `read_locks`.
+    pub fn with_read_locks(&self, locks: Option<&[u8]>) -> Result<FiledWorld, FileFault>
+        ensures read { IfOk result (λ made. (files : Files) → HasRead self.now files
+            → HasRead made (with_read_locks files (option_copied locks.entry))) }
+        ensures faulty { IfFindsFaulty result (locks_in (option_copied locks.entry) ≡ None) }
+    {
+        let listed = listed(self.alloc, locks)?;
+        Ok(self.with_listed_locks(listed.as_slice())?)
+    }
+
+    /// Shows that a repository is that of the files that have been read, where those of all revisions
+    /// are among them.
+    pub fn read_whole(&self)
+        ensures { (files : Files) → HasRead self.now files
+            → count_in files.current ≡ Some (length files.revisions) → IsOf self.now files }
+    {}
+}

@@ -1,0 +1,17 @@
+-- A hub over a repository in files, as it is opened.
+use Rattle.std.specs.Prelude.{◌≡◌, ℕ, []}
+use Rattle.file_store.specs.Folders.{Folder}
+use Rattle.access.specs.Points.{Point}
+use Rattle.machine.specs.Settings.{Settings}
+use Rattle.hub.specs.State.{HubState, hub_at}
+use Rattle.stored_repository.specs.Keeping.{StandsFor}
+use Rattle.file_trees.specs.StandsFor as files
+
+-- the hub has no sessions, and the store's files stand for what it contains, where a read has not shown
+-- that they are not honest
+pub record BeginsWith {S : Type 0} (is_honest : S → Type 0) (holds : S → Folder) (store : S)
+    (settings : Settings) (hub : HubState) : Type 0 where
+  pub point : Point
+  pub begins : hub ≡ hub_at settings point [] 0
+  pub read : S
+  pub stands : is_honest read → StandsFor files.StandsFor hub.content (holds store)

@@ -1,0 +1,6 @@
+//! Many sessions over a repository in a folder of files.
+#![tactic(auto)]
+
+mod opening;
+
+pub use opening::{FolderHub, open_hub, store_of};

@@ -1,0 +1,56 @@
+//! A hub over a repository that is opened from its files.
+ghost use Rattle.std.specs.Prelude.{◌≡◌, IfOk, IfErr, false};
+ghost use Rattle.file_store.specs.Folders.{Folder, IsSame};
+ghost use Rattle.file_store.specs.Moments.{HasRisen};
+ghost use Rattle.repostore.specs.Reading.{IsFaulty, IfFaulty};
+ghost use Rattle.repostore.specs.Saving.{OnlyReads};
+ghost use Rattle.stored_repository.specs.Keeping.{StandsFor};
+ghost use Rattle.file_trees.specs.StandsFor as files;
+ghost use Rattle.world_folder.specs.Faults.{folder_faults};
+ghost use Rattle.folder_hub.specs.Opening.{BeginsWith};
+
+use file_store::{Store, StoreFault};
+use hub::{Hub, Options};
+use repostore::Unopened;
+use std::alloc::Global;
+use world_folder::{FolderRepository, open, opened_trees_are_sound};
+
+/// A hub over a repository in files.
+pub type FolderHub<S> = Hub<FolderRepository<S>>;
+
+/// Opens a repository, and makes a hub without sessions over it. Whether it is opened or not, nothing is
+/// written.
+///
+/// # Errors
+///
+/// As `open` of `world_folder`.
+pub fn open_hub<S: Store>(
+    alloc: Global,
+    store: S,
+    options: Options,
+) -> Result<FolderHub<S>, Unopened<S>>
+    requires { S.is_honest store → (f : Folder) → S.may_leave store f → IsSame (S.holds store) f }
+    ensures found { IfOk result (λ hub. BeginsWith S.is_honest S.holds store options hub) }
+    ensures faulty { IfErr result (λ unopened. S.is_honest unopened.store
+        → IfFaulty unopened.fault (IsFaulty folder_faults (S.holds store))) }
+    ensures device { IfErr result (λ unopened. unopened.fault ≡ StoreFault.Device
+        → HasRisen (S.failed store) (S.failed unopened.store)) }
+    ensures unchanged { IfErr result (λ unopened. OnlyReads S.is_honest S.holds S.may_leave
+        S.moment S.left_since S.in_doubt S.failed store unopened.store) }
+{
+    let repository = open(alloc, store)?;
+    opened_trees_are_sound(repository.repository());
+    Ok(Hub::with_access(alloc, repository, options))
+}
+
+/// Shows the store of a hub's files. While changes are made, what it reads stands for what the hub's repository
+/// contains, and so does what a stop leaves now.
+pub fn store_of<S: Store>(hub: &FolderHub<S>) -> &S
+    ensures holds { S.is_honest result.now → hub.now.halted ≡ false
+        → ∥ StandsFor files.StandsFor hub.now.content (S.holds result.now) ∥₁ }
+    ensures leaves { S.is_honest result.now → hub.now.halted ≡ false
+        → (f : Folder) → S.may_leave result.now f
+        → ∥ StandsFor files.StandsFor hub.now.content f ∥₁ }
+{
+    hub.access().store()
+}

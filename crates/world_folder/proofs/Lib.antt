@@ -1,0 +1,3 @@
+pub mod Created
+pub mod Next
+pub mod Sound
