@@ -6,6 +6,7 @@ mod fault;
 mod gate;
 mod pieces;
 mod sink;
+mod watch;
 mod worker;
 
 pub use envs::EnvSource;
@@ -14,4 +15,5 @@ pub use gate::{Gate, OpenGate};
 pub use machine::Env;
 pub use pieces::read_piece;
 pub use sink::{OutputSink, PIECE, write_now};
+pub use watch::{Unwatched, Watch};
 pub use worker::Worker;

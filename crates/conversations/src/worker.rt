@@ -16,9 +16,12 @@ use crate::fault::TalkFault;
 use crate::gate::Gate;
 use crate::pieces::read_piece;
 use crate::sink::{OutputSink, PIECE, write_now};
+use crate::watch::Watch;
 use access::RepoAccess;
+use byte_string::ByteString;
 use machine::{Env, Options, Turn};
 use replies::Reply;
+use repo_api::Repository;
 use session::Session;
 use std::alloc::Global;
 use std::io;
@@ -36,20 +39,37 @@ fn greeting(alloc: Global) -> Result<Vec<u8>, TalkFault>
     }
 }
 
+/// The user that the client of a session has logged in as, unless it was told before.
+fn user_unless<R: Repository>(was_told: bool, session: &Session<R>) -> Option<&ByteString> {
+    if was_told { None } else { session.user() }
+}
+
 /// What one thread serves sessions with, one after another.
 #[derive(Drop)]
-pub struct Worker<'w, A, E, G> {
+pub struct Worker<'w, A, E, G, W> {
     pub alloc: Global,
     pub options: &'w Options,
     pub access: A,
     pub envs: E,
     pub gate: &'w G,
+    pub watch: &'w W,
 }
 
-impl<'w, A: RepoAccess + Drop, E: EnvSource + Drop, G: Gate> Worker<'w, A, E, G> {
-    /// Feeds a piece, and writes what it draws as it is made.
+impl<'w, A: RepoAccess + Drop, E: EnvSource + Drop, G: Gate, W: Watch> Worker<'w, A, E, G, W> {
+    /// Tells how many logins were refused, and who has logged in, if a client has.
+    fn tell_logins(&self, number: u64, refused: u64, user: Option<&ByteString>) {
+        if refused > 0 {
+            self.watch.refused(number, refused);
+        }
+        if let Some(user) = user {
+            self.watch.logged_in(number, user.as_slice());
+        }
+    }
+
+    /// Feeds a piece, and writes what it draws as it is made. Its logins are told.
     fn answer_piece<O: Write>(
         &mut self,
+        number: u64,
         session: &mut Session<A::View>,
         piece: &[u8],
         env: Env,
@@ -70,6 +90,7 @@ impl<'w, A: RepoAccess + Drop, E: EnvSource + Drop, G: Gate> Worker<'w, A, E, G>
             (A.point self.new.access) (Appends (O.contents output.old) (O.contents output.new))) }
     {
         let alloc = self.alloc;
+        let had_user = session.user().is_some();
         let buffer = Vec::new(alloc);
         let mut turn = Turn {
             alloc,
@@ -79,6 +100,7 @@ impl<'w, A: RepoAccess + Drop, E: EnvSource + Drop, G: Gate> Worker<'w, A, E, G>
                 output,
                 buffer,
                 fault: None,
+                refused: 0,
             },
         };
         let fed = session.feed(self.options, piece, &mut self.access, &mut turn);
@@ -88,9 +110,11 @@ impl<'w, A: RepoAccess + Drop, E: EnvSource + Drop, G: Gate> Worker<'w, A, E, G>
             output,
             buffer: _buffer,
             fault: _fault,
+            refused,
         } = turn.out;
         // No effect at run time. The proof reads what the writer holds from this use of it.
         let _ = &*output;
+        self.tell_logins(number, refused, user_unless(had_user, session));
         match finished {
             Ok(()) => match fed {
                 Ok(()) => Ok(()),
@@ -139,7 +163,7 @@ impl<'w, A: RepoAccess + Drop, E: EnvSource + Drop, G: Gate> Worker<'w, A, E, G>
             }
             self.gate.pass(number, turn + 1);
             let env = self.envs.next_env();
-            self.answer_piece(&mut session, &buffer[..count], env, output)?;
+            self.answer_piece(number, &mut session, &buffer[..count], env, output)?;
         }
         Err(TalkFault::Read(io::Error::from(io::ErrorKind::Other)))
     }

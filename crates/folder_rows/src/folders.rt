@@ -14,6 +14,10 @@ const EMPTY: &[u8] =
 const FILE: &[u8] =
     b"PLAIN\nhello\nENDREP\nid: 1.0.r1/19\ntype: file\ncount: 0\ntext: 1 0 6 6 b1946ac92492d2347c6235b4d2611184\ncpath: /a\ncopyroot: 0 /\n\nPLAIN\nK 1\na\nV 14\nfile 1.0.r1/19\nEND\nENDREP\nid: 0.0.r1/168\ntype: dir\npred: 0.0.r0/17\ncount: 1\ntext: 1 125 30 30 4885e3681d4e920f6506e681bebd1ebe\ncpath: /\ncopyroot: 0 /\n\n1.0.r1/19 add true false /a\n\n\n168 293\n";
 
+// Revision 1 of a folder of Subversion 1.14.2 in format 2, an import of the same file, whose text is a delta.
+const DELTA: &[u8] =
+    b"DELTA\nSVN\x01\x00\x00\x06\x02\x07\x01\x86\x06hello\nENDREP\nid: 1.0.r1/31\ntype: file\ncount: 0\ntext: 1 0 18 6 b1946ac92492d2347c6235b4d2611184\ncpath: /a\ncopyroot: 0 /\n\nPLAIN\nK 1\na\nV 14\nfile 1.0.r1/31\nEND\nENDREP\nid: 0.0.r1/181\ntype: dir\npred: 0.0.r0/17\ncount: 1\ntext: 1 138 30 30 848b924252e6c3bebe3823bdd85d3bdf\ncpath: /\ncopyroot: 0 /\n\n_0.0.t0-1 add true false /a\n\n\n181 306\n";
+
 // Its entry names offset 99, where no node revision stands, and the digest is Python's of that.
 const DANGLING: &[u8] =
     b"PLAIN\nhello\nENDREP\nid: 1.0.r1/19\ntype: file\ncount: 0\ntext: 1 0 6 6 b1946ac92492d2347c6235b4d2611184\ncpath: /a\ncopyroot: 0 /\n\nPLAIN\nK 1\na\nV 14\nfile 1.0.r1/99\nEND\nENDREP\nid: 0.0.r1/168\ntype: dir\npred: 0.0.r0/17\ncount: 1\ntext: 1 125 30 30 3944a8b7a0d2215e3350c68abc32a5be\ncpath: /\ncopyroot: 0 /\n\n1.0.r1/19 add true false /a\n\n\n168 293\n";
@@ -90,9 +94,12 @@ fn faults_are_named(rt: HostRuntime) -> Result<(), Fail> {
     let alloc = rt.alloc();
     let mut delta = Vec::from_slice(alloc, b"DELTA")?;
     delta.extend_from_slice(FILE.get(5..).unwrap_or(&[]))?;
+    let size = changed(alloc, 65, b'7')?;
     let digit = changed(alloc, 67, b'0')?;
     for (name, bytes, fault) in [
         (FileName::Revision(1), delta.as_slice(), FileFault::Delta),
+        (FileName::Revision(1), DELTA, FileFault::Delta),
+        (FileName::Revision(1), size.as_slice(), FileFault::BadLine),
         (FileName::Revision(1), digit.as_slice(), FileFault::Digest),
         (FileName::Revision(1), DANGLING, FileFault::Dangling),
         (FileName::Revision(1), b"", FileFault::Truncated),

@@ -3,7 +3,7 @@ use Rattle.std.proofs.Common.{◌≡◌, ℕ, suc, ◌+◌, ◌-◌, ◌^◌, �
 use Rattle.std.specs.Prelude.{IfSome}
 use Rattle.std.specs.Result.{result_ok}
 use Rattle.std.specs.List.{AllByRecursion, AllPass}
-use Rattle.std.proofs.lemmas.Bool.{ne_eqb, eq-eqb}
+use Rattle.std.proofs.lemmas.Bool.{ne_eqb}
 use Rattle.std.proofs.lemmas.List.Elements.{recursion_from_All}
 use Rattle.hex.specs.Hex.{encode_lower, decode_sized, is_hex_digit, IsBytes}
 use Rattle.hex.proofs.HexLemmas.{decode_sized-encode_lower, decode_of-encode_lower, decode_of-ok}
@@ -115,23 +115,24 @@ representation_free representation fits =
     free-join 10 32 (numeral 10 representation.revision) _ refl (decimal_free 10 representation.revision refl)
     (free-join 10 32 (numeral 10 representation.offset) _ refl (decimal_free 10 representation.offset refl)
     (free-join 10 32 (numeral 10 representation.length) _ refl (decimal_free 10 representation.length refl)
-    (free-join 10 32 (numeral 10 representation.length) _ refl (decimal_free 10 representation.length refl) (digest_free representation.digest fits.bytes))))
+    (free-join 10 32 (numeral 10 representation.size) _ refl (decimal_free 10 representation.size refl) (digest_free representation.digest fits.bytes))))
 
 pub representation_again : (representation : Representation) → RepresentationFits representation → representation_of (representation_text representation) ≡ Some representation
 unfolding representation_of
 representation_again representation fits =
     let d : List ℕ = encode_lower representation.digest in
     let n : List ℕ = numeral 10 representation.length in
+    let m : List ℕ = numeral 10 representation.size in
     let digest : digest_of d ≡ Some representation.digest = ap result_ok (decode_sized-encode_lower representation.digest 16 fits.whole fits.bytes) in
     rw (
-      split_again 32 (numeral 10 representation.revision) (numeral 10 representation.offset ++ 32 ∷ (n ++ 32 ∷ (n ++ 32 ∷ d))) (decimal_free 32 representation.revision refl),
-      split_again 32 (numeral 10 representation.offset) (n ++ 32 ∷ (n ++ 32 ∷ d)) (decimal_free 32 representation.offset refl),
-      split_again 32 n (n ++ 32 ∷ d) (decimal_free 32 representation.length refl),
-      split_again 32 n d (decimal_free 32 representation.length refl),
+      split_again 32 (numeral 10 representation.revision) (numeral 10 representation.offset ++ 32 ∷ (n ++ 32 ∷ (m ++ 32 ∷ d))) (decimal_free 32 representation.revision refl),
+      split_again 32 (numeral 10 representation.offset) (n ++ 32 ∷ (m ++ 32 ∷ d)) (decimal_free 32 representation.offset refl),
+      split_again 32 n (m ++ 32 ∷ d) (decimal_free 32 representation.length refl),
+      split_again 32 m d (decimal_free 32 representation.size refl),
       number_again 10 (2 ^ 32 - 1) representation.revision (lit≤ tt) (lit≤ tt) (omega (arith, fits.revision)),
       number_again 10 (2 ^ 64 - 1) representation.offset (lit≤ tt) (lit≤ tt) (omega (arith, fits.offset)),
-      number_again 10 (2 ^ 64 - 1) representation.length (lit≤ tt) (lit≤ tt) (omega (arith, fits.size)),
-      eq-eqb representation.length representation.length refl,
+      number_again 10 (2 ^ 64 - 1) representation.length (lit≤ tt) (lit≤ tt) (omega (arith, fits.length)),
+      number_again 10 (2 ^ 64 - 1) representation.size (lit≤ tt) (lit≤ tt) (omega (arith, fits.size)),
       digest,
     ) refl
 

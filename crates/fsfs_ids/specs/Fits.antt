@@ -18,6 +18,7 @@ pub record IdFits (id : FileId) : Type 0 where
 pub record RepresentationFits (representation : Representation) : Type 0 where
   pub revision : representation.revision < 2 ^ 32
   pub offset : representation.offset < 2 ^ 64
-  pub size : representation.length < 2 ^ 64
+  pub size : representation.size < 2 ^ 64
   pub whole : length representation.digest ≡ 16
   pub bytes : IsBytes representation.digest
+  pub length : representation.length < 2 ^ 64

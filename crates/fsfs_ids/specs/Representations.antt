@@ -1,5 +1,5 @@
 -- Lines that say where a representation stands.
-use Rattle.std.specs.Prelude.{ℕ, ◌-◌, ◌^◌, ◌==◌, List, ◌∷◌, ◌++◌, Option, Some, None, Result, Ok, Err, if◌then◌else◌}
+use Rattle.std.specs.Prelude.{ℕ, ◌-◌, ◌^◌, List, ◌∷◌, ◌++◌, Option, Some, None, Result, Ok, Err}
 use Rattle.std.specs.Result.{result_ok}
 use Rattle.hex.specs.Hex.{encode_lower, decode_sized}
 use Rattle.fsfs_lines.specs.Splits.{split_once}
@@ -7,11 +7,11 @@ use Rattle.fsfs_lines.specs.Numerals.{numeral, decimal_of}
 use Rattle.fsfs_ids.specs.Maybe.{◌>>=◌}
 use Rattle.fsfs_ids.specs.declared.representation.Representation.{Representation}
 
--- `<revision> <offset> <length> <size> <digest>`; a plain one's size is its length
+-- `<revision> <offset> <length> <size> <digest>`
 abbrev pub representation_text : Representation → List ℕ
 representation_text representation =
     numeral 10 representation.revision ++ 32 ∷ (numeral 10 representation.offset
-    ++ 32 ∷ (numeral 10 representation.length ++ 32 ∷ (numeral 10 representation.length
+    ++ 32 ∷ (numeral 10 representation.length ++ 32 ∷ (numeral 10 representation.size
     ++ 32 ∷ encode_lower representation.digest)))
 
 -- the digest that 32 hexadecimal digits spell
@@ -29,7 +29,11 @@ representation_of text = do
   offset ← decimal_of (2 ^ 64 - 1) offset
   length ← decimal_of (2 ^ 64 - 1) length
   size ← decimal_of (2 ^ 64 - 1) size
-  (if size == length
-      then (digest_of digest >>= λ digest.
-      Some (record { revision = revision; offset = offset; length = length; digest = digest }))
-      else None)
+  digest ← digest_of digest
+  Some (record {
+    revision = revision;
+    offset = offset;
+    length = length;
+    size = size;
+    digest = digest;
+  })

@@ -7,13 +7,14 @@ ghost use Rattle.fsfs_ids.specs.Representations.{representation_text, representa
 use fsfs_lines::{append_number, parse_decimal, parse_decimal_32, split_once};
 use std::alloc::AllocError;
 
-/// Says where a representation stands: in the file of a revision, at an offset, so long, with this
-/// MD5 of its bytes.
+/// Says where a representation stands: in the file of a revision, at an offset, in so many bytes.
+/// What it stands for has this size, in bytes, and this MD5.
 #[derive(Clone, Copy, Debug, PartialEq, Eq)]
 pub struct Representation {
     pub revision: u32,
     pub offset: u64,
     pub length: u64,
+    pub size: u64,
     pub digest: [u8; 16],
 }
 
@@ -34,7 +35,7 @@ fn append_field(out: &mut Vec<u8>, n: u64) -> Result<(), AllocError>
     out.extend_from_slice(b" ")
 }
 
-/// Appends `<revision> <offset> <length> <size> <digest>`. A plain one's length is its size.
+/// Appends `<revision> <offset> <length> <size> <digest>`.
 pub fn append_representation(
     out: &mut Vec<u8>,
     representation: &Representation,
@@ -45,7 +46,7 @@ pub fn append_representation(
     append_field(out, representation.revision as u64)?;
     append_field(out, representation.offset)?;
     append_field(out, representation.length)?;
-    append_field(out, representation.length)?;
+    append_field(out, representation.size)?;
     append_digest(out, representation.digest)
 }
 
@@ -60,7 +61,7 @@ fn parse_digest(digits: &[u8]) -> Option<[u8; 16]>
     }
 }
 
-/// Reads the line that the bytes spell, whose size has to be its length.
+/// Reads the line that the bytes spell.
 #[tactic(auto, unfolding(crate::specs::Representations::representation_of))]
 pub fn parse_representation(bytes: &[u8]) -> Option<Representation>
     ensures { result ≡ representation_of bytes.now }
@@ -72,14 +73,13 @@ pub fn parse_representation(bytes: &[u8]) -> Option<Representation>
     let revision = parse_decimal_32(revision)?;
     let offset = parse_decimal(offset)?;
     let length = parse_decimal(length)?;
-    if parse_decimal(size)? != length {
-        return None;
-    }
+    let size = parse_decimal(size)?;
     let digest = parse_digest(digest)?;
     Some(Representation {
         revision,
         offset,
         length,
+        size,
         digest,
     })
 }

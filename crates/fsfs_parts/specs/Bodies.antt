@@ -15,7 +15,13 @@ body_bytes body = codes "PLAIN\n" ++ body ++ codes "ENDREP\n"
 -- the line of a representation that stands at an offset
 abbrev pub representation_at : ℕ → ℕ → List ℕ → Representation
 representation_at revision offset body =
-    record { revision = revision; offset = offset; length = length body; digest = md5 body }
+    record {
+      revision = revision;
+      offset = offset;
+      length = length body;
+      size = length body;
+      digest = md5 body;
+    }
 
 -- the bytes from an offset on
 abbrev pub rest_at : ℕ → List ℕ → Result (List ℕ) FileFault
@@ -45,10 +51,14 @@ body_of len bytes =
     else ended_by (take len bytes) (drop len bytes)
     (without_prefix (codes "ENDREP\n") (drop len bytes))
 
+-- as many bytes where the line has this size too, since it is plain
+abbrev pub body_of_size : ℕ → ℕ → List ℕ → Result (List ℕ) FileFault
+body_of_size size len bytes = if size == len then body_of len bytes else Err BadLine
+
 -- the bytes of the representation that a line names, in the file of its revision
 unfoldable pub body_at : List ℕ → Representation → Result (List ℕ) FileFault
 body_at bytes representation = do
   rest ← rest_at representation.offset bytes
   rest ← plain_at rest
-  body ← body_of representation.length rest
+  body ← body_of_size representation.size representation.length rest
   (if pointwise ◌==◌ (md5 body) representation.digest then Ok body else Err Digest)

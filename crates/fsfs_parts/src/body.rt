@@ -22,6 +22,7 @@ pub fn append_body(
         revision,
         offset: out.len() as u64,
         length: body.len() as u64,
+        size: body.len() as u64,
         digest: Md5::digest(body),
     };
     out.extend_from_slice(b"PLAIN\n")?;
@@ -78,7 +79,8 @@ fn body_of(len: u64, bytes: &[u8]) -> Result<&[u8], FileFault>
 /// # Errors
 ///
 /// `Truncated` where the file ends within it, `Delta` for another representation than a plain one,
-/// `BadLine` where its first or last line is another, and `Digest`.
+/// `BadLine` where its first or last line is another or a size is named that isn't its length, and
+/// `Digest`.
 #[tactic(auto, unfolding(crate::specs::Bodies::body_at))]
 pub fn read_body<'a>(
     bytes: &'a [u8],
@@ -87,6 +89,9 @@ pub fn read_body<'a>(
     ensures { Gives (λ body. body.now) result (body_at bytes.now representation.now) }
 {
     let rest = plain_at(rest_at(bytes, representation.offset)?)?;
+    if representation.size != representation.length {
+        return Err(FileFault::BadLine);
+    }
     let body = body_of(representation.length, rest)?;
     if Md5::digest(body) != representation.digest {
         return Err(FileFault::Digest);

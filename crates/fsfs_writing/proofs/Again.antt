@@ -7,7 +7,7 @@ use Rattle.std.proofs.lemmas.Bool.{eq-eqb, le-ltb}
 use Rattle.std.proofs.lemmas.List.{append-nil, length-append, take_at, drop_at}
 use Rattle.md5.specs.Md5.{md5}
 use Rattle.fsfs_lines.specs.declared.fault.FileFault.{FileFault}
-use Rattle.fsfs_lines.specs.declared.fault.FileFault.TheVariants.{Digest}
+use Rattle.fsfs_lines.specs.declared.fault.FileFault.TheVariants.{BadLine, Digest}
 use Rattle.fsfs_lines.specs.Reading.{◌>>=◌, or_bad}
 use Rattle.fsfs_lines.specs.Splits.{split_once, split_last, line_at, line_of, is_free}
 use Rattle.fsfs_lines.specs.Numerals.{numeral}
@@ -26,7 +26,7 @@ use Rattle.fsfs_parts.specs.declared.change.FileAction.{FileAction}
 use Rattle.fsfs_parts.specs.declared.change.FileAction.TheVariants.{Add, Delete, Replace, Modify}
 use Rattle.fsfs_parts.specs.declared.change.FileChange.{FileChange}
 use Rattle.fsfs_parts.specs.declared.trailer.Trailer.{Trailer}
-use Rattle.fsfs_parts.specs.Bodies.{body_bytes, representation_at, rest_at, plain_at, ended_by, body_of, body_at}
+use Rattle.fsfs_parts.specs.Bodies.{body_bytes, representation_at, rest_at, plain_at, ended_by, body_of, body_of_size, body_at}
 use Rattle.fsfs_parts.specs.Changes.{action_text, action_of, flag_text, flag_of, source_text, change_bytes, changes_bytes, ChangeFront, change_line, source_of, change_with, change_of, before, changes_within, changes_of}
 use Rattle.fsfs_parts.specs.Trailers.{trailer_bytes, offsets_of, last_from, split_trailer, said, told, trailer_of}
 use Rattle.fsfs_writing.specs.Files.{Piece, brought, piece_bytes, pieces_bytes, Names, IsPlaced, ArePlaced, PiecesFit, IsBody, IsFound, AreFound, ChangeFits, ChangesFit}
@@ -46,10 +46,12 @@ body_again revision front body rest =
     let taken : body_of (length body) (body ++ (codes "ENDREP\n" ++ rest)) ≡ Ok body =
     rw (long, take_at body (codes "ENDREP\n" ++ rest) (length body) refl, drop_at body (codes "ENDREP\n" ++ rest) (length body) refl, prefix_again (codes "ENDREP\n") rest) refl in
     let found : body_of (length body) after ≡ Ok body = ap (body_of (length body)) regrouped ∙ taken in
+    let n = length body in
+    let sized : body_of_size n n after ≡ body_of n after = ap (λ t. cond t (body_of n after) (Err BadLine)) (eq-eqb n n refl) in
     let judge : List ℕ → Result (List ℕ) FileFault = λ b. cond (pointwise eqb (md5 b) (md5 body)) (Ok b) (Err Digest) in
-    ap (λ (r : Result (List ℕ) FileFault). r >>= λ x. plain_at x >>= λ y. body_of (length body) y >>= judge) here
-    ∙ ap (λ (r : Result (List ℕ) FileFault). r >>= λ y. body_of (length body) y >>= judge) plain
-    ∙ ap (λ (r : Result (List ℕ) FileFault). r >>= judge) found
+    ap (λ (r : Result (List ℕ) FileFault). r >>= λ x. plain_at x >>= λ y. body_of_size n n y >>= judge) here
+    ∙ ap (λ (r : Result (List ℕ) FileFault). r >>= λ y. body_of_size n n y >>= judge) plain
+    ∙ ap (λ (r : Result (List ℕ) FileFault). r >>= judge) (sized ∙ found)
     ∙ ap (λ t. cond t (Ok body) (Err Digest)) (same_bytes (md5 body))
 
 -- ---- pieces

@@ -1,5 +1,5 @@
 -- Where a session stands.
-use Rattle.std.specs.Prelude.{ℕ, Bool, true, false, List}
+use Rattle.std.specs.Prelude.{ℕ, Bool, true, false, List, Option, None}
 use Rattle.repo_api.specs.States.{RepoState}
 use Rattle.edit_rules.specs.Edits.{EditState}
 use Rattle.edit_rules.specs.Editor.{RestsOn}
@@ -24,6 +24,18 @@ is_open (Skipping client) = true
 is_open (Reporting reporting) = true
 is_open (Driven client) = true
 is_open Ended = false
+
+-- the user that the client has logged in as, if it has
+abbrev pub user_in : {E G : Type 0} → Phase E G → Option (List ℕ)
+user_in Greeted = None
+user_in (LoggingIn login) = login.client.user
+user_in (Challenged pending) = pending.login.client.user
+user_in (Serving client) = client.user
+user_in (Editing edit) = edit.client.user
+user_in (Skipping client) = client.user
+user_in (Reporting reporting) = reporting.client.user
+user_in (Driven client) = client.user
+user_in Ended = None
 
 -- the edit of the session, if it has one, has seen revisions that begin the repository's
 abbrev pub EditRests : Stage → RepoState → Type 0

@@ -1,6 +1,6 @@
 //! Where a session stands.
-ghost use Rattle.std.specs.Prelude.{◌≡◌};
-ghost use Rattle.machine.specs.Stages.{is_open};
+ghost use Rattle.std.specs.Prelude.{◌≡◌, option_copied};
+ghost use Rattle.machine.specs.Stages.{is_open, user_in};
 
 use crate::commit_parameters::CommitParameters;
 use crate::login::{OpenChallenge, OpenLogin};
@@ -61,5 +61,22 @@ impl<E, G> Phase<E, G> {
         ensures { result ≡ is_open self.now }
     {
         !matches!(self, Phase::Ended)
+    }
+
+    /// The user that the client has logged in as, if it has.
+    pub fn user(&self) -> Option<&ByteString>
+        ensures { option_copied result ≡ user_in self.now }
+    {
+        match self {
+            Phase::Greeted => None,
+            Phase::LoggingIn(login) => login.client.user.as_ref(),
+            Phase::Challenged(pending) => pending.login.client.user.as_ref(),
+            Phase::Serving(client) => client.user.as_ref(),
+            Phase::Editing(edit) => edit.client.user.as_ref(),
+            Phase::Skipping(client) => client.user.as_ref(),
+            Phase::Reporting(reporting) => reporting.client.user.as_ref(),
+            Phase::Driven(client) => client.user.as_ref(),
+            Phase::Ended => None,
+        }
     }
 }

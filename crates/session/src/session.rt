@@ -1,14 +1,15 @@
 //! A session with one client.
-ghost use Rattle.std.specs.Prelude.{◌≡◌, ◌++◌, [], true, false, IfOk, OnOk, OnErr, IfErr, IsErrOf};
+ghost use Rattle.std.specs.Prelude.{◌≡◌, ◌++◌, [], true, false, IfOk, OnOk, OnErr, IfErr, IsErrOf, option_copied};
 ghost use Rattle.repo_api.specs.Soundness.{AreSound};
 ghost use Rattle.access.specs.Points.{content_of};
-ghost use Rattle.machine.specs.Stages.{is_open, StandsOn};
+ghost use Rattle.machine.specs.Stages.{is_open, user_in, StandsOn};
 ghost use Rattle.machine.specs.Steps.{FeedWritten, FeedLost};
 ghost use Rattle.machine.specs.declared.phase.Phase.TheVariants.{Greeted, Ended};
 
 use crate::incoming::take_incoming;
 use crate::serve::serve;
 use access::RepoAccess;
+use byte_string::ByteString;
 use items::ItemReader;
 use machine::{Options, Phase, Turn, steps_keep_trees};
 use replies::ReplySink;
@@ -102,6 +103,13 @@ impl<R: Repository> Session<R> {
         ensures { result ≡ is_open self.now.phase }
     {
         self.phase.is_open()
+    }
+
+    /// The user that the client has logged in as, if it has.
+    pub fn user(&self) -> Option<&ByteString>
+        ensures { option_copied result ≡ user_in self.now.phase }
+    {
+        self.phase.user()
     }
 
     /// Takes a piece of what the client sends, and where the session stands: until that is put

@@ -5,9 +5,7 @@ mod admission;
 mod admitting;
 mod places;
 mod pool;
-mod watch;
 
 pub use admission::Admission;
 pub use places::MAX_SESSIONS;
 pub use pool::{Caller, SessionPool};
-pub use watch::{Unwatched, Watch};

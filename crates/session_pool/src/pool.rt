@@ -5,9 +5,8 @@ ghost use Rattle.repo_api.specs.Soundness.{AreSound};
 
 use crate::admission::Admission;
 use crate::places::Places;
-use crate::watch::Watch;
 use access::RepoAccess;
-use conversations::{EnvSource, Gate, Worker};
+use conversations::{EnvSource, Gate, Watch, Worker};
 use crossbeam_channel::Receiver;
 use machine::Options;
 use std::alloc::Global;
@@ -23,8 +22,8 @@ pub struct Caller<I, O> {
     pub output: O,
 }
 
-/// What the threads of a server share: what it was started with, the gate that each piece passes, who is told how
-/// sessions end, and the places.
+/// What the threads of a server share: what it was started with, the gate that each piece passes, who is told of
+/// logins and how sessions end, and the places.
 #[derive(Drop)]
 pub struct SessionPool<'p, G, W> {
     options: &'p Options,
@@ -40,7 +39,8 @@ fn serve_caller<
     G: Gate,
     I: Read + Drop,
     O: Write + Drop,
->(worker: &mut Worker<'_, A, E, G>, caller: Caller<I, O>) -> bool
+    W: Watch,
+>(worker: &mut Worker<'_, A, E, G, W>, caller: Caller<I, O>) -> bool
     requires { AreSound (content_of (A.point worker.old.access)).revisions }
     ensures sound { AreSound (content_of (A.point worker.new.access)).revisions }
     ensures halted { result ≡ (A.point worker.new.access).halted }
@@ -96,6 +96,7 @@ impl<'p, G: Gate, W: Watch> SessionPool<'p, G, W> {
             access,
             envs,
             gate: self.gate,
+            watch: self.watch,
         };
         for _ in rt.forever() {
             let Ok(caller) = callers.recv(rt) else {

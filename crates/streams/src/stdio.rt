@@ -36,6 +36,7 @@ fn answer_piece<A: SoleAccess, W: Write>(
             output,
             buffer,
             fault: None,
+            refused: 0,
         },
     };
     let fed = hub.feed_to(number, piece, &mut turn);
@@ -45,6 +46,7 @@ fn answer_piece<A: SoleAccess, W: Write>(
         output,
         buffer: _buffer,
         fault: _fault,
+        refused: _,
     } = turn.out;
     // No effect at run time. The proof reads what the writer holds from this use of it.
     let _ = &*output;

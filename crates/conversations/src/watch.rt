@@ -1,0 +1,26 @@
+//! Who is told of sessions what an administrator wants to know.
+
+/// Is told of logins, and how sessions end.
+pub trait Watch {
+    /// The client of the session of this number has logged in as this user.
+    fn logged_in(&self, session: u64, user: &[u8]);
+
+    /// So many logins of the session of this number were refused.
+    fn refused(&self, session: u64, logins: u64);
+
+    /// The session of this number has ended, in order or because its connection failed, and whether changes have come
+    /// to a halt by then.
+    fn ended(&self, session: u64, is_halted: bool);
+}
+
+/// Takes no notice.
+#[derive(Clone, Copy)]
+pub struct Unwatched;
+
+impl Watch for Unwatched {
+    fn logged_in(&self, _session: u64, _user: &[u8]) {}
+
+    fn refused(&self, _session: u64, _logins: u64) {}
+
+    fn ended(&self, _session: u64, _is_halted: bool) {}
+}
