@@ -3,3 +3,4 @@ pub mod Reaching
 pub mod Planned
 pub mod Listing
 pub mod SameBeneath
+pub mod Existing

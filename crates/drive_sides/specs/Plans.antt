@@ -5,6 +5,7 @@ use Rattle.repo_api.specs.States.{RepoState}
 use Rattle.drives.specs.Scopes.{under}
 use Rattle.reporter.specs.Nesting.{walk}
 use Rattle.reporter.specs.Visits.{IsRightPlan}
+use Rattle.reporter.specs.Walks.{WalkedTrees}
 use Rattle.reporter.specs.declared.visit.Visit.{Visit}
 use Rattle.reporter.specs.declared.visit.Visit.TheVariants.{Open}
 use Rattle.reports.specs.Refusing.{OpenState}
@@ -17,6 +18,16 @@ use Rattle.entry_news.specs.News.{own_steps_of}
 -- a report that has come to its end
 abbrev pub whole : OpenState → ReportRoot → WholeReport
 whole report root = record { ask = report.ask; root = root; grafts = report.grafts }
+
+-- both trees of its drive
+abbrev pub drive_trees : RepoState → WholeReport → WalkedTrees
+drive_trees c report = record {
+  old = old_tree c report;
+  new = new_tree c report;
+  stale = stale_in c report;
+  seen = seen_by report.ask.purpose;
+  own = own_steps_of c report;
+}
 
 -- the root itself stands before the visits where there is no target
 abbrev pub from_top : DriveAsk → List Visit → List Visit

@@ -1,4 +1,4 @@
-//! The two trees of a drive over a repository, and the plan of a drive.
+//! The two trees of a drive over a repository, and the visits of a drive.
 #![tactic(auto)]
 
 mod alike;
@@ -10,5 +10,5 @@ mod telling;
 mod two_trees;
 mod views;
 
-pub use planning::plan;
+pub use planning::visitor;
 pub use two_trees::TwoTrees;

@@ -1,31 +1,31 @@
-//! The plan of a drive.
-ghost use Rattle.std.specs.Prelude.{◌≡◌, Ok, IfOk};
+//! The visits of a drive.
+ghost use Rattle.std.specs.Prelude.{◌≡◌, Ok, IfOk, List};
 ghost use Rattle.repo_api.specs.Soundness.{AreTrees};
+ghost use Rattle.reporter.specs.Visiting.{MayVisit};
+ghost use Rattle.reporter.specs.declared.visit.Visit.{Visit};
 ghost use Rattle.reports.specs.Refusing.{finish_root};
-ghost use Rattle.drive_sides.specs.Plans.{IsPlan, whole};
+ghost use Rattle.drive_sides.specs.Plans.{IsPlan, drive_trees, whole};
 
 use crate::two_trees::TwoTrees;
 use repo_api::Repository;
-use reporter::{Visit, plan_from, plan_root};
-use reports::{Grafts, OpenReport, ReportRoot};
+use reporter::Visitor;
 use std::alloc::{AllocError, Global};
 
-/// The plan of the drive that a report has come to.
-pub fn plan<R: Repository>(
-    alloc: Global,
-    view: &R,
-    report: &OpenReport<Grafts>,
-    root: ReportRoot,
-) -> Result<Vec<Visit>, AllocError>
-    requires trees { AreTrees (R.content view.now).revisions }
-    requires finished { finish_root (R.content view.now) report.now ≡ Ok root }
-    ensures { IfOk result (λ v. IsPlan (R.content view.now) (whole report.now root) v.items) }
+/// The visits of the drive that a report has come to, made as they are asked for.
+pub fn visitor<R: Repository>(alloc: Global, trees: &TwoTrees<R>) -> Result<Visitor, AllocError>
+    requires trees { AreTrees (R.content trees.now.view.now).revisions }
+    requires finished { finish_root (R.content trees.now.view.now) trees.now.report.now
+        ≡ Ok trees.now.root }
+    ensures { IfOk result (λ visitor. (visits : List Visit)
+        → MayVisit (drive_trees (R.content trees.now.view.now)
+        (whole trees.now.report.now trees.now.root)) visitor visits
+        → IsPlan (R.content trees.now.view.now) (whole trees.now.report.now trees.now.root)
+        visits) }
 {
-    let trees = TwoTrees { view, report, root };
-    let top = report.ask.target.as_path();
+    let top = trees.report.ask.target.as_path();
     if top.is_root() {
-        plan_root(alloc, &trees)
+        Visitor::of_root(alloc, trees)
     } else {
-        plan_from(alloc, &trees, top)
+        Visitor::of_top(alloc, trees, top)
     }
 }

@@ -89,23 +89,12 @@ impl<'a, R: Repository> TwoTrees<'a, R> {
 }
 
 impl<'a, R: Repository> Sides for TwoTrees<'a, R> {
-    ghost use Rattle.reports.specs.Targets.{old_tree, new_tree, stale_in};
-    ghost use Rattle.drive_commands.specs.Sent.{seen_by};
-    ghost use Rattle.entry_news.specs.News.{own_steps_of};
     ghost use Rattle.drive_sides.specs.Bounds.{path_bound};
     ghost use Rattle.drive_sides.specs.BoundLaws.{new_is_shorter};
     ghost use Rattle.drive_sides.specs.LeadLaws.{news_leads};
-    ghost use Rattle.drive_sides.specs.Plans.{whole};
+    ghost use Rattle.drive_sides.specs.Plans.{drive_trees, whole};
 
-    ghost old = { λ s. old_tree (R.content s.view.now) (whole s.report.now s.root) };
-
-    ghost new = { λ s. new_tree (R.content s.view.now) (whole s.report.now s.root) };
-
-    ghost stale = { λ s. stale_in (R.content s.view.now) (whole s.report.now s.root) };
-
-    ghost seen = { λ s. seen_by s.report.now.ask.purpose };
-
-    ghost own = { λ s. own_steps_of (R.content s.view.now) (whole s.report.now s.root) };
+    ghost trees = { λ s. drive_trees (R.content s.view.now) (whole s.report.now s.root) };
 
     ghost bound = { λ s. path_bound (R.content s.view.now) s.report.now.ask };
 

@@ -1,5 +1,5 @@
 -- The drive of a plan may be sent.
-use Rattle.std.proofs.Common.{arith, ◌≡◌, ◌<◌, ◌≤◌, ◌+◌, ◌^◌, ℕ, Bool, true, false, ◌&&◌, ◌||◌, List, [], ◌∷◌, ◌++◌, append-nil, length, Option, Some, None, option_map, refl, sym, ap, ◌∙◌, subst, if◌then◌else◌}
+use Rattle.std.proofs.Common.{◌≡◌, ◌≤◌, ℕ, Bool, true, false, ◌&&◌, ◌||◌, List, [], ◌∷◌, ◌++◌, append-nil, length, Option, Some, None, option_map, refl, sym, ap, ◌∙◌, subst, if◌then◌else◌}
 use Rattle.std.proofs.lemmas.Bool.{false≢true}
 use Rattle.std.proofs.lemmas.List.Elements.{All-head, All-tail, All-nil, All-cons}
 use Rattle.std.proofs.lemmas.List.Sums.{fold-append}
@@ -101,9 +101,6 @@ or_none false = refl
 again : (o s : Option (Option (List ℕ))) → option_or o (option_or o s) ≡ option_or o s
 again None s = refl
 again (Some v) s = refl
-
-none_around : (n : ℕ) → n < 2 ^ 64 → length {A = PathValue} [] + n < 2 ^ 64
-none_around n bound = omega (arith, bound)
 
 module _ (c : RepoState) (report : WholeReport) where
   abbrev New : Tree
@@ -266,8 +263,8 @@ module _ (c : RepoState) (report : WholeReport) where
       by true h = All-cons Stands (Open []) vs (root h).0 all
       by false h = all
 
-  pub is_drive : (vs : List Visit) → All (IsSendable New) vs → length vs < 2 ^ 64 → RootStands → IsPlan c report vs → IsDrive c report (drive_of c report vs)
-  is_drive vs sendable bound root plan = record {
+  pub is_drive : (vs : List Visit) → All (IsSendable New) vs → RootStands → IsPlan c report vs → IsDrive c report (drive_of c report vs)
+  is_drive vs sendable root plan = record {
     root = token_of DirectoryKind 0;
     commands = body_commands c report vs;
     is = refl;
@@ -284,7 +281,7 @@ module _ (c : RepoState) (report : WholeReport) where
       visited =
           subst (λ s. Says report.ask.purpose Top Base (open_directories ([] ∷ [])) (plan_commands c report 0 vs ++ CloseDirectory (token_of DirectoryKind 0) ∷ []) s []) (append-nil (Steps vs))
           (says_append report.ask.purpose Top Base (open_directories ([] ∷ [])) (open_directories ([] ∷ [])) [] (plan_commands c report 0 vs) (CloseDirectory (token_of DirectoryKind 0) ∷ []) (Steps vs) []
-          (says_plan c report vs [] [] ([] ∷ []) sendable (none_around (length vs) bound) (plan.nests [])) closed)
+          (says_plan c report vs [] [] ([] ∷ []) sendable (plan.nests [])) closed)
 
       says : Says report.ask.purpose Top Base (open_directories ([] ∷ [])) (body_commands c report vs) (Body vs) []
       says =

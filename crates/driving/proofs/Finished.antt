@@ -1,5 +1,5 @@
 -- Where there is no target, a directory is to stand at the root of a drive.
-use Rattle.std.proofs.Common.{◌≡◌, ◌<◌, ◌^◌, List, Bool, true, false, ◌&&◌, [], ◌++◌, append-nil, length, drop, Option, Some, None, refl, sym, ap, ◌∙◌, subst, if◌then◌else◌}
+use Rattle.std.proofs.Common.{◌≡◌, List, Bool, true, false, ◌&&◌, [], ◌++◌, append-nil, length, drop, Option, Some, None, refl, sym, ap, ◌∙◌, subst, if◌then◌else◌}
 use Rattle.repo_api.specs.Trees.{is_directory_there}
 use Rattle.std.proofs.lemmas.Bool.{false≢true}
 use Rattle.std.specs.Prelude.{Result, Ok, Err, ok_or, is_some}
@@ -81,5 +81,5 @@ module _ (c : RepoState) (report : OpenState) (root : ReportRoot) where
       (anchored none (and_behind (has_goal c report.ask report.ask.purpose) (has_anchor c report.ask report.grafts) (judged report.root (has_goal c report.ask report.ask.purpose && has_anchor c report.ask report.grafts) root finished))))
 
   -- the drive of a plan may be sent
-  pub drive_may_be_sent : (vs : List Visit) → AreTrees c.revisions → IsNamed report.ask.target → AreNamed report.grafts → length vs < 2 ^ 64 → finish_root c report ≡ Ok root → IsPlan c Whole vs → IsDrive c Whole (drive_of c Whole vs)
-  drive_may_be_sent vs trees target grafts bound finished plan = is_drive c Whole vs (plan_sendable c Whole trees target grafts vs plan) bound (root_stands finished) plan
+  pub drive_may_be_sent : (vs : List Visit) → AreTrees c.revisions → IsNamed report.ask.target → AreNamed report.grafts → finish_root c report ≡ Ok root → IsPlan c Whole vs → IsDrive c Whole (drive_of c Whole vs)
+  drive_may_be_sent vs trees target grafts finished plan = is_drive c Whole vs (plan_sendable c Whole trees target grafts vs plan) (root_stands finished) plan

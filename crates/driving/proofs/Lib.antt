@@ -8,3 +8,4 @@ pub mod Drives
 pub mod Finished
 pub mod Written
 pub mod Roots
+pub mod Visited

@@ -1,5 +1,5 @@
 -- What the commands of a plan say.
-use Rattle.std.proofs.Common.{arith, add-one, ◌≡◌, ◌<◌, ◌≤◌, ◌+◌, ◌-◌, ◌^◌, ℕ, Bool, true, false, ◌&&◌, List, [], ◌∷◌, ◌++◌, length, Option, Some, None, option_map, refl, sym, ap, ◌∙◌, subst, if◌then◌else◌}
+use Rattle.std.proofs.Common.{arith, ◌≡◌, ◌≤◌, ◌+◌, ◌-◌, ℕ, Bool, true, false, ◌&&◌, List, [], ◌∷◌, ◌++◌, length, Option, Some, None, option_map, refl, sym, ap, ◌∙◌, subst, if◌then◌else◌}
 use Rattle.std.proofs.lemmas.Bool.{false≢true}
 use Rattle.std.proofs.lemmas.List.Elements.{All-head, All-tail}
 use Rattle.std.proofs.lemmas.Option.{none-some, same_Some}
@@ -56,23 +56,6 @@ by_kind false p ds = refl
 walked_kind : (e : Option Entry) (p : PathValue) (ds : List PathValue) → (if is_directory_there e then p ∷ ds else ds) ≡ after_entry (entry_kind e) p ds
 walked_kind None p ds = refl
 walked_kind (Some e) p ds = by_kind (is_directory e) p ds
-
--- ---- bounds
-
-one_more : (v : Visit) (vs : List Visit) → length (v ∷ vs) ≡ length vs + 1
-one_more v vs = sym (add-one (length vs))
-
-next_bound : (n m k : ℕ) → k ≡ m + 1 → n + k < 2 ^ 64 → n + 1 < 2 ^ 64
-next_bound n m k e bound = omega (arith, e, bound)
-
-flat_bound : (n m k : ℕ) → k ≡ m + 1 → n + k < 2 ^ 64 → n + m < 2 ^ 64
-flat_bound n m k e bound = omega (arith, e, bound)
-
-deep_bound : (l n m k : ℕ) → l ≡ n + 1 → k ≡ m + 1 → n + k < 2 ^ 64 → l + m < 2 ^ 64
-deep_bound l n m k d e bound = omega (arith, d, e, bound)
-
-left_bound : (l n m k : ℕ) → l ≡ n + 1 → k ≡ m + 1 → l + k < 2 ^ 64 → n + m < 2 ^ 64
-left_bound l n m k d e bound = omega (arith, d, e, bound)
 
 shrunk : (l n : ℕ) → l ≡ n + 1 → n ≡ l - 1
 shrunk l n e = omega (arith, e)
@@ -144,8 +127,8 @@ module _ (c : RepoState) (report : WholeReport) where
   placed : (d : PathValue) (ds : List PathValue) (p : PathValue) → is_in_directory Top d p ≡ true → is_in_place Top (open_directories (d ∷ ds)) p (token_of DirectoryKind (length ds)) ≡ true
   placed d ds p inside = ap (λ b. (b && true) && is_in_directory Top d p) (same_component_refl (token_of DirectoryKind (length ds))) ∙ inside
 
-  new_token : (kind : EntryKind) (d : PathValue) (ds : List PathValue) → length ds + 1 < 2 ^ 64 → is_open_token (token_of kind (length ds + 1)) (open_directories (d ∷ ds)) ≡ false
-  new_token kind d ds bound = none_open kind (length ds + 1) (d ∷ ds) (omega (arith, grown d ds)) bound
+  new_token : (kind : EntryKind) (d : PathValue) (ds : List PathValue) → is_open_token (token_of kind (length ds + 1)) (open_directories (d ∷ ds)) ≡ false
+  new_token kind d ds = none_open kind (length ds + 1) (d ∷ ds) (omega (arith, grown d ds))
 
   -- the text that the client has of what is opened
   abbrev base_at : EntryKind → PathValue → List ℕ
@@ -156,29 +139,29 @@ module _ (c : RepoState) (report : WholeReport) where
   bare DirectoryKind p e = refl
   bare FileKind p e = absurd (false≢true (ap is_directory_kind e))
 
-  reads_open : (kind : EntryKind) (d : PathValue) (ds : List PathValue) (p : PathValue) → is_in_directory Top d p ≡ true → IsSpelledPath p → length ds + 1 < 2 ^ 64
+  reads_open : (kind : EntryKind) (d : PathValue) (ds : List PathValue) (p : PathValue) → is_in_directory Top d p ≡ true → IsSpelledPath p
       → steps_said report.ask.purpose Top Base (open_directories (d ∷ ds)) (open_command kind (opened_entry c report (length ds) p kind))
       ≡ Some (OpenAt p kind ∷ [], entry_at kind (length ds + 1) p (base_at kind p) ∷ open_directories (d ∷ ds))
-  reads_open DirectoryKind d ds p inside spelled bound =
+  reads_open DirectoryKind d ds p inside spelled =
       ap (λ q. saying.enters_entry Top (open_directories (d ∷ ds)) q (token_of DirectoryKind (length ds)) (token_of DirectoryKind (length ds + 1)) DirectoryKind [] (OpenAt q DirectoryKind)) spelled
       ∙ reads_entry Top (open_directories (d ∷ ds)) p (token_of DirectoryKind (length ds)) (token_of DirectoryKind (length ds + 1)) [] DirectoryKind (OpenAt p DirectoryKind)
-      (placed d ds p inside) (new_token DirectoryKind d ds bound)
-  reads_open FileKind d ds p inside spelled bound =
+      (placed d ds p inside) (new_token DirectoryKind d ds)
+  reads_open FileKind d ds p inside spelled =
       ap (λ q. saying.enters_entry Top (open_directories (d ∷ ds)) q (token_of DirectoryKind (length ds)) (token_of FileKind (length ds + 1)) FileKind (Base q) (OpenAt q FileKind)) spelled
       ∙ reads_entry Top (open_directories (d ∷ ds)) p (token_of DirectoryKind (length ds)) (token_of FileKind (length ds + 1)) (Base p) FileKind (OpenAt p FileKind)
-      (placed d ds p inside) (new_token FileKind d ds bound)
+      (placed d ds p inside) (new_token FileKind d ds)
 
-  reads_add : (kind : EntryKind) (d : PathValue) (ds : List PathValue) (p : PathValue) → is_in_directory Top d p ≡ true → IsSpelledPath p → length ds + 1 < 2 ^ 64
+  reads_add : (kind : EntryKind) (d : PathValue) (ds : List PathValue) (p : PathValue) → is_in_directory Top d p ≡ true → IsSpelledPath p
       → steps_said report.ask.purpose Top Base (open_directories (d ∷ ds)) (add_command kind (added_entry (length ds) p kind))
       ≡ Some (AddAt p kind ∷ [], entry_at kind (length ds + 1) p [] ∷ open_directories (d ∷ ds))
-  reads_add DirectoryKind d ds p inside spelled bound =
+  reads_add DirectoryKind d ds p inside spelled =
       ap (λ q. saying.enters_entry Top (open_directories (d ∷ ds)) q (token_of DirectoryKind (length ds)) (token_of DirectoryKind (length ds + 1)) DirectoryKind [] (AddAt q DirectoryKind)) spelled
       ∙ reads_entry Top (open_directories (d ∷ ds)) p (token_of DirectoryKind (length ds)) (token_of DirectoryKind (length ds + 1)) [] DirectoryKind (AddAt p DirectoryKind)
-      (placed d ds p inside) (new_token DirectoryKind d ds bound)
-  reads_add FileKind d ds p inside spelled bound =
+      (placed d ds p inside) (new_token DirectoryKind d ds)
+  reads_add FileKind d ds p inside spelled =
       ap (λ q. saying.enters_entry Top (open_directories (d ∷ ds)) q (token_of DirectoryKind (length ds)) (token_of FileKind (length ds + 1)) FileKind [] (AddAt q FileKind)) spelled
       ∙ reads_entry Top (open_directories (d ∷ ds)) p (token_of DirectoryKind (length ds)) (token_of FileKind (length ds + 1)) [] FileKind (AddAt p FileKind)
-      (placed d ds p inside) (new_token FileKind d ds bound)
+      (placed d ds p inside) (new_token FileKind d ds)
 
   -- the visits say their steps, from what is open before to what is open after them
   abbrev SaysPlan : List PathValue → ℕ → List Visit → List PathValue → Type 0
@@ -212,36 +195,36 @@ module _ (c : RepoState) (report : WholeReport) where
   goes_below DirectoryKind d ds p vs end deep flat w = subst (λ n. SaysPlan (p ∷ d ∷ ds) n vs end) (grown d ds) (deep w)
   goes_below FileKind d ds p vs end deep flat w = flat w
 
-  pub says_plan : (vs : List Visit) (d : PathValue) (ds end : List PathValue) → All (IsSendable New) vs → length ds + length vs < 2 ^ 64
+  pub says_plan : (vs : List Visit) (d : PathValue) (ds end : List PathValue) → All (IsSendable New) vs
       → walk New Top (d ∷ ds) vs ≡ Some end → SaysPlan (d ∷ ds) (length ds) vs end
-  says_plan [] d ds end sendable bound walked = (refl, ap open_directories (sym (same_Some (d ∷ ds) end walked)))
-  says_plan (Open p ∷ vs) d ds end sendable bound walked =
+  says_plan [] d ds end sendable walked = (refl, ap open_directories (sym (same_Some (d ∷ ds) end walked)))
+  says_plan (Open p ∷ vs) d ds end sendable walked =
       let kind = entry_kind (New p) in
       let tellable : IsTellable New p = All-head (IsSendable New) (Open p) vs sendable in
       let on = goes_on (is_in_directory Top d p && is_some (New p)) (if is_directory_there (New p) then p ∷ d ∷ ds else d ∷ ds) (λ mid. walk New Top mid vs) end walked in
       subst (λ s. Says report.ask.purpose Top Base (open_directories (d ∷ ds)) (plan_commands c report (length ds) (Open p ∷ vs)) ((OpenAt p kind ∷ s) ++ plan_steps New (own_steps_of c report) vs) (open_directories end))
       (sym (steps_told p (option_map (news_at c report p false) (New p))))
       (with_entry kind (open_command kind (opened_entry c report (length ds) p kind)) (OpenAt p kind) (base_at kind p) (news_told c report p false) d ds p vs end
-      (reads_open kind d ds p (and_front (is_in_directory Top d p) (is_some (New p)) on.0) tellable.spelled (next_bound (length ds) (length vs) (length (Open p ∷ vs)) (one_more (Open p) vs) bound))
+      (reads_open kind d ds p (and_front (is_in_directory Top d p) (is_some (New p)) on.0) tellable.spelled)
       (bare kind p) (news_silent p false (New p)) (news_short p false (New p) tellable.short) (news_sent p false (New p))
       (goes_below kind d ds p vs end
-      (λ w. says_plan vs p (d ∷ ds) end (All-tail (IsSendable New) (Open p) vs sendable) (deep_bound (length (d ∷ ds)) (length ds) (length vs) (length (Open p ∷ vs)) (grown d ds) (one_more (Open p) vs) bound) w)
-      (λ w. says_plan vs d ds end (All-tail (IsSendable New) (Open p) vs sendable) (flat_bound (length ds) (length vs) (length (Open p ∷ vs)) (one_more (Open p) vs) bound) w)
+      (λ w. says_plan vs p (d ∷ ds) end (All-tail (IsSendable New) (Open p) vs sendable) w)
+      (λ w. says_plan vs d ds end (All-tail (IsSendable New) (Open p) vs sendable) w)
       (ap (λ mid. walk New Top mid vs) (sym (walked_kind (New p) p (d ∷ ds))) ∙ on.1)))
-  says_plan (Add p ∷ vs) d ds end sendable bound walked =
+  says_plan (Add p ∷ vs) d ds end sendable walked =
       let kind = entry_kind (New p) in
       let tellable : IsTellable New p = All-head (IsSendable New) (Add p) vs sendable in
       let on = goes_on (is_in_directory Top d p && is_some (New p)) (if is_directory_there (New p) then p ∷ d ∷ ds else d ∷ ds) (λ mid. walk New Top mid vs) end walked in
       subst (λ s. Says report.ask.purpose Top Base (open_directories (d ∷ ds)) (plan_commands c report (length ds) (Add p ∷ vs)) ((AddAt p kind ∷ s) ++ plan_steps New (own_steps_of c report) vs) (open_directories end))
       (sym (steps_told p (option_map (news_at c report p true) (New p))))
       (with_entry kind (add_command kind (added_entry (length ds) p kind)) (AddAt p kind) [] (news_told c report p true) d ds p vs end
-      (reads_add kind d ds p (and_front (is_in_directory Top d p) (is_some (New p)) on.0) tellable.spelled (next_bound (length ds) (length vs) (length (Add p ∷ vs)) (one_more (Add p) vs) bound))
+      (reads_add kind d ds p (and_front (is_in_directory Top d p) (is_some (New p)) on.0) tellable.spelled)
       (λ _. refl) (news_silent p true (New p)) (news_short p true (New p) tellable.short) (news_sent p true (New p))
       (goes_below kind d ds p vs end
-      (λ w. says_plan vs p (d ∷ ds) end (All-tail (IsSendable New) (Add p) vs sendable) (deep_bound (length (d ∷ ds)) (length ds) (length vs) (length (Add p ∷ vs)) (grown d ds) (one_more (Add p) vs) bound) w)
-      (λ w. says_plan vs d ds end (All-tail (IsSendable New) (Add p) vs sendable) (flat_bound (length ds) (length vs) (length (Add p ∷ vs)) (one_more (Add p) vs) bound) w)
+      (λ w. says_plan vs p (d ∷ ds) end (All-tail (IsSendable New) (Add p) vs sendable) w)
+      (λ w. says_plan vs d ds end (All-tail (IsSendable New) (Add p) vs sendable) w)
       (ap (λ mid. walk New Top mid vs) (sym (walked_kind (New p) p (d ∷ ds))) ∙ on.1)))
-  says_plan (Delete p ∷ vs) d ds end sendable bound walked =
+  says_plan (Delete p ∷ vs) d ds end sendable walked =
       let spelled : IsSpelledPath p = All-head (IsSendable New) (Delete p) vs sendable in
       let on = goes_on (is_in_directory Top d p) (d ∷ ds) (λ mid. walk New Top mid vs) end walked in (
         DeleteAt p ∷ [],
@@ -249,16 +232,16 @@ module _ (c : RepoState) (report : WholeReport) where
         plan_steps New (own_steps_of c report) vs,
         ap (λ q. when (is_in_place Top (open_directories (d ∷ ds)) q (token_of DirectoryKind (length ds))) (DeleteAt q ∷ []) (open_directories (d ∷ ds))) spelled
             ∙ ap (λ b. when b (DeleteAt p ∷ []) (open_directories (d ∷ ds))) (placed d ds p on.0),
-        says_plan vs d ds end (All-tail (IsSendable New) (Delete p) vs sendable) (flat_bound (length ds) (length vs) (length (Delete p ∷ vs)) (one_more (Delete p) vs) bound) on.1,
+        says_plan vs d ds end (All-tail (IsSendable New) (Delete p) vs sendable) on.1,
         refl,
       )
-  says_plan (Close ∷ vs) d [] end sendable bound walked = absurd (none-some end walked)
-  says_plan (Close ∷ vs) d (e ∷ ds) end sendable bound walked = (
+  says_plan (Close ∷ vs) d [] end sendable walked = absurd (none-some end walked)
+  says_plan (Close ∷ vs) d (e ∷ ds) end sendable walked = (
     [],
     open_directories (e ∷ ds),
     plan_steps New (own_steps_of c report) vs,
     reads_close report.ask.purpose Top Base (entry_at DirectoryKind (length (e ∷ ds)) d []) (open_directories (e ∷ ds)) refl,
     subst (λ n. SaysPlan (e ∷ ds) n vs end) (shrunk (length (e ∷ ds)) (length ds) (grown e ds))
-        (says_plan vs e ds end (All-tail (IsSendable New) Close vs sendable) (left_bound (length (e ∷ ds)) (length ds) (length vs) (length (Close ∷ vs)) (grown e ds) (one_more Close vs) bound) walked),
+        (says_plan vs e ds end (All-tail (IsSendable New) Close vs sendable) walked),
     refl,
   )

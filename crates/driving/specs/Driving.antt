@@ -6,8 +6,16 @@ use Rattle.replies.specs.Replies.{print}
 use Rattle.replies.specs.Sinks.{WritesPart}
 use Rattle.replies.specs.declared.reply.Reply.{Reply}
 use Rattle.replies.specs.declared.reply.Reply.TheVariants as replies
+use Rattle.reporter.specs.Visiting.{MayVisit}
+use Rattle.reporter.specs.Walks.{WalkedTrees}
+use Rattle.reporter.specs.declared.visit.Visit.{Visit}
+use Rattle.reporter.specs.declared.visitor.Visitor.{Visitor}
 use Rattle.reports.specs.Targets.{WholeReport}
 use Rattle.drive_commands.specs.Sent.{IsDrive}
+
+-- visits that a visitor may have left, of which this is so
+abbrev pub Visiting : WalkedTrees → Visitor → (List Visit → Type 0) → Type 0
+Visiting t visitor holds = (visits : List Visit) × MayVisit t visitor visits × holds visits
 
 -- the bytes of commands
 abbrev pub command_bytes : List EditorCommand → List ℕ

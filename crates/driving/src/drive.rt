@@ -6,20 +6,20 @@ ghost use Rattle.replies.specs.Sinks.{WritesPart};
 ghost use Rattle.edit_commands.specs.declared.editing.EditorCommand.TheVariants.{CloseDirectory, CloseEdit, OpenRoot, TargetRevision};
 ghost use Rattle.drives.specs.Steps.EntryKind.{DirectoryKind};
 ghost use Rattle.reports.specs.Refusing.{finish_root};
-ghost use Rattle.drive_sides.specs.Plans.{whole};
+ghost use Rattle.drive_sides.specs.Plans.{drive_trees, whole};
 ghost use Rattle.driving.specs.Commands.{body_commands, drive_of, plan_commands, root_commands};
-ghost use Rattle.driving.specs.Driving.{command_bytes, drive_replies, DriveLost, DriveWritten};
+ghost use Rattle.driving.specs.Driving.{command_bytes, drive_replies, DriveLost, DriveWritten, Visiting};
 ghost use Rattle.driving.specs.Tokens.{token_of};
 
 use crate::naming::token;
 use crate::saying::{say_made, say_new};
 use crate::telling::say_root_news;
 use crate::visits::{root_news, say_close, say_visits};
-use drive_sides::{TwoTrees, plan};
+use drive_sides::{TwoTrees, visitor};
 use edit_commands::EditorCommand;
 use replies::{Reply, ReplySink};
 use repo_api::Repository;
-use reporter::Visit;
+use reporter::Visitor;
 use reports::{Grafts, OpenReport, ReportRoot};
 use std::alloc::{AllocError, Global};
 
@@ -71,18 +71,23 @@ fn say_root<R: Repository, S: ReplySink>(
 fn say_below<R: Repository, S: ReplySink>(
     alloc: Global,
     trees: &TwoTrees<R>,
-    visits: &[Visit],
+    visitor: &mut Visitor,
     out: &mut S,
 ) -> Result<(), AllocError>
-    ensures ok { OnOk result (S.writes out.old out.new (command_bytes (plan_commands
-        (R.content trees.now.view.now) (whole trees.now.report.now trees.now.root) 0 visits.now
-        ++ CloseDirectory (token_of DirectoryKind 0) ∷ []))) }
-    ensures err { OnErr result (WritesPart (S.writes out.old out.new) (command_bytes
+    ensures ok { OnOk result (Visiting (drive_trees (R.content trees.now.view.now)
+        (whole trees.now.report.now trees.now.root)) visitor.old
+        (λ visits. S.writes out.old out.new (command_bytes
         (plan_commands (R.content trees.now.view.now)
-        (whole trees.now.report.now trees.now.root) 0 visits.now
-        ++ CloseDirectory (token_of DirectoryKind 0) ∷ []))) }
+        (whole trees.now.report.now trees.now.root) 0 visits
+        ++ CloseDirectory (token_of DirectoryKind 0) ∷ [])))) }
+    ensures err { OnErr result (Visiting (drive_trees (R.content trees.now.view.now)
+        (whole trees.now.report.now trees.now.root)) visitor.old
+        (λ visits. WritesPart (S.writes out.old out.new) (command_bytes
+        (plan_commands (R.content trees.now.view.now)
+        (whole trees.now.report.now trees.now.root) 0 visits
+        ++ CloseDirectory (token_of DirectoryKind 0) ∷ [])))) }
 {
-    say_visits(alloc, trees, visits, out)?;
+    say_visits(alloc, trees, visitor, out)?;
     say_close(alloc, 0, out)
 }
 
@@ -90,71 +95,88 @@ fn say_below<R: Repository, S: ReplySink>(
 fn say_body<R: Repository, S: ReplySink>(
     alloc: Global,
     trees: &TwoTrees<R>,
-    visits: &[Visit],
+    visitor: &mut Visitor,
     out: &mut S,
 ) -> Result<(), AllocError>
-    ensures ok { OnOk result (S.writes out.old out.new (command_bytes
+    ensures ok { OnOk result (Visiting (drive_trees (R.content trees.now.view.now)
+        (whole trees.now.report.now trees.now.root)) visitor.old
+        (λ visits. S.writes out.old out.new (command_bytes
         (body_commands (R.content trees.now.view.now)
-        (whole trees.now.report.now trees.now.root) visits.now))) }
-    ensures err { OnErr result (WritesPart (S.writes out.old out.new) (command_bytes
+        (whole trees.now.report.now trees.now.root) visits)))) }
+    ensures err { OnErr result (Visiting (drive_trees (R.content trees.now.view.now)
+        (whole trees.now.report.now trees.now.root)) visitor.old
+        (λ visits. WritesPart (S.writes out.old out.new) (command_bytes
         (body_commands (R.content trees.now.view.now)
-        (whole trees.now.report.now trees.now.root) visits.now))) }
+        (whole trees.now.report.now trees.now.root) visits)))) }
 {
     say_root(alloc, trees, out)?;
-    say_below(alloc, trees, visits, out)
+    say_below(alloc, trees, visitor, out)
 }
 
 /// Writes the commands from the open root on to the end of the edit.
 fn say_rest<R: Repository, S: ReplySink>(
     alloc: Global,
     trees: &TwoTrees<R>,
-    visits: &[Visit],
+    visitor: &mut Visitor,
     out: &mut S,
 ) -> Result<(), AllocError>
-    ensures ok { OnOk result (S.writes out.old out.new (command_bytes
+    ensures ok { OnOk result (Visiting (drive_trees (R.content trees.now.view.now)
+        (whole trees.now.report.now trees.now.root)) visitor.old
+        (λ visits. S.writes out.old out.new (command_bytes
         (body_commands (R.content trees.now.view.now)
-        (whole trees.now.report.now trees.now.root) visits.now ++ CloseEdit ∷ []))) }
-    ensures err { OnErr result (WritesPart (S.writes out.old out.new) (command_bytes
+        (whole trees.now.report.now trees.now.root) visits ++ CloseEdit ∷ [])))) }
+    ensures err { OnErr result (Visiting (drive_trees (R.content trees.now.view.now)
+        (whole trees.now.report.now trees.now.root)) visitor.old
+        (λ visits. WritesPart (S.writes out.old out.new) (command_bytes
         (body_commands (R.content trees.now.view.now)
-        (whole trees.now.report.now trees.now.root) visits.now ++ CloseEdit ∷ []))) }
+        (whole trees.now.report.now trees.now.root) visits ++ CloseEdit ∷ [])))) }
 {
-    say_body(alloc, trees, visits, out)?;
+    say_body(alloc, trees, visitor, out)?;
     say_made(Ok(EditorCommand::CloseEdit), out)
 }
 
-/// Writes the drive of a plan.
+/// Writes the drive of the visits.
 fn say_commands<R: Repository, S: ReplySink>(
     alloc: Global,
     trees: &TwoTrees<R>,
-    visits: &[Visit],
+    visitor: &mut Visitor,
     out: &mut S,
 ) -> Result<(), AllocError>
-    ensures ok { OnOk result (S.writes out.old out.new (command_bytes (drive_of
-        (R.content trees.now.view.now) (whole trees.now.report.now trees.now.root) visits.now))) }
-    ensures err { OnErr result (WritesPart (S.writes out.old out.new) (command_bytes
+    ensures ok { OnOk result (Visiting (drive_trees (R.content trees.now.view.now)
+        (whole trees.now.report.now trees.now.root)) visitor.old
+        (λ visits. S.writes out.old out.new (command_bytes
         (drive_of (R.content trees.now.view.now)
-        (whole trees.now.report.now trees.now.root) visits.now))) }
+        (whole trees.now.report.now trees.now.root) visits)))) }
+    ensures err { OnErr result (Visiting (drive_trees (R.content trees.now.view.now)
+        (whole trees.now.report.now trees.now.root)) visitor.old
+        (λ visits. WritesPart (S.writes out.old out.new) (command_bytes
+        (drive_of (R.content trees.now.view.now)
+        (whole trees.now.report.now trees.now.root) visits)))) }
 {
     say_beginning(alloc, trees.report.ask.revision, trees.root, out)?;
-    say_rest(alloc, trees, visits, out)
+    say_rest(alloc, trees, visitor, out)
 }
 
-/// Writes a login request that asks for nothing, and the drive of a plan.
+/// Writes a login request that asks for nothing, and the drive of the visits.
 fn say_planned<R: Repository, S: ReplySink>(
     alloc: Global,
     trees: &TwoTrees<R>,
-    visits: &[Visit],
+    visitor: &mut Visitor,
     out: &mut S,
 ) -> Result<(), AllocError>
-    ensures ok { OnOk result (S.writes out.old out.new (print
-        (drive_replies (drive_of (R.content trees.now.view.now)
-        (whole trees.now.report.now trees.now.root) visits.now)))) }
-    ensures err { OnErr result (WritesPart (S.writes out.old out.new) (print
-        (drive_replies (drive_of (R.content trees.now.view.now)
-        (whole trees.now.report.now trees.now.root) visits.now)))) }
+    ensures ok { OnOk result (Visiting (drive_trees (R.content trees.now.view.now)
+        (whole trees.now.report.now trees.now.root)) visitor.old
+        (λ visits. S.writes out.old out.new (print (drive_replies
+        (drive_of (R.content trees.now.view.now)
+        (whole trees.now.report.now trees.now.root) visits))))) }
+    ensures err { OnErr result (Visiting (drive_trees (R.content trees.now.view.now)
+        (whole trees.now.report.now trees.now.root)) visitor.old
+        (λ visits. WritesPart (S.writes out.old out.new) (print (drive_replies
+        (drive_of (R.content trees.now.view.now)
+        (whole trees.now.report.now trees.now.root) visits))))) }
 {
     say_new(Reply::NoLogin, out)?;
-    say_commands(alloc, trees, visits, out)
+    say_commands(alloc, trees, visitor, out)
 }
 
 /// Writes a login request that asks for nothing, and the drive that a report has come to.
@@ -176,8 +198,8 @@ pub fn say_drive<R: Repository, S: ReplySink>(
     ensures err { OnErr result (DriveLost (R.content view.now) (whole report.now root)
         (S.writes out.old out.new)) }
 {
-    let visits = plan(alloc, view, report, root)?;
     let trees = TwoTrees { view, report, root };
+    let mut visitor = visitor(alloc, &trees)?;
     report.are_named();
-    say_planned(alloc, &trees, visits.as_slice(), out)
+    say_planned(alloc, &trees, &mut visitor, out)
 }

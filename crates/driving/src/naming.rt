@@ -1,8 +1,7 @@
 //! Tokens, and the texts of paths.
 ghost use Rattle.std.specs.Prelude.{◌≡◌, ◌∷◌, IfOk};
-ghost use Rattle.std.specs.Fmt.{decimal};
 ghost use Rattle.reporter.specs.Visits.{kind_if};
-ghost use Rattle.driving.specs.Tokens.{token_of, relative_text};
+ghost use Rattle.driving.specs.Tokens.{count_text, relative_text, token_of};
 
 use byte_string::ByteString;
 use std::alloc::{AllocError, Global};
@@ -10,7 +9,7 @@ use svnpath::Path;
 
 /// A letter and a number.
 fn numbered(alloc: Global, letter: u8, count: u64) -> Result<ByteString, AllocError>
-    ensures { IfOk result (λ token. token ≡ letter ∷ decimal count) }
+    ensures { IfOk result (λ token. token ≡ letter ∷ count_text count) }
 {
     let mut buffer = itoa::Buffer::new();
     let mut token = Vec::from_slice(alloc, &[letter])?;

@@ -9,9 +9,9 @@ ghost use Rattle.drives.specs.Steps.EntryKind.{DirectoryKind};
 ghost use Rattle.reporter.specs.Visits.{entry_kind, kind_if};
 ghost use Rattle.reporter.specs.declared.visit.Visit.TheVariants.{Add, Open};
 ghost use Rattle.reports.specs.Targets.{new_tree};
-ghost use Rattle.drive_sides.specs.Plans.{whole};
+ghost use Rattle.drive_sides.specs.Plans.{drive_trees, whole};
 ghost use Rattle.driving.specs.Commands.{add_command, added_entry, around_after, deleted_entry, news_told, open_command, opened_entry, plan_commands, visit_commands, visited_kind};
-ghost use Rattle.driving.specs.Driving.{command_bytes};
+ghost use Rattle.driving.specs.Driving.{Visiting, command_bytes};
 ghost use Rattle.driving.specs.Tokens.{token_of};
 
 use crate::naming::{relative_text, token};
@@ -22,7 +22,7 @@ use edit_commands::{AddedEntry, DeletedEntry, EditorCommand, OpenedEntry};
 use entry_news::News;
 use replies::ReplySink;
 use repo_api::{NodeKind, Repository};
-use reporter::Visit;
+use reporter::{Visit, Visitor};
 use std::alloc::{AllocError, Global};
 use svnpath::Path;
 
@@ -258,29 +258,59 @@ fn around_after(visit: &Visit, entrance: Entrance) -> u64
     }
 }
 
-/// Writes visits.
+/// Writes a visit, and answers how many directories are open around the innermost one after it.
+fn say_next<R: Repository, S: ReplySink>(
+    alloc: Global,
+    trees: &TwoTrees<R>,
+    visit: &Visit,
+    around: u64,
+    out: &mut S,
+) -> Result<u64, AllocError>
+    requires { around + 1 < 2 ^ 64 }
+    ensures after { IfOk result (λ after. after ≡ around_after (new_tree
+        (R.content trees.now.view.now) (whole trees.now.report.now trees.now.root)) around
+        visit.now) }
+    ensures grows { IfOk result (λ after. after ≤ around + 1) }
+    ensures ok { OnOk result (S.writes out.old out.new (command_bytes
+        (visit_commands (R.content trees.now.view.now)
+        (whole trees.now.report.now trees.now.root) around visit.now))) }
+    ensures err { OnErr result (WritesPart (S.writes out.old out.new) (command_bytes
+        (visit_commands (R.content trees.now.view.now)
+        (whole trees.now.report.now trees.now.root) around visit.now))) }
+{
+    let is_directory = enters_directory(alloc, trees, visit)?;
+    let entrance = Entrance {
+        around,
+        is_directory,
+    };
+    say_visit(alloc, trees, visit, entrance, out)?;
+    Ok(around_after(visit, entrance))
+}
+
+/// Writes visits as they are made. More than can be counted are as want of memory.
 pub(crate) fn say_visits<R: Repository, S: ReplySink>(
     alloc: Global,
     trees: &TwoTrees<R>,
-    visits: &[Visit],
+    visitor: &mut Visitor,
     out: &mut S,
 ) -> Result<(), AllocError>
-    ensures ok { OnOk result (S.writes out.old out.new (command_bytes
+    ensures ok { OnOk result (Visiting (drive_trees (R.content trees.now.view.now)
+        (whole trees.now.report.now trees.now.root)) visitor.old
+        (λ visits. S.writes out.old out.new (command_bytes
         (plan_commands (R.content trees.now.view.now)
-        (whole trees.now.report.now trees.now.root) 0 visits.now))) }
-    ensures err { OnErr result (WritesPart (S.writes out.old out.new) (command_bytes
+        (whole trees.now.report.now trees.now.root) 0 visits)))) }
+    ensures err { OnErr result (Visiting (drive_trees (R.content trees.now.view.now)
+        (whole trees.now.report.now trees.now.root)) visitor.old
+        (λ visits. WritesPart (S.writes out.old out.new) (command_bytes
         (plan_commands (R.content trees.now.view.now)
-        (whole trees.now.report.now trees.now.root) 0 visits.now))) }
+        (whole trees.now.report.now trees.now.root) 0 visits)))) }
 {
     let mut around = 0;
-    for visit in visits {
-        let is_directory = enters_directory(alloc, trees, visit)?;
-        let entrance = Entrance {
-            around,
-            is_directory,
+    for _ in 0..u64::MAX {
+        let Some(visit) = visitor.next(alloc, trees)? else {
+            return Ok(());
         };
-        say_visit(alloc, trees, visit, entrance, out)?;
-        around = around_after(visit, entrance);
+        around = say_next(alloc, trees, &visit, around, out)?;
     }
-    Ok(())
+    Err(AllocError)
 }

@@ -3,3 +3,7 @@ pub mod Visiting
 pub mod Planning
 pub mod Owning
 pub mod Children
+pub mod Plans
+pub mod Reasons
+pub mod Leaving
+pub mod Existing

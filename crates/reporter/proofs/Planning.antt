@@ -16,7 +16,7 @@ use Rattle.drives.proofs.Joined.{or_cases, or_left, or_right, or_false, and_fron
 use Rattle.drives.proofs.Entries.{rescoped, under_more, below_under, IsCut, cut, kept, left_out}
 use Rattle.reporter.specs.declared.visit.Visit.{Visit}
 use Rattle.reporter.specs.declared.visit.Visit.TheVariants.{Open, Delete, Close}
-use Rattle.reporter.specs.Nesting.{AreNested, entry_visits}
+use Rattle.reporter.specs.Nesting.{entry_visits}
 use Rattle.reporter.specs.Visits.{plan_steps, visit_steps}
 use Rattle.reporter.specs.Walks.{any_under, BothHold, LeadsOver, AreApart, IsChild, AreChildren, AreAll, AreAlike, goes, going, without_all, old_side, left_of, deletes_of}
 use Rattle.reporter.proofs.Visiting.{false_or, entry_opened}
@@ -238,12 +238,28 @@ all_children seen stale s t p xs cs children all_s all_t right =
 
 -- ---- the deletes
 
+flip : (a b : Bool) → (if a then not b else b) ≡ true → a ≡ b → ⊥
+flip true true h e = false≢true h
+flip true false h e = false≢true (sym e)
+flip false true h e = false≢true e
+flip false false h e = false≢true h
+
+-- what goes is another node
+pub goes_differs : (o n : Option Entry) → goes o n ≡ true → option_map node_of o ≡ option_map node_of n → ⊥
+goes_differs None n h e = false≢true h
+goes_differs (Some x) None h e = false≢true (sym (ap is_some e))
+goes_differs (Some x) (Some y) h e = flip (is_directory x) (is_directory y) h (ap dir_of e)
+  where
+    dir_of : Option Node → Bool
+    dir_of None = false
+    dir_of (Some n) = Rattle.repo_api.specs.Trees.is_directory_content n.0
+
 -- what goes from trees that hold together is a cut
 pub goes_cut : (r t : Tree) (top p : PathValue) → is_at_or_under p top ≡ true → HoldsTogether top r → HoldsTogether top t → Goes r t p ≡ true → IsCut r t p
 goes_cut r t top p at old new g = record {
   stood = stood (r p) (t p) g;
   other = λ k. other (r p) (t p) g k;
-  differ = λ same. differ (r p) (t p) g same.0;
+  differ = λ same. goes_differs (r p) (t p) g same.0;
   lone = λ q low. lone q low (r p) (t p) refl refl g;
 }
   where
@@ -251,25 +267,10 @@ goes_cut r t top p at old new g = record {
     stood None n h = absurd (false≢true h)
     stood (Some x) n h = refl
 
-    flip : (a b : Bool) → (if a then not b else b) ≡ true → a ≡ b → ⊥
-    flip true true h e = false≢true h
-    flip true false h e = false≢true (sym e)
-    flip false true h e = false≢true e
-    flip false false h e = false≢true h
-
     other : (o n : Option Entry) → goes o n ≡ true → IsSomeAnd o (λ e. IsSomeAnd n (λ f. is_directory e ≡ is_directory f)) → ⊥
     other None n h k = k
     other (Some x) None h k = k
     other (Some x) (Some y) h k = flip (is_directory x) (is_directory y) h k
-
-    dir_of : Option Node → Bool
-    dir_of None = false
-    dir_of (Some n) = Rattle.repo_api.specs.Trees.is_directory_content n.0
-
-    differ : (o n : Option Entry) → goes o n ≡ true → option_map node_of o ≡ option_map node_of n → ⊥
-    differ None n h e = false≢true h
-    differ (Some x) None h e = false≢true (sym (ap is_some e))
-    differ (Some x) (Some y) h e = flip (is_directory x) (is_directory y) h (ap dir_of e)
 
     none_below : (u : Tree) (q : PathValue) → HoldsTogether top u → below p q ≡ true → (HasDirectory u p → ⊥) → u q ≡ None
     none_below u q holds low lacks = by (u q) refl
@@ -475,10 +476,10 @@ both_stay r t p old new = by (r p) (t p) old new
     by (Some x) (Some y) h k = bools (is_directory x) (is_directory y) h k
 
 -- the root is opened, whatever is below it
-pub root_opened : (seen : Node → Node) (stale : PathValue → Bool) (r t : Tree) (own : Own) (rest : List Visit) → HasDirectory r [] → HasDirectory t [] → LeadsOver seen r t own → AreNested t [] [] rest
+pub root_opened : (seen : Node → Node) (stale : PathValue → Bool) (r t : Tree) (own : Own) (rest : List Visit) → HasDirectory r [] → HasDirectory t [] → LeadsOver seen r t own
     → IsRight seen (below []) stale r t (plan_steps t own rest) → IsRight seen (under []) stale r t (plan_steps t own (Open [] ∷ rest))
-root_opened seen stale r t own rest old new leads nested right =
-    entry_opened seen stale r t own [] false rest refl (some_there r [] old) (some_there t [] new) (both_stay r t [] old new) leads (inl refl) nested right
+root_opened seen stale r t own rest old new leads right =
+    entry_opened seen stale r t own [] rest (some_there r [] old) (some_there t [] new) (both_stay r t [] old new) leads (inl refl) right
 
 -- what follows from two facts of an answer holds of it
 pub ok_both : {T E : Type 0} (r : Result T E) (P Q R : T → Type 0) → ((v : T) → P v → Q v → R v) → IfOk r P → IfOk r Q → IfOk r R

@@ -82,14 +82,13 @@ reason_of seen stale r t own p (v ∷ vs) (inr (inl full)) nested right = by fir
     by f (inl e) low = inl (root_above f.0 e (below_under p f.0 low))
     by f (inr w) low = inr (w.0, under_more w.0 f.0 p w.1 (below_under p f.0 low), w.2)
 
--- an entry that stays and is needed is opened
-pub entry_opened : (seen : Node → Node) (stale : PathValue → Bool) (r t : Tree) (own : PathValue → Bool → List Step) (p : PathValue) (anew : Bool) (rest : List Visit)
-    → anew ≡ false → is_some (r p) ≡ true → is_some (t p) ≡ true → goes (r p) (t p) ≡ false → LeadsOver seen r t own → IsNeeded rest r t stale p → AreNested t p p rest
-    → IsRight seen (below p) stale (old_side anew r) t (plan_steps t own rest) → IsRight seen (under p) stale (old_side anew r) t (plan_steps t own (Open p ∷ rest))
-entry_opened seen stale r t own p true rest kept old new stays leads needed nested right = absurd (false≢true (sym kept))
-entry_opened seen stale r t own p false rest kept old new stays leads needed nested right =
+-- an entry that stays is opened for a reason
+pub entry_opened : (seen : Node → Node) (stale : PathValue → Bool) (r t : Tree) (own : PathValue → Bool → List Step) (p : PathValue) (rest : List Visit)
+    → is_some (r p) ≡ true → is_some (t p) ≡ true → goes (r p) (t p) ≡ false → LeadsOver seen r t own → HasReason stale r t p
+    → IsRight seen (below p) stale r t (plan_steps t own rest) → IsRight seen (under p) stale r t (plan_steps t own (Open p ∷ rest))
+entry_opened seen stale r t own p rest old new stays leads reason right =
     opened seen stale r t p (entry_kind (t p)) (own p false) (plan_steps t own rest) (is_its_kind r t p kind) (leads.here p false) (leads.open_meets p kind) (leads.open_leads p kind) (leads.open_text p)
-    (reason_of seen stale r t own p rest needed nested right) right
+    reason right
   where
     kind : IsOfOneKind r t p
     kind = one_kind r t p old new stays

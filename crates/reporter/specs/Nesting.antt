@@ -50,3 +50,8 @@ AreNested new top d visits =
 abbrev pub entry_visits : Bool → Visit → List Visit → List Visit
 entry_visits true visit rest = visit ∷ (rest ++ Close ∷ [])
 entry_visits false visit rest = visit ∷ rest
+
+-- an entry is opened, or comes anew
+abbrev pub entry_visit : Bool → PathValue → Visit
+entry_visit true p = Add p
+entry_visit false p = Open p

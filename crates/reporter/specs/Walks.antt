@@ -11,6 +11,17 @@ use Rattle.reporter.specs.declared.visit.Visit.{Visit}
 use Rattle.reporter.specs.declared.visit.Visit.TheVariants.{Delete}
 use Rattle.reporter.specs.Visits.{OwnSteps, entry_kind}
 
+-- ---- both trees
+
+-- Two trees side by side: what the client has, and what it is to have; where it has a stale token;
+-- what is seen of an entry; and what an entry is told.
+pub record WalkedTrees : Type 0 where
+  pub old : Tree
+  pub new : Tree
+  pub stale : PathValue → Bool
+  pub seen : Node → Node
+  pub own : OwnSteps
+
 -- ---- lists of paths
 
 -- q is at or under one of the paths

@@ -2,11 +2,14 @@
 #![tactic(auto)]
 
 mod kinds;
-mod plan;
+mod making;
+mod searching;
 mod sides;
+mod unvisited;
 mod visit;
+mod visitor;
 
 pub use kinds::Kinds;
-pub use plan::{plan_from, plan_root};
 pub use sides::Sides;
 pub use visit::Visit;
+pub use visitor::Visitor;

@@ -12,12 +12,15 @@ use Rattle.driving.proofs.drive.say_below.Goals as goal
 pub returns-in_err-say_visits-clause-err : goal.returns-in_err-say_visits-clause-err
 returns-in_err-say_visits-clause-err g c =
     let p = err_from_is_err_and c.from_residual.result c.from_residual.ensures.1 in
-    rw (p.1) (first_part _ (plan_commands (g.R.Repository.content c.args.trees.now.view.now) (whole c.args.trees.now.report.now c.args.trees.now.root) 0 c.args.visits.now) (CloseDirectory (token_of DirectoryKind 0) ∷ []) (c.in_err-say_visits.ensures.err))
+    let v = c.in_err-say_visits.ensures.err in
+    rw (p.1) (v.0, v.1, first_part _ (plan_commands (g.R.Repository.content c.args.trees.now.view.now) (whole c.args.trees.now.report.now c.args.trees.now.root) 0 v.0) (CloseDirectory (token_of DirectoryKind 0) ∷ []) v.2)
 
 pub returns-clause-ok : goal.returns-clause-ok
 returns-clause-ok g c =
-    if_done c.say_close.result _ _ (λ said. both _ g.met.S.ReplySink.more _ _ _ (plan_commands (g.R.Repository.content c.args.trees.now.view.now) (whole c.args.trees.now.report.now c.args.trees.now.root) 0 c.args.visits.now) (CloseDirectory (token_of DirectoryKind 0) ∷ []) (c.in_ok-say_visits.ensures.ok) said) (c.say_close.ensures.ok)
+    let v = c.in_ok-say_visits.ensures.ok in
+    if_done c.say_close.result _ _ (λ said. (v.0, v.1, both _ g.met.S.ReplySink.more _ _ _ (plan_commands (g.R.Repository.content c.args.trees.now.view.now) (whole c.args.trees.now.report.now c.args.trees.now.root) 0 v.0) (CloseDirectory (token_of DirectoryKind 0) ∷ []) v.2 said)) (c.say_close.ensures.ok)
 
 pub returns-clause-err : goal.returns-clause-err
 returns-clause-err g c =
-    if_failed c.say_close.result _ _ (λ part. behind_part _ g.met.S.ReplySink.more _ _ _ (plan_commands (g.R.Repository.content c.args.trees.now.view.now) (whole c.args.trees.now.report.now c.args.trees.now.root) 0 c.args.visits.now) (CloseDirectory (token_of DirectoryKind 0) ∷ []) (c.in_ok-say_visits.ensures.ok) part) (c.say_close.ensures.err)
+    let v = c.in_ok-say_visits.ensures.ok in
+    if_failed c.say_close.result _ _ (λ part. (v.0, v.1, behind_part _ g.met.S.ReplySink.more _ _ _ (plan_commands (g.R.Repository.content c.args.trees.now.view.now) (whole c.args.trees.now.report.now c.args.trees.now.root) 0 v.0) (CloseDirectory (token_of DirectoryKind 0) ∷ []) v.2 part)) (c.say_close.ensures.err)

@@ -10,12 +10,15 @@ use Rattle.driving.proofs.drive.say_rest.Goals as goal
 pub returns-in_err-say_body-clause-err : goal.returns-in_err-say_body-clause-err
 returns-in_err-say_body-clause-err g c =
     let p = err_from_is_err_and c.from_residual.result c.from_residual.ensures.1 in
-    rw (p.1) (first_part _ (body_commands (g.R.Repository.content c.args.trees.now.view.now) (whole c.args.trees.now.report.now c.args.trees.now.root) c.args.visits.now) (CloseEdit ∷ []) (c.in_err-say_body.ensures.err))
+    let v = c.in_err-say_body.ensures.err in
+    rw (p.1) (v.0, v.1, first_part _ (body_commands (g.R.Repository.content c.args.trees.now.view.now) (whole c.args.trees.now.report.now c.args.trees.now.root) v.0) (CloseEdit ∷ []) v.2)
 
 pub returns-clause-ok : goal.returns-clause-ok
 returns-clause-ok g c =
-    if_done c.say_made.result _ _ (λ said. both _ g.met.S.ReplySink.more _ _ _ (body_commands (g.R.Repository.content c.args.trees.now.view.now) (whole c.args.trees.now.report.now c.args.trees.now.root) c.args.visits.now) (CloseEdit ∷ []) (c.in_ok-say_body.ensures.ok) said) (c.say_made.ensures.ok (CloseEdit) refl)
+    let v = c.in_ok-say_body.ensures.ok in
+    if_done c.say_made.result _ _ (λ said. (v.0, v.1, both _ g.met.S.ReplySink.more _ _ _ (body_commands (g.R.Repository.content c.args.trees.now.view.now) (whole c.args.trees.now.report.now c.args.trees.now.root) v.0) (CloseEdit ∷ []) v.2 said)) (c.say_made.ensures.ok (CloseEdit) refl)
 
 pub returns-clause-err : goal.returns-clause-err
 returns-clause-err g c =
-    if_failed c.say_made.result _ _ (λ part. behind_part _ g.met.S.ReplySink.more _ _ _ (body_commands (g.R.Repository.content c.args.trees.now.view.now) (whole c.args.trees.now.report.now c.args.trees.now.root) c.args.visits.now) (CloseEdit ∷ []) (c.in_ok-say_body.ensures.ok) part) (c.say_made.ensures.err (CloseEdit) refl)
+    let v = c.in_ok-say_body.ensures.ok in
+    if_failed c.say_made.result _ _ (λ part. (v.0, v.1, behind_part _ g.met.S.ReplySink.more _ _ _ (body_commands (g.R.Repository.content c.args.trees.now.view.now) (whole c.args.trees.now.report.now c.args.trees.now.root) v.0) (CloseEdit ∷ []) v.2 part)) (c.say_made.ensures.err (CloseEdit) refl)

@@ -1,7 +1,8 @@
 use Rattle.std.proofs.Common.{◌≡◌, take, map}
 use Rattle.reporter.specs.declared.visit.Visit.TheVariants.{Delete}
 use Rattle.reporter.specs.Walks.{going}
-use Rattle.reporter.proofs.plan.plan_deletes.Given as goal
+use Rattle.reporter.proofs.making.deletes_of.Given as goal
 
 abbrev pub invariant-loop-path : goal.invariant-loop-path
-invariant-loop-path g l = l.visits.items ≡ map Delete (going (g.S.Sides.old l.sides) (g.S.Sides.new l.sides) (take l.path-index l.paths))
+invariant-loop-path g l =
+    l.visits.items ≡ map Delete (going (g.S.Sides.trees l.sides).old (g.S.Sides.trees l.sides).new (take l.path-index l.paths))

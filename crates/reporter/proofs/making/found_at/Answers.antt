@@ -1,0 +1,46 @@
+use Rattle.std.proofs.Common.{◌≡◌, false, ◌||◌, not, sym, ap, ◌∙◌, subst}
+use Rattle.std.proofs.lemmas.Bool.{false≢true}
+use Rattle.std.proofs.lemmas.Result.{IfOk-weaker}
+use Rattle.std.specs.Prelude.{is_some}
+use Rattle.reporter.proofs.Plans.{absent, comes, entry_plan, staying}
+use Rattle.reporter.proofs.Reasons.{Reason}
+use Rattle.reporter.proofs.making.found_at.Goals.{then-is_anew, else-is_anew, else-not-comes-via-then-not-comes+in_ok-has_news+else-not-branch, else-not-comes-via-else-not-comes}
+use Rattle.reporter.proofs.making.found_at.Goals as goal
+use Rattle.reporter.specs.Left.{IsEntry, IsPlanOf}
+use Rattle.reporter.specs.Walks.{goes}
+
+pub returns-then-not-is_there : goal.returns-then-not-is_there
+returns-then-not-is_there g c = λ vs is.
+    subst (IsPlanOf (g.S.Sides.trees c.args.sides.now) c.args.is_anew c.args.path) (sym is)
+    (absent (g.S.Sides.trees c.args.sides.now) c.args.is_anew c.args.path (sym (c.is_there.ensures ((g.S.Sides.trees c.args.sides.now).new c.args.path) c.in_ok-kinds.ensures.new) ∙ c.if-not-is_there.true))
+
+pub has_news-requires-clause-stood : goal.has_news-requires-clause-stood
+has_news-requires-clause-stood g c = (staying (g.S.Sides.trees c.args.sides.now) c.args.is_anew c.args.path (sym new ∙ c.if-not-comes.true)).1
+  where
+    new : c.if-is_anew.comes ≡ comes (g.S.Sides.trees c.args.sides.now) c.args.is_anew c.args.path
+    new = elim c.if-is_anew.branch [
+      | then-is_anew w ↦ w.comes-is ∙ (w.if-is_anew.true ∙ sym (ap (λ b. b || (not (is_some ((g.S.Sides.trees c.args.sides.now).old c.args.path)) || goes ((g.S.Sides.trees c.args.sides.now).old c.args.path) ((g.S.Sides.trees c.args.sides.now).new c.args.path))) w.if-is_anew.true))
+      | else-is_anew w ↦ w.comes-is ∙ (w.is_added-comes.ensures ((g.S.Sides.trees c.args.sides.now).old c.args.path) ((g.S.Sides.trees c.args.sides.now).new c.args.path) c.in_ok-kinds.ensures.old c.in_ok-kinds.ensures.new ∙ sym (ap (λ b. b || (not (is_some ((g.S.Sides.trees c.args.sides.now).old c.args.path)) || goes ((g.S.Sides.trees c.args.sides.now).old c.args.path) ((g.S.Sides.trees c.args.sides.now).new c.args.path))) w.if-is_anew.false))
+    ]
+
+pub returns : goal.returns
+returns g c =
+    IfOk-weaker c.entered.result _ _ (λ found entry. λ vs is.
+    entry_plan (g.S.Sides.trees c.args.sides.now) c.args.is_anew c.is_directory-is_directory.result c.args.path vs (g.S.Sides.leads c.args.sides.now)
+    (sym (c.is_there.ensures ((g.S.Sides.trees c.args.sides.now).new c.args.path) c.in_ok-kinds.ensures.new) ∙ c.if-not-is_there.false)
+    (c.is_directory-is_directory.ensures ((g.S.Sides.trees c.args.sides.now).new c.args.path) c.in_ok-kinds.ensures.new)
+    reason
+    (subst (λ b. IsEntry (g.S.Sides.trees c.args.sides.now) b c.is_directory-is_directory.result c.args.path vs) new (entry vs is)))
+    c.entered.ensures
+  where
+    new : c.if-is_anew.comes ≡ comes (g.S.Sides.trees c.args.sides.now) c.args.is_anew c.args.path
+    new = elim c.if-is_anew.branch [
+      | then-is_anew w ↦ w.comes-is ∙ (w.if-is_anew.true ∙ sym (ap (λ b. b || (not (is_some ((g.S.Sides.trees c.args.sides.now).old c.args.path)) || goes ((g.S.Sides.trees c.args.sides.now).old c.args.path) ((g.S.Sides.trees c.args.sides.now).new c.args.path))) w.if-is_anew.true))
+      | else-is_anew w ↦ w.comes-is ∙ (w.is_added-comes.ensures ((g.S.Sides.trees c.args.sides.now).old c.args.path) ((g.S.Sides.trees c.args.sides.now).new c.args.path) c.in_ok-kinds.ensures.old c.in_ok-kinds.ensures.new ∙ sym (ap (λ b. b || (not (is_some ((g.S.Sides.trees c.args.sides.now).old c.args.path)) || goes ((g.S.Sides.trees c.args.sides.now).old c.args.path) ((g.S.Sides.trees c.args.sides.now).new c.args.path))) w.if-is_anew.false))
+    ]
+
+    reason : comes (g.S.Sides.trees c.args.sides.now) c.args.is_anew c.args.path ≡ false → Reason (g.S.Sides.trees c.args.sides.now) c.args.path
+    reason kept = elim c.else-not-comes.branch [
+      | else-not-comes-via-then-not-comes+in_ok-has_news+else-not-branch w ↦ w.in_ok-has_news.ensures.named w.if-not-branch.false
+      | else-not-comes-via-else-not-comes w ↦ absurd (false≢true (sym kept ∙ sym new ∙ w.if-not-comes.false))
+    ]

@@ -1,0 +1,18 @@
+use Rattle.std.proofs.Common.{◌∷◌, sym, ◌∙◌, ap, subst}
+use Rattle.reporter.proofs.Leaving.{Goes_on, entered_left, single_left}
+use Rattle.reporter.specs.Left.{IsLeft}
+use Rattle.reporter.proofs.visitor.Visitor.next.Goals as goal
+
+pub returns-in_ok-push_front-in-Single-clause-next : goal.returns-in_ok-push_front-in-Single-clause-next
+returns-in_ok-push_front-in-Single-clause-next g c = λ vs left.
+    subst (λ ds. IsLeft (g.S.Sides.trees c.args.sides.now) ds (c.in-Single.visit ∷ vs)) (sym c.in-Some.ensures.items)
+    (single_left (g.S.Sides.trees c.args.sides.now) c.in-Some.here c.next_found.new.here c.pop_front.new.self.items c.in-Single.visit vs
+    (subst (λ found. Goes_on (g.S.Sides.trees c.args.sides.now) found c.in-Some.here c.next_found.new.here) c.in-Single.is c.in_ok-next_found.ensures.next)
+    (subst (λ ds. IsLeft (g.S.Sides.trees c.args.sides.now) ds vs) c.in_ok-push_front-in-Single.ensures.items left))
+
+pub returns-in_ok-push_front-in-Entered-2-clause-next : goal.returns-in_ok-push_front-in-Entered-2-clause-next
+returns-in_ok-push_front-in-Entered-2-clause-next g c = λ vs left.
+    subst (λ ds. IsLeft (g.S.Sides.trees c.args.sides.now) ds (c.in-Entered.visit ∷ vs)) (sym c.in-Some.ensures.items)
+    (entered_left (g.S.Sides.trees c.args.sides.now) c.in-Some.here c.next_found.new.here c.in-Entered.below c.pop_front.new.self.items c.in-Entered.visit vs
+    (subst (λ found. Goes_on (g.S.Sides.trees c.args.sides.now) found c.in-Some.here c.next_found.new.here) c.in-Entered.is c.in_ok-next_found.ensures.next)
+    (subst (λ ds. IsLeft (g.S.Sides.trees c.args.sides.now) ds vs) (c.in_ok-push_front-in-Entered-2.ensures.items ∙ ap (λ ds. c.in-Entered.below ∷ ds) c.in_ok-push_front-in-Entered.ensures.items) left))

@@ -1,0 +1,73 @@
+-- What is left to be visited.
+use Rattle.std.specs.Prelude.{◌≡◌, Bool, true, false, ◌||◌, List, [], ◌∷◌, ◌++◌}
+use Rattle.svnpath.specs.Paths.{PathValue}
+use Rattle.drives.specs.Places.{is_in_directory}
+use Rattle.drives.specs.Scopes.{under, below}
+use Rattle.reporter.specs.Nesting.{AreNested, entry_visit, entry_visits}
+use Rattle.reporter.specs.Visits.{IsRightPlan}
+use Rattle.reporter.specs.Walks.{WalkedTrees, BothHold, goes, old_side}
+use Rattle.reporter.specs.declared.unvisited.Found.{Found}
+use Rattle.reporter.specs.declared.unvisited.Found.TheVariants.{Nothing, Single, Entered}
+use Rattle.reporter.specs.declared.unvisited.Unvisited.{Unvisited}
+use Rattle.reporter.specs.declared.visit.Visit.{Visit}
+use Rattle.reporter.specs.declared.visit.Visit.TheVariants.{Close}
+
+-- ---- plans
+
+-- These visits, at the path and under it, are a right drive from what is left of the old side, where
+-- what goes there was taken out before, and have their places. The old side is nothing where the
+-- entry or its directory comes anew.
+pub record IsPlanOf (t : WalkedTrees) (anew : Bool) (p : PathValue) (vs : List Visit) : Type 0 where
+  pub right : BothHold t.old t.new p
+      → IsRightPlan t.seen (under p) t.stale (old_side (anew || goes (t.old p) (t.new p)) t.old)
+      t.new t.own vs
+  pub nests : (top d : PathValue) → is_in_directory top d p ≡ true → AreNested t.new top d vs
+
+-- so are these, below the path
+pub record IsPlanBelow (t : WalkedTrees) (anew : Bool) (p : PathValue) (vs : List Visit)
+    : Type 0 where
+  pub right : BothHold t.old t.new p
+      → IsRightPlan t.seen (below p) t.stale (old_side anew t.old) t.new t.own vs
+  pub nests : (top : PathValue) → AreNested t.new top p vs
+
+-- an entry is entered, and then come the visits below it, which are none below a file
+pub record IsEntry (t : WalkedTrees) (anew directory : Bool) (p : PathValue) (vs : List Visit)
+    : Type 0 where
+  pub rest : List Visit
+  pub is : vs ≡ entry_visits directory (entry_visit anew p) rest
+  pub file : directory ≡ false → rest ≡ []
+  pub plan : IsPlanBelow t anew p rest
+
+-- visits of each of the paths, one after the other
+abbrev pub ArePlansOf : WalkedTrees → Bool → List PathValue → List Visit → Type 0
+ArePlansOf t anew [] vs = vs ≡ []
+ArePlansOf t anew (p ∷ ps) vs =
+    (now : List Visit) × (later : List Visit) × (vs ≡ now ++ later) × IsPlanOf t anew p now
+    × ArePlansOf t anew ps later
+
+-- ---- what is left
+
+-- these may be the visits of what is left in a directory
+abbrev pub IsLeftIn : WalkedTrees → Unvisited → List Visit → Type 0
+IsLeftIn t d vs =
+    (later : List Visit) × (vs ≡ d.deletes.items ++ later)
+    × ArePlansOf t d.is_anew d.entries.items later
+
+-- the visits behind those of a directory, which is closed, unless no other is open around it
+abbrev pub behind : List Unvisited → List Visit → List Visit
+behind [] vs = vs
+behind (d ∷ ds) vs = Close ∷ vs
+
+-- these may be the visits of what is left in the directories that are open, the innermost first
+abbrev pub IsLeft : WalkedTrees → List Unvisited → List Visit → Type 0
+IsLeft t [] vs = vs ≡ []
+IsLeft t (d ∷ ds) vs =
+    (now : List Visit) × (later : List Visit) × (vs ≡ now ++ behind ds later) × IsLeftIn t d now
+    × IsLeft t ds later
+
+-- these may be the visits of what was found next, with those below it
+abbrev pub IsFound : WalkedTrees → Found → List Visit → Type 0
+IsFound t Nothing vs = vs ≡ []
+IsFound t (Single v) vs = vs ≡ v ∷ []
+IsFound t (Entered v d) vs =
+    (rest : List Visit) × (vs ≡ v ∷ (rest ++ Close ∷ [])) × IsLeftIn t d rest

@@ -1,0 +1,180 @@
+//! The visits of one directory, made one after another.
+ghost use Rattle.std.specs.Prelude.{◌≡◌, ◌∷◌, ◌++◌, [], false, IfOk, is_some, List, true};
+ghost use Rattle.repo_api.specs.Trees.{is_directory_there};
+ghost use Rattle.reporter.specs.Left.{IsEntry, IsFound, IsLeftIn, IsPlanBelow, IsPlanOf};
+ghost use Rattle.reporter.specs.Nesting.{entry_visit};
+ghost use Rattle.reporter.specs.Walks.{deletes_of, goes};
+ghost use Rattle.reporter.specs.declared.unvisited.Found.TheVariants.{Nothing};
+ghost use Rattle.reporter.specs.declared.visit.Visit.{Visit};
+
+use crate::kinds::{goes, is_added, is_directory, is_there};
+use crate::searching::has_news;
+use crate::sides::Sides;
+use crate::unvisited::{Found, Unvisited};
+use crate::visit::Visit;
+use std::alloc::{AllocError, Global};
+use std::collections::VecDeque;
+use svnpath::Path;
+
+/// The visits of what goes among these paths.
+fn deletes_of<S: Sides>(
+    alloc: Global,
+    sides: &S,
+    paths: &[Path],
+    is_anew: bool,
+) -> Result<Vec<Visit>, AllocError>
+    ensures { IfOk result (λ v. v.items
+        ≡ deletes_of is_anew (S.trees sides.now).old (S.trees sides.now).new paths.now) }
+{
+    let mut visits = Vec::new(alloc);
+    if is_anew {
+        return Ok(visits);
+    }
+    for path in paths {
+        if goes(sides.kinds(alloc, path)?) {
+            visits.push(Visit::Delete(path.clone()?))?;
+        }
+    }
+    Ok(visits)
+}
+
+/// What is to be visited of these paths: what goes, and then each entry.
+fn unvisited_among<S: Sides>(
+    alloc: Global,
+    sides: &S,
+    paths: Vec<Path>,
+    is_anew: bool,
+) -> Result<Unvisited, AllocError>
+    ensures deletes { IfOk result (λ here. here.deletes.items
+        ≡ deletes_of is_anew (S.trees sides.now).old (S.trees sides.now).new paths.items) }
+    ensures entries { IfOk result (λ here. here.entries.items ≡ paths.items) }
+    ensures is_anew { IfOk result (λ here. here.is_anew ≡ is_anew) }
+{
+    let deletes = deletes_of(alloc, sides, &paths, is_anew)?;
+    Ok(Unvisited {
+        deletes: VecDeque::from_vec(deletes),
+        entries: VecDeque::from_vec(paths),
+        is_anew,
+    })
+}
+
+/// What is to be visited of the top of a drive alone.
+pub(crate) fn unvisited_top<S: Sides>(
+    alloc: Global,
+    sides: &S,
+    top: &Path,
+) -> Result<Unvisited, AllocError>
+    ensures deletes { IfOk result (λ here. here.deletes.items
+        ≡ deletes_of false (S.trees sides.now).old (S.trees sides.now).new (top.now ∷ [])) }
+    ensures entries { IfOk result (λ here. here.entries.items ≡ top.now ∷ []) }
+    ensures is_anew { IfOk result (λ here. here.is_anew ≡ false) }
+{
+    let mut paths = Vec::new(alloc);
+    paths.push(top.clone()?)?;
+    unvisited_among(alloc, sides, paths, false)
+}
+
+/// What is to be visited below a directory: what goes, and then each entry.
+pub(crate) fn unvisited_below<S: Sides>(
+    alloc: Global,
+    sides: &S,
+    path: &Path,
+    is_anew: bool,
+) -> Result<Unvisited, AllocError>
+    ensures { IfOk result (λ below. (vs : List Visit) → IsLeftIn (S.trees sides.now) below vs
+        → IsPlanBelow (S.trees sides.now) is_anew path.now vs) }
+{
+    let children = sides.children(alloc, path)?;
+    unvisited_among(alloc, sides, children, is_anew)
+}
+
+/// The visit that enters an entry: it is opened, or comes anew.
+fn entry_visit(path: Path, is_anew: bool) -> Visit
+    ensures { result ≡ entry_visit is_anew path }
+{
+    if is_anew {
+        Visit::Add(path)
+    } else {
+        Visit::Open(path)
+    }
+}
+
+/// The visit that enters an entry, and what is to be visited below it.
+fn entered<S: Sides>(
+    alloc: Global,
+    sides: &S,
+    path: Path,
+    is_anew: bool,
+    is_directory: bool,
+) -> Result<Found, AllocError>
+    requires stands { is_some ((S.trees sides.now).new path) ≡ true }
+    requires kind { is_directory ≡ is_directory_there ((S.trees sides.now).new path) }
+    requires stays { is_anew ≡ false
+        → goes ((S.trees sides.now).old path) ((S.trees sides.now).new path) ≡ false }
+    ensures { IfOk result (λ found. (vs : List Visit) → IsFound (S.trees sides.now) found vs
+        → IsEntry (S.trees sides.now) is_anew is_directory path vs) }
+{
+    if !is_directory {
+        return Ok(Found::Single(entry_visit(path, is_anew)));
+    }
+    let below = unvisited_below(alloc, sides, &path, is_anew)?;
+    Ok(Found::Entered(entry_visit(path, is_anew), below))
+}
+
+/// What is to be visited at a path and under it.
+fn found_at<S: Sides>(
+    alloc: Global,
+    sides: &S,
+    path: Path,
+    is_anew: bool,
+) -> Result<Found, AllocError>
+    ensures { IfOk result (λ found. (vs : List Visit) → IsFound (S.trees sides.now) found vs
+        → IsPlanOf (S.trees sides.now) is_anew path vs) }
+{
+    let kinds = sides.kinds(alloc, &path)?;
+    if !is_there(kinds.new) {
+        return Ok(Found::Nothing);
+    }
+    let comes = is_anew || is_added(kinds);
+    let is_directory = is_directory(kinds.new);
+    if !comes && !has_news(alloc, sides, &path, is_directory)? {
+        return Ok(Found::Nothing);
+    }
+    entered(alloc, sides, path, comes, is_directory)
+}
+
+/// What is visited next in a directory.
+pub(crate) fn next_found<S: Sides>(
+    alloc: Global,
+    sides: &S,
+    here: &mut Unvisited,
+) -> Result<Found, AllocError>
+    ensures next { IfOk result (λ found. (vs more : List Visit) → IsFound (S.trees sides.now) found vs
+        → IsLeftIn (S.trees sides.now) here.new more
+        → IsLeftIn (S.trees sides.now) here.old (vs ++ more)) }
+    ensures end { IfOk result (λ found. found ≡ Nothing
+        → IsLeftIn (S.trees sides.now) here.old []) }
+{
+    if let Some(visit) = here.deletes.pop_front() {
+        return Ok(Found::Single(visit));
+    }
+    next_entry(alloc, sides, here)
+}
+
+/// What is visited next of the entries of a directory, where nothing is left that goes.
+fn next_entry<S: Sides>(alloc: Global, sides: &S, here: &mut Unvisited) -> Result<Found, AllocError>
+    requires { here.old.deletes.items ≡ [] }
+    ensures next { IfOk result (λ found. (vs more : List Visit) → IsFound (S.trees sides.now) found vs
+        → IsLeftIn (S.trees sides.now) here.new more
+        → IsLeftIn (S.trees sides.now) here.old (vs ++ more)) }
+    ensures end { IfOk result (λ found. found ≡ Nothing
+        → IsLeftIn (S.trees sides.now) here.old []) }
+{
+    while let Some(path) = here.entries.pop_front() {
+        let found = found_at(alloc, sides, path, here.is_anew)?;
+        if !found.is_nothing() {
+            return Ok(found);
+        }
+    }
+    Ok(Found::Nothing)
+}

@@ -1,0 +1,39 @@
+//! What is not visited yet.
+ghost use Rattle.std.specs.Prelude.{◌≡◌, Decides};
+
+use crate::visit::Visit;
+use std::collections::VecDeque;
+use svnpath::Path;
+
+/// What is not visited yet in a directory: what goes, and then the entries that stand in it on
+/// either side. Where the directory comes anew, so does each entry.
+#[derive(Drop)]
+pub struct Unvisited {
+    pub(crate) deletes: VecDeque<Visit>,
+    pub(crate) entries: VecDeque<Path>,
+    pub(crate) is_anew: bool,
+}
+
+/// What is visited next: nothing more, a visit, or one that enters a directory, with what is not
+/// visited below it.
+#[derive(Drop)]
+pub(crate) enum Found {
+    Nothing,
+    Single(Visit),
+    Entered(Visit, Unvisited),
+}
+
+impl Found {
+    ghost use Rattle.reporter.specs.declared.unvisited.Found.TheVariants.{Nothing};
+
+    /// Whether nothing more was found.
+    pub(crate) fn is_nothing(&self) -> bool
+        ensures { Decides result (self.now ≡ Nothing) }
+    {
+        match self {
+            Found::Nothing => true,
+            Found::Single(_) => false,
+            Found::Entered(_, _) => false,
+        }
+    }
+}

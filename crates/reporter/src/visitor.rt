@@ -1,0 +1,113 @@
+//! The visits of a drive, made as they are asked for.
+use crate::making::{next_found, unvisited_below, unvisited_top};
+use crate::sides::Sides;
+use crate::unvisited::{Found, Unvisited};
+use crate::visit::Visit;
+use std::alloc::{AllocError, Global};
+use std::collections::VecDeque;
+use svnpath::Path;
+
+/// The visits of a drive, made as they are asked for: it keeps the directories that are open, the
+/// innermost first, each with what is not visited in it. So it takes no more memory than these
+/// directories have entries, however many paths the drive names.
+#[derive(Drop)]
+pub struct Visitor {
+    open: VecDeque<Unvisited>,
+}
+
+impl Visitor {
+    ghost use Rattle.std.specs.Prelude.{◌≡◌, ◌∷◌, [], true, IfOk, IfSome, List, None};
+    ghost use Rattle.svnpath.specs.Paths.{PathValue};
+    ghost use Rattle.repo_api.specs.Trees.{HasDirectory};
+    ghost use Rattle.drives.specs.Places.{is_in_directory};
+    ghost use Rattle.drives.specs.Scopes.{under};
+    ghost use Rattle.reporter.specs.Left.{behind};
+    ghost use Rattle.reporter.specs.Nesting.{AreNested};
+    ghost use Rattle.reporter.specs.Visiting.{MayVisit};
+    ghost use Rattle.reporter.specs.Visits.{IsRightPlan};
+    ghost use Rattle.reporter.specs.Walks.{BothHold};
+    ghost use Rattle.reporter.specs.declared.visit.Visit.{Visit};
+    ghost use Rattle.reporter.specs.declared.visit.Visit.TheVariants.{Open};
+
+    /// The visits of a drive of the whole tree: what it does below the root, which is opened
+    /// before.
+    pub fn of_root<S: Sides>(alloc: Global, sides: &S) -> Result<Self, AllocError>
+        requires old { HasDirectory (S.trees sides.now).old [] }
+        requires new { HasDirectory (S.trees sides.now).new [] }
+        ensures right { IfOk result (λ v. (vs : List Visit) → MayVisit (S.trees sides.now) v vs
+            → BothHold (S.trees sides.now).old (S.trees sides.now).new []
+            → IsRightPlan (S.trees sides.now).seen (under []) (S.trees sides.now).stale
+            (S.trees sides.now).old (S.trees sides.now).new (S.trees sides.now).own
+            (Open [] ∷ vs)) }
+        ensures nests { IfOk result (λ v. (vs : List Visit) → MayVisit (S.trees sides.now) v vs
+            → AreNested (S.trees sides.now).new [] [] vs) }
+    {
+        let below = unvisited_below(alloc, sides, &Path::root(alloc), false)?;
+        Visitor::of(alloc, below)
+    }
+
+    /// The visits of a drive from its top on.
+    pub fn of_top<S: Sides>(alloc: Global, sides: &S, top: &Path) -> Result<Self, AllocError>
+        ensures right { IfOk result (λ v. (vs : List Visit) → MayVisit (S.trees sides.now) v vs
+            → BothHold (S.trees sides.now).old (S.trees sides.now).new top.now
+            → IsRightPlan (S.trees sides.now).seen (under top.now) (S.trees sides.now).stale
+            (S.trees sides.now).old (S.trees sides.now).new (S.trees sides.now).own vs) }
+        ensures nests { IfOk result (λ v. (vs : List Visit) → MayVisit (S.trees sides.now) v vs
+            → (d : PathValue) → is_in_directory top.now d top.now ≡ true
+            → AreNested (S.trees sides.now).new top.now d vs) }
+    {
+        let here = unvisited_top(alloc, sides, top)?;
+        Visitor::of(alloc, here)
+    }
+
+    /// The visits of one directory.
+    fn of(alloc: Global, here: Unvisited) -> Result<Self, AllocError>
+        ensures { IfOk result (λ v. v.open.items ≡ here ∷ []) }
+    {
+        let mut open = VecDeque::new(alloc);
+        open.push_front(here)?;
+        Ok(Visitor { open })
+    }
+
+    /// The next visit. After the last there is none, and after an error none is to be asked for.
+    ///
+    /// # Errors
+    ///
+    /// `AllocError` for want of memory.
+    pub fn next<S: Sides>(&mut self, alloc: Global, sides: &S) -> Result<Option<Visit>, AllocError>
+        ensures next { IfOk result (λ found. IfSome found (λ visit. (vs : List Visit)
+            → MayVisit (S.trees sides.now) self.new vs
+            → MayVisit (S.trees sides.now) self.old (visit ∷ vs))) }
+        ensures end { IfOk result (λ found. found ≡ None
+            → MayVisit (S.trees sides.now) self.old []) }
+    {
+        let Some(mut here) = self.open.pop_front() else {
+            return Ok(None);
+        };
+        match next_found(alloc, sides, &mut here)? {
+            Found::Nothing => Ok(self.closed()),
+            Found::Single(visit) => {
+                self.open.push_front(here)?;
+                Ok(Some(visit))
+            }
+            Found::Entered(visit, below) => {
+                self.open.push_front(here)?;
+                self.open.push_front(below)?;
+                Ok(Some(visit))
+            }
+        }
+    }
+
+    /// The visit that closes a directory, unless it was the last.
+    fn closed(&self) -> Option<Visit>
+        ensures some { IfSome result (λ visit. (vs : List Visit)
+            → behind self.now.open.items vs ≡ visit ∷ vs) }
+        ensures none { result ≡ None → self.now.open.items ≡ [] }
+    {
+        if self.open.is_empty() {
+            None
+        } else {
+            Some(Visit::Close)
+        }
+    }
+}
