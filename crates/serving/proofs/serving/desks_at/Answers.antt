@@ -1,0 +1,17 @@
+use Rattle.std.proofs.Common.{rules, subst, sym}
+use Rattle.std.specs.Prelude.{All}
+use Rattle.std.proofs.lemmas.List.Elements.{All-push, All-rest}
+use Rattle.access.specs.Points.{content_of}
+use Rattle.repo_api.specs.Soundness.{AreSound}
+use Rattle.serving.proofs.serving.desks_at.Goals as goal
+
+pub loop-seat-preserved : goal.loop-seat-preserved
+loop-seat-preserved g c = (
+  tt,
+  tt,
+  All-rest (λ s. AreSound (content_of s).revisions) c.in-Some.seat _ _ (search rules) c.loop-seat.invariant.2,
+  subst
+      (All (λ d. AreSound (content_of d.0.seat).revisions))
+      (sym c.in_ok-push.ensures.items)
+      (All-push (λ d. AreSound (content_of d.0.seat).revisions) _ _ c.loop-seat.invariant.3 c.in_ok-desk_of.ensures),
+)

@@ -1,0 +1,12 @@
+use Rattle.std.specs.Prelude.{All}
+use Rattle.std.specs.Vec.Iter.{into_iter_items}
+use Rattle.access.specs.Points.{content_of}
+use Rattle.repo_api.specs.Soundness.{AreSound}
+use Rattle.serving.proofs.serving.desks_at.Given as goal
+
+abbrev pub invariant-loop-seat : goal.invariant-loop-seat
+invariant-loop-seat g l =
+    (goal.iterator-loop-seat g).can_next l.seat-iterator
+    × (goal.iterator-loop-seat g).is_finite l.seat-iterator
+    × All (λ s. AreSound (content_of s).revisions) (into_iter_items l.seat-iterator)
+    × All (λ d. AreSound (content_of d.0.seat).revisions) l.desks.items

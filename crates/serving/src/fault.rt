@@ -1,0 +1,60 @@
+//! Why no sessions are served, or none any more.
+
+use cram::CramFault;
+use std::alloc::{AllocError, AllocFailed};
+use std::io;
+use thiserror::Error;
+
+/// Why no sessions are served, or none any more.
+#[derive(Debug, Drop, Error)]
+pub enum ServingFault {
+    /// No repository may have the name.
+    #[error("a name is 1 to 64 of A-Z, a-z, 0-9, `-`, `_` and `.`, and not `.` or `..`")]
+    Name,
+    /// The address to listen at isn't a dotted IPv4 address, `:` and a port.
+    #[error("an address is a dotted IPv4 address, `:` and a port")]
+    Address,
+    /// The first line of the file of users that breaks its form, counted from 1.
+    #[error("M4 line {0}")]
+    Users(usize),
+    /// The file of users, the address, a thread or a standard stream failed, or the system gives no random bytes.
+    #[error("io")]
+    Io,
+    /// Memory was refused.
+    #[error("no memory")]
+    NoMemory,
+}
+
+impl ServingFault {
+    /// Whether what was asked for is faulty, and not what was found.
+    pub fn is_of_command_line(&self) -> bool {
+        matches!(self, ServingFault::Name | ServingFault::Address)
+    }
+}
+
+impl From<io::Error> for ServingFault {
+    fn from(_fault: io::Error) -> Self {
+        ServingFault::Io
+    }
+}
+
+impl From<CramFault> for ServingFault {
+    fn from(fault: CramFault) -> Self {
+        match fault {
+            CramFault::BadUsers(line) => ServingFault::Users(line),
+            _ => ServingFault::NoMemory,
+        }
+    }
+}
+
+impl From<AllocError> for ServingFault {
+    fn from(_fault: AllocError) -> Self {
+        ServingFault::NoMemory
+    }
+}
+
+impl<T: Drop> From<AllocFailed<T>> for ServingFault {
+    fn from(_fault: AllocFailed<T>) -> Self {
+        ServingFault::NoMemory
+    }
+}

@@ -1,0 +1,110 @@
+//! What an administrator is told on standard error, one line for each event, with its moment.
+ghost use Rattle.std.specs.Prelude.{◌≤◌};
+
+use crate::envs::moment_now;
+use conversations::Watch;
+use dates::date_text;
+use std::alloc::{AllocError, Global};
+use std::io::Eprint;
+use std::net::SocketAddr;
+use std::sync::atomic::{AtomicBool, Ordering};
+use std::time::Clock;
+
+/// What is told, beside what a session tells.
+#[derive(Clone, Copy, Debug)]
+pub(crate) enum Event {
+    /// The session of this number begins, for a client at this address.
+    Begins(u64, SocketAddr),
+    Ends(u64),
+    /// As many sessions are open as may be, and this client is turned away.
+    Full(SocketAddr),
+    /// A client is turned away because changes have come to a halt.
+    TurnedAway(SocketAddr),
+    /// A replacement of a file has failed, and changes have come to a halt.
+    StoreFailed,
+    /// The file of users can be read by others than its owner and its group.
+    UsersReadable,
+}
+
+/// Tells events on standard error, unless it is to be quiet.
+#[derive(Drop)]
+pub struct Journal<'a, R> {
+    rt: &'a R,
+    alloc: Global,
+    is_quiet: bool,
+    told_of_halt: AtomicBool,
+}
+
+impl<'a, R: Eprint + Clock> Journal<'a, R> {
+    /// A journal that has told nothing.
+    pub(crate) fn new(rt: &'a R, alloc: Global, is_quiet: bool) -> Self {
+        Journal {
+            rt,
+            alloc,
+            is_quiet,
+            told_of_halt: AtomicBool::new(false),
+        }
+    }
+
+    /// Writes a line with its moment in front. What standard error does not take, and what memory is refused for, is
+    /// lost.
+    fn write(&self, text: Result<String, AllocError>) {
+        let Ok(text) = text else {
+            return;
+        };
+        let Ok(moment) = date_text(self.alloc, moment_now(self.rt)) else {
+            return;
+        };
+        // a line is written at once, so that those of several threads are not mixed
+        if let Ok(line) = format!(in self.alloc; "{moment} {text}\n") {
+            let _ = eprint!(self.rt; "{line}");
+        }
+    }
+
+    /// Tells an event.
+    pub(crate) fn tell(&self, event: Event) {
+        if self.is_quiet {
+            return;
+        }
+        self.write(match event {
+            Event::Begins(number, peer) => {
+                format!(in self.alloc; "session {number} begins, of {peer}")
+            }
+            Event::Ends(number) => format!(in self.alloc; "session {number} ends"),
+            Event::Full(peer) => {
+                format!(in self.alloc; "{peer} is turned away: all sessions are taken")
+            }
+            Event::TurnedAway(peer) => {
+                format!(in self.alloc; "{peer} is turned away: the store has failed")
+            }
+            Event::StoreFailed => {
+                format!(in self.alloc; "the store has failed: no more changes are made")
+            }
+            Event::UsersReadable => {
+                format!(in self.alloc; "warning: others can read the file of users")
+            }
+        });
+    }
+}
+
+impl<'a, R: Eprint + Clock> Watch for Journal<'a, R> {
+    fn logged_in(&self, session: u64, user: &[u8]) {
+        if !self.is_quiet {
+            let user = user.escape_ascii();
+            self.write(format!(in self.alloc; "session {session} logs in as {user}"));
+        }
+    }
+
+    fn refused(&self, session: u64, logins: u64) {
+        if !self.is_quiet {
+            self.write(format!(in self.alloc; "session {session} has logins refused: {logins}"));
+        }
+    }
+
+    fn ended(&self, session: u64, is_halted: bool) {
+        self.tell(Event::Ends(session));
+        if is_halted && !self.told_of_halt.swap(true, Ordering::SeqCst) {
+            self.tell(Event::StoreFailed);
+        }
+    }
+}

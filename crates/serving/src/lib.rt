@@ -1,0 +1,18 @@
+//! Sessions over TCP: a thread for each, at one repository that they share.
+#![tactic(auto)]
+
+mod accepting;
+mod envs;
+mod fault;
+mod journal;
+mod serving;
+mod settings;
+
+pub use accepting::{Client, Halts};
+pub use envs::{SystemEnvs, moment_now};
+pub use fault::ServingFault;
+pub use journal::Journal;
+pub use serving::{
+    Desk, Desks, OwnSeat, Server, Serves, Shared, desks_of, serve, serve_connections,
+};
+pub use settings::{Settings, read_settings};
