@@ -6,17 +6,13 @@ ghost use Rattle.replies.specs.declared.reply.Reply.TheVariants.{Failure};
 use crate::journal::{Event, Journal};
 use conversations::OpenGate;
 use crossbeam_channel::Sender;
-use left_right::Absorb;
-use published::{Carries, Naming, Published, Sets};
 use refusals::Refusal;
 use replies::MemorySink;
-use repo_api::Repository;
 use session_pool::{Admission, Caller, SessionPool};
-use sharedrepo::{Archive, Locked};
 use std::alloc::{AllocError, Global};
 use std::io::{Eprint, Read, Write};
 use std::net::{Shutdown, SocketAddr, TcpListener, TcpStream};
-use std::sync::{Arc, Wait};
+use std::sync::Wait;
 use std::time::{Clock, Duration};
 use std::{io, thread};
 use telling::tell_refusal;
@@ -74,18 +70,6 @@ fn turn_away(alloc: Global, stream: &TcpStream, refusal: Refusal) -> Result<(), 
 pub trait Halts {
     /// Whether changes are known to have come to a halt. It waits for nobody.
     fn takes_no_changes(&self) -> bool;
-}
-
-impl<
-    R: Repository,
-    S: Archive<R>,
-    J: Naming,
-    T: Absorb<O> + Carries<Published<R, J>> + Drop,
-    O: Sets<Published<R, J>> + Drop,
-> Halts for Arc<Locked<R, S, J, T, O>> {
-    fn takes_no_changes(&self) -> bool {
-        self.as_ref().has_halted()
-    }
 }
 
 /// Where so many connections come in, with who is told of them, and what may come to a halt.

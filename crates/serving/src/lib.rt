@@ -2,6 +2,7 @@
 #![tactic(auto)]
 
 mod accepting;
+mod desks;
 mod envs;
 mod fault;
 mod journal;
@@ -9,10 +10,9 @@ mod serving;
 mod settings;
 
 pub use accepting::{Client, Halts};
+pub use desks::{Desk, Desks, Serves, Shared, SharedFiles, desks_of};
 pub use envs::{SystemEnvs, moment_now};
 pub use fault::ServingFault;
 pub use journal::Journal;
-pub use serving::{
-    Desk, Desks, OwnSeat, Server, Serves, Shared, desks_of, serve, serve_connections,
-};
+pub use serving::{Server, serve, serve_connections};
 pub use settings::{Settings, read_settings};

@@ -3,7 +3,7 @@ use Rattle.std.specs.Prelude.{All}
 use Rattle.std.proofs.lemmas.List.Elements.{All-push, All-rest}
 use Rattle.access.specs.Points.{content_of}
 use Rattle.repo_api.specs.Soundness.{AreSound}
-use Rattle.serving.proofs.serving.desks_at.Goals as goal
+use Rattle.serving.proofs.desks.desks_at.Goals as goal
 
 pub loop-seat-preserved : goal.loop-seat-preserved
 loop-seat-preserved g c = (

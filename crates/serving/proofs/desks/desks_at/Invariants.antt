@@ -2,7 +2,7 @@ use Rattle.std.specs.Prelude.{All}
 use Rattle.std.specs.Vec.Iter.{into_iter_items}
 use Rattle.access.specs.Points.{content_of}
 use Rattle.repo_api.specs.Soundness.{AreSound}
-use Rattle.serving.proofs.serving.desks_at.Given as goal
+use Rattle.serving.proofs.desks.desks_at.Given as goal
 
 abbrev pub invariant-loop-seat : goal.invariant-loop-seat
 invariant-loop-seat g l =

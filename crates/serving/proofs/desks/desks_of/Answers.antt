@@ -1,4 +1,4 @@
-use Rattle.serving.proofs.serving.desks_of.Goals as goal
+use Rattle.serving.proofs.desks.desks_of.Goals as goal
 
 pub desks_at-requires : goal.desks_at-requires
 desks_at-requires g c = c.requires
