@@ -1,0 +1,143 @@
+//! Each look has what the other seat has changed.
+ghost use Rattle.std.specs.Prelude.{◌≡◌, IfOk};
+ghost use Rattle.access.specs.Points.{content_of};
+ghost use Rattle.repo_api.specs.Soundness.{AreSound};
+ghost use Rattle.repo_api.specs.States.{IsBeginning, tree_of};
+ghost use Rattle.repo_api.specs.Transactions.{IsMarkedTxn};
+ghost use Rattle.repo_api.specs.Trees.{IsTree};
+
+use crate::seats::{Access, Sound, new_files, opened, two_seats};
+use access::RepoAccess;
+use byte_string::ByteString;
+use file_store::{MemoryStore, Store};
+use filed_world::FiledWorld;
+use published::{Naming, NewHistory};
+use repo_api::{ChangeFault, CommitAsk, LockTokens, NodeKind, Repository};
+use std::alloc::{AllocError, Global};
+use std::marker::Brand;
+use std::mem::{drop, swap};
+use std::sync::Wait;
+use std::test::Fail;
+use stored_repository::Filed;
+use svnpath::Path;
+
+/// How many commits the two seats make.
+const COMMITS: u64 = 100;
+
+/// A transaction that begins at the repository that is seen.
+fn begin<R: Repository>(alloc: Global, view: R) -> Result<R::Txn, AllocError>
+    requires { AreSound (R.content view).revisions }
+    ensures rests { IfOk result (λ txn. IsBeginning (R.txn_state txn).shown
+        (R.content view).revisions) }
+    ensures tree { IfOk result (λ txn. IsTree (tree_of (R.txn_state txn).tree)) }
+    ensures marked { IfOk result (λ txn. IsMarkedTxn (R.txn_state txn)) }
+{
+    repo_api::beginnings_are_trees();
+    repo_api::same_entries_make_a_tree();
+    repo_api::transactions_begin_marked();
+    match view.kind(view.youngest(), &Path::root(alloc)) {
+        NodeKind::Directory => view.begin(),
+        _ => Err(AllocError),
+    }
+}
+
+/// What an empty commit asks for.
+fn empty_ask(alloc: Global) -> Result<CommitAsk, AllocError> {
+    let date = ByteString::from_slice(alloc, b"1970-01-01T00:00:00.000000Z")?;
+    Ok(CommitAsk {
+        date,
+        author: None,
+        message: ByteString::new(Vec::new(alloc)),
+        properties: None,
+        tokens: LockTokens::new(alloc),
+        keep_locks: false,
+    })
+}
+
+/// Makes a transaction the next revision, and answers its number.
+fn commit_txn<A: RepoAccess>(
+    alloc: Global,
+    access: &mut A,
+    txn: <A::View as Repository>::Txn,
+) -> Result<u64, ChangeFault>
+    requires rests { IsBeginning (A.View.txn_state txn).shown
+        (content_of (A.point access.old)).revisions }
+    requires tree { IsTree (tree_of (A.View.txn_state txn).tree) }
+    requires marked { IsMarkedTxn (A.View.txn_state txn) }
+{
+    match empty_ask(alloc) {
+        Ok(ask) => Ok(access.commit(ask, txn)?.revision),
+        Err(error) => {
+            drop(txn);
+            Err(ChangeFault::from(error))
+        }
+    }
+}
+
+/// Makes an empty commit of what a look shows, and answers the number of its revision.
+fn commit_seen<A: RepoAccess<View = V>, V: Sound>(
+    alloc: Global,
+    access: &mut A,
+) -> Result<u64, ChangeFault> {
+    let view = access.look()?;
+    view.is_sound();
+    let txn = begin(alloc, view)?;
+    commit_txn(alloc, access, txn)
+}
+
+/// The youngest revision that a look has.
+fn youngest_seen<A: RepoAccess>(access: &mut A) -> Result<u64, AllocError> {
+    Ok(access.look()?.youngest())
+}
+
+/// Makes an empty commit at a seat, and answers the number of its revision.
+pub(crate) fn commit<F: Sound, S: Store, J: Naming, R: Wait>(
+    alloc: Global,
+    seat: &mut Access<'_, F, S, J, R>,
+) -> Result<u64, ChangeFault> {
+    commit_seen::<Access<'_, F, S, J, R>, F>(alloc, seat)
+}
+
+/// The youngest revision that a seat's look has.
+pub(crate) fn youngest<F: Filed, S: Store, J: Naming, R: Wait>(
+    seat: &mut Access<'_, F, S, J, R>,
+) -> Result<u64, AllocError> {
+    youngest_seen(seat)
+}
+
+/// Whether each commit is in the other seat's next look. The seats commit in turn.
+fn are_seen<'r, F: Sound, S: Store, J: Naming, R: Wait>(
+    alloc: Global,
+    seats: (Access<'r, F, S, J, R>, Access<'r, F, S, J, R>),
+) -> Result<bool, Fail> {
+    let (mut one, mut other) = seats;
+    for number in 1..=COMMITS {
+        if commit(alloc, &mut one) != Ok(number) || youngest(&mut other)? != number {
+            return Ok(false);
+        }
+        swap(&mut one, &mut other);
+    }
+    Ok(true)
+}
+
+/// The same over files in memory.
+fn are_seen_in_memory<J: Naming, R: Wait>(
+    rt: &R,
+    alloc: Global,
+    history: NewHistory,
+) -> Result<bool, Fail>
+    requires { history.seen.book ≡ J.book }
+{
+    let stored = opened(alloc, new_files(alloc)?)?;
+    are_seen(
+        alloc,
+        two_seats::<FiledWorld, MemoryStore, J, R>(rt, alloc, stored, history)?,
+    )
+}
+
+#[test]
+fn each_look_has_the_last_commit(rt: HostRuntime) -> Result<(), Fail> {
+    let seen = are_seen_in_memory::<Brand, HostRuntime>(&rt, rt.alloc(), NewHistory::new())?;
+    assert!(rt; seen);
+    Ok(())
+}

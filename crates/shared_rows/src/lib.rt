@@ -1,0 +1,9 @@
+//! Tests of a repository that threads share, over files in memory.
+#![tactic(auto)]
+
+#[cfg(test)]
+mod commits;
+#[cfg(test)]
+mod halts;
+#[cfg(test)]
+mod seats;

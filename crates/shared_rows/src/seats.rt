@@ -1,0 +1,89 @@
+//! A repository in files in memory that two seats share.
+ghost use Rattle.std.specs.Prelude.{◌≡◌, IfOk};
+ghost use Rattle.file_store.specs.Folders.{Folder, IsSame};
+ghost use Rattle.filed_world.specs.Files.{filed_content};
+ghost use Rattle.repo_api.specs.Soundness.{AreSound};
+
+use file_store::{MemoryStore, Store};
+use filed_archive::{FiledArchive, share};
+use filed_world::FiledWorld;
+use published::{Naming, NewHistory, Published, Setting, Shown};
+use sharedrepo::SeatAccess;
+use std::alloc::{AllocError, Global};
+use std::sync::{Arc, Wait};
+use std::test::Fail;
+use stored_repository::{Filed, StoredRepository};
+use world_folder::{FolderRepository, create, open, opened_trees_are_sound};
+
+/// A repository that is shared, as one seat reaches it.
+pub(crate) type Access<'r, F, S, J, R> = SeatAccess<
+    F,
+    FiledArchive<F, S>,
+    J,
+    Shown<Published<F, J>>,
+    Setting<Published<F, J>>,
+    &'r R,
+>;
+
+/// A repository whose trees are sound.
+pub(crate) trait Sound: Filed {
+    /// Says that they are.
+    fn is_sound(&self)
+        ensures { AreSound (Self.content self.now).revisions };
+}
+
+impl Sound for FiledWorld {
+    fn is_sound(&self) {
+        opened_trees_are_sound(self);
+    }
+}
+
+/// The files of a new repository.
+pub(crate) fn new_files(alloc: Global) -> Result<MemoryStore, Fail> {
+    let mut store = MemoryStore::new(alloc);
+    create(alloc, &mut store, 1, 0)?;
+    Ok(store)
+}
+
+/// The repository in these files.
+pub(crate) fn opened<S: Store>(alloc: Global, store: S) -> Result<FolderRepository<S>, Fail>
+    requires { S.is_honest store → (f : Folder) → S.may_leave store f → IsSame (S.holds store) f }
+    ensures { IfOk result (λ stored. AreSound (filed_content stored.repository).revisions) }
+{
+    match open(alloc, store) {
+        Ok(stored) => {
+            opened_trees_are_sound(stored.repository());
+            Ok(stored)
+        }
+        Err(unopened) => Err(Fail::from(unopened.fault)),
+    }
+}
+
+/// The repository as each of two seats reaches it.
+pub(crate) fn two_seats<'r, F: Filed, S: Store, J: Naming, R: Wait>(
+    rt: &'r R,
+    alloc: Global,
+    stored: StoredRepository<F, S>,
+    history: NewHistory,
+) -> Result<(Access<'r, F, S, J, R>, Access<'r, F, S, J, R>), Fail>
+    requires book { history.seen.book ≡ J.book }
+    requires sound { AreSound (F.content stored.repository).revisions }
+{
+    let (repository, mut seats) = share::<F, S, J>(alloc, stored, 2, history)?;
+    let repository = Arc::new(alloc, repository)?;
+    let again = Arc::try_clone(&repository)?;
+    let (Some(first), Some(second)) = (seats.pop(), seats.pop()) else {
+        return Err(AllocError)?;
+    };
+    let first = SeatAccess {
+        repository,
+        seat: first,
+        rt,
+    };
+    let second = SeatAccess {
+        repository: again,
+        seat: second,
+        rt,
+    };
+    Ok((first, second))
+}
