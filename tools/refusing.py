@@ -40,8 +40,9 @@ void _exit(int status) {
     leave(status);
 }
 static void stop(int number) {
+    (void)number;
     end();
-    leave(number - number);
+    leave(0);
 }
 __attribute__((constructor)) static void begin(void) {
     const char *n = getenv("REFUSED_ALLOCATION");
