@@ -6,7 +6,7 @@ ghost use Rattle.repo_api.specs.States.{IsBeginning, tree_of};
 ghost use Rattle.repo_api.specs.Transactions.{IsMarkedTxn};
 ghost use Rattle.repo_api.specs.Trees.{IsTree};
 
-use crate::seats::{Access, Sound, new_files, opened, two_seats};
+use crate::seats::{Access, SoundTrees, new_files, opened, two_seats};
 use access::RepoAccess;
 use byte_string::ByteString;
 use file_store::{MemoryStore, Store};
@@ -75,12 +75,12 @@ fn commit_txn<A: RepoAccess>(
 }
 
 /// Makes an empty commit of what a look shows, and answers the number of its revision.
-fn commit_seen<A: RepoAccess<View = V>, V: Sound>(
+fn commit_seen<A: RepoAccess<View = V>, V: SoundTrees>(
     alloc: Global,
     access: &mut A,
 ) -> Result<u64, ChangeFault> {
     let view = access.look()?;
-    view.is_sound();
+    view.trees_are_sound();
     let txn = begin(alloc, view)?;
     commit_txn(alloc, access, txn)
 }
@@ -91,7 +91,7 @@ fn youngest_seen<A: RepoAccess>(access: &mut A) -> Result<u64, AllocError> {
 }
 
 /// Makes an empty commit at a seat, and answers the number of its revision.
-pub(crate) fn commit<F: Sound, S: Store, J: Naming, R: Wait>(
+pub(crate) fn commit<F: SoundTrees, S: Store, J: Naming, R: Wait>(
     alloc: Global,
     seat: &mut Access<'_, F, S, J, R>,
 ) -> Result<u64, ChangeFault> {
@@ -106,7 +106,7 @@ pub(crate) fn youngest<F: Filed, S: Store, J: Naming, R: Wait>(
 }
 
 /// Whether each commit is in the other seat's next look. The seats commit in turn.
-fn are_seen<'r, F: Sound, S: Store, J: Naming, R: Wait>(
+fn are_seen<'r, F: SoundTrees, S: Store, J: Naming, R: Wait>(
     alloc: Global,
     seats: (Access<'r, F, S, J, R>, Access<'r, F, S, J, R>),
 ) -> Result<bool, Fail> {

@@ -2,7 +2,7 @@
 ghost use Rattle.std.specs.Prelude.{◌≡◌};
 
 use crate::commits::{commit, youngest};
-use crate::seats::{Access, Sound, new_files, opened, two_seats};
+use crate::seats::{Access, SoundTrees, new_files, opened, two_seats};
 use access::RepoAccess;
 use file_store::{FuseStore, Left, MemoryStore, Store};
 use filed_world::FiledWorld;
@@ -24,7 +24,7 @@ struct Outcome {
 }
 
 /// What two seats are told that commit one after another.
-fn commit_both<'r, F: Sound, S: Store, J: Naming, R: Wait>(
+fn commit_both<'r, F: SoundTrees, S: Store, J: Naming, R: Wait>(
     alloc: Global,
     seats: (Access<'r, F, S, J, R>, Access<'r, F, S, J, R>),
 ) -> Result<Outcome, Fail> {

@@ -26,14 +26,14 @@ pub(crate) type Access<'r, F, S, J, R> = SeatAccess<
 >;
 
 /// A repository whose trees are sound.
-pub(crate) trait Sound: Filed {
-    /// Says that they are.
-    fn is_sound(&self)
+pub(crate) trait SoundTrees: Filed {
+    /// Proves that they are; it does nothing else.
+    fn trees_are_sound(&self)
         ensures { AreSound (Self.content self.now).revisions };
 }
 
-impl Sound for FiledWorld {
-    fn is_sound(&self) {
+impl SoundTrees for FiledWorld {
+    fn trees_are_sound(&self) {
         opened_trees_are_sound(self);
     }
 }
