@@ -2,9 +2,9 @@
 use access::Handed;
 use byte_string::ByteString;
 use logbook::Plain;
+use noted::Noted;
 use repo_api::{CommitAsk, LockAsk, Repository, UnlockAsk};
 use std::marker::{Model, PhantomData};
-use std::snapshot::Snapshot;
 
 /// An event. No value of it is made.
 #[derive(Drop)]
@@ -42,12 +42,12 @@ impl<R: Repository> Plain<R, Happened, u64> for OpeningEvent {
 /// A change that is being made, with what was asked, as contracts see it.
 #[derive(Drop)]
 pub enum AskedChange<T: Drop> {
-    Commit(Snapshot<CommitAsk>, Snapshot<T>),
-    Lock(Snapshot<LockAsk>),
-    Unlock(Snapshot<UnlockAsk>),
-    Release(Snapshot<Handed>),
+    Commit(Noted<CommitAsk>, Noted<T>),
+    Lock(Noted<LockAsk>),
+    Unlock(Noted<UnlockAsk>),
+    Release(Noted<Handed>),
     /// A revision, the name of its property, and the new value, if there is one.
-    Property(u64, Snapshot<ByteString>, Snapshot<Option<ByteString>>),
+    Property(u64, Noted<ByteString>, Noted<Option<ByteString>>),
 }
 
 /// A change.

@@ -6,4 +6,6 @@ mod commits;
 #[cfg(test)]
 mod halts;
 #[cfg(test)]
+mod saves;
+#[cfg(test)]
 mod seats;

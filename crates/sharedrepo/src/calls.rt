@@ -14,10 +14,10 @@ use crate::seat::Seat;
 use access::Committed;
 use byte_string::ByteString;
 use left_right::Absorb;
+use noted::Noted;
 use published::{Carries, Naming, Published, Sets, wait_forever};
 use repo_api::{ChangeFault, CommitAsk, LockAsk, Repository, UnlockAsk};
 use std::mem::drop;
-use std::snapshot::Snapshot;
 use std::sync::Wait;
 
 impl<
@@ -54,7 +54,7 @@ impl<
         }
         seat.halted = self.archive.is_halted();
         seat.failures = failures;
-        seat.pending = Snapshot::of(&self.pending);
+        seat.pending = Noted::of(&self.pending);
     }
 
     /// Shows a seat what the keeper has come to.
@@ -65,7 +65,7 @@ impl<
         seat.front = self.front.again();
         seat.halted = self.archive.is_halted();
         seat.failures = self.archive.failures();
-        seat.pending = Snapshot::of(&self.pending);
+        seat.pending = Noted::of(&self.pending);
     }
 
     /// Makes the transaction the next revision, and then, unless the locks are to stay, releases those of

@@ -18,11 +18,11 @@ use crate::keeper::Keeper;
 use access::{Committed, Handed, Released, handed_in};
 use byte_string::ByteString;
 use left_right::Absorb;
+use noted::Noted;
 use published::{AskedChange, Carries, Naming, Published, Sets, commits_are_right};
 use repo_api::{ChangeFault, CommitAsk, LockAsk, Repository, UnlockAsk};
 use std::alloc::AllocError;
 use std::mem::drop;
-use std::snapshot::Snapshot;
 use std::sync::Wait;
 
 /// How many events there are at most.
@@ -86,7 +86,7 @@ impl<
                 Err(fault)
             }
             Ok(()) => {
-                let asked = AskedChange::Commit(Snapshot::of(&ask), Snapshot::of(&txn));
+                let asked = AskedChange::Commit(Noted::of(&ask), Noted::of(&txn));
                 match self.archive.committed(ask, txn) {
                     Err(fault) => {
                         drop(asked);
@@ -114,7 +114,7 @@ impl<
         match self.readiness() {
             Err(fault) => Err(fault),
             Ok(()) => {
-                let asked = AskedChange::Release(Snapshot::of(handed));
+                let asked = AskedChange::Release(Noted::of(handed));
                 match self.archive.released(handed) {
                     Err(fault) => {
                         drop(asked);
@@ -196,7 +196,7 @@ impl<
                 Err(fault)
             }
             Ok(()) => {
-                let asked = AskedChange::Lock(Snapshot::of(&ask));
+                let asked = AskedChange::Lock(Noted::of(&ask));
                 match self.archive.locked(ask) {
                     Err(fault) => {
                         drop(asked);
@@ -220,7 +220,7 @@ impl<
         match self.readiness() {
             Err(fault) => Err(fault),
             Ok(()) => {
-                let asked = AskedChange::Unlock(Snapshot::of(ask));
+                let asked = AskedChange::Unlock(Noted::of(ask));
                 match self.archive.unlocked(ask) {
                     Err(fault) => {
                         drop(asked);
@@ -249,11 +249,7 @@ impl<
                 Err(fault)
             }
             Ok(()) => {
-                let asked = AskedChange::Property(
-                    revision,
-                    Snapshot::of(&name),
-                    Snapshot::of(&value),
-                );
+                let asked = AskedChange::Property(revision, Noted::of(&name), Noted::of(&value));
                 match self.archive.property_changed(revision, name, value) {
                     Err(fault) => {
                         drop(asked);

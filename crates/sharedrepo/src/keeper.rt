@@ -8,6 +8,7 @@ ghost use Rattle.sharedrepo.specs.Standing.{IsSteady};
 use crate::archive::Archive;
 use crate::seat::Seat;
 use left_right::Absorb;
+use noted::Noted;
 use published::{
     AskedChange, Book, Carries, Desk, Front, Naming, NewHistory, OpeningEvent, Published, Sets,
 };
@@ -15,7 +16,6 @@ use repo_api::Repository;
 use std::alloc::{AllocError, Global};
 use std::marker::{Model, PhantomData};
 use std::mem;
-use std::snapshot::Snapshot;
 use std::sync::Wait;
 
 /// How many seats there are at most.
@@ -106,7 +106,7 @@ fn seat_at<
         front: front.again(),
         halted: false,
         failures,
-        pending: Snapshot::of(&None),
+        pending: Noted::of(&None),
         of: PhantomData,
     })
 }

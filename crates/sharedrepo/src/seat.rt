@@ -5,11 +5,11 @@ ghost use Rattle.published.specs.Moments.{GoesOn, knowing};
 
 use crossbeam_utils::rule::Unruled;
 use left_right::reader::Reader;
+use noted::Noted;
 use published::{AskedChange, Carries, Front, Naming, Published};
 use repo_api::Repository;
 use std::alloc::AllocError;
 use std::marker::{Model, PhantomData};
-use std::snapshot::Snapshot;
 
 /// A reader of what is published, and the events that it knows. Contracts see the moment after them.
 #[derive(Drop)]
@@ -18,7 +18,7 @@ pub struct Seat<R: Repository, J: Naming, T: Carries<Published<R, J>> + Drop> {
     pub(crate) front: Front<J>,
     pub(crate) halted: bool,
     pub(crate) failures: u64,
-    pub(crate) pending: Snapshot<Option<AskedChange<R::Txn>>>,
+    pub(crate) pending: Noted<Option<AskedChange<R::Txn>>>,
     pub(crate) of: PhantomData<R>,
 }
 
