@@ -85,7 +85,6 @@ fn stdio_command<'a>(alloc: Global) -> Result<Command<'a>, AllocError> {
 fn serve_command<'a>(alloc: Global) -> Result<Command<'a>, AllocError> {
     Command::new(alloc, SERVE)
         .about("Serves sessions over TCP")
-        .hide(true)
         .arg(location_argument(alloc))?
         .arg(required_argument(alloc, LISTEN, "A:P"))?
         .arg(required_argument(alloc, NAME, "N"))?
@@ -94,7 +93,7 @@ fn serve_command<'a>(alloc: Global) -> Result<Command<'a>, AllocError> {
         .arg(flag_argument(alloc, QUIET, "Tells nothing on standard error but a fault"))
 }
 
-/// The program with its commands. Those that nothing serves yet are left out of its help.
+/// The program with its commands.
 pub(crate) fn program<'a>(alloc: Global) -> Result<Command<'a>, AllocError> {
     Command::new(alloc, "svnserved")
         .about("A Subversion server")

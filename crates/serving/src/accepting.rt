@@ -67,7 +67,7 @@ fn turn_away(alloc: Global, stream: &TcpStream, refusal: Refusal) -> Result<(), 
 }
 
 /// What may come to a halt.
-pub trait Halts {
+pub(crate) trait Halts {
     /// Whether changes are known to have come to a halt. It waits for nobody.
     fn takes_no_changes(&self) -> bool;
 }

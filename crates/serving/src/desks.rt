@@ -1,5 +1,5 @@
 //! What threads serve sessions at: the seats of a repository in files that they share.
-ghost use Rattle.std.specs.Prelude.{All, IfOk};
+ghost use Rattle.std.specs.Prelude.{◌≡◌, All, IfOk};
 ghost use Rattle.access.specs.Points.{content_of};
 ghost use Rattle.repo_api.specs.Soundness.{AreSound};
 
@@ -10,32 +10,16 @@ use crate::journal::Journal;
 use conversations::OpenGate;
 use crossbeam_channel::Receiver;
 use file_store::Store;
-use filed_archive::{FiledArchive, ServedRepo, ServedSeat};
-use published::{Naming, Published, Setting, Shown};
-use session_pool::SessionPool;
+use filed_archive::{FiledArchive, ServedRepo, ServedSeat, share};
+use published::{Naming, NewHistory, Published, Setting, Shown};
+use session_pool::{MAX_SESSIONS, SessionPool};
 use sharedrepo::SeatAccess;
 use std::alloc::Global;
+use std::io::Eprint;
 use std::random::RandomSource;
-use std::rt::Runtime;
 use std::sync::{Arc, Wait};
-use stored_repository::Filed;
-
-/// What a thread serves callers at. It has no associated type, so that a thread may be started with one that is a
-/// parameter.
-pub trait Serves<R>: Drop {
-    /// What has to hold of it.
-    ghost rests: { Self → Type 0 };
-
-    /// Serves callers, one after another, until no more can come.
-    fn work(
-        self,
-        rt: &R,
-        alloc: Global,
-        pool: &SessionPool<'_, OpenGate, Journal<'_, R>>,
-        callers: &Receiver<Client>,
-    )
-        requires { rests self };
-}
+use std::time::Clock;
+use stored_repository::{Filed, StoredRepository};
 
 /// A seat of a repository as a session reaches it.
 pub type Access<'r, R, F, S, J> = SeatAccess<
@@ -47,22 +31,51 @@ pub type Access<'r, R, F, S, J> = SeatAccess<
     &'r R,
 >;
 
-/// A seat of a repository in files, and what hands moments and words in.
-pub type Desk<'r, R, F, S, J> = (Access<'r, R, F, S, J>, SystemEnvs<'r, R>);
+/// What a thread serves sessions at: a seat of a repository in files, and what hands moments and words in.
+#[derive(Drop)]
+pub struct Desk<'r, R: Clock, F: Filed, S: Store, J: Naming> {
+    repository: Arc<ServedRepo<F, S, J>>,
+    pub seat: ServedSeat<F, J>,
+    rt: &'r R,
+    envs: SystemEnvs<'r, R>,
+}
 
-impl<'r, R: Runtime + RandomSource + Wait, F: Filed, S: Store, J: Naming> Serves<R>
-    for (Access<'r, R, F, S, J>, SystemEnvs<'r, R>) {
-    ghost rests = { λ d. AreSound (content_of d.0.seat).revisions };
-
-    fn work(
-        self,
-        rt: &R,
-        alloc: Global,
-        pool: &SessionPool<'_, OpenGate, Journal<'_, R>>,
-        callers: &Receiver<Client>,
-    ) {
-        pool.work(rt, alloc, callers, self)
+impl<'r, R: Clock + Wait, F: Filed, S: Store, J: Naming> Desk<'r, R, F, S, J> {
+    /// The seat as a session reaches it, and what hands moments and words in.
+    pub fn into_parts(self) -> (Access<'r, R, F, S, J>, SystemEnvs<'r, R>)
+        ensures { result.0.seat ≡ self.entry.seat }
+    {
+        let Desk {
+            repository,
+            seat,
+            rt,
+            envs,
+        } = self;
+        let access = SeatAccess {
+            repository,
+            seat,
+            rt,
+        };
+        (access, envs)
     }
+}
+
+/// Serves callers at a desk, one after another, until no more can come.
+pub fn work_at<R, F, S, J>(
+    rt: &R,
+    alloc: Global,
+    pool: &SessionPool<'_, OpenGate, Journal<'_, R>>,
+    callers: &Receiver<Client>,
+    desk: Desk<'_, R, F, S, J>,
+)
+where
+    R: Clock + Eprint + RandomSource + Wait,
+    F: Filed,
+    S: Store,
+    J: Naming,
+    requires { AreSound (content_of desk.seat).revisions }
+{
+    pool.work(rt, alloc, callers, desk.into_parts())
 }
 
 /// A repository in files that sessions share.
@@ -77,9 +90,6 @@ impl<F: Filed, S: Store, J: Naming> Halts for SharedFiles<F, S, J> {
     }
 }
 
-/// A repository in files that sessions share, with its seats.
-pub type Shared<F, S, J> = (ServedRepo<F, S, J>, Vec<ServedSeat<F, J>>);
-
 /// A repository in files that sessions share, with a desk for each of its seats.
 pub type Desks<'r, R, F, S, J> = (SharedFiles<F, S, J>, Vec<Desk<'r, R, F, S, J>>);
 
@@ -90,19 +100,21 @@ fn desk_of<'r, R, F, S, J>(
     seat: ServedSeat<F, J>,
 ) -> Result<Desk<'r, R, F, S, J>, ServingFault>
 where
-    R: Runtime + RandomSource + Wait,
+    R: Clock + RandomSource + Wait,
     F: Filed,
     S: Store,
     J: Naming,
     requires { AreSound (content_of seat).revisions }
-    ensures { IfOk result (λ d. AreSound (content_of d.0.seat).revisions) }
+    ensures { IfOk result (λ d. AreSound (content_of d.seat).revisions) }
 {
-    let access = SeatAccess {
-        repository: Arc::try_clone(&shared.repository)?,
+    let repository = Arc::try_clone(&shared.repository)?;
+    let envs = SystemEnvs::new(rt)?;
+    Ok(Desk {
+        repository,
         seat,
         rt,
-    };
-    Ok((access, SystemEnvs::new(rt)?))
+        envs,
+    })
 }
 
 /// A desk for each seat.
@@ -113,12 +125,12 @@ fn desks_at<'r, R, F, S, J>(
     seats: Vec<ServedSeat<F, J>>,
 ) -> Result<Vec<Desk<'r, R, F, S, J>>, ServingFault>
 where
-    R: Runtime + RandomSource + Wait,
+    R: Clock + RandomSource + Wait,
     F: Filed,
     S: Store,
     J: Naming,
     requires { All (λ s. AreSound (content_of s).revisions) seats.items }
-    ensures { IfOk result (λ desks. All (λ d. AreSound (content_of d.0.seat).revisions)
+    ensures { IfOk result (λ desks. All (λ d. AreSound (content_of d.seat).revisions)
         desks.items) }
 {
     let mut desks = Vec::new(alloc);
@@ -128,22 +140,28 @@ where
     Ok(desks)
 }
 
-/// Makes a desk for each seat of a repository.
+/// Lets sessions share a repository, and makes a desk for each that may be open at a time.
+///
+/// # Errors
+///
+/// `Store` where changes have come to a halt already; `Io` where the system gives no random bytes; `NoMemory`.
 pub fn desks_of<'r, R, F, S, J>(
     rt: &'r R,
     alloc: Global,
-    shared: Shared<F, S, J>,
+    stored: StoredRepository<F, S>,
+    history: NewHistory,
 ) -> Result<Desks<'r, R, F, S, J>, ServingFault>
 where
-    R: Runtime + RandomSource + Wait,
+    R: Clock + RandomSource + Wait,
     F: Filed,
     S: Store,
     J: Naming,
-    requires { All (λ s. AreSound (content_of s).revisions) shared.1.items }
-    ensures { IfOk result (λ desks. All (λ d. AreSound (content_of d.0.seat).revisions)
+    requires book { history.seen.book ≡ J.book }
+    requires sound { AreSound (F.content stored.repository).revisions }
+    ensures { IfOk result (λ desks. All (λ d. AreSound (content_of d.seat).revisions)
         desks.1.items) }
 {
-    let (repository, seats) = shared;
+    let (repository, seats) = share::<F, S, J>(alloc, stored, MAX_SESSIONS as usize, history)?;
     let shared = SharedFiles {
         repository: Arc::new(alloc, repository)?,
     };

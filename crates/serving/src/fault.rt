@@ -1,6 +1,7 @@
 //! Why no sessions are served, or none any more.
 
 use cram::CramFault;
+use file_store::StoreFault;
 use std::alloc::{AllocError, AllocFailed};
 use std::io;
 use thiserror::Error;
@@ -20,6 +21,9 @@ pub enum ServingFault {
     /// The file of users, the address, a thread or a standard stream failed, or the system gives no random bytes.
     #[error("io")]
     Io,
+    /// The repository is not shared.
+    #[error("{0}")]
+    Store(StoreFault),
     /// Memory was refused.
     #[error("no memory")]
     NoMemory,
@@ -43,6 +47,15 @@ impl From<CramFault> for ServingFault {
         match fault {
             CramFault::BadUsers(line) => ServingFault::Users(line),
             _ => ServingFault::NoMemory,
+        }
+    }
+}
+
+impl From<StoreFault> for ServingFault {
+    fn from(fault: StoreFault) -> Self {
+        match fault {
+            StoreFault::NoMemory => ServingFault::NoMemory,
+            _ => ServingFault::Store(fault),
         }
     }
 }

@@ -9,8 +9,8 @@ mod journal;
 mod serving;
 mod settings;
 
-pub use accepting::{Client, Halts};
-pub use desks::{Desk, Desks, Serves, Shared, SharedFiles, desks_of};
+pub use accepting::Client;
+pub use desks::{Access, Desk, Desks, SharedFiles, desks_of, work_at};
 pub use envs::{SystemEnvs, moment_now};
 pub use fault::ServingFault;
 pub use journal::Journal;

@@ -1,71 +1,94 @@
 //! Sessions over TCP: a thread for each, at one repository that they share.
 ghost use Rattle.std.specs.Prelude.{All};
+ghost use Rattle.access.specs.Points.{content_of};
+ghost use Rattle.repo_api.specs.Soundness.{AreSound};
 
-use crate::accepting::{Client, Entrance, Halts, take_all};
-use crate::desks::Serves;
+use crate::accepting::{Client, Entrance, take_all};
+use crate::desks::{Desk, Desks, SharedFiles, work_at};
 use crate::fault::ServingFault;
 use crate::journal::{Event, Journal};
 use crate::settings::Settings;
 use conversations::OpenGate;
 use crossbeam_channel::{Receiver, Sender, unbounded};
+use file_store::Store;
+use filed_world::FiledWorld;
 use machine::Options;
+use published::Naming;
 use session_pool::SessionPool;
 use std::alloc::Global;
+use std::io::{Eprint, Print};
 use std::net::{Net, TcpListener, TcpStream};
-use std::rt::Runtime;
+use std::random::RandomSource;
 use std::sync::Wait;
 use std::thread;
 use std::thread::Threads;
+use std::time::Clock;
+use stored_repository::Filed;
+
+/// Takes connections at an entrance of a repository in files.
+fn take_at<R, F, S, J>(
+    entrance: &Entrance<'_, R, SharedFiles<F, S, J>>,
+    pool: &SessionPool<'_, OpenGate, Journal<'_, R>>,
+    callers: &Sender<Client>,
+)
+where
+    R: Clock + Eprint + Wait,
+    F: Filed,
+    S: Store,
+    J: Naming,
+{
+    take_all(entrance, pool, callers)
+}
 
 /// Starts a thread for each desk, and takes connections meanwhile. It answers once no more are to be taken and all
 /// sessions have ended, or where a thread cannot be started.
-fn run_pool<R, D, H>(
-    entrance: &Entrance<'_, R, H>,
+fn run_pool<R, S, J>(
+    entrance: &Entrance<'_, R, SharedFiles<FiledWorld, S, J>>,
     pool: &SessionPool<'_, OpenGate, Journal<'_, R>>,
     callers: &Receiver<Client>,
     sender: Sender<Client>,
-    desks: Vec<D>,
+    desks: Vec<Desk<'_, R, FiledWorld, S, J>>,
 ) -> Result<(), ServingFault>
 where
-    R: Runtime + Threads + Wait + Sync,
-    D: Serves<R> + Send,
-    H: Halts + Drop,
-    requires { All (λ d. D.rests d) desks.items }
+    R: Clock + Eprint + RandomSource + Threads + Wait + Sync,
+    S: Store + Send + Sync + 'static,
+    J: Naming + Send + Sync + 'static,
+    requires { All (λ d. AreSound (content_of d.seat).revisions) desks.items }
 {
     let (rt, alloc) = (entrance.rt, entrance.alloc);
     thread::scope(
         thread::scope_env(),
         rt,
         move |scope| -> Result<(), ServingFault>
-            requires { All (λ d. D.rests d) desks.items }
+            requires { All (λ d. AreSound (content_of d.seat).revisions) desks.items }
         {
             for desk in desks {
                 let worker = scope.spawn(
                     move ||
-                        requires { D.rests desk }
-                    { desk.work(rt, alloc, pool, callers) },
+                        requires { AreSound (content_of desk.seat).revisions }
+                    { work_at(rt, alloc, pool, callers, desk) },
                 );
                 if worker.is_err() {
                     return Err(ServingFault::Io);
                 }
             }
-            take_all(entrance, pool, &sender);
+            take_at(entrance, pool, &sender);
             Ok(())
         },
     )
 }
 
 /// Serves the connections that come in by an entrance, each at one of these desks.
-fn serve_desks<R, D, H>(
-    entrance: &Entrance<'_, R, H>,
+fn serve_desks<R, S, J>(
+    entrance: &Entrance<'_, R, SharedFiles<FiledWorld, S, J>>,
     options: &Options,
-    desks: Vec<D>,
+    desks: Vec<Desk<'_, R, FiledWorld, S, J>>,
 ) -> Result<(), ServingFault>
 where
-    R: Runtime + Threads + Wait + Sync,
-    D: Serves<R> + Send,
-    H: Halts + Drop,
-    requires { All (λ d. D.rests d) desks.items }
+    R: Clock + Eprint + RandomSource + Threads + Wait + Sync,
+    S: Store + Send + Sync + 'static,
+    J: Naming + Send + Sync + 'static,
+    requires { All (λ d. AreSound (content_of d.seat).revisions) desks.items }
 {
     let (sender, callers) = unbounded::<Client, Global>(entrance.alloc)?;
     let pool = SessionPool::new(options, &OpenGate, &entrance.journal);
@@ -80,19 +103,19 @@ pub struct Server<'s, R> {
     pub settings: &'s Settings,
 }
 
-/// Serves so many connections at the desks of a repository, one after another, each in the thread of a desk. It answers once all have ended, or
-/// where a thread fails.
-pub fn serve_connections<R, D, H>(
+/// Serves so many connections at the desks of a repository, one after another, each in the thread of a desk. It
+/// answers once all have ended, or where a thread fails.
+pub fn serve_connections<R, S, J>(
     server: &Server<'_, R>,
     listener: &TcpListener,
     connections: usize,
-    desks: (H, Vec<D>),
+    desks: Desks<'_, R, FiledWorld, S, J>,
 ) -> Result<(), ServingFault>
 where
-    R: Runtime + Threads + Wait + Sync,
-    D: Serves<R> + Send,
-    H: Halts + Drop,
-    requires { All (λ d. D.rests d) desks.1.items }
+    R: Clock + Eprint + RandomSource + Threads + Wait + Sync,
+    S: Store + Send + Sync + 'static,
+    J: Naming + Send + Sync + 'static,
+    requires { All (λ d. AreSound (content_of d.seat).revisions) desks.1.items }
 {
     let (repository, desks) = desks;
     let (rt, alloc) = (server.rt, server.alloc);
@@ -110,13 +133,24 @@ where
     serve_desks(&entrance, &server.settings.options, desks)
 }
 
-/// Serves sessions over TCP at the desks of a repository. It prints `ready` once it listens, and answers only where that or a thread fails.
-pub fn serve<R, D, H>(server: &Server<'_, R>, desks: (H, Vec<D>)) -> Result<(), ServingFault>
+/// Serves sessions over TCP at the desks of a repository. It prints `ready` once it listens, and answers only where
+/// that or a thread fails.
+pub fn serve<R, S, J>(
+    server: &Server<'_, R>,
+    desks: Desks<'_, R, FiledWorld, S, J>,
+) -> Result<(), ServingFault>
 where
-    R: Runtime + Net<Listener = TcpListener, Stream = TcpStream> + Threads + Wait + Sync,
-    D: Serves<R> + Send,
-    H: Halts + Drop,
-    requires { All (λ d. D.rests d) desks.1.items }
+    R: Net<Listener = TcpListener, Stream = TcpStream>
+        + Clock
+        + Eprint
+        + Print
+        + RandomSource
+        + Threads
+        + Wait
+        + Sync,
+    S: Store + Send + Sync + 'static,
+    J: Naming + Send + Sync + 'static,
+    requires { All (λ d. AreSound (content_of d.seat).revisions) desks.1.items }
 {
     let listener = TcpListener::bind(server.rt, server.settings.address)?;
     println!(server.rt; "ready")?;

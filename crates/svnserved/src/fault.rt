@@ -4,6 +4,7 @@ use file_store::StoreFault;
 use folder_store::FolderFault;
 use fsfs_lines::FileFault;
 use hub::HubFault;
+use serving::ServingFault;
 use std::alloc::{AllocError, AllocFailed};
 use std::{fmt, io};
 use streams::ServeFault;
@@ -23,6 +24,8 @@ pub enum ProgramFault {
     Missing,
     /// The repository's folder is not opened.
     Folder(FolderFault),
+    /// No sessions are served over TCP.
+    Serving(ServingFault),
     /// The repository's files are not read, or not made.
     Store(StoreFault),
 }
@@ -32,6 +35,7 @@ impl ProgramFault {
     pub fn status(&self) -> u8 {
         match self {
             ProgramFault::CommandLine(_) | ProgramFault::Name => 2,
+            ProgramFault::Serving(fault) if fault.is_of_command_line() => 2,
             _ => 1,
         }
     }
@@ -74,6 +78,10 @@ impl fmt::Display for ProgramFault {
     fn fmt<W: fmt::Write>(&self, f: &mut fmt::Formatter<W>) -> fmt::Result {
         match self {
             ProgramFault::CommandLine(text) => write!(f, "{text}"),
+            ProgramFault::Serving(fault) if fault.is_of_command_line() => {
+                writeln!(f, "error: {fault}")
+            }
+            ProgramFault::Serving(fault) => writeln!(f, "svnserved: {fault}"),
             ProgramFault::Name => writeln!(
                 f,
                 "error: a name is 1 to 64 of A-Z, a-z, 0-9, `-`, `_` and `.`, and not `.` or `..`"
@@ -129,5 +137,11 @@ impl From<AllocError> for ProgramFault {
 impl<T: Drop> From<AllocFailed<T>> for ProgramFault {
     fn from(_fault: AllocFailed<T>) -> Self {
         ProgramFault::Hub(HubFault::NoMemory)
+    }
+}
+
+impl From<ServingFault> for ProgramFault {
+    fn from(fault: ServingFault) -> Self {
+        ProgramFault::Serving(fault)
     }
 }

@@ -1,22 +1,26 @@
 //! Serves a Subversion repository.
 #![tactic(auto)]
 
-mod envs;
 mod fault;
 mod repositories;
+mod sharing;
 
-use command_line::{CommandLineFault, Location, Order, read_command_line};
-use envs::SystemEnvs;
+use command_line::{CommandLineFault, Location, Order, Service, read_command_line};
 use fault::ProgramFault;
 use file_store::Store;
 use folder_hub::FolderHub;
 use hub::{HubFault, Options, is_repository_name};
-use repositories::{create_in_folder, empty_hub, folder_hub};
+use published::NewHistory;
+use repositories::{DiskStore, create_in_folder, empty_hub, folder_hub, open_folder};
+use serving::{Settings, SystemEnvs, read_settings};
+use sharing::serve_shared;
 use std::alloc::Global;
 use std::env;
 use std::io::ErrorKind;
+use std::marker::Brand;
 use std::process::ExitCode;
 use streams::run_stdio;
+use world_folder::FolderRepository;
 
 /// The words of the command line.
 fn words(rt: &HostRuntime) -> Result<Vec<String>, ProgramFault> {
@@ -78,7 +82,7 @@ fn serve_stdio(
     }
 }
 
-/// An order that nothing serves yet, told so.
+/// The fault of an order that cannot be served, with its text.
 fn not_served(alloc: Global, text: &str) -> ProgramFault {
     match String::from_str(alloc, text) {
         Ok(text) => ProgramFault::CommandLine(text),
@@ -86,30 +90,32 @@ fn not_served(alloc: Global, text: &str) -> ProgramFault {
     }
 }
 
-/// Does what the command line asks for.
-fn run(rt: &HostRuntime) -> Result<(), ProgramFault> {
-    match order(rt)? {
-        Some(Order::Create { folder }) => create_in_folder(rt, folder.as_str()),
-        Some(
-            Order::Stdio {
-                location,
-                name,
-                revprops,
-            },
-        ) => {
-            let options = options(rt.alloc(), name.as_str(), revprops)?;
-            serve_stdio(rt, &location, options)
-        }
-        Some(Order::Serve(_)) => Err(not_served(
-            rt.alloc(),
-            "error: `serve` isn't there yet: there are no sessions over TCP\n",
-        )),
-        None => Ok(()),
+/// Serves one session over the standard streams, on the repository of this name at a location.
+fn serve_one(
+    rt: &HostRuntime,
+    location: &Location,
+    name: &str,
+    revprops: bool,
+) -> Result<(), ProgramFault> {
+    let options = options(rt.alloc(), name, revprops)?;
+    serve_stdio(rt, location, options)
+}
+
+/// What sessions over TCP are served by, and the repository in a folder that they are served at.
+fn prepare(
+    rt: &HostRuntime,
+    service: &Service,
+) -> Result<(Settings, FolderRepository<DiskStore>), ProgramFault> {
+    let settings = read_settings(rt, rt.alloc(), service)?;
+    match &service.location {
+        Location::Folder(folder) => Ok((settings, open_folder(rt, folder.as_str())?)),
+        Location::Memory => Err(not_served(rt.alloc(), "error: DIR of `serve` is a folder\n")),
     }
 }
 
-fn main(rt: HostRuntime) -> ExitCode {
-    match run(&rt) {
+/// The status to end with; a fault is told before.
+fn status_of(rt: &HostRuntime, done: Result<(), ProgramFault>) -> ExitCode {
+    match done {
         Ok(()) => ExitCode::SUCCESS,
         Err(fault) => {
             // where standard error fails too, the status alone tells
@@ -117,4 +123,33 @@ fn main(rt: HostRuntime) -> ExitCode {
             ExitCode::from(fault.status())
         }
     }
+}
+
+fn main(rt: HostRuntime) -> ExitCode {
+    let done = match order(&rt) {
+        Ok(None) => Ok(()),
+        Ok(Some(Order::Create { folder })) => create_in_folder(&rt, folder.as_str()),
+        Ok(
+            Some(
+                Order::Stdio {
+                    location,
+                    name,
+                    revprops,
+                },
+            ),
+        ) => { serve_one(&rt, &location, name.as_str(), revprops) }
+        // threads are started by who has the runtime of `main`
+        Ok(Some(Order::Serve(service))) => match prepare(&rt, &service) {
+            Ok((settings, stored)) => serve_shared::<Brand, HostRuntime>(
+                &rt,
+                rt.alloc(),
+                &settings,
+                stored,
+                NewHistory::new(),
+            ),
+            Err(fault) => Err(fault),
+        },
+        Err(fault) => Err(fault),
+    };
+    status_of(&rt, done)
 }

@@ -1,18 +1,18 @@
 //! The repositories that are made and served.
 ghost use Rattle.file_store.specs.Folders.{Folder, IsSame};
 
-use crate::envs::moment_now;
 use crate::fault::ProgramFault;
 use file_store::{MemoryStore, Store, StoreFault};
 use folder_hub::{FolderHub, open_hub};
 use folder_store::{FolderStore, Unknown};
 use hub::Options;
 use rand::rngs::StdRng;
+use serving::moment_now;
 use std::alloc::{AllocError, Global};
 use std::fs;
 use std::io::ErrorKind;
 use uuid::Uuid;
-use world_folder::create;
+use world_folder::{FolderRepository, create, open};
 
 /// The files of a repository in a folder of the system.
 pub type DiskStore = FolderStore<HostRuntime, Unknown>;
@@ -78,4 +78,26 @@ pub fn empty_hub(alloc: Global, options: Options) -> Result<FolderHub<MemoryStor
     let mut store = MemoryStore::new(alloc);
     create(alloc, &mut store, EMPTY_UUID, 0)?;
     opened(alloc, store, options)
+}
+
+/// Opens a repository, which nobody else has.
+fn opened_alone<S: Store>(alloc: Global, store: S) -> Result<FolderRepository<S>, ProgramFault>
+    requires { S.is_honest store → (f : Folder) → S.may_leave store f → IsSame (S.holds store) f }
+{
+    match open(alloc, store) {
+        Ok(stored) => Ok(stored),
+        Err(unopened) => Err(ProgramFault::Store(unopened.fault)),
+    }
+}
+
+/// The repository in a folder.
+pub fn open_folder(
+    rt: &HostRuntime,
+    folder: &str,
+) -> Result<FolderRepository<DiskStore>, ProgramFault> {
+    let files = files_folder(rt.alloc(), folder)?;
+    if !fs::exists(rt, files.as_str())? {
+        return Err(ProgramFault::Missing);
+    }
+    opened_alone(rt.alloc(), FolderStore::open(*rt, files)?)
 }

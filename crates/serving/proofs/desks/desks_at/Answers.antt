@@ -11,7 +11,7 @@ loop-seat-preserved g c = (
   tt,
   All-rest (λ s. AreSound (content_of s).revisions) c.in-Some.seat _ _ (search rules) c.loop-seat.invariant.2,
   subst
-      (All (λ d. AreSound (content_of d.0.seat).revisions))
+      (All (λ d. AreSound (content_of d.seat).revisions))
       (sym c.in_ok-push.ensures.items)
-      (All-push (λ d. AreSound (content_of d.0.seat).revisions) _ _ c.loop-seat.invariant.3 c.in_ok-desk_of.ensures),
+      (All-push (λ d. AreSound (content_of d.seat).revisions) _ _ c.loop-seat.invariant.3 c.in_ok-desk_of.ensures),
 )

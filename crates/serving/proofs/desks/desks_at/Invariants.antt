@@ -9,4 +9,4 @@ invariant-loop-seat g l =
     (goal.iterator-loop-seat g).can_next l.seat-iterator
     × (goal.iterator-loop-seat g).is_finite l.seat-iterator
     × All (λ s. AreSound (content_of s).revisions) (into_iter_items l.seat-iterator)
-    × All (λ d. AreSound (content_of d.0.seat).revisions) l.desks.items
+    × All (λ d. AreSound (content_of d.seat).revisions) l.desks.items
