@@ -1,0 +1,157 @@
+//! Connections in memory, and what stands at their other end.
+use conversations::{Env, EnvSource};
+use crossbeam_channel::{Receiver, Sender, unbounded};
+use session_pool::Caller;
+use std::alloc::{AllocError, Global};
+use std::io;
+use std::io::{ErrorKind, Read, Write};
+use std::sync::atomic::{AtomicBool, Ordering};
+use std::sync::{Mutex, Wait};
+use std::test::Fail;
+
+/// The greeting of a client, and its login without a name.
+pub(crate) const LOGIN: &[u8] = b"( 2 ( edit-pipeline ) 9:svn://h/r ) ( ANONYMOUS ( 0: ) ) ";
+
+/// The greeting.
+pub(crate) const GREETING: &[u8] =
+    b"( success ( 2 2 ( ) ( edit-pipeline absent-entries commit-revprops ) ) ) ";
+
+/// What a client without a name is told up to the end of its login.
+pub(crate) const WELCOME: &[u8] =
+    b"( success ( 2 2 ( ) ( edit-pipeline absent-entries commit-revprops ) ) ) \
+      ( success ( ( ANONYMOUS ) 1:r ) ) ( success ( ) ) \
+      ( success ( 36:00000000-0000-4000-8000-000000000000 9:svn://h/r ( ) ) ) ";
+
+/// Hands one moment in, and one word.
+#[derive(Clone, Copy)]
+pub(crate) struct Still {
+    pub(crate) moment: u32,
+    pub(crate) nonce: u64,
+}
+
+/// The beginning of 1970.
+pub(crate) const AT_ZERO: Still = Still {
+    moment: 0,
+    nonce: 0,
+};
+
+impl EnvSource for Still {
+    ghost use Rattle.std.specs.Prelude.{⊤};
+
+    ghost gives = { λ _ _ _. ⊤ };
+
+    fn next_env(&mut self) -> Env {
+        Env {
+            moment: u64::from(self.moment),
+            token: 0,
+            nonce: self.nonce,
+        }
+    }
+}
+
+/// What a client sends, piece by piece.
+#[derive(Drop)]
+pub(crate) struct Sent<'a, R: Wait> {
+    rt: &'a R,
+    pieces: Receiver<Vec<u8>>,
+}
+
+impl<'a, R: Wait> Read for Sent<'a, R> {
+    fn read(&mut self, buf: &mut [u8]) -> io::Result<usize> {
+        let Ok(piece) = self.pieces.recv(self.rt) else {
+            return Ok(0);
+        };
+        let count = piece.len().min(buf.len());
+        buf[..count].copy_from_slice(&piece.as_slice()[..count]);
+        Ok(count)
+    }
+}
+
+/// Words that no client is told.
+pub(crate) const NEVER: &[u8] = b"never";
+
+/// What a client has been told, and whether the words that it awaits were among that.
+#[derive(Drop)]
+pub(crate) struct Client {
+    pub(crate) bytes: Mutex<Vec<u8>>,
+    awaited: Vec<u8>,
+    pub(crate) is_told: AtomicBool,
+}
+
+impl Client {
+    /// It has been told nothing.
+    pub(crate) fn new(alloc: Global, awaited: &[u8]) -> Result<Self, AllocError> {
+        Ok(Client {
+            bytes: Mutex::new(Vec::new(alloc)),
+            awaited: Vec::from_slice(alloc, awaited)?,
+            is_told: AtomicBool::new(false),
+        })
+    }
+}
+
+/// The way to a client, which takes so many bytes and fails then.
+#[derive(Drop)]
+pub(crate) struct Told<'a, R: Wait> {
+    rt: &'a R,
+    client: &'a Client,
+    room: usize,
+}
+
+impl<'a, R: Wait> Write for Told<'a, R> {
+    fn write(&mut self, buf: &[u8]) -> io::Result<usize> {
+        let Some(room) = self.room.checked_sub(buf.len()) else {
+            return Err(io::Error::from(ErrorKind::BrokenPipe));
+        };
+        self.room = room;
+        let mut bytes = self.client.bytes.lock(self.rt);
+        if bytes.extend_from_slice(buf).is_err() {
+            return Err(io::Error::from(ErrorKind::OutOfMemory));
+        }
+        if stands_in(bytes.as_slice(), self.client.awaited.as_slice()) {
+            self.client.is_told.store(true, Ordering::SeqCst);
+        }
+        Ok(buf.len())
+    }
+
+    fn flush(&mut self) -> io::Result<()> {
+        Ok(())
+    }
+}
+
+/// Whether one text stands in another.
+fn stands_in(text: &[u8], part: &[u8]) -> bool {
+    for i in 0..text.len() {
+        if text[i..].starts_with(part) {
+            return true;
+        }
+    }
+    false
+}
+
+/// A caller over a connection in memory.
+pub(crate) type MemoryCaller<'a, R> = Caller<Sent<'a, R>, Told<'a, R>>;
+
+/// Sends the caller of this number to the workers: it sends these pieces and then no more, and takes so many bytes.
+pub(crate) fn call<'a, R: Wait>(
+    rt: &'a R,
+    alloc: Global,
+    callers: &Sender<MemoryCaller<'a, R>>,
+    (number, pieces): (u64, &[&[u8]]),
+    (client, room): (&'a Client, usize),
+) -> Result<(), Fail> {
+    let (say, hear) = unbounded(alloc)?;
+    for piece in pieces {
+        if say.send(rt, Vec::from_slice(alloc, piece)?).is_err() {
+            return Err(Fail::from(io::Error::from(ErrorKind::BrokenPipe)));
+        }
+    }
+    let caller = Caller {
+        number,
+        input: Sent { rt, pieces: hear },
+        output: Told { rt, client, room },
+    };
+    match callers.send(rt, caller) {
+        Ok(()) => Ok(()),
+        Err(_) => Err(Fail::from(io::Error::from(ErrorKind::BrokenPipe))),
+    }
+}

@@ -1,0 +1,185 @@
+//! A session is served while another waits.
+ghost use Rattle.std.specs.Prelude.{◌≡◌, All};
+ghost use Rattle.access.specs.Points.{content_of};
+ghost use Rattle.repo_api.specs.Soundness.{AreSound};
+
+use crate::connections::{AT_ZERO, Client, LOGIN, MemoryCaller, NEVER, WELCOME, call};
+use crate::repositories::empty_repository;
+use conversations::{Gate, Unwatched};
+use crossbeam_channel::{Receiver, unbounded};
+use file_store::{MemoryStore, Store};
+use filed_world::FiledWorld;
+use machine::Options;
+use published::{Naming, NewHistory};
+use serving::{Desk, desks_of};
+use session_pool::SessionPool;
+use std::alloc::{AllocError, Global};
+use std::marker::Brand;
+use std::mem::drop;
+use std::random::RandomSource;
+use std::sync::Wait;
+use std::sync::atomic::{AtomicBool, AtomicU64, Ordering};
+use std::test::Fail;
+use std::thread;
+use std::thread::Threads;
+use std::time::{Clock, Duration};
+use stored_repository::Filed;
+
+/// How often the gate looks at the mark at most.
+const MOST_TURNS: u64 = 100_000;
+
+/// Holds the second piece of session 1 back until the mark is set, for so many turns at most. Each turn gives the
+/// processor up for good, so that the other session's thread is run.
+#[derive(Drop)]
+struct HoldsBack<'a, C: Clock> {
+    clock: &'a C,
+    mark: &'a AtomicBool,
+    turns: &'a AtomicU64,
+}
+
+impl<'a, C: Clock> Gate for HoldsBack<'a, C> {
+    fn pass(&self, session: u64, piece: u64) {
+        if session != 1 || piece != 2 {
+            return;
+        }
+        for turn in 0..MOST_TURNS {
+            if self.mark.load(Ordering::SeqCst) {
+                self.turns.store(turn, Ordering::SeqCst);
+                return;
+            }
+            thread::yield_now();
+            thread::sleep(self.clock, Duration::from_micros(1));
+        }
+    }
+}
+
+/// The first session begins an edit, and is held there.
+const OPEN: &[u8] = b"( 2 ( edit-pipeline ) 9:svn://h/r ) ( ANONYMOUS ( 0: ) ) \
+      ( commit ( 5:first ( ) false ) ) ( open-root ( ( ) 2:d0 ) ) ";
+
+/// It gives its edit up, and asks for the youngest revision.
+const REST: &[u8] = b"( abort-edit ( ) ) ( get-latest-rev ( ) ) ";
+
+/// What it is told behind its login.
+const ABORTED: &[u8] = b"( success ( ( ) 0: ) ) ( success ( ) ) ( success ( ) ) \
+      ( success ( ( ) 0: ) ) ( success ( 1 ) ) ";
+
+/// The second session commits.
+const COMMIT: &[u8] = b"( commit ( 6:second ( ) false ) ) ( open-root ( ( ) 2:d0 ) ) \
+      ( add-dir ( 5:trunk 2:d0 2:d1 ( ) ) ) ( close-dir ( 2:d1 ) ) ( close-dir ( 2:d0 ) ) \
+      ( close-edit ( ) ) ";
+
+/// How its commit is answered.
+const COMMITTED: &[u8] = b"( 1 ( 27:1970-01-01T00:00:00.000000Z ) ( ) ( ) ) ";
+
+/// Serves callers at a desk, with one moment and one word, until no more can come.
+fn work_still<R, F, S, J, G>(
+    rt: &R,
+    alloc: Global,
+    pool: &SessionPool<'_, G, Unwatched>,
+    callers: &Receiver<MemoryCaller<'_, R>>,
+    desk: Desk<'_, R, F, S, J>,
+)
+where
+    R: Clock + RandomSource + Wait,
+    F: Filed,
+    S: Store,
+    J: Naming,
+    G: Gate,
+    requires { AreSound (content_of desk.seat).revisions }
+{
+    let (access, _) = desk.into_parts();
+    pool.work(rt, alloc, &*callers, (access, AT_ZERO))
+}
+
+/// Serves callers in threads, one for each desk, until no more can come.
+fn serve_in_threads<R, J, G>(
+    rt: &R,
+    alloc: Global,
+    pool: &SessionPool<'_, G, Unwatched>,
+    callers: &Receiver<MemoryCaller<'_, R>>,
+    desks: Vec<Desk<'_, R, FiledWorld, MemoryStore, J>>,
+) -> Result<(), AllocError>
+where
+    J: Naming + Send + Sync + 'static,
+    G: Gate + Sync,
+    R: Clock + RandomSource + Threads + Wait + Sync,
+    requires { All (λ d. AreSound (content_of d.seat).revisions) desks.items }
+{
+    thread::scope(
+        thread::scope_env(),
+        rt,
+        move |scope| -> Result<(), AllocError>
+            requires { All (λ d. AreSound (content_of d.seat).revisions) desks.items }
+        {
+            for desk in desks {
+                let worker = scope.spawn(
+                    move ||
+                        requires { AreSound (content_of desk.seat).revisions }
+                    { work_still(rt, alloc, pool, callers, desk) },
+                );
+                if worker.is_err() {
+                    return Err(AllocError);
+                }
+            }
+            Ok(())
+        },
+    )
+}
+
+/// Serves the two clients, who share an empty repository.
+fn serve_two<J, G, R>(
+    rt: &R,
+    alloc: Global,
+    gate: &G,
+    clients: (&Client, &Client),
+    history: NewHistory,
+) -> Result<(), Fail>
+where
+    J: Naming + Send + Sync + 'static,
+    G: Gate + Sync,
+    R: Clock + RandomSource + Threads + Wait + Sync,
+    requires { history.seen.book ≡ J.book }
+{
+    let options = Options::new(alloc, "r")?;
+    let pool = SessionPool::new(&options, gate, &Unwatched);
+    let (to, from) = unbounded(alloc)?;
+    call(rt, alloc, &to, (1, &[OPEN, REST]), (clients.0, usize::MAX))?;
+    call(
+        rt,
+        alloc,
+        &to,
+        (2, &[LOGIN, COMMIT]),
+        (clients.1, usize::MAX),
+    )?;
+    drop(to);
+    let stored = empty_repository(alloc)?;
+    let (_, desks) = desks_of::<R, FiledWorld, MemoryStore, J>(rt, alloc, stored, history)?;
+    serve_in_threads(rt, alloc, &pool, &from, desks)?;
+    Ok(())
+}
+
+#[test]
+fn a_session_is_served_while_another_waits(rt: HostRuntime) -> Result<(), Fail> {
+    let alloc = rt.alloc();
+    let first = Client::new(alloc, NEVER)?;
+    let second = Client::new(alloc, COMMITTED)?;
+    let turns = AtomicU64::new(MOST_TURNS);
+    let gate = HoldsBack {
+        clock: &rt,
+        mark: &second.is_told,
+        turns: &turns,
+    };
+    serve_two::<Brand, HoldsBack<'_, HostRuntime>, HostRuntime>(
+        &rt,
+        alloc,
+        &gate,
+        (&first, &second),
+        NewHistory::new(),
+    )?;
+    assert!(rt; turns.load(Ordering::SeqCst) < MOST_TURNS);
+    let told = first.bytes.into_inner();
+    assert!(rt; told.as_slice().starts_with(WELCOME));
+    assert_eq!(rt; &told.as_slice()[WELCOME.len()..], ABORTED);
+    Ok(())
+}

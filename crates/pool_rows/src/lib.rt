@@ -1,0 +1,17 @@
+//! Tests of sessions on threads, over connections in memory and over TCP.
+#![tactic(auto)]
+
+#[cfg(test)]
+mod clients;
+#[cfg(test)]
+mod connections;
+#[cfg(test)]
+mod failing;
+#[cfg(test)]
+mod gate;
+#[cfg(test)]
+mod repositories;
+#[cfg(test)]
+mod settings;
+#[cfg(test)]
+mod watching;

@@ -1,0 +1,94 @@
+//! What is told of logins, and of the ends of sessions.
+
+use crate::connections::{Client, LOGIN, NEVER, Still, call};
+use crate::repositories::empty_repository;
+use conversations::{OpenGate, Watch};
+use cram::Users;
+use crossbeam_channel::unbounded;
+use machine::Options;
+use session_pool::SessionPool;
+use std::mem::drop;
+use std::sync::atomic::{AtomicU64, Ordering};
+use std::test::Fail;
+
+/// Counts what it is told: the logins of alice in session 1 and all logins, the logins that session 1 has refused, and
+/// the sessions that have ended without a halt.
+#[derive(Drop)]
+struct Counts {
+    of_alice: AtomicU64,
+    logins: AtomicU64,
+    refused: AtomicU64,
+    ended: AtomicU64,
+}
+
+impl Watch for Counts {
+    fn logged_in(&self, session: u64, user: &[u8]) {
+        self.logins.fetch_add(1, Ordering::SeqCst);
+        if session == 1 && user == b"alice".as_slice() {
+            self.of_alice.fetch_add(1, Ordering::SeqCst);
+        }
+    }
+
+    fn refused(&self, session: u64, logins: u64) {
+        if session == 1 {
+            self.refused.fetch_add(logins, Ordering::SeqCst);
+        }
+    }
+
+    fn ended(&self, session: u64, is_halted: bool) {
+        if !is_halted && (session == 1 || session == 2) {
+            self.ended.fetch_add(1, Ordering::SeqCst);
+        }
+    }
+}
+
+/// The client's answer to `<7.1000000@r>` is refused, since its digest is that under another password; then alice logs
+/// in. The digests are those of Python's `hmac`, under `Secret` and under `secret`.
+const PIECES: [&[u8]; 5] = [
+    b"( 2 ( edit-pipeline ) 9:svn://h/r ) ",
+    b"( CRAM-MD5 ( ) ) ",
+    b"38:alice 17e8937c04f779be38c3f92f4469ca1a ",
+    b"( CRAM-MD5 ( ) ) ",
+    b"38:alice ad23bd7859dbb026ae4be57869185a5a ",
+];
+
+/// What this client is told.
+const TOLD: &[u8] = b"( success ( 2 2 ( ) ( edit-pipeline absent-entries commit-revprops ) ) ) \
+      ( success ( ( ANONYMOUS CRAM-MD5 ) 1:r ) ) ( step ( 13:<7.1000000@r> ) ) \
+      ( failure ( 12:login failed ) ) ( step ( 13:<7.1000000@r> ) ) ( success ( ) ) \
+      ( success ( 36:00000000-0000-4000-8000-000000000000 9:svn://h/r ( ) ) ) ";
+
+#[test]
+fn logins_and_ends_are_told(rt: HostRuntime) -> Result<(), Fail> {
+    let alloc = rt.alloc();
+    let users = Users::read(alloc, b"[users]\nalice = secret\n")?;
+    let options = Options::new(alloc, "r")?.with_users(users);
+    let counts = Counts {
+        of_alice: AtomicU64::new(0),
+        logins: AtomicU64::new(0),
+        refused: AtomicU64::new(0),
+        ended: AtomicU64::new(0),
+    };
+    let pool = SessionPool::new(&options, &OpenGate, &counts);
+    let alice = Client::new(alloc, NEVER)?;
+    let nobody = Client::new(alloc, NEVER)?;
+    let (to, from) = unbounded(alloc)?;
+    call(&rt, alloc, &to, (1, &PIECES), (&alice, usize::MAX))?;
+    call(&rt, alloc, &to, (2, &[LOGIN]), (&nobody, usize::MAX))?;
+    drop(to);
+    let desk = (
+        empty_repository(alloc)?,
+        Still {
+            moment: 1_000_000,
+            nonce: 7,
+        },
+    );
+    pool.work(&rt, alloc, &from, desk);
+    drop(from);
+    assert_eq!(rt; alice.bytes.into_inner().as_slice(), TOLD);
+    assert_eq!(rt; counts.of_alice.load(Ordering::SeqCst), 1);
+    assert_eq!(rt; counts.logins.load(Ordering::SeqCst), 1);
+    assert_eq!(rt; counts.refused.load(Ordering::SeqCst), 1);
+    assert_eq!(rt; counts.ended.load(Ordering::SeqCst), 2);
+    Ok(())
+}
