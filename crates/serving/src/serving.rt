@@ -25,7 +25,8 @@ use std::thread::Threads;
 use std::time::Clock;
 use stored_repository::Filed;
 
-/// Takes connections at an entrance of a repository in files.
+/// Takes connections at an entrance of a repository in files: for any repository, since at a named one the checker
+/// reaches its limit of steps.
 fn take_at<R, F, S, J>(
     entrance: &Entrance<'_, R, SharedFiles<F, S, J>>,
     pool: &SessionPool<'_, OpenGate, Journal<'_, R>>,
