@@ -155,11 +155,17 @@ def kind_of(node):
 
 
 class Had(NamedTuple):
-    """What a client has at a path: an entry of a revision, and the token of a lock."""
+    """What a client has at a path: an entry of a revision, the token of a lock, and how much of what is in a directory."""
 
     node: Node
     revision: int
     token: Optional[str] = None
+    depth: str = "infinity"
+
+
+def depth_below(depth):
+    """The depth of a directory in a directory of this depth, where nothing is said of it."""
+    return "infinity" if depth == "infinity" else "empty"
 
 
 class Report:
@@ -195,8 +201,9 @@ class Report:
         self.goal = own if url is None else path_of_url(url)
         self.target = beyond(own, self.anchor)
         self.revision = self.known(self.revisions.youngest if revision is None else revision)
-        if not recurse or depth not in (None, "infinity", "unknown"):
+        if depth == "exclude":
             raise Refused(NOT_SUPPORTED)
+        self.depth = depth or ("infinity" if recurse else "empty" if self.purpose == "status" else "files")
 
     def attempt(self, act):
         """Does something, if nothing was refused before."""
@@ -253,8 +260,9 @@ class Report:
         path = self.path(text)
         source = self.source(path) if url is None else path_of_url(url)
         self.known(revision)
-        if depth not in (None, "infinity", "unknown"):
+        if depth in ("unknown", "exclude"):
             raise Refused(NOT_SUPPORTED)
+        depth = depth or "infinity"
         if path != self.target and not self.is_directory(parent_of(path)):
             raise Refused(NOT_FOUND)
         tree = self.revisions.trees[revision]
@@ -266,11 +274,16 @@ class Report:
             if place == source:
                 # a client that checks a directory out, or whose checkout was interrupted, has none of its properties yet
                 is_bare = starts_empty and node.text is None
-                self.had[path] = Had(node._replace(properties=()) if is_bare else node, revision, token)
-            elif is_at_or_under(place, source) and not starts_empty:
-                self.had[joined(path, beyond(place, source))] = Had(node, revision)
+                self.had[path] = Had(node._replace(properties=()) if is_bare else node, revision, token, depth)
+            elif is_at_or_under(place, source) and not starts_empty and self.is_left(place, source, node, depth):
+                self.had[joined(path, beyond(place, source))] = Had(node, revision, None, depth_below(depth))
         if self.first is None:
-            self.first = revision
+            self.first, self.first_depth = revision, depth
+
+    def is_left(self, place, source, node, depth):
+        """Whether a depth leaves an entry that stands beneath the top."""
+        is_in_top = parent_of(place) == source
+        return depth == "infinity" or is_in_top and (depth == "immediates" or depth == "files" and node.text is not None)
 
     def names_top(self, text):
         """Whether a text names the target; one that names no path does not."""
@@ -316,6 +329,45 @@ class Report:
             joined(self.target, beyond(place, self.goal)): node for place, node in tree.items() if is_at_or_under(place, self.goal)
         }
 
+    @cached_property
+    def scope(self):
+        """The paths that the drive is of, of those that the client has or is to have."""
+        scope = {self.target}
+        left = [(self.target, self.limit(self.target, None))]
+        there = {*self.tree, *self.had}
+        while left:
+            path, limit = left.pop()
+            for child in there:
+                if child != path and child != "" and parent_of(child) == path and self.lets_in(limit, child):
+                    scope.add(child)
+                    left.append((child, self.limit(child, limit)))
+        return scope
+
+    def limit(self, path, above):
+        """How much of what is in a directory the drive is of, by the limit of the directory that it is in."""
+        if self.depth == "unknown" and self.is_directory(path):
+            return self.had[path].depth
+        if above is None:
+            return self.first_depth if self.depth == "unknown" else self.depth
+        return depth_below(above)
+
+    def lets_in(self, limit, child):
+        """Whether the drive is of an entry of a directory with this limit."""
+        if self.depth == "unknown" and child in self.had:
+            return True
+        kinds = [kind_of(self.tree.get(child)), kind_of(self.had[child].node if child in self.had else None)]
+        return limit in ("immediates", "infinity") or limit == "files" and "file" in kinds
+
+    @cached_property
+    def old(self):
+        """What the client has of what the drive is of."""
+        return {path: had for path, had in self.had.items() if path in self.scope}
+
+    @cached_property
+    def new(self):
+        """What the client is to have of what the drive is of."""
+        return {path: node for path, node in self.tree.items() if path in self.scope}
+
     def end_refusal(self):
         """Why there is no drive, if there is none."""
         if self.refusal is None and self.first is None:
@@ -341,9 +393,9 @@ class Report:
 
     def is_stale(self, path):
         """Whether the client has a token of an entry that it is to have, and no lock there has that token."""
-        token = self.had[path].token if path in self.had else None
+        token = self.old[path].token if path in self.old else None
         place = joined(self.goal, beyond(path, self.target))
-        return token is not None and path in self.tree and self.revisions.tokens.get(place) != token
+        return token is not None and path in self.new and self.revisions.tokens.get(place) != token
 
     def judge(self, told):
         """What is wrong with an answer to the end of this report, a line each."""
@@ -367,7 +419,7 @@ class Drive:
 
     def __init__(self, report):
         self.report = report
-        self.tree = report.tree
+        self.tree = report.new
         self.named = self.all_named()
         root = "d0"
         self.commands = [target_revision(report.revision), open_root(root, b"%d " % report.first)]
@@ -381,7 +433,7 @@ class Drive:
     def all_named(self):
         """The paths at or under which there is something to tell."""
         named = set()
-        for path in {*self.tree, *self.report.had}:
+        for path in {*self.tree, *self.report.old}:
             if self.is_due(path):
                 while path not in named:
                     named.add(path)
@@ -390,7 +442,7 @@ class Drive:
 
     def is_due(self, path):
         """Whether there is something to tell of an entry itself."""
-        new, had = self.tree.get(path), self.report.had.get(path)
+        new, had = self.tree.get(path), self.report.old.get(path)
         if new is None or had is None:
             return new is not had
         old = had.node
@@ -399,12 +451,12 @@ class Drive:
 
     def children(self, path):
         """The paths of what stands in a directory now or then, by the bytes of the names."""
-        there = {place for place in {*self.tree, *self.report.had} if place and parent_of(place) == path}
+        there = {place for place in {*self.tree, *self.report.old} if place and parent_of(place) == path}
         return sorted(there, key=lambda place: place.rpartition("/")[2].encode())
 
     def old(self, path, is_anew):
         """What the client has at a path, where it does not come anew."""
-        return None if is_anew or path not in self.report.had else self.report.had[path].node
+        return None if is_anew or path not in self.report.old else self.report.old[path].node
 
     def entries(self, directory, token, paths, is_anew):
         """What is to be told of these entries of a directory."""
@@ -424,7 +476,7 @@ class Drive:
         if is_anew:
             self.commands.append((add_directory if is_directory else add_file)(path, parent, token))
         else:
-            revision = b"( %d ) " % self.report.had[path].revision
+            revision = b"( %d ) " % self.report.old[path].revision
             self.commands.append((open_directory if is_directory else open_file)(path, parent, token, revision))
         self.tell(path, token, directory_property if is_directory else file_property, is_anew)
         if is_directory:
@@ -515,8 +567,8 @@ class Judge:
 
     def __init__(self, report, told):
         self.report = report
-        self.goal = report.tree
-        self.now = {path: [had.node.text, dict(had.node.properties)] for path, had in report.had.items()}
+        self.goal = report.new
+        self.now = {path: [had.node.text, dict(had.node.properties)] for path, had in report.old.items()}
         self.held = []
         self.opened, self.added, self.deleted, self.texts = set(), set(), set(), set()
         self.named = set()
@@ -548,7 +600,8 @@ class Judge:
             raise Wrong("this is not " + what)
 
     def name(self, path, how):
-        self.want(is_at_or_under(path, self.report.target), f"a path that was asked for: {path}")
+        is_root = path == "" and not self.report.target
+        self.want(is_root or path in self.report.scope, f"a path that was asked for: {path}")
         self.named.add(path)
         how.add(path)
 
@@ -645,7 +698,7 @@ class Judge:
     # What it led to, and what it named.
 
     def compare(self):
-        report, old, new = self.report, {path: had.node for path, had in self.report.had.items()}, self.goal
+        report, old, new = self.report, {path: had.node for path, had in self.report.old.items()}, self.goal
         without_texts = report.purpose == "status"
         for path in sorted({*old, *new, *self.now}):
             made, wanted = self.now.get(path), new.get(path)

@@ -40,7 +40,7 @@ TEXTS = {
 # how many bytes of a text are sent in one string, and in one window of a drive
 PIECE = 65_536
 
-GREETING = b"( success ( 2 2 ( ) ( edit-pipeline absent-entries commit-revprops ) ) ) "
+GREETING = b"( success ( 2 2 ( ) ( edit-pipeline absent-entries commit-revprops depth ) ) ) "
 NO_LOGIN = b"( success ( ( ) 0: ) ) "
 EMPTY = b"( success ( ) ) "
 NOT_OFFERED = b"( failure ( 21:mechanism not offered ) ) "

@@ -9,14 +9,16 @@ pub enum Location {
     Folder(String),
 }
 
-/// Sessions over TCP: the repository of this name, where to listen, the file of users, whether clients may change the
-/// properties of revisions, and whether nothing is told on standard error but a fault.
+/// Sessions over TCP: the repository of this name, where to listen, the file of users, how many sessions the clients of
+/// one address may have at a time, whether clients may change the properties of revisions, and whether nothing is told on
+/// standard error but a fault.
 #[derive(Debug, Drop)]
 pub struct Service {
     pub location: Location,
     pub listen: String,
     pub name: String,
     pub users: String,
+    pub per_address: u64,
     pub revprops: bool,
     pub quiet: bool,
 }

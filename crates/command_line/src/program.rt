@@ -24,6 +24,9 @@ pub(crate) const LISTEN: &str = "listen";
 /// The argument that names the file of users.
 pub(crate) const USERS: &str = "users";
 
+/// The argument that says how many sessions the clients of one address may have.
+pub(crate) const PER_ADDRESS: &str = "per-address";
+
 /// The argument that lets clients change the properties of revisions.
 pub(crate) const REVPROPS: &str = "revprops";
 
@@ -36,6 +39,14 @@ fn required_argument<'a>(alloc: Global, name: &'a str, value: &'a str) -> Arg<'a
         .long(name)
         .value_name(value)
         .required(true)
+}
+
+/// An argument with a value that may be left out.
+fn optional_argument<'a>(alloc: Global, name: &'a str, value: &'a str, help: &'a str) -> Arg<'a> {
+    Arg::new(alloc, name)
+        .long(name)
+        .value_name(value)
+        .help(help)
 }
 
 /// An argument without a value.
@@ -81,7 +92,7 @@ fn stdio_command<'a>(alloc: Global) -> Result<Command<'a>, AllocError> {
         .arg(revprops_argument(alloc))
 }
 
-/// `serve DIR --listen A:P --name N --users FILE [--revprops] [--quiet]`.
+/// `serve DIR --listen A:P --name N --users FILE [--per-address N] [--revprops] [--quiet]`.
 fn serve_command<'a>(alloc: Global) -> Result<Command<'a>, AllocError> {
     Command::new(alloc, SERVE)
         .about("Serves sessions over TCP")
@@ -89,6 +100,12 @@ fn serve_command<'a>(alloc: Global) -> Result<Command<'a>, AllocError> {
         .arg(required_argument(alloc, LISTEN, "A:P"))?
         .arg(required_argument(alloc, NAME, "N"))?
         .arg(required_argument(alloc, USERS, "FILE"))?
+        .arg(optional_argument(
+            alloc,
+            PER_ADDRESS,
+            "N",
+            "How many sessions one address may have at a time, 1 to 16",
+        ))?
         .arg(revprops_argument(alloc))?
         .arg(flag_argument(alloc, QUIET, "Tells nothing on standard error but a fault"))
 }

@@ -2,10 +2,15 @@
 
 use crate::fault::CommandLineFault;
 use crate::order::{Location, Order, Service};
-use crate::program::{CREATE, FOLDER, LISTEN, NAME, QUIET, REVPROPS, SERVE, USERS, program};
+use crate::program::{
+    CREATE, FOLDER, LISTEN, NAME, PER_ADDRESS, QUIET, REVPROPS, SERVE, USERS, program,
+};
 use clap::error::ErrorKind;
 use clap::{ArgMatches, Error};
 use std::alloc::Global;
+
+/// How many sessions one address may have at a time where nothing is said of it: as many as there are.
+const SESSIONS: u64 = 16;
 
 /// The folder that stands for an empty repository in memory.
 const IN_MEMORY: &str = "-";
@@ -80,17 +85,30 @@ fn stdio_order(alloc: Global, matches: &ArgMatches<'_>) -> Result<Order, Command
     })
 }
 
+/// How many sessions one address may have at a time.
+fn per_address_of(alloc: Global, matches: &ArgMatches<'_>) -> Result<u64, CommandLineFault> {
+    let Some(text) = matches.get_str(PER_ADDRESS) else {
+        return Ok(SESSIONS);
+    };
+    match text.parse::<u64>() {
+        Ok(count) if count >= 1 && count <= SESSIONS => Ok(count),
+        _ => Err(bad(alloc, "error: N of --per-address is 1 to 16\n")),
+    }
+}
+
 /// The order that the arguments of `serve` give.
 fn serve_order(alloc: Global, matches: &ArgMatches<'_>) -> Result<Order, CommandLineFault> {
     let location = location_of(alloc, matches)?;
     let listen = value_of(alloc, matches, LISTEN)?;
     let name = value_of(alloc, matches, NAME)?;
     let users = value_of(alloc, matches, USERS)?;
+    let per_address = per_address_of(alloc, matches)?;
     Ok(Order::Serve(Service {
         location,
         listen,
         name,
         users,
+        per_address,
         revprops: matches.get_flag(REVPROPS),
         quiet: matches.get_flag(QUIET),
     }))

@@ -27,11 +27,14 @@ fn served(alloc: Global, service: &Service) -> Result<String, AllocError> {
         listen,
         name,
         users,
+        per_address,
         revprops,
         quiet,
     } = service;
     let location = located(location);
-    Ok(format!(in alloc; "serve {location} {listen} {name} {users} {revprops} {quiet}")?)
+    Ok(format!(in alloc;
+        "serve {location} {listen} {name} {users} {per_address} {revprops} {quiet}"
+    )?)
 }
 
 /// An order as one text.
@@ -77,11 +80,15 @@ fn reads_what_is_asked_for(rt: HostRuntime) -> Result<(), Fail> {
         ("svnserved create folder", "create folder"),
         (
             "svnserved serve - --listen 127.0.0.1:3690 --name r --users file",
-            "serve in memory 127.0.0.1:3690 r file false false",
+            "serve in memory 127.0.0.1:3690 r file 16 false false",
         ),
         (
             "svnserved serve --quiet --users=file --revprops --name=r --listen=0.0.0.0:1 folder",
-            "serve folder 0.0.0.0:1 r file true true",
+            "serve folder 0.0.0.0:1 r file 16 true true",
+        ),
+        (
+            "svnserved serve - --listen 127.0.0.1:1 --per-address 4 --name r --users file",
+            "serve in memory 127.0.0.1:1 r file 4 false false",
         ),
         ("svnserved --help", "help"),
         ("svnserved serve --help", "help"),
@@ -114,6 +121,9 @@ fn refuses_other_lines(rt: HostRuntime) -> Result<(), Fail> {
         "svnserved serve - --listen 127.0.0.1:1 --users file",
         "svnserved serve - --listen 127.0.0.1:1 --name r",
         "svnserved serve --listen 127.0.0.1:1 --name r --users file",
+        "svnserved serve - --listen 127.0.0.1:1 --name r --users file --per-address 0",
+        "svnserved serve - --listen 127.0.0.1:1 --name r --users file --per-address 17",
+        "svnserved serve - --listen 127.0.0.1:1 --name r --users file --per-address many",
         "svnserved other - --name r",
     ];
     for line in lines {

@@ -27,6 +27,9 @@ use std::alloc::Global;
 use std::io;
 use std::io::{Read, Write};
 
+/// How many bytes of an item that is not whole yet are held at most, but for a piece: 64 MiB.
+const MAX_UNREAD: usize = 67_108_864;
+
 /// The greeting.
 fn greeting(alloc: Global) -> Result<Vec<u8>, TalkFault>
     ensures ok { IfOk result (λ out. out.items ≡ print (Greeting ∷ [])) }
@@ -124,7 +127,8 @@ impl<'w, A: RepoAccess + Drop, E: EnvSource + Drop, G: Gate, W: Watch> Worker<'w
         }
     }
 
-    /// Answers pieces of the input, each before the next is read, until it ends or the session isn't open any more.
+    /// Answers pieces of the input, each before the next is read, until it ends or the session isn't open any more. An
+    /// item that is too long ends it too.
     fn converse<I: Read, O: Write>(
         &mut self,
         number: u64,
@@ -156,6 +160,9 @@ impl<'w, A: RepoAccess + Drop, E: EnvSource + Drop, G: Gate, W: Watch> Worker<'w
         for turn in 0..u64::MAX {
             if !session.is_open() {
                 return Ok(());
+            }
+            if session.unread_len() > MAX_UNREAD {
+                return Err(TalkFault::TooLong);
             }
             let count = read_piece(input, &mut buffer).map_err(TalkFault::Read)?;
             if count == 0 {

@@ -1,5 +1,6 @@
 pub mod BoundLaws
 pub mod Bounds
+pub mod Depths
 pub mod LeadLaws
 pub mod Names
 pub mod Plans

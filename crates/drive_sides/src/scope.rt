@@ -1,5 +1,6 @@
 //! The paths that a drive is of.
 ghost use Rattle.std.specs.Prelude.{◌≡◌, true, Option, IfOk};
+ghost use Rattle.std.specs.List.{list_any};
 ghost use Rattle.svnpath.specs.Paths.{is_at_or_under};
 ghost use Rattle.repo_api.specs.Kinds.{kind_of};
 ghost use Rattle.repo_api.specs.declared.entry.Entry.{Entry};
@@ -7,13 +8,14 @@ ghost use Rattle.drives.specs.Scopes.{brings_in, keeps_old, lets_in, depth_said,
 ghost use Rattle.drives.specs.declared.depth.Depth.TheVariants.{Infinity};
 ghost use Rattle.reports.specs.Reported.{reported_entries};
 ghost use Rattle.reports.specs.Targets.{client_tree, drive_scope, limit_of, reported_depth, target_tree};
-ghost use Rattle.reports.specs.declared.ask.DepthAsked.TheVariants.{Given};
+ghost use Rattle.reports.specs.declared.ask.DepthAsked.TheVariants.{AsReported, Given};
 ghost use Rattle.drive_sides.specs.Plans.{whole};
+ghost use Rattle.drive_sides.specs.Depths.{is_shallow, is_to_the_end, FollowsWholeReport};
 
 use crate::two_trees::TwoTrees;
 use drives::Depth;
 use repo_api::{NodeKind, Repository};
-use reports::DepthAsked;
+use reports::{DepthAsked, Graft};
 use std::alloc::{AllocError, Global};
 use svnpath::Path;
 
@@ -44,8 +46,20 @@ fn said_or(said: Option<Depth>, above: Depth) -> Depth
     }
 }
 
+/// Whether a depth goes to the end.
+fn is_to_the_end(depth: Depth) -> bool
+    ensures { result ≡ is_to_the_end depth }
+{
+    match depth {
+        Depth::Infinity => true,
+        Depth::Immediates => false,
+        Depth::Files => false,
+        Depth::Empty => false,
+    }
+}
+
 /// Whether everything is asked for.
-fn is_to_the_end(depth: DepthAsked) -> bool
+fn asks_for_all(depth: DepthAsked) -> bool
     ensures { result ≡ true → depth ≡ Given Infinity }
 {
     match depth {
@@ -57,6 +71,38 @@ fn is_to_the_end(depth: DepthAsked) -> bool
             Depth::Empty => false,
         },
     }
+}
+
+/// Whether as much is asked for as was reported.
+fn asks_as_reported(depth: DepthAsked) -> bool
+    ensures { result ≡ true → depth ≡ AsReported }
+{
+    match depth {
+        DepthAsked::AsReported => true,
+        DepthAsked::Given(_) => false,
+    }
+}
+
+/// Whether less than everything is reported of what a graft puts.
+fn is_shallow(graft: &Graft) -> bool
+    ensures { result ≡ is_shallow graft.now }
+{
+    match &graft.subtree {
+        None => false,
+        Some(subtree) => !is_to_the_end(subtree.depth),
+    }
+}
+
+/// Whether less than everything is reported of what some graft puts.
+fn has_shallow(grafts: &[Graft]) -> bool
+    ensures { result ≡ list_any is_shallow grafts.now }
+{
+    for graft in grafts {
+        if is_shallow(graft) {
+            return true;
+        }
+    }
+    false
 }
 
 impl<'a, R: Repository> TwoTrees<'a, R> {
@@ -150,6 +196,15 @@ impl<'a, R: Repository> TwoTrees<'a, R> {
         Ok(true)
     }
 
+    /// Whether as much is asked for as was reported, and everything was reported.
+    fn follows_whole_report(&self) -> bool
+        ensures { result ≡ true → FollowsWholeReport (whole self.now.report.now self.now.root) }
+    {
+        asks_as_reported(self.report.ask.depth)
+            && is_to_the_end(self.root.depth)
+            && !has_shallow(self.report.grafts.as_slice())
+    }
+
     /// Whether a drive is of a path.
     pub(crate) fn is_in_scope(&self, alloc: Global, path: &Path) -> Result<bool, AllocError>
         ensures { IfOk result (λ answer. answer ≡ drive_scope (R.content self.now.view.now)
@@ -159,7 +214,10 @@ impl<'a, R: Repository> TwoTrees<'a, R> {
         if !path.is_at_or_under(ask.target.as_path()) {
             return Ok(false);
         }
-        if is_to_the_end(ask.depth) {
+        if asks_for_all(ask.depth) {
+            return Ok(true);
+        }
+        if self.follows_whole_report() {
             return Ok(true);
         }
         self.is_reached(alloc, path)

@@ -12,4 +12,4 @@ pub use editing::{
     ends_edit,
 };
 pub use laws::commands_are_read;
-pub use printing::command_item;
+pub use printing::write_command;

@@ -1,218 +1,339 @@
-//! The items that commands of an edit are sent as.
-ghost use Rattle.std.specs.Prelude.{◌≡◌, IfOk};
-ghost use Rattle.items.specs.Values.{word, string, list, only};
-ghost use Rattle.items.specs.View.{value_of, values_of};
-ghost use Rattle.items.specs.Word.{IsWord};
-ghost use Rattle.edit_commands.specs.declared.editing.EditorCommand.TheVariants.{DeleteEntry, OpenRoot, TextDeltaChunk};
+//! The bytes that commands of an edit are sent as.
+ghost use Rattle.std.specs.Prelude.{◌≡◌, ◌++◌, ◌∷◌, [], OnOk, OnErr};
+ghost use Rattle.items.specs.Print.{printed, row_printed, Grows};
+ghost use Rattle.items.specs.Values.{number, string, word, none, more, only, both};
 ghost use Rattle.edit_commands.specs.Printing.{command, command_item, absent_items, added_items, checksum_items, opened_items, property_items, revision_item, source_item, string_item};
 
 use crate::editing::{
     AbsentEntry, AddedEntry, DeletedEntry, EditorCommand, OpenedEntry, PropertyChange,
 };
 use byte_string::ByteString;
-use items::{Item, Name};
-use std::alloc::{AllocError, Global};
+use items::{append_number, append_string, append_word};
+use std::alloc::AllocError;
 
-/// The item that a command is sent as.
-pub fn command_item(alloc: Global, command: &EditorCommand) -> Result<Item, AllocError>
-    ensures { IfOk result (λ item. value_of item ≡ command_item command.now) }
+/// Writes a command at the end, as the bytes of its item. An `Err` changes nothing.
+pub fn write_command(command: &EditorCommand, out: &mut Vec<u8>) -> Result<(), AllocError>
+    ensures ok { OnOk result (out.new.items
+        ≡ out.old.items ++ printed (command_item command.now)) }
+    ensures err { OnErr result (out.new.items ≡ out.old.items) }
+{
+    let len = out.len();
+    let written = append_command(command, out);
+    if written.is_err() {
+        out.truncate(len);
+    }
+    written
+}
+
+// What follows appends bytes: an `Err` leaves a part of them behind the old ones.
+
+fn append_command(command: &EditorCommand, out: &mut Vec<u8>) -> Result<(), AllocError>
+    ensures ok { OnOk result (out.new.items
+        ≡ out.old.items ++ printed (command_item command.now)) }
+    ensures grows { Grows out.old.items out.new.items }
 {
     match command {
-        EditorCommand::TargetRevision(n) => with_name(alloc, b"target-rev", [Item::Number(*n)]),
-        EditorCommand::OpenRoot(revision, token) => open_root_item(alloc, *revision, token),
-        EditorCommand::DeleteEntry(entry) => deleted_item(alloc, entry),
-        EditorCommand::AddDirectory(entry) => added_item(alloc, b"add-dir", entry),
-        EditorCommand::AddFile(entry) => added_item(alloc, b"add-file", entry),
-        EditorCommand::OpenDirectory(entry) => opened_item(alloc, b"open-dir", entry),
-        EditorCommand::OpenFile(entry) => opened_item(alloc, b"open-file", entry),
-        EditorCommand::AbsentDirectory(entry) => absent_item(alloc, b"absent-dir", entry),
-        EditorCommand::AbsentFile(entry) => absent_item(alloc, b"absent-file", entry),
+        EditorCommand::TargetRevision(n) => append_revision_alone(b"target-rev", *n, out),
+        EditorCommand::OpenRoot(revision, token) => append_root(
+            b"open-root",
+            *revision,
+            token,
+            out,
+        ),
+        EditorCommand::DeleteEntry(entry) => append_deleted(b"delete-entry", entry, out),
+        EditorCommand::AddDirectory(entry) => append_added(b"add-dir", entry, out),
+        EditorCommand::AddFile(entry) => append_added(b"add-file", entry, out),
+        EditorCommand::OpenDirectory(entry) => append_opened(b"open-dir", entry, out),
+        EditorCommand::OpenFile(entry) => append_opened(b"open-file", entry, out),
+        EditorCommand::AbsentDirectory(entry) => append_absent(b"absent-dir", entry, out),
+        EditorCommand::AbsentFile(entry) => append_absent(b"absent-file", entry, out),
         EditorCommand::ChangeDirectoryProperty(change) => {
-            property_item(alloc, b"change-dir-prop", change)
+            append_property(b"change-dir-prop", change, out)
         }
         EditorCommand::ChangeFileProperty(change) => {
-            property_item(alloc, b"change-file-prop", change)
+            append_property(b"change-file-prop", change, out)
         }
         EditorCommand::ApplyTextDelta(token, checksum) => {
-            checksum_item(alloc, b"apply-textdelta", token, checksum)
+            append_checksum(b"apply-textdelta", token, checksum, out)
         }
-        EditorCommand::TextDeltaChunk(token, bytes) => chunk_item(alloc, token, bytes),
-        EditorCommand::TextDeltaEnd(token) => token_item(alloc, b"textdelta-end", token),
-        EditorCommand::CloseDirectory(token) => token_item(alloc, b"close-dir", token),
+        EditorCommand::TextDeltaChunk(token, bytes) => append_chunk(
+            b"textdelta-chunk",
+            token,
+            bytes,
+            out,
+        ),
+        EditorCommand::TextDeltaEnd(token) => append_token(b"textdelta-end", token, out),
+        EditorCommand::CloseDirectory(token) => append_token(b"close-dir", token, out),
         EditorCommand::CloseFile(token, checksum) => {
-            checksum_item(alloc, b"close-file", token, checksum)
+            append_checksum(b"close-file", token, checksum, out)
         }
-        EditorCommand::CloseEdit => with_name(alloc, b"close-edit", []),
-        EditorCommand::AbortEdit => with_name(alloc, b"abort-edit", []),
+        EditorCommand::CloseEdit => append_alone(b"close-edit", out),
+        EditorCommand::AbortEdit => append_alone(b"abort-edit", out),
     }
 }
 
-/// A list of these items.
-fn list_item<const N: usize>(alloc: Global, items: [Item; N]) -> Result<Item, AllocError>
-    ensures { IfOk result (λ item. value_of item ≡ list (values_of items.entry)) }
+/// `( name ( `
+fn append_name(name: &[u8], out: &mut Vec<u8>) -> Result<(), AllocError>
+    ensures ok { OnOk result (out.new.items
+        ≡ out.old.items ++ (40 ∷ 32 ∷ (printed (word name.now) ++ (40 ∷ 32 ∷ [])))) }
+    ensures grows { Grows out.old.items out.new.items }
 {
-    let items = Vec::from_array(alloc, items).map_err(AllocError::from)?;
-    Ok(Item::List(items))
+    out.extend_from_slice(b"( ")?;
+    append_word(name, out)?;
+    out.extend_from_slice(b"( ")
 }
 
-/// A word. The bytes are a letter, then letters, digits and dashes.
-fn word_item(alloc: Global, bytes: &[u8]) -> Result<Item, AllocError>
-    requires { IsWord bytes.now }
-    ensures { IfOk result (λ item. value_of item ≡ word bytes.now) }
+/// `) ) `
+fn append_end(out: &mut Vec<u8>) -> Result<(), AllocError>
+    ensures ok { OnOk result (out.new.items ≡ out.old.items ++ (41 ∷ 32 ∷ 41 ∷ 32 ∷ [])) }
+    ensures grows { Grows out.old.items out.new.items }
 {
-    let bytes = Vec::from_slice(alloc, bytes)?;
-    Ok(Item::Word(Name::from_vec(bytes)))
-}
-
-/// A string.
-fn text_item(text: &ByteString) -> Result<Item, AllocError>
-    ensures { IfOk result (λ item. value_of item ≡ string text.now) }
-{
-    Ok(Item::Str(text.clone()?))
-}
-
-/// `( name ( params ) )`
-fn with_name<const N: usize>(
-    alloc: Global,
-    name: &[u8],
-    params: [Item; N],
-) -> Result<Item, AllocError>
-    requires { IsWord name.now }
-    ensures { IfOk result (λ item. value_of item ≡ command name.now (values_of params.entry)) }
-{
-    let params = list_item(alloc, params)?;
-    list_item(alloc, [word_item(alloc, name)?, params])
+    out.extend_from_slice(b") ) ")
 }
 
 /// `[ rev ]`
-fn revision_item(alloc: Global, revision: Option<u64>) -> Result<Item, AllocError>
-    ensures { IfOk result (λ item. value_of item ≡ revision_item revision) }
+fn append_revision(revision: Option<u64>, out: &mut Vec<u8>) -> Result<(), AllocError>
+    ensures ok { OnOk result (out.new.items
+        ≡ out.old.items ++ printed (revision_item revision)) }
+    ensures grows { Grows out.old.items out.new.items }
 {
-    match revision {
-        None => list_item(alloc, []),
-        Some(n) => list_item(alloc, [Item::Number(n)]),
+    out.extend_from_slice(b"( ")?;
+    if let Some(n) = revision {
+        append_number(n, out)?;
     }
+    out.extend_from_slice(b") ")
 }
 
 /// `[ string ]`
-fn optional_item(alloc: Global, text: &Option<ByteString>) -> Result<Item, AllocError>
-    ensures { IfOk result (λ item. value_of item ≡ string_item text.now) }
+fn append_optional(text: &Option<ByteString>, out: &mut Vec<u8>) -> Result<(), AllocError>
+    ensures ok { OnOk result (out.new.items ≡ out.old.items ++ printed (string_item text.now)) }
+    ensures grows { Grows out.old.items out.new.items }
 {
-    match text {
-        None => list_item(alloc, []),
-        Some(text) => list_item(alloc, [text_item(text)?]),
+    out.extend_from_slice(b"( ")?;
+    if let Some(text) = text {
+        append_string(text.as_slice(), out)?;
     }
+    out.extend_from_slice(b") ")
 }
 
 /// `[ copy-path copy-rev ]`
-fn copy_item(alloc: Global, source: &Option<(ByteString, u64)>) -> Result<Item, AllocError>
-    ensures { IfOk result (λ item. value_of item ≡ source_item source.now) }
+fn append_source(source: &Option<(ByteString, u64)>, out: &mut Vec<u8>) -> Result<(), AllocError>
+    ensures ok { OnOk result (out.new.items
+        ≡ out.old.items ++ printed (source_item source.now)) }
+    ensures grows { Grows out.old.items out.new.items }
 {
-    match source {
-        None => list_item(alloc, []),
-        Some((path, revision)) => list_item(alloc, [text_item(path)?, Item::Number(*revision)]),
+    out.extend_from_slice(b"( ")?;
+    if let Some((path, revision)) = source {
+        append_string(path.as_slice(), out)?;
+        append_number(*revision, out)?;
     }
+    out.extend_from_slice(b") ")
 }
 
-/// `( open-root ( [ rev ] token ) )`
-fn open_root_item(
-    alloc: Global,
+/// `string string`
+fn append_two(first: &ByteString, second: &ByteString, out: &mut Vec<u8>) -> Result<(), AllocError>
+    ensures ok { OnOk result (out.new.items ≡ out.old.items
+        ++ row_printed (both (string first.now) (string second.now))) }
+    ensures grows { Grows out.old.items out.new.items }
+{
+    append_string(first.as_slice(), out)?;
+    append_string(second.as_slice(), out)
+}
+
+/// `( name ( ) )`
+fn append_alone(name: &[u8], out: &mut Vec<u8>) -> Result<(), AllocError>
+    ensures ok { OnOk result (out.new.items
+        ≡ out.old.items ++ printed (command name.now none)) }
+    ensures grows { Grows out.old.items out.new.items }
+{
+    append_name(name, out)?;
+    append_end(out)
+}
+
+/// `( name ( rev ) )`
+fn append_revision_alone(name: &[u8], revision: u64, out: &mut Vec<u8>) -> Result<(), AllocError>
+    ensures ok { OnOk result (out.new.items ≡ out.old.items ++ printed (command name.now (only (number revision)))) }
+    ensures grows { Grows out.old.items out.new.items }
+{
+    append_name(name, out)?;
+    append_number(revision, out)?;
+    append_end(out)
+}
+
+/// `[ rev ] token`
+fn append_root_params(
     revision: Option<u64>,
     token: &ByteString,
-) -> Result<Item, AllocError>
-    ensures { IfOk result (λ item. value_of item ≡ command_item (OpenRoot revision token.now)) }
+    out: &mut Vec<u8>,
+) -> Result<(), AllocError>
+    ensures ok { OnOk result (out.new.items ≡ out.old.items ++ row_printed (both (revision_item revision) (string token.now))) }
+    ensures grows { Grows out.old.items out.new.items }
 {
-    let revision = revision_item(alloc, revision)?;
-    with_name(alloc, b"open-root", [revision, text_item(token)?])
+    append_revision(revision, out)?;
+    append_string(token.as_slice(), out)
 }
 
-/// `( delete-entry ( path [ rev ] parent ) )`
-fn deleted_item(alloc: Global, entry: &DeletedEntry) -> Result<Item, AllocError>
-    ensures { IfOk result (λ item. value_of item ≡ command_item (DeleteEntry entry.now)) }
+/// `( name ( [ rev ] token ) )`
+fn append_root(
+    name: &[u8],
+    revision: Option<u64>,
+    token: &ByteString,
+    out: &mut Vec<u8>,
+) -> Result<(), AllocError>
+    ensures ok { OnOk result (out.new.items ≡ out.old.items ++ printed (command name.now
+        (both (revision_item revision) (string token.now)))) }
+    ensures grows { Grows out.old.items out.new.items }
 {
-    let path = text_item(&entry.path)?;
-    let revision = revision_item(alloc, entry.revision)?;
-    with_name(
-        alloc,
-        b"delete-entry",
-        [path, revision, text_item(&entry.parent)?],
-    )
+    append_name(name, out)?;
+    append_root_params(revision, token, out)?;
+    append_end(out)
+}
+
+/// `path [ rev ] parent`
+fn append_deleted_params(entry: &DeletedEntry, out: &mut Vec<u8>) -> Result<(), AllocError>
+    ensures ok { OnOk result (out.new.items ≡ out.old.items ++ row_printed (more (string entry.now.path)
+        (both (revision_item entry.now.revision) (string entry.now.parent)))) }
+    ensures grows { Grows out.old.items out.new.items }
+{
+    append_string(entry.path.as_slice(), out)?;
+    append_root_params(entry.revision, &entry.parent, out)
+}
+
+/// `( name ( path [ rev ] parent ) )`
+fn append_deleted(name: &[u8], entry: &DeletedEntry, out: &mut Vec<u8>) -> Result<(), AllocError>
+    ensures ok { OnOk result (out.new.items ≡ out.old.items ++ printed (command name.now (more (string entry.now.path)
+        (both (revision_item entry.now.revision) (string entry.now.parent))))) }
+    ensures grows { Grows out.old.items out.new.items }
+{
+    append_name(name, out)?;
+    append_deleted_params(entry, out)?;
+    append_end(out)
+}
+
+/// `path parent token [ copy-path copy-rev ]`
+fn append_added_params(entry: &AddedEntry, out: &mut Vec<u8>) -> Result<(), AllocError>
+    ensures ok { OnOk result (out.new.items ≡ out.old.items ++ row_printed (added_items entry.now)) }
+    ensures grows { Grows out.old.items out.new.items }
+{
+    append_two(&entry.path, &entry.parent, out)?;
+    append_string(entry.token.as_slice(), out)?;
+    append_source(&entry.source, out)
 }
 
 /// `( name ( path parent token [ copy-path copy-rev ] ) )`
-fn added_item(alloc: Global, name: &[u8], entry: &AddedEntry) -> Result<Item, AllocError>
-    requires { IsWord name.now }
-    ensures { IfOk result (λ item. value_of item ≡ command name.now (added_items entry.now)) }
+fn append_added(name: &[u8], entry: &AddedEntry, out: &mut Vec<u8>) -> Result<(), AllocError>
+    ensures ok { OnOk result (out.new.items ≡ out.old.items ++ printed (command name.now (added_items entry.now))) }
+    ensures grows { Grows out.old.items out.new.items }
 {
-    let path = text_item(&entry.path)?;
-    let parent = text_item(&entry.parent)?;
-    let token = text_item(&entry.token)?;
-    let source = copy_item(alloc, &entry.source)?;
-    with_name(alloc, name, [path, parent, token, source])
+    append_name(name, out)?;
+    append_added_params(entry, out)?;
+    append_end(out)
+}
+
+/// `path parent token [ rev ]`
+fn append_opened_params(entry: &OpenedEntry, out: &mut Vec<u8>) -> Result<(), AllocError>
+    ensures ok { OnOk result (out.new.items ≡ out.old.items ++ row_printed (opened_items entry.now)) }
+    ensures grows { Grows out.old.items out.new.items }
+{
+    append_two(&entry.path, &entry.parent, out)?;
+    append_string(entry.token.as_slice(), out)?;
+    append_revision(entry.revision, out)
 }
 
 /// `( name ( path parent token [ rev ] ) )`
-fn opened_item(alloc: Global, name: &[u8], entry: &OpenedEntry) -> Result<Item, AllocError>
-    requires { IsWord name.now }
-    ensures { IfOk result (λ item. value_of item ≡ command name.now (opened_items entry.now)) }
+fn append_opened(name: &[u8], entry: &OpenedEntry, out: &mut Vec<u8>) -> Result<(), AllocError>
+    ensures ok { OnOk result (out.new.items ≡ out.old.items ++ printed (command name.now (opened_items entry.now))) }
+    ensures grows { Grows out.old.items out.new.items }
 {
-    let path = text_item(&entry.path)?;
-    let parent = text_item(&entry.parent)?;
-    let token = text_item(&entry.token)?;
-    let revision = revision_item(alloc, entry.revision)?;
-    with_name(alloc, name, [path, parent, token, revision])
+    append_name(name, out)?;
+    append_opened_params(entry, out)?;
+    append_end(out)
 }
 
 /// `( name ( path parent ) )`
-fn absent_item(alloc: Global, name: &[u8], entry: &AbsentEntry) -> Result<Item, AllocError>
-    requires { IsWord name.now }
-    ensures { IfOk result (λ item. value_of item ≡ command name.now (absent_items entry.now)) }
+fn append_absent(name: &[u8], entry: &AbsentEntry, out: &mut Vec<u8>) -> Result<(), AllocError>
+    ensures ok { OnOk result (out.new.items ≡ out.old.items ++ printed (command name.now (absent_items entry.now))) }
+    ensures grows { Grows out.old.items out.new.items }
 {
-    let path = text_item(&entry.path)?;
-    with_name(alloc, name, [path, text_item(&entry.parent)?])
+    append_name(name, out)?;
+    append_two(&entry.path, &entry.parent, out)?;
+    append_end(out)
+}
+
+/// `token name [ value ]`
+fn append_property_params(change: &PropertyChange, out: &mut Vec<u8>) -> Result<(), AllocError>
+    ensures ok { OnOk result (out.new.items ≡ out.old.items ++ row_printed (property_items change.now)) }
+    ensures grows { Grows out.old.items out.new.items }
+{
+    append_two(&change.token, &change.name, out)?;
+    append_optional(&change.value, out)
 }
 
 /// `( name ( token name [ value ] ) )`
-fn property_item(alloc: Global, name: &[u8], change: &PropertyChange) -> Result<Item, AllocError>
-    requires { IsWord name.now }
-    ensures { IfOk result (λ item. value_of item
-        ≡ command name.now (property_items change.now)) }
+fn append_property(
+    name: &[u8],
+    change: &PropertyChange,
+    out: &mut Vec<u8>,
+) -> Result<(), AllocError>
+    ensures ok { OnOk result (out.new.items ≡ out.old.items ++ printed (command name.now (property_items change.now))) }
+    ensures grows { Grows out.old.items out.new.items }
 {
-    let token = text_item(&change.token)?;
-    let property = text_item(&change.name)?;
-    let value = optional_item(alloc, &change.value)?;
-    with_name(alloc, name, [token, property, value])
+    append_name(name, out)?;
+    append_property_params(change, out)?;
+    append_end(out)
+}
+
+/// `token [ checksum ]`
+fn append_checksum_params(
+    token: &ByteString,
+    checksum: &Option<ByteString>,
+    out: &mut Vec<u8>,
+) -> Result<(), AllocError>
+    ensures ok { OnOk result (out.new.items ≡ out.old.items ++ row_printed (checksum_items token.now checksum.now)) }
+    ensures grows { Grows out.old.items out.new.items }
+{
+    append_string(token.as_slice(), out)?;
+    append_optional(checksum, out)
 }
 
 /// `( name ( token [ checksum ] ) )`
-fn checksum_item(
-    alloc: Global,
+fn append_checksum(
     name: &[u8],
     token: &ByteString,
     checksum: &Option<ByteString>,
-) -> Result<Item, AllocError>
-    requires { IsWord name.now }
-    ensures { IfOk result (λ item. value_of item
-        ≡ command name.now (checksum_items token.now checksum.now)) }
+    out: &mut Vec<u8>,
+) -> Result<(), AllocError>
+    ensures ok { OnOk result (out.new.items ≡ out.old.items ++ printed (command name.now
+        (checksum_items token.now checksum.now))) }
+    ensures grows { Grows out.old.items out.new.items }
 {
-    let token = text_item(token)?;
-    let checksum = optional_item(alloc, checksum)?;
-    with_name(alloc, name, [token, checksum])
+    append_name(name, out)?;
+    append_checksum_params(token, checksum, out)?;
+    append_end(out)
 }
 
-/// `( textdelta-chunk ( token bytes ) )`
-fn chunk_item(alloc: Global, token: &ByteString, bytes: &ByteString) -> Result<Item, AllocError>
-    ensures { IfOk result (λ item. value_of item
-        ≡ command_item (TextDeltaChunk token.now bytes.now)) }
+/// `( name ( token bytes ) )`
+fn append_chunk(
+    name: &[u8],
+    token: &ByteString,
+    bytes: &ByteString,
+    out: &mut Vec<u8>,
+) -> Result<(), AllocError>
+    ensures ok { OnOk result (out.new.items ≡ out.old.items ++ printed (command name.now
+        (both (string token.now) (string bytes.now)))) }
+    ensures grows { Grows out.old.items out.new.items }
 {
-    let token = text_item(token)?;
-    with_name(alloc, b"textdelta-chunk", [token, text_item(bytes)?])
+    append_name(name, out)?;
+    append_two(token, bytes, out)?;
+    append_end(out)
 }
 
 /// `( name ( token ) )`
-fn token_item(alloc: Global, name: &[u8], token: &ByteString) -> Result<Item, AllocError>
-    requires { IsWord name.now }
-    ensures { IfOk result (λ item. value_of item ≡ command name.now (only (string token.now))) }
+fn append_token(name: &[u8], token: &ByteString, out: &mut Vec<u8>) -> Result<(), AllocError>
+    ensures ok { OnOk result (out.new.items ≡ out.old.items ++ printed (command name.now (only (string token.now)))) }
+    ensures grows { Grows out.old.items out.new.items }
 {
-    with_name(alloc, name, [text_item(token)?])
+    append_name(name, out)?;
+    append_string(token.as_slice(), out)?;
+    append_end(out)
 }

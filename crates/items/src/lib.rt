@@ -15,4 +15,4 @@ pub use item::{Item, Name};
 pub use laws::{fault_is_answered_again, fault_stays, one_fault, one_reading, written_is_spelled};
 pub use reader::{ItemFault, ItemReader};
 pub use stream::decode;
-pub use write::write_item;
+pub use write::{append_number, append_string, append_word, write_item};

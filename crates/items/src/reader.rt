@@ -1,5 +1,5 @@
 // A reader of items, which is fed the stream in pieces.
-ghost use Rattle.std.specs.Prelude.{◌≡◌, ◌++◌, [], IfOk, IfErr, IfSome, IfNone, OnOk, OnErr};
+ghost use Rattle.std.specs.Prelude.{◌≡◌, ◌++◌, [], length, IfOk, IfErr, IfSome, IfNone, OnOk, OnErr};
 
 use crate::build::build;
 use crate::fault::fault_at;
@@ -97,6 +97,13 @@ impl ItemReader {
             progress: START,
             place: 0,
         }
+    }
+
+    /// How many bytes it holds that belong to no item yet.
+    pub fn unread_len(&self) -> usize
+        ensures { result ≡ length self.now.rest }
+    {
+        self.bytes.len()
     }
 
     /// Takes the next piece of the stream, which may be cut anywhere. It fails for want of memory

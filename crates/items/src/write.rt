@@ -1,8 +1,8 @@
 // An item as bytes.
-ghost use Rattle.std.specs.Prelude.{◌≡◌, ◌++◌, ◌∷◌, [], List, ℕ, length, OnOk, OnErr};
+ghost use Rattle.std.specs.Prelude.{◌≡◌, ◌++◌, OnOk, OnErr};
 ghost use Rattle.std.specs.Fmt.{decimal};
 ghost use Rattle.items.specs.View.{value_of, values_of};
-ghost use Rattle.items.specs.Values.{limits, IsWithin};
+ghost use Rattle.items.specs.Values.{limits, number, string, word, IsWithin};
 ghost use Rattle.items.specs.Stream.{IsItem};
 ghost use Rattle.items.specs.Written.{HasWords, HaveWords};
 ghost use Rattle.items.specs.Print.{printed, list_printed, Grows};
@@ -55,16 +55,18 @@ fn append_list(items: &[Item], out: &mut Vec<u8>) -> Result<(), AllocError>
     out.extend_from_slice(b") ")
 }
 
-fn append_word(word: &[u8], out: &mut Vec<u8>) -> Result<(), AllocError>
-    ensures ok { OnOk result (out.new.items ≡ out.old.items ++ (word.now ++ 32 ∷ [])) }
+/// Appends a word. An `Err` leaves a part of the bytes behind the old ones.
+pub fn append_word(bytes: &[u8], out: &mut Vec<u8>) -> Result<(), AllocError>
+    ensures ok { OnOk result (out.new.items ≡ out.old.items ++ printed (word bytes.now)) }
     ensures grows { Grows out.old.items out.new.items }
 {
-    out.extend_from_slice(word)?;
+    out.extend_from_slice(bytes)?;
     out.push(b' ').map_err(AllocError::from)
 }
 
-fn append_number(n: u64, out: &mut Vec<u8>) -> Result<(), AllocError>
-    ensures ok { OnOk result (out.new.items ≡ out.old.items ++ (decimal n ++ 32 ∷ [])) }
+/// Appends a number. An `Err` leaves a part of the bytes behind the old ones.
+pub fn append_number(n: u64, out: &mut Vec<u8>) -> Result<(), AllocError>
+    ensures ok { OnOk result (out.new.items ≡ out.old.items ++ printed (number n)) }
     ensures grows { Grows out.old.items out.new.items }
 {
     append_digits(n, out)?;
@@ -79,9 +81,9 @@ fn append_digits(n: u64, out: &mut Vec<u8>) -> Result<(), AllocError>
     out.extend_from_slice(buffer.format(n).as_bytes())
 }
 
-fn append_string(text: &[u8], out: &mut Vec<u8>) -> Result<(), AllocError>
-    ensures ok { OnOk result (out.new.items
-        ≡ out.old.items ++ (decimal (length text.now) ++ (58 ∷ (text.now ++ 32 ∷ [])))) }
+/// Appends a string. An `Err` leaves a part of the bytes behind the old ones.
+pub fn append_string(text: &[u8], out: &mut Vec<u8>) -> Result<(), AllocError>
+    ensures ok { OnOk result (out.new.items ≡ out.old.items ++ printed (string text.now)) }
     ensures grows { Grows out.old.items out.new.items }
 {
     append_digits(text.len() as u64, out)?;

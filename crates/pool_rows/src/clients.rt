@@ -26,8 +26,10 @@ use std::time::{Clock, Duration};
 enum Clients {
     /// Two commit, one of them while the other is inside its commit.
     Commit,
-    /// Sixteen are open while another comes, and then one leaves.
+    /// As many are open as may be while another comes, and then one leaves.
     Fill,
+    /// The same, where one address may have three sessions.
+    FillAddress,
 }
 
 impl Clients {
@@ -36,6 +38,15 @@ impl Clients {
         match self {
             Clients::Commit => 2,
             Clients::Fill => 18,
+            Clients::FillAddress => 5,
+        }
+    }
+
+    /// How many sessions one address may have.
+    fn per_address(self) -> u64 {
+        match self {
+            Clients::Commit | Clients::Fill => MAX_SESSIONS,
+            Clients::FillAddress => 3,
         }
     }
 }
@@ -111,16 +122,17 @@ fn commit_two<R: Net<Stream = TcpStream>>(rt: &R, address: SocketAddr) -> io::Re
     Ok(is_inside && is_made && is_read && is_told_of_commit(&mut first, SECOND)?)
 }
 
-/// Whether sixteen clients are greeted, the next one is refused and meets the end, and once one of the sixteen has gone
+/// Whether so many clients are greeted, the next one is refused and meets the end, and once one of the others has gone
 /// another one is greeted.
 fn fill<R: Net<Stream = TcpStream>>(
     rt: &R,
     alloc: Global,
     address: SocketAddr,
+    places: u64,
 ) -> io::Result<bool> {
     let mut open = Vec::new(alloc);
     let mut are_greeted = true;
-    for _ in 0..MAX_SESSIONS {
+    for _ in 0..places {
         let mut stream = come(rt, address)?;
         are_greeted &= is_told(&mut stream, GREETING)?;
         if open.push(stream).is_err() {
@@ -144,7 +156,7 @@ fn are_told<R: Net<Stream = TcpStream>>(
 ) -> io::Result<bool> {
     let told = match clients {
         Clients::Commit => commit_two(rt, address),
-        Clients::Fill => fill(rt, alloc, address),
+        Clients::Fill | Clients::FillAddress => { fill(rt, alloc, address, clients.per_address()) }
     };
     if !matches!(told, Ok(true)) {
         for _ in 0..clients.count() {
@@ -154,12 +166,12 @@ fn are_told<R: Net<Stream = TcpStream>>(
     told
 }
 
-/// Serves so many clients on an empty repository, and answers once all have gone.
+/// Serves these clients on an empty repository, and answers once all have gone.
 fn serve<J, R>(
     rt: &R,
     alloc: Global,
     listener: &TcpListener,
-    clients: usize,
+    clients: Clients,
     history: NewHistory,
 ) -> Result<(), Fail>
 where
@@ -170,6 +182,7 @@ where
     let settings = Settings {
         options: Options::new(alloc, "r")?,
         address: SocketAddrV4::new(Ipv4Addr::LOCALHOST, 0),
+        per_address: clients.per_address(),
         is_exposed: false,
         is_quiet: true,
     };
@@ -180,7 +193,7 @@ where
         alloc,
         settings: &settings,
     };
-    serve_connections(&server, listener, clients, desks)?;
+    serve_connections(&server, listener, clients.count(), desks)?;
     Ok(())
 }
 
@@ -208,7 +221,7 @@ where
         rt,
         || -> Result<(), Fail>
             requires { history.seen.book ≡ J.book }
-        { serve::<J, R>(rt, alloc, &listener, clients.count(), history) },
+        { serve::<J, R>(rt, alloc, &listener, clients, history) },
         || are_told(rt, alloc, address, clients),
     );
     served?;
@@ -233,6 +246,18 @@ fn the_seventeenth_is_turned_away(rt: HostRuntime) -> Result<(), Fail> {
         &rt,
         rt.alloc(),
         Clients::Fill,
+        NewHistory::new(),
+    )?;
+    assert!(rt; told);
+    Ok(())
+}
+
+#[test]
+fn the_fourth_of_an_address_is_turned_away(rt: HostRuntime) -> Result<(), Fail> {
+    let told = serve_clients::<Brand, HostRuntime>(
+        &rt,
+        rt.alloc(),
+        Clients::FillAddress,
         NewHistory::new(),
     )?;
     assert!(rt; told);

@@ -16,6 +16,7 @@ fn service(alloc: Global, name: &str, listen: &str, users: &str) -> Result<Servi
         listen,
         name,
         users: String::from_str(alloc, users)?,
+        per_address: 16,
         revprops: false,
         quiet: true,
     })

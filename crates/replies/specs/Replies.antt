@@ -168,7 +168,8 @@ commit_info revision date author release_fails =
 abbrev pub capabilities : ItemValues
 capabilities =
     more (word (codes "edit-pipeline"))
-    (both (word (codes "absent-entries")) (word (codes "commit-revprops")))
+    (more (word (codes "absent-entries"))
+    (both (word (codes "commit-revprops")) (word (codes "depth"))))
 
 -- the item of each reply
 abbrev pub reply_item : Reply → ItemValue

@@ -14,8 +14,8 @@ use crate::histories::{LogEntry, location_item, log_entry_item};
 use crate::locks::{LockList, lock_item, locks_item};
 use crate::properties::properties_item;
 use byte_string::ByteString;
-use edit_commands::{EditorCommand, command_item};
-use items::{Item, write_item};
+use edit_commands::{EditorCommand, write_command};
+use items::{Item, append_string, write_item};
 use refusals::Refusal;
 use repo_api::{Lock, NodeKind, Properties};
 use std::alloc::{AllocError, Global};
@@ -95,7 +95,7 @@ impl Reply {
     {
         match self {
             Reply::Greeting => out.extend_from_slice(
-                b"( success ( 2 2 ( ) ( edit-pipeline absent-entries commit-revprops ) ) ) ",
+                b"( success ( 2 2 ( ) ( edit-pipeline absent-entries commit-revprops depth ) ) ) ",
             ),
             Reply::NoLogin => out.extend_from_slice(b"( success ( ( ) 0: ) ) "),
             Reply::Login(offer, realm) => write_made(
@@ -140,7 +140,7 @@ impl Reply {
                 location_item(alloc, *revision, path),
                 out,
             ),
-            Reply::Edit(command) => write_made(command_item(alloc, command), out),
+            Reply::Edit(command) => write_command(command, out),
             Reply::Done => out.extend_from_slice(b"done "),
             Reply::Failure(refusal) => write_made(refusal_item(alloc, *refusal), out),
         }
@@ -193,18 +193,6 @@ fn write_string(text: &[u8], out: &mut Vec<u8>) -> Result<(), AllocError>
         out.truncate(len);
     }
     written
-}
-
-// An `Err` leaves a part of the bytes behind the old ones.
-fn append_string(text: &[u8], out: &mut Vec<u8>) -> Result<(), AllocError>
-    ensures ok { OnOk result (out.new.items ≡ out.old.items ++ printed (string text.now)) }
-    ensures grows { Grows out.old.items out.new.items }
-{
-    let mut buffer = itoa::Buffer::new();
-    out.extend_from_slice(buffer.format(text.len() as u64).as_bytes())?;
-    out.extend_from_slice(b":")?;
-    out.extend_from_slice(text)?;
-    out.extend_from_slice(b" ")
 }
 
 /// Writes what stands at a path at the end. An `Err` changes nothing.

@@ -1,27 +1,34 @@
--- The depths of a server that does not offer depths: a client sends words for them all the same.
+-- The depths that are reported and asked for.
 use Rattle.std.specs.Prelude.{Bool, true, false, Option, Some, None, Result, Ok, Err}
 use Rattle.refusals.specs.declared.Refusal.{Refusal}
 use Rattle.refusals.specs.declared.Refusal.TheVariants as refusals
 use Rattle.drives.specs.declared.depth.Depth.{Depth}
-use Rattle.drives.specs.declared.depth.Depth.TheVariants.{Infinity}
+use Rattle.drives.specs.declared.depth.Depth.TheVariants.{Empty, Files, Infinity}
 use Rattle.report_commands.specs.declared.depth_word.DepthWord.{DepthWord}
-use Rattle.report_commands.specs.declared.depth_word.DepthWord.TheVariants.{Known, Unknown}
+use Rattle.report_commands.specs.declared.depth_word.DepthWord.TheVariants.{Known, Unknown, Exclude}
 use Rattle.reports.specs.declared.ask.DepthAsked.{DepthAsked}
 use Rattle.reports.specs.declared.ask.DepthAsked.TheVariants as asks
+use Rattle.reports.specs.declared.ask.Purpose.{Purpose}
+use Rattle.reports.specs.declared.ask.Purpose.TheVariants.{Update, Switch, Status}
 
--- everything is reported, or it is refused
+-- how much of what stands there a client reports: everything, where it says nothing of it
 abbrev pub graft_depth : Option DepthWord → Result Depth Refusal
 graft_depth None = Ok Infinity
-graft_depth (Some Unknown) = Ok Infinity
-graft_depth (Some (Known Infinity)) = Ok Infinity
-graft_depth (Some _) = Err refusals.NotSupported
+graft_depth (Some (Known depth)) = Ok depth
+graft_depth (Some Unknown) = Err refusals.NotSupported
+graft_depth (Some Exclude) = Err refusals.NotSupported
 
--- a depth that is asked for, unless it is refused
-abbrev pub as_given : Result Depth Refusal → Result DepthAsked Refusal
-as_given (Ok depth) = Ok (asks.Given depth)
-as_given (Err r) = Err r
+-- the depth of what is asked for without what is beneath directories
+abbrev pub shallow : Purpose → Depth
+shallow Update = Files
+shallow Switch = Files
+shallow Status = Empty
 
--- everything is asked for, or it is refused
-abbrev pub depth_asked : Bool → Option DepthWord → Result DepthAsked Refusal
-depth_asked true word = as_given (graft_depth word)
-depth_asked false word = Err refusals.NotSupported
+-- how deep a drive is to go: by its word, or else by whether it is asked for what is beneath
+-- directories too
+abbrev pub depth_asked : Purpose → Bool → Option DepthWord → Result DepthAsked Refusal
+depth_asked purpose recurse (Some (Known depth)) = Ok (asks.Given depth)
+depth_asked purpose recurse (Some Unknown) = Ok asks.AsReported
+depth_asked purpose recurse (Some Exclude) = Err refusals.NotSupported
+depth_asked purpose true None = Ok (asks.Given Infinity)
+depth_asked purpose false None = Ok (asks.Given (shallow purpose))

@@ -70,7 +70,7 @@ ask_of c name anchor purpose request url = do
   own ← or_refusal (joined anchor request.target)
   goal ← url_or name own url
   revision ← revision_read c request.revision
-  depth ← depth_asked request.recurse request.depth
+  depth ← depth_asked purpose request.recurse request.depth
   Ok (record {
     purpose = purpose;
     anchor = anchor;

@@ -45,7 +45,7 @@ pub fn ask_of<R: Repository>(
     let target = own.rebased(alloc, anchor.path, &Path::root(alloc))?;
     let goal = url_or(alloc, anchor.name, own, errand.url)?;
     let revision = revision_read(view, errand.request.revision)?;
-    let depth = depth_asked(errand.request.recurse, errand.request.depth)?;
+    let depth = depth_asked(errand.purpose, errand.request.recurse, errand.request.depth)?;
     Ok(DriveAsk {
         purpose: errand.purpose,
         anchor: anchor.path.clone()?,

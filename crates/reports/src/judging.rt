@@ -3,12 +3,12 @@ ghost use Rattle.std.specs.Prelude.{◌≡◌, ◌++◌, drop, length, is_some, 
 ghost use Rattle.repo_api.specs.Trees.{is_directory_there};
 ghost use Rattle.svnpath.specs.Texts.{joined};
 ghost use Rattle.repo_api.specs.States.{trees_in};
-ghost use Rattle.reports.specs.Depths.{graft_depth, depth_asked};
+ghost use Rattle.reports.specs.Depths.{graft_depth, depth_asked, shallow};
 ghost use Rattle.reports.specs.Judging.{JudgesReport};
 ghost use Rattle.reports.specs.Named.{IsNamed};
 ghost use Rattle.reports.specs.Refusing.{ok_if, or_refusal, url_or, revision_read};
 
-use crate::ask::DepthAsked;
+use crate::ask::{DepthAsked, Purpose};
 use crate::fault::ReportFault;
 use byte_string::ByteString;
 use drives::Depth;
@@ -77,24 +77,43 @@ pub(crate) fn revision_read<R: Repository>(
     }
 }
 
-/// The depth of what is reported: everything, or it is refused.
+/// How much of what stands somewhere is reported: everything, where no depth is named.
 pub(crate) fn graft_depth(word: Option<DepthWord>) -> Result<Depth, ReportFault>
     ensures { JudgesReport result (graft_depth word) }
 {
     match word {
-        None | Some(DepthWord::Unknown | DepthWord::Known(Depth::Infinity)) => Ok(Depth::Infinity),
-        Some(_) => Err(ReportFault::Refused(Refusal::NotSupported)),
+        None => Ok(Depth::Infinity),
+        Some(DepthWord::Known(depth)) => Ok(depth),
+        Some(DepthWord::Unknown | DepthWord::Exclude) => {
+            Err(ReportFault::Refused(Refusal::NotSupported))
+        }
     }
 }
 
-/// How deep a drive is to go: to the end, or it is refused.
-pub(crate) fn depth_asked(recurse: bool, word: Option<DepthWord>) -> Result<DepthAsked, ReportFault>
-    ensures { JudgesReport result (depth_asked recurse word) }
+/// The depth of what is asked for without what is beneath directories.
+fn shallow(purpose: Purpose) -> Depth
+    ensures { result ≡ shallow purpose }
 {
-    if recurse {
-        Ok(DepthAsked::Given(graft_depth(word)?))
-    } else {
-        Err(ReportFault::Refused(Refusal::NotSupported))
+    match purpose {
+        Purpose::Update | Purpose::Switch => Depth::Files,
+        Purpose::Status => Depth::Empty,
+    }
+}
+
+/// How deep a drive is to go: by its word, or else by whether it is asked for what is beneath directories too.
+pub(crate) fn depth_asked(
+    purpose: Purpose,
+    recurse: bool,
+    word: Option<DepthWord>,
+) -> Result<DepthAsked, ReportFault>
+    ensures { JudgesReport result (depth_asked purpose recurse word) }
+{
+    match word {
+        Some(DepthWord::Known(depth)) => Ok(DepthAsked::Given(depth)),
+        Some(DepthWord::Unknown) => Ok(DepthAsked::AsReported),
+        Some(DepthWord::Exclude) => Err(ReportFault::Refused(Refusal::NotSupported)),
+        None if recurse => Ok(DepthAsked::Given(Depth::Infinity)),
+        None => Ok(DepthAsked::Given(shallow(purpose))),
     }
 }
 

@@ -20,7 +20,8 @@ const INPUT: &[u8] =
     b"( 2 ( edit-pipeline ) 15:svn://h/r/trunk ) ( ANONYMOUS ( 0: ) ) ( get-latest-rev ( ) ) \
       ( check-path ( 0: ( ) ) ) ( rev-proplist ( 0 ) ) ";
 
-const OUTPUT: &[u8] = b"( success ( 2 2 ( ) ( edit-pipeline absent-entries commit-revprops ) ) ) \
+const OUTPUT: &[u8] =
+    b"( success ( 2 2 ( ) ( edit-pipeline absent-entries commit-revprops depth ) ) ) \
       ( success ( ( ANONYMOUS ) 1:r ) ) ( success ( ) ) \
       ( success ( 36:00000000-0000-4000-8000-000000000000 9:svn://h/r ( ) ) ) \
       ( success ( ( ) 0: ) ) ( success ( 0 ) ) ( success ( ( ) 0: ) ) ( success ( none ) ) \
@@ -41,13 +42,14 @@ const CHANGED: &[u8] = b"( success ( ( ) 0: ) ) ( success ( ) ) ";
 const BEGINNING: &[u8] = b"( 2 ( edit-pipeline ) 15:svn://h/r/trunk ) ( ANONYMOUS ( 0: ) ) (";
 
 /// What it draws.
-const ANSWERS: &[u8] = b"( success ( 2 2 ( ) ( edit-pipeline absent-entries commit-revprops ) ) ) \
+const ANSWERS: &[u8] =
+    b"( success ( 2 2 ( ) ( edit-pipeline absent-entries commit-revprops depth ) ) ) \
       ( success ( ( ANONYMOUS ) 1:r ) ) ( success ( ) ) \
       ( success ( 36:00000000-0000-4000-8000-000000000000 9:svn://h/r ( ) ) ) ";
 
 /// What a client is greeted with.
 const GREETING: &[u8] =
-    b"( success ( 2 2 ( ) ( edit-pipeline absent-entries commit-revprops ) ) ) ";
+    b"( success ( 2 2 ( ) ( edit-pipeline absent-entries commit-revprops depth ) ) ) ";
 
 /// A clock that stands still.
 #[derive(Drop)]

@@ -25,7 +25,7 @@ const CLIENT: &[u8] =
     b"( 2 ( edit-pipeline ) 11:svn://h/r/t ) ( ANONYMOUS ( ) ) ( get-latest-rev ( ) ) ";
 
 const GREETING: &[u8] =
-    b"( success ( 2 2 ( ) ( edit-pipeline absent-entries commit-revprops ) ) ) ";
+    b"( success ( 2 2 ( ) ( edit-pipeline absent-entries commit-revprops depth ) ) ) ";
 
 const ANSWER: &[u8] = b"( success ( ( ANONYMOUS ) 1:r ) ) ( success ( ) ) \
       ( success ( 36:00000000-0000-4000-8000-000000000000 9:svn://h/r ( ) ) ) \
@@ -193,7 +193,7 @@ fn replies_go_out_as_they_are_made(rt: HostRuntime) -> Result<(), Fail> {
     let output = over_both!(rt, noted(rt.alloc()));
     let wanted = repeated(rt.alloc(), REPLIES, 30_000)?;
     assert!(rt; output.bytes.as_slice() == wanted.as_slice());
-    assert_eq!(rt; output.largest, 65_536);
+    assert!(rt; output.largest >= 65_536 && output.largest < 65_536 + REPLIES.len());
     assert_eq!(rt; output.writes, wanted.len().div_ceil(65_536));
     Ok(())
 }

@@ -8,10 +8,10 @@ use conversations::OpenGate;
 use crossbeam_channel::Sender;
 use refusals::Refusal;
 use replies::MemorySink;
-use session_pool::{Admission, Caller, SessionPool};
+use session_pool::{Admission, Caller, MAX_SESSIONS, SessionPool};
 use std::alloc::{AllocError, Global};
 use std::io::{Eprint, Read, Write};
-use std::net::{Shutdown, SocketAddr, TcpListener, TcpStream};
+use std::net::{IpAddr, Shutdown, SocketAddr, TcpListener, TcpStream};
 use std::sync::Wait;
 use std::time::{Clock, Duration};
 use std::{io, thread};
@@ -72,13 +72,15 @@ pub(crate) trait Halts {
     fn takes_no_changes(&self) -> bool;
 }
 
-/// Where so many connections come in, with who is told of them, and what may come to a halt.
+/// Where so many connections come in, so many of one address at a time, with who is told of them, and what may come to a
+/// halt.
 #[derive(Drop)]
 pub(crate) struct Entrance<'a, R, H: Drop> {
     pub(crate) rt: &'a R,
     pub(crate) alloc: Global,
     pub(crate) listener: &'a TcpListener,
     pub(crate) connections: usize,
+    pub(crate) per_address: u64,
     pub(crate) journal: Journal<'a, R>,
     pub(crate) repository: H,
 }
@@ -92,20 +94,34 @@ struct Acceptor<'a, R, H: Drop> {
 }
 
 impl<'a, R: Wait + Clock + Eprint, H: Halts + Drop> Acceptor<'a, R, H> {
+    /// Whether an address has as many sessions as it may have, where it may not have all.
+    fn is_full(&self, address: IpAddr) -> bool {
+        let limit = self.entrance.per_address;
+        limit < MAX_SESSIONS && self.entrance.journal.sessions_of(address) >= limit
+    }
+
+    /// Whether a connection from an address becomes a session now.
+    fn admit_now(&self, address: IpAddr) -> Admission {
+        if self.is_full(address) {
+            return Admission::Full;
+        }
+        self.pool.admit(self.entrance.rt)
+    }
+
     /// Whether a connection becomes a session; where all places are taken it waits for a moment. None does once
     /// changes have come to a halt, also while the session that met it is open.
-    fn admit(&self) -> Admission {
+    fn admit(&self, address: IpAddr) -> Admission {
         if self.entrance.repository.takes_no_changes() {
             return Admission::Halted;
         }
         for _ in 0..TRIES {
-            let admission = self.pool.admit(self.entrance.rt);
+            let admission = self.admit_now(address);
             if admission != Admission::Full {
                 return admission;
             }
             thread::sleep(self.entrance.rt, Duration::from_millis(1));
         }
-        self.pool.admit(self.entrance.rt)
+        self.admit_now(address)
     }
 
     /// Whether a connection is on its way to a worker.
@@ -121,13 +137,26 @@ impl<'a, R: Wait + Clock + Eprint, H: Halts + Drop> Acceptor<'a, R, H> {
         self.callers.send(self.entrance.rt, caller).is_ok()
     }
 
-    /// A connection becomes a session of this number.
+    /// A connection becomes a session of this number. Where there is no memory for it, it is closed.
     fn begin(&self, stream: TcpStream, peer: SocketAddr, number: u64) {
-        self.entrance.journal.tell(Event::Begins(number, peer));
+        if self.entrance.journal.begins(number, peer).is_err() {
+            self.pool.leave(self.entrance.rt);
+            return;
+        }
         if !self.hand_over(stream, number) {
             self.pool.leave(self.entrance.rt);
-            self.entrance.journal.tell(Event::Ends(number));
+            self.entrance.journal.ends(number);
         }
+    }
+
+    /// Tells of a client that finds no place.
+    fn tell_full(&self, peer: SocketAddr) {
+        let event = if self.is_full(peer.ip()) {
+            Event::AddressFull(peer)
+        } else {
+            Event::Full(peer)
+        };
+        self.entrance.journal.tell(event);
     }
 
     /// Takes a connection: it becomes a session, or it is turned away. One that fails is closed.
@@ -138,11 +167,11 @@ impl<'a, R: Wait + Clock + Eprint, H: Halts + Drop> Acceptor<'a, R, H> {
         let Ok(peer) = stream.peer_addr() else {
             return;
         };
-        match self.admit() {
+        match self.admit(peer.ip()) {
             Admission::Session(number) => self.begin(stream, peer, number),
             // where there is no memory for the refusal the connection is closed without it
             Admission::Full => {
-                self.entrance.journal.tell(Event::Full(peer));
+                self.tell_full(peer);
                 let _ = turn_away(self.entrance.alloc, &stream, Refusal::NotSupported);
             }
             Admission::Halted => {

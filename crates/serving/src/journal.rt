@@ -2,13 +2,20 @@
 ghost use Rattle.std.specs.Prelude.{◌≤◌};
 
 use crate::envs::moment_now;
+use crate::guests::Guests;
 use conversations::Watch;
 use dates::date_text;
 use std::alloc::{AllocError, Global};
 use std::io::Eprint;
-use std::net::SocketAddr;
+use std::net::{IpAddr, SocketAddr};
+use std::sync::Wait;
 use std::sync::atomic::{AtomicBool, Ordering};
-use std::time::Clock;
+use std::thread;
+use std::time::{Clock, Duration};
+
+/// How long a session in which a login was refused waits before it reads on, in seconds: so passwords are not guessed
+/// fast.
+const REFUSED_WAIT: u64 = 1;
 
 /// What is told, beside what a session tells.
 #[derive(Clone, Copy, Debug)]
@@ -18,6 +25,8 @@ pub(crate) enum Event {
     Ends(u64),
     /// As many sessions are open as may be, and this client is turned away.
     Full(SocketAddr),
+    /// The address of this client has as many sessions as it may have, and the client is turned away.
+    AddressFull(SocketAddr),
     /// A client is turned away because changes have come to a halt.
     TurnedAway(SocketAddr),
     /// A replacement of a file has failed, and changes have come to a halt.
@@ -26,13 +35,14 @@ pub(crate) enum Event {
     UsersReadable,
 }
 
-/// Tells events on standard error, unless it is to be quiet.
+/// Tells events on standard error, unless it is to be quiet, and knows which addresses have sessions.
 #[derive(Drop)]
 pub struct Journal<'a, R> {
     rt: &'a R,
     alloc: Global,
     is_quiet: bool,
     told_of_halt: AtomicBool,
+    guests: Guests,
 }
 
 impl<'a, R: Eprint + Clock> Journal<'a, R> {
@@ -43,6 +53,7 @@ impl<'a, R: Eprint + Clock> Journal<'a, R> {
             alloc,
             is_quiet,
             told_of_halt: AtomicBool::new(false),
+            guests: Guests::new(alloc),
         }
     }
 
@@ -74,6 +85,11 @@ impl<'a, R: Eprint + Clock> Journal<'a, R> {
             Event::Full(peer) => {
                 format!(in self.alloc; "{peer} is turned away: all sessions are taken")
             }
+            Event::AddressFull(peer) => {
+                format!(in self.alloc;
+                    "{peer} is turned away: all sessions of its address are taken"
+                )
+            }
             Event::TurnedAway(peer) => {
                 format!(in self.alloc; "{peer} is turned away: the store has failed")
             }
@@ -87,7 +103,27 @@ impl<'a, R: Eprint + Clock> Journal<'a, R> {
     }
 }
 
-impl<'a, R: Eprint + Clock> Watch for Journal<'a, R> {
+impl<'a, R: Eprint + Clock + Wait> Journal<'a, R> {
+    /// Counts the sessions of an address.
+    pub(crate) fn sessions_of(&self, address: IpAddr) -> u64 {
+        self.guests.sessions_of(self.rt, address)
+    }
+
+    /// Tells that a session begins, and notes its address.
+    pub(crate) fn begins(&self, session: u64, peer: SocketAddr) -> Result<(), AllocError> {
+        self.guests.come(self.rt, session, peer.ip())?;
+        self.tell(Event::Begins(session, peer));
+        Ok(())
+    }
+
+    /// Tells that a session has ended, and forgets its address.
+    pub(crate) fn ends(&self, session: u64) {
+        self.guests.go(self.rt, session);
+        self.tell(Event::Ends(session));
+    }
+}
+
+impl<'a, R: Eprint + Clock + Wait> Watch for Journal<'a, R> {
     fn logged_in(&self, session: u64, user: &[u8]) {
         if !self.is_quiet {
             let user = user.escape_ascii();
@@ -99,10 +135,11 @@ impl<'a, R: Eprint + Clock> Watch for Journal<'a, R> {
         if !self.is_quiet {
             self.write(format!(in self.alloc; "session {session} has logins refused: {logins}"));
         }
+        thread::sleep(self.rt, Duration::from_secs(REFUSED_WAIT));
     }
 
     fn ended(&self, session: u64, is_halted: bool) {
-        self.tell(Event::Ends(session));
+        self.ends(session);
         if is_halted && !self.told_of_halt.swap(true, Ordering::SeqCst) {
             self.tell(Event::StoreFailed);
         }

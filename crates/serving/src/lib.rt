@@ -5,6 +5,7 @@ mod accepting;
 mod desks;
 mod envs;
 mod fault;
+mod guests;
 mod journal;
 mod serving;
 mod settings;

@@ -125,6 +125,7 @@ where
         alloc,
         listener,
         connections,
+        per_address: server.settings.per_address,
         journal: Journal::new(rt, alloc, server.settings.is_quiet),
         repository,
     };

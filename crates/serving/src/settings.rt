@@ -13,12 +13,13 @@ use std::net::SocketAddrV4;
 use std::os::unix::fs::PermissionsExt;
 use std::rt::Runtime;
 
-/// What sessions are served by: the options of the repository, where to listen, whether others can read the file of
-/// users, and whether nothing is told on standard error.
+/// What sessions are served by: the options of the repository, where to listen, how many sessions one address may have,
+/// whether others can read the file of users, and whether nothing is told on standard error.
 #[derive(Drop)]
 pub struct Settings {
     pub options: Options,
     pub address: SocketAddrV4,
+    pub per_address: u64,
     pub is_exposed: bool,
     pub is_quiet: bool,
 }
@@ -77,6 +78,7 @@ pub fn read_settings<R: Runtime>(
     Ok(Settings {
         options: options_of(alloc, service, users)?,
         address,
+        per_address: service.per_address,
         is_exposed: is_exposed(rt, service.users.as_str()),
         is_quiet: service.quiet,
     })

@@ -1,5 +1,5 @@
 //! A session with one client.
-ghost use Rattle.std.specs.Prelude.{◌≡◌, ◌++◌, [], true, false, IfOk, OnOk, OnErr, IfErr, IsErrOf, option_copied};
+ghost use Rattle.std.specs.Prelude.{◌≡◌, ◌++◌, [], length, true, false, IfOk, OnOk, OnErr, IfErr, IsErrOf, option_copied};
 ghost use Rattle.repo_api.specs.Soundness.{AreSound};
 ghost use Rattle.access.specs.Points.{content_of};
 ghost use Rattle.machine.specs.Stages.{is_open, user_in, StandsOn};
@@ -103,6 +103,13 @@ impl<R: Repository> Session<R> {
         ensures { result ≡ is_open self.now.phase }
     {
         self.phase.is_open()
+    }
+
+    /// How many bytes it holds of an item that is not whole yet.
+    pub fn unread_len(&self) -> usize
+        ensures { result ≡ length self.now.rest }
+    {
+        self.reader.unread_len()
     }
 
     /// The user that the client has logged in as, if it has.
