@@ -13,7 +13,8 @@ use Rattle.repo_api.specs.declared.entry.Entry.{Entry}
 use Rattle.std.specs.Prelude.{Option, Some, None, cond, fold, option_map, option_and_then}
 use Rattle.drives.specs.Scopes.{depth_below}
 use Rattle.drives.specs.Scopes.DepthLimit.{Reported}
-use Rattle.reports.specs.Reported.{ReportedEntry, ReportedTree, reported_entries, reported_as, top_entry, left_by, in_subtree, in_graft, with_graft, has_place, has_directory}
+use Rattle.reports.specs.Reported.{ReportedEntry, ReportedTree, reported_entries, reported_as, top_entry, left_by}
+use Rattle.reports.specs.Reported.{in_subtree, in_graft, with_graft, has_place, has_directory}
 use Rattle.reports.specs.declared.graft.Graft.{Graft}
 use Rattle.reports.specs.declared.graft.Subtree.{Subtree}
 use Rattle.reports.specs.Targets.{WholeReport, client_tree, drive_scope, limit_of, reported_depth, target_tree}
@@ -98,7 +99,8 @@ deep_of : (f : Entry → ReportedEntry) → ((e : Entry) → (f e).depth ≡ Inf
 deep_of f deep None = refl
 deep_of f deep (Some e) = deep e
 
-deep_subtree : (trees : ℕ → Tree) (from : PathValue) (s : Subtree) (rest : List Component) → s.depth ≡ Infinity → depth_had (in_subtree trees from s rest) ≡ Infinity
+deep_subtree : (trees : ℕ → Tree) (from : PathValue) (s : Subtree) (rest : List Component) → s.depth ≡ Infinity
+    → depth_had (in_subtree trees from s rest) ≡ Infinity
 deep_subtree trees from s [] deep = deep_of (λ e. reported_as s s.depth s.token (top_entry s.starts_empty e)) (λ e. deep) (trees s.revision from)
 deep_subtree trees from s (c ∷ rest) deep = by s.starts_empty
   where
@@ -118,7 +120,8 @@ to_the_end Infinity h = refl
 deep_graft : (trees : ℕ → Tree) (g : Graft) (rest : List Component) → is_shallow g ≡ false → depth_had (in_graft trees g rest) ≡ Infinity
 deep_graft trees g rest deep = by g.subtree deep
   where
-    by : (o : Option Subtree) → option_map_or (λ (s : Subtree). not (is_to_the_end s.depth)) o false ≡ false → depth_had (option_and_then (λ s. in_subtree trees g.from s rest) o) ≡ Infinity
+    by : (o : Option Subtree) → option_map_or (λ (s : Subtree). not (is_to_the_end s.depth)) o false ≡ false
+        → depth_had (option_and_then (λ s. in_subtree trees g.from s rest) o) ≡ Infinity
     by None d = refl
     by (Some s) d = deep_subtree trees g.from s rest (to_the_end s.depth (was_true (is_to_the_end s.depth) d))
 
@@ -126,16 +129,20 @@ deep_graft trees g rest deep = by g.subtree deep
 abbrev HasAllDeep : ReportedTree → Type 0
 HasAllDeep had = (q : PathValue) → depth_had (had q) ≡ Infinity
 
-deep_with : (trees : ℕ → Tree) (top : PathValue) (had : ReportedTree) (g : Graft) → HasAllDeep had → is_shallow g ≡ false → HasAllDeep (with_graft trees top had g)
+deep_with : (trees : ℕ → Tree) (top : PathValue) (had : ReportedTree) (g : Graft) → HasAllDeep had
+    → is_shallow g ≡ false → HasAllDeep (with_graft trees top had g)
 deep_with trees top had g all deep q = by (has_place top had g.path && is_at_or_under q g.path)
   where
     by : (b : Bool) → depth_had (cond b (in_graft trees g (drop (length g.path) q)) (had q)) ≡ Infinity
     by true = deep_graft trees g (drop (length g.path) q) deep
     by false = all q
 
-deep_fold : (trees : ℕ → Tree) (top : PathValue) (had : ReportedTree) (grafts : List Graft) → HasAllDeep had → list_any is_shallow grafts ≡ false → HasAllDeep (fold (with_graft trees top) had grafts)
+deep_fold : (trees : ℕ → Tree) (top : PathValue) (had : ReportedTree) (grafts : List Graft) → HasAllDeep had
+    → list_any is_shallow grafts ≡ false → HasAllDeep (fold (with_graft trees top) had grafts)
 deep_fold trees top had [] all deep = all
-deep_fold trees top had (g ∷ grafts) all deep = deep_fold trees top (with_graft trees top had g) grafts (deep_with trees top had g all (or_false (is_shallow g) (list_any is_shallow grafts) deep).0) (or_false (is_shallow g) (list_any is_shallow grafts) deep).1
+deep_fold trees top had (g ∷ grafts) all deep =
+    let each = or_false (is_shallow g) (list_any is_shallow grafts) deep in
+    deep_fold trees top (with_graft trees top had g) grafts (deep_with trees top had g all each.0) each.1
 
 -- the depth of a directory that is had, or else this one
 deep_said : (had : ReportedTree) → HasAllDeep had → (q : PathValue) → said_or (reported_depth had q) Infinity ≡ Infinity
@@ -145,30 +152,36 @@ deep_said had all q = by (had q) (all q)
     among true h deep = deep
     among false h deep = refl
 
-    by : (o : Option ReportedEntry) → depth_had o ≡ Infinity → said_or (cond (has_directory o) (option_map (λ (h : ReportedEntry). h.depth) o) None) Infinity ≡ Infinity
+    by : (o : Option ReportedEntry) → depth_had o ≡ Infinity
+        → said_or (cond (has_directory o) (option_map (λ (h : ReportedEntry). h.depth) o) None) Infinity ≡ Infinity
     by None deep = refl
     by (Some h) deep = among (has_directory (Some h)) h deep
 
 -- the top too
-deep_top : (said : PathValue → Option Depth) (depth : Depth) (top : PathValue) → said_or (said top) Infinity ≡ Infinity → depth ≡ Infinity → top_limit (Reported said depth) top ≡ Infinity
+deep_top : (said : PathValue → Option Depth) (depth : Depth) (top : PathValue) → said_or (said top) Infinity ≡ Infinity
+    → depth ≡ Infinity → top_limit (Reported said depth) top ≡ Infinity
 deep_top said depth top deep is = by (said top) refl deep
   where
     by : (o : Option Depth) → said top ≡ o → said_or o Infinity ≡ Infinity → top_limit (Reported said depth) top ≡ Infinity
     by None e d = rw e is
     by (Some x) e d = rw e d
 
-reached_as : (said : PathValue → Option Depth) (depth : Depth) → ((q : PathValue) → said_or (said q) Infinity ≡ Infinity) → (old new : Tree) (here : PathValue) (names : List Component)
+reached_as : (said : PathValue → Option Depth) (depth : Depth)
+    → ((q : PathValue) → said_or (said q) Infinity ≡ Infinity)
+    → (old new : Tree) (here : PathValue) (names : List Component)
     → stays_in_scope (Reported said depth) old new here Infinity names ≡ true
 reached_as said depth deep old new here [] = refl
 reached_as said depth deep old new here (c ∷ names) =
     ap (λ d. stays_in_scope (Reported said depth) old new (here ++ c ∷ []) d names) (deep (here ++ c ∷ []))
     ∙ reached_as said depth deep old new (here ++ c ∷ []) names
 
-pub whole_as_reported : (c : RepoState) (report : WholeReport) (q : PathValue) → FollowsWholeReport report → is_at_or_under q report.ask.target ≡ true → true ≡ drive_scope c report q
+pub whole_as_reported : (c : RepoState) (report : WholeReport) (q : PathValue) → FollowsWholeReport report
+    → is_at_or_under q report.ask.target ≡ true → true ≡ drive_scope c report q
 whole_as_reported c report q follows up =
     sym (ap (λ d. scope_of (limit_of had report.root d) old new top q) follows.0
     ∙ ap (λ b. b && stays_in_scope limit old new top (top_limit limit top) (drop (length top) q)) up
-    ∙ ap (λ d. stays_in_scope limit old new top d (drop (length top) q)) (deep_top (reported_depth had) report.root.depth top (deep_said had deep top) (to_the_end report.root.depth follows.1))
+    ∙ ap (λ d. stays_in_scope limit old new top d (drop (length top) q))
+    (deep_top (reported_depth had) report.root.depth top (deep_said had deep top) (to_the_end report.root.depth follows.1))
     ∙ reached_as (reported_depth had) report.root.depth (deep_said had deep) old new top (drop (length top) q))
   where
     had : ReportedTree

@@ -152,7 +152,8 @@ fn append_alone(name: &[u8], out: &mut Vec<u8>) -> Result<(), AllocError>
 
 /// `( name ( rev ) )`
 fn append_revision_alone(name: &[u8], revision: u64, out: &mut Vec<u8>) -> Result<(), AllocError>
-    ensures ok { OnOk result (out.new.items ≡ out.old.items ++ printed (command name.now (only (number revision)))) }
+    ensures ok { OnOk result (out.new.items ≡ out.old.items
+        ++ printed (command name.now (only (number revision)))) }
     ensures grows { Grows out.old.items out.new.items }
 {
     append_name(name, out)?;
@@ -166,7 +167,8 @@ fn append_root_params(
     token: &ByteString,
     out: &mut Vec<u8>,
 ) -> Result<(), AllocError>
-    ensures ok { OnOk result (out.new.items ≡ out.old.items ++ row_printed (both (revision_item revision) (string token.now))) }
+    ensures ok { OnOk result (out.new.items ≡ out.old.items
+        ++ row_printed (both (revision_item revision) (string token.now))) }
     ensures grows { Grows out.old.items out.new.items }
 {
     append_revision(revision, out)?;
@@ -191,7 +193,8 @@ fn append_root(
 
 /// `path [ rev ] parent`
 fn append_deleted_params(entry: &DeletedEntry, out: &mut Vec<u8>) -> Result<(), AllocError>
-    ensures ok { OnOk result (out.new.items ≡ out.old.items ++ row_printed (more (string entry.now.path)
+    ensures ok { OnOk result (out.new.items ≡ out.old.items
+        ++ row_printed (more (string entry.now.path)
         (both (revision_item entry.now.revision) (string entry.now.parent)))) }
     ensures grows { Grows out.old.items out.new.items }
 {
@@ -201,7 +204,8 @@ fn append_deleted_params(entry: &DeletedEntry, out: &mut Vec<u8>) -> Result<(), 
 
 /// `( name ( path [ rev ] parent ) )`
 fn append_deleted(name: &[u8], entry: &DeletedEntry, out: &mut Vec<u8>) -> Result<(), AllocError>
-    ensures ok { OnOk result (out.new.items ≡ out.old.items ++ printed (command name.now (more (string entry.now.path)
+    ensures ok { OnOk result (out.new.items ≡ out.old.items
+        ++ printed (command name.now (more (string entry.now.path)
         (both (revision_item entry.now.revision) (string entry.now.parent))))) }
     ensures grows { Grows out.old.items out.new.items }
 {
@@ -212,7 +216,8 @@ fn append_deleted(name: &[u8], entry: &DeletedEntry, out: &mut Vec<u8>) -> Resul
 
 /// `path parent token [ copy-path copy-rev ]`
 fn append_added_params(entry: &AddedEntry, out: &mut Vec<u8>) -> Result<(), AllocError>
-    ensures ok { OnOk result (out.new.items ≡ out.old.items ++ row_printed (added_items entry.now)) }
+    ensures ok { OnOk result (out.new.items ≡ out.old.items
+        ++ row_printed (added_items entry.now)) }
     ensures grows { Grows out.old.items out.new.items }
 {
     append_two(&entry.path, &entry.parent, out)?;
@@ -222,7 +227,8 @@ fn append_added_params(entry: &AddedEntry, out: &mut Vec<u8>) -> Result<(), Allo
 
 /// `( name ( path parent token [ copy-path copy-rev ] ) )`
 fn append_added(name: &[u8], entry: &AddedEntry, out: &mut Vec<u8>) -> Result<(), AllocError>
-    ensures ok { OnOk result (out.new.items ≡ out.old.items ++ printed (command name.now (added_items entry.now))) }
+    ensures ok { OnOk result (out.new.items ≡ out.old.items
+        ++ printed (command name.now (added_items entry.now))) }
     ensures grows { Grows out.old.items out.new.items }
 {
     append_name(name, out)?;
@@ -232,7 +238,8 @@ fn append_added(name: &[u8], entry: &AddedEntry, out: &mut Vec<u8>) -> Result<()
 
 /// `path parent token [ rev ]`
 fn append_opened_params(entry: &OpenedEntry, out: &mut Vec<u8>) -> Result<(), AllocError>
-    ensures ok { OnOk result (out.new.items ≡ out.old.items ++ row_printed (opened_items entry.now)) }
+    ensures ok { OnOk result (out.new.items ≡ out.old.items
+        ++ row_printed (opened_items entry.now)) }
     ensures grows { Grows out.old.items out.new.items }
 {
     append_two(&entry.path, &entry.parent, out)?;
@@ -242,7 +249,8 @@ fn append_opened_params(entry: &OpenedEntry, out: &mut Vec<u8>) -> Result<(), Al
 
 /// `( name ( path parent token [ rev ] ) )`
 fn append_opened(name: &[u8], entry: &OpenedEntry, out: &mut Vec<u8>) -> Result<(), AllocError>
-    ensures ok { OnOk result (out.new.items ≡ out.old.items ++ printed (command name.now (opened_items entry.now))) }
+    ensures ok { OnOk result (out.new.items ≡ out.old.items
+        ++ printed (command name.now (opened_items entry.now))) }
     ensures grows { Grows out.old.items out.new.items }
 {
     append_name(name, out)?;
@@ -252,7 +260,8 @@ fn append_opened(name: &[u8], entry: &OpenedEntry, out: &mut Vec<u8>) -> Result<
 
 /// `( name ( path parent ) )`
 fn append_absent(name: &[u8], entry: &AbsentEntry, out: &mut Vec<u8>) -> Result<(), AllocError>
-    ensures ok { OnOk result (out.new.items ≡ out.old.items ++ printed (command name.now (absent_items entry.now))) }
+    ensures ok { OnOk result (out.new.items ≡ out.old.items
+        ++ printed (command name.now (absent_items entry.now))) }
     ensures grows { Grows out.old.items out.new.items }
 {
     append_name(name, out)?;
@@ -262,7 +271,8 @@ fn append_absent(name: &[u8], entry: &AbsentEntry, out: &mut Vec<u8>) -> Result<
 
 /// `token name [ value ]`
 fn append_property_params(change: &PropertyChange, out: &mut Vec<u8>) -> Result<(), AllocError>
-    ensures ok { OnOk result (out.new.items ≡ out.old.items ++ row_printed (property_items change.now)) }
+    ensures ok { OnOk result (out.new.items ≡ out.old.items
+        ++ row_printed (property_items change.now)) }
     ensures grows { Grows out.old.items out.new.items }
 {
     append_two(&change.token, &change.name, out)?;
@@ -275,7 +285,8 @@ fn append_property(
     change: &PropertyChange,
     out: &mut Vec<u8>,
 ) -> Result<(), AllocError>
-    ensures ok { OnOk result (out.new.items ≡ out.old.items ++ printed (command name.now (property_items change.now))) }
+    ensures ok { OnOk result (out.new.items ≡ out.old.items
+        ++ printed (command name.now (property_items change.now))) }
     ensures grows { Grows out.old.items out.new.items }
 {
     append_name(name, out)?;
@@ -289,7 +300,8 @@ fn append_checksum_params(
     checksum: &Option<ByteString>,
     out: &mut Vec<u8>,
 ) -> Result<(), AllocError>
-    ensures ok { OnOk result (out.new.items ≡ out.old.items ++ row_printed (checksum_items token.now checksum.now)) }
+    ensures ok { OnOk result (out.new.items ≡ out.old.items
+        ++ row_printed (checksum_items token.now checksum.now)) }
     ensures grows { Grows out.old.items out.new.items }
 {
     append_string(token.as_slice(), out)?;
@@ -330,7 +342,8 @@ fn append_chunk(
 
 /// `( name ( token ) )`
 fn append_token(name: &[u8], token: &ByteString, out: &mut Vec<u8>) -> Result<(), AllocError>
-    ensures ok { OnOk result (out.new.items ≡ out.old.items ++ printed (command name.now (only (string token.now)))) }
+    ensures ok { OnOk result (out.new.items ≡ out.old.items
+        ++ printed (command name.now (only (string token.now)))) }
     ensures grows { Grows out.old.items out.new.items }
 {
     append_name(name, out)?;
