@@ -27,6 +27,7 @@ TEXTS = {
     160039: "not the lock owner",
     160040: "no such lock",
     160042: "lock out of date",
+    160049: "previous value differs",
     165006: "revision properties are closed",
     185001: "bad svndiff",
     200007: "not supported",
@@ -40,7 +41,7 @@ TEXTS = {
 # how many bytes of a text are sent in one string, and in one window of a drive
 PIECE = 65_536
 
-GREETING = b"( success ( 2 2 ( ) ( edit-pipeline absent-entries commit-revprops depth ) ) ) "
+GREETING = b"( success ( 2 2 ( ) ( edit-pipeline absent-entries commit-revprops depth atomic-revprops ) ) ) "
 NO_LOGIN = b"( success ( ( ) 0: ) ) "
 EMPTY = b"( success ( ) ) "
 NOT_OFFERED = b"( failure ( 21:mechanism not offered ) ) "
@@ -234,6 +235,13 @@ def change_revision_property(revision, name, value=None):
     """A property of a revision is set, or removed."""
     set_to = b"" if value is None else string(value)
     return b"( change-rev-prop ( %d " % revision + string(name) + set_to + b") ) "
+
+
+def change_seen_property(revision, name, value=None, seen=None, dont_care=b"false "):
+    """A property of a revision is set, or removed, where its value is the one that was seen, or where it was seen to have none."""
+    set_to = b"( ) " if value is None else b"( " + string(value) + b") "
+    condition = b"( " + dont_care + (b"" if seen is None else string(seen)) + b") "
+    return b"( change-rev-prop2 ( %d " % revision + string(name) + set_to + condition + b") ) "
 
 
 def reparent(url):

@@ -8,8 +8,7 @@ ghost use Rattle.repo_api.specs.Soundness.{AreSound};
 ghost use Rattle.access.specs.Points.{Point, AccessRules, content_of};
 ghost use Rattle.access.specs.Changing.{CommitsAt, LocksAt, UnlocksAt, ChangesPropertyAt};
 
-use byte_string::ByteString;
-use repo_api::{ChangeFault, CommitAsk, LockAsk, Repository, UnlockAsk};
+use repo_api::{ChangeFault, CommitAsk, LockAsk, PropertyAsk, Repository, UnlockAsk};
 use std::alloc::AllocError;
 
 /// What became of the locks that were handed in with a commit.
@@ -77,15 +76,10 @@ pub trait RepoAccess {
             × UnlocksAt rules ask.now at result (point self.new) };
 
     /// Makes this the value of a property of a revision, or takes the property out where there is no
-    /// value.
-    fn change_property(
-        &mut self,
-        revision: u64,
-        name: ByteString,
-        value: Option<ByteString>,
-    ) -> Result<(), ChangeFault>
+    /// value, if the value before is the one that is asked for.
+    fn change_property(&mut self, ask: PropertyAsk) -> Result<(), ChangeFault>
         ensures { (at : Point) × rules.between (point self.old) at
-            × ChangesPropertyAt rules revision name value at result (point self.new) };
+            × ChangesPropertyAt rules ask at result (point self.new) };
 
     ghost stays: { (p : Point) → rules.between p p };
 

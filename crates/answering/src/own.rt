@@ -142,9 +142,9 @@ pub fn own_answer<R: Repository, A: RepoAccess<View = R>, S: ReplySink>(
             let reply = property_reply(*revision, name, access);
             tell(client, preface, reply, turn)
         }
-        MainCommand::ChangeRevProp(command) => {
+        MainCommand::ChangeRevProp(ask) => {
             if options.has_revprops() {
-                change_property(client, command, preface, access, turn)
+                change_property(client, ask, preface, access, turn)
             } else {
                 refuse(client, preface, Refusal::RevisionPropertiesClosed, turn)
             }

@@ -10,6 +10,8 @@ use Rattle.commands.specs.declared.command.CommandName.{CommandName}
 use Rattle.commands.specs.declared.command.CommandName.TheVariants as names
 use Rattle.commands.specs.declared.command.MainCommand.{MainCommand}
 use Rattle.commands.specs.declared.command.MainCommand.TheVariants.{GetLatestRev, CheckPath, RevProplist, Commit, AbortEdit, Lock, Unlock, GetLock, GetLocks, GetFile, GetDir, Stat, GetDatedRev, RevProp, ChangeRevProp, Reparent, Log, GetLocations, Update, Switch, Status}
+use Rattle.repo_api.specs.declared.property_ask.PreviousValue.{PreviousValue}
+use Rattle.repo_api.specs.declared.property_ask.PreviousValue.TheVariants.{Any, Exactly}
 use Rattle.forms.specs.declared.fault.CommandFault.{CommandFault}
 use Rattle.forms.specs.declared.fault.CommandFault.TheVariants.{UnknownName, BadParameters}
 
@@ -156,7 +158,36 @@ change_rev_prop params = do
   (revision, rest) ← number_first params
   (name, rest) ← string_first rest
   value ← optional_string rest
-  Some (ChangeRevProp (record { revision = revision; name = name; value = value }))
+  Some (ChangeRevProp (record {
+    revision = revision;
+    name = name;
+    value = value;
+    previous = Any;
+  }))
+
+-- `dont-care ? previous`: a client that cares has seen this value, or none; what one that doesn't
+-- says of it is ignored
+abbrev pub previous_value : ItemValues → Option PreviousValue
+previous_value items = do
+  (any, rest) ← flag_first items
+  previous ← optional_string rest
+  Some (if any then Any else Exactly previous)
+
+-- `( rev name [ value ] ( dont-care ? previous ) )`
+abbrev pub change_rev_prop2 : ItemValues → Option MainCommand
+change_rev_prop2 params = do
+  (revision, rest) ← number_first params
+  (name, rest) ← string_first rest
+  (value, rest) ← list_first rest
+  value ← optional_string value
+  (previous, _) ← list_first rest
+  previous ← previous_value previous
+  Some (ChangeRevProp (record {
+    revision = revision;
+    name = name;
+    value = value;
+    previous = previous;
+  }))
 
 -- `( url )`
 abbrev pub reparent : ItemValues → Option MainCommand
@@ -214,6 +245,7 @@ name_text names.Stat = codes "stat"
 name_text names.GetDatedRev = codes "get-dated-rev"
 name_text names.RevProp = codes "rev-prop"
 name_text names.ChangeRevProp = codes "change-rev-prop"
+name_text names.ChangeRevProp2 = codes "change-rev-prop2"
 name_text names.Reparent = codes "reparent"
 name_text names.Log = codes "log"
 name_text names.GetLocations = codes "get-locations"
@@ -226,8 +258,9 @@ abbrev pub all_names : List CommandName
 all_names =
     names.GetLatestRev ∷ names.CheckPath ∷ names.RevProplist ∷ names.Commit ∷ names.AbortEdit
     ∷ names.Lock ∷ names.Unlock ∷ names.GetLock ∷ names.GetLocks ∷ names.GetFile ∷ names.GetDir
-    ∷ names.Stat ∷ names.GetDatedRev ∷ names.RevProp ∷ names.ChangeRevProp ∷ names.Reparent
-    ∷ names.Log ∷ names.GetLocations ∷ names.Update ∷ names.Switch ∷ names.Status ∷ []
+    ∷ names.Stat ∷ names.GetDatedRev ∷ names.RevProp ∷ names.ChangeRevProp ∷ names.ChangeRevProp2
+    ∷ names.Reparent ∷ names.Log ∷ names.GetLocations ∷ names.Update ∷ names.Switch ∷ names.Status
+    ∷ []
 
 -- the command that has this name
 abbrev pub main_command_name : List ℕ → Option CommandName
@@ -250,6 +283,7 @@ main_command_with names.Stat params = stat params
 main_command_with names.GetDatedRev params = get_dated_rev params
 main_command_with names.RevProp params = rev_prop params
 main_command_with names.ChangeRevProp params = change_rev_prop params
+main_command_with names.ChangeRevProp2 params = change_rev_prop2 params
 main_command_with names.Reparent params = reparent params
 main_command_with names.Log params = log_command params
 main_command_with names.GetLocations params = get_locations params

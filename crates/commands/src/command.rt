@@ -4,7 +4,7 @@ ghost use Rattle.std.specs.Prelude.{◌≡◌, option_copied, option_map};
 ghost use Rattle.std.specs.List.{find};
 ghost use Rattle.forms.specs.Answering.{Answers, Reads};
 ghost use Rattle.forms.specs.Forms.{is_name};
-ghost use Rattle.commands.specs.Commands.{main_command, main_command_name, name_text, main_command_with, check_path, rev_proplist, locks_first, properties_at_end, commit, lock, unlock, get_lock, get_locks, path_first, get_file, get_dir, has_fields, stat, get_dated_rev, rev_prop, change_rev_prop, reparent, limit_at_end, log_command, get_locations};
+ghost use Rattle.commands.specs.Commands.{main_command, main_command_name, name_text, main_command_with, check_path, rev_proplist, locks_first, properties_at_end, commit, lock, unlock, get_lock, get_locks, path_first, get_file, get_dir, has_fields, stat, get_dated_rev, rev_prop, change_rev_prop, change_rev_prop2, previous_value, reparent, limit_at_end, log_command, get_locations};
 
 use crate::login::are_words;
 use byte_string::ByteString;
@@ -15,6 +15,7 @@ use forms::{
     read_revision, read_string, read_strings,
 };
 use items::Item;
+use repo_api::{PreviousValue, PropertyAsk};
 use report_commands::{DriveRequest, read_status, read_switch, read_update};
 use std::alloc::Global;
 
@@ -75,15 +76,6 @@ pub struct GetDirCommand {
     pub wants_properties: bool,
     /// Whether the directory's entries are to be told.
     pub wants_contents: bool,
-}
-
-/// What a `change-rev-prop` asks for.
-#[derive(Drop)]
-pub struct ChangeRevPropCommand {
-    pub revision: u64,
-    pub name: ByteString,
-    /// The value, or `None` where the property is taken out.
-    pub value: Option<ByteString>,
 }
 
 /// What a `log` asks for.
@@ -147,8 +139,10 @@ pub enum MainCommand {
     GetDatedRev(ByteString),
     /// One property of a revision: `( rev-prop ( rev name ) )`.
     RevProp(u64, ByteString),
-    /// Sets a property of a revision, or takes it out: `( change-rev-prop ( rev name ? value ) )`.
-    ChangeRevProp(ChangeRevPropCommand),
+    /// Sets a property of a revision, or takes it out: `( change-rev-prop ( rev name ? value ) )`, or where
+    /// it has the value that the client has seen,
+    /// `( change-rev-prop2 ( rev name [ value ] ( dont-care ? previous ) ) )`.
+    ChangeRevProp(PropertyAsk),
     /// Goes on at another URL of the same repository: `( reparent ( url ) )`.
     Reparent(ByteString),
     /// The revisions that changed paths:
@@ -196,6 +190,7 @@ pub enum CommandName {
     GetDatedRev,
     RevProp,
     ChangeRevProp,
+    ChangeRevProp2,
     Reparent,
     Log,
     GetLocations,
@@ -205,7 +200,7 @@ pub enum CommandName {
 }
 
 /// The names of all commands.
-const COMMAND_NAMES: [CommandName; 21] = [
+const COMMAND_NAMES: [CommandName; 22] = [
     CommandName::GetLatestRev,
     CommandName::CheckPath,
     CommandName::RevProplist,
@@ -221,6 +216,7 @@ const COMMAND_NAMES: [CommandName; 21] = [
     CommandName::GetDatedRev,
     CommandName::RevProp,
     CommandName::ChangeRevProp,
+    CommandName::ChangeRevProp2,
     CommandName::Reparent,
     CommandName::Log,
     CommandName::GetLocations,
@@ -271,6 +267,7 @@ fn name_text(known: CommandName) -> &'static [u8]
         CommandName::GetDatedRev => b"get-dated-rev",
         CommandName::RevProp => b"rev-prop",
         CommandName::ChangeRevProp => b"change-rev-prop",
+        CommandName::ChangeRevProp2 => b"change-rev-prop2",
         CommandName::Reparent => b"reparent",
         CommandName::Log => b"log",
         CommandName::GetLocations => b"get-locations",
@@ -304,6 +301,7 @@ fn read_command(
         CommandName::GetDatedRev => read_get_dated_rev(params),
         CommandName::RevProp => read_rev_prop(params),
         CommandName::ChangeRevProp => read_change_rev_prop(params),
+        CommandName::ChangeRevProp2 => read_change_rev_prop2(params),
         CommandName::Reparent => read_reparent(params),
         CommandName::Log => read_log(alloc, params),
         CommandName::GetLocations => read_get_locations(alloc, params),
@@ -507,11 +505,42 @@ fn read_change_rev_prop(params: &[Item]) -> Result<MainCommand, CommandFault>
     let (revision, rest) = read_number(params).ok_or(BadParameters)?;
     let (name, rest) = read_string(rest).ok_or(BadParameters)?;
     let value = read_optional_string(rest).ok_or(BadParameters)?;
-    Ok(MainCommand::ChangeRevProp(ChangeRevPropCommand {
+    Ok(MainCommand::ChangeRevProp(PropertyAsk {
         revision,
         name: name.clone()?,
         value: copy_optional(value)?,
+        previous: PreviousValue::Any,
     }))
+}
+
+/// `( rev name [ value ] ( dont-care ? previous ) )`
+fn read_change_rev_prop2(params: &[Item]) -> Result<MainCommand, CommandFault>
+    ensures { Reads result (change_rev_prop2 (values_of params.now)) }
+{
+    let (revision, rest) = read_number(params).ok_or(BadParameters)?;
+    let (name, rest) = read_string(rest).ok_or(BadParameters)?;
+    let (value, rest) = read_list(rest).ok_or(BadParameters)?;
+    let value = read_optional_string(value).ok_or(BadParameters)?;
+    let (previous, _) = read_list(rest).ok_or(BadParameters)?;
+    Ok(MainCommand::ChangeRevProp(PropertyAsk {
+        revision,
+        name: name.clone()?,
+        value: copy_optional(value)?,
+        previous: read_previous_value(previous)?,
+    }))
+}
+
+/// `dont-care ? previous`
+fn read_previous_value(items: &[Item]) -> Result<PreviousValue, CommandFault>
+    ensures { Reads result (previous_value (values_of items.now)) }
+{
+    let (any, rest) = read_flag(items).ok_or(BadParameters)?;
+    let previous = read_optional_string(rest).ok_or(BadParameters)?;
+    if any {
+        Ok(PreviousValue::Any)
+    } else {
+        Ok(PreviousValue::Exactly(copy_optional(previous)?))
+    }
 }
 
 /// `( url )`

@@ -5,7 +5,7 @@ mod command;
 mod login;
 
 pub use command::{
-    ChangeRevPropCommand, CommandName, CommitCommand, GetDirCommand, GetFileCommand,
-    GetLocationsCommand, LockCommand, LogCommand, MainCommand, UnlockCommand,
+    CommandName, CommitCommand, GetDirCommand, GetFileCommand, GetLocationsCommand, LockCommand,
+    LogCommand, MainCommand, UnlockCommand,
 };
 pub use login::{AuthResponse, ClientGreeting, challenge_answer};

@@ -1,13 +1,9 @@
 -- The entry properties: what an entry is told of itself.
 use Rattle.std.specs.Prelude.{ℕ, Bool, ◌&&◌, List, Option, Some, None, option_map, option_and_then, fold, codes, if◌then◌else◌}
-use Rattle.std.specs.BTreeMap.{is_at}
-use Rattle.std.specs.Cmp.Lexicographic.{slice_cmp}
 use Rattle.std.specs.Fmt.{decimal}
-use Rattle.std.specs.Map.{lookup}
-use Rattle.std.specs.Ordering.{nat_cmp}
 use Rattle.svnpath.specs.Paths.{PathValue, same_path}
 use Rattle.repo_api.specs.Kinds.{properties_at}
-use Rattle.repo_api.specs.Properties.{PropertyList}
+use Rattle.repo_api.specs.Properties.{property_value}
 use Rattle.repo_api.specs.States.{RepoState}
 use Rattle.repo_api.specs.Trees.{revision_of}
 use Rattle.repo_api.specs.declared.entry.Entry.{Entry}
@@ -15,10 +11,6 @@ use Rattle.forms.specs.Forms.{is_name}
 use Rattle.replies.specs.Replies.{uuid_text}
 use Rattle.drives.specs.Steps.{Step}
 use Rattle.drives.specs.Steps.Step.{PropertyAt}
-
--- the value of a property
-abbrev pub property_value : PropertyList → List ℕ → Option (List ℕ)
-property_value ps name = lookup (is_at (slice_cmp nat_cmp name)) ps
 
 -- the value of a property of the revision in which an entry was last changed
 abbrev pub changed_property : RepoState → List ℕ → Entry → Option (List ℕ)

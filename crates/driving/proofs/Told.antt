@@ -9,7 +9,7 @@ use Rattle.std.specs.Option.{option_or}
 use Rattle.svnpath.specs.Paths.{PathValue, same_path}
 use Rattle.svnpath.specs.PathLaws.{same_component_is, same_component_refl, same_path_refl}
 use Rattle.repo_api.specs.Kinds.{node_properties, or_empty}
-use Rattle.repo_api.specs.Properties.{PropertyList}
+use Rattle.repo_api.specs.Properties.{PropertyList, property_value}
 use Rattle.repo_api.specs.States.{RepoState}
 use Rattle.repo_api.specs.declared.entry.Entry.{Entry}
 use Rattle.forms.specs.Forms.{is_name}
@@ -18,7 +18,7 @@ use Rattle.drives.specs.Steps.Step.{PropertyAt}
 use Rattle.drives.proofs.Joined.{or_false, and_front}
 use Rattle.reporter.specs.Own.{Change, property_steps, text_steps}
 use Rattle.reports.specs.declared.ask.Purpose.{Purpose}
-use Rattle.drive_commands.specs.EntryProperties.{entry_property, property_value, told_by}
+use Rattle.drive_commands.specs.EntryProperties.{entry_property, told_by}
 use Rattle.entry_news.specs.News.{entry_property_names, entry_changes, names_in_both, is_told, property_changes, news_of, news_steps}
 use Rattle.entry_news.specs.declared.news.News.{News}
 

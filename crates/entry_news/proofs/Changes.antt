@@ -11,13 +11,12 @@ use Rattle.std.specs.Ordering.{nat_cmp, is_eq, match_ordering}
 use Rattle.std.specs.declared.cmp.Ordering.TheVariants.{Less, Equal, Greater}
 use Rattle.svnpath.specs.Paths.{same_component}
 use Rattle.svnpath.specs.PathLaws.{same_component_is, same_component_refl}
-use Rattle.repo_api.specs.Properties.{PropertyList, with_property}
+use Rattle.repo_api.specs.Properties.{PropertyList, is_same_value, property_value, with_property}
 use Rattle.drives.specs.Steps.{is_entry_property, property_values}
 use Rattle.drives.proofs.Joined.{or_false}
 use Rattle.reporter.specs.Own.{Change, changes_name, LeadTo}
 use Rattle.reporter.proofs.Owning.{Agrees}
-use Rattle.drive_commands.specs.EntryProperties.{property_value}
-use Rattle.entry_news.specs.News.{names_in_both, is_same_value, is_told, property_changes}
+use Rattle.entry_news.specs.News.{names_in_both, is_told, property_changes}
 use Rattle.entry_news.specs.Parts.{changes_named}
 
 -- ---- tests

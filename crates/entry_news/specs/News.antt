@@ -4,7 +4,7 @@ use Rattle.std.specs.Prelude.{ℕ, Bool, true, false, not, ◌&&◌, List, [], �
 use Rattle.std.specs.List.{filter_map}
 use Rattle.svnpath.specs.Paths.{PathValue}
 use Rattle.repo_api.specs.Kinds.{node_properties, content_text, text_of, or_empty}
-use Rattle.repo_api.specs.Properties.{PropertyList, with_property}
+use Rattle.repo_api.specs.Properties.{PropertyList, is_same_value, property_value, with_property}
 use Rattle.repo_api.specs.States.{RepoState}
 use Rattle.repo_api.specs.Trees.{Tree}
 use Rattle.repo_api.specs.declared.entry.Entry.{Entry}
@@ -15,7 +15,7 @@ use Rattle.reporter.specs.Visits.{OwnSteps}
 use Rattle.reports.specs.Targets.{WholeReport, old_tree, new_tree, stale_in}
 use Rattle.reports.specs.declared.ask.Purpose.{Purpose}
 use Rattle.reports.specs.declared.ask.Purpose.TheVariants.{Update, Switch, Status}
-use Rattle.drive_commands.specs.EntryProperties.{entry_property, property_value}
+use Rattle.drive_commands.specs.EntryProperties.{entry_property}
 use Rattle.entry_news.specs.declared.news.News.{News}
 
 -- ---- properties
@@ -35,13 +35,6 @@ entry_changes c stale e =
 -- the names that stand in one list or the other, by their bytes
 abbrev pub names_in_both : PropertyList → PropertyList → List (List ℕ)
 names_in_both old new = map (λ p. p.0) (fold (λ ps p. with_property ps p.0 p.1) old new)
-
--- both are the same value, or both none
-abbrev pub is_same_value : Option (List ℕ) → Option (List ℕ) → Bool
-is_same_value None None = true
-is_same_value None (Some new) = false
-is_same_value (Some old) None = false
-is_same_value (Some old) (Some new) = is_name old new
 
 -- a property is told where it has another value now; entry properties are told apart
 abbrev pub is_told : PropertyList → PropertyList → List ℕ → Bool

@@ -1,8 +1,8 @@
 //! The entry properties that an entry is told.
 ghost use Rattle.std.specs.Prelude.{◌≡◌, ◌∷◌, ◌++◌, [], IfOk, IsOkAnd, Some, decimal, option_map};
+ghost use Rattle.repo_api.specs.Properties.{property_value};
 ghost use Rattle.repo_api.specs.Kinds.{properties_at};
 ghost use Rattle.replies.specs.Replies.{uuid_text};
-ghost use Rattle.drive_commands.specs.EntryProperties.{property_value};
 ghost use Rattle.entry_news.specs.Parts.{last_changes, revision_property, stale_changes};
 
 use crate::news::PropertyChanges;

@@ -1,13 +1,13 @@
 //! What becomes of an entry's properties.
-ghost use Rattle.std.specs.Prelude.{◌≡◌, ◌==◌, ◌++◌, Decides, IfOk, length, map, option_copied};
+ghost use Rattle.std.specs.Prelude.{◌≡◌, ◌==◌, ◌++◌, Decides, IfOk, length, map};
 ghost use Rattle.drives.specs.Steps.{is_entry_property, property_values};
-ghost use Rattle.entry_news.specs.News.{is_same_value, is_told, names_in_both, property_changes};
+ghost use Rattle.entry_news.specs.News.{is_told, names_in_both, property_changes};
 ghost use Rattle.entry_news.specs.Parts.{changes_named};
 
 use crate::news::PropertyChanges;
 use byte_string::ByteString;
 use forms::copy_optional;
-use repo_api::Properties;
+use repo_api::{Properties, is_same_value};
 use std::alloc::{AllocError, Global};
 
 /// Whether the name is that of an entry property.
@@ -15,17 +15,6 @@ fn is_entry_property(name: &[u8]) -> bool
     ensures { result ≡ is_entry_property name.now }
 {
     name.starts_with(b"svn:entry:".as_slice())
-}
-
-/// Whether both are the same value, or both none.
-fn is_same_value(old: Option<&ByteString>, new: Option<&ByteString>) -> bool
-    ensures { result ≡ is_same_value (option_copied old.entry) (option_copied new.entry) }
-{
-    match (old, new) {
-        (None, None) => true,
-        (None, Some(_)) | (Some(_), None) => false,
-        (Some(old), Some(new)) => old == new,
-    }
 }
 
 /// Whether a property is told: where it has another value now.

@@ -1,7 +1,8 @@
 //! Which text of a file is told.
 ghost use Rattle.std.specs.Prelude.{◌≡◌, IfOk, option_copied};
 ghost use Rattle.forms.specs.Forms.{is_name};
-ghost use Rattle.entry_news.specs.News.{is_same_value, other_text, text_sent};
+ghost use Rattle.entry_news.specs.News.{other_text, text_sent};
+ghost use Rattle.repo_api.specs.Properties.{is_same_value};
 
 use repo_api::FileText;
 use reports::Purpose;

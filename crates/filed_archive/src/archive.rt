@@ -2,9 +2,8 @@
 use crate::filed_archive::FiledArchive;
 use crate::unsaved::{ChangedFiles, Unsaved, with_hold};
 use access::Handed;
-use byte_string::ByteString;
 use file_store::Store;
-use repo_api::{ChangeFault, CommitAsk, LockAsk, UnlockAsk};
+use repo_api::{ChangeFault, CommitAsk, LockAsk, PropertyAsk, UnlockAsk};
 use sharedrepo::{Archive, SaveFault};
 use std::mem::drop;
 use stored_repository::Filed;
@@ -65,16 +64,9 @@ impl<F: Filed, S: Store> Archive<F> for FiledArchive<F, S> {
         }
     }
 
-    fn property_changed(
-        &self,
-        revision: u64,
-        name: ByteString,
-        value: Option<ByteString>,
-    ) -> Result<(F, Unsaved<F>), ChangeFault> {
-        let made = self
-            .repository
-            .property_changed(revision, &name, value.as_ref());
-        drop((name, value));
+    fn property_changed(&self, ask: PropertyAsk) -> Result<(F, Unsaved<F>), ChangeFault> {
+        let made = self.repository.property_changed(&ask);
+        drop(ask);
         match made {
             Ok((next, new)) => with_hold(next, ChangedFiles::Properties(new)),
             Err(fault) => Err(fault),

@@ -3,7 +3,7 @@ ghost use Rattle.std.specs.Prelude.{◌≡◌};
 
 use crate::filed_world::FiledWorld;
 use byte_string::ByteString;
-use repo_api::{ChangeFault, CommitAsk, LockAsk, LockTokens, UnlockAsk};
+use repo_api::{ChangeFault, CommitAsk, LockAsk, LockTokens, PropertyAsk, UnlockAsk};
 use stored_repository::{Filed, NewProperties, NewRevision};
 use world::WorldTxn;
 
@@ -49,14 +49,9 @@ impl Filed for FiledWorld {
         Ok(made)
     }
 
-    fn property_changed(
-        &self,
-        revision: u64,
-        name: &ByteString,
-        value: Option<&ByteString>,
-    ) -> Result<(Self, NewProperties), ChangeFault> {
-        let world = self.world.property_changed(revision, name, value)?;
-        let made = self.with_properties(world, revision)?;
+    fn property_changed(&self, ask: &PropertyAsk) -> Result<(Self, NewProperties), ChangeFault> {
+        let world = self.world.property_changed(ask)?;
+        let made = self.with_properties(world, ask.revision)?;
         Ok(made)
     }
 

@@ -4,7 +4,7 @@ use crate::filed_world::FiledWorld;
 use byte_string::ByteString;
 use repo_api::{
     Change, ChangeFault, CommitAsk, EditOp, FileText, Lock, LockAsk, LockTokens, NodeKind,
-    Properties, Repository, UnlockAsk,
+    Properties, PropertyAsk, Repository, UnlockAsk,
 };
 use std::alloc::AllocError;
 use svnpath::Path;
@@ -123,13 +123,8 @@ impl Repository for FiledWorld {
         self.world.unlock(ask)
     }
 
-    fn change_property(
-        &mut self,
-        revision: u64,
-        name: ByteString,
-        value: Option<ByteString>,
-    ) -> Result<(), ChangeFault> {
-        self.world.change_property(revision, name, value)
+    fn change_property(&mut self, ask: PropertyAsk) -> Result<(), ChangeFault> {
+        self.world.change_property(ask)
     }
 
     fn release(

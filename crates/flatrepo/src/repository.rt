@@ -35,7 +35,7 @@ use pathlocks::{Locks, lock_shared, put_shared, release_shared, unlock_shared};
 use refusals::Refusal;
 use repo_api::{
     Change, ChangeFault, CommitAsk, EditOp, FileText, Lock, LockAsk, LockTokens, NodeKind,
-    Properties, REVISION_LIMIT, Repository, UnlockAsk,
+    Properties, PropertyAsk, REVISION_LIMIT, Repository, UnlockAsk,
 };
 use revision_data::{TxnChanges, current_refusal, date_of, property_refusal, revision_properties};
 use std::alloc::{AllocError, Global};
@@ -198,17 +198,12 @@ impl Repository for FlatRepo {
         unlock_shared(&mut self.locks, ask)
     }
 
-    fn change_property(
-        &mut self,
-        revision: u64,
-        name: ByteString,
-        value: Option<ByteString>,
-    ) -> Result<(), ChangeFault> {
-        if let Some(refusal) = refusal_of(&self.content, revision, &name) {
-            std::mem::drop((name, value));
+    fn change_property(&mut self, ask: PropertyAsk) -> Result<(), ChangeFault> {
+        if let Some(refusal) = refusal_of(&self.content, &ask) {
+            std::mem::drop(ask);
             return Err(ChangeFault::Refused(refusal));
         }
-        self.content = with_property(self.alloc, &self.content, revision, name, value)?;
+        self.content = with_property(self.alloc, &self.content, ask)?;
         Ok(())
     }
 
@@ -222,25 +217,28 @@ impl Repository for FlatRepo {
     }
 }
 
-/// Refuses a change of a property of a revision: there is no such revision, or none has such a
-/// name.
-fn refusal_of(content: &FlatContent, revision: u64, name: &ByteString) -> Option<Refusal>
-    ensures { result ≡ property_refusal (flat_state content.now) revision name.now }
+/// Refuses a change of a property of a revision.
+fn refusal_of(content: &FlatContent, ask: &PropertyAsk) -> Option<Refusal>
+    ensures { result ≡ property_refusal (flat_state content.now) ask.now }
 {
-    property_refusal(content.youngest(), revision, name)
+    property_refusal(content.youngest(), content.properties(ask.revision), ask)
 }
 
 /// What is held after a change of a property of a revision. What was shared before stays as it was.
 fn with_property(
     alloc: Global,
     content: &FlatContent,
-    revision: u64,
-    name: ByteString,
-    value: Option<ByteString>,
+    ask: PropertyAsk,
 ) -> Result<Arc<FlatContent>, AllocError>
     ensures { IfOk result (λ c. flat_state c.value
-        ≡ with_changed_property (flat_state content.now) revision name value) }
+        ≡ with_changed_property (flat_state content.now) ask.revision ask.name ask.value) }
 {
+    let PropertyAsk {
+        revision,
+        name,
+        value,
+        previous: _,
+    } = ask;
     let changed = content.with_property(alloc, revision, name, value)?;
     Ok(Arc::new(alloc, changed)?)
 }

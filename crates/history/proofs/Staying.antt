@@ -84,4 +84,4 @@ changed_sound c (Commits ask t) s accepted of = committed_sound c ask t of.0 of.
 changed_sound c (Locks ask) s accepted of = record { begun = s.begun; revisions = s.revisions; marked = s.marked }
 changed_sound c (Unlocks ask) s accepted of = record { begun = s.begun; revisions = s.revisions; marked = s.marked }
 changed_sound c (Releases user tokens) s accepted of = record { begun = s.begun; revisions = s.revisions; marked = s.marked }
-changed_sound c (ChangesProperty n name value) s accepted of = record { begun = s.begun; revisions = s.revisions; marked = s.marked }
+changed_sound c (ChangesProperty ask) s accepted of = record { begun = s.begun; revisions = s.revisions; marked = s.marked }

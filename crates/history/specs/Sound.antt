@@ -32,4 +32,4 @@ IsSoundChange c (Commits ask t) = IsBeginning t.shown c.revisions × IsSoundTxn 
 IsSoundChange c (Locks ask) = Unit {0}
 IsSoundChange c (Unlocks ask) = Unit {0}
 IsSoundChange c (Releases user tokens) = Unit {0}
-IsSoundChange c (ChangesProperty n name value) = Unit {0}
+IsSoundChange c (ChangesProperty ask) = Unit {0}

@@ -23,7 +23,7 @@ use Rattle.commands.specs.Commands.{main_command}
 use Rattle.commands.specs.Logins.{client_greeting, auth_response, challenge_answer}
 use Rattle.commands.specs.declared.command.MainCommand.{MainCommand}
 use Rattle.commands.specs.declared.command.MainCommand.TheVariants.{GetLatestRev, CheckPath, RevProplist, Commit, AbortEdit, Lock as LockPath, Unlock as UnlockPath, GetLock, GetLocks, GetFile, GetDir, Stat, GetDatedRev, RevProp, ChangeRevProp, Reparent, Log, GetLocations, Update, Switch, Status}
-use Rattle.commands.specs.declared.command.ChangeRevPropCommand.{ChangeRevPropCommand}
+use Rattle.repo_api.specs.declared.property_ask.PropertyAsk.{PropertyAsk}
 use Rattle.commands.specs.declared.command.LockCommand.{LockCommand}
 use Rattle.commands.specs.declared.command.UnlockCommand.{UnlockCommand}
 use Rattle.commands.specs.declared.login.AuthResponse.{AuthResponse}
@@ -177,7 +177,7 @@ told_behind c halted (Commits ask t ∷ es) told all (wanted, behind, ends) = (w
 told_behind c halted (Locks ask ∷ es) told all (none, ends) = (none, ends_behind told all _ ends)
 told_behind c halted (Unlocks ask ∷ es) told all (none, ends) = (none, ends_behind told all _ ends)
 told_behind c halted (Releases user tokens ∷ es) told all bad = bad
-told_behind c halted (ChangesProperty n name value ∷ es) told all (none, ends) = (none, ends_behind told all _ ends)
+told_behind c halted (ChangesProperty ask ∷ es) told all (none, ends) = (none, ends_behind told all _ ends)
 
 does_behind : (P : Accepted → Type 0) (may halted : Bool) (env : Env) (c : RepoState) (told : List Reply) (Step : Answer → Type 0) (a : Answer)
     → ArePlain told → ((b : Answer) → Step b → Does P may halted env c b) → Behind told Step a → Does P may halted env c a
@@ -309,13 +309,10 @@ does_unlock may halted env c client command (Ok path) a named step =
     (change_answer env client (Unlocks ask) (Success ∷ [])) a refl (unlocks may env c client command path named) step
 does_unlock may halted env c client command (Err fault) a named is = quiet a _ is (refl, refl, refl)
 
-abbrev change_of : ChangeRevPropCommand → Accepted
-change_of command = ChangesProperty command.revision command.name command.value
-
-revises : (env : Env) (c : RepoState) (client : Client) (command : ChangeRevPropCommand) → property_refusal c command.revision command.name ≡ None
-    → (v : Verdict) → IsOfReplace (change_of command) v → Does (IsAskedBy env client (ChangeRevProp command)) true false env c (change_answer env client (change_of command) (Success ∷ []) v)
-revises env c client command accepted Written of = record {
-  own = ((command, refl, refl, refl, refl), tt);
+revises : (env : Env) (c : RepoState) (client : Client) (ask : PropertyAsk) → property_refusal c ask ≡ None
+    → (v : Verdict) → IsOfReplace (ChangesProperty ask) v → Does (IsAskedBy env client (ChangeRevProp ask)) true false env c (change_answer env client (ChangesProperty ask) (Success ∷ []) v)
+revises env c client ask accepted Written of = record {
+  own = (refl, tt);
   accepted = (accepted, tt);
   told = (refl, ([], refl));
   words = refl;
@@ -323,16 +320,16 @@ revises env c client command accepted Written of = record {
   plain = inr (refl, (λ r e. cc, tt));
   halt = tt;
 }
-revises env c client command accepted NotWritten of = absurd of
-revises env c client command accepted (Unknown x) of =
-    halts_at (IsAskedBy env client (ChangeRevProp command)) true env c client (change_of command) x (Success ∷ []) (command, refl, refl, refl, refl) accepted of
+revises env c client ask accepted NotWritten of = absurd of
+revises env c client ask accepted (Unknown x) of =
+    halts_at (IsAskedBy env client (ChangeRevProp ask)) true env c client (ChangesProperty ask) x (Success ∷ []) refl accepted of
 
-does_property : (may halted : Bool) (env : Env) (c : RepoState) (client : Client) (command : ChangeRevPropCommand) (a : Answer)
-    → PropertyStep may halted env c client command a → Does (IsAskedBy env client (ChangeRevProp command)) may halted env c a
-does_property false halted env c client command a is = quiet a _ is (refl, refl, refl)
-does_property true halted env c client command a step =
-    does_change (IsAskedBy env client (ChangeRevProp command)) true halted env c client (property_refusal c command.revision command.name) (property_refusal c command.revision command.name)
-    (change_of command) (change_answer env client (change_of command) (Success ∷ [])) a refl (revises env c client command) step
+does_property : (may halted : Bool) (env : Env) (c : RepoState) (client : Client) (ask : PropertyAsk) (a : Answer)
+    → PropertyStep may halted env c client ask a → Does (IsAskedBy env client (ChangeRevProp ask)) may halted env c a
+does_property false halted env c client ask a is = quiet a _ is (refl, refl, refl)
+does_property true halted env c client ask a step =
+    does_change (IsAskedBy env client (ChangeRevProp ask)) true halted env c client (property_refusal c ask) (property_refusal c ask)
+    (ChangesProperty ask) (change_answer env client (ChangesProperty ask) (Success ∷ [])) a refl (revises env c client ask) step
 
 -- ---- commands
 
@@ -355,7 +352,7 @@ own halted s env c client (GetDir command) a is = quiet a _ is (refl, refl, refl
 own halted s env c client (Stat path revision) a is = quiet a _ is (refl, refl, refl)
 own halted s env c client (GetDatedRev date) a is = quiet a _ is (refl, refl, refl)
 own halted s env c client (RevProp n name) a is = quiet a _ is (refl, refl, refl)
-own halted s env c client (ChangeRevProp command) a step = does_property s.revprops halted env c client command a step
+own halted s env c client (ChangeRevProp ask) a step = does_property s.revprops halted env c client ask a step
 own halted s env c client (Reparent url) a is = quiet a _ is (quiet_reparented env client (path_of_text url s.name))
 own halted s env c client (Log command) a is = quiet a _ is (refl, refl, refl)
 own halted s env c client (GetLocations command) a is = quiet a _ is (refl, refl, refl)

@@ -39,7 +39,7 @@ module _ (keeps : KeepTrees)
   all_keep c (Locks ask ∷ es) (meets, meet) = (tt, all_keep (changed c (Locks ask)) es meet)
   all_keep c (Unlocks ask ∷ es) (meets, meet) = (tt, all_keep (changed c (Unlocks ask)) es meet)
   all_keep c (Releases user tokens ∷ es) (meets, meet) = (tt, all_keep (changed c (Releases user tokens)) es meet)
-  all_keep c (ChangesProperty n name value ∷ es) (meets, meet) = (tt, all_keep (changed c (ChangesProperty n name value)) es meet)
+  all_keep c (ChangesProperty ask ∷ es) (meets, meet) = (tt, all_keep (changed c (ChangesProperty ask)) es meet)
 
   pub event_does : (old new : HubState) (env after : Env) (e : Event) (told : List Reply) → HubStep old env e told new after
       → (changes : List Accepted) × HasDone old env e changes told new after

@@ -51,7 +51,7 @@ module _ (holds : (c : RepoState) (ask : CommitAsk) (t : TxnState) → commit_re
   all_held c (Locks ask ∷ es) (accepted, are) = (tt, all_held (changed c (Locks ask)) es are)
   all_held c (Unlocks ask ∷ es) (accepted, are) = (tt, all_held (changed c (Unlocks ask)) es are)
   all_held c (Releases user tokens ∷ es) (accepted, are) = (tt, all_held (changed c (Releases user tokens)) es are)
-  all_held c (ChangesProperty n name value ∷ es) (accepted, are) = (tt, all_held (changed c (ChangesProperty n name value)) es are)
+  all_held c (ChangesProperty ask ∷ es) (accepted, are) = (tt, all_held (changed c (ChangesProperty ask)) es are)
 
   respects : (c : RepoState) (es : List Accepted) → AreAccepted c es → RespectLocks c es (changed_all c es)
   respects c es are = record { held = all_held c es are; unnamed = stays c es; distinct = apart c es }
@@ -75,8 +75,8 @@ module _ (holds : (c : RepoState) (ask : CommitAsk) (t : TxnState) → commit_re
       (subst (λ (x : List ℕ). IsNewToken c.locks x) (sym token) (fresh used), subst (λ (xs : List Accepted). HaveNewTokens (changed c (Locks ask)) xs) (sym none) tt)
   tokens_new c halted (Unlocks ask ∷ es) told env after (none, ends) words fresh = subst (λ (xs : List Accepted). HaveNewTokens (changed c (Unlocks ask)) xs) (sym none) tt
   tokens_new c halted (Releases user tokens ∷ es) told env after bad words fresh = absurd bad
-  tokens_new c halted (ChangesProperty n name value ∷ es) told env after (none, ends) words fresh =
-      subst (λ (xs : List Accepted). HaveNewTokens (changed c (ChangesProperty n name value)) xs) (sym none) tt
+  tokens_new c halted (ChangesProperty ask ∷ es) told env after (none, ends) words fresh =
+      subst (λ (xs : List Accepted). HaveNewTokens (changed c (ChangesProperty ask)) xs) (sym none) tt
 
   same_apart : (old new : HubState) → new.content ≡ old.content → HaveOwnTokens old.content.locks → HaveOwnTokens new.content.locks
   same_apart old new same own = subst (λ (x : RepoState). HaveOwnTokens x.locks) (sym same) own

@@ -10,7 +10,6 @@ use Rattle.commands.specs.declared.command.MainCommand.{MainCommand}
 use Rattle.commands.specs.declared.command.MainCommand.TheVariants.{Lock, Unlock, ChangeRevProp}
 use Rattle.commands.specs.declared.command.LockCommand.{LockCommand}
 use Rattle.commands.specs.declared.command.UnlockCommand.{UnlockCommand}
-use Rattle.commands.specs.declared.command.ChangeRevPropCommand.{ChangeRevPropCommand}
 use Rattle.edit_commands.specs.Editing.{editor_command}
 use Rattle.edit_commands.specs.declared.editing.EditorCommand.TheVariants.{CloseEdit}
 use Rattle.edit_rules.specs.Editor.{finished}
@@ -39,9 +38,7 @@ IsAskedBy env client command (Unlocks ask) =
     × (path : PathValue) × (joined client.path unlock.path ≡ Ok path)
     × (ask ≡ unlock_ask client unlock path)
 IsAskedBy env client command (Releases user tokens) = ⊥
-IsAskedBy env client command (ChangesProperty n name value) =
-    (change : ChangeRevPropCommand) × (command ≡ ChangeRevProp change)
-    × (n ≡ change.revision) × (name ≡ change.name) × (value ≡ change.value)
+IsAskedBy env client command (ChangesProperty ask) = command ≡ ChangeRevProp ask
 
 -- the change is the commit of this edit's transaction, with what was asked for as it began, or the
 -- release behind it
@@ -53,7 +50,7 @@ IsOfEdit env edit (Locks ask) = ⊥
 IsOfEdit env edit (Unlocks ask) = ⊥
 IsOfEdit env edit (Releases user tokens) =
     (user ≡ edit.client.user) × (tokens ≡ edit.asked.tokens)
-IsOfEdit env edit (ChangesProperty n name value) = ⊥
+IsOfEdit env edit (ChangesProperty ask) = ⊥
 
 -- the client asks for it by a command that has waited for a login
 abbrev pub IsWaiting : Env → Client → Option MainCommand → Accepted → Type 0

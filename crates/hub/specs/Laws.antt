@@ -75,7 +75,7 @@ IsTold c halted (Locks ask ∷ behind) told =
     (behind ≡ []) × EndsWith told (Lock ask.path (lock_of ask))
 IsTold c halted (Unlocks ask ∷ behind) told = (behind ≡ []) × EndsWith told Success
 IsTold c halted (Releases user tokens ∷ behind) told = ⊥
-IsTold c halted (ChangesProperty n name value ∷ behind) told =
+IsTold c halted (ChangesProperty ask ∷ behind) told =
     (behind ≡ []) × EndsWith told Success
 
 -- A lock has the token of the word that was handed in, and uses the word up; nothing else does.
@@ -86,7 +86,7 @@ UsesWord env (Locks ask ∷ es) after =
     (ask.token ≡ token_text env.token) × (after ≡ env_without_token env)
 UsesWord env (Unlocks ask ∷ es) after = after.token ≡ env.token
 UsesWord env (Releases user tokens ∷ es) after = after.token ≡ env.token
-UsesWord env (ChangesProperty n name value ∷ es) after = after.token ≡ env.token
+UsesWord env (ChangesProperty ask ∷ es) after = after.token ≡ env.token
 
 -- what nothing changes: the settings, and the repository's name among all repositories
 pub record KeepsConstants (old new : HubState) : Type 0 where
@@ -103,7 +103,7 @@ names_property (Commits ask t) n name = false
 names_property (Locks ask) n name = false
 names_property (Unlocks ask) n name = false
 names_property (Releases user tokens) n name = false
-names_property (ChangesProperty m other value) n name = (m == n) && is_name other name
+names_property (ChangesProperty ask) n name = (ask.revision == n) && is_name ask.name name
 
 -- of a revision that is there, each property that no change names has the value that it had, or has
 -- none as before
@@ -135,7 +135,7 @@ KeepsSides c (Commits ask t) = KeepsBothSides c t
 KeepsSides c (Locks ask) = Unit {0}
 KeepsSides c (Unlocks ask) = Unit {0}
 KeepsSides c (Releases user tokens) = Unit {0}
-KeepsSides c (ChangesProperty n name value) = Unit {0}
+KeepsSides c (ChangesProperty ask) = Unit {0}
 
 -- so it is of each change, in the state that those before it make
 abbrev pub AllKeepSides : RepoState → List Accepted → Type 0
@@ -152,7 +152,7 @@ HoldsLocks c (Commits ask t) =
 HoldsLocks c (Locks ask) = Unit {0}
 HoldsLocks c (Unlocks ask) = Unit {0}
 HoldsLocks c (Releases user tokens) = Unit {0}
-HoldsLocks c (ChangesProperty n name value) = Unit {0}
+HoldsLocks c (ChangesProperty ask) = Unit {0}
 
 -- so it is of each change, in the state that those before it make
 abbrev pub AllHoldLocks : RepoState → List Accepted → Type 0

@@ -11,7 +11,7 @@ ghost use Rattle.repo_api.specs.Soundness.{AreTrees, AreSound};
 ghost use Rattle.repo_api.specs.declared.ask.CommitAsk.{CommitAsk};
 ghost use Rattle.commands.specs.Commands.{main_command};
 ghost use Rattle.commands.specs.declared.command.MainCommand.TheVariants.{ChangeRevProp};
-ghost use Rattle.commands.specs.declared.command.ChangeRevPropCommand.{ChangeRevPropCommand};
+ghost use Rattle.repo_api.specs.declared.property_ask.PropertyAsk.{PropertyAsk};
 ghost use Rattle.edit_commands.specs.Editing.{editor_command};
 ghost use Rattle.edit_commands.specs.declared.editing.EditorCommand.TheVariants.{CloseEdit};
 ghost use Rattle.edit_rules.specs.Editor.{finished};
@@ -84,12 +84,11 @@ pub fn nothing_else_is_asked_for()
     ensures release { (env : Env) (edit : MachineEdit) (t : ItemValue) (user : Option (List ℕ)) (tokens : HandedTokens)
         → IsAsked env (Editing edit) (Whole t) (Releases user tokens)
         → (user ≡ edit.client.user) × (tokens ≡ edit.asked.tokens) }
-    ensures property { (env : Env) (client : Client) (t : ItemValue) (n : ℕ) (name : List ℕ) (value : Option (List ℕ))
-        → IsAsked env (Serving client) (Whole t) (ChangesProperty n name value)
-        → (change : ChangeRevPropCommand) × (main_command t ≡ Ok (ChangeRevProp change))
-        × (n ≡ change.revision) × (name ≡ change.name) × (value ≡ change.value) }
-    ensures within_edit { (env : Env) (edit : MachineEdit) (t : ItemValue) (n : ℕ) (name : List ℕ) (value : Option (List ℕ))
-        → IsAsked env (Editing edit) (Whole t) (ChangesProperty n name value) → ⊥ }
+    ensures property { (env : Env) (client : Client) (t : ItemValue) (ask : PropertyAsk)
+        → IsAsked env (Serving client) (Whole t) (ChangesProperty ask)
+        → main_command t ≡ Ok (ChangeRevProp ask) }
+    ensures within_edit { (env : Env) (edit : MachineEdit) (t : ItemValue) (ask : PropertyAsk)
+        → IsAsked env (Editing edit) (Whole t) (ChangesProperty ask) → ⊥ }
 {}
 
 /// Whatever happens, and whatever calls come, the repository has gone on by the changes that were asked for, each

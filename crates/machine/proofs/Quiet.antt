@@ -13,7 +13,7 @@ use Rattle.repo_api.specs.Locking.{lock_refusal, unlock_refusal}
 use Rattle.repo_api.specs.declared.lock_ask.LockAsk.{LockAsk}
 use Rattle.commands.specs.Commands.{main_command}
 use Rattle.commands.specs.Logins.{client_greeting, auth_response, challenge_answer}
-use Rattle.commands.specs.declared.command.ChangeRevPropCommand.{ChangeRevPropCommand}
+use Rattle.repo_api.specs.declared.property_ask.PropertyAsk.{PropertyAsk}
 use Rattle.commands.specs.declared.command.LockCommand.{LockCommand}
 use Rattle.commands.specs.declared.command.UnlockCommand.{UnlockCommand}
 use Rattle.edit_commands.specs.Editing.{ends_edit}
@@ -66,7 +66,7 @@ keeps_revisions (Commits ask t) = false
 keeps_revisions (Locks ask) = true
 keeps_revisions (Unlocks ask) = true
 keeps_revisions (Releases user tokens) = true
-keeps_revisions (ChangesProperty n name value) = true
+keeps_revisions (ChangesProperty ask) = true
 
 -- and so does each of these
 abbrev pub KeepRevisions : List Accepted → Type 0
@@ -160,13 +160,12 @@ quiet_unlock s halted env c client command (Ok path) a step =
     (λ v. quiet_change s env client (Unlocks ask) _ v refl) step
 quiet_unlock s halted env c client command (Err fault) a is = quiet_is s a _ is (plain s env client _)
 
-quiet_property : (s : Settings) (may halted : Bool) (env : Env) (c : RepoState) (client : Client) (command : ChangeRevPropCommand) (a : Answer)
-    → PropertyStep may halted env c client command a → IsQuiet s a
-quiet_property s false halted env c client command a is = quiet_is s a _ is (plain s env client _)
-quiet_property s true halted env c client command a step =
-    let change = ChangesProperty command.revision command.name command.value in
-    quiet_step s halted env client (property_refusal c command.revision command.name) change (change_answer env client change (replies.Success ∷ [])) a
-    (λ v. quiet_change s env client change _ v refl) step
+quiet_property : (s : Settings) (may halted : Bool) (env : Env) (c : RepoState) (client : Client) (ask : PropertyAsk) (a : Answer)
+    → PropertyStep may halted env c client ask a → IsQuiet s a
+quiet_property s false halted env c client ask a is = quiet_is s a _ is (plain s env client _)
+quiet_property s true halted env c client ask a step =
+    quiet_step s halted env client (property_refusal c ask) (ChangesProperty ask) (change_answer env client (ChangesProperty ask) (replies.Success ∷ [])) a
+    (λ v. quiet_change s env client (ChangesProperty ask) _ v refl) step
 
 -- ---- commands
 
@@ -195,7 +194,7 @@ quiet_own s halted env c client (GetDir command) a is = quiet_is s a _ is (plain
 quiet_own s halted env c client (Stat path revision) a is = quiet_is s a _ is (plain s env client _)
 quiet_own s halted env c client (GetDatedRev date) a is = quiet_is s a _ is (plain s env client _)
 quiet_own s halted env c client (RevProp n name) a is = quiet_is s a _ is (plain s env client _)
-quiet_own s halted env c client (ChangeRevProp command) a step = quiet_property s s.revprops halted env c client command a step
+quiet_own s halted env c client (ChangeRevProp ask) a step = quiet_property s s.revprops halted env c client ask a step
 quiet_own s halted env c client (Reparent url) a is =
     quiet_is s a _ is (quiet_reparented s env client (path_of_text url s.name))
 quiet_own s halted env c client (Log command) a is = quiet_is s a _ is (plain s env client _)

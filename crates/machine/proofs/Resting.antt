@@ -188,7 +188,7 @@ rests_step halted s env c Ended input a rests step = rests_is c a _ step tt
 change_keeps : (c : RepoState) (e : Accepted) → IsBeginning c.revisions (changed c e).revisions
 change_keeps c (Commits ask t) = record { more = _; is = refl }
 change_keeps c (Locks ask) = begins c.revisions
-change_keeps c (ChangesProperty n name value) = begins c.revisions
+change_keeps c (ChangesProperty ask) = begins c.revisions
 change_keeps c (Unlocks ask) = begins c.revisions
 change_keeps c (Releases user tokens) = begins c.revisions
 

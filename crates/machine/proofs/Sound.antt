@@ -96,8 +96,8 @@ leaves_is c a b e r = subst (λ (x : Answer). LeavesTrees c x) (sym e) r
 kept_leave : (c : RepoState) (es : List Accepted) → KeepRevisions es → AreSound c.revisions → AreSound (changed_all c es).revisions × MeetBy c es
 kept_leave c [] of trees = (trees, tt)
 kept_leave c (Commits ask t ∷ es) (of, more) trees = cc
-kept_leave c (ChangesProperty n name value ∷ es) (of, more) trees =
-    let left = kept_leave (changed c (ChangesProperty n name value)) es more trees in (left.0, (tt, left.1))
+kept_leave c (ChangesProperty ask ∷ es) (of, more) trees =
+    let left = kept_leave (changed c (ChangesProperty ask)) es more trees in (left.0, (tt, left.1))
 kept_leave c (Locks ask ∷ es) (of, more) trees = let left = kept_leave (changed c (Locks ask)) es more trees in (left.0, (tt, left.1))
 kept_leave c (Unlocks ask ∷ es) (of, more) trees = let left = kept_leave (changed c (Unlocks ask)) es more trees in (left.0, (tt, left.1))
 kept_leave c (Releases user tokens ∷ es) (of, more) trees =

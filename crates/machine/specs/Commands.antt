@@ -18,8 +18,8 @@ use Rattle.repo_api.specs.Accepted.Accepted.{Locks, Unlocks, ChangesProperty}
 use Rattle.repo_api.specs.Locking.{LockList, at_or_under, lock_refusal, lock_of, unlock_refusal}
 use Rattle.repo_api.specs.declared.lock_ask.LockAsk.{LockAsk}
 use Rattle.repo_api.specs.declared.lock_ask.UnlockAsk.{UnlockAsk}
+use Rattle.repo_api.specs.declared.property_ask.PropertyAsk.{PropertyAsk}
 use Rattle.dates.specs.Dates.{IsDateText}
-use Rattle.commands.specs.declared.command.ChangeRevPropCommand.{ChangeRevPropCommand}
 use Rattle.commands.specs.declared.command.CommitCommand.{CommitCommand}
 use Rattle.commands.specs.declared.command.MainCommand.{MainCommand}
 use Rattle.commands.specs.declared.command.MainCommand.TheVariants.{GetLatestRev, CheckPath, RevProplist, Commit, AbortEdit, Lock, Unlock, GetLock, GetLocks, GetFile, GetDir, Stat, GetDatedRev, RevProp, ChangeRevProp, Reparent, Log, GetLocations, Update, Switch, Status}
@@ -166,18 +166,16 @@ UnlockStep halted env c client command (Err fault) a =
 
 -- a property of a revision is changed: the value takes the place of the one before, and without a
 -- value there is none
-abbrev pub RevisingStep : Bool → Env → RepoState → Client → ChangeRevPropCommand → Answer → Type 0
-RevisingStep halted env c client command a =
-    let change = ChangesProperty command.revision command.name command.value in
-    ChangeStep halted env client (property_refusal c command.revision command.name) change
-    (change_answer env client change (replies.Success ∷ [])) a
+abbrev pub RevisingStep : Bool → Env → RepoState → Client → PropertyAsk → Answer → Type 0
+RevisingStep halted env c client ask a =
+    ChangeStep halted env client (property_refusal c ask) (ChangesProperty ask)
+    (change_answer env client (ChangesProperty ask) (replies.Success ∷ [])) a
 
 -- where clients may not change them it is refused, whatever else would be said of it
-abbrev pub PropertyStep : Bool → Bool → Env → RepoState → Client → ChangeRevPropCommand → Answer
-    → Type 0
-PropertyStep false halted env c client command a =
+abbrev pub PropertyStep : Bool → Bool → Env → RepoState → Client → PropertyAsk → Answer → Type 0
+PropertyStep false halted env c client ask a =
     a ≡ serves env client (replies.Failure refusals.RevisionPropertiesClosed)
-PropertyStep true halted env c client command a = RevisingStep halted env c client command a
+PropertyStep true halted env c client ask a = RevisingStep halted env c client ask a
 
 -- ---- another URL
 
@@ -220,8 +218,8 @@ OwnStep halted s env c client (Stat path revision) a =
     a ≡ serves env client (stat_reply c (place_read c revision (joined client.path path)))
 OwnStep halted s env c client (GetDatedRev date) a = a ≡ serves env client (dated_reply c date)
 OwnStep halted s env c client (RevProp n name) a = a ≡ serves env client (property_reply c n name)
-OwnStep halted s env c client (ChangeRevProp command) a =
-    PropertyStep s.revprops halted env c client command a
+OwnStep halted s env c client (ChangeRevProp ask) a =
+    PropertyStep s.revprops halted env c client ask a
 OwnStep halted s env c client (Reparent url) a = a ≡ reparented env client (path_of_text url s.name)
 OwnStep halted s env c client (Log command) a =
     a ≡ says env (Serving client) (log_replies c command (all_joined client.path command.paths))
@@ -251,7 +249,7 @@ login_request (GetDir command) = replies.NoLogin ∷ []
 login_request (Stat path revision) = replies.NoLogin ∷ []
 login_request (GetDatedRev date) = replies.NoLogin ∷ []
 login_request (RevProp n name) = replies.NoLogin ∷ []
-login_request (ChangeRevProp command) = replies.NoLogin ∷ []
+login_request (ChangeRevProp ask) = replies.NoLogin ∷ []
 login_request (Reparent url) = replies.NoLogin ∷ []
 login_request (Log command) = replies.NoLogin ∷ []
 login_request (GetLocations command) = replies.NoLogin ∷ []
@@ -275,7 +273,7 @@ is_write (GetDir command) = false
 is_write (Stat path revision) = false
 is_write (GetDatedRev date) = false
 is_write (RevProp n name) = false
-is_write (ChangeRevProp command) = true
+is_write (ChangeRevProp ask) = true
 is_write (Reparent url) = false
 is_write (Log command) = false
 is_write (GetLocations command) = false

@@ -13,7 +13,7 @@ MeetsWell c (Commits ask t) =
 MeetsWell c (Locks ask) = Unit {0}
 MeetsWell c (Unlocks ask) = Unit {0}
 MeetsWell c (Releases user tokens) = Unit {0}
-MeetsWell c (ChangesProperty n name value) = Unit {0}
+MeetsWell c (ChangesProperty ask) = Unit {0}
 
 -- and so each change, one after another
 abbrev pub MeetBy : RepoState → List Accepted → Type 0

@@ -37,7 +37,7 @@ unlocked_at m p q = get-remove path_cmp_total m p q ∙ ap (λ b. cond b None (g
 
 one_stays : (c : RepoState) (e : Accepted) (q : PathValue) → names_lock e q ≡ false → get (changed c e).locks q ≡ get c.locks q
 one_stays c (Commits ask t) q other = refl
-one_stays c (ChangesProperty n name value) q other = refl
+one_stays c (ChangesProperty ask) q other = refl
 one_stays c (Locks ask) q other = locked_at c.locks ask.path (lock_of ask) q ∙ ap (λ b. cond b (Some (lock_of ask)) (get c.locks q)) other
 one_stays c (Unlocks ask) q other = unlocked_at c.locks ask.path q ∙ ap (λ b. cond b None (get c.locks q)) other
 one_stays c (Releases user tokens) q other =
@@ -81,7 +81,7 @@ not_gone false o l h = h
 pub tokens_stay : (c : RepoState) (es : List Accepted) → HaveOwnTokens c.locks → HaveNewTokens c es → HaveOwnTokens (changed_all c es).locks
 tokens_stay c [] own new = own
 tokens_stay c (Commits ask t ∷ es) own new = tokens_stay (changed c (Commits ask t)) es own new
-tokens_stay c (ChangesProperty n name value ∷ es) own new = tokens_stay (changed c (ChangesProperty n name value)) es own new
+tokens_stay c (ChangesProperty ask ∷ es) own new = tokens_stay (changed c (ChangesProperty ask)) es own new
 tokens_stay c (Locks ask ∷ es) own new = tokens_stay (changed c (Locks ask)) es (distinct_lock c.locks ask own new.0) new.1
 tokens_stay c (Unlocks ask ∷ es) own new =
     tokens_stay (changed c (Unlocks ask)) es

@@ -14,11 +14,11 @@ pub(crate) const LOGIN: &[u8] = b"( 2 ( edit-pipeline ) 9:svn://h/r ) ( ANONYMOU
 
 /// The greeting.
 pub(crate) const GREETING: &[u8] =
-    b"( success ( 2 2 ( ) ( edit-pipeline absent-entries commit-revprops depth ) ) ) ";
+    b"( success ( 2 2 ( ) ( edit-pipeline absent-entries commit-revprops depth atomic-revprops ) ) ) ";
 
 /// What a client without a name is told up to the end of its login.
 pub(crate) const WELCOME: &[u8] =
-    b"( success ( 2 2 ( ) ( edit-pipeline absent-entries commit-revprops depth ) ) ) \
+    b"( success ( 2 2 ( ) ( edit-pipeline absent-entries commit-revprops depth atomic-revprops ) ) ) \
       ( success ( ( ANONYMOUS ) 1:r ) ) ( success ( ) ) \
       ( success ( 36:00000000-0000-4000-8000-000000000000 9:svn://h/r ( ) ) ) ";
 

@@ -54,7 +54,7 @@ const PIECES: [&[u8]; 5] = [
 
 /// What this client is told.
 const TOLD: &[u8] =
-    b"( success ( 2 2 ( ) ( edit-pipeline absent-entries commit-revprops depth ) ) ) \
+    b"( success ( 2 2 ( ) ( edit-pipeline absent-entries commit-revprops depth atomic-revprops ) ) ) \
       ( success ( ( ANONYMOUS CRAM-MD5 ) 1:r ) ) ( step ( 13:<7.1000000@r> ) ) \
       ( failure ( 12:login failed ) ) ( step ( 13:<7.1000000@r> ) ) ( success ( ) ) \
       ( success ( 36:00000000-0000-4000-8000-000000000000 9:svn://h/r ( ) ) ) ";

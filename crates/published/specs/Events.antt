@@ -70,4 +70,4 @@ accepted_by txn_state (Commit ask txn) = Commits ask.value (txn_state txn.value)
 accepted_by txn_state (Lock ask) = Locks ask.value
 accepted_by txn_state (Unlock ask) = Unlocks ask.value
 accepted_by txn_state (Release handed) = Releases handed.value.user handed.value.tokens
-accepted_by txn_state (Property n name value) = ChangesProperty n name.value value.value
+accepted_by txn_state (Property ask) = ChangesProperty ask.value

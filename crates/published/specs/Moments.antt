@@ -97,7 +97,7 @@ one_begins c (Commits ask t) = record { more = _; is = refl }
 one_begins c (Locks ask) = begins_itself c.revisions
 one_begins c (Unlocks ask) = begins_itself c.revisions
 one_begins c (Releases user tokens) = begins_itself c.revisions
-one_begins c (ChangesProperty n name value) = begins_itself c.revisions
+one_begins c (ChangesProperty ask) = begins_itself c.revisions
 
 pub begins_through : (xs ys zs : List Revision) → IsBeginning xs ys → IsBeginning ys zs
     → IsBeginning xs zs

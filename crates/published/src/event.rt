@@ -1,9 +1,8 @@
 //! What has happened to a repository, which proofs alone know.
 use access::Handed;
-use byte_string::ByteString;
 use logbook::Plain;
 use noted::Noted;
-use repo_api::{CommitAsk, LockAsk, Repository, UnlockAsk};
+use repo_api::{CommitAsk, LockAsk, PropertyAsk, Repository, UnlockAsk};
 use std::marker::{Model, PhantomData};
 
 /// An event. No value of it is made.
@@ -46,8 +45,7 @@ pub enum AskedChange<T: Drop> {
     Lock(Noted<LockAsk>),
     Unlock(Noted<UnlockAsk>),
     Release(Noted<Handed>),
-    /// A revision, the name of its property, and the new value, if there is one.
-    Property(u64, Noted<ByteString>, Noted<Option<ByteString>>),
+    Property(Noted<PropertyAsk>),
 }
 
 /// A change.

@@ -6,7 +6,7 @@ use Rattle.items.specs.Print.{printed}
 use Rattle.replies.specs.Replies.{reply_item}
 use Rattle.replies.specs.declared.reply.Reply.TheVariants.{Greeting, NoLogin, MechanismNotOffered, LoginFailed, Done}
 
-pub printed-greeting : printed (reply_item Greeting) ≡ codes "( success ( 2 2 ( ) ( edit-pipeline absent-entries commit-revprops depth ) ) ) "
+pub printed-greeting : printed (reply_item Greeting) ≡ codes "( success ( 2 2 ( ) ( edit-pipeline absent-entries commit-revprops depth atomic-revprops ) ) ) "
 unfolding digits
 printed-greeting = refl
 

@@ -169,7 +169,8 @@ abbrev pub capabilities : ItemValues
 capabilities =
     more (word (codes "edit-pipeline"))
     (more (word (codes "absent-entries"))
-    (both (word (codes "commit-revprops")) (word (codes "depth"))))
+    (more (word (codes "commit-revprops"))
+    (both (word (codes "depth")) (word (codes "atomic-revprops")))))
 
 -- the item of each reply
 abbrev pub reply_item : Reply → ItemValue

@@ -95,7 +95,8 @@ impl Reply {
     {
         match self {
             Reply::Greeting => out.extend_from_slice(
-                b"( success ( 2 2 ( ) ( edit-pipeline absent-entries commit-revprops depth ) ) ) ",
+                b"( success ( 2 2 ( ) ( edit-pipeline absent-entries commit-revprops depth \
+                atomic-revprops ) ) ) ",
             ),
             Reply::NoLogin => out.extend_from_slice(b"( success ( ( ) 0: ) ) "),
             Reply::Login(offer, realm) => write_made(

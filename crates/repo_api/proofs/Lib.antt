@@ -10,3 +10,4 @@ pub mod Revisions
 pub mod Copying
 pub mod Standing
 pub mod LockChanges
+pub mod PropertyChanges

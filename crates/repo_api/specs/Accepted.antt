@@ -9,23 +9,23 @@ use Rattle.repo_api.specs.declared.ask.CommitAsk.{CommitAsk}
 use Rattle.repo_api.specs.declared.fault.ChangeFault.{ChangeFault}
 use Rattle.repo_api.specs.declared.lock_ask.LockAsk.{LockAsk}
 use Rattle.repo_api.specs.declared.lock_ask.UnlockAsk.{UnlockAsk}
+use Rattle.repo_api.specs.declared.property_ask.PropertyAsk.{PropertyAsk}
 use Rattle.repo_api.specs.declared.fault.ChangeFault.TheVariants.{Refused, StoreFailed, Halted, NoMemory}
 
--- an accepted change, with what was asked; a release with the user and the tokens handed in, and a
--- change of a property of a revision with the revision, the name and the new value, if there is one
+-- an accepted change, with what was asked; a release with the user and the tokens handed in
 pub data Accepted : Type 0 where
   Commits : CommitAsk → TxnState → Accepted
   Locks : LockAsk → Accepted
   Unlocks : UnlockAsk → Accepted
   Releases : Option (List ℕ) → HandedTokens → Accepted
-  ChangesProperty : ℕ → List ℕ → Option (List ℕ) → Accepted
+  ChangesProperty : PropertyAsk → Accepted
 
 abbrev pub changed : RepoState → Accepted → RepoState
 changed c (Commits ask t) = committed c ask t
 changed c (Locks ask) = locked c ask
 changed c (Unlocks ask) = unlocked c ask
 changed c (Releases user tokens) = without_released c user tokens
-changed c (ChangesProperty n name value) = with_changed_property c n name value
+changed c (ChangesProperty ask) = with_changed_property c ask.revision ask.name ask.value
 
 abbrev pub changed_all : RepoState → List Accepted → RepoState
 changed_all c [] = c
@@ -37,7 +37,7 @@ IsAccepted c (Commits ask t) = commit_refusal c ask t ≡ None
 IsAccepted c (Locks ask) = lock_refusal c ask ≡ None
 IsAccepted c (Unlocks ask) = unlock_refusal c ask ≡ None
 IsAccepted c (Releases user tokens) = releases user tokens c.locks ≡ true
-IsAccepted c (ChangesProperty n name value) = property_refusal c n name ≡ None
+IsAccepted c (ChangesProperty ask) = property_refusal c ask ≡ None
 
 -- changes one after another, each accepted in the state that those before it make
 abbrev pub AreAccepted : RepoState → List Accepted → Type 0

@@ -14,7 +14,7 @@ is_of_locks (Commits ask t) = false
 is_of_locks (Locks ask) = true
 is_of_locks (Unlocks ask) = true
 is_of_locks (Releases user tokens) = true
-is_of_locks (ChangesProperty n name value) = false
+is_of_locks (ChangesProperty ask) = false
 
 -- the change is of a lock at the path: no commit is, and no change of a property
 abbrev pub names_lock : Accepted → PathValue → Bool
@@ -22,7 +22,7 @@ names_lock (Commits ask t) p = false
 names_lock (Locks ask) p = same_path ask.path p
 names_lock (Unlocks ask) p = same_path ask.path p
 names_lock (Releases user tokens) p = list_any (λ t. same_path t.0 p) tokens
-names_lock (ChangesProperty n name value) p = false
+names_lock (ChangesProperty ask) p = false
 
 -- all but the locks is the same
 pub record HasSameRevisions (old new : RepoState) : Type 0 where
@@ -56,5 +56,5 @@ HaveNewTokens c (Locks ask ∷ es) =
 HaveNewTokens c (Unlocks ask ∷ es) = HaveNewTokens (changed c (Unlocks ask)) es
 HaveNewTokens c (Releases user tokens ∷ es) =
     HaveNewTokens (changed c (Releases user tokens)) es
-HaveNewTokens c (ChangesProperty n name value ∷ es) =
-    HaveNewTokens (changed c (ChangesProperty n name value)) es
+HaveNewTokens c (ChangesProperty ask ∷ es) =
+    HaveNewTokens (changed c (ChangesProperty ask)) es

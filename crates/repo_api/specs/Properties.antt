@@ -1,8 +1,8 @@
 -- Properties: the pairs of a name and a value, by the names' bytes.
-use Rattle.std.specs.Prelude.{ℕ, List}
+use Rattle.std.specs.Prelude.{ℕ, ◌==◌, Bool, true, false, List, Option, Some, None}
 use Rattle.std.specs.BTreeMap.{insert_entry, is_at}
-use Rattle.std.specs.Map.{remove_entry}
-use Rattle.std.specs.Cmp.Lexicographic.{slice_cmp}
+use Rattle.std.specs.Map.{lookup, remove_entry}
+use Rattle.std.specs.Cmp.Lexicographic.{slice_cmp, pointwise}
 use Rattle.std.specs.Ordering.{nat_cmp}
 
 abbrev pub PropertyList : Type 0
@@ -13,3 +13,14 @@ with_property = insert_entry (slice_cmp nat_cmp)
 
 abbrev pub without_property : PropertyList → List ℕ → PropertyList
 without_property ps name = remove_entry (is_at (slice_cmp nat_cmp name)) ps
+
+-- the value of the property of this name, if there is one
+abbrev pub property_value : PropertyList → List ℕ → Option (List ℕ)
+property_value ps name = lookup (is_at (slice_cmp nat_cmp name)) ps
+
+-- both are the same value, or both none
+abbrev pub is_same_value : Option (List ℕ) → Option (List ℕ) → Bool
+is_same_value None None = true
+is_same_value None (Some other) = false
+is_same_value (Some value) None = false
+is_same_value (Some value) (Some other) = pointwise ◌==◌ value other

@@ -1,5 +1,5 @@
 //! What holds of trees. The functions do nothing: their contracts are the laws.
-ghost use Rattle.std.specs.Prelude.{◌≡◌, ℕ, true, List, ◌++◌, ◌∷◌, [], Option, Some, None, option_map};
+ghost use Rattle.std.specs.Prelude.{◌≡◌, ◌<◌, ℕ, true, false, length, List, ◌++◌, ◌∷◌, [], Option, Some, None, option_map};
 ghost use Rattle.svnpath.specs.Paths.{PathValue};
 ghost use Rattle.repo_api.specs.Trees.{Tree, IsTree};
 ghost use Rattle.repo_api.specs.RightEdits.{IsRightEdit};
@@ -7,11 +7,16 @@ ghost use Rattle.repo_api.specs.Soundness.{AreTrees};
 ghost use Rattle.repo_api.specs.Edits.{edited, begun};
 ghost use Rattle.repo_api.specs.States.{ChangeMap, Revision, RepoState, TxnState, IsBeginning, IsBegun, IsEdited, tree_of, tree_at, trees_in, youngest};
 ghost use Rattle.repo_api.specs.Commits.{commit_refusal, next_tree, committed};
-ghost use Rattle.repo_api.specs.Accepted.{Accepted, changed};
+ghost use Rattle.refusals.specs.declared.Refusal.TheVariants as refusals;
+ghost use Rattle.repo_api.specs.Accepted.{Accepted, IsAccepted, changed};
 ghost use Rattle.repo_api.specs.Accepted.Accepted.{ChangesProperty};
 ghost use Rattle.repo_api.specs.LockRuns.{is_of_locks, HasSameRevisions, HasSameOtherwise};
 ghost use Rattle.repo_api.specs.Transactions.{IsMarkedTxn};
 ghost use Rattle.repo_api.specs.declared.ask.CommitAsk.{CommitAsk};
+ghost use Rattle.repo_api.specs.Properties.{is_same_value};
+ghost use Rattle.repo_api.specs.RevisionProperties.{property_refusal};
+ghost use Rattle.repo_api.specs.declared.property_ask.PreviousValue.TheVariants.{Exactly};
+ghost use Rattle.repo_api.specs.declared.property_ask.PropertyAsk.{PropertyAsk};
 ghost use Rattle.std.specs.FinMap.{get};
 ghost use Rattle.repo_api.specs.Merge.{sealed, is_changed, merged, HasNoConflict};
 ghost use Rattle.repo_api.specs.Marks.{shown, own_of, last_of, MarksName, AreMarked, IsTransactionOf, MeetWell, KeepsTrees, IsFree, with_tree, HasSource};
@@ -162,6 +167,18 @@ pub fn changes_of_locks_keep_revisions()
 /// A change of a property of a revision changes the properties of that revision alone: no tree, no
 /// list of changes, no property of another revision, no lock, and not the repository's name.
 pub fn changes_of_properties_keep_revisions()
-    ensures { (c : RepoState) (n : ℕ) (name : List ℕ) (value : Option (List ℕ))
-        → HasSameOtherwise n c (changed c (ChangesProperty n name value)) }
+    ensures { (c : RepoState) (ask : PropertyAsk)
+        → HasSameOtherwise ask.revision c (changed c (ChangesProperty ask)) }
+{}
+
+/// Once a property of a revision was given a value, a change of it that asks for another value before is
+/// refused. So of two clients that have seen one value, and ask for it, one alone changes it.
+pub fn changes_from_one_value_exclude_each_other()
+    ensures { (c : RepoState) (first second : PropertyAsk) (value : List ℕ)
+        (previous : Option (List ℕ)) → IsAccepted c (ChangesProperty first)
+        → first.revision < length c.properties → first.value ≡ Some value
+        → second.revision ≡ first.revision → second.name ≡ first.name
+        → second.previous ≡ Exactly previous → is_same_value (Some value) previous ≡ false
+        → property_refusal (changed c (ChangesProperty first)) second
+        ≡ Some refusals.PreviousValueDiffers }
 {}

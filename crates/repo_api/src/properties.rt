@@ -1,10 +1,6 @@
 //! Properties by name.
 ghost use Rattle.std.specs.Prelude.{◌≡◌, [], OnOk, OnErr, option_copied};
-ghost use Rattle.std.specs.BTreeMap.{is_at};
-ghost use Rattle.std.specs.Cmp.Lexicographic.{slice_cmp};
-ghost use Rattle.std.specs.Map.{lookup};
-ghost use Rattle.std.specs.Ordering.{nat_cmp};
-ghost use Rattle.repo_api.specs.Properties.{PropertyList, with_property, without_property};
+ghost use Rattle.repo_api.specs.Properties.{PropertyList, is_same_value, property_value, with_property, without_property};
 
 use byte_string::ByteString;
 use std::alloc::{AllocError, Global};
@@ -41,7 +37,7 @@ impl Properties {
 
     /// The value of the property of this name, if there is one.
     pub fn get(&self, name: &ByteString) -> Option<&ByteString>
-        ensures { option_copied result ≡ lookup (is_at (slice_cmp nat_cmp name.now)) self.now }
+        ensures { option_copied result ≡ property_value self.now name.now }
     {
         self.values.get(name)
     }
@@ -68,5 +64,16 @@ impl Clone for Properties {
         Ok(Properties {
             values: self.values.clone()?,
         })
+    }
+}
+
+/// Whether both are the same value, or both none.
+pub fn is_same_value(one: Option<&ByteString>, other: Option<&ByteString>) -> bool
+    ensures { result ≡ is_same_value (option_copied one.entry) (option_copied other.entry) }
+{
+    match (one, other) {
+        (None, None) => true,
+        (None, Some(_)) | (Some(_), None) => false,
+        (Some(one), Some(other)) => one == other,
     }
 }

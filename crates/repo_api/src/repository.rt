@@ -21,6 +21,7 @@ use crate::file_text::FileText;
 use crate::lock::{Lock, LockTokens};
 use crate::lock_ask::{LockAsk, UnlockAsk};
 use crate::properties::Properties;
+use crate::property_ask::PropertyAsk;
 use byte_string::ByteString;
 use std::alloc::AllocError;
 use svnpath::Path;
@@ -177,17 +178,12 @@ pub trait Repository: Drop {
         ensures err { OnErr result (content self.new ≡ content self.old) };
 
     /// Makes this the value of a property of a revision, or takes the property out where there is no
-    /// value.
-    fn change_property(
-        &mut self,
-        revision: u64,
-        name: ByteString,
-        value: Option<ByteString>,
-    ) -> Result<(), ChangeFault>
-        ensures accepted { OnOk result (property_refusal (content self.old) revision name ≡ None) }
+    /// value, if the value before is the one that is asked for.
+    fn change_property(&mut self, ask: PropertyAsk) -> Result<(), ChangeFault>
+        ensures accepted { OnOk result (property_refusal (content self.old) ask ≡ None) }
         ensures ok { OnOk result (content self.new
-            ≡ with_changed_property (content self.old) revision name value) }
-        ensures refused { IfRefused result (λ r. property_refusal (content self.old) revision name
+            ≡ with_changed_property (content self.old) ask.revision ask.name ask.value) }
+        ensures refused { IfRefused result (λ r. property_refusal (content self.old) ask
             ≡ Some r) }
         ensures memory { IsOfMemory result }
         ensures err { OnErr result (content self.new ≡ content self.old) };

@@ -1,5 +1,5 @@
 //! A property of a revision is changed.
-ghost use Rattle.std.specs.Prelude.{◌≡◌, IfOk, OnErr};
+ghost use Rattle.std.specs.Prelude.{IfOk, OnErr};
 ghost use Rattle.access.specs.Points.{content_of};
 ghost use Rattle.machine.specs.Answers.{Behind};
 ghost use Rattle.machine.specs.Commands.{RevisingStep};
@@ -7,50 +7,32 @@ ghost use Rattle.machine.specs.Steps.{StepWritten, StepOrNothing};
 ghost use Rattle.telling.specs.Telling.{told_before};
 
 use access::RepoAccess;
-use byte_string::ByteString;
-use commands::ChangeRevPropCommand;
 use machine::{Client, Turn};
 use replies::{Reply, ReplySink};
-use repo_api::Repository;
+use repo_api::{PropertyAsk, Repository};
 use std::alloc::AllocError;
 use std::mem::drop;
 use telling::{Preface, SessionPhase, tell, tell_fault};
 
-/// The change that a command asks for.
-fn asked_change(command: &ChangeRevPropCommand) -> Result<ChangeRevPropCommand, AllocError>
-    ensures { IfOk result (λ asked. asked ≡ command.now) }
-{
-    Ok(ChangeRevPropCommand {
-        revision: command.revision,
-        name: command.name.clone()?,
-        value: command.value.clone()?,
-    })
-}
-
 /// Asks for a change.
 fn ask_change<R: Repository, A: RepoAccess<View = R>, S: ReplySink>(
     client: Client,
-    command: ChangeRevPropCommand,
+    ask: PropertyAsk,
     preface: Preface,
     access: &mut A,
     turn: &mut Turn<S>,
 ) -> Result<SessionPhase<R>, AllocError>
     ensures ok { IfOk result (λ phase. StepWritten A.rules
         (λ at a. Behind (told_before preface)
-        (RevisingStep at.halted turn.old.env (content_of at) client command) a)
+        (RevisingStep at.halted turn.old.env (content_of at) client ask) a)
         (A.point access.old) (A.point access.new)
         phase turn.new.env (S.writes turn.old.out turn.new.out)) }
     ensures err { OnErr result (StepOrNothing A.rules
         (λ at a. Behind (told_before preface)
-        (RevisingStep at.halted turn.old.env (content_of at) client command) a)
+        (RevisingStep at.halted turn.old.env (content_of at) client ask) a)
         (A.point access.old) (A.point access.new) (S.writes turn.old.out turn.new.out)) }
 {
-    let ChangeRevPropCommand {
-        revision,
-        name,
-        value,
-    } = command;
-    match access.change_property(revision, name, value) {
+    match access.change_property(ask) {
         Ok(()) => tell(client, preface, Ok(Reply::Success), turn),
         Err(fault) => tell_fault(client, preface, fault, turn),
     }
@@ -59,23 +41,23 @@ fn ask_change<R: Repository, A: RepoAccess<View = R>, S: ReplySink>(
 /// Changes a property of a revision, behind what the client is told before.
 pub fn change_property<R: Repository, A: RepoAccess<View = R>, S: ReplySink>(
     client: Client,
-    command: &ChangeRevPropCommand,
+    ask: &PropertyAsk,
     preface: Preface,
     access: &mut A,
     turn: &mut Turn<S>,
 ) -> Result<SessionPhase<R>, AllocError>
     ensures ok { IfOk result (λ phase. StepWritten A.rules
         (λ at a. Behind (told_before preface)
-        (RevisingStep at.halted turn.old.env (content_of at) client command.now) a)
+        (RevisingStep at.halted turn.old.env (content_of at) client ask.now) a)
         (A.point access.old) (A.point access.new)
         phase turn.new.env (S.writes turn.old.out turn.new.out)) }
     ensures err { OnErr result (StepOrNothing A.rules
         (λ at a. Behind (told_before preface)
-        (RevisingStep at.halted turn.old.env (content_of at) client command.now) a)
+        (RevisingStep at.halted turn.old.env (content_of at) client ask.now) a)
         (A.point access.old) (A.point access.new) (S.writes turn.old.out turn.new.out)) }
 {
-    match asked_change(command) {
-        Ok(command) => ask_change(client, command, preface, access, turn),
+    match ask.clone() {
+        Ok(ask) => ask_change(client, ask, preface, access, turn),
         Err(error) => {
             drop(client);
             Err(error)

@@ -1,12 +1,14 @@
-//! What is judged by the number of the youngest revision.
-ghost use Rattle.std.specs.Prelude.{◌≡◌};
+//! What is judged by the number of the youngest revision and by one revision's properties.
+ghost use Rattle.std.specs.Prelude.{◌≡◌, option_copied, slice_get};
 ghost use Rattle.repo_api.specs.Locking.{current_refusal};
-ghost use Rattle.repo_api.specs.RevisionProperties.{property_name_refusal, property_refusal};
+ghost use Rattle.repo_api.specs.RevisionProperties.{previous_refusal, property_name_refusal, property_refusal};
+ghost use Rattle.repo_api.specs.Kinds.{or_empty};
+ghost use Rattle.repo_api.specs.Properties.{property_value};
 ghost use Rattle.repo_api.specs.States.{RepoState, youngest};
 
 use byte_string::ByteString;
 use refusals::Refusal;
-use repo_api::is_property_name;
+use repo_api::{PreviousValue, Properties, PropertyAsk, is_property_name, is_same_value};
 
 /// Refuses a revision that a client cannot have seen: one above the youngest.
 pub fn current_refusal(newest: u64, current: Option<u64>) -> Option<Refusal>
@@ -18,15 +20,44 @@ pub fn current_refusal(newest: u64, current: Option<u64>) -> Option<Refusal>
     }
 }
 
-/// Refuses a change of a property of a revision: there is no such revision, or none has such a name.
-pub fn property_refusal(newest: u64, revision: u64, name: &ByteString) -> Option<Refusal>
+/// Refuses a change of a property of a revision, which has these properties: there is no such revision,
+/// none has such a name, or the value is another than it has to be.
+pub fn property_refusal(
+    newest: u64,
+    properties: Option<&Properties>,
+    ask: &PropertyAsk,
+) -> Option<Refusal>
     ensures { (c : RepoState) → youngest c ≡ newest
-        → result ≡ property_refusal c revision name.now }
+        → slice_get c.properties ask.now.revision ≡ option_copied properties.entry
+        → result ≡ property_refusal c ask.now }
 {
-    if revision > newest {
+    if ask.revision > newest {
         return Some(Refusal::NoSuchRevision);
     }
-    property_name_refusal(name.as_slice())
+    if let Some(refusal) = property_name_refusal(ask.name.as_slice()) {
+        return Some(refusal);
+    }
+    previous_refusal(&ask.previous, value_in(properties, &ask.name))
+}
+
+/// The value of the property of this name, if there are properties and it is among them.
+fn value_in<'a>(properties: Option<&'a Properties>, name: &ByteString) -> Option<&'a ByteString>
+    ensures { option_copied result
+        ≡ property_value (or_empty (option_copied properties.entry)) name.now }
+{
+    properties?.get(name)
+}
+
+/// Refuses a value that is another than it has to be.
+fn previous_refusal(previous: &PreviousValue, value: Option<&ByteString>) -> Option<Refusal>
+    ensures { result ≡ previous_refusal previous.now (option_copied value.entry) }
+{
+    match previous {
+        PreviousValue::Exactly(previous) if !is_same_value(value, previous.as_ref()) => {
+            Some(Refusal::PreviousValueDiffers)
+        }
+        _ => None,
+    }
 }
 
 /// Refuses a name that is none: a property's name has 1 to 255 bytes.

@@ -5,9 +5,28 @@ ghost use Rattle.revision_replaying.specs.Replayed.{HasRevised};
 use crate::faults::fault_of;
 use byte_string::ByteString;
 use fsfs_lines::FileFault;
-use repo_api::{Properties, Repository};
-use std::alloc::Global;
+use repo_api::{PreviousValue, Properties, PropertyAsk, Repository};
+use std::alloc::{AllocError, Global};
 use world::World;
+
+/// Asks for a value of a property, or for none, whatever its value is.
+fn ask_for(
+    revision: u64,
+    name: &ByteString,
+    value: Option<&ByteString>,
+) -> Result<PropertyAsk, AllocError>
+    ensures { IfOk result (λ ask. ask.revision ≡ revision) }
+{
+    Ok(PropertyAsk {
+        revision,
+        name: name.clone()?,
+        value: match value {
+            Some(value) => Some(value.clone()?),
+            None => None,
+        },
+        previous: PreviousValue::Any,
+    })
+}
 
 /// Makes the world with a property of a revision changed.
 fn with_property(
@@ -18,9 +37,10 @@ fn with_property(
 ) -> Result<World, FileFault>
     ensures { IfOk result (λ changed. HasRevised world.now changed revision) }
 {
-    world
-        .property_changed(revision, name, value)
-        .map_err(fault_of)
+    let ask = ask_for(revision, name, value)?;
+    let changed = world.property_changed(&ask);
+    std::mem::drop(ask);
+    changed.map_err(fault_of)
 }
 
 /// Makes the world in which a revision has the date of these properties, or none where they have none.

@@ -21,7 +21,7 @@ const INPUT: &[u8] =
       ( check-path ( 0: ( ) ) ) ( rev-proplist ( 0 ) ) ";
 
 const OUTPUT: &[u8] =
-    b"( success ( 2 2 ( ) ( edit-pipeline absent-entries commit-revprops depth ) ) ) \
+    b"( success ( 2 2 ( ) ( edit-pipeline absent-entries commit-revprops depth atomic-revprops ) ) ) \
       ( success ( ( ANONYMOUS ) 1:r ) ) ( success ( ) ) \
       ( success ( 36:00000000-0000-4000-8000-000000000000 9:svn://h/r ( ) ) ) \
       ( success ( ( ) 0: ) ) ( success ( 0 ) ) ( success ( ( ) 0: ) ) ( success ( none ) ) \
@@ -43,13 +43,13 @@ const BEGINNING: &[u8] = b"( 2 ( edit-pipeline ) 15:svn://h/r/trunk ) ( ANONYMOU
 
 /// What it draws.
 const ANSWERS: &[u8] =
-    b"( success ( 2 2 ( ) ( edit-pipeline absent-entries commit-revprops depth ) ) ) \
+    b"( success ( 2 2 ( ) ( edit-pipeline absent-entries commit-revprops depth atomic-revprops ) ) ) \
       ( success ( ( ANONYMOUS ) 1:r ) ) ( success ( ) ) \
       ( success ( 36:00000000-0000-4000-8000-000000000000 9:svn://h/r ( ) ) ) ";
 
 /// What a client is greeted with.
 const GREETING: &[u8] =
-    b"( success ( 2 2 ( ) ( edit-pipeline absent-entries commit-revprops depth ) ) ) ";
+    b"( success ( 2 2 ( ) ( edit-pipeline absent-entries commit-revprops depth atomic-revprops ) ) ) ";
 
 /// A clock that stands still.
 #[derive(Drop)]

@@ -25,7 +25,7 @@ const CLIENT: &[u8] =
     b"( 2 ( edit-pipeline ) 11:svn://h/r/t ) ( ANONYMOUS ( ) ) ( get-latest-rev ( ) ) ";
 
 const GREETING: &[u8] =
-    b"( success ( 2 2 ( ) ( edit-pipeline absent-entries commit-revprops depth ) ) ) ";
+    b"( success ( 2 2 ( ) ( edit-pipeline absent-entries commit-revprops depth atomic-revprops ) ) ) ";
 
 const ANSWER: &[u8] = b"( success ( ( ANONYMOUS ) 1:r ) ) ( success ( ) ) \
       ( success ( 36:00000000-0000-4000-8000-000000000000 9:svn://h/r ( ) ) ) \

@@ -6,6 +6,8 @@ mod commits;
 #[cfg(test)]
 mod halts;
 #[cfg(test)]
+mod properties;
+#[cfg(test)]
 mod saves;
 #[cfg(test)]
 mod seats;

@@ -30,7 +30,7 @@ quiet_right c (Commits ask t) quiet s a = absurd (true≢false quiet)
 quiet_right c (Locks ask) quiet s a = record { accepted = a; meets = λ x t is. absurd (cc is); sound = s }
 quiet_right c (Unlocks ask) quiet s a = record { accepted = a; meets = λ x t is. absurd (cc is); sound = s }
 quiet_right c (Releases user tokens) quiet s a = record { accepted = a; meets = λ x t is. absurd (cc is); sound = s }
-quiet_right c (ChangesProperty n name value) quiet s a = record { accepted = a; meets = λ x t is. absurd (cc is); sound = s }
+quiet_right c (ChangesProperty ask) quiet s a = record { accepted = a; meets = λ x t is. absurd (cc is); sound = s }
 
 -- what a change that was asked for has led to, if it was no commit
 pub settled_all : (p q : Point) (refusal : Option Refusal) (e : Accepted) (r : Result (Unit {0}) ChangeFault)

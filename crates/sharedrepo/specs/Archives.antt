@@ -33,7 +33,7 @@ is_commit (Commits ask t) = true
 is_commit (Locks ask) = false
 is_commit (Unlocks ask) = false
 is_commit (Releases user tokens) = false
-is_commit (ChangesProperty n name value) = false
+is_commit (ChangesProperty ask) = false
 
 -- what the save of a change leaves. The files of a revision are written before the one replacement
 -- that makes it the youngest, so the device may fail before it; every other change is one replacement.

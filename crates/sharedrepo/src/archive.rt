@@ -11,8 +11,7 @@ ghost use Rattle.repo_api.specs.Trees.{IsTree};
 ghost use Rattle.sharedrepo.specs.Archives.{IsMade, SaveLeaves};
 
 use access::Handed;
-use byte_string::ByteString;
-use repo_api::{ChangeFault, CommitAsk, LockAsk, Repository, UnlockAsk};
+use repo_api::{ChangeFault, CommitAsk, LockAsk, PropertyAsk, Repository, UnlockAsk};
 
 /// Why a save failed.
 #[derive(Clone, Copy, Debug)]
@@ -90,19 +89,14 @@ pub trait Archive<R: Repository>: Drop {
         ensures refused { IfRefused result (λ r. ⊥) }
         ensures memory { IsOfMemory result };
 
-    /// Makes this the value of a property of a revision, or takes the property out where there is no value.
-    fn property_changed(
-        &self,
-        revision: u64,
-        name: ByteString,
-        value: Option<ByteString>,
-    ) -> Result<(R, Self::Unsaved), ChangeFault>
-        ensures made { IfOk result (λ made. IsMade (kept self.now).content
-            (ChangesProperty revision name value) (R.content made.0)) }
-        ensures writes { IfOk result (λ made. writes self.now made.1
-            (ChangesProperty revision name value)) }
-        ensures refused { IfRefused result (λ r. property_refusal (kept self.now).content
-            revision name ≡ Some r) }
+    /// Makes this the value of a property of a revision, or takes the property out where there is no value, if the
+    /// value before is the one that is asked for.
+    fn property_changed(&self, ask: PropertyAsk) -> Result<(R, Self::Unsaved), ChangeFault>
+        ensures made { IfOk result (λ made. IsMade (kept self.now).content (ChangesProperty ask)
+            (R.content made.0)) }
+        ensures writes { IfOk result (λ made. writes self.now made.1 (ChangesProperty ask)) }
+        ensures refused { IfRefused result (λ r. property_refusal (kept self.now).content ask
+            ≡ Some r) }
         ensures memory { IsOfMemory result };
 
     /// Saves a change that was made of the repository for which the files stand.

@@ -12,11 +12,10 @@ use crate::archive::Archive;
 use crate::keeper::Keeper;
 use crate::seat::Seat;
 use access::Committed;
-use byte_string::ByteString;
 use left_right::Absorb;
 use noted::Noted;
 use published::{Carries, Naming, Published, Sets, wait_forever};
-use repo_api::{ChangeFault, CommitAsk, LockAsk, Repository, UnlockAsk};
+use repo_api::{ChangeFault, CommitAsk, LockAsk, PropertyAsk, Repository, UnlockAsk};
 use std::mem::drop;
 use std::sync::Wait;
 
@@ -159,33 +158,32 @@ impl<
         answer
     }
 
-    /// Makes this the value of a property of a revision, or takes the property out where there is no value.
+    /// Makes this the value of a property of a revision, or takes the property out where there is no value, if the
+    /// value before is the one that is asked for.
     pub fn change_property<W: Wait>(
         &mut self,
         rt: &W,
         seat: &mut Seat<R, J, T>,
-        revision: u64,
-        name: ByteString,
-        value: Option<ByteString>,
+        ask: PropertyAsk,
     ) -> Result<(), ChangeFault>
         ensures later { seat.old.halted ≡ false → GoesOn seat.old (now_of S.kept self.old) }
         ensures made { seat.old.halted ≡ false
-            → ChangesPropertyAt shared_rules revision name value (now_of S.kept self.old) result
+            → ChangesPropertyAt shared_rules ask (now_of S.kept self.old) result
             (now_of S.kept self.new) }
         ensures told { seat.old.halted ≡ false → seat.new ≡ now_of S.kept self.new }
         ensures halted { seat.old.halted ≡ true → (result ≡ Err ChangeFault.Halted)
             × (seat.new ≡ seat.old) × (self.new ≡ self.old) }
         ensures shared { (at : Point) × GoesOn seat.old at
-            × ChangesPropertyAt shared_rules revision name value at result
+            × ChangesPropertyAt shared_rules ask at result
             seat.new }
         ensures steady { IsSteady S.kept self.new }
     {
         if self.turns_away(seat) {
-            drop((name, value));
+            drop(ask);
             return Err(ChangeFault::Halted);
         }
         self.meet(rt, seat);
-        let answer = self.make_property(rt, revision, name, value);
+        let answer = self.make_property(rt, ask);
         self.tell(seat);
         answer
     }

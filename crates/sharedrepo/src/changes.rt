@@ -16,11 +16,10 @@ ghost use Rattle.sharedrepo.specs.Standing.{IsSteady, now_of, NotBegun};
 use crate::archive::Archive;
 use crate::keeper::Keeper;
 use access::{Committed, Handed, Released, handed_in};
-use byte_string::ByteString;
 use left_right::Absorb;
 use noted::Noted;
 use published::{AskedChange, Carries, Naming, Published, Sets, commits_are_right};
-use repo_api::{ChangeFault, CommitAsk, LockAsk, Repository, UnlockAsk};
+use repo_api::{ChangeFault, CommitAsk, LockAsk, PropertyAsk, Repository, UnlockAsk};
 use std::alloc::AllocError;
 use std::mem::drop;
 use std::sync::Wait;
@@ -236,21 +235,19 @@ impl<
     pub(crate) fn make_property<W: Wait>(
         &mut self,
         rt: &W,
-        revision: u64,
-        name: ByteString,
-        value: Option<ByteString>,
+        ask: PropertyAsk,
     ) -> Result<(), ChangeFault>
-        ensures { ChangesPropertyAt shared_rules revision name value (now_of S.kept self.old)
-            result (now_of S.kept self.new) }
+        ensures { ChangesPropertyAt shared_rules ask (now_of S.kept self.old) result
+            (now_of S.kept self.new) }
     {
         match self.readiness() {
             Err(fault) => {
-                drop((name, value));
+                drop(ask);
                 Err(fault)
             }
             Ok(()) => {
-                let asked = AskedChange::Property(revision, Noted::of(&name), Noted::of(&value));
-                match self.archive.property_changed(revision, name, value) {
+                let asked = AskedChange::Property(Noted::of(&ask));
+                match self.archive.property_changed(ask) {
                     Err(fault) => {
                         drop(asked);
                         Err(fault)

@@ -3,10 +3,9 @@ use crate::archive::Archive;
 use crate::seat::Seat;
 use crate::shared_repo::Locked;
 use access::{Committed, RepoAccess};
-use byte_string::ByteString;
 use left_right::Absorb;
 use published::{Carries, Naming, Published, Sets};
-use repo_api::{ChangeFault, CommitAsk, LockAsk, Repository, UnlockAsk};
+use repo_api::{ChangeFault, CommitAsk, LockAsk, PropertyAsk, Repository, UnlockAsk};
 use std::alloc::AllocError;
 use std::sync::{Arc, Wait};
 
@@ -75,13 +74,8 @@ impl<
         self.repository.unlock(&self.rt, &mut self.seat, ask)
     }
 
-    fn change_property(
-        &mut self,
-        revision: u64,
-        name: ByteString,
-        value: Option<ByteString>,
-    ) -> Result<(), ChangeFault> {
+    fn change_property(&mut self, ask: PropertyAsk) -> Result<(), ChangeFault> {
         self.repository
-            .change_property(&self.rt, &mut self.seat, revision, name, value)
+            .change_property(&self.rt, &mut self.seat, ask)
     }
 }

@@ -14,10 +14,9 @@ use crate::archive::Archive;
 use crate::keeper::Keeper;
 use crate::seat::Seat;
 use access::Committed;
-use byte_string::ByteString;
 use left_right::Absorb;
 use published::{Carries, Naming, NewHistory, Published, Sets, Setting, Shown};
-use repo_api::{ChangeFault, CommitAsk, LockAsk, Repository, UnlockAsk};
+use repo_api::{ChangeFault, CommitAsk, LockAsk, PropertyAsk, Repository, UnlockAsk};
 use std::alloc::{AllocError, Global};
 use std::sync::atomic::{AtomicBool, Ordering};
 use std::sync::{Mutex, Wait};
@@ -140,22 +139,17 @@ impl<
     }
 
     /// Makes this the value of a property of a revision, or takes the property out where there is no
-    /// value.
+    /// value, if the value before is the one that is asked for.
     pub fn change_property<W: Wait>(
         &self,
         rt: &W,
         seat: &mut Seat<R, J, T>,
-        revision: u64,
-        name: ByteString,
-        value: Option<ByteString>,
+        ask: PropertyAsk,
     ) -> Result<(), ChangeFault>
         ensures { (at : Point) × GoesOn seat.old at
-            × ChangesPropertyAt shared_rules revision name value at result seat.new }
+            × ChangesPropertyAt shared_rules ask at result seat.new }
     {
-        let answer = self
-            .keeper
-            .lock(rt)
-            .change_property(rt, seat, revision, name, value);
+        let answer = self.keeper.lock(rt).change_property(rt, seat, ask);
         self.note(seat);
         answer
     }

@@ -21,7 +21,7 @@ accepted_by txn_state (Commit ask txn) = Commits ask (txn_state txn)
 accepted_by txn_state (Lock ask) = Locks ask
 accepted_by txn_state (Unlock ask) = Unlocks ask
 accepted_by txn_state (Release handed) = Releases handed.user handed.tokens
-accepted_by txn_state (Property n name value) = ChangesProperty n name value
+accepted_by txn_state (Property ask) = ChangesProperty ask
 
 abbrev pub pending_in : {T : Type 0} → (T → TxnState) → Option (SavedChange T) → Option Accepted
 pending_in txn_state None = None

@@ -2,8 +2,7 @@
 ghost use Rattle.std.specs.Prelude.{◌≡◌, IfOk};
 
 use access::Handed;
-use byte_string::ByteString;
-use repo_api::{CommitAsk, LockAsk, UnlockAsk};
+use repo_api::{CommitAsk, LockAsk, PropertyAsk, UnlockAsk};
 use std::alloc::AllocError;
 
 /// A change that is being saved, with what was asked. Where changes come to a halt, it is the one of which nobody
@@ -14,8 +13,7 @@ pub enum SavedChange<T: Drop> {
     Lock(LockAsk),
     Unlock(UnlockAsk),
     Release(Handed),
-    /// A revision, the name of its property, and the new value, if there is one.
-    Property(u64, ByteString, Option<ByteString>),
+    Property(PropertyAsk),
 }
 
 /// Lets go of a change that needs no more to be known.

@@ -16,9 +16,8 @@ use crate::change::{SavedChange, copied};
 use crate::filed::Filed;
 use crate::stored::StoredRepository;
 use access::{Committed, Handed, RepoAccess, SoleAccess, handed_in};
-use byte_string::ByteString;
 use file_store::Store;
-use repo_api::{ChangeFault, CommitAsk, LockAsk, UnlockAsk};
+use repo_api::{ChangeFault, CommitAsk, LockAsk, PropertyAsk, UnlockAsk};
 use std::alloc::AllocError;
 
 impl<F: Filed, S: Store> StoredRepository<F, S> {
@@ -150,15 +149,10 @@ impl<F: Filed, S: Store> StoredRepository<F, S> {
         }
     }
 
-    /// Makes this the value of a property of a revision, or takes the property out where there is no value. A stop
-    /// at any moment of the call leaves files that stand for the repository from before it, or with the change.
-    pub fn change_property_in_files(
-        &mut self,
-        revision: u64,
-        name: ByteString,
-        value: Option<ByteString>,
-    ) -> Result<(), ChangeFault>
-        ensures point { ChangesPropertyAt sole_rules revision name value
+    /// Makes this the value of a property of a revision, or takes the property out where there is no value, if the
+    /// value before is the one that is asked for. A stop at any moment of the call leaves files that stand for the repository from before it, or with the change.
+    pub fn change_property_in_files(&mut self, ask: PropertyAsk) -> Result<(), ChangeFault>
+        ensures point { ChangesPropertyAt sole_rules ask
             (point_in F.content S.failed F.txn_state self.old.repository self.old.saves
             self.old.pending) result
             (point_in F.content S.failed F.txn_state self.new.repository self.new.saves
@@ -166,19 +160,14 @@ impl<F: Filed, S: Store> StoredRepository<F, S> {
         ensures stop { S.is_honest self.old.saves.store → self.old.saves.is_halted ≡ false
             → ∥ LeavesEither S.moment S.left_since F.stands_for self.old.saves.store
             self.new.saves.store (F.content self.old.repository)
-            (with_changed_property (F.content self.old.repository) revision name value) ∥₁ }
+            (with_changed_property (F.content self.old.repository) ask.revision ask.name ask.value) ∥₁ }
         ensures stays { self.old.saves.is_halted ≡ true → self.new.saves ≡ self.old.saves }
     {
         if self.saves.is_halted() {
             return Err(ChangeFault::Halted);
         }
-        match self
-            .repository
-            .property_changed(revision, &name, value.as_ref())
-        {
-            Ok((next, new)) => {
-                self.settle_properties(next, &new, SavedChange::Property(revision, name, value))
-            }
+        match self.repository.property_changed(&ask) {
+            Ok((next, new)) => self.settle_properties(next, &new, SavedChange::Property(ask)),
             Err(fault) => Err(fault),
         }
     }
@@ -228,13 +217,8 @@ impl<F: Filed, S: Store> RepoAccess for StoredRepository<F, S> {
         self.unlock_in_files(ask)
     }
 
-    fn change_property(
-        &mut self,
-        revision: u64,
-        name: ByteString,
-        value: Option<ByteString>,
-    ) -> Result<(), ChangeFault> {
-        self.change_property_in_files(revision, name, value)
+    fn change_property(&mut self, ask: PropertyAsk) -> Result<(), ChangeFault> {
+        self.change_property_in_files(ask)
     }
 }
 

@@ -11,7 +11,7 @@ ghost use Rattle.repostore.specs.Current.{count_in};
 ghost use Rattle.repostore.specs.Files.{Files, with_revision, with_locks, with_properties};
 
 use byte_string::ByteString;
-use repo_api::{ChangeFault, CommitAsk, LockAsk, LockTokens, Repository, UnlockAsk};
+use repo_api::{ChangeFault, CommitAsk, LockAsk, LockTokens, PropertyAsk, Repository, UnlockAsk};
 
 /// A new revision: its number and its files, and `current` once it is there.
 #[derive(Drop)]
@@ -96,23 +96,17 @@ pub trait Filed: Repository {
             → is_of made.0 (with_locks files made.1.items)) };
 
     /// The repository with a property of a revision changed, and the file of the revision's properties.
-    fn property_changed(
-        &self,
-        revision: u64,
-        name: &ByteString,
-        value: Option<&ByteString>,
-    ) -> Result<(Self, NewProperties), ChangeFault>
-        ensures accepted { OnOk result (property_refusal (Self.content self.now) revision name.now
-            ≡ None) }
+    fn property_changed(&self, ask: &PropertyAsk) -> Result<(Self, NewProperties), ChangeFault>
+        ensures accepted { OnOk result (property_refusal (Self.content self.now) ask.now ≡ None) }
         ensures ok { IfOk result (λ made. Self.content made.0
-            ≡ with_changed_property (Self.content self.now) revision name.now
-            (option_copied value.entry)) }
-        ensures number { IfOk result (λ made. made.1.revision ≡ revision) }
+            ≡ with_changed_property (Self.content self.now) ask.now.revision ask.now.name
+            ask.now.value) }
+        ensures number { IfOk result (λ made. made.1.revision ≡ ask.now.revision) }
         ensures files { IfOk result (λ made. (files : Files) → is_of self.now files
-            → (is_of made.0 (with_properties files revision made.1.file.items))
-            × (revision < length files.revisions)) }
-        ensures refused { IfRefused result (λ r. property_refusal (Self.content self.now) revision
-            name.now ≡ Some r) }
+            → (is_of made.0 (with_properties files ask.now.revision made.1.file.items))
+            × (ask.now.revision < length files.revisions)) }
+        ensures refused { IfRefused result (λ r. property_refusal (Self.content self.now) ask.now
+            ≡ Some r) }
         ensures memory { IsOfMemory result };
 
     /// Files stand for one state at most.

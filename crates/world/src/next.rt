@@ -9,13 +9,13 @@ ghost use Rattle.held.specs.Growing.{HasOneMore, HasSame};
 ghost use Rattle.world.specs.Whole.{txn_state_of, world_content};
 
 use crate::committing::with_commit;
-use crate::repository::{standing, with_property};
+use crate::repository::{refusal_of, standing, with_property};
 use crate::world::World;
 use crate::world_txn::WorldTxn;
 use byte_string::ByteString;
 use pathlocks::{Locks, lock_shared, release_shared, unlock_shared};
-use repo_api::{ChangeFault, CommitAsk, LockAsk, LockTokens, UnlockAsk};
-use revision_data::{current_refusal, property_refusal};
+use repo_api::{ChangeFault, CommitAsk, LockAsk, LockTokens, PropertyAsk, UnlockAsk};
+use revision_data::current_refusal;
 use std::alloc::AllocError;
 use std::sync::Arc;
 
@@ -91,28 +91,20 @@ impl World {
     }
 
     /// Makes the repository with a property of a revision changed, if that is accepted.
-    pub fn property_changed(
-        &self,
-        revision: u64,
-        name: &ByteString,
-        value: Option<&ByteString>,
-    ) -> Result<World, ChangeFault>
-        ensures accepted { OnOk result (property_refusal (world_content self.now) revision name.now
-            ≡ None) }
+    pub fn property_changed(&self, ask: &PropertyAsk) -> Result<World, ChangeFault>
+        ensures accepted { OnOk result (property_refusal (world_content self.now) ask.now ≡ None) }
         ensures ok { IfOk result (λ w. world_content w
-            ≡ with_changed_property (world_content self.now) revision name.now
-            (option_copied value.entry)) }
-        ensures refused { IfRefused result (λ r. property_refusal (world_content self.now) revision
-            name.now ≡ Some r) }
+            ≡ with_changed_property (world_content self.now) ask.now.revision ask.now.name
+            ask.now.value) }
+        ensures refused { IfRefused result (λ r. property_refusal (world_content self.now) ask.now
+            ≡ Some r) }
         ensures memory { IsOfMemory result }
         ensures same { IfOk result (λ w. HasSame self.now.held.value w.held.value) }
     {
-        if let Some(refusal) = property_refusal(self.held.youngest(), revision, name) {
+        if let Some(refusal) = refusal_of(&self.held, ask) {
             return Err(ChangeFault::Refused(refusal));
         }
-        let name = name.clone()?;
-        let value = value_copied(value)?;
-        let held = with_property(self.alloc, &self.held, revision, name, value)?;
+        let held = with_property(self.alloc, &self.held, ask.clone()?)?;
         let locks = Arc::try_clone(&self.locks)?;
         Ok(World {
             alloc: self.alloc,
@@ -131,16 +123,6 @@ impl World {
             held: Arc::try_clone(&self.held)?,
             locks,
         })
-    }
-}
-
-/// Copies a value, if there is one.
-fn value_copied(value: Option<&ByteString>) -> Result<Option<ByteString>, AllocError>
-    ensures { IfOk result (λ copy. copy ≡ option_copied value.entry) }
-{
-    match value {
-        Some(value) => Ok(Some(value.clone()?)),
-        None => Ok(None),
     }
 }
 

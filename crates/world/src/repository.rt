@@ -5,7 +5,7 @@ ghost use Rattle.dates.specs.declared.TheConstants.{LAST_MOMENT};
 ghost use Rattle.repo_api.specs.Kinds.{kind_at, created_at};
 ghost use Rattle.repo_api.specs.Locking.{with_lock};
 ghost use Rattle.repo_api.specs.Opening.{new_repository};
-ghost use Rattle.repo_api.specs.RevisionProperties.{with_changed_property};
+ghost use Rattle.repo_api.specs.RevisionProperties.{property_refusal, with_changed_property};
 ghost use Rattle.repo_api.specs.States.{youngest};
 ghost use Rattle.held.specs.Contents.{held_state};
 ghost use Rattle.held.specs.Growing.{HasSame};
@@ -19,9 +19,10 @@ use byte_string::ByteString;
 use held::Held;
 use history::{repositories_stay_sound, transactions_stay_sound};
 use pathlocks::{Locks, lock_shared, put_shared, release_shared, unlock_shared};
+use refusals::Refusal;
 use repo_api::{
     Change, ChangeFault, CommitAsk, EditOp, FileText, Lock, LockAsk, LockTokens, NodeKind,
-    Properties, Repository, UnlockAsk,
+    Properties, PropertyAsk, Repository, UnlockAsk,
 };
 use revision_data::{TxnChanges, current_refusal, date_of, property_refusal};
 use std::alloc::{AllocError, Global};
@@ -183,17 +184,12 @@ impl Repository for World {
         unlock_shared(&mut self.locks, ask)
     }
 
-    fn change_property(
-        &mut self,
-        revision: u64,
-        name: ByteString,
-        value: Option<ByteString>,
-    ) -> Result<(), ChangeFault> {
-        if let Some(refusal) = property_refusal(self.held.youngest(), revision, &name) {
-            std::mem::drop((name, value));
+    fn change_property(&mut self, ask: PropertyAsk) -> Result<(), ChangeFault> {
+        if let Some(refusal) = refusal_of(&self.held, &ask) {
+            std::mem::drop(ask);
             return Err(ChangeFault::Refused(refusal));
         }
-        self.held = with_property(self.alloc, &self.held, revision, name, value)?;
+        self.held = with_property(self.alloc, &self.held, ask)?;
         Ok(())
     }
 
@@ -218,18 +214,29 @@ pub(crate) fn standing(held: &Held, path: &Path) -> (NodeKind, Option<u64>)
     (held.kind(youngest, path), held.created(youngest, path))
 }
 
+/// Refuses a change of a property of a revision.
+pub(crate) fn refusal_of(held: &Held, ask: &PropertyAsk) -> Option<Refusal>
+    ensures { result ≡ property_refusal (held_state held.now) ask.now }
+{
+    property_refusal(held.youngest(), held.properties(ask.revision), ask)
+}
+
 /// What is held after a change of a property of a revision. What was shared before stays as it was.
 pub(crate) fn with_property(
     alloc: Global,
     held: &Held,
-    revision: u64,
-    name: ByteString,
-    value: Option<ByteString>,
+    ask: PropertyAsk,
 ) -> Result<Arc<Held>, AllocError>
     ensures ok { IfOk result (λ h. held_state h.value
-        ≡ with_changed_property (held_state held.now) revision name value) }
+        ≡ with_changed_property (held_state held.now) ask.revision ask.name ask.value) }
     ensures same { IfOk result (λ h. HasSame held.now h.value) }
 {
+    let PropertyAsk {
+        revision,
+        name,
+        value,
+        previous: _,
+    } = ask;
     let changed = held.with_property(alloc, revision, name, value)?;
     Ok(Arc::new(alloc, changed)?)
 }

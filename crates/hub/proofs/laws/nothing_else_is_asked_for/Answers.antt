@@ -12,9 +12,7 @@ pub returns-clause-release : goal.returns-clause-release
 returns-clause-release c = λ env edit t user tokens asked. asked.1
 
 pub returns-clause-property : goal.returns-clause-property
-returns-clause-property c = λ env client t n name value asked.
-    let by = asked.2 in
-    (by.0, asked.1 ∙ ap Ok by.1, by.2, by.3, by.4)
+returns-clause-property c = λ env client t ask asked. asked.1 ∙ ap Ok asked.2
 
 pub returns-clause-within_edit : goal.returns-clause-within_edit
-returns-clause-within_edit c = λ env edit t n name value asked. asked.1
+returns-clause-within_edit c = λ env edit t ask asked. asked.1

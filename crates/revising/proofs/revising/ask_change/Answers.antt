@@ -10,19 +10,17 @@ use Rattle.revising.proofs.revising.ask_change.Goals as goal
 
 pub returns-in-Ok : goal.returns-in-Ok
 returns-in-Ok g c =
-    let command = c.args.command in
-    let change = ChangesProperty command.revision command.name command.value in
+    let change = ChangesProperty c.args.ask in
     let env = c.args.turn.now.env in
     let client = c.args.client in
-    stepped (made (λ x. property_refusal x command.revision command.name) change env client (told_before c.args.preface) (change_answer env client change (replies.Success ∷ [])) _ _ _
+    stepped (made (λ x. property_refusal x c.args.ask) change env client (told_before c.args.preface) (change_answer env client change (replies.Success ∷ [])) _ _ _
     env (replies.Success ∷ []) _ refl c.in-Ok.ensures)
     _ c.tell.result _ (record { ok = c.tell.ensures.ok replies.Success refl; err = c.tell.ensures.err replies.Success refl })
 
 pub returns-in-Err : goal.returns-in-Err
 returns-in-Err g c =
-    let command = c.args.command in
-    let change = ChangesProperty command.revision command.name command.value in
+    let change = ChangesProperty c.args.ask in
     let env = c.args.turn.now.env in
     let client = c.args.client in
-    not_made (λ x. property_refusal x command.revision command.name) change env client (told_before c.args.preface) (change_answer env client change (replies.Success ∷ [])) _ _ _
+    not_made (λ x. property_refusal x c.args.ask) change env client (told_before c.args.preface) (change_answer env client change (replies.Success ∷ [])) _ _ _
     _ c.tell_fault.result _ _ refl c.in-Err.ensures c.tell_fault.ensures

@@ -8,7 +8,7 @@ use Rattle.sharedrepo.proofs.keeper.Keeper.change_property.Goals as goal
 pub returns-clause-shared : goal.returns-clause-shared
 returns-clause-shared g c =
     let p = now_of g.S.Archive.kept c.args.self.now in
-    (p, c.meet.ensures.later, subst (λ (q : Point). ChangesPropertyAt shared_rules c.args.revision c.args.name c.args.value p c.make_property-answer.result q) (sym c.tell.ensures.told) c.make_property-answer.ensures)
+    (p, c.meet.ensures.later, subst (λ (q : Point). ChangesPropertyAt shared_rules c.args.ask p c.make_property-answer.result q) (sym c.tell.ensures.told) c.make_property-answer.ensures)
 
 pub returns-then-turns_away-clause-shared : goal.returns-then-turns_away-clause-shared
 returns-then-turns_away-clause-shared g c = (_, stays _, inl (sym c.turns_away.ensures.knows ∙ c.if-turns_away.true, refl))

@@ -1,9 +1,8 @@
-use Rattle.std.proofs.Common.{◌≡◌, None, Some, Err, refl, ap, sym, subst, ◌∙◌}
-use Rattle.access.specs.Points.{Point, content_of}
+use Rattle.std.proofs.Common.{◌≡◌, Some, Err, refl, sym, subst}
+use Rattle.access.specs.Points.{content_of}
 use Rattle.published.specs.Moments.{added}
 use Rattle.repo_api.specs.Accepted.{Accepted, IfRefused}
 use Rattle.repo_api.specs.Accepted.Accepted.{ChangesProperty}
-use Rattle.repo_api.specs.States.{RepoState}
 use Rattle.sharedrepo.specs.Archives.{IsMade}
 use Rattle.sharedrepo.specs.Standing.{Standing, now_of}
 use Rattle.sharedrepo.proofs.Changing.{quiet_right, next_by, settled_by, refused, not_begun}
@@ -13,28 +12,28 @@ use Rattle.sharedrepo.proofs.keeper.Keeper.make_property.Goals as goal
 pub settle-requires-clause-next : goal.settle-requires-clause-next
 settle-requires-clause-next g c =
     let kept = g.S.Archive.kept in
-    let made = subst (λ (k : Standing g.row.S.Denot). IsMade (kept k.archive).content (ChangesProperty c.args.revision c.args.name c.args.value) (g.R.Repository.content c.in-Ok-property_changed.next)) c.self.view_is c.in-Ok-property_changed.ensures.made in
-    next_by kept c.args.self.now c.readiness.ensures.steady c.in-Ok.ensures.running (ChangesProperty c.args.revision c.args.name c.args.value) _ (g.R.Repository.content c.in-Ok-property_changed.next) made (λ i. ChangesProperty c.args.revision (c.of.ensures i) (c.of-in-Ok.ensures i)) (quiet_right _ (ChangesProperty c.args.revision c.args.name c.args.value) refl)
+    let made = subst (λ (k : Standing g.row.S.Denot). IsMade (kept k.archive).content (ChangesProperty c.args.ask) (g.R.Repository.content c.in-Ok-property_changed.next)) c.self.view_is c.in-Ok-property_changed.ensures.made in
+    next_by kept c.args.self.now c.readiness.ensures.steady c.in-Ok.ensures.running (ChangesProperty c.args.ask) _ (g.R.Repository.content c.in-Ok-property_changed.next) made (λ i. ChangesProperty (c.of.ensures i)) (quiet_right _ (ChangesProperty c.args.ask) refl)
 
 pub settle-requires-clause-writes : goal.settle-requires-clause-writes
 settle-requires-clause-writes g c =
-    subst (λ (x : Accepted). g.S.Archive.writes c.args.self.now.archive c.in-Ok-property_changed.unsaved x) (sym (λ i. ChangesProperty c.args.revision (c.of.ensures i) (c.of-in-Ok.ensures i)))
-    (subst (λ (k : Standing g.row.S.Denot). g.S.Archive.writes k.archive c.in-Ok-property_changed.unsaved (ChangesProperty c.args.revision c.args.name c.args.value)) c.self.view_is c.in-Ok-property_changed.ensures.writes)
+    subst (λ (x : Accepted). g.S.Archive.writes c.args.self.now.archive c.in-Ok-property_changed.unsaved x) (sym (λ i. ChangesProperty (c.of.ensures i)))
+    (subst (λ (k : Standing g.row.S.Denot). g.S.Archive.writes k.archive c.in-Ok-property_changed.unsaved (ChangesProperty c.args.ask)) c.self.view_is c.in-Ok-property_changed.ensures.writes)
 
 pub returns-in-Ok-property_changed : goal.returns-in-Ok-property_changed
 returns-in-Ok-property_changed g c =
     let kept = g.S.Archive.kept in
-    let made = subst (λ (k : Standing g.row.S.Denot). IsMade (kept k.archive).content (ChangesProperty c.args.revision c.args.name c.args.value) (g.R.Repository.content c.in-Ok-property_changed.next)) c.self.view_is c.in-Ok-property_changed.ensures.made in
-    settled_by kept c.args.self.now c.readiness.ensures.steady c.in-Ok.ensures.running (now_of kept c.settle.new.self) (ChangesProperty c.args.revision c.args.name c.args.value) _ (g.R.Repository.content c.in-Ok-property_changed.next) (property_refusal (content_of (now_of kept c.args.self.now)) c.args.revision c.args.name) c.settle.result made (λ i. ChangesProperty c.args.revision (c.of.ensures i) (c.of-in-Ok.ensures i)) refl (λ a. a) c.settle.ensures
+    let made = subst (λ (k : Standing g.row.S.Denot). IsMade (kept k.archive).content (ChangesProperty c.args.ask) (g.R.Repository.content c.in-Ok-property_changed.next)) c.self.view_is c.in-Ok-property_changed.ensures.made in
+    settled_by kept c.args.self.now c.readiness.ensures.steady c.in-Ok.ensures.running (now_of kept c.settle.new.self) (ChangesProperty c.args.ask) _ (g.R.Repository.content c.in-Ok-property_changed.next) (property_refusal (content_of (now_of kept c.args.self.now)) c.args.ask) c.settle.result made (λ i. ChangesProperty (c.of.ensures i)) refl (λ a. a) c.settle.ensures
 
 pub returns-in-Err : goal.returns-in-Err
 returns-in-Err g c =
     let p = now_of g.S.Archive.kept c.args.self.now in
-    not_begun g.S.Archive.kept c.args.self.now {T = Unit {0}} (property_refusal (content_of p) c.args.revision c.args.name) (ChangesProperty c.args.revision c.args.name c.args.value) (λ q. ⊥) (λ (_ : Unit {0}) q. q ≡ added p (ChangesProperty c.args.revision c.args.name c.args.value)) c.in-Err.fault c.in-Err.ensures.err
+    not_begun g.S.Archive.kept c.args.self.now {T = Unit {0}} (property_refusal (content_of p) c.args.ask) (ChangesProperty c.args.ask) (λ q. ⊥) (λ (_ : Unit {0}) q. q ≡ added p (ChangesProperty c.args.ask)) c.in-Err.fault c.in-Err.ensures.err
 
 pub returns-in-Err-property_changed : goal.returns-in-Err-property_changed
 returns-in-Err-property_changed g c =
     let kept = g.S.Archive.kept in
     let p = now_of kept c.args.self.now in
-    refused kept c.args.self.now c.readiness.ensures.steady c.in-Ok.ensures.running (Unit {0}) {T = Unit {0}} (λ x. property_refusal x c.args.revision c.args.name) (ChangesProperty c.args.revision c.args.name c.args.value) (λ q. ⊥) (λ (_ : Unit {0}) q. q ≡ added p (ChangesProperty c.args.revision c.args.name c.args.value)) c.in-Err-property_changed.fault
-    (subst (λ (k : Standing g.row.S.Denot). IfRefused {T = Unit {0}} (Err c.in-Err-property_changed.fault) (λ r. property_refusal (kept k.archive).content c.args.revision c.args.name ≡ Some r)) c.self.view_is c.in-Err-property_changed.ensures.refused) c.in-Err-property_changed.ensures.memory
+    refused kept c.args.self.now c.readiness.ensures.steady c.in-Ok.ensures.running (Unit {0}) {T = Unit {0}} (λ x. property_refusal x c.args.ask) (ChangesProperty c.args.ask) (λ q. ⊥) (λ (_ : Unit {0}) q. q ≡ added p (ChangesProperty c.args.ask)) c.in-Err-property_changed.fault
+    (subst (λ (k : Standing g.row.S.Denot). IfRefused {T = Unit {0}} (Err c.in-Err-property_changed.fault) (λ r. property_refusal (kept k.archive).content c.args.ask ≡ Some r)) c.self.view_is c.in-Err-property_changed.ensures.refused) c.in-Err-property_changed.ensures.memory

@@ -1,9 +1,6 @@
-use Rattle.std.proofs.Common.{rules, ◌≡◌, None, sym, ap, ◌∙◌}
+use Rattle.std.proofs.Common.{ap, ◌∙◌}
 use Rattle.std.proofs.Math.Logic.{∥∥₁_map}
-use Rattle.repo_api.specs.States.{youngest}
 use Rattle.held.specs.Contents.{revisions_of, held_state}
-use Rattle.held.specs.declared.held.Held.{Held}
-use Rattle.world.specs.Whole.{world_content}
 use Rattle.world.proofs.Keeping.{same_revisions}
 use Rattle.world.proofs.world.World.property_changed.Goals as goal
 
@@ -13,16 +10,3 @@ invariant_of-result c = record {
       same_revisions (held_state c.args.self.now.held.value) (held_state c.in_ok-held.held.value)
       (ap (λ r. r.revisions) c.in_ok-held.ensures.ok ∙ ap revisions_of c.deref-2.ensures) s);
 }
-
-pub returns-in-Some-clause-refused : goal.returns-in-Some-clause-refused
-returns-in-Some-clause-refused c =
-    sym (c.property_refusal.ensures (world_content c.args.self.now)
-    (sym (c.youngest.ensures.is ∙ ap (λ (h : Held). youngest (held_state h)) c.deref.ensures)))
-    ∙ c.in-Some.is
-
-pub returns-clause-accepted : goal.returns-clause-accepted
-returns-clause-accepted c =
-    let none : c.property_refusal.result ≡ None = search rules in
-    sym (c.property_refusal.ensures (world_content c.args.self.now)
-    (sym (c.youngest.ensures.is ∙ ap (λ (h : Held). youngest (held_state h)) c.deref.ensures)))
-    ∙ none

@@ -1,0 +1,6 @@
+use Rattle.std.proofs.Common.{sym}
+use Rattle.held.specs.Contents.{held_state}
+use Rattle.world.proofs.repository.refusal_of.Goals as goal
+
+pub returns : goal.returns
+returns c = c.property_refusal.ensures (held_state c.args.held.now) (sym c.youngest.ensures.is) (sym c.properties.ensures)
