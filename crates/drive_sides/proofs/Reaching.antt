@@ -18,7 +18,8 @@ use Rattle.reports.specs.Reported.{in_subtree, in_graft, with_graft, has_place, 
 use Rattle.reports.specs.declared.graft.Graft.{Graft}
 use Rattle.reports.specs.declared.graft.Subtree.{Subtree}
 use Rattle.reports.specs.Targets.{WholeReport, client_tree, drive_scope, limit_of, reported_depth, target_tree}
-use Rattle.drive_sides.specs.Depths.{is_shallow, is_to_the_end, FollowsWholeReport}
+use Rattle.reports.specs.Depths.{is_shallow, is_to_the_end}
+use Rattle.drive_sides.specs.Depths.{FollowsWholeReport}
 use Rattle.drives.proofs.Joined.{or_false}
 use Rattle.std.specs.List.{list_any}
 use Rattle.std.specs.Option.{option_map_or}

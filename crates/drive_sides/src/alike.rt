@@ -1,33 +1,12 @@
 //! What a client has whole.
 ghost use Rattle.std.specs.Prelude.{◌≡◌, true, false};
-ghost use Rattle.std.specs.List.{list_any};
 ghost use Rattle.repo_api.specs.Readings.{IsSameAt};
-ghost use Rattle.drives.specs.Scopes.{below};
 ghost use Rattle.drives.specs.declared.depth.Depth.TheVariants.{Infinity};
 
 use drives::Depth;
 use repo_api::Repository;
-use reports::{Graft, ReportedPlace};
+use reports::ReportedPlace;
 use svnpath::Path;
-
-/// Whether a graft stands beneath a path.
-fn is_beneath(graft: &Graft, path: &Path) -> bool
-    ensures { result ≡ below path.now graft.now.path }
-{
-    graft.path.is_at_or_under(path) && path != &graft.path
-}
-
-/// Whether some graft stands beneath a path.
-pub(crate) fn has_beneath(grafts: &[Graft], path: &Path) -> bool
-    ensures { result ≡ list_any (λ g. below path.now g.path) grafts.now }
-{
-    for graft in grafts {
-        if is_beneath(graft, path) {
-            return true;
-        }
-    }
-    false
-}
 
 /// Whether a client has all that stands at a place and beneath it.
 fn is_whole(place: &ReportedPlace<'_>) -> bool

@@ -1,6 +1,5 @@
 //! The paths that a drive is of.
 ghost use Rattle.std.specs.Prelude.{◌≡◌, true, Option, IfOk};
-ghost use Rattle.std.specs.List.{list_any};
 ghost use Rattle.svnpath.specs.Paths.{is_at_or_under};
 ghost use Rattle.repo_api.specs.Kinds.{kind_of};
 ghost use Rattle.repo_api.specs.declared.entry.Entry.{Entry};
@@ -10,12 +9,12 @@ ghost use Rattle.reports.specs.Reported.{reported_entries};
 ghost use Rattle.reports.specs.Targets.{client_tree, drive_scope, limit_of, reported_depth, target_tree};
 ghost use Rattle.reports.specs.declared.ask.DepthAsked.TheVariants.{AsReported, Given};
 ghost use Rattle.drive_sides.specs.Plans.{whole};
-ghost use Rattle.drive_sides.specs.Depths.{is_shallow, is_to_the_end, FollowsWholeReport};
+ghost use Rattle.drive_sides.specs.Depths.{FollowsWholeReport};
 
 use crate::two_trees::TwoTrees;
 use drives::Depth;
 use repo_api::{NodeKind, Repository};
-use reports::{DepthAsked, Graft};
+use reports::{DepthAsked, is_to_the_end};
 use std::alloc::{AllocError, Global};
 use svnpath::Path;
 
@@ -46,18 +45,6 @@ fn said_or(said: Option<Depth>, above: Depth) -> Depth
     }
 }
 
-/// Whether a depth goes to the end.
-fn is_to_the_end(depth: Depth) -> bool
-    ensures { result ≡ is_to_the_end depth }
-{
-    match depth {
-        Depth::Infinity => true,
-        Depth::Immediates => false,
-        Depth::Files => false,
-        Depth::Empty => false,
-    }
-}
-
 /// Whether everything is asked for.
 fn asks_for_all(depth: DepthAsked) -> bool
     ensures { result ≡ true → depth ≡ Given Infinity }
@@ -81,28 +68,6 @@ fn asks_as_reported(depth: DepthAsked) -> bool
         DepthAsked::AsReported => true,
         DepthAsked::Given(_) => false,
     }
-}
-
-/// Whether less than everything is reported of what a graft puts.
-fn is_shallow(graft: &Graft) -> bool
-    ensures { result ≡ is_shallow graft.now }
-{
-    match &graft.subtree {
-        None => false,
-        Some(subtree) => !is_to_the_end(subtree.depth),
-    }
-}
-
-/// Whether less than everything is reported of what some graft puts.
-fn has_shallow(grafts: &[Graft]) -> bool
-    ensures { result ≡ list_any is_shallow grafts.now }
-{
-    for graft in grafts {
-        if is_shallow(graft) {
-            return true;
-        }
-    }
-    false
 }
 
 impl<'a, R: Repository> TwoTrees<'a, R> {
@@ -202,7 +167,7 @@ impl<'a, R: Repository> TwoTrees<'a, R> {
     {
         asks_as_reported(self.report.ask.depth)
             && is_to_the_end(self.root.depth)
-            && !has_shallow(self.report.grafts.as_slice())
+            && !self.report.grafts.has_shallow()
     }
 
     /// Whether a drive is of a path.

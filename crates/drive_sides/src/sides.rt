@@ -1,5 +1,5 @@
 //! The two trees of a drive, as a walk over them asks.
-use crate::alike::{has_beneath, has_same};
+use crate::alike::has_same;
 use crate::names::{children_of, put_graft_names, put_names};
 use crate::two_trees::TwoTrees;
 use crate::views::had_at;
@@ -121,7 +121,7 @@ impl<'a, R: Repository> Sides for TwoTrees<'a, R> {
         if !path.is_at_or_under(report.ask.target.as_path()) {
             return Ok(false);
         }
-        if has_beneath(report.grafts.as_slice(), path) || self.is_stale(alloc, path)? {
+        if report.grafts.may_stand_beneath(path) || self.is_stale(alloc, path)? {
             return Ok(false);
         }
         let goal = self.goal_path(alloc, path)?;

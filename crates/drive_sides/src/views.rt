@@ -56,7 +56,7 @@ impl<'a, R: Repository> TwoTrees<'a, R> {
             alloc,
             self.view,
             report.ask.target.as_path(),
-            report.grafts.as_slice(),
+            &report.grafts,
             path,
         )
     }

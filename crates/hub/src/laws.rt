@@ -75,7 +75,8 @@ pub fn changes_are_asked_for()
 
 /// What is not the session's own is not asked for: a commit of another transaction than that of its edit, at another
 /// command than the edit's end, by another user, or with other tokens than were handed in; a release of other locks;
-/// and a change of a property by another command than one that names it so.
+/// and a change of a property by another command than a `change-rev-prop` or `change-rev-prop2` that names it so, with
+/// the value before that it is to have.
 pub fn nothing_else_is_asked_for()
     ensures commit { (env : Env) (edit : MachineEdit) (t : ItemValue) (ask : CommitAsk) (txn : TxnState)
         → IsAsked env (Editing edit) (Whole t) (Commits ask txn)

@@ -165,7 +165,7 @@ UnlockStep halted env c client command (Err fault) a =
 -- ---- properties of revisions
 
 -- a property of a revision is changed: the value takes the place of the one before, and without a
--- value there is none
+-- value there is none; the value before has to be the one that the client asks for, if it does
 abbrev pub RevisingStep : Bool → Env → RepoState → Client → PropertyAsk → Answer → Type 0
 RevisingStep halted env c client ask a =
     ChangeStep halted env client (property_refusal c ask) (ChangesProperty ask)

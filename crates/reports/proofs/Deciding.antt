@@ -57,7 +57,7 @@ length_above p = length-take-le (length p - 1) p (omega arith)
 over_above : (p : PathValue) → is_at_or_under p (path_above p) ≡ true
 over_above p = ap (λ n. same_path (path_above p) (take n p)) (length_above p) ∙ same_path_refl (path_above p)
 
-under_length : (p q : PathValue) → is_at_or_under q p ≡ true → length p ≤ length q
+pub under_length : (p q : PathValue) → is_at_or_under q p ≡ true → length p ≤ length q
 under_length p q up =
     let long : length q ≡ length p + length (drop (length p) q) = ap length (under_is q p up) ∙ length-append p (drop (length p) q) in
     omega (long, arith)
@@ -163,15 +163,15 @@ not_over grafts i g p q lt is none up out = by (is_at_or_under q g.path) refl
         (λ low. absurd (false≢true (sym none_between ∙ ap (λ b. b && is_at_or_under q g.path) low ∙ e)))
         (comparable p g.path q up e)
 
--- a graft says what the client has at a path, and beneath it where no other stands between
-abbrev pub Shows : (ℕ → Tree) → PathValue → List Graft → PathValue → Option Graft → Type 0
-Shows trees top gs p found =
-    (q : PathValue) → is_at_or_under q p ≡ true → is_grafted_over gs p q ≡ false → reported trees top gs q ≡ shown_by trees q found
+-- after so many grafts one of them says what the client has at a path, and beneath it where no other stands between
+abbrev pub Shows : (ℕ → Tree) → PathValue → List Graft → ℕ → PathValue → Option Graft → Type 0
+Shows trees top gs count p found =
+    (q : PathValue) → is_at_or_under q p ≡ true → is_grafted_over gs p q ≡ false → reported trees top (take count gs) q ≡ shown_by trees q found
 
--- the grafts behind the first so many change nothing there
-abbrev pub AreLater : (ℕ → Tree) → PathValue → List Graft → PathValue → ℕ → Type 0
-AreLater trees top gs p n =
-    (q : PathValue) → is_at_or_under q p ≡ true → is_grafted_over gs p q ≡ false → reported trees top gs q ≡ reported trees top (take n gs) q
+-- of so many grafts those behind the first n change nothing there
+abbrev pub AreLater : (ℕ → Tree) → PathValue → List Graft → ℕ → PathValue → ℕ → Type 0
+AreLater trees top gs count p n =
+    (q : PathValue) → is_at_or_under q p ≡ true → is_grafted_over gs p q ≡ false → reported trees top (take count gs) q ≡ reported trees top (take n gs) q
 
 none_itself : (gs : List Graft) (p : PathValue) → is_grafted_over gs p p ≡ false
 none_itself [] p = refl
@@ -182,42 +182,43 @@ none_itself (g ∷ gs) p = ap (λ b. b || is_grafted_over gs p p) (by (below p g
     by true e false f = refl
     by true e true f = absurd (omega (below_longer p g.path e, under_length g.path p f, arith))
 
-pub shows_here : (trees : ℕ → Tree) (top : PathValue) (gs : List Graft) (p : PathValue) (found : Option Graft) → Shows trees top gs p found → reported trees top gs p ≡ shown_by trees p found
-shows_here trees top gs p found shows = shows p (under_itself p) (none_itself gs p)
+pub shows_here : (trees : ℕ → Tree) (top : PathValue) (gs : List Graft) (count : ℕ) (p : PathValue) (found : Option Graft) → Shows trees top gs count p found
+    → reported trees top (take count gs) p ≡ shown_by trees p found
+shows_here trees top gs count p found shows = shows p (under_itself p) (none_itself gs p)
 
-pub shows_both : (trees : ℕ → Tree) (top : PathValue) (gs : List Graft) (p : PathValue) (found : Option Graft) → Shows trees top gs p found
-    → record { here : reported trees top gs p ≡ shown_by trees p found; beneath : Shows trees top gs p found }
-shows_both trees top gs p found shows = record { here = shows_here trees top gs p found shows; beneath = shows }
+pub shows_both : (trees : ℕ → Tree) (top : PathValue) (gs : List Graft) (count : ℕ) (p : PathValue) (found : Option Graft) → Shows trees top gs count p found
+    → record { here : reported trees top (take count gs) p ≡ shown_by trees p found; beneath : Shows trees top gs count p found }
+shows_both trees top gs count p found shows = record { here = shows_here trees top gs count p found shows; beneath = shows }
 
 -- a graft with no place, or not at or above the path
-pub later_by : (trees : ℕ → Tree) (top : PathValue) (gs : List Graft) (p : PathValue) (n : ℕ) (g : Graft) → AreLater trees top gs p n → 0 < n → n ≤ length gs → g ≡ get_or gs (n - 1) g
+pub later_by : (trees : ℕ → Tree) (top : PathValue) (gs : List Graft) (count : ℕ) (p : PathValue) (n : ℕ) (g : Graft) → AreLater trees top gs count p n → 0 < n → n ≤ length gs → g ≡ get_or gs (n - 1) g
     → ((q : PathValue) → is_at_or_under q p ≡ true → is_grafted_over gs p q ≡ false → with_graft trees top (reported trees top (take (n - 1) gs)) g q ≡ reported trees top (take (n - 1) gs) q)
-    → AreLater trees top gs p (n - 1)
-later_by trees top gs p n g later some le is stays q up none = later q up none ∙ by_last trees top gs n g q some le is ∙ stays q up none
+    → AreLater trees top gs count p (n - 1)
+later_by trees top gs count p n g later some le is stays q up none = later q up none ∙ by_last trees top gs n g q some le is ∙ stays q up none
 
-pub later_elsewhere : (trees : ℕ → Tree) (top : PathValue) (gs : List Graft) (p : PathValue) (n : ℕ) (g : Graft) → AreLater trees top gs p n → 0 < n → n ≤ length gs → g ≡ get_or gs (n - 1) g
-    → is_at_or_under p g.path ≡ false → AreLater trees top gs p (n - 1)
-later_elsewhere trees top gs p n g later some le is out =
-    later_by trees top gs p n g later some le is
+pub later_elsewhere : (trees : ℕ → Tree) (top : PathValue) (gs : List Graft) (count : ℕ) (p : PathValue) (n : ℕ) (g : Graft) → AreLater trees top gs count p n → 0 < n → n ≤ length gs → g ≡ get_or gs (n - 1) g
+    → is_at_or_under p g.path ≡ false → AreLater trees top gs count p (n - 1)
+later_elsewhere trees top gs count p n g later some le is out =
+    later_by trees top gs count p n g later some le is
     (λ q up none. stays_elsewhere trees top (reported trees top (take (n - 1) gs)) g q (not_over gs (n - 1) g p q (omega (some, le, arith)) is none up out))
 
-pub later_unplaced : (trees : ℕ → Tree) (top : PathValue) (gs : List Graft) (p : PathValue) (n : ℕ) (g : Graft) → AreLater trees top gs p n → 0 < n → n ≤ length gs → g ≡ get_or gs (n - 1) g
-    → has_place top (reported trees top (take (n - 1) gs)) g.path ≡ false → AreLater trees top gs p (n - 1)
-later_unplaced trees top gs p n g later some le is none_there =
-    later_by trees top gs p n g later some le is (λ q up none. stays_unplaced trees top (reported trees top (take (n - 1) gs)) g q none_there)
+pub later_unplaced : (trees : ℕ → Tree) (top : PathValue) (gs : List Graft) (count : ℕ) (p : PathValue) (n : ℕ) (g : Graft) → AreLater trees top gs count p n → 0 < n → n ≤ length gs → g ≡ get_or gs (n - 1) g
+    → has_place top (reported trees top (take (n - 1) gs)) g.path ≡ false → AreLater trees top gs count p (n - 1)
+later_unplaced trees top gs count p n g later some le is none_there =
+    later_by trees top gs count p n g later some le is (λ q up none. stays_unplaced trees top (reported trees top (take (n - 1) gs)) g q none_there)
 
-pub last_surely : (trees : ℕ → Tree) (top : PathValue) (gs : List Graft) (p : PathValue) (n : ℕ) (g : Graft) → ((m : ℕ) → HoldsTogether [] (trees m)) → AreLater trees top gs p n → 0 < n → n ≤ length gs
-    → g ≡ get_or gs (n - 1) g → is_at_or_under p g.path ≡ true → is_surely_placed top g ≡ true → Shows trees top gs p (Some g)
-last_surely trees top gs p n g hold later some le is over sure q up none =
+pub last_surely : (trees : ℕ → Tree) (top : PathValue) (gs : List Graft) (count : ℕ) (p : PathValue) (n : ℕ) (g : Graft) → ((m : ℕ) → HoldsTogether [] (trees m)) → AreLater trees top gs count p n → 0 < n → n ≤ length gs
+    → g ≡ get_or gs (n - 1) g → is_at_or_under p g.path ≡ true → is_surely_placed top g ≡ true → Shows trees top gs count p (Some g)
+last_surely trees top gs count p n g hold later some le is over sure q up none =
     later q up none ∙ by_last trees top gs n g q some le is ∙ shows_surely trees top (take (n - 1) gs) g q hold (under_more q p g.path up over) sure
 
-pub last_placed : (trees : ℕ → Tree) (top : PathValue) (gs : List Graft) (p : PathValue) (n : ℕ) (g : Graft) → AreLater trees top gs p n → 0 < n → n ≤ length gs
-    → g ≡ get_or gs (n - 1) g → is_at_or_under p g.path ≡ true → has_place top (reported trees top (take (n - 1) gs)) g.path ≡ true → Shows trees top gs p (Some g)
-last_placed trees top gs p n g later some le is over place q up none =
+pub last_placed : (trees : ℕ → Tree) (top : PathValue) (gs : List Graft) (count : ℕ) (p : PathValue) (n : ℕ) (g : Graft) → AreLater trees top gs count p n → 0 < n → n ≤ length gs
+    → g ≡ get_or gs (n - 1) g → is_at_or_under p g.path ≡ true → has_place top (reported trees top (take (n - 1) gs)) g.path ≡ true → Shows trees top gs count p (Some g)
+last_placed trees top gs count p n g later some le is over place q up none =
     later q up none ∙ by_last trees top gs n g q some le is ∙ shows_placed trees top (reported trees top (take (n - 1) gs)) g q (under_more q p g.path up over) place
 
-pub none_shown : (trees : ℕ → Tree) (top : PathValue) (gs : List Graft) (p : PathValue) (n : ℕ) → AreLater trees top gs p n → n ≡ 0 → Shows trees top gs p None
-none_shown trees top gs p n later none q up free = later q up free ∙ ap (λ m. reported trees top (take m gs) q) none
+pub none_shown : (trees : ℕ → Tree) (top : PathValue) (gs : List Graft) (count : ℕ) (p : PathValue) (n : ℕ) → AreLater trees top gs count p n → n ≡ 0 → Shows trees top gs count p None
+none_shown trees top gs count p n later none q up free = later q up free ∙ ap (λ m. reported trees top (take m gs) q) none
 
 -- a graft has its place in a directory, whether or not it is surely placed
 pub placed_in : (top : PathValue) (had : ReportedTree) (g : Graft) → has_directory (had (path_above g.path)) ≡ true → has_place top had g.path ≡ true

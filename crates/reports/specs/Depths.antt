@@ -1,15 +1,17 @@
 -- The depths that are reported and asked for.
-use Rattle.std.specs.Prelude.{Bool, true, false, Option, Some, None, Result, Ok, Err}
+use Rattle.std.specs.Prelude.{Bool, true, false, not, Option, Some, None, Result, Ok, Err}
+use Rattle.std.specs.Option.{option_map_or}
 use Rattle.refusals.specs.declared.Refusal.{Refusal}
 use Rattle.refusals.specs.declared.Refusal.TheVariants as refusals
 use Rattle.drives.specs.declared.depth.Depth.{Depth}
-use Rattle.drives.specs.declared.depth.Depth.TheVariants.{Empty, Files, Infinity}
+use Rattle.drives.specs.declared.depth.Depth.TheVariants.{Empty, Files, Immediates, Infinity}
 use Rattle.report_commands.specs.declared.depth_word.DepthWord.{DepthWord}
 use Rattle.report_commands.specs.declared.depth_word.DepthWord.TheVariants.{Known, Unknown, Exclude}
 use Rattle.reports.specs.declared.ask.DepthAsked.{DepthAsked}
 use Rattle.reports.specs.declared.ask.DepthAsked.TheVariants as asks
 use Rattle.reports.specs.declared.ask.Purpose.{Purpose}
 use Rattle.reports.specs.declared.ask.Purpose.TheVariants.{Update, Switch, Status}
+use Rattle.reports.specs.declared.graft.Graft.{Graft}
 
 -- how much of what stands there a client reports: everything, where it says nothing of it
 abbrev pub graft_depth : Option DepthWord → Result Depth Refusal
@@ -32,3 +34,14 @@ depth_asked purpose recurse (Some Unknown) = Ok asks.AsReported
 depth_asked purpose recurse (Some Exclude) = Err refusals.NotSupported
 depth_asked purpose true None = Ok (asks.Given Infinity)
 depth_asked purpose false None = Ok (asks.Given (shallow purpose))
+
+-- everything beneath a directory is reported, or asked for
+abbrev pub is_to_the_end : Depth → Bool
+is_to_the_end Empty = false
+is_to_the_end Files = false
+is_to_the_end Immediates = false
+is_to_the_end Infinity = true
+
+-- less than everything is reported of what the graft puts
+abbrev pub is_shallow : Graft → Bool
+is_shallow g = option_map_or (λ s. not (is_to_the_end s.depth)) g.subtree false

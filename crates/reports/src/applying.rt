@@ -103,7 +103,7 @@ fn set_path_graft<R: Repository>(
 {
     let ask = &report.ask;
     let top = ask.target.as_path();
-    let grafts = report.grafts.as_slice();
+    let grafts = &report.grafts;
     judge(may_come(alloc, report, link)?, Refusal::MalformedData)?;
     let path = report_path(alloc, ask, &link.reported.path)?;
     let own = own_source(alloc, ask, grafts, &path)?;
@@ -132,7 +132,7 @@ fn delete_path_graft(
     judge(report.root.is_some(), Refusal::MalformedData)?;
     let path = report_path(alloc, &report.ask, text)?;
     judge(!path.is_root(), Refusal::MalformedData)?;
-    let from = own_source(alloc, &report.ask, report.grafts.as_slice(), &path)?;
+    let from = own_source(alloc, &report.ask, &report.grafts, &path)?;
     Ok(Graft {
         path,
         from,
@@ -142,6 +142,7 @@ fn delete_path_graft(
 
 /// The report with one graft more.
 fn grafted(
+    alloc: Global,
     mut report: OpenReport<Grafts>,
     root: Option<ReportRoot>,
     graft: Graft,
@@ -149,7 +150,7 @@ fn grafted(
     requires { IsNamed graft.path }
     ensures { IfOk result (λ next. next ≡ report_with_graft report root graft) }
 {
-    report.grafts.push(graft)?;
+    report.grafts.push(alloc, graft)?;
     report.root = root;
     Ok(Report::Open(report))
 }
@@ -167,7 +168,7 @@ pub fn set_path<R: Repository>(
         report link.entry.reported.now (option_copied link.entry.url))) }
 {
     match set_path_graft(alloc, view, name, &report, link) {
-        Ok((root, graft)) => grafted(report, Some(root), graft),
+        Ok((root, graft)) => grafted(alloc, report, Some(root), graft),
         Err(ReportFault::Refused(refusal)) => {
             drop(report);
             Ok(Report::Refused(refusal))
@@ -190,7 +191,7 @@ pub fn delete_path(
     match delete_path_graft(alloc, &report, text) {
         Ok(graft) => {
             let root = report.root;
-            grafted(report, root, graft)
+            grafted(alloc, report, root, graft)
         }
         Err(ReportFault::Refused(refusal)) => {
             drop(report);
@@ -233,7 +234,7 @@ fn has_anchor<R: Repository>(
     if !is_directory_there(view, ask.revision, &ask.goal) {
         return Ok(false);
     }
-    has_directory(alloc, view, top, report.grafts.as_slice(), top)
+    has_directory(alloc, view, top, &report.grafts, top)
 }
 
 /// The path that was reported first, where there is to be a drive, or why there is none.

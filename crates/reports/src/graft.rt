@@ -1,4 +1,7 @@
 //! What a report puts at a path.
+ghost use Rattle.std.specs.Prelude.{◌≡◌};
+ghost use Rattle.reports.specs.Depths.{is_shallow, is_to_the_end};
+
 use byte_string::ByteString;
 use drives::Depth;
 use svnpath::Path;
@@ -22,4 +25,24 @@ pub struct Graft {
     /// The path in the repository that it stands for from now on.
     pub from: Path,
     pub subtree: Option<Subtree>,
+}
+
+/// Whether everything beneath a directory is reported, or asked for.
+pub fn is_to_the_end(depth: Depth) -> bool
+    ensures { result ≡ is_to_the_end depth }
+{
+    match depth {
+        Depth::Infinity => true,
+        Depth::Immediates | Depth::Files | Depth::Empty => false,
+    }
+}
+
+/// Whether less than everything is reported of what a graft puts.
+pub(crate) fn is_shallow(graft: &Graft) -> bool
+    ensures { result ≡ is_shallow graft.now }
+{
+    match &graft.subtree {
+        None => false,
+        Some(subtree) => !is_to_the_end(subtree.depth),
+    }
 }

@@ -1,19 +1,33 @@
 //! The grafts of a report.
-ghost use Rattle.std.specs.Prelude.{◌≡◌, ◌∷◌, ◌++◌, [], OnOk, OnErr};
+ghost use Rattle.std.specs.Prelude.{◌≡◌, ◌≤◌, ◌||◌, ◌∷◌, ◌++◌, [], false, length, OnOk, OnErr, IfOk};
+ghost use Rattle.std.specs.List.{list_any};
+ghost use Rattle.drives.specs.Scopes.{below};
+ghost use Rattle.reports.specs.Depths.{is_shallow};
+ghost use Rattle.reports.specs.Finding.{IsLastAbove, IsLastAt, later};
 ghost use Rattle.reports.specs.Named.{AreNamed, IsNamed};
 
-use crate::graft::Graft;
+use crate::graft::{Graft, is_shallow};
+use crate::index::GraftIndex;
 use std::alloc::{AllocError, Global};
 use std::marker::Model;
+use svnpath::Path;
 
-/// The grafts of a report, in their order, each at a path that a client can name.
+/// The grafts of a report, in their order, each at a path that a client can name. They are found by
+/// their paths, however many there are.
 #[derive(Drop)]
 pub struct Grafts {
     grafts: Vec<Graft>,
+    index: GraftIndex,
+    has_shallow: bool,
 }
 
 impl Model for Grafts {
-    ghost use Rattle.std.specs.Prelude.{List};
+    ghost use Rattle.std.specs.Prelude.{◌≡◌, List};
+    ghost use Rattle.std.specs.List.{list_any};
+    ghost use Rattle.std.specs.BTreeSet.{contains_by};
+    ghost use Rattle.svnpath.specs.Paths.{path_cmp};
+    ghost use Rattle.reports.specs.Depths.{is_shallow};
+    ghost use Rattle.reports.specs.Finding.{AreFound};
     ghost use Rattle.reports.specs.Named.{AreNamed};
     ghost use Rattle.reports.specs.declared.graft.Graft.{Graft};
 
@@ -21,7 +35,28 @@ impl Model for Grafts {
 
     ghost view = { λ g. g.grafts.items };
 
-    ghost invariant = { λ g. AreNamed g.grafts.items };
+    ghost invariant = { λ g. AreNamed g.grafts.items
+        × AreFound g.grafts.items g.index.newest.entries g.index.older.items
+        (λ p. contains_by (path_cmp p) g.index.holders)
+        × (g.has_shallow ≡ list_any is_shallow g.grafts.items) };
+}
+
+/// Whether less than everything is reported of what one graft more puts, or it was before.
+fn has_shallow_too(before: bool, graft: &Graft) -> bool
+    ensures { result ≡ (before || is_shallow graft.now) }
+{
+    before || is_shallow(graft)
+}
+
+/// The later of two places, if there are any.
+fn later(place: Option<usize>, other: Option<usize>) -> Option<usize>
+    ensures { result ≡ later place other }
+{
+    match (place, other) {
+        (None, _) => other,
+        (_, None) => place,
+        (Some(one), Some(two)) => Some(if one < two { two } else { one }),
+    }
 }
 
 impl Grafts {
@@ -31,16 +66,30 @@ impl Grafts {
     {
         Grafts {
             grafts: Vec::new(alloc),
+            index: GraftIndex::new(alloc),
+            has_shallow: false,
         }
     }
 
     /// Puts a graft behind the others.
-    pub fn push(&mut self, graft: Graft) -> Result<(), AllocError>
+    pub fn push(&mut self, alloc: Global, graft: Graft) -> Result<(), AllocError>
         requires { IsNamed graft.path }
         ensures ok { OnOk result (self.new ≡ self.old ++ graft ∷ []) }
         ensures err { OnErr result (self.new ≡ self.old) }
     {
-        self.grafts.push(graft).map_err(AllocError::from)
+        let has_shallow = has_shallow_too(self.has_shallow, &graft);
+        let path = graft.path.clone()?;
+        self.grafts.push(graft)?;
+        match self.index.note(alloc, &path) {
+            Ok(()) => {
+                self.has_shallow = has_shallow;
+                Ok(())
+            }
+            Err(error) => {
+                self.grafts.pop();
+                Err(error)
+            }
+        }
     }
 
     /// The grafts in their order.
@@ -48,6 +97,54 @@ impl Grafts {
         ensures { result.now ≡ self.now }
     {
         self.grafts.as_slice()
+    }
+
+    /// Whether less than everything is reported of what some graft puts.
+    pub fn has_shallow(&self) -> bool
+        ensures { result ≡ list_any is_shallow self.now }
+    {
+        self.has_shallow
+    }
+
+    /// Whether some graft may stand beneath a path; where none may, none does.
+    pub fn may_stand_beneath(&self, path: &Path) -> bool
+        ensures { result ≡ false → list_any (λ g. below path.now g.path) self.now ≡ false }
+    {
+        self.index.holders.contains(path)
+    }
+
+    /// The last of the first so many grafts that stand at a path, by its place in the order.
+    fn last_at(&self, path: &Path, count: usize) -> Option<usize>
+        requires { count ≤ length self.now }
+        ensures { IsLastAt path.now self.now count result }
+    {
+        let mut found = self.index.newest.get(path).copied();
+        while let Some(place) = found {
+            if place < count {
+                return found;
+            }
+            found = self.index.older[place];
+        }
+        None
+    }
+
+    /// The last of the first so many grafts that stand at or above a path, by its place in the order.
+    pub(crate) fn last_above(
+        &self,
+        alloc: Global,
+        path: &Path,
+        count: usize,
+    ) -> Result<Option<usize>, AllocError>
+        requires { count ≤ length self.now }
+        ensures { IfOk result (λ found. IsLastAbove path.now self.now count found) }
+    {
+        let mut last = None;
+        let mut above = Path::root(alloc);
+        for name in path.components() {
+            last = later(last, self.last_at(&above, count));
+            above = above.child(alloc, name.clone()?)?;
+        }
+        Ok(later(last, self.last_at(&above, count)))
     }
 
     /// Does nothing: its contract says that a client can name the path of each graft.

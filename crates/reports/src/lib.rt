@@ -7,6 +7,7 @@ mod asking;
 mod fault;
 mod graft;
 mod grafts;
+mod index;
 mod judging;
 mod laws;
 mod named_path;
@@ -18,7 +19,7 @@ pub use applying::{Link, delete_path, finish, set_path};
 pub use ask::{DepthAsked, DriveAsk, Purpose};
 pub use asking::{Anchor, Errand, ask_of, begin};
 pub use fault::ReportFault;
-pub use graft::{Graft, Subtree};
+pub use graft::{Graft, Subtree, is_to_the_end};
 pub use grafts::Grafts;
 pub use laws::{
     drive_trees_hold_together, reported_trees_hold_together, revisions_hold_together,

@@ -1,5 +1,5 @@
 //! What a client has, by its report.
-ghost use Rattle.std.specs.Prelude.{◌≡◌, ◌+◌, ◌++◌, [], true, false, List, Option, Some, option_copied, option_map, option_and_then, is_some, length, IfOk, IfSome};
+ghost use Rattle.std.specs.Prelude.{◌≡◌, ◌≤◌, ◌+◌, ◌++◌, [], true, false, List, Option, Some, option_copied, option_map, option_and_then, is_some, length, take, IfOk, IfSome};
 ghost use Rattle.repo_api.specs.Kinds.{kind_of};
 ghost use Rattle.repo_api.specs.States.{trees_in};
 ghost use Rattle.repo_api.specs.declared.entry.Entry.{Entry};
@@ -9,6 +9,7 @@ ghost use Rattle.reports.specs.Places.{AllHoldTogether, in_place, is_grafted_ove
 ghost use Rattle.reports.specs.Reported.{has_directory, has_place, in_subtree, is_surely_placed, left_by, reported, shown_by};
 
 use crate::graft::{Graft, Subtree};
+use crate::grafts::Grafts;
 use crate::sources::above;
 use byte_string::ByteString;
 use drives::Depth;
@@ -81,12 +82,58 @@ fn is_surely_placed(top: &Path, graft: &Graft) -> bool
     &graft.path == top || (graft.subtree.is_none() && graft.path.is_at_or_under(top))
 }
 
-/// The last graft that says what the client has at a path, if one does. The top is the target.
-pub(crate) fn graft_at<'a, R: Repository>(
+/// The first so many grafts of a report.
+#[derive(Clone, Copy)]
+struct FirstGrafts<'a> {
+    grafts: &'a Grafts,
+    count: usize,
+}
+
+/// The last of so many grafts that says what the client has at a path, if one does. The top is the target.
+fn graft_among<'a, R: Repository>(
     alloc: Global,
     view: &R,
     top: &Path,
-    grafts: &'a [Graft],
+    first: FirstGrafts<'a>,
+    path: &Path,
+) -> Result<Option<&'a Graft>, AllocError>
+    requires trees { AllHoldTogether (R.content view.now).revisions }
+    requires count { first.count ≤ length first.grafts.now }
+    ensures here { IfOk result (λ found. reported (trees_in (R.content view.now).revisions) top.now
+        (take first.entry.count first.entry.grafts.now) path.now
+        ≡ shown_by (trees_in (R.content view.now).revisions) path.now (option_copied found)) }
+    ensures beneath { IfOk result (λ found. (q : PathValue) → is_at_or_under q path.now ≡ true
+        → is_grafted_over first.entry.grafts.now path.now q ≡ false
+        → reported (trees_in (R.content view.now).revisions) top.now
+        (take first.entry.count first.entry.grafts.now) q
+        ≡ shown_by (trees_in (R.content view.now).revisions) q (option_copied found)) }
+{
+    let FirstGrafts { grafts, mut count } = first;
+    while let Some(place) = grafts.last_above(alloc, path, count)? {
+        let graft = &grafts.as_slice()[place];
+        if is_surely_placed(top, graft) {
+            return Ok(Some(graft));
+        }
+        let above = above(alloc, &graft.path)?;
+        let before = FirstGrafts {
+            grafts,
+            count: place,
+        };
+        let holder = graft_among(alloc, view, top, before, &above)?;
+        if shows_directory(alloc, view, holder, &above)? {
+            return Ok(Some(graft));
+        }
+        count = place;
+    }
+    Ok(None)
+}
+
+/// The last graft that says what the client has at a path, if one does. The top is the target.
+fn graft_at<'a, R: Repository>(
+    alloc: Global,
+    view: &R,
+    top: &Path,
+    grafts: &'a Grafts,
     path: &Path,
 ) -> Result<Option<&'a Graft>, AllocError>
     requires { AllHoldTogether (R.content view.now).revisions }
@@ -98,20 +145,8 @@ pub(crate) fn graft_at<'a, R: Repository>(
         → reported (trees_in (R.content view.now).revisions) top.now grafts.now q
         ≡ shown_by (trees_in (R.content view.now).revisions) q (option_copied found)) }
 {
-    for index in (0..grafts.len()).rev() {
-        let graft = &grafts[index];
-        if path.is_at_or_under(&graft.path) {
-            if is_surely_placed(top, graft) {
-                return Ok(Some(graft));
-            }
-            let above = above(alloc, &graft.path)?;
-            let holder = graft_at(alloc, view, top, &grafts[..index], &above)?;
-            if shows_directory(alloc, view, holder, &above)? {
-                return Ok(Some(graft));
-            }
-        }
-    }
-    Ok(None)
+    let count = grafts.as_slice().len();
+    graft_among(alloc, view, top, FirstGrafts { grafts, count }, path)
 }
 
 /// What a client has at a path: what stands at a path of a revision, its top alone where it starts
@@ -190,7 +225,7 @@ pub fn reported_at<'a, R: Repository>(
     alloc: Global,
     view: &R,
     top: &Path,
-    grafts: &'a [Graft],
+    grafts: &'a Grafts,
     path: &Path,
 ) -> Result<Option<ReportedPlace<'a>>, AllocError>
     requires { AllHoldTogether (R.content view.now).revisions }
@@ -216,7 +251,7 @@ pub(crate) fn has_place<R: Repository>(
     alloc: Global,
     view: &R,
     top: &Path,
-    grafts: &[Graft],
+    grafts: &Grafts,
     path: &Path,
 ) -> Result<bool, AllocError>
     requires { AllHoldTogether (R.content view.now).revisions }
@@ -236,7 +271,7 @@ pub(crate) fn has_directory<R: Repository>(
     alloc: Global,
     view: &R,
     top: &Path,
-    grafts: &[Graft],
+    grafts: &Grafts,
     path: &Path,
 ) -> Result<bool, AllocError>
     requires { AllHoldTogether (R.content view.now).revisions }

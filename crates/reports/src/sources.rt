@@ -7,7 +7,7 @@ ghost use Rattle.reports.specs.Reported.{path_above, origin, own_source};
 
 use crate::ask::DriveAsk;
 use crate::fault::ReportFault;
-use crate::graft::Graft;
+use crate::grafts::Grafts;
 use crate::judging::path_named;
 use byte_string::ByteString;
 use std::alloc::{AllocError, Global};
@@ -45,23 +45,24 @@ pub(crate) fn above(alloc: Global, path: &Path) -> Result<Path, AllocError>
 }
 
 /// What a path stands for: by the last graft at or above it, or else by the anchor.
-fn origin(alloc: Global, anchor: &Path, grafts: &[Graft], path: &Path) -> Result<Path, AllocError>
+fn origin(alloc: Global, anchor: &Path, grafts: &Grafts, path: &Path) -> Result<Path, AllocError>
     ensures { IfOk result (λ p. p ≡ origin anchor.now grafts.now path.now) }
 {
-    let mut from = anchored(alloc, anchor, path)?;
-    for graft in grafts {
-        if path.is_at_or_under(&graft.path) {
-            from = path.rebased(alloc, &graft.path, &graft.from)?;
+    let all = grafts.as_slice();
+    match grafts.last_above(alloc, path, all.len())? {
+        None => anchored(alloc, anchor, path),
+        Some(place) => {
+            let graft = &all[place];
+            path.rebased(alloc, &graft.path, &graft.from)
         }
     }
-    Ok(from)
 }
 
 /// What a path that is set stands for from then on.
 pub(crate) fn own_source(
     alloc: Global,
     ask: &DriveAsk,
-    grafts: &[Graft],
+    grafts: &Grafts,
     path: &Path,
 ) -> Result<Path, AllocError>
     ensures { IfOk result (λ p. p ≡ own_source ask.now.anchor ask.now.target grafts.now path.now) }
