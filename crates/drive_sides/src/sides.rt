@@ -121,7 +121,7 @@ impl<'a, R: Repository> Sides for TwoTrees<'a, R> {
         if !path.is_at_or_under(report.ask.target.as_path()) {
             return Ok(false);
         }
-        if report.grafts.may_stand_beneath(path) || self.is_stale(alloc, path)? {
+        if report.grafts.has_beneath(path) || self.is_stale(alloc, path)? {
             return Ok(false);
         }
         let goal = self.goal_path(alloc, path)?;

@@ -1,24 +1,24 @@
 -- The names beneath a path, found one after another among paths in their order.
 use Rattle.std.proofs.Common.{◌≡◌, ℕ, zero, suc, ◌+◌, ◌<◌, ◌≤◌, Bool, true, false, cond, ◌&&◌, List, [], ◌∷◌, ◌++◌, drop, length, Option, Some, None, is_some, map, refl, sym, ap, subst, ◌∙◌, append_assoc, arith}
-use Rattle.std.proofs.lemmas.Bool.{false≢true, and_from, lt-ltb, eqb-true}
+use Rattle.std.proofs.lemmas.Bool.{false≢true, lt-ltb, eqb-true}
 use Rattle.std.proofs.lemmas.Cmp.{tied_itself, upto, nat_cmp_total}
 use Rattle.std.proofs.lemmas.List.{map_push}
 use Rattle.std.proofs.lemmas.List.Elements.{filter_passes}
 use Rattle.std.proofs.lemmas.List.Kept.{IsStrictlySortedBy-filter}
 use Rattle.std.proofs.lemmas.Map.Keys.{sorted_head}
 use Rattle.std.specs.BTreeMap.Range.{range_contains}
-use Rattle.std.specs.Cmp.Lexicographic.{slice_cmp, texts_ties, nat_list_cmp_total}
+use Rattle.std.specs.Cmp.Lexicographic.{slice_cmp, nat_list_cmp_total}
 use Rattle.std.specs.List.{All, AllByRecursion, filter, cons_option}
 use Rattle.std.specs.List.Sorted.{IsStrictlySortedBy}
 use Rattle.std.specs.Map.{keys_of}
 use Rattle.std.specs.Option.{unwrap_or}
-use Rattle.std.specs.Ordering.{nat_cmp, is_eq, is_le, is_lt, is_gt, ordering_then, ordering_reverse}
+use Rattle.std.specs.Ordering.{nat_cmp, is_le, is_lt, is_gt, ordering_then, ordering_reverse}
 use Rattle.std.specs.Prelude.{◌==◌, if◌then◌else◌, MatchOption, option_map}
 use Rattle.std.specs.declared.cmp.Ordering.{Ordering}
 use Rattle.std.specs.declared.cmp.Ordering.TheVariants.{Less, Equal, Greater}
 use Rattle.std.specs.declared.ops.Bound.TheVariants.{Included, Unbounded}
-use Rattle.svnpath.specs.Paths.{PathValue, Component, same_component, is_at_or_under, path_cmp, path_cmp_total}
-use Rattle.svnpath.specs.PathLaws.{under_is}
+use Rattle.svnpath.specs.Paths.{PathValue, Component, is_at_or_under, path_cmp, path_cmp_total}
+use Rattle.svnpath.specs.PathLaws.{between_under, from_under, under_append, under_is}
 use Rattle.repo_api.specs.Readings.{sole, rest_beneath, name_in, names_among}
 use Rattle.flat_parts.specs.Beneath.{paths_from, from_child, parted, first_beneath, next_name}
 
@@ -72,20 +72,10 @@ less_le o h = ap is_le h
 le_chain : (x y z : PathValue) → is_le (path_cmp x y) ≡ true → is_le (path_cmp y z) ≡ true → is_le (path_cmp x z) ≡ true
 le_chain x y z a b = so_le (path_cmp x z) (upto path_cmp_total x y z (not_gt (path_cmp x y) a) (not_gt (path_cmp y z) b))
 
-within_step : (a b : Component) (p x y k : PathValue) → (is_le (path_cmp (p ++ x) k) ≡ true → is_le (path_cmp k (p ++ y)) ≡ true → is_at_or_under k p ≡ true)
-    → (o : Ordering) → slice_cmp nat_cmp a b ≡ o → is_le (ordering_then o (path_cmp (p ++ x) k)) ≡ true → is_le (ordering_then (ordering_reverse o) (path_cmp k (p ++ y))) ≡ true
-    → (same_component a b && is_at_or_under k p) ≡ true
-within_step a b p x y k rec Less is h g = absurd (false≢true g)
-within_step a b p x y k rec Equal is h g = and_from (same_component a b) (is_at_or_under k p) (texts_ties a b ∙ ap is_eq is) (rec h g)
-within_step a b p x y k rec Greater is h g = absurd (false≢true h)
-
 -- what stands between two paths beneath p lies there too
 within : (p x y k : PathValue) → is_le (path_cmp (p ++ x) k) ≡ true → is_le (path_cmp k (p ++ y)) ≡ true → is_at_or_under k p ≡ true
-within [] x y k h g = refl
-within (a ∷ p) x y [] h g = absurd (false≢true h)
-within (a ∷ p) x y (b ∷ k) h g =
-    within_step a b p x y k (within p x y k) (slice_cmp nat_cmp a b) refl h
-    (ap (λ o. is_le (ordering_then o (path_cmp k (p ++ y)))) (sym (nat_list_cmp_total.antisymm b a)) ∙ g)
+within p x y k from to =
+    between_under p k (p ++ y) (le_chain p (p ++ x) k (from_under p (p ++ x) (under_append p x)) from) to (under_append p y)
 
 -- ---- what lies beneath
 

@@ -3,17 +3,15 @@ use Rattle.std.proofs.Common.{◌≡◌, Bool, true, false, cond, ◌&&◌, List
 use Rattle.std.proofs.lemmas.Bool.{false≢true}
 use Rattle.std.proofs.lemmas.List.{append-nil, map_push}
 use Rattle.std.proofs.lemmas.Map.Keys.{sorted_head, sorted_tail}
-use Rattle.std.specs.Cmp.Lexicographic.{slice_cmp, texts_ties, nat_list_cmp_total}
 use Rattle.std.specs.BTreeMap.Range.{range_contains}
 use Rattle.std.specs.List.{AllByRecursion, filter}
 use Rattle.std.specs.List.Sorted.{IsStrictlySortedBy}
 use Rattle.std.specs.Map.{keys_of}
-use Rattle.std.specs.Ordering.{nat_cmp, is_eq, is_le, is_lt, ordering_then}
-use Rattle.std.specs.declared.cmp.Ordering.{Ordering}
-use Rattle.std.specs.declared.cmp.Ordering.TheVariants.{Less, Equal, Greater}
+use Rattle.std.specs.Ordering.{is_le}
+use Rattle.std.specs.declared.cmp.Ordering.TheVariants.{Less}
 use Rattle.std.specs.declared.ops.Bound.TheVariants.{Included, Unbounded}
-use Rattle.svnpath.specs.Paths.{PathValue, Component, same_component, is_at_or_under, path_cmp}
-use Rattle.svnpath.specs.PathLaws.{same_component_is}
+use Rattle.svnpath.specs.Paths.{PathValue, is_at_or_under, path_cmp}
+use Rattle.svnpath.specs.PathLaws.{between_under, from_under}
 
 pub and_false : (b : Bool) → (b && false) ≡ false
 and_false true = refl
@@ -23,42 +21,13 @@ first_of : (b : Bool) → (b && true) ≡ true → b ≡ true
 first_of true h = refl
 first_of false h = h
 
-apart : (a c : Component) (b : Bool) → slice_cmp nat_cmp a c ≡ Less → (same_component a c && b) ≡ false
-apart a c b less = ap (λ e. e && b) (texts_ties a c ∙ ap is_eq less)
-
-step : (a b c : Component) (p k m : PathValue) → (is_le (path_cmp p k) ≡ true → is_at_or_under k p ≡ false → path_cmp k m ≡ Less → is_at_or_under m p ≡ false)
-    → (x y : Ordering) → slice_cmp nat_cmp a b ≡ x → slice_cmp nat_cmp b c ≡ y
-    → is_le (ordering_then x (path_cmp p k)) ≡ true → (is_eq x && is_at_or_under k p) ≡ false → ordering_then y (path_cmp k m) ≡ Less
-    → (same_component a c && is_at_or_under m p) ≡ false
-step a b c p k m rec Less Less ab bc le out lt = apart a c (is_at_or_under m p) (nat_list_cmp_total.trans a b c ab bc)
-step a b c p k m rec Less Equal ab bc le out lt =
-    apart a c (is_at_or_under m p) (subst (λ z. slice_cmp nat_cmp a z ≡ Less) (same_component_is b c (texts_ties b c ∙ ap is_eq bc)) ab)
-step a b c p k m rec Less Greater ab bc le out lt = absurd (false≢true (ap is_lt lt))
-step a b c p k m rec Equal Less ab bc le out lt = apart a c (is_at_or_under m p) (nat_list_cmp_total.congr a b c ab ∙ bc)
-step a b c p k m rec Equal Equal ab bc le out lt = ap (λ e. same_component a c && e) (rec le out lt) ∙ and_false (same_component a c)
-step a b c p k m rec Equal Greater ab bc le out lt = absurd (false≢true (ap is_lt lt))
-step a b c p k m rec Greater y ab bc le out lt = absurd (false≢true le)
-
 -- past a key that is not under the path, and not before it, none is
 pub past : (p k m : PathValue) → is_le (path_cmp p k) ≡ true → is_at_or_under k p ≡ false → path_cmp k m ≡ Less → is_at_or_under m p ≡ false
-past [] k m le out lt = absurd (false≢true (sym out))
-past (a ∷ p) [] m le out lt = absurd (false≢true le)
-past (a ∷ p) (b ∷ k) [] le out lt = absurd (false≢true (ap is_lt lt))
-past (a ∷ p) (b ∷ k) (c ∷ m) le out lt =
-    step a b c p k m (past p k m) (slice_cmp nat_cmp a b) (slice_cmp nat_cmp b c) refl refl le (ap (λ e. e && is_at_or_under k p) (sym (texts_ties a b)) ∙ out) lt
-
-le_step : (a b : Component) (p k : PathValue) → (is_at_or_under k p ≡ true → is_le (path_cmp p k) ≡ true) → (x : Ordering)
-    → (is_eq x && is_at_or_under k p) ≡ true → is_le (ordering_then x (path_cmp p k)) ≡ true
-le_step a b p k rec Less h = refl
-le_step a b p k rec Equal h = rec h
-le_step a b p k rec Greater h = h
-
--- what is under a path is not before it
-pub le_under : (p k : PathValue) → is_at_or_under k p ≡ true → is_le (path_cmp p k) ≡ true
-le_under [] [] h = refl
-le_under [] (b ∷ k) h = refl
-le_under (a ∷ p) [] h = h
-le_under (a ∷ p) (b ∷ k) h = le_step a b p k (le_under p k) (slice_cmp nat_cmp a b) (ap (λ e. e && is_at_or_under k p) (sym (texts_ties a b)) ∙ h)
+past p k m le out lt = by (is_at_or_under m p) refl
+  where
+    by : (b : Bool) → is_at_or_under m p ≡ b → b ≡ false
+    by true under = absurd (false≢true (sym out ∙ between_under p k m le (ap is_le lt) under))
+    by false e = refl
 
 -- once a key is not under the path, none after it is
 abbrev pub Ends : {X : Type 0} → PathValue → List (PathValue × X) → Type 0
@@ -91,7 +60,7 @@ ends_from p (e ∷ es) s =
 from_step : {X : Type 0} (p : PathValue) (e : PathValue × X) (rest all : List (PathValue × X)) → filter (λ x. is_at_or_under x.0 p) rest ≡ all
     → (b : Bool) → from p e.0 ≡ b → (u : Bool) → is_at_or_under e.0 p ≡ u → filter (λ x. is_at_or_under x.0 p) (cond b (e ∷ rest) rest) ≡ cond (is_at_or_under e.0 p) (e ∷ all) all
 from_step p e rest all ih true is u h = ap (λ xs. cond (is_at_or_under e.0 p) (e ∷ xs) xs) ih
-from_step p e rest all ih false is true h = absurd (false≢true (sym is ∙ ap (λ b. b && true) (le_under p e.0 h)))
+from_step p e rest all ih false is true h = absurd (false≢true (sym is ∙ ap (λ b. b && true) (from_under p e.0 h)))
 from_step p e rest all ih false is false h = ih ∙ ap (λ b. cond b (e ∷ all) all) (sym h)
 
 -- what is under a path is all in the range that begins with it

@@ -13,11 +13,11 @@ use Rattle.std.specs.Prelude.{is_some, if◌then◌else◌}
 use Rattle.std.specs.declared.cmp.Ordering.{Ordering}
 use Rattle.std.specs.declared.cmp.Ordering.TheVariants.{Less, Equal, Greater}
 use Rattle.svnpath.specs.Paths.{PathValue, same_path, is_at_or_under, path_cmp, path_cmp_total, path_ties, path_cmp-IsAntisymmetric}
-use Rattle.svnpath.specs.PathLaws.{at_is, same_path_is, under_is, under_append, under_itself}
+use Rattle.svnpath.specs.PathLaws.{at_is, from_under, same_path_is, under_is, under_append, under_itself}
 use Rattle.repo_api.specs.declared.change.Change.{Change}
 use Rattle.repo_api.specs.Locking.{is_of_whole_tree, reaches, is_reached}
 use Rattle.pathlocks.specs.Tops.{is_below, top_after}
-use Rattle.pathlocks.proofs.Runs.{past, le_under, and_false}
+use Rattle.pathlocks.proofs.Runs.{past, and_false}
 
 -- the top, if there is one, stands before these paths
 abbrev pub IsBefore : Option PathValue → List PathValue → Type 0
@@ -38,7 +38,7 @@ less_le o less = ap is_le less
 
 -- what is at or under a later path is later
 after : (p k q : PathValue) → path_cmp p k ≡ Less → is_at_or_under q k ≡ true → path_cmp p q ≡ Less
-after p k q less under = by (path_cmp k q) refl (le_under k q under)
+after p k q less under = by (path_cmp k q) refl (from_under k q under)
   where
     by : (o : Ordering) → path_cmp k q ≡ o → is_le o ≡ true → path_cmp p q ≡ Less
     by Less kq le = path_cmp_total.trans p k q less kq
@@ -47,7 +47,7 @@ after p k q less under = by (path_cmp k q) refl (le_under k q under)
 
 -- what is under a later path outside is outside
 outside_under : (p k q : PathValue) → path_cmp p k ≡ Less → is_at_or_under k p ≡ false → is_at_or_under q k ≡ true → is_at_or_under q p ≡ false
-outside_under p k q less out under = by (path_cmp k q) refl (le_under k q under)
+outside_under p k q less out under = by (path_cmp k q) refl (from_under k q under)
   where
     by : (o : Ordering) → path_cmp k q ≡ o → is_le o ≡ true → is_at_or_under q p ≡ false
     by Less kq le = past p k q (less_le (path_cmp p k) less) out kq

@@ -3,7 +3,6 @@ use Rattle.std.specs.Prelude.{◌≡◌, ◌<◌, ℕ, nat_lt, Bool, true, false
 use Rattle.std.specs.Map.{lookup}
 use Rattle.std.specs.BTreeMap.{is_at}
 use Rattle.svnpath.specs.Paths.{PathValue, is_at_or_under, path_cmp, same_path}
-use Rattle.drives.specs.Scopes.{below}
 use Rattle.reports.specs.declared.graft.Graft.{Graft}
 
 -- the last of the first so many grafts of which this is so, by its place in the order
@@ -32,13 +31,11 @@ IsLastAbove p = IsLastOf (λ g. is_at_or_under p g.path)
 abbrev pub place_of : List (PathValue × ℕ) → PathValue → Option ℕ
 place_of entries p = lookup (is_at (path_cmp p)) entries
 
--- The grafts are found by their paths: the last at each path, before each graft the one before it
--- at the same path, and what lies above a graft.
+-- The grafts are found by their paths: the last at each path, and for each graft the one before it
+-- at the same path.
 pub record AreFound (grafts : List Graft) (newest : List (PathValue × ℕ))
-    (older : List (Option ℕ)) (is_held : PathValue → Bool) : Type 0 where
+    (older : List (Option ℕ)) : Type 0 where
   pub count : length older ≡ length grafts
   pub last : (p : PathValue) → IsLastAt p grafts (length grafts) (place_of newest p)
   pub before : (i : ℕ) (g : Graft) (o : Option ℕ) → slice_get grafts i ≡ Some g
       → slice_get older i ≡ Some o → IsLastAt g.path grafts i o
-  pub held : (p : PathValue) (i : ℕ) (g : Graft) → slice_get grafts i ≡ Some g
-      → below p g.path ≡ true → is_held p ≡ true

@@ -150,7 +150,7 @@ fn grafted(
     requires { IsNamed graft.path }
     ensures { IfOk result (λ next. next ≡ report_with_graft report root graft) }
 {
-    report.grafts.push(alloc, graft)?;
+    report.grafts.push(graft)?;
     report.root = root;
     Ok(Report::Open(report))
 }

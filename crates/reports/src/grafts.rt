@@ -1,5 +1,5 @@
 //! The grafts of a report.
-ghost use Rattle.std.specs.Prelude.{◌≡◌, ◌≤◌, ◌||◌, ◌∷◌, ◌++◌, [], false, length, OnOk, OnErr, IfOk};
+ghost use Rattle.std.specs.Prelude.{◌≡◌, ◌≤◌, ◌||◌, ◌∷◌, ◌++◌, [], length, OnOk, OnErr, IfOk};
 ghost use Rattle.std.specs.List.{list_any};
 ghost use Rattle.drives.specs.Scopes.{below};
 ghost use Rattle.reports.specs.Depths.{is_shallow};
@@ -24,8 +24,6 @@ pub struct Grafts {
 impl Model for Grafts {
     ghost use Rattle.std.specs.Prelude.{◌≡◌, List};
     ghost use Rattle.std.specs.List.{list_any};
-    ghost use Rattle.std.specs.BTreeSet.{contains_by};
-    ghost use Rattle.svnpath.specs.Paths.{path_cmp};
     ghost use Rattle.reports.specs.Depths.{is_shallow};
     ghost use Rattle.reports.specs.Finding.{AreFound};
     ghost use Rattle.reports.specs.Named.{AreNamed};
@@ -37,7 +35,6 @@ impl Model for Grafts {
 
     ghost invariant = { λ g. AreNamed g.grafts.items
         × AreFound g.grafts.items g.index.newest.entries g.index.older.items
-        (λ p. contains_by (path_cmp p) g.index.holders)
         × (g.has_shallow ≡ list_any is_shallow g.grafts.items) };
 }
 
@@ -72,7 +69,7 @@ impl Grafts {
     }
 
     /// Puts a graft behind the others.
-    pub fn push(&mut self, alloc: Global, graft: Graft) -> Result<(), AllocError>
+    pub fn push(&mut self, graft: Graft) -> Result<(), AllocError>
         requires { IsNamed graft.path }
         ensures ok { OnOk result (self.new ≡ self.old ++ graft ∷ []) }
         ensures err { OnErr result (self.new ≡ self.old) }
@@ -80,7 +77,7 @@ impl Grafts {
         let has_shallow = has_shallow_too(self.has_shallow, &graft);
         let path = graft.path.clone()?;
         self.grafts.push(graft)?;
-        match self.index.note(alloc, &path) {
+        match self.index.note(&path) {
             Ok(()) => {
                 self.has_shallow = has_shallow;
                 Ok(())
@@ -106,11 +103,11 @@ impl Grafts {
         self.has_shallow
     }
 
-    /// Whether some graft may stand beneath a path; where none may, none does.
-    pub fn may_stand_beneath(&self, path: &Path) -> bool
-        ensures { result ≡ false → list_any (λ g. below path.now g.path) self.now ≡ false }
+    /// Whether a graft stands beneath a path.
+    pub fn has_beneath(&self, path: &Path) -> bool
+        ensures { result ≡ list_any (λ g. below path.now g.path) self.now }
     {
-        self.index.holders.contains(path)
+        self.index.has_beneath(path)
     }
 
     /// The last of the first so many grafts that stand at a path, by its place in the order.

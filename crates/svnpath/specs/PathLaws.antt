@@ -1,9 +1,13 @@
 -- Laws of paths, for the crates above.
-use Rattle.std.proofs.Common.{add-one, ◌≡◌, true, ◌&&◌, [], ◌∷◌, ◌++◌, Some, length, take, drop, refl, sym, ap, ◌∙◌}
+use Rattle.std.proofs.Common.{add-one, ◌≡◌, Bool, true, ◌&&◌, [], ◌∷◌, ◌++◌, Some, length, take, drop, refl, sym, ap, ◌∙◌}
+use Rattle.std.proofs.lemmas.Bool.{false≢true, and_from, and_parts}
 use Rattle.std.proofs.lemmas.List.{append-nil, length_push, take_at, take-append-drop}
 use Rattle.std.proofs.Math.Seq.{take-append_seam, drop-append_seam}
 use Rattle.std.specs.BTreeMap.{is_at}
-use Rattle.std.specs.Cmp.Lexicographic.{pointwise_decides, bytes_decides}
+use Rattle.std.specs.Cmp.Lexicographic.{slice_cmp, texts_ties, nat_list_cmp_total, pointwise_decides, bytes_decides}
+use Rattle.std.specs.Ordering.{nat_cmp, is_eq, is_le, ordering_reverse, ordering_then}
+use Rattle.std.specs.declared.cmp.Ordering.{Ordering}
+use Rattle.std.specs.declared.cmp.Ordering.TheVariants.{Less, Equal, Greater}
 use Rattle.svnpath.specs.Texts.{parent}
 use Rattle.svnpath.specs.Paths.{PathValue, Component, same_component, same_path, is_at_or_under, path_cmp, path_ties}
 
@@ -47,6 +51,44 @@ rest_append p r = drop-append_seam p r
 
 pub under_itself : (p : PathValue) → is_at_or_under p p ≡ true
 under_itself p = ap (λ q. is_at_or_under q p) (sym (append-nil p)) ∙ under_append p []
+
+-- what is at or under a path is not before it
+from_step : (a b : Component) (p k : PathValue) → (is_at_or_under k p ≡ true → is_le (path_cmp p k) ≡ true)
+    → (o : Ordering) → (is_eq o && is_at_or_under k p) ≡ true → is_le (ordering_then o (path_cmp p k)) ≡ true
+from_step a b p k deeper Less under = refl
+from_step a b p k deeper Equal under = deeper under
+from_step a b p k deeper Greater under = under
+
+pub from_under : (p k : PathValue) → is_at_or_under k p ≡ true → is_le (path_cmp p k) ≡ true
+from_under [] [] under = refl
+from_under [] (b ∷ k) under = refl
+from_under (a ∷ p) [] under = under
+from_under (a ∷ p) (b ∷ k) under =
+    from_step a b p k (from_under p k) (slice_cmp nat_cmp a b) (ap (λ e. e && is_at_or_under k p) (sym (texts_ties a b)) ∙ under)
+
+-- and stands together: all from the path on up to what is under it is so
+between_step : (a b : Component) (p k m : PathValue)
+    → (is_le (path_cmp p k) ≡ true → is_le (path_cmp k m) ≡ true → is_at_or_under k p ≡ true)
+    → (o : Ordering) → slice_cmp nat_cmp a b ≡ o → is_le (ordering_then o (path_cmp p k)) ≡ true
+    → is_le (ordering_then (ordering_reverse o) (path_cmp k m)) ≡ true
+    → (same_component a b && is_at_or_under k p) ≡ true
+between_step a b p k m deeper Less is from to = absurd (false≢true to)
+between_step a b p k m deeper Equal is from to =
+    and_from (same_component a b) (is_at_or_under k p) (texts_ties a b ∙ ap is_eq is) (deeper from to)
+between_step a b p k m deeper Greater is from to = absurd (false≢true from)
+
+pub between_under : (p k m : PathValue) → is_le (path_cmp p k) ≡ true → is_le (path_cmp k m) ≡ true
+    → is_at_or_under m p ≡ true → is_at_or_under k p ≡ true
+between_under [] k m from to under = refl
+between_under (a ∷ p) [] m from to under = absurd (false≢true from)
+between_under (a ∷ p) (b ∷ k) [] from to under = absurd (false≢true under)
+between_under (a ∷ p) (b ∷ k) (c ∷ m) from to under =
+    between_step a b p k m (λ first then. between_under p k m first then parts.1) (slice_cmp nat_cmp a b) refl from
+    (ap (λ o. is_le (ordering_then o (path_cmp k m)))
+    (sym (nat_list_cmp_total.antisymm b a) ∙ ap (slice_cmp nat_cmp b) (same_component_is a c parts.0)) ∙ to)
+  where
+    parts : (same_component a c ≡ true) × (is_at_or_under m p ≡ true)
+    parts = and_parts (same_component a c) (is_at_or_under m p) under
 
 -- the path of an entry lies under its directory, which is its parent
 pub parent_child : (p : PathValue) (c : Component) → parent (p ++ c ∷ []) ≡ Some p

@@ -1,7 +1,7 @@
-use Rattle.std.proofs.Common.{arith, sym, subst, ap, ◌∙◌, ◌≡◌, ◌≤◌, take, length, get_or, Some, None, true, false}
+use Rattle.std.proofs.Common.{arith, sym, subst, ◌∙◌, ◌≡◌, ◌≤◌, take, length, get_or, Some, None}
 use Rattle.repo_api.specs.States.{trees_in}
 use Rattle.reports.specs.Finding.{IsLastAbove}
-use Rattle.reports.specs.Reported.{has_directory, has_place, reported}
+use Rattle.reports.specs.Reported.{reported}
 use Rattle.reports.proofs.Deciding.{shows_both, placed_in, unplaced_in, held_by}
 use Rattle.reports.proofs.Finding.{none_at, placed_at, surely_at, unplaced_at}
 use Rattle.reports.proofs.reported.+graft_among.Goals as goal

@@ -1,6 +1,5 @@
-use Rattle.std.proofs.Common.{rules, ◌≡◌, ap, length, get_or, IfOk, ◌++◌, drop, subst, sym, ◌∙◌}
+use Rattle.std.proofs.Common.{◌≡◌, ap, length, get_or, IfOk, subst, sym}
 use Rattle.reports.specs.Finding.{IsLastAbove}
-use Rattle.reports.specs.Reported.{origin}
 use Rattle.reports.proofs.Finding.{origin_none, origin_some, within_path}
 use Rattle.reports.proofs.sources.origin.Goals as goal
 

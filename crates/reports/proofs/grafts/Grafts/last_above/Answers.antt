@@ -9,9 +9,12 @@ loop-name-preserved c =
     let k = c.loop-name.name-index in
     let lt = c.loop-name-test.true in
     let long = ap length c.components-name-items.ensures in (
-      next_above c.args.path.now c.components-name-items.result.now c.loop-name.above c.in_ok-above.above k c.name-item.result c.in_ok-clone.field-0 c.components-name-items.ensures c.loop-name-test.true c.name-item.is c.in_ok-clone.ensures.cases kept.0 c.in_ok-above.ensures,
-      subst (λ o. IsLastOf (over c.args.path.now (k + 1)) c.args.self.now c.args.count o) (sym c.later-last.ensures)
-          (last_more c.args.self.now c.args.count c.args.path.now c.loop-name.above k c.loop-name.last c.last_at.result kept.0 (omega (lt, long, arith)) kept.1 c.last_at.ensures),
+      next_above c.args.path.now c.components-name-items.result.now c.loop-name.above c.in_ok-above.above k
+          c.name-item.result c.in_ok-clone.field-0 c.components-name-items.ensures lt c.name-item.is
+          c.in_ok-clone.ensures.cases kept.0 c.in_ok-above.ensures,
+      subst (IsLastOf (over c.args.path.now (k + 1)) c.args.self.now c.args.count) (sym c.later-last.ensures)
+          (last_more c.args.self.now c.args.count c.args.path.now c.loop-name.above k c.loop-name.last c.last_at.result
+          kept.0 kept.1 c.last_at.ensures (omega (lt, long, arith))),
     )
 
 pub returns : goal.returns
@@ -21,5 +24,6 @@ returns c =
     let ge = c.loop-name-test.false in
     let end = c.loop-name.auto.name-index-end in
     let long = ap length c.components-name-items.ensures in
-    subst (λ o. IsLastAbove c.args.path.now c.args.self.now c.args.count o) (sym c.later.ensures)
-    (last_all c.args.self.now c.args.count c.args.path.now c.loop-name.above k c.loop-name.last c.last_at-2.result kept.0 (omega (ge, end, long, arith)) kept.1 c.last_at-2.ensures)
+    subst (IsLastAbove c.args.path.now c.args.self.now c.args.count) (sym c.later.ensures)
+    (last_all c.args.self.now c.args.count c.args.path.now c.loop-name.above k c.loop-name.last c.last_at-2.result
+    kept.0 kept.1 c.last_at-2.ensures (omega (ge, end, long, arith)))

@@ -1,4 +1,4 @@
-use Rattle.std.proofs.Common.{◌≡◌, ℕ, ◌≤◌, ◌+◌}
+use Rattle.std.proofs.Common.{ℕ, ◌≤◌, ◌+◌}
 use Rattle.std.specs.Option.{option_map_or}
 use Rattle.reports.specs.Finding.{IsLastAt}
 use Rattle.reports.proofs.grafts.Grafts.last_at.Given as goal
