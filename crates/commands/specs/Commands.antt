@@ -3,8 +3,8 @@ use Rattle.std.specs.Prelude.{ℕ, Bool, true, false, List, [], ◌∷◌, Optio
 use Rattle.std.specs.List.{find}
 use Rattle.std.specs.Option.{option_map_or}
 use Rattle.items.specs.Values.{ItemValue, ItemValues, none, more}
-use Rattle.forms.specs.Forms.{◌>>=◌, is_name, command_form, number_first, string_first, list_first, flag_first, revision_first, items_in, optional_number, optional_string, pairs, strings, numbers}
-use Rattle.report_commands.specs.Asking.{update, switch, status}
+use Rattle.wire_forms.specs.Forms.{◌>>=◌, is_name, command_form, number_first, string_first, list_first, flag_first, revision_first, items_in, optional_number, optional_string, pairs, strings, numbers}
+use Rattle.wire_reports.specs.Asking.{update, switch, status}
 use Rattle.commands.specs.Logins.{are_words}
 use Rattle.commands.specs.declared.command.CommandName.{CommandName}
 use Rattle.commands.specs.declared.command.CommandName.TheVariants as names
@@ -12,8 +12,8 @@ use Rattle.commands.specs.declared.command.MainCommand.{MainCommand}
 use Rattle.commands.specs.declared.command.MainCommand.TheVariants.{GetLatestRev, CheckPath, RevProplist, Commit, AbortEdit, Lock, Unlock, GetLock, GetLocks, GetFile, GetDir, Stat, GetDatedRev, RevProp, ChangeRevProp, Reparent, Log, GetLocations, Update, Switch, Status}
 use Rattle.repo_api.specs.declared.property_ask.PreviousValue.{PreviousValue}
 use Rattle.repo_api.specs.declared.property_ask.PreviousValue.TheVariants.{Any, Exactly}
-use Rattle.forms.specs.declared.fault.CommandFault.{CommandFault}
-use Rattle.forms.specs.declared.fault.CommandFault.TheVariants.{UnknownName, BadParameters}
+use Rattle.wire_forms.specs.declared.fault.CommandFault.{CommandFault}
+use Rattle.wire_forms.specs.declared.fault.CommandFault.TheVariants.{UnknownName, BadParameters}
 
 -- `( path [ rev ] )`
 abbrev pub check_path : ItemValues → Option MainCommand

@@ -2,22 +2,22 @@
 ghost use Rattle.items.specs.View.{value_of, values_of};
 ghost use Rattle.std.specs.Prelude.{◌≡◌, option_copied, option_map};
 ghost use Rattle.std.specs.List.{find};
-ghost use Rattle.forms.specs.Answering.{Answers, Reads};
-ghost use Rattle.forms.specs.Forms.{is_name};
+ghost use Rattle.wire_forms.specs.Answering.{Answers, Reads};
+ghost use Rattle.wire_forms.specs.Forms.{is_name};
 ghost use Rattle.commands.specs.Commands.{main_command, main_command_name, name_text, main_command_with, check_path, rev_proplist, locks_first, properties_at_end, commit, lock, unlock, get_lock, get_locks, path_first, get_file, get_dir, has_fields, stat, get_dated_rev, rev_prop, change_rev_prop, change_rev_prop2, previous_value, reparent, limit_at_end, log_command, get_locations};
 
 use crate::login::are_words;
 use byte_string::ByteString;
-use forms::CommandFault::{self, BadParameters, UnknownName};
-use forms::{
+use items::Item;
+use repo_api::{PreviousValue, PropertyAsk};
+use std::alloc::Global;
+use wire_forms::CommandFault::{self, BadParameters, UnknownName};
+use wire_forms::{
     Numbers, Pairs, Strings, copy_optional, read_flag, read_form, read_items, read_list,
     read_number, read_numbers, read_optional_number, read_optional_string, read_pairs,
     read_revision, read_string, read_strings,
 };
-use items::Item;
-use repo_api::{PreviousValue, PropertyAsk};
-use report_commands::{DriveRequest, read_status, read_switch, read_update};
-use std::alloc::Global;
+use wire_reports::{DriveRequest, read_status, read_switch, read_update};
 
 /// What a `commit` hands in.
 #[derive(Drop)]

@@ -1,16 +1,16 @@
 //! What a client sends before its first command.
 ghost use Rattle.std.specs.Prelude.{◌≡◌, option_map};
 ghost use Rattle.items.specs.View.{value_of, values_of};
-ghost use Rattle.forms.specs.Answering.{Answers};
+ghost use Rattle.wire_forms.specs.Answering.{Answers};
 ghost use Rattle.commands.specs.Logins.{client_greeting, auth_response, challenge_answer, are_words, has_word, optional_client};
 
 use byte_string::ByteString;
-use forms::CommandFault::{self, BadParameters};
-use forms::{
-    copy_optional, read_items, read_list, read_number, read_optional_string, read_string, read_word,
-};
 use items::Item;
 use std::alloc::Global;
+use wire_forms::CommandFault::{self, BadParameters};
+use wire_forms::{
+    copy_optional, read_items, read_list, read_number, read_optional_string, read_string, read_word,
+};
 
 /// The client's answer to the greeting.
 #[derive(Drop)]

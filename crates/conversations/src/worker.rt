@@ -3,8 +3,8 @@ ghost use Rattle.std.specs.Prelude.{◌≡◌, ◌++◌, [], ◌∷◌, true, On
 ghost use Rattle.std.specs.Io.KnownBytes.{Appends, IsAtEnd};
 ghost use Rattle.repo_api.specs.Soundness.{AreSound};
 ghost use Rattle.access.specs.Points.{content_of};
-ghost use Rattle.replies.specs.Replies.{print};
-ghost use Rattle.replies.specs.declared.reply.Reply.TheVariants.{Greeting};
+ghost use Rattle.wire_replies.specs.Replies.{print};
+ghost use Rattle.wire_replies.specs.declared.reply.Reply.TheVariants.{Greeting};
 ghost use Rattle.machine.specs.Stages.{is_open, StandsOn};
 ghost use Rattle.machine.specs.Steps.{FeedWritten, FeedLost};
 ghost use Rattle.machine.specs.declared.phase.Phase.TheVariants.{Greeted};
@@ -20,12 +20,12 @@ use crate::watch::Watch;
 use access::RepoAccess;
 use byte_string::ByteString;
 use machine::{Env, Options, Turn};
-use replies::Reply;
 use repo_api::Repository;
 use session::Session;
 use std::alloc::Global;
 use std::io;
 use std::io::{Read, Write};
+use wire_replies::Reply;
 
 /// How many bytes of an item that is not whole yet are held at most, but for a piece: 64 MiB.
 const MAX_UNREAD: usize = 67_108_864;

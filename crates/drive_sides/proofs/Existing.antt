@@ -15,24 +15,24 @@ use Rattle.repo_api.specs.Trees.{Tree, revision_of}
 use Rattle.repo_api.specs.declared.entry.Content.{Content}
 use Rattle.repo_api.specs.declared.entry.Content.TheVariants.{Directory, File}
 use Rattle.repo_api.specs.declared.entry.Entry.{Entry}
-use Rattle.drives.proofs.Joined.{any_append, or_left, or_right, and_both}
-use Rattle.drives.specs.Scopes.{below, depth_below}
-use Rattle.drives.specs.Steps.{node_of, property_values}
-use Rattle.drives.specs.declared.depth.Depth.{Depth}
-use Rattle.drives.specs.declared.depth.Depth.TheVariants.{Empty, Files, Immediates, Infinity}
-use Rattle.entry_news.proofs.Changes.{none_changed}
-use Rattle.entry_news.specs.News.{property_changes}
-use Rattle.entry_news.specs.Places.{AreLike, AreUnlike}
+use Rattle.drive_rules.proofs.Joined.{any_append, or_left, or_right, and_both}
+use Rattle.drive_rules.specs.Scopes.{below, depth_below}
+use Rattle.drive_rules.specs.Steps.{node_of, property_values}
+use Rattle.drive_rules.specs.declared.depth.Depth.{Depth}
+use Rattle.drive_rules.specs.declared.depth.Depth.TheVariants.{Empty, Files, Immediates, Infinity}
+use Rattle.drive_news.proofs.Changes.{none_changed}
+use Rattle.drive_news.specs.News.{property_changes}
+use Rattle.drive_news.specs.Places.{AreLike, AreUnlike}
 use Rattle.reporter.proofs.Children.{AreDistinct, children_all, children_are}
 use Rattle.reporter.proofs.Existing.{IsDecided, IsListed, some_left}
 use Rattle.reporter.specs.Left.{IsLeft}
 use Rattle.reporter.specs.declared.unvisited.Unvisited.{Unvisited}
 use Rattle.reporter.specs.declared.visit.Visit.{Visit}
-use Rattle.reports.proofs.Holding.{comparable}
-use Rattle.reports.specs.Reported.{ReportedTree, has_place, in_graft, in_subtree, left_by, reported_as, with_graft}
-use Rattle.reports.specs.Targets.{WholeReport, goal_path, new_tree, old_tree, stale_in}
-use Rattle.reports.specs.declared.graft.Graft.{Graft}
-use Rattle.reports.specs.declared.graft.Subtree.{Subtree}
+use Rattle.drive_reports.proofs.Holding.{comparable}
+use Rattle.drive_reports.specs.Reported.{ReportedTree, has_place, in_graft, in_subtree, left_by, reported_as, with_graft}
+use Rattle.drive_reports.specs.Targets.{WholeReport, goal_path, new_tree, old_tree, stale_in}
+use Rattle.drive_reports.specs.declared.graft.Graft.{Graft}
+use Rattle.drive_reports.specs.declared.graft.Subtree.{Subtree}
 use Rattle.drive_sides.proofs.Listing.{among_over, among_target, above_child, in_new, in_old, under_target}
 use Rattle.drive_sides.proofs.Naming.{among_there}
 use Rattle.drive_sides.specs.BoundLaws.{new_is_shorter}

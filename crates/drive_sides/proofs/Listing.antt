@@ -11,18 +11,18 @@ use Rattle.repo_api.specs.Readings.{name_in, names_at}
 use Rattle.repo_api.specs.States.{RepoState, tree_at, trees_in}
 use Rattle.repo_api.specs.Trees.{Tree, is_directory}
 use Rattle.repo_api.specs.declared.entry.Entry.{Entry}
-use Rattle.drives.proofs.Joined.{or_left, or_right}
-use Rattle.drives.proofs.Entries.{no_length}
-use Rattle.drives.specs.Scopes.{below, depth_below, HoldsTogether}
-use Rattle.drives.specs.declared.depth.Depth.{Depth}
-use Rattle.drives.specs.declared.depth.Depth.TheVariants.{Empty, Files, Immediates, Infinity}
-use Rattle.reports.proofs.Holding.{below_longer, longer_below}
-use Rattle.reports.specs.Places.{in_place, is_grafted_over, reported_subtree}
-use Rattle.reports.specs.Reported.{ReportedEntry, left_by, reported_entries, reported_as}
-use Rattle.reports.specs.Targets.{WholeReport, client_tree, drive_scope, goal_path, new_tree, old_tree, target_tree}
-use Rattle.reports.specs.declared.ask.DriveAsk.{DriveAsk}
-use Rattle.reports.specs.declared.graft.Graft.{Graft}
-use Rattle.reports.specs.declared.reported.ReportedPlace.{ReportedPlace}
+use Rattle.drive_rules.proofs.Joined.{or_left, or_right}
+use Rattle.drive_rules.proofs.Entries.{no_length}
+use Rattle.drive_rules.specs.Scopes.{below, depth_below, HoldsTogether}
+use Rattle.drive_rules.specs.declared.depth.Depth.{Depth}
+use Rattle.drive_rules.specs.declared.depth.Depth.TheVariants.{Empty, Files, Immediates, Infinity}
+use Rattle.drive_reports.proofs.Holding.{below_longer, longer_below}
+use Rattle.drive_reports.specs.Places.{in_place, is_grafted_over, reported_subtree}
+use Rattle.drive_reports.specs.Reported.{ReportedEntry, left_by, reported_entries, reported_as}
+use Rattle.drive_reports.specs.Targets.{WholeReport, client_tree, drive_scope, goal_path, new_tree, old_tree, target_tree}
+use Rattle.drive_reports.specs.declared.ask.DriveAsk.{DriveAsk}
+use Rattle.drive_reports.specs.declared.graft.Graft.{Graft}
+use Rattle.drive_reports.specs.declared.reported.ReportedPlace.{ReportedPlace}
 use Rattle.drive_sides.specs.Names.{is_name_among, graft_names}
 use Rattle.drive_sides.proofs.Naming.{among_there, among_grafts, is_named, name_of_child}
 

@@ -11,12 +11,12 @@ use Rattle.std.specs.declared.cmp.Ordering.{Ordering}
 use Rattle.std.specs.declared.cmp.Ordering.TheVariants.{Less, Equal, Greater}
 use Rattle.svnpath.specs.Paths.{PathValue, Component, same_path, same_component}
 use Rattle.svnpath.specs.PathLaws.{same_path_is, same_component_is, same_component_refl, under_append, rest_append}
-use Rattle.drives.proofs.Joined.{or_left, or_right}
+use Rattle.drive_rules.proofs.Joined.{or_left, or_right}
 use Rattle.repo_api.specs.Readings.{sole, name_in, names_among, names_in}
 use Rattle.repo_api.specs.States.{TreeMap}
 use Rattle.drive_sides.specs.BoundLaws.{key_found}
 use Rattle.drive_sides.specs.Names.{is_name_among, graft_names, AreDistinct}
-use Rattle.reports.specs.declared.graft.Graft.{Graft}
+use Rattle.drive_reports.specs.declared.graft.Graft.{Graft}
 use Rattle.std.proofs.lemmas.Map.Keys.{sorted_head, sorted_tail}
 use Rattle.std.specs.List.{AllByRecursion}
 use Rattle.std.specs.List.Sorted.{IsStrictlySortedBy}

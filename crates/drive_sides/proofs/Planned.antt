@@ -2,7 +2,7 @@
 use Rattle.std.proofs.Common.{◌≡◌, ◌==◌, ◌+◌, ◌++◌, not, option_map, Bool, true, false, cond, ◌&&◌, List, [], ◌∷◌, length, drop, Option, Some, None, Ok, refl, sym, ap, ◌∙◌, subst}
 use Rattle.std.proofs.lemmas.Bool.{false≢true}
 use Rattle.std.proofs.lemmas.List.{append-nil}
-use Rattle.drives.proofs.Joined.{or_right}
+use Rattle.drive_rules.proofs.Joined.{or_right}
 use Rattle.std.specs.Prelude.{ok_or, IsSomeAnd, IsTrue}
 use Rattle.svnpath.specs.Paths.{PathValue, is_at_or_under, same_path}
 use Rattle.svnpath.specs.PathLaws.{same_path_refl}
@@ -11,21 +11,21 @@ use Rattle.repo_api.specs.Soundness.{AreTrees}
 use Rattle.repo_api.specs.States.{RepoState, trees_in}
 use Rattle.repo_api.specs.Trees.{is_directory, is_directory_there}
 use Rattle.repo_api.specs.declared.entry.Entry.{Entry}
-use Rattle.drives.specs.Places.{is_in_directory}
-use Rattle.drives.specs.Scopes.{scope_of, under}
-use Rattle.drive_commands.specs.Sent.{seen_by}
-use Rattle.entry_news.specs.News.{own_steps_of}
+use Rattle.drive_rules.specs.Places.{is_in_directory}
+use Rattle.drive_rules.specs.Scopes.{scope_of, under}
+use Rattle.drive_wire.specs.Sent.{seen_by}
+use Rattle.drive_news.specs.News.{own_steps_of}
 use Rattle.reporter.specs.Nesting.{AreNested}
 use Rattle.reporter.specs.Visits.{IsRightPlan}
 use Rattle.reporter.specs.Walks.{BothHold}
 use Rattle.reporter.specs.declared.visit.Visit.{Visit}
 use Rattle.reporter.specs.declared.visit.Visit.TheVariants.{Open}
-use Rattle.reports.proofs.Drives.{both_hold}
-use Rattle.reports.specs.Refusing.{OpenState, ◌>>=◌, ok_if, has_goal, has_anchor, finish_root}
-use Rattle.reports.specs.Reported.{ReportedEntry, reported_entries}
-use Rattle.reports.specs.Reported as reported
-use Rattle.reports.specs.Targets.{WholeReport, client_tree, drive_scope, limit_of, target_tree, reported_tree, old_tree, new_tree, stale_in}
-use Rattle.reports.specs.declared.report.ReportRoot.{ReportRoot}
+use Rattle.drive_reports.proofs.Drives.{both_hold}
+use Rattle.drive_reports.specs.Refusing.{OpenState, ◌>>=◌, ok_if, has_goal, has_anchor, finish_root}
+use Rattle.drive_reports.specs.Reported.{ReportedEntry, reported_entries}
+use Rattle.drive_reports.specs.Reported as reported
+use Rattle.drive_reports.specs.Targets.{WholeReport, client_tree, drive_scope, limit_of, target_tree, reported_tree, old_tree, new_tree, stale_in}
+use Rattle.drive_reports.specs.declared.report.ReportRoot.{ReportRoot}
 use Rattle.drive_sides.specs.Plans.{IsPlan, whole}
 
 -- ---- what is known of a report that has come to its end

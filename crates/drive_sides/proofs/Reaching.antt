@@ -3,27 +3,27 @@ use Rattle.std.proofs.Common.{◌≡◌, arith, add-one, drop-cons, get_or, not,
 use Rattle.std.proofs.lemmas.Bool.{false≢true}
 use Rattle.svnpath.specs.Paths.{PathValue, Component, is_at_or_under}
 use Rattle.repo_api.specs.Trees.{Tree}
-use Rattle.drives.specs.declared.depth.Depth.{Depth}
-use Rattle.drives.specs.Scopes.{DepthLimit, stays_in_scope, lets_in, depth_said, said_or, scope_of, top_limit}
-use Rattle.drives.specs.Scopes.DepthLimit.{Given}
-use Rattle.drives.specs.declared.depth.Depth.TheVariants.{Empty, Files, Immediates, Infinity}
+use Rattle.drive_rules.specs.declared.depth.Depth.{Depth}
+use Rattle.drive_rules.specs.Scopes.{DepthLimit, stays_in_scope, lets_in, depth_said, said_or, scope_of, top_limit}
+use Rattle.drive_rules.specs.Scopes.DepthLimit.{Given}
+use Rattle.drive_rules.specs.declared.depth.Depth.TheVariants.{Empty, Files, Immediates, Infinity}
 use Rattle.repo_api.specs.States.{RepoState}
 use Rattle.repo_api.specs.States.{trees_in}
 use Rattle.repo_api.specs.declared.entry.Entry.{Entry}
 use Rattle.std.specs.Prelude.{Option, Some, None, cond, fold, option_map, option_and_then}
-use Rattle.drives.specs.Scopes.{depth_below}
-use Rattle.drives.specs.Scopes.DepthLimit.{Reported}
-use Rattle.reports.specs.Reported.{ReportedEntry, ReportedTree, reported_entries, reported_as, top_entry, left_by}
-use Rattle.reports.specs.Reported.{in_subtree, in_graft, with_graft, has_place, has_directory}
-use Rattle.reports.specs.declared.graft.Graft.{Graft}
-use Rattle.reports.specs.declared.graft.Subtree.{Subtree}
-use Rattle.reports.specs.Targets.{WholeReport, client_tree, drive_scope, limit_of, reported_depth, target_tree}
-use Rattle.reports.specs.Depths.{is_shallow, is_to_the_end}
+use Rattle.drive_rules.specs.Scopes.{depth_below}
+use Rattle.drive_rules.specs.Scopes.DepthLimit.{Reported}
+use Rattle.drive_reports.specs.Reported.{ReportedEntry, ReportedTree, reported_entries, reported_as, top_entry, left_by}
+use Rattle.drive_reports.specs.Reported.{in_subtree, in_graft, with_graft, has_place, has_directory}
+use Rattle.drive_reports.specs.declared.graft.Graft.{Graft}
+use Rattle.drive_reports.specs.declared.graft.Subtree.{Subtree}
+use Rattle.drive_reports.specs.Targets.{WholeReport, client_tree, drive_scope, limit_of, reported_depth, target_tree}
+use Rattle.drive_reports.specs.Depths.{is_shallow, is_to_the_end}
 use Rattle.drive_sides.specs.Depths.{FollowsWholeReport}
-use Rattle.drives.proofs.Joined.{or_false}
+use Rattle.drive_rules.proofs.Joined.{or_false}
 use Rattle.std.specs.List.{list_any}
 use Rattle.std.specs.Option.{option_map_or}
-use Rattle.reports.specs.declared.ask.DepthAsked.TheVariants as asks
+use Rattle.drive_reports.specs.declared.ask.DepthAsked.TheVariants as asks
 
 all_reached : (old new : Tree) (here : PathValue) (names : List Component) → stays_in_scope (Given Infinity) old new here Infinity names ≡ true
 all_reached old new here [] = refl

@@ -9,18 +9,18 @@ use Rattle.repo_api.specs.Readings.{IsSameAt}
 use Rattle.repo_api.specs.States.{RepoState, trees_in}
 use Rattle.repo_api.specs.Trees.{Tree}
 use Rattle.repo_api.specs.declared.entry.Entry.{Entry}
-use Rattle.drives.proofs.Entries.{under_more}
-use Rattle.drives.proofs.Joined.{or_false}
-use Rattle.drives.specs.Scopes.{below, depth_below}
-use Rattle.drives.specs.declared.depth.Depth.TheVariants.{Infinity}
+use Rattle.drive_rules.proofs.Entries.{under_more}
+use Rattle.drive_rules.proofs.Joined.{or_false}
+use Rattle.drive_rules.specs.Scopes.{below, depth_below}
+use Rattle.drive_rules.specs.declared.depth.Depth.TheVariants.{Infinity}
 use Rattle.reporter.specs.Walks.{AreAlike}
-use Rattle.reports.proofs.Whole.{in_whole}
-use Rattle.reports.specs.Places.{in_place, is_grafted_over, reported_subtree}
-use Rattle.reports.specs.Reported.{ReportedEntry, reported_entries, left_by, reported_as}
-use Rattle.reports.specs.Targets.{WholeReport, client_tree, drive_scope, goal_path, is_stale, is_stale_token, new_tree, old_tree, stale_in, target_tree}
-use Rattle.reports.specs.declared.ask.DriveAsk.{DriveAsk}
-use Rattle.reports.specs.declared.graft.Graft.{Graft}
-use Rattle.reports.specs.declared.reported.ReportedPlace.{ReportedPlace}
+use Rattle.drive_reports.proofs.Whole.{in_whole}
+use Rattle.drive_reports.specs.Places.{in_place, is_grafted_over, reported_subtree}
+use Rattle.drive_reports.specs.Reported.{ReportedEntry, reported_entries, left_by, reported_as}
+use Rattle.drive_reports.specs.Targets.{WholeReport, client_tree, drive_scope, goal_path, is_stale, is_stale_token, new_tree, old_tree, stale_in, target_tree}
+use Rattle.drive_reports.specs.declared.ask.DriveAsk.{DriveAsk}
+use Rattle.drive_reports.specs.declared.graft.Graft.{Graft}
+use Rattle.drive_reports.specs.declared.reported.ReportedPlace.{ReportedPlace}
 
 none_over : (grafts : List Graft) (p q : PathValue) → list_any (λ (g : Graft). below p g.path) grafts ≡ false → is_grafted_over grafts p q ≡ false
 none_over [] p q none = refl

@@ -9,8 +9,8 @@ use Rattle.svnpath.specs.Paths.{PathValue, is_at_or_under, same_path, path_ties}
 use Rattle.svnpath.specs.PathLaws.{same_path_is, under_is}
 use Rattle.repo_api.specs.States.{RepoState, TreeMap, tree_at}
 use Rattle.reporter.specs.Walks.{IsShorter}
-use Rattle.reports.specs.Targets.{WholeReport, drive_scope, goal_path, new_tree}
-use Rattle.reports.specs.declared.ask.DriveAsk.{DriveAsk}
+use Rattle.drive_reports.specs.Targets.{WholeReport, drive_scope, goal_path, new_tree}
+use Rattle.drive_reports.specs.declared.ask.DriveAsk.{DriveAsk}
 use Rattle.drive_sides.specs.Bounds.{names_altogether, path_bound}
 
 -- a map has something at its keys alone

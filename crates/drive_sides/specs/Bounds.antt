@@ -3,7 +3,7 @@ use Rattle.std.specs.Prelude.{ℕ, ◌+◌, List, [], ◌∷◌, length}
 use Rattle.std.specs.FinMap.{keys}
 use Rattle.svnpath.specs.Paths.{PathValue}
 use Rattle.repo_api.specs.States.{RepoState, tree_at}
-use Rattle.reports.specs.declared.ask.DriveAsk.{DriveAsk}
+use Rattle.drive_reports.specs.declared.ask.DriveAsk.{DriveAsk}
 
 -- how many names all these paths have
 abbrev pub names_altogether : List PathValue → ℕ

@@ -3,7 +3,7 @@ use Rattle.std.specs.Prelude.{◌≡◌, Bool, false, List, [], ◌∷◌, ◌++
 use Rattle.std.specs.List.{list_any}
 use Rattle.svnpath.specs.Paths.{PathValue, Component, same_component}
 use Rattle.repo_api.specs.Readings.{names_among}
-use Rattle.reports.specs.declared.graft.Graft.{Graft}
+use Rattle.drive_reports.specs.declared.graft.Graft.{Graft}
 
 -- the name is one of these
 abbrev pub is_name_among : List Component → Component → Bool

@@ -2,18 +2,18 @@
 use Rattle.std.specs.Prelude.{◌≡◌, List, [], ◌∷◌, Some, if◌then◌else◌}
 use Rattle.svnpath.specs.Paths.{PathValue, same_path}
 use Rattle.repo_api.specs.States.{RepoState}
-use Rattle.drives.specs.Scopes.{under}
+use Rattle.drive_rules.specs.Scopes.{under}
 use Rattle.reporter.specs.Nesting.{walk}
 use Rattle.reporter.specs.Visits.{IsRightPlan}
 use Rattle.reporter.specs.Walks.{WalkedTrees}
 use Rattle.reporter.specs.declared.visit.Visit.{Visit}
 use Rattle.reporter.specs.declared.visit.Visit.TheVariants.{Open}
-use Rattle.reports.specs.Refusing.{OpenState}
-use Rattle.reports.specs.Targets.{WholeReport, old_tree, new_tree, stale_in}
-use Rattle.reports.specs.declared.ask.DriveAsk.{DriveAsk}
-use Rattle.reports.specs.declared.report.ReportRoot.{ReportRoot}
-use Rattle.drive_commands.specs.Sent.{seen_by}
-use Rattle.entry_news.specs.News.{own_steps_of}
+use Rattle.drive_reports.specs.Refusing.{OpenState}
+use Rattle.drive_reports.specs.Targets.{WholeReport, old_tree, new_tree, stale_in}
+use Rattle.drive_reports.specs.declared.ask.DriveAsk.{DriveAsk}
+use Rattle.drive_reports.specs.declared.report.ReportRoot.{ReportRoot}
+use Rattle.drive_wire.specs.Sent.{seen_by}
+use Rattle.drive_news.specs.News.{own_steps_of}
 
 -- a report that has come to its end
 abbrev pub whole : OpenState → ReportRoot → WholeReport

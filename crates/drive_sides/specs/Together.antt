@@ -5,7 +5,7 @@ use Rattle.std.specs.Prelude.{IsTrue, IsSomeAnd}
 use Rattle.repo_api.specs.States.{Revision, trees_in}
 use Rattle.repo_api.specs.Trees.{is_directory}
 use Rattle.repo_api.specs.declared.entry.Entry.{Entry}
-use Rattle.reports.specs.Places.{AllHoldTogether}
+use Rattle.drive_reports.specs.Places.{AllHoldTogether}
 
 true_prop : (e : Entry) → IsProp (IsTrue (is_directory e))
 true_prop e = Bool-set (is_directory e) true

@@ -1,11 +1,11 @@
 //! What a client has whole.
 ghost use Rattle.std.specs.Prelude.{◌≡◌, true, false};
 ghost use Rattle.repo_api.specs.Readings.{IsSameAt};
-ghost use Rattle.drives.specs.declared.depth.Depth.TheVariants.{Infinity};
+ghost use Rattle.drive_rules.specs.declared.depth.Depth.TheVariants.{Infinity};
 
-use drives::Depth;
+use drive_reports::ReportedPlace;
+use drive_rules::Depth;
 use repo_api::Repository;
-use reports::ReportedPlace;
 use svnpath::Path;
 
 /// Whether a client has all that stands at a place and beneath it.

@@ -5,8 +5,8 @@ ghost use Rattle.repo_api.specs.Readings.{name_in, names_at};
 ghost use Rattle.drive_sides.specs.Names.{children_of, graft_names, is_name_among, AreDistinct};
 
 use byte_string::ByteString;
+use drive_reports::Graft;
 use repo_api::Repository;
-use reports::Graft;
 use std::alloc::{AllocError, Global};
 use std::collections::BTreeSet;
 use svnpath::Path;

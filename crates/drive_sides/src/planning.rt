@@ -3,7 +3,7 @@ ghost use Rattle.std.specs.Prelude.{◌≡◌, Ok, IfOk, List};
 ghost use Rattle.repo_api.specs.Soundness.{AreTrees};
 ghost use Rattle.reporter.specs.Visiting.{MayVisit};
 ghost use Rattle.reporter.specs.declared.visit.Visit.{Visit};
-ghost use Rattle.reports.specs.Refusing.{finish_root};
+ghost use Rattle.drive_reports.specs.Refusing.{finish_root};
 ghost use Rattle.drive_sides.specs.Plans.{IsPlan, drive_trees, whole};
 
 use crate::two_trees::TwoTrees;

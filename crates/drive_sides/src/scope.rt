@@ -3,18 +3,18 @@ ghost use Rattle.std.specs.Prelude.{◌≡◌, true, Option, IfOk};
 ghost use Rattle.svnpath.specs.Paths.{is_at_or_under};
 ghost use Rattle.repo_api.specs.Kinds.{kind_of};
 ghost use Rattle.repo_api.specs.declared.entry.Entry.{Entry};
-ghost use Rattle.drives.specs.Scopes.{brings_in, keeps_old, lets_in, depth_said, said_or, top_limit};
-ghost use Rattle.drives.specs.declared.depth.Depth.TheVariants.{Infinity};
-ghost use Rattle.reports.specs.Reported.{reported_entries};
-ghost use Rattle.reports.specs.Targets.{client_tree, drive_scope, limit_of, reported_depth, target_tree};
-ghost use Rattle.reports.specs.declared.ask.DepthAsked.TheVariants.{AsReported, Given};
+ghost use Rattle.drive_rules.specs.Scopes.{brings_in, keeps_old, lets_in, depth_said, said_or, top_limit};
+ghost use Rattle.drive_rules.specs.declared.depth.Depth.TheVariants.{Infinity};
+ghost use Rattle.drive_reports.specs.Reported.{reported_entries};
+ghost use Rattle.drive_reports.specs.Targets.{client_tree, drive_scope, limit_of, reported_depth, target_tree};
+ghost use Rattle.drive_reports.specs.declared.ask.DepthAsked.TheVariants.{AsReported, Given};
 ghost use Rattle.drive_sides.specs.Plans.{whole};
 ghost use Rattle.drive_sides.specs.Depths.{FollowsWholeReport};
 
 use crate::two_trees::TwoTrees;
-use drives::Depth;
+use drive_reports::{DepthAsked, is_to_the_end};
+use drive_rules::Depth;
 use repo_api::{NodeKind, Repository};
-use reports::{DepthAsked, is_to_the_end};
 use std::alloc::{AllocError, Global};
 use svnpath::Path;
 

@@ -4,7 +4,7 @@ use crate::names::{children_of, put_graft_names, put_names};
 use crate::two_trees::TwoTrees;
 use crate::views::had_at;
 use byte_string::ByteString;
-use entry_news::{Place, entries_differ};
+use drive_news::{Place, entries_differ};
 use repo_api::{NodeKind, Repository};
 use reporter::{Kinds, Sides};
 use std::alloc::{AllocError, Global};
@@ -14,10 +14,10 @@ use svnpath::Path;
 impl<'a, R: Repository> TwoTrees<'a, R> {
     ghost use Rattle.std.specs.Prelude.{◌≡◌, ◌∷◌, ◌++◌, [], false, true, is_some, IfOk, OnOk};
     ghost use Rattle.svnpath.specs.Paths.{Component, is_at_or_under};
-    ghost use Rattle.reports.specs.Places.{is_grafted_over};
-    ghost use Rattle.reports.specs.Targets.{client_tree, drive_scope, new_tree, old_tree, target_tree};
+    ghost use Rattle.drive_reports.specs.Places.{is_grafted_over};
+    ghost use Rattle.drive_reports.specs.Targets.{client_tree, drive_scope, new_tree, old_tree, target_tree};
     ghost use Rattle.drive_sides.specs.Names.{is_name_among};
-    ghost use Rattle.entry_news.specs.Places.{Compares};
+    ghost use Rattle.drive_news.specs.Places.{Compares};
     ghost use Rattle.drive_sides.specs.Plans.{whole};
 
     /// The names of what is to stand straight beneath a path.

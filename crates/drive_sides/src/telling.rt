@@ -1,14 +1,14 @@
 //! What the entries of a drive are told, and what else is to be known of them.
 ghost use Rattle.std.specs.Prelude.{◌≡◌, true, IfOk, option_and_then, option_map};
 ghost use Rattle.repo_api.specs.Kinds.{kind_of};
-ghost use Rattle.reports.specs.Targets.{client_tree, drive_scope, is_stale, new_tree, old_tree, stale_in};
-ghost use Rattle.entry_news.specs.News.{news_at, news_of};
-ghost use Rattle.entry_news.specs.Places.{entry_had};
+ghost use Rattle.drive_reports.specs.Targets.{client_tree, drive_scope, is_stale, new_tree, old_tree, stale_in};
+ghost use Rattle.drive_news.specs.News.{news_at, news_of};
+ghost use Rattle.drive_news.specs.Places.{entry_had};
 ghost use Rattle.drive_sides.specs.Plans.{whole};
 
 use crate::two_trees::TwoTrees;
 use crate::views::had_at;
-use entry_news::{Had, News, Place, Sight, news_of};
+use drive_news::{Had, News, Place, Sight, news_of};
 use repo_api::{NodeKind, Repository};
 use std::alloc::{AllocError, Global};
 use svnpath::Path;

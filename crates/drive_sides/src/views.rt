@@ -3,15 +3,15 @@ ghost use Rattle.std.specs.Prelude.{◌≡◌, ◌++◌, [], true, false, List, 
 ghost use Rattle.svnpath.specs.Paths.{Component, is_at_or_under};
 ghost use Rattle.repo_api.specs.Kinds.{kind_of};
 ghost use Rattle.repo_api.specs.States.{trees_in};
-ghost use Rattle.reports.specs.Places.{in_place, is_grafted_over};
-ghost use Rattle.reports.specs.Reported.{reported_entries};
-ghost use Rattle.reports.specs.Targets.{client_tree, goal_path, target_tree};
+ghost use Rattle.drive_reports.specs.Places.{in_place, is_grafted_over};
+ghost use Rattle.drive_reports.specs.Reported.{reported_entries};
+ghost use Rattle.drive_reports.specs.Targets.{client_tree, goal_path, target_tree};
 ghost use Rattle.drive_sides.specs.Plans.{whole};
 
 use crate::two_trees::TwoTrees;
-use entry_news::{Had, Place};
+use drive_news::{Had, Place};
+use drive_reports::{ReportedPlace, reported_at};
 use repo_api::{NodeKind, Repository};
-use reports::{ReportedPlace, reported_at};
 use std::alloc::{AllocError, Global};
 use svnpath::Path;
 

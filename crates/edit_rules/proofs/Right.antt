@@ -31,8 +31,8 @@ use Rattle.repo_api.specs.declared.entry.NodeKind.{NodeKind}
 use Rattle.repo_api.specs.declared.edit.EditOp.{EditOp}
 use Rattle.repo_api.specs.declared.edit.EditOp.TheVariants as edits
 use Rattle.repo_api.specs.declared.limits.TheConstants.{TEXT_LIMIT}
-use Rattle.edit_commands.specs.declared.editing.AddedEntry.{AddedEntry}
-use Rattle.edit_commands.specs.declared.editing.DeletedEntry.{DeletedEntry}
+use Rattle.wire_edits.specs.declared.editing.AddedEntry.{AddedEntry}
+use Rattle.wire_edits.specs.declared.editing.DeletedEntry.{DeletedEntry}
 use Rattle.edit_rules.specs.Tokens.{Tokens, directory_of, is_within, is_placed, path_of, copies_under}
 use Rattle.edit_rules.specs.Edits.{EditState, standing, created, open_in}
 use Rattle.edit_rules.specs.Refusing.{age_refusal, delete_refusal, add_refusal, place_refusal, parent_refusal, room_refusal, depth_refusal, source_refusal, adding_refusal, add_entry_refusal, delete_entry_refusal, open_under}

@@ -20,13 +20,13 @@ use Rattle.repo_api.specs.declared.entry.NodeKind.TheVariants as kinds
 use Rattle.svndiff0.specs.Applying.{fed}
 use Rattle.svndiff0.specs.Document.{Reading, opening, going, broken, outcome}
 use Rattle.svndiff0.specs.declared.fault.DiffFault.{DiffFault}
-use Rattle.forms.specs.Forms.{is_name}
-use Rattle.edit_commands.specs.declared.editing.EditorCommand.{EditorCommand}
-use Rattle.edit_commands.specs.declared.editing.EditorCommand.TheVariants.{TargetRevision, OpenRoot, DeleteEntry, AddDirectory, AddFile, OpenDirectory, OpenFile, AbsentDirectory, AbsentFile, ChangeDirectoryProperty, ChangeFileProperty, ApplyTextDelta, TextDeltaChunk, TextDeltaEnd, CloseDirectory, CloseFile, CloseEdit, AbortEdit}
-use Rattle.edit_commands.specs.declared.editing.AddedEntry.{AddedEntry}
-use Rattle.edit_commands.specs.declared.editing.OpenedEntry.{OpenedEntry}
-use Rattle.edit_commands.specs.declared.editing.DeletedEntry.{DeletedEntry}
-use Rattle.edit_commands.specs.declared.editing.AbsentEntry.{AbsentEntry}
+use Rattle.wire_forms.specs.Forms.{is_name}
+use Rattle.wire_edits.specs.declared.editing.EditorCommand.{EditorCommand}
+use Rattle.wire_edits.specs.declared.editing.EditorCommand.TheVariants.{TargetRevision, OpenRoot, DeleteEntry, AddDirectory, AddFile, OpenDirectory, OpenFile, AbsentDirectory, AbsentFile, ChangeDirectoryProperty, ChangeFileProperty, ApplyTextDelta, TextDeltaChunk, TextDeltaEnd, CloseDirectory, CloseFile, CloseEdit, AbortEdit}
+use Rattle.wire_edits.specs.declared.editing.AddedEntry.{AddedEntry}
+use Rattle.wire_edits.specs.declared.editing.OpenedEntry.{OpenedEntry}
+use Rattle.wire_edits.specs.declared.editing.DeletedEntry.{DeletedEntry}
+use Rattle.wire_edits.specs.declared.editing.AbsentEntry.{AbsentEntry}
 use Rattle.edit_rules.specs.Tokens.{directory_of, copies_under, is_within, is_placed}
 use Rattle.edit_rules.specs.Edits.{EditState, standing, created, file_text, open_in}
 use Rattle.edit_rules.specs.declared.opened.Opened.{Opened}

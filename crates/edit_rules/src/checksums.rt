@@ -1,7 +1,7 @@
 //! Checksums of texts.
 ghost use Rattle.std.specs.Prelude.{◌≡◌, IfOk};
 ghost use Rattle.hex.specs.Hex.{encode_lower};
-ghost use Rattle.forms.specs.Forms.{is_name};
+ghost use Rattle.wire_forms.specs.Forms.{is_name};
 ghost use Rattle.edit_rules.specs.Refusing.{checksum_refusal};
 ghost use Rattle.edit_rules.specs.Judging.{Judges};
 

@@ -3,9 +3,9 @@ ghost use Rattle.std.specs.Prelude.{◌≡◌, ℕ, Bool, List, Option, Some, No
 ghost use Rattle.svnpath.specs.Paths.{PathValue};
 ghost use Rattle.svnpath.specs.Texts.{joined};
 ghost use Rattle.repo_api.specs.States.{RepoState};
-ghost use Rattle.edit_commands.specs.declared.editing.EditorCommand.{EditorCommand};
-ghost use Rattle.edit_commands.specs.declared.editing.AddedEntry.{AddedEntry};
-ghost use Rattle.edit_commands.specs.declared.editing.DeletedEntry.{DeletedEntry};
+ghost use Rattle.wire_edits.specs.declared.editing.EditorCommand.{EditorCommand};
+ghost use Rattle.wire_edits.specs.declared.editing.AddedEntry.{AddedEntry};
+ghost use Rattle.wire_edits.specs.declared.editing.DeletedEntry.{DeletedEntry};
 ghost use Rattle.repo_api.specs.declared.change.Source.{Source};
 ghost use Rattle.repo_api.specs.declared.edit.EditOp.{EditOp};
 ghost use Rattle.repo_api.specs.declared.edit.EditOp.TheVariants.{Delete};

@@ -9,7 +9,6 @@ ghost use Rattle.edit_rules.specs.Soundness.{IsSoundEdit};
 ghost use Rattle.edit_rules.specs.declared.fault.EditFault.TheVariants.{Refused};
 
 use byte_string::ByteString;
-use edit_commands::EditorCommand;
 use edit_rules::{EditFault, Opened, has_unfinished, judge};
 use refusals::Refusal;
 use repo_api::{FileText, NodeKind, Repository};
@@ -18,6 +17,7 @@ use std::collections::BTreeMap;
 use std::marker::Model;
 use std::sync::Arc;
 use svnpath::Path;
+use wire_edits::EditorCommand;
 
 /// An edit on its way to a commit.
 #[derive(Drop)]

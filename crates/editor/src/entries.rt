@@ -13,7 +13,6 @@ ghost use Rattle.edit_rules.specs.declared.opened.DeltaState.TheVariants.{NotBeg
 
 use crate::editor::CommitEditor;
 use byte_string::ByteString;
-use edit_commands::{AbsentEntry, AddedEntry, DeletedEntry, OpenedEntry};
 use edit_rules::{
     DeltaState, EditFault, Opened, OpenedDirectory, close_beneath, close_others_beneath,
     copies_under, directory_under, edits_are_right, is_within, judge, judge_absence,
@@ -24,6 +23,7 @@ use refusals::Refusal;
 use repo_api::{EditOp, NodeKind, Repository, Source};
 use std::alloc::AllocError;
 use svnpath::{DEPTH_LIMIT, Path};
+use wire_edits::{AbsentEntry, AddedEntry, DeletedEntry, OpenedEntry};
 
 /// A directory that is open.
 fn opened_directory(path: Path, revision: Option<u64>, in_copy: bool) -> Opened

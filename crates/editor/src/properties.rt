@@ -8,12 +8,12 @@ ghost use Rattle.edit_rules.specs.Soundness.{IsSoundEdit};
 
 use crate::editor::CommitEditor;
 use byte_string::ByteString;
-use edit_commands::PropertyChange;
 use edit_rules::{EditFault, Opened, edits_are_right, judge_age, judge_name};
 use refusals::Refusal;
 use repo_api::{EditOp, Repository};
 use std::alloc::AllocError;
 use svnpath::Path;
+use wire_edits::PropertyChange;
 
 impl<R: Repository> CommitEditor<R> {
     /// Changes a property of a directory.

@@ -4,8 +4,8 @@ use Rattle.std.proofs.lemmas.Bool.{false≢true}
 use Rattle.repo_api.specs.States.{RepoState}
 use Rattle.repo_api.specs.Accepted.{Accepted, changed}
 use Rattle.access.specs.Points.{HasRisen}
-use Rattle.file_store.specs.declared.fault.StoreFault.{StoreFault}
-use Rattle.file_store.specs.declared.fault.StoreFault.TheVariants as store
+use Rattle.store_files.specs.declared.fault.StoreFault.{StoreFault}
+use Rattle.store_files.specs.declared.fault.StoreFault.TheVariants as store
 use Rattle.sharedrepo.specs.Archives.{Kept, SaveLeaves, is_commit}
 use Rattle.sharedrepo.specs.declared.archive.SaveFault.{SaveFault}
 use Rattle.sharedrepo.specs.declared.archive.SaveFault.TheVariants as told_as

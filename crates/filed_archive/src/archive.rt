@@ -2,11 +2,11 @@
 use crate::filed_archive::FiledArchive;
 use crate::unsaved::{ChangedFiles, Unsaved, with_hold};
 use access::Handed;
-use file_store::Store;
 use repo_api::{ChangeFault, CommitAsk, LockAsk, PropertyAsk, UnlockAsk};
 use sharedrepo::{Archive, SaveFault};
 use std::mem::drop;
-use stored_repository::Filed;
+use store_access::Filed;
+use store_files::Store;
 
 impl<F: Filed, S: Store> Archive<F> for FiledArchive<F, S> {
     ghost use Rattle.filed_archive.specs.Writing.{Writes, kept_in};

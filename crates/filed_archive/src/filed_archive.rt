@@ -1,11 +1,11 @@
 //! A repository in files that a keeper alone changes.
 ghost use Rattle.std.specs.Prelude.{◌≡◌, false};
-ghost use Rattle.file_store.specs.Folders.{Folder};
-ghost use Rattle.stored_repository.specs.Keeping.{Keeps, StandsFor};
+ghost use Rattle.store_files.specs.Folders.{Folder};
+ghost use Rattle.store_access.specs.Keeping.{Keeps, StandsFor};
 
-use file_store::Store;
 use repostore::Saves;
-use stored_repository::{Filed, StoredRepository};
+use store_access::{Filed, StoredRepository};
+use store_files::Store;
 
 /// A repository in files. While changes are saved, the files are those of the repository.
 #[derive(Drop)]

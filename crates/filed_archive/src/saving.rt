@@ -1,20 +1,20 @@
 //! What a change writes is saved, and then the repository is the next one.
 ghost use Rattle.std.specs.Prelude.{◌≡◌, ◌⊎◌, ◌↔◌, false, true, OnOk, IsErr, IsErrOf};
-ghost use Rattle.file_store.specs.Moments.{LeavesOnly, HasRisen};
+ghost use Rattle.store_files.specs.Moments.{LeavesOnly, HasRisen};
 ghost use Rattle.filed_archive.specs.Writing.{Fits, Writes, is_revision, kept_in, written};
 ghost use Rattle.repo_api.specs.Accepted.{Accepted, changed};
 ghost use Rattle.repostore.specs.Files.{Files, HasEither};
 ghost use Rattle.repostore.specs.Saving.{IsSaved};
 ghost use Rattle.sharedrepo.specs.Archives.{SaveLeaves};
-ghost use Rattle.stored_repository.specs.Keeping.{LeavesEither};
+ghost use Rattle.store_access.specs.Keeping.{LeavesEither};
 
 use crate::filed_archive::FiledArchive;
 use crate::unsaved::{ChangedFiles, Unsaved};
-use file_store::{Store, StoreFault};
 use repostore::Saves;
 use sharedrepo::SaveFault;
 use std::mem::drop;
-use stored_repository::Filed;
+use store_access::Filed;
+use store_files::{Store, StoreFault};
 
 /// How a save that failed is told, by whether saves have come to a halt.
 fn told(is_halted: bool, fault: StoreFault) -> SaveFault

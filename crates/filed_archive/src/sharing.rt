@@ -6,12 +6,12 @@ ghost use Rattle.published.specs.Events.Event.{Opened};
 ghost use Rattle.repo_api.specs.Soundness.{AreSound};
 
 use crate::filed_archive::FiledArchive;
-use file_store::{Store, StoreFault};
 use published::{Naming, NewHistory, Published, Shown};
 use sharedrepo::{Archive, Seat, SharedRepo};
 use std::alloc::Global;
 use std::mem::drop;
-use stored_repository::{Filed, StoredRepository};
+use store_access::{Filed, StoredRepository};
+use store_files::{Store, StoreFault};
 
 /// A repository in files that threads share.
 pub type ServedRepo<F, S, J> = SharedRepo<F, FiledArchive<F, S>, J>;

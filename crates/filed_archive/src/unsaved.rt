@@ -3,7 +3,7 @@ ghost use Rattle.std.specs.Prelude.{◌≡◌, IfOk};
 ghost use Rattle.repo_api.specs.Accepted.{IfRefused, IsOfMemory};
 
 use repo_api::ChangeFault;
-use stored_repository::{Filed, NewProperties, NewRevision};
+use store_access::{Filed, NewProperties, NewRevision};
 
 /// What a change writes.
 #[derive(Drop)]

@@ -14,9 +14,9 @@ use Rattle.repostore.specs.Files.{Files, RevisionFiles, with_locks, with_propert
 use Rattle.fsfs_folder.specs.Current.{current_of}
 use Rattle.fsfs_folder.specs.Properties.{properties_of}
 use Rattle.fsfs_folder.specs.declared.current.Current.{Current}
-use Rattle.file_trees.specs.StandsFor.{revision_bytes, revision_properties}
-use Rattle.file_trees.specs.Tables.{AreTabled}
-use Rattle.file_trees.specs.declared.table.Table.{Table}
+use Rattle.filed_trees.specs.StandsFor.{revision_bytes, revision_properties}
+use Rattle.filed_trees.specs.Tables.{AreTabled}
+use Rattle.filed_trees.specs.declared.table.Table.{Table}
 use Rattle.filed_world.specs.Files.{AreFilesOf, AreLocks, HasOneMoreList, HasOtherList}
 
 -- ---- properties, revision by revision

@@ -22,7 +22,7 @@ use Rattle.repo_api.specs.StateLaws.{get_entries}
 use Rattle.repo_api.specs.Locking.{at_or_under}
 use Rattle.repo_api.specs.States.{LockMap}
 use Rattle.repo_api.specs.declared.lock.Lock.{Lock}
-use Rattle.file_trees.specs.StandsFor.{lock_of}
+use Rattle.filed_trees.specs.StandsFor.{lock_of}
 
 -- ---- the keys of a map differ
 

@@ -11,9 +11,9 @@ use Rattle.held.specs.Contents.{state_of}
 use Rattle.held.specs.Growing.{HasOneMore}
 use Rattle.held.specs.declared.held.Held.{Held}
 use Rattle.held.proofs.Seen.{held_many, held_changes}
-use Rattle.file_trees.specs.Pieces.{RevisionBytes}
-use Rattle.file_trees.specs.Tables.{AreTabled}
-use Rattle.file_trees.specs.declared.table.Table.{Table}
+use Rattle.filed_trees.specs.Pieces.{RevisionBytes}
+use Rattle.filed_trees.specs.Tables.{AreTabled}
+use Rattle.filed_trees.specs.declared.table.Table.{Table}
 
 pub last_of : {X : Type 0} (xs : List X) (x : X) → slice_get (xs ++ x ∷ []) (length xs) ≡ Some x
 last_of [] x = refl

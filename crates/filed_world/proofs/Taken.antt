@@ -24,10 +24,10 @@ use Rattle.fsfs_lines.specs.declared.fault.FileFault.TheVariants as faults
 use Rattle.repostore.specs.Reading.{with_one_more, with_read_locks, IfFileFaulty}
 use Rattle.fsfs_folder.specs.Properties.{properties_of}
 use Rattle.fsfs_folder.specs.declared.current.Current.{Current}
-use Rattle.file_trees.specs.Pieces.{RevisionBytes}
-use Rattle.file_trees.specs.StandsFor.{revision_bytes, revision_properties, locks_in, lock_of}
-use Rattle.file_trees.specs.Tables.{AreTabled}
-use Rattle.file_trees.specs.declared.table.Table.{Table}
+use Rattle.filed_trees.specs.Pieces.{RevisionBytes}
+use Rattle.filed_trees.specs.StandsFor.{revision_bytes, revision_properties, locks_in, lock_of}
+use Rattle.filed_trees.specs.Tables.{AreTabled}
+use Rattle.filed_trees.specs.declared.table.Table.{Table}
 use Rattle.filed_world.specs.Files.{AreFilesOf, AreLocks}
 use Rattle.filed_world.specs.Reading.{SayHead, AreFirst, AreRead, IsNext, so_far}
 use Rattle.filed_world.proofs.Changed.{AreSaid, said, said_is, one_more_said}

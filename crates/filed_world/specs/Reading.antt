@@ -12,9 +12,9 @@ use Rattle.repostore.specs.Files.{Files}
 use Rattle.fsfs_folder.specs.Current.{current_of}
 use Rattle.fsfs_folder.specs.Identity.{uuid_of}
 use Rattle.fsfs_folder.specs.declared.current.Current.{Current}
-use Rattle.file_trees.specs.StandsFor.{revision_bytes, revision_properties}
-use Rattle.file_trees.specs.Tables.{AreTabled}
-use Rattle.file_trees.specs.declared.table.Table.{Table}
+use Rattle.filed_trees.specs.StandsFor.{revision_bytes, revision_properties}
+use Rattle.filed_trees.specs.Tables.{AreTabled}
+use Rattle.filed_trees.specs.declared.table.Table.{Table}
 use Rattle.filed_world.specs.Files.{AreLocks}
 use Rattle.filed_world.specs.declared.filed_world.FiledWorld.{FiledWorld}
 

@@ -14,9 +14,9 @@ use Rattle.held.specs.declared.held.Held.{Held}
 use Rattle.held.proofs.Seen.{held_many, held_seen}
 use Rattle.repostore.specs.Files.{Files}
 use Rattle.fsfs_folder.specs.declared.current.Current.{Current}
-use Rattle.file_trees.specs.StandsFor.{StandsFor, IsRevision, revision_bytes}
-use Rattle.file_trees.specs.declared.table.Table.{Table}
-use Rattle.file_trees.proofs.Seen.{trees_agree}
+use Rattle.filed_trees.specs.StandsFor.{StandsFor, IsRevision, revision_bytes}
+use Rattle.filed_trees.specs.declared.table.Table.{Table}
+use Rattle.filed_trees.proofs.Seen.{trees_agree}
 use Rattle.filed_world.specs.Files.{AreFilesOf}
 
 changes_shown : (trees : ℕ → Tree) (cs : List ChangeMap) (rs : List Revision) → AreShownAs trees cs rs

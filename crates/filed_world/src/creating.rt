@@ -16,11 +16,11 @@ ghost use Rattle.world.specs.Whole.{world_content};
 
 use crate::filed_world::FiledWorld;
 use crate::written::{current_file, properties_file};
+use filed_writing::write_revision;
 use fsfs_folder::{Current, FORMAT_BYTES, append_uuid, read_uuid};
 use pvec::PVec;
 use repo_api::Repository;
 use repostore::Opening;
-use revision_writing::write_revision;
 use std::alloc::{AllocError, Global};
 use world::World;
 

@@ -4,12 +4,12 @@ ghost use Rattle.std.specs.Prelude.{◌≡◌};
 use crate::filed_world::FiledWorld;
 use byte_string::ByteString;
 use repo_api::{ChangeFault, CommitAsk, LockAsk, LockTokens, PropertyAsk, UnlockAsk};
-use stored_repository::{Filed, NewProperties, NewRevision};
+use store_access::{Filed, NewProperties, NewRevision};
 use world::WorldTxn;
 
 impl Filed for FiledWorld {
-    ghost use Rattle.file_trees.specs.StandsFor.{StandsFor};
-    ghost use Rattle.file_trees.proofs.States.{one_state};
+    ghost use Rattle.filed_trees.specs.StandsFor.{StandsFor};
+    ghost use Rattle.filed_trees.proofs.States.{one_state};
     ghost use Rattle.filed_world.specs.Files.{IsOf};
     ghost use Rattle.filed_world.specs.Standing.{stand_for};
 

@@ -1,6 +1,6 @@
 //! A repository, and where its node revisions stand in its files.
 
-use file_trees::Table;
+use filed_trees::Table;
 use fsfs_folder::Current;
 use pvec::PVec;
 use std::alloc::Global;

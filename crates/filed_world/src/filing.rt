@@ -4,20 +4,20 @@ ghost use Rattle.noderevs.specs.Held.{blocks_of};
 ghost use Rattle.held.specs.Growing.{HasOneMore, HasSame};
 ghost use Rattle.repostore.specs.Current.{count_in};
 ghost use Rattle.repostore.specs.Files.{Files, with_locks, with_properties, with_revision};
-ghost use Rattle.file_trees.specs.Pieces.{RevisionBytes};
-ghost use Rattle.file_trees.specs.Tables.{AreTabled};
+ghost use Rattle.filed_trees.specs.Pieces.{RevisionBytes};
+ghost use Rattle.filed_trees.specs.Tables.{AreTabled};
 ghost use Rattle.filed_world.specs.Files.{AreLocks, HasOneMoreList, HasOtherList, IsOf, filed_content};
 
 use crate::filed_world::FiledWorld;
 use crate::written::{current_file, locks_file, properties_file};
-use file_trees::{Table, tabulated};
+use filed_trees::{Table, tabulated};
+use filed_writing::{Written, write_revision};
 use fsfs_folder::Current;
 use pvec::PVec;
 use repo_api::Repository;
-use revision_writing::{Written, write_revision};
 use std::alloc::{AllocError, Global};
 use std::sync::Arc;
-use stored_repository::{NewProperties, NewRevision};
+use store_access::{NewProperties, NewRevision};
 use svnpath::Path;
 use world::World;
 

@@ -8,13 +8,13 @@ ghost use Rattle.repostore.specs.Current.{count_in};
 ghost use Rattle.repostore.specs.Files.{Files};
 ghost use Rattle.repostore.specs.Reading.{IfFindsFaulty, with_one_more, with_read_locks};
 ghost use Rattle.fsfs_folder.specs.Properties.{properties_of};
-ghost use Rattle.file_trees.specs.StandsFor.{locks_in};
+ghost use Rattle.filed_trees.specs.StandsFor.{locks_in};
 ghost use Rattle.filed_world.specs.Files.{IsOf};
 ghost use Rattle.filed_world.specs.Reading.{AreFirst, AreRead, HasRead, IsNextOf};
 
 use crate::filed_world::FiledWorld;
 use crate::filing::with_table;
-use file_trees::{Table, check_same_properties, nothing_is_tabled, tabulated};
+use filed_trees::{Table, check_same_properties, nothing_is_tabled, tabulated};
 use fsfs_folder::{Current, read_locks, read_properties};
 use fsfs_lines::FileFault;
 use pvec::PVec;

@@ -9,7 +9,7 @@ ghost use Rattle.repostore.specs.Current.{count_in};
 
 use crate::counting::count_of;
 use byte_string::ByteString;
-use file_trees::check_same_properties;
+use filed_trees::check_same_properties;
 use fsfs_folder::{
     Current, append_current, read_current, read_locks, read_properties, write_locks,
     write_properties,

@@ -1,11 +1,11 @@
 -- A hub over a repository in files, as it is opened.
 use Rattle.std.specs.Prelude.{◌≡◌, ℕ, []}
-use Rattle.file_store.specs.Folders.{Folder}
+use Rattle.store_files.specs.Folders.{Folder}
 use Rattle.access.specs.Points.{Point}
 use Rattle.machine.specs.Settings.{Settings}
 use Rattle.hub.specs.State.{HubState, hub_at}
-use Rattle.stored_repository.specs.Keeping.{StandsFor}
-use Rattle.file_trees.specs.StandsFor as files
+use Rattle.store_access.specs.Keeping.{StandsFor}
+use Rattle.filed_trees.specs.StandsFor as files
 
 -- the hub has no sessions, and the store's files stand for what it contains, where a read has not shown
 -- that they are not honest

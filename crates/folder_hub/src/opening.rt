@@ -1,19 +1,19 @@
 //! A hub over a repository that is opened from its files.
 ghost use Rattle.std.specs.Prelude.{◌≡◌, IfOk, IfErr, false};
-ghost use Rattle.file_store.specs.Folders.{Folder, IsSame};
-ghost use Rattle.file_store.specs.Moments.{HasRisen};
+ghost use Rattle.store_files.specs.Folders.{Folder, IsSame};
+ghost use Rattle.store_files.specs.Moments.{HasRisen};
 ghost use Rattle.repostore.specs.Reading.{IsFaulty, IfFaulty};
 ghost use Rattle.repostore.specs.Saving.{OnlyReads};
-ghost use Rattle.stored_repository.specs.Keeping.{StandsFor};
-ghost use Rattle.file_trees.specs.StandsFor as files;
-ghost use Rattle.world_folder.specs.Faults.{folder_faults};
+ghost use Rattle.store_access.specs.Keeping.{StandsFor};
+ghost use Rattle.filed_trees.specs.StandsFor as files;
+ghost use Rattle.filed_opening.specs.Faults.{folder_faults};
 ghost use Rattle.folder_hub.specs.Opening.{BeginsWith};
 
-use file_store::{Store, StoreFault};
+use filed_opening::{FolderRepository, open, opened_trees_are_sound};
 use hub::{Hub, Options};
 use repostore::Unopened;
 use std::alloc::Global;
-use world_folder::{FolderRepository, open, opened_trees_are_sound};
+use store_files::{Store, StoreFault};
 
 /// A hub over a repository in files.
 pub type FolderHub<S> = Hub<FolderRepository<S>>;

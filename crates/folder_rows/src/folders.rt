@@ -1,9 +1,9 @@
-use file_store::{FileName, FuseStore, Left, MemoryStore, Store, StoreFault};
+use filed_opening::{create, open};
 use fsfs_lines::FileFault;
 use repo_api::Repository;
 use std::alloc::Global;
 use std::test::Fail;
-use world_folder::{create, open};
+use store_files::{FileName, FuseStore, Left, MemoryStore, Store, StoreFault};
 
 const UUID: &[u8] = b"00000000-0000-4000-8000-000000000000\n";
 

@@ -1,7 +1,7 @@
 -- What calls keep.
 use Rattle.std.proofs.Common.{◌≡◌, ℕ, ◌+◌, List, [], ◌∷◌, ◌++◌, take, drop, take-append-drop, Some, refl, sym, subst, arith}
 use Rattle.repo_api.specs.States.{IsBeginning}
-use Rattle.replies.specs.declared.reply.Reply.{Reply}
+use Rattle.wire_replies.specs.declared.reply.Reply.{Reply}
 use Rattle.machine.specs.Stages.{SessionState}
 use Rattle.machine.specs.declared.env.Env.{Env}
 use Rattle.hub.specs.State.{HubState, HasTrees, session_of, updated}

@@ -17,8 +17,8 @@ use Rattle.repo_api.specs.RevisionProperties.{property_refusal}
 use Rattle.repo_api.specs.Accepted.{Accepted, IsAccepted, AreAccepted, changed_all}
 use Rattle.repo_api.specs.Accepted.Accepted.{Commits, Locks, Unlocks, Releases, ChangesProperty}
 use Rattle.repo_api.specs.declared.ask.CommitAsk.{CommitAsk}
-use Rattle.forms.specs.declared.fault.CommandFault.{CommandFault}
-use Rattle.forms.specs.declared.fault.CommandFault.TheVariants.{UnknownName, BadParameters, NoMemory}
+use Rattle.wire_forms.specs.declared.fault.CommandFault.{CommandFault}
+use Rattle.wire_forms.specs.declared.fault.CommandFault.TheVariants.{UnknownName, BadParameters, NoMemory}
 use Rattle.commands.specs.Commands.{main_command}
 use Rattle.commands.specs.Logins.{client_greeting, auth_response, challenge_answer}
 use Rattle.commands.specs.declared.command.MainCommand.{MainCommand}
@@ -28,14 +28,14 @@ use Rattle.commands.specs.declared.command.LockCommand.{LockCommand}
 use Rattle.commands.specs.declared.command.UnlockCommand.{UnlockCommand}
 use Rattle.commands.specs.declared.login.AuthResponse.{AuthResponse}
 use Rattle.commands.specs.declared.login.ClientGreeting.{ClientGreeting}
-use Rattle.edit_commands.specs.Editing.{editor_command, ends_edit}
-use Rattle.edit_commands.specs.declared.editing.EditorCommand.{EditorCommand}
-use Rattle.edit_commands.specs.declared.editing.EditorCommand.TheVariants as edits
-use Rattle.drive_commands.specs.Reporting.{Drawn, client_answer}
-use Rattle.drive_commands.specs.Reporting.Drawn.{GoesOn, GivenUp, Fails as Draws, Drives, Malformed}
+use Rattle.wire_edits.specs.Editing.{editor_command, ends_edit}
+use Rattle.wire_edits.specs.declared.editing.EditorCommand.{EditorCommand}
+use Rattle.wire_edits.specs.declared.editing.EditorCommand.TheVariants as edits
+use Rattle.drive_wire.specs.Reporting.{Drawn, client_answer}
+use Rattle.drive_wire.specs.Reporting.Drawn.{GoesOn, GivenUp, Fails as Draws, Drives, Malformed}
 use Rattle.edit_rules.specs.Editor.{finished}
-use Rattle.replies.specs.declared.reply.Reply.{Reply}
-use Rattle.replies.specs.declared.reply.Reply.TheVariants.{Success, NoLogin, CommitInfo, Failure}
+use Rattle.wire_replies.specs.declared.reply.Reply.{Reply}
+use Rattle.wire_replies.specs.declared.reply.Reply.TheVariants.{Success, NoLogin, CommitInfo, Failure}
 use Rattle.machine.specs.Settings.{Settings}
 use Rattle.machine.specs.Stages.{Stage}
 use Rattle.machine.specs.Hearing.{Input}

@@ -1,6 +1,6 @@
 -- The store's failures, and what comes to a halt.
 use Rattle.std.proofs.Common.{◌≡◌, ◌⊎◌, inl, inr, ℕ, ◌+◌, ◌<◌, ◌≤◌, ◌||◌, List, Option, Some, None, Bool, true, false, refl, sym, ap, subst, ◌∙◌, arith}
-use Rattle.replies.specs.declared.reply.Reply.{Reply}
+use Rattle.wire_replies.specs.declared.reply.Reply.{Reply}
 use Rattle.access.specs.Points.{last_count, HasRisen}
 use Rattle.machine.specs.Hearing.{Input}
 use Rattle.machine.specs.Stages.{SessionState}

@@ -3,8 +3,8 @@ use Rattle.std.proofs.Common.{◌≡◌, ℕ, List, ◌++◌, Option, Some, Bool
 use Rattle.std.specs.Prelude.{if◌then◌else◌, get_or, slice_set}
 use Rattle.std.proofs.lemmas.Option.{get_or_from_slice_get}
 use Rattle.repo_api.specs.States.{IsBeginning}
-use Rattle.replies.specs.Replies.{print}
-use Rattle.replies.proofs.Parts.{part_first}
+use Rattle.wire_replies.specs.Replies.{print}
+use Rattle.wire_replies.proofs.Parts.{part_first}
 use Rattle.access.specs.Points.{Point, AccessRules, content_of}
 use Rattle.machine.specs.Settings.{Settings}
 use Rattle.machine.specs.Hearing.{HasNoMore}

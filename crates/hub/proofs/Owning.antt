@@ -9,7 +9,7 @@ use Rattle.repo_api.specs.Marks.{shown, own_of, MeetWell}
 use Rattle.repo_api.specs.Commits.{next_tree}
 use Rattle.repo_api.specs.Accepted.{Accepted, changed, changed_all}
 use Rattle.repo_api.specs.Accepted.Accepted.{Commits, Locks, Unlocks, Releases, ChangesProperty}
-use Rattle.replies.specs.declared.reply.Reply.{Reply}
+use Rattle.wire_replies.specs.declared.reply.Reply.{Reply}
 use Rattle.machine.specs.Soundness.{MeetBy}
 use Rattle.machine.specs.Stages.{SessionState}
 use Rattle.machine.specs.declared.env.Env.{Env}

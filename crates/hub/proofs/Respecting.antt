@@ -13,7 +13,7 @@ use Rattle.repo_api.specs.Accepted.{Accepted, AreAccepted, changed, changed_all}
 use Rattle.repo_api.specs.Accepted.Accepted.{Commits, Locks, Unlocks, Releases, ChangesProperty}
 use Rattle.repo_api.specs.declared.ask.CommitAsk.{CommitAsk}
 use Rattle.repo_api.specs.declared.lock.Lock.{Lock as LockValue}
-use Rattle.replies.specs.declared.reply.Reply.{Reply}
+use Rattle.wire_replies.specs.declared.reply.Reply.{Reply}
 use Rattle.machine.specs.Hearing.{Input}
 use Rattle.machine.specs.declared.env.Env.{Env}
 use Rattle.hub.specs.State.{HubState}

@@ -1,7 +1,7 @@
 -- What was written, as another sees it.
 use Rattle.std.proofs.Common.{ℕ, List, []}
 use Rattle.machine.specs.declared.env.Env.{Env}
-use Rattle.replies.specs.Sinks.{WritesPart}
+use Rattle.wire_replies.specs.Sinks.{WritesPart}
 use Rattle.hub.specs.declared.hub.HubFault.{HubFault}
 use Rattle.hub.specs.declared.hub.HubFault.TheVariants.{NoSession, NoMemory, Halted, Full}
 use Rattle.hub.specs.State.{HubState}

@@ -10,8 +10,8 @@ use Rattle.commands.specs.declared.command.MainCommand.{MainCommand}
 use Rattle.commands.specs.declared.command.MainCommand.TheVariants.{Lock, Unlock, ChangeRevProp}
 use Rattle.commands.specs.declared.command.LockCommand.{LockCommand}
 use Rattle.commands.specs.declared.command.UnlockCommand.{UnlockCommand}
-use Rattle.edit_commands.specs.Editing.{editor_command}
-use Rattle.edit_commands.specs.declared.editing.EditorCommand.TheVariants.{CloseEdit}
+use Rattle.wire_edits.specs.Editing.{editor_command}
+use Rattle.wire_edits.specs.declared.editing.EditorCommand.TheVariants.{CloseEdit}
 use Rattle.edit_rules.specs.Editor.{finished}
 use Rattle.machine.specs.Commands.{lock_ask, unlock_ask}
 use Rattle.machine.specs.Hearing.{Input}

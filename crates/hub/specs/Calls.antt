@@ -1,7 +1,7 @@
 -- What the calls of a hub do.
 use Rattle.std.specs.Prelude.{◌≡◌, ◌⊎◌, ℕ, ◌+◌, ◌<◌, ◌≤◌, ◌^◌, true, false, List, [], ◌∷◌, ◌++◌, length, None}
-use Rattle.replies.specs.declared.reply.Reply.{Reply}
-use Rattle.replies.specs.Replies.{print}
+use Rattle.wire_replies.specs.declared.reply.Reply.{Reply}
+use Rattle.wire_replies.specs.Replies.{print}
 use Rattle.machine.specs.declared.env.Env.{Env}
 use Rattle.hub.specs.declared.hub.TheConstants.{MAX_SESSIONS}
 use Rattle.hub.specs.declared.hub.HubFault.{HubFault}

@@ -17,9 +17,9 @@ use Rattle.repo_api.specs.declared.ask.CommitAsk.{CommitAsk}
 use Rattle.repo_api.specs.States.{RepoState, TxnState, LockMap, tree_at, youngest}
 use Rattle.repo_api.specs.Opening.{new_repository}
 use Rattle.refusals.specs.declared.Refusal.{Refusal}
-use Rattle.forms.specs.Forms.{is_name}
-use Rattle.replies.specs.declared.reply.Reply.{Reply}
-use Rattle.replies.specs.declared.reply.Reply.TheVariants.{Success, Lock, CommitInfo, Failure}
+use Rattle.wire_forms.specs.Forms.{is_name}
+use Rattle.wire_replies.specs.declared.reply.Reply.{Reply}
+use Rattle.wire_replies.specs.declared.reply.Reply.TheVariants.{Success, Lock, CommitInfo, Failure}
 use Rattle.machine.specs.Settings.{Settings}
 use Rattle.machine.specs.Commands.{token_text, env_without_token}
 use Rattle.machine.specs.Readings.{revision_value}

@@ -4,8 +4,8 @@ ghost use Rattle.std.specs.Prelude.{length, MatchOption, IfOk, IfErr, OnOk, OnEr
 ghost use Rattle.repo_api.specs.Opening.{new_repository};
 ghost use Rattle.repo_api.specs.Soundness.{AreSound};
 ghost use Rattle.access.specs.Points.{content_of};
-ghost use Rattle.replies.specs.Replies.{print};
-ghost use Rattle.replies.specs.declared.reply.Reply.TheVariants.{Greeting};
+ghost use Rattle.wire_replies.specs.Replies.{print};
+ghost use Rattle.wire_replies.specs.declared.reply.Reply.TheVariants.{Greeting};
 ghost use Rattle.hub.specs.declared.hub.TheConstants.{MAX_SESSIONS};
 ghost use Rattle.hub.specs.State.{hub_at, session_of, without, Finds};
 ghost use Rattle.access.specs.Sole.{point_at};
@@ -16,12 +16,12 @@ ghost use Rattle.hub.specs.Calls.{IsFull, ConnectsAs, ConnectFails, FeedsAs, Fee
 use crate::laws::new_repositories_are_sound;
 use access::{SoleAccess, SoleRepository};
 use machine::{Env, Options, Turn};
-use replies::{MemorySink, Reply, ReplySink};
 use repo_api::Repository;
 use session::Session;
 use std::alloc::{AllocError, Global};
 use std::marker::Model;
 use thiserror::Error;
+use wire_replies::{MemorySink, Reply, ReplySink};
 
 /// The number of a session. Each is used once, from 1 on.
 pub type SessionId = u64;

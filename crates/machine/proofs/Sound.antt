@@ -14,10 +14,10 @@ use Rattle.repo_api.specs.States.{RepoState, TxnState, Revision, IsBeginning, tr
 use Rattle.repo_api.specs.Commits.{commit_refusal, next_tree, committed}
 use Rattle.repo_api.specs.Accepted.{Accepted, changed, changed_all}
 use Rattle.repo_api.specs.Accepted.Accepted.{Commits, Locks, Unlocks, Releases, ChangesProperty}
-use Rattle.edit_commands.specs.Editing.{editor_command}
-use Rattle.edit_commands.specs.declared.editing.EditorCommand.{EditorCommand}
-use Rattle.forms.specs.declared.fault.CommandFault.{CommandFault}
-use Rattle.forms.specs.declared.fault.CommandFault.TheVariants.{UnknownName, BadParameters, NoMemory}
+use Rattle.wire_edits.specs.Editing.{editor_command}
+use Rattle.wire_edits.specs.declared.editing.EditorCommand.{EditorCommand}
+use Rattle.wire_forms.specs.declared.fault.CommandFault.{CommandFault}
+use Rattle.wire_forms.specs.declared.fault.CommandFault.TheVariants.{UnknownName, BadParameters, NoMemory}
 use Rattle.edit_rules.specs.Tokens.{Tokens, has_unfinished}
 use Rattle.edit_rules.specs.Edits.{EditState, new_edit}
 use Rattle.edit_rules.specs.Refusing.{edit_refusal}

@@ -5,8 +5,8 @@ use Rattle.refusals.specs.declared.Refusal.{Refusal}
 use Rattle.refusals.specs.declared.Refusal.TheVariants as refusals
 use Rattle.repo_api.specs.States.{RepoState}
 use Rattle.repo_api.specs.Accepted.{Accepted, changed_all}
-use Rattle.replies.specs.declared.reply.Reply.{Reply}
-use Rattle.replies.specs.declared.reply.Reply.TheVariants as replies
+use Rattle.wire_replies.specs.declared.reply.Reply.{Reply}
+use Rattle.wire_replies.specs.declared.reply.Reply.TheVariants as replies
 use Rattle.access.specs.Points.{HasRisen}
 use Rattle.machine.specs.Stages.{Stage}
 use Rattle.machine.specs.declared.env.Env.{Env}

@@ -25,10 +25,10 @@ use Rattle.commands.specs.declared.command.MainCommand.{MainCommand}
 use Rattle.commands.specs.declared.command.MainCommand.TheVariants.{GetLatestRev, CheckPath, RevProplist, Commit, AbortEdit, Lock, Unlock, GetLock, GetLocks, GetFile, GetDir, Stat, GetDatedRev, RevProp, ChangeRevProp, Reparent, Log, GetLocations, Update, Switch, Status}
 use Rattle.commands.specs.declared.command.LockCommand.{LockCommand}
 use Rattle.commands.specs.declared.command.UnlockCommand.{UnlockCommand}
-use Rattle.replies.specs.Replies.{uuid_text}
-use Rattle.replies.specs.declared.reply.Reply.{Reply}
-use Rattle.replies.specs.declared.reply.Reply.TheVariants as replies
-use Rattle.reports.specs.declared.ask.Purpose.TheVariants as purposes
+use Rattle.wire_replies.specs.Replies.{uuid_text}
+use Rattle.wire_replies.specs.declared.reply.Reply.{Reply}
+use Rattle.wire_replies.specs.declared.reply.Reply.TheVariants as replies
+use Rattle.drive_reports.specs.declared.ask.Purpose.TheVariants as purposes
 use Rattle.edit_rules.specs.Edits.{new_edit}
 use Rattle.repo_api.specs.Judging.{is_property_name}
 use Rattle.machine.specs.Settings.{Settings}

@@ -19,10 +19,10 @@ use Rattle.history.specs.declared.log_ask.LogAsk.{LogAsk}
 use Rattle.history.specs.declared.place.Place.{Place}
 use Rattle.commands.specs.declared.command.GetLocationsCommand.{GetLocationsCommand}
 use Rattle.commands.specs.declared.command.LogCommand.{LogCommand}
-use Rattle.replies.specs.Replies.{logged_change}
-use Rattle.replies.specs.declared.histories.LoggedChange.{LoggedChange}
-use Rattle.replies.specs.declared.reply.Reply.{Reply}
-use Rattle.replies.specs.declared.reply.Reply.TheVariants as replies
+use Rattle.wire_replies.specs.Replies.{logged_change}
+use Rattle.wire_replies.specs.declared.histories.LoggedChange.{LoggedChange}
+use Rattle.wire_replies.specs.declared.reply.Reply.{Reply}
+use Rattle.wire_replies.specs.declared.reply.Reply.TheVariants as replies
 use Rattle.machine.specs.Readings.{author_of, revision_date, revision_value}
 
 -- ---- the end of what is listed

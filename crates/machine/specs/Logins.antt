@@ -8,14 +8,14 @@ use Rattle.refusals.specs.Refusing.{path_refusal}
 use Rattle.cram.specs.Login.{Login}
 use Rattle.cram.specs.Answer.{challenge_text, IsAnswerOf}
 use Rattle.repo_api.specs.States.{RepoState}
-use Rattle.forms.specs.Forms.{is_name}
-use Rattle.forms.specs.declared.fault.CommandFault.{CommandFault}
+use Rattle.wire_forms.specs.Forms.{is_name}
+use Rattle.wire_forms.specs.declared.fault.CommandFault.{CommandFault}
 use Rattle.commands.specs.declared.command.MainCommand.{MainCommand}
 use Rattle.commands.specs.declared.login.ClientGreeting.{ClientGreeting}
 use Rattle.commands.specs.declared.login.AuthResponse.{AuthResponse}
-use Rattle.replies.specs.declared.reply.Offer.{Offer}
-use Rattle.replies.specs.declared.reply.Offer.TheVariants.{Anonymous, AnonymousOrUser, User}
-use Rattle.replies.specs.declared.reply.Reply.TheVariants as replies
+use Rattle.wire_replies.specs.declared.reply.Offer.{Offer}
+use Rattle.wire_replies.specs.declared.reply.Offer.TheVariants.{Anonymous, AnonymousOrUser, User}
+use Rattle.wire_replies.specs.declared.reply.Reply.TheVariants as replies
 use Rattle.machine.specs.Settings.{Settings}
 use Rattle.machine.specs.Answers.{Answer, says, Behind, malformed}
 use Rattle.machine.specs.Commands.{is_write, OwnStep}

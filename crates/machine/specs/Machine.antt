@@ -11,14 +11,14 @@ use Rattle.repo_api.specs.declared.ask.CommitAsk.{CommitAsk}
 use Rattle.commands.specs.Commands.{main_command}
 use Rattle.commands.specs.Logins.{client_greeting, auth_response, challenge_answer}
 use Rattle.commands.specs.declared.command.MainCommand.{MainCommand}
-use Rattle.edit_commands.specs.Editing.{editor_command, ends_edit}
-use Rattle.edit_commands.specs.declared.editing.EditorCommand.{EditorCommand}
-use Rattle.edit_commands.specs.declared.editing.EditorCommand.TheVariants.{TargetRevision, OpenRoot, DeleteEntry, AddDirectory, AddFile, OpenDirectory, OpenFile, AbsentDirectory, AbsentFile, ChangeDirectoryProperty, ChangeFileProperty, ApplyTextDelta, TextDeltaChunk, TextDeltaEnd, CloseDirectory, CloseFile, CloseEdit}
-use Rattle.edit_commands.specs.declared.editing.EditorCommand.TheVariants as edits
-use Rattle.forms.specs.declared.fault.CommandFault.{CommandFault}
-use Rattle.forms.specs.declared.fault.CommandFault.TheVariants.{UnknownName, BadParameters, NoMemory}
-use Rattle.replies.specs.declared.reply.Reply.TheVariants as replies
-use Rattle.drive_commands.specs.Reporting.{client_answer}
+use Rattle.wire_edits.specs.Editing.{editor_command, ends_edit}
+use Rattle.wire_edits.specs.declared.editing.EditorCommand.{EditorCommand}
+use Rattle.wire_edits.specs.declared.editing.EditorCommand.TheVariants.{TargetRevision, OpenRoot, DeleteEntry, AddDirectory, AddFile, OpenDirectory, OpenFile, AbsentDirectory, AbsentFile, ChangeDirectoryProperty, ChangeFileProperty, ApplyTextDelta, TextDeltaChunk, TextDeltaEnd, CloseDirectory, CloseFile, CloseEdit}
+use Rattle.wire_edits.specs.declared.editing.EditorCommand.TheVariants as edits
+use Rattle.wire_forms.specs.declared.fault.CommandFault.{CommandFault}
+use Rattle.wire_forms.specs.declared.fault.CommandFault.TheVariants.{UnknownName, BadParameters, NoMemory}
+use Rattle.wire_replies.specs.declared.reply.Reply.TheVariants as replies
+use Rattle.drive_wire.specs.Reporting.{client_answer}
 use Rattle.edit_rules.specs.Edits.{EditState}
 use Rattle.edit_rules.specs.Refusing.{edit_refusal}
 use Rattle.edit_rules.specs.Editor.{Applies, finished}

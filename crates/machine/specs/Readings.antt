@@ -17,14 +17,14 @@ use Rattle.repo_api.specs.declared.entry.NodeKind.{NodeKind}
 use Rattle.repo_api.specs.declared.entry.NodeKind.TheVariants as kinds
 use Rattle.history.specs.Dates.{is_date_text, dated_rev}
 use Rattle.history.specs.declared.place.Place.{Place}
-use Rattle.forms.specs.Forms.{is_name}
+use Rattle.wire_forms.specs.Forms.{is_name}
 use Rattle.commands.specs.declared.command.GetFileCommand.{GetFileCommand}
 use Rattle.commands.specs.declared.command.GetDirCommand.{GetDirCommand}
-use Rattle.reports.specs.Refusing.{revision_read}
-use Rattle.replies.specs.Replies.{contents, uuid_text}
-use Rattle.replies.specs.declared.entries.NodeInfo.{NodeInfo}
-use Rattle.replies.specs.declared.reply.Reply.{Reply}
-use Rattle.replies.specs.declared.reply.Reply.TheVariants as replies
+use Rattle.drive_reports.specs.Refusing.{revision_read}
+use Rattle.wire_replies.specs.Replies.{contents, uuid_text}
+use Rattle.wire_replies.specs.declared.entries.NodeInfo.{NodeInfo}
+use Rattle.wire_replies.specs.declared.reply.Reply.{Reply}
+use Rattle.wire_replies.specs.declared.reply.Reply.TheVariants as replies
 
 -- ---- what is read
 

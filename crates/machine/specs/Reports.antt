@@ -3,14 +3,14 @@ use Rattle.std.specs.Prelude.{◌≡◌, ℕ, Bool, true, false, List, [], ◌�
 use Rattle.items.specs.Values.{ItemValue}
 use Rattle.refusals.specs.declared.Refusal.TheVariants as refusals
 use Rattle.repo_api.specs.States.{RepoState}
-use Rattle.edit_commands.specs.declared.editing.EditorCommand.TheVariants as edits
-use Rattle.replies.specs.declared.reply.Reply.TheVariants as replies
-use Rattle.report_commands.specs.declared.asking.DriveRequest.{DriveRequest}
-use Rattle.reports.specs.Refusing.{ask_of, begun_report}
-use Rattle.reports.specs.declared.ask.Purpose.{Purpose}
-use Rattle.reports.specs.declared.graft.Graft.{Graft}
-use Rattle.drive_commands.specs.Reporting.{Drawn, ReportStep}
-use Rattle.drive_commands.specs.Reporting.Drawn.{GoesOn, GivenUp, Fails, Drives, Malformed}
+use Rattle.wire_edits.specs.declared.editing.EditorCommand.TheVariants as edits
+use Rattle.wire_replies.specs.declared.reply.Reply.TheVariants as replies
+use Rattle.wire_reports.specs.declared.asking.DriveRequest.{DriveRequest}
+use Rattle.drive_reports.specs.Refusing.{ask_of, begun_report}
+use Rattle.drive_reports.specs.declared.ask.Purpose.{Purpose}
+use Rattle.drive_reports.specs.declared.graft.Graft.{Graft}
+use Rattle.drive_wire.specs.Reporting.{Drawn, ReportStep}
+use Rattle.drive_wire.specs.Reporting.Drawn.{GoesOn, GivenUp, Fails, Drives, Malformed}
 use Rattle.machine.specs.Settings.{Settings}
 use Rattle.machine.specs.Answers.{Answer, says, serves, malformed}
 use Rattle.machine.specs.declared.env.Env.{Env}

@@ -3,7 +3,7 @@ use Rattle.std.specs.Prelude.{ℕ, Bool, ◌&&◌, ◌||◌, ◌==◌, not, nat_
 use Rattle.std.specs.Char.{is_ascii_alphanumeric}
 use Rattle.std.specs.List.{list_all}
 use Rattle.machine.specs.declared.options.TheConstants.{NAME_LIMIT}
-use Rattle.forms.specs.Forms.{is_name}
+use Rattle.wire_forms.specs.Forms.{is_name}
 use Rattle.cram.specs.Login.{Login}
 
 -- a letter, a digit, `-`, `_` or `.`

@@ -5,7 +5,7 @@ use Rattle.edit_rules.specs.Edits.{EditState}
 use Rattle.edit_rules.specs.Editor.{RestsOn}
 use Rattle.repo_api.specs.Soundness.{AreSound}
 use Rattle.edit_rules.specs.Soundness.{IsSoundEdit}
-use Rattle.reports.specs.declared.graft.Graft.{Graft}
+use Rattle.drive_reports.specs.declared.graft.Graft.{Graft}
 use Rattle.machine.specs.declared.phase.Phase.{Phase}
 use Rattle.machine.specs.declared.phase.Phase.TheVariants.{Greeted, LoggingIn, Challenged, Serving, Editing, Skipping, Reporting, Driven, Ended}
 

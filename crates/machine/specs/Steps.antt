@@ -4,9 +4,9 @@
 use Rattle.std.specs.Prelude.{◌≡◌, ◌⊎◌, ℕ, true, List, [], ◌∷◌, ◌++◌, Option, Some, None}
 use Rattle.std.specs.Option.{option_to_list}
 use Rattle.repo_api.specs.Accepted.{Accepted}
-use Rattle.replies.specs.declared.reply.Reply.{Reply}
-use Rattle.replies.specs.Replies.{print}
-use Rattle.replies.specs.Sinks.{WritesPart}
+use Rattle.wire_replies.specs.declared.reply.Reply.{Reply}
+use Rattle.wire_replies.specs.Replies.{print}
+use Rattle.wire_replies.specs.Sinks.{WritesPart}
 use Rattle.access.specs.Points.{Point, AccessRules, content_of}
 use Rattle.access.specs.Changing.{IsHalt, IsFailure}
 use Rattle.machine.specs.declared.env.Env.{Env}

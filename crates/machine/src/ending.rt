@@ -2,7 +2,7 @@
 ghost use Rattle.std.specs.Prelude.{◌≡◌};
 ghost use Rattle.machine.specs.Machine.{ending_of};
 
-use edit_commands::EditorCommand;
+use wire_edits::EditorCommand;
 
 /// How an edit ends.
 #[derive(Clone, Copy)]

@@ -8,7 +8,7 @@ use crate::options::Options;
 use crate::phase::Client;
 use commands::MainCommand;
 use cram::Challenge;
-use replies::Offer;
+use wire_replies::Offer;
 
 /// How a client logs in.
 #[derive(Clone, Copy, Debug, PartialEq, Eq)]

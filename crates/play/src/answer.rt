@@ -1,9 +1,9 @@
 //! What calls are answered, as lines.
 
-use file_store::StoreFault;
 use fsfs_lines::FileFault;
 use hub::{Call, HubFault, Outcome};
 use std::alloc::{AllocError, Global};
+use store_files::StoreFault;
 
 /// The line that says how a repository was opened again.
 pub fn reopening_line(alloc: Global, fault: Option<StoreFault>) -> Result<String, AllocError> {

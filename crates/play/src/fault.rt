@@ -1,11 +1,11 @@
 //! Why a script is not played to its end.
 
 use cram::CramFault;
-use file_store::StoreFault;
-use folder_store::FolderFault;
 use std::alloc::AllocError;
 use std::io;
 use std::process::ExitCode;
+use store_files::StoreFault;
+use store_folder::FolderFault;
 use thiserror::Error;
 
 /// Why a line is not played.

@@ -7,15 +7,15 @@ use crate::fault::LineFault;
 use crate::line::{Failing, NamedFile, NewHub};
 use crate::plan::MemoryHub;
 use access::SoleAccess;
-use file_store::{FuseStore, MemoryStore, Store, StoreFault};
+use filed_opening::create;
 use folder_hub::{FolderHub, open_hub, store_of};
-use folder_store::{FolderStore, Unknown};
 use hub::{Call, Hub, Options, SessionId, make_call};
 use in_memory::InMemory;
 use std::alloc::{AllocError, Global};
 use std::fs;
 use std::io::ErrorKind;
-use world_folder::create;
+use store_files::{FuseStore, MemoryStore, Store, StoreFault};
+use store_folder::{FolderStore, Unknown};
 
 /// The files of a repository in a folder.
 type DiskStore = FolderStore<HostRuntime, Unknown>;

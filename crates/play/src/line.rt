@@ -6,10 +6,10 @@ use crate::fault::LineFault;
 use crate::words::{
     parse_bytes, parse_file, parse_fuse, parse_moment, parse_number, parse_uuid, parse_wide_number,
 };
-use file_store::{FileName, Left};
 use hub::{Env, Options, SessionId, is_repository_name};
 use std::alloc::Global;
 use std::str;
+use store_files::{FileName, Left};
 
 /// A hub that is asked for, over an empty repository whose revision 0 is dated at the moment.
 #[derive(Drop)]

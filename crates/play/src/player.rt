@@ -5,10 +5,10 @@ use crate::fault::LineFault;
 use crate::hubs::PlayedHub;
 use crate::line::{Failing, Line, NamedFile, Piece};
 use crate::plan::Plan;
-use file_store::Left;
 use hub::{Call, SessionId};
 use in_memory::InMemory;
 use std::mem;
+use store_files::Left;
 
 /// A store that passes all calls on.
 const NEVER: Failing = Failing {

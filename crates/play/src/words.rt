@@ -4,9 +4,9 @@ ghost use Rattle.dates.specs.declared.TheConstants.{LAST_MOMENT};
 
 use crate::fault::LineFault;
 use dates::LAST_MOMENT;
-use file_store::{FileName, Left};
 use hex::FromHexError;
 use std::alloc::Global;
+use store_files::{FileName, Left};
 use uuid::Uuid;
 
 fn is_decimal(word: &str) -> bool {

@@ -3,7 +3,6 @@ ghost use Rattle.std.specs.Prelude.{◌≡◌};
 
 use crate::connections::{GREETING, LOGIN, WELCOME};
 use crate::repositories::empty_repository;
-use file_store::MemoryStore;
 use filed_world::FiledWorld;
 use machine::Options;
 use published::{Naming, NewHistory};
@@ -20,6 +19,7 @@ use std::sync::Wait;
 use std::test::Fail;
 use std::thread::{Threads, join};
 use std::time::{Clock, Duration};
+use store_files::MemoryStore;
 
 /// What clients do.
 #[derive(Clone, Copy)]

@@ -7,7 +7,6 @@ use crate::connections::{AT_ZERO, Client, LOGIN, MemoryCaller, NEVER, WELCOME, c
 use crate::repositories::empty_repository;
 use conversations::{Gate, Unwatched};
 use crossbeam_channel::{Receiver, unbounded};
-use file_store::{MemoryStore, Store};
 use filed_world::FiledWorld;
 use machine::Options;
 use published::{Naming, NewHistory};
@@ -23,7 +22,8 @@ use std::test::Fail;
 use std::thread;
 use std::thread::Threads;
 use std::time::{Clock, Duration};
-use stored_repository::Filed;
+use store_access::Filed;
+use store_files::{MemoryStore, Store};
 
 /// How often the gate looks at the mark at most.
 const MOST_TURNS: u64 = 100_000;

@@ -3,10 +3,10 @@ ghost use Rattle.std.specs.Prelude.{IfOk};
 ghost use Rattle.filed_world.specs.Files.{filed_content};
 ghost use Rattle.repo_api.specs.Soundness.{AreSound};
 
-use file_store::MemoryStore;
+use filed_opening::{FolderRepository, create, open, opened_trees_are_sound};
 use std::alloc::Global;
 use std::test::Fail;
-use world_folder::{FolderRepository, create, open, opened_trees_are_sound};
+use store_files::MemoryStore;
 
 /// The number that names the repository.
 const UUID: u128 = 0x0000_0000_0000_4000_8000_0000_0000_0000;

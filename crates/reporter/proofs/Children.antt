@@ -9,9 +9,9 @@ use Rattle.svnpath.specs.Paths.{PathValue, Component, is_at_or_under, same_path,
 use Rattle.svnpath.specs.PathLaws.{same_path_refl, same_component_is, same_component_refl, under_is, under_append, rest_append}
 use Rattle.repo_api.specs.Trees.{Tree, is_directory}
 use Rattle.repo_api.specs.declared.entry.Entry.{Entry}
-use Rattle.drives.specs.Scopes.{below, HoldsTogether}
-use Rattle.drives.proofs.Joined.{or_cases, or_left, or_right, or_false}
-use Rattle.drives.proofs.Entries.{below_under, below_apart}
+use Rattle.drive_rules.specs.Scopes.{below, HoldsTogether}
+use Rattle.drive_rules.proofs.Joined.{or_cases, or_left, or_right, or_false}
+use Rattle.drive_rules.proofs.Entries.{below_under, below_apart}
 use Rattle.reporter.specs.Walks.{any_under, AreApart, IsChild, AreChildren, AreAll}
 use Rattle.reporter.proofs.Visiting.{false_or}
 use Rattle.reporter.proofs.Planning.{one_child, child_below}

@@ -6,8 +6,8 @@ use Rattle.std.specs.Prelude.{is_some, All}
 use Rattle.svnpath.specs.Paths.{PathValue}
 use Rattle.svnpath.specs.PathLaws.{under_itself}
 use Rattle.repo_api.specs.Trees.{is_directory_there}
-use Rattle.drives.specs.Drives.{Differs}
-use Rattle.drives.specs.Scopes.{HoldsTogether}
+use Rattle.drive_rules.specs.Drives.{Differs}
+use Rattle.drive_rules.specs.Scopes.{HoldsTogether}
 use Rattle.reporter.specs.declared.unvisited.Unvisited.{Unvisited}
 use Rattle.reporter.specs.declared.visit.Visit.{Visit}
 use Rattle.reporter.specs.declared.visit.Visit.TheVariants.{Open, Add}

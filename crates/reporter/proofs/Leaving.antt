@@ -3,8 +3,8 @@ use Rattle.std.proofs.Common.{◌≡◌, Bool, true, false, List, [], ◌∷◌,
 use Rattle.std.proofs.lemmas.List.{append_assoc, append-nil}
 use Rattle.std.specs.Prelude.{Err, IfOk, Ok, Result}
 use Rattle.svnpath.specs.Paths.{PathValue}
-use Rattle.drives.specs.Places.{is_in_directory}
-use Rattle.drives.specs.Scopes.{HoldsTogether, under}
+use Rattle.drive_rules.specs.Places.{is_in_directory}
+use Rattle.drive_rules.specs.Scopes.{HoldsTogether, under}
 use Rattle.reporter.specs.declared.unvisited.Found.TheVariants.{Single, Entered}
 use Rattle.reporter.specs.declared.unvisited.Found.{Found}
 use Rattle.reporter.specs.declared.unvisited.Unvisited.{Unvisited}

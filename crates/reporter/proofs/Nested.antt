@@ -7,8 +7,8 @@ use Rattle.std.specs.Prelude.{is_some, All, option_and_then}
 use Rattle.svnpath.specs.Paths.{PathValue, is_at_or_under}
 use Rattle.svnpath.specs.PathLaws.{under_append}
 use Rattle.repo_api.specs.Trees.{Tree, is_directory_there}
-use Rattle.drives.specs.Places.{is_in_directory}
-use Rattle.drives.proofs.Joined.{or_left, and_both}
+use Rattle.drive_rules.specs.Places.{is_in_directory}
+use Rattle.drive_rules.proofs.Joined.{or_left, and_both}
 use Rattle.reporter.specs.declared.visit.Visit.{Visit}
 use Rattle.reporter.specs.declared.visit.Visit.TheVariants.{Delete, Close}
 use Rattle.reporter.specs.Nesting.{after_entry_visit, after_visit, walk, AreNested, entry_visits}

@@ -9,10 +9,10 @@ use Rattle.svnpath.specs.Paths.{PathValue, same_path, same_component}
 use Rattle.svnpath.specs.PathLaws.{same_path_refl, same_component_is}
 use Rattle.repo_api.specs.declared.entry.Content.{Content}
 use Rattle.repo_api.specs.declared.entry.Content.TheVariants.{File}
-use Rattle.drives.specs.Steps.{Step, Node, PropertyValues, is_entry_property, with_property_value, after_step, after_steps, meets, all_meet, is_of_kind, is_named, has_step, adds_or_deletes, may_change, IsOwn}
-use Rattle.drives.specs.Steps.EntryKind.{FileKind}
-use Rattle.drives.specs.Steps.Step.{PropertyAt, TextAt}
-use Rattle.drives.proofs.Joined.{or_cases, or_right, and_front, and_both, any_append, all_meet_append}
+use Rattle.drive_rules.specs.Steps.{Step, Node, PropertyValues, is_entry_property, with_property_value, after_step, after_steps, meets, all_meet, is_of_kind, is_named, has_step, adds_or_deletes, may_change, IsOwn}
+use Rattle.drive_rules.specs.Steps.EntryKind.{FileKind}
+use Rattle.drive_rules.specs.Steps.Step.{PropertyAt, TextAt}
+use Rattle.drive_rules.proofs.Joined.{or_cases, or_right, and_front, and_both, any_append, all_meet_append}
 use Rattle.reporter.specs.Own.{Change, property_steps, text_steps, own_steps, changes_name, LeadTo, content_with_text}
 
 abbrev pub Agrees : PropertyValues → Change → Type 0

@@ -9,11 +9,11 @@ use Rattle.svnpath.specs.Paths.{PathValue, is_at_or_under, same_path}
 use Rattle.svnpath.specs.PathLaws.{same_path_is, same_path_refl, under_itself, under_is, under_append}
 use Rattle.repo_api.specs.Trees.{Tree, HasDirectory, is_directory, is_directory_there}
 use Rattle.repo_api.specs.declared.entry.Entry.{Entry}
-use Rattle.drives.specs.Steps.{Step, Node, node_of, node_at, may_change}
-use Rattle.drives.specs.Drives.{IsRight, IsInBoth, created_revision}
-use Rattle.drives.specs.Scopes.{under, below, tree_without, HoldsTogether}
-use Rattle.drives.proofs.Joined.{or_cases, or_left, or_right, or_false, and_front, any_append, reach_named, joined, nothing, none_some}
-use Rattle.drives.proofs.Entries.{rescoped, under_more, below_under, IsCut, cut, kept, left_out}
+use Rattle.drive_rules.specs.Steps.{Step, Node, node_of, node_at, may_change}
+use Rattle.drive_rules.specs.Drives.{IsRight, IsInBoth, created_revision}
+use Rattle.drive_rules.specs.Scopes.{under, below, tree_without, HoldsTogether}
+use Rattle.drive_rules.proofs.Joined.{or_cases, or_left, or_right, or_false, and_front, any_append, reach_named, joined, nothing, none_some}
+use Rattle.drive_rules.proofs.Entries.{rescoped, under_more, below_under, IsCut, cut, kept, left_out}
 use Rattle.reporter.specs.declared.visit.Visit.{Visit}
 use Rattle.reporter.specs.declared.visit.Visit.TheVariants.{Open, Delete, Close}
 use Rattle.reporter.specs.Nesting.{entry_visits}
@@ -39,10 +39,10 @@ reseated seen scope stale r s t cs down same x = record {
 }
   where
     fold_from : PathValue → Option Node → Option Node
-    fold_from q n = Rattle.drives.specs.Steps.after_steps q n cs
+    fold_from q n = Rattle.drive_rules.specs.Steps.after_steps q n cs
 
     all_from : PathValue → Option Node → Bool
-    all_from q n = Rattle.drives.specs.Steps.all_meet q n cs
+    all_from q n = Rattle.drive_rules.specs.Steps.all_meet q n cs
 
 -- ---- paths of one length
 

@@ -6,11 +6,11 @@ use Rattle.std.proofs.lemmas.List.Elements.{All-head, All-tail}
 use Rattle.std.specs.Prelude.{is_some, All}
 use Rattle.svnpath.specs.Paths.{PathValue, is_at_or_under}
 use Rattle.repo_api.specs.Trees.{Tree, is_directory_there}
-use Rattle.drives.specs.Steps.{Step}
-use Rattle.drives.specs.Drives.{IsRight, HasReason}
-use Rattle.drives.specs.Scopes.{under, HoldsTogether}
-use Rattle.drives.proofs.Joined.{or_false, reach_named, joined, nothing}
-use Rattle.drives.proofs.Entries.{rescoped, under_more}
+use Rattle.drive_rules.specs.Steps.{Step}
+use Rattle.drive_rules.specs.Drives.{IsRight, HasReason}
+use Rattle.drive_rules.specs.Scopes.{under, HoldsTogether}
+use Rattle.drive_rules.proofs.Joined.{or_false, reach_named, joined, nothing}
+use Rattle.drive_rules.proofs.Entries.{rescoped, under_more}
 use Rattle.reporter.specs.declared.visit.Visit.{Visit}
 use Rattle.reporter.specs.declared.visit.Visit.TheVariants.{Open, Add}
 use Rattle.reporter.specs.Left.{IsPlanOf, IsPlanBelow, IsEntry, ArePlansOf}

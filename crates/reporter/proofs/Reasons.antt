@@ -7,10 +7,10 @@ use Rattle.svnpath.specs.Paths.{PathValue, is_at_or_under}
 use Rattle.svnpath.specs.PathLaws.{under_append, under_itself}
 use Rattle.repo_api.specs.Trees.{Tree}
 use Rattle.repo_api.specs.declared.entry.Entry.{Entry}
-use Rattle.drives.specs.Steps.{node_of}
-use Rattle.drives.specs.Drives.{HasReason}
-use Rattle.drives.specs.Scopes.{HoldsTogether}
-use Rattle.drives.proofs.Entries.{under_more}
+use Rattle.drive_rules.specs.Steps.{node_of}
+use Rattle.drive_rules.specs.Drives.{HasReason}
+use Rattle.drive_rules.specs.Scopes.{HoldsTogether}
+use Rattle.drive_rules.proofs.Entries.{under_more}
 use Rattle.reporter.specs.declared.visit.Visit.TheVariants.{Delete}
 use Rattle.reporter.specs.Left.{IsPlanOf, IsPlanBelow, ArePlansOf}
 use Rattle.reporter.specs.Walks.{WalkedTrees, IsChild, AreChildren, AreAll, goes, going}

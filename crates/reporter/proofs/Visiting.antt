@@ -7,11 +7,11 @@ use Rattle.svnpath.specs.Paths.{PathValue, is_at_or_under, same_path}
 use Rattle.svnpath.specs.PathLaws.{same_path_is, same_path_refl, under_itself, under_is}
 use Rattle.repo_api.specs.Trees.{Tree, is_directory, is_directory_content}
 use Rattle.repo_api.specs.declared.entry.Entry.{Entry}
-use Rattle.drives.specs.Steps.{Step, Node, node_of, node_at, is_of_kind, is_named}
-use Rattle.drives.specs.Drives.{IsRight, HasReason, IsOfOneKind, IsInBoth, created_revision}
-use Rattle.drives.specs.Scopes.{under, below}
-use Rattle.drives.proofs.Joined.{or_left, nothing}
-use Rattle.drives.proofs.Entries.{around, opened, fresh, below_under, no_length, under_more}
+use Rattle.drive_rules.specs.Steps.{Step, Node, node_of, node_at, is_of_kind, is_named}
+use Rattle.drive_rules.specs.Drives.{IsRight, HasReason, IsOfOneKind, IsInBoth, created_revision}
+use Rattle.drive_rules.specs.Scopes.{under, below}
+use Rattle.drive_rules.proofs.Joined.{or_left, nothing}
+use Rattle.drive_rules.proofs.Entries.{around, opened, fresh, below_under, no_length, under_more}
 use Rattle.reporter.specs.declared.visit.Visit.{Visit}
 use Rattle.reporter.specs.declared.visit.Visit.TheVariants.{Open, Add, Delete, Close}
 use Rattle.reporter.specs.Nesting.{AreNested}

@@ -1,8 +1,8 @@
 -- What is left to be visited.
 use Rattle.std.specs.Prelude.{◌≡◌, Bool, true, false, ◌||◌, List, [], ◌∷◌, ◌++◌}
 use Rattle.svnpath.specs.Paths.{PathValue}
-use Rattle.drives.specs.Places.{is_in_directory}
-use Rattle.drives.specs.Scopes.{under, below}
+use Rattle.drive_rules.specs.Places.{is_in_directory}
+use Rattle.drive_rules.specs.Scopes.{under, below}
 use Rattle.reporter.specs.Nesting.{AreNested, entry_visit, entry_visits}
 use Rattle.reporter.specs.Visits.{IsRightPlan}
 use Rattle.reporter.specs.Walks.{WalkedTrees, BothHold, goes, old_side}

@@ -2,7 +2,7 @@
 use Rattle.std.specs.Prelude.{◌≡◌, Bool, true, false, ◌&&◌, is_some, if◌then◌else◌, List, [], ◌∷◌, ◌++◌, Option, Some, None, option_and_then}
 use Rattle.svnpath.specs.Paths.{PathValue}
 use Rattle.repo_api.specs.Trees.{Tree, is_directory_there}
-use Rattle.drives.specs.Places.{is_in_directory}
+use Rattle.drive_rules.specs.Places.{is_in_directory}
 use Rattle.reporter.specs.declared.visit.Visit.{Visit}
 use Rattle.reporter.specs.declared.visit.Visit.TheVariants.{Open, Add, Delete, Close}
 

@@ -4,8 +4,8 @@ use Rattle.std.specs.List.{list_any}
 use Rattle.svnpath.specs.Paths.{PathValue, same_component}
 use Rattle.repo_api.specs.declared.entry.Content.{Content}
 use Rattle.repo_api.specs.declared.entry.Content.TheVariants.{File}
-use Rattle.drives.specs.Steps.{Step, PropertyValues, is_entry_property}
-use Rattle.drives.specs.Steps.Step.{PropertyAt, TextAt}
+use Rattle.drive_rules.specs.Steps.{Step, PropertyValues, is_entry_property}
+use Rattle.drive_rules.specs.Steps.Step.{PropertyAt, TextAt}
 
 -- a property's name, with its value or none
 abbrev pub Change : Type 0

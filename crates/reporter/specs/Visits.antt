@@ -3,10 +3,10 @@ use Rattle.std.specs.Prelude.{Bool, true, false, List, [], ◌∷◌, ◌++◌, 
 use Rattle.svnpath.specs.Paths.{PathValue}
 use Rattle.repo_api.specs.Trees.{Tree, is_directory}
 use Rattle.repo_api.specs.declared.entry.Entry.{Entry}
-use Rattle.drives.specs.Drives.{IsRight}
-use Rattle.drives.specs.Steps.{EntryKind, Node, Step}
-use Rattle.drives.specs.Steps.EntryKind.{DirectoryKind, FileKind}
-use Rattle.drives.specs.Steps.Step.{OpenAt, AddAt, DeleteAt}
+use Rattle.drive_rules.specs.Drives.{IsRight}
+use Rattle.drive_rules.specs.Steps.{EntryKind, Node, Step}
+use Rattle.drive_rules.specs.Steps.EntryKind.{DirectoryKind, FileKind}
+use Rattle.drive_rules.specs.Steps.Step.{OpenAt, AddAt, DeleteAt}
 use Rattle.reporter.specs.declared.visit.Visit.{Visit}
 use Rattle.reporter.specs.declared.visit.Visit.TheVariants.{Open, Add, Delete, Close}
 

@@ -4,9 +4,9 @@ use Rattle.std.specs.List.{list_any}
 use Rattle.svnpath.specs.Paths.{PathValue, Component, is_at_or_under}
 use Rattle.repo_api.specs.Trees.{Tree, HasFile, is_directory}
 use Rattle.repo_api.specs.declared.entry.Entry.{Entry}
-use Rattle.drives.specs.Steps.{Node, node_at, all_meet, after_steps, has_step, is_text, empty_content, no_properties, IsOwn}
-use Rattle.drives.specs.Drives.{Differs, created_revision, IsOfOneKind, HasOtherText}
-use Rattle.drives.specs.Scopes.{below, tree_without, HoldsTogether}
+use Rattle.drive_rules.specs.Steps.{Node, node_at, all_meet, after_steps, has_step, is_text, empty_content, no_properties, IsOwn}
+use Rattle.drive_rules.specs.Drives.{Differs, created_revision, IsOfOneKind, HasOtherText}
+use Rattle.drive_rules.specs.Scopes.{below, tree_without, HoldsTogether}
 use Rattle.reporter.specs.declared.visit.Visit.{Visit}
 use Rattle.reporter.specs.declared.visit.Visit.TheVariants.{Delete}
 use Rattle.reporter.specs.Visits.{OwnSteps, entry_kind}

@@ -3,7 +3,7 @@ ghost use Rattle.std.specs.Prelude.{◌≡◌, ◌||◌, not, Option, is_some};
 ghost use Rattle.repo_api.specs.Trees.{is_directory_there};
 ghost use Rattle.repo_api.specs.Kinds.{kind_of};
 ghost use Rattle.repo_api.specs.declared.entry.Entry.{Entry};
-ghost use Rattle.drives.specs.Scopes.{is_file};
+ghost use Rattle.drive_rules.specs.Scopes.{is_file};
 ghost use Rattle.reporter.specs.Walks.{goes};
 
 use repo_api::NodeKind;

@@ -1,7 +1,7 @@
 //! Whether a walk over two trees names anything at a path or under it.
 ghost use Rattle.std.specs.Prelude.{◌≡◌, [], false, true, IfOk, is_some};
 ghost use Rattle.repo_api.specs.Trees.{is_directory_there};
-ghost use Rattle.drives.specs.Drives.{HasReason};
+ghost use Rattle.drive_rules.specs.Drives.{HasReason};
 ghost use Rattle.reporter.specs.Left.{IsPlanOf, IsPlanBelow};
 ghost use Rattle.reporter.specs.Walks.{goes};
 

@@ -19,8 +19,8 @@ impl Visitor {
     ghost use Rattle.std.specs.Prelude.{◌≡◌, ◌∷◌, [], true, IfOk, IfSome, List, None};
     ghost use Rattle.svnpath.specs.Paths.{PathValue};
     ghost use Rattle.repo_api.specs.Trees.{HasDirectory};
-    ghost use Rattle.drives.specs.Places.{is_in_directory};
-    ghost use Rattle.drives.specs.Scopes.{under};
+    ghost use Rattle.drive_rules.specs.Places.{is_in_directory};
+    ghost use Rattle.drive_rules.specs.Scopes.{under};
     ghost use Rattle.reporter.specs.Left.{behind};
     ghost use Rattle.reporter.specs.Nesting.{AreNested};
     ghost use Rattle.reporter.specs.Visiting.{MayVisit};

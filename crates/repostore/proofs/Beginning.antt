@@ -1,12 +1,12 @@
 -- How the files of a new repository are written.
 use Rattle.std.proofs.Common.{◌≡◌, ◌≢◌, ◌⊎◌, inl, inr, ⊎_elim, ap, ◌∙◌, ℕ, List, [], ◌∷◌, Option, Some, arith}
 use Rattle.std.specs.Prelude.{◌<◌, ◌↔◌, Result, IsErr, IsErrOf}
-use Rattle.file_store.specs.Folders.{Folder, text_of, IsSame, SameBut, Scribbled}
-use Rattle.file_store.specs.Moments.{Elapses, LeavesOnly}
-use Rattle.file_store.specs.declared.name.FileName.{FileName}
-use Rattle.file_store.specs.declared.name.FileName.TheVariants.{Format, Kind, Uuid, Current, Locks, Revision, Properties, RepositoryFormat}
-use Rattle.file_store.specs.declared.fault.StoreFault.{StoreFault}
-use Rattle.file_store.specs.declared.fault.StoreFault.TheVariants.{Device, NoMemory}
+use Rattle.store_files.specs.Folders.{Folder, text_of, IsSame, SameBut, Scribbled}
+use Rattle.store_files.specs.Moments.{Elapses, LeavesOnly}
+use Rattle.store_files.specs.declared.name.FileName.{FileName}
+use Rattle.store_files.specs.declared.name.FileName.TheVariants.{Format, Kind, Uuid, Current, Locks, Revision, Properties, RepositoryFormat}
+use Rattle.store_files.specs.declared.fault.StoreFault.{StoreFault}
+use Rattle.store_files.specs.declared.fault.StoreFault.TheVariants.{Device, NoMemory}
 use Rattle.repostore.specs.Current.{count_in}
 use Rattle.repostore.specs.Files.{Files, HasFiles}
 use Rattle.repostore.specs.Saving.{Stands, Going}

@@ -2,9 +2,9 @@
 use Rattle.std.proofs.Common.{◌≡◌, refl, sym, ap, ◌∙◌, subst, ◌⊎◌, inl, inr, ℕ, zero, suc, ◌+◌, List, [], ◌∷◌, ◌++◌, Option, Some, None, arith, length, length-append, add-one}
 use Rattle.std.specs.Prelude.{◌<◌, ◌≤◌, option_map}
 use Rattle.std.proofs.lemmas.Bool.{cases_eq}
-use Rattle.file_store.specs.Folders.{Folder, text_of, SameBut, IsSame}
-use Rattle.file_store.specs.NameLaws.{all_same}
-use Rattle.file_store.specs.declared.name.FileName.TheVariants.{Format, Kind, Uuid, Current, Locks, Revision, Properties, RepositoryFormat}
+use Rattle.store_files.specs.Folders.{Folder, text_of, SameBut, IsSame}
+use Rattle.store_files.specs.NameLaws.{all_same}
+use Rattle.store_files.specs.declared.name.FileName.TheVariants.{Format, Kind, Uuid, Current, Locks, Revision, Properties, RepositoryFormat}
 use Rattle.std.proofs.Common.{cond}
 use Rattle.std.proofs.lemmas.Bool.Decides.{leb_tells}
 use Rattle.repostore.specs.Current.{count_in, counted, number_in}

@@ -1,14 +1,14 @@
 -- How reads go on.
 use Rattle.std.proofs.Common.{◌≡◌, ◌⊎◌, inl, inr, ⊎_elim, ℕ, Some, ◌∙◌, arith, le_refl}
 use Rattle.std.specs.Prelude.{◌≤◌}
-use Rattle.file_store.specs.Folders.{Folder, IsSame, text_of}
-use Rattle.file_store.specs.Moments.{Elapses, LeavesOnly}
+use Rattle.store_files.specs.Folders.{Folder, IsSame, text_of}
+use Rattle.store_files.specs.Moments.{Elapses, LeavesOnly}
 use Rattle.repostore.specs.Saving.{OnlyReads}
 use Rattle.fsfs_lines.specs.declared.fault.FileFault.{FileFault}
 use Rattle.fsfs_lines.specs.declared.fault.FileFault.TheVariants.{Truncated, BadLine, Delta, Digest, Dangling, WrongFormat, NoMemory}
-use Rattle.file_store.specs.declared.name.FileName.TheVariants.{Current, Locks}
-use Rattle.file_store.specs.declared.fault.StoreFault.{StoreFault}
-use Rattle.file_store.specs.declared.fault.StoreFault.TheVariants as store
+use Rattle.store_files.specs.declared.name.FileName.TheVariants.{Current, Locks}
+use Rattle.store_files.specs.declared.fault.StoreFault.{StoreFault}
+use Rattle.store_files.specs.declared.fault.StoreFault.TheVariants as store
 use Rattle.repostore.specs.Current.{count_in}
 use Rattle.repostore.specs.Reading.{Faulty, HasFaultyRevision, IsFaulty, IfFileFaulty, IfFaulty}
 use Rattle.repostore.proofs.Steps.{goes_on}

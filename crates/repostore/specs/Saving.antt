@@ -1,9 +1,9 @@
 -- How files are saved, call by call.
 use Rattle.std.specs.Prelude.{◌≡◌, ◌≤◌, ℕ, List, false, length, Some}
-use Rattle.file_store.specs.Folders.{Folder, IsSame, SameBut, Swapped}
-use Rattle.file_store.specs.Moments.{LeavesOnly, Elapses}
-use Rattle.file_store.specs.declared.name.FileName.{FileName}
-use Rattle.file_store.specs.declared.name.FileName.TheVariants.{Revision, Properties}
+use Rattle.store_files.specs.Folders.{Folder, IsSame, SameBut, Swapped}
+use Rattle.store_files.specs.Moments.{LeavesOnly, Elapses}
+use Rattle.store_files.specs.declared.name.FileName.{FileName}
+use Rattle.store_files.specs.declared.name.FileName.TheVariants.{Revision, Properties}
 use Rattle.repostore.specs.Files.{Files, HasFiles}
 use Rattle.repostore.specs.declared.saves.Saves.{Saves}
 

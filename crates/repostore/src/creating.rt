@@ -1,15 +1,15 @@
 //! The files of a repository that is new.
 ghost use Rattle.std.specs.Prelude.{◌≡◌, ◌∷◌, [], ◌↔◌, ℕ, List, Option, Some, None, IsSome, OnOk, IsErr, IsErrOf};
-ghost use Rattle.file_store.specs.Folders.{IsSame};
-ghost use Rattle.file_store.specs.Moments.{LeavesOnly, HasRisen, HasCause};
-ghost use Rattle.file_store.specs.declared.name.FileName.TheVariants.{Format, Locks};
+ghost use Rattle.store_files.specs.Folders.{IsSame};
+ghost use Rattle.store_files.specs.Moments.{LeavesOnly, HasRisen, HasCause};
+ghost use Rattle.store_files.specs.declared.name.FileName.TheVariants.{Format, Locks};
 ghost use Rattle.repostore.specs.Current.{count_in};
 ghost use Rattle.repostore.specs.Files.{HasFiles};
 ghost use Rattle.repostore.specs.Creating.{opening_files, IsFreeWith, IsFreeOrHas};
 ghost use Rattle.repostore.specs.Saving.{Stands};
 
-use file_store::{FileName, Store, StoreFault};
 use std::alloc::Global;
+use store_files::{FileName, Store, StoreFault};
 
 /// The files of a repository that is new, as bytes.
 #[derive(Clone, Copy)]

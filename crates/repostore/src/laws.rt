@@ -1,10 +1,10 @@
 //! What the promises of saves say together.
 ghost use Rattle.std.specs.Prelude.{◌≡◌, ◌⊎◌};
-ghost use Rattle.file_store.specs.Folders.{Folder};
-ghost use Rattle.file_store.specs.Moments.{LeavesOnly};
+ghost use Rattle.store_files.specs.Folders.{Folder};
+ghost use Rattle.store_files.specs.Moments.{LeavesOnly};
 ghost use Rattle.repostore.specs.Files.{Files, HasFiles, HasEither};
 
-use file_store::Store;
+use store_files::Store;
 
 /// What is opened after a stop in a save are the files from before it or those behind it, and nothing
 /// else.

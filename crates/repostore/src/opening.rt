@@ -1,18 +1,18 @@
 //! The files of a repository read back.
 ghost use Rattle.std.specs.Prelude.{◌≡◌, ◌⊎◌, Some, IfOk, IfErr, OnOk, IsErrOf};
-ghost use Rattle.file_store.specs.Folders.{bytes_of};
-ghost use Rattle.file_store.specs.Folders.{Folder, IsSame, text_of};
-ghost use Rattle.file_store.specs.Moments.{HasRisen, HasCause};
-ghost use Rattle.file_store.specs.declared.name.FileName.TheVariants.{Format, Uuid, Current, Locks};
+ghost use Rattle.store_files.specs.Folders.{bytes_of};
+ghost use Rattle.store_files.specs.Folders.{Folder, IsSame, text_of};
+ghost use Rattle.store_files.specs.Moments.{HasRisen, HasCause};
+ghost use Rattle.store_files.specs.declared.name.FileName.TheVariants.{Format, Uuid, Current, Locks};
 ghost use Rattle.repostore.specs.Current.{count_in};
 ghost use Rattle.repostore.specs.Files.{Files, HasFiles, revision_files, reached};
 ghost use Rattle.repostore.specs.Reading.{Faulty, HasTaken, IsFaulty, HasFaultyRevision, IfFaulty, IfFindsFaulty, IfStoreFindsFaulty, with_head, with_one_more, with_read_locks, read_below};
 ghost use Rattle.repostore.specs.Saving.{IsSaved, OnlyReads};
 
 use crate::saves::Saves;
-use file_store::{FileName, Store, StoreFault};
 use fsfs_lines::FileFault;
 use std::alloc::Global;
+use store_files::{FileName, Store, StoreFault};
 
 /// Makes a repository of its files, which it takes one after another.
 pub trait Reader: Drop {

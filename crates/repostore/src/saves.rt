@@ -1,11 +1,11 @@
 //! Changes saved to files.
 ghost use Rattle.std.specs.Prelude.{◌≡◌, ◌⊎◌, ◌<◌, ◌≤◌, ◌+◌, ◌↔◌, true, false, Some, length, OnOk, IsErr, IsErrOf};
-ghost use Rattle.file_store.specs.Moments.{LeavesOnly, HasRisen, HasCause};
+ghost use Rattle.store_files.specs.Moments.{LeavesOnly, HasRisen, HasCause};
 ghost use Rattle.repostore.specs.Current.{count_in};
 ghost use Rattle.repostore.specs.Files.{Files, with_revision, with_locks, with_properties, HasFiles, HasEither};
 ghost use Rattle.repostore.specs.Saving.{IsSaved, Going, Replaces, IsWritten, IsUnchanged, HasNext};
 
-use file_store::{FileName, Store, StoreFault};
+use store_files::{FileName, Store, StoreFault};
 
 /// The files of a repository that are saved: how many revisions they have, and whether a replacement has
 /// failed, since when nothing is written any more.

@@ -1,21 +1,21 @@
 //! Connections as they come: each becomes a session, or is turned away.
 ghost use Rattle.std.specs.Prelude.{◌≡◌, ◌∷◌, [], IfOk};
-ghost use Rattle.replies.specs.Replies.{print};
-ghost use Rattle.replies.specs.declared.reply.Reply.TheVariants.{Failure};
+ghost use Rattle.wire_replies.specs.Replies.{print};
+ghost use Rattle.wire_replies.specs.declared.reply.Reply.TheVariants.{Failure};
 
 use crate::journal::{Event, Journal};
 use conversations::OpenGate;
 use crossbeam_channel::Sender;
 use refusals::Refusal;
-use replies::MemorySink;
 use session_pool::{Admission, Caller, MAX_SESSIONS, SessionPool};
+use session_replies::tell_refusal;
 use std::alloc::{AllocError, Global};
 use std::io::{Eprint, Read, Write};
 use std::net::{IpAddr, Shutdown, SocketAddr, TcpListener, TcpStream};
 use std::sync::Wait;
 use std::time::{Clock, Duration};
 use std::{io, thread};
-use telling::tell_refusal;
+use wire_replies::MemorySink;
 
 /// How many times a connection that finds no place tries again, a millisecond apart: who has closed a session and comes
 /// again at once finds its own place free.

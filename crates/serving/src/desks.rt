@@ -9,7 +9,6 @@ use crate::fault::ServingFault;
 use crate::journal::Journal;
 use conversations::OpenGate;
 use crossbeam_channel::Receiver;
-use file_store::Store;
 use filed_archive::{FiledArchive, ServedRepo, ServedSeat, share};
 use published::{Naming, NewHistory, Published, Setting, Shown};
 use session_pool::{MAX_SESSIONS, SessionPool};
@@ -19,7 +18,8 @@ use std::io::Eprint;
 use std::random::RandomSource;
 use std::sync::{Arc, Wait};
 use std::time::Clock;
-use stored_repository::{Filed, StoredRepository};
+use store_access::{Filed, StoredRepository};
+use store_files::Store;
 
 /// A seat of a repository as a session reaches it.
 pub type Access<'r, R, F, S, J> = SeatAccess<

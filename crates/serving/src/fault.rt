@@ -1,9 +1,9 @@
 //! Why no sessions are served, or none any more.
 
 use cram::CramFault;
-use file_store::StoreFault;
 use std::alloc::{AllocError, AllocFailed};
 use std::io;
+use store_files::StoreFault;
 use thiserror::Error;
 
 /// Why no sessions are served, or none any more.

@@ -10,7 +10,6 @@ use crate::journal::{Event, Journal};
 use crate::settings::Settings;
 use conversations::OpenGate;
 use crossbeam_channel::{Receiver, Sender, unbounded};
-use file_store::Store;
 use filed_world::FiledWorld;
 use machine::Options;
 use published::Naming;
@@ -23,7 +22,8 @@ use std::sync::Wait;
 use std::thread;
 use std::thread::Threads;
 use std::time::Clock;
-use stored_repository::Filed;
+use store_access::Filed;
+use store_files::Store;
 
 /// Takes connections at an entrance of a repository in files: for any repository, since at a named one the checker
 /// reaches its limit of steps.

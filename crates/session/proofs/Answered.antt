@@ -5,7 +5,7 @@ use Rattle.svnpath.specs.Paths.{PathValue}
 use Rattle.svnpath.specs.Urls.{path_of_text, root_of_text}
 use Rattle.svnpath.specs.declared.fault.PathFault.{PathFault}
 use Rattle.repo_api.specs.States.{RepoState}
-use Rattle.forms.specs.declared.fault.CommandFault.{CommandFault}
+use Rattle.wire_forms.specs.declared.fault.CommandFault.{CommandFault}
 use Rattle.commands.specs.declared.login.ClientGreeting.{ClientGreeting}
 use Rattle.machine.specs.Settings.{Settings}
 use Rattle.machine.specs.Stages.{Stage, is_open}

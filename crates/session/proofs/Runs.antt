@@ -1,8 +1,8 @@
 -- How far a run has come.
 use Rattle.std.proofs.Common.{◌≡◌, ℕ, List, [], ◌∷◌, ◌++◌, Some, None, true, refl, sym, subst, inl, inr, append-nil, append_assoc}
-use Rattle.replies.specs.Replies.{print}
-use Rattle.replies.proofs.Parts.{both_written, part_none, part_all, part_first, part_behind}
-use Rattle.replies.specs.declared.reply.Reply.{Reply}
+use Rattle.wire_replies.specs.Replies.{print}
+use Rattle.wire_replies.proofs.Parts.{both_written, part_none, part_all, part_first, part_behind}
+use Rattle.wire_replies.specs.declared.reply.Reply.{Reply}
 use Rattle.access.specs.Points.{Point, AccessRules}
 use Rattle.machine.specs.Settings.{Settings}
 use Rattle.machine.specs.Hearing.{Input, YieldsFirst, Yields, HasNoMore}

@@ -1,8 +1,8 @@
 //! One input of a session.
 ghost use Rattle.std.specs.Prelude.{◌≡◌, [], IfOk, OnErr, if◌then◌else◌};
 ghost use Rattle.items.specs.View.{value_of};
-ghost use Rattle.replies.specs.Replies.{print};
-ghost use Rattle.replies.specs.Sinks.{WritesPart};
+ghost use Rattle.wire_replies.specs.Replies.{print};
+ghost use Rattle.wire_replies.specs.Sinks.{WritesPart};
 ghost use Rattle.access.specs.Points.{content_of};
 ghost use Rattle.machine.specs.Hearing.Input.{Whole};
 ghost use Rattle.machine.specs.Answers.{malformed, says};
@@ -13,17 +13,17 @@ ghost use Rattle.session.specs.Taking.{input_of};
 
 use crate::incoming::Incoming;
 use access::RepoAccess;
-use answering::answer_item;
-use committing::{edit_item, skip};
 use items::Item;
-use logins::{answer_challenge, greet, log_in};
 use machine::{Options, Phase, Turn};
-use replies::ReplySink;
 use repo_api::Repository;
-use reporting::{serve_driven, serve_report};
+use session_commands::answer_item;
+use session_commits::{edit_item, skip};
+use session_logins::{answer_challenge, greet, log_in};
+use session_replies::{SessionPhase, end_malformed};
+use session_reports::{serve_driven, serve_report};
 use std::alloc::AllocError;
 use std::mem::drop;
-use telling::{SessionPhase, end_malformed};
+use wire_replies::ReplySink;
 
 /// An item.
 fn serve_item<R: Repository, A: RepoAccess<View = R>, S: ReplySink>(

@@ -12,13 +12,13 @@ use access::RepoAccess;
 use byte_string::ByteString;
 use items::ItemReader;
 use machine::{Options, Phase, Turn, steps_keep_trees};
-use replies::ReplySink;
 use repo_api::Repository;
+use session_replies::SessionPhase;
 use std::alloc::{AllocError, Global};
 use std::marker::Model;
 use std::mem::{self, drop};
-use telling::SessionPhase;
 use thiserror::Error;
+use wire_replies::ReplySink;
 
 /// Why a session was not served.
 #[derive(Clone, Copy, Debug, PartialEq, Eq, Error)]

@@ -9,7 +9,6 @@ ghost use Rattle.repo_api.specs.Trees.{IsTree};
 use crate::seats::{Access, SoundTrees, new_files, opened, two_seats};
 use access::RepoAccess;
 use byte_string::ByteString;
-use file_store::{MemoryStore, Store};
 use filed_world::FiledWorld;
 use published::{Naming, NewHistory};
 use repo_api::{ChangeFault, CommitAsk, LockTokens, NodeKind, Repository};
@@ -18,7 +17,8 @@ use std::marker::Brand;
 use std::mem::{drop, swap};
 use std::sync::Wait;
 use std::test::Fail;
-use stored_repository::Filed;
+use store_access::Filed;
+use store_files::{MemoryStore, Store};
 use svnpath::Path;
 
 /// How many commits the two seats make.

@@ -4,7 +4,6 @@ ghost use Rattle.std.specs.Prelude.{◌≡◌};
 use crate::commits::{commit, youngest};
 use crate::seats::{Access, SoundTrees, new_files, opened, two_seats};
 use access::RepoAccess;
-use file_store::{FuseStore, Left, MemoryStore, Store};
 use filed_world::FiledWorld;
 use published::{Naming, NewHistory};
 use repo_api::ChangeFault;
@@ -12,6 +11,7 @@ use std::alloc::Global;
 use std::marker::Brand;
 use std::sync::Wait;
 use std::test::Fail;
+use store_files::{FuseStore, Left, MemoryStore, Store};
 
 /// What two seats are told: how the commit of the first is answered, the youngest revision that the second sees behind
 /// it, whether this one knows of a halt, and how its commit is answered.

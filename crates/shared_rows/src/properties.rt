@@ -4,7 +4,6 @@ ghost use Rattle.std.specs.Prelude.{◌≡◌};
 use crate::seats::{Access, new_files, opened, two_seats};
 use access::RepoAccess;
 use byte_string::ByteString;
-use file_store::{MemoryStore, Store};
 use filed_world::FiledWorld;
 use published::{Naming, NewHistory};
 use refusals::Refusal;
@@ -13,7 +12,8 @@ use std::alloc::{AllocError, Global};
 use std::marker::Brand;
 use std::sync::Wait;
 use std::test::Fail;
-use stored_repository::Filed;
+use store_access::Filed;
+use store_files::{MemoryStore, Store};
 
 /// A value of a property, or none.
 fn value_of(alloc: Global, value: &[u8]) -> Result<Option<ByteString>, AllocError> {

@@ -3,7 +3,6 @@ ghost use Rattle.std.specs.Prelude.{◌≡◌};
 
 use crate::commits::{commit, youngest};
 use crate::seats::{Access, new_files, opened, two_seats};
-use file_store::{FileName, MemoryStore, Store, StoreFault};
 use filed_world::FiledWorld;
 use published::{Naming, NewHistory};
 use std::alloc::{AllocError, Global};
@@ -13,7 +12,8 @@ use std::sync::{Arc, Wait};
 use std::test::Fail;
 use std::thread;
 use std::thread::{Threads, join};
-use stored_repository::Filed;
+use store_access::Filed;
+use store_files::{FileName, MemoryStore, Store, StoreFault};
 
 /// How often a mark is looked at, at most: for some ten seconds.
 const MOST_TURNS: u64 = 30_000_000;

@@ -1,19 +1,19 @@
 //! A repository in files in memory that two seats share.
 ghost use Rattle.std.specs.Prelude.{◌≡◌, IfOk};
-ghost use Rattle.file_store.specs.Folders.{Folder, IsSame};
+ghost use Rattle.store_files.specs.Folders.{Folder, IsSame};
 ghost use Rattle.filed_world.specs.Files.{filed_content};
 ghost use Rattle.repo_api.specs.Soundness.{AreSound};
 
-use file_store::{MemoryStore, Store};
 use filed_archive::{FiledArchive, share};
+use filed_opening::{FolderRepository, create, open, opened_trees_are_sound};
 use filed_world::FiledWorld;
 use published::{Naming, NewHistory, Published, Setting, Shown};
 use sharedrepo::SeatAccess;
 use std::alloc::{AllocError, Global};
 use std::sync::{Arc, Wait};
 use std::test::Fail;
-use stored_repository::{Filed, StoredRepository};
-use world_folder::{FolderRepository, create, open, opened_trees_are_sound};
+use store_access::{Filed, StoredRepository};
+use store_files::{MemoryStore, Store};
 
 /// A repository that is shared, as one seat reaches it.
 pub(crate) type Access<'r, F, S, J, R> = SeatAccess<

@@ -2,7 +2,7 @@
 use Rattle.std.proofs.Common.{◌≡◌, ℕ, ◌<◌, ◌≤◌, List, [], ◌∷◌, ◌++◌, length, map, Bool, true, false, Option, Some, None, inl, inr, refl, sym, ap, subst, ◌∙◌, append_assoc, append-nil}
 use Rattle.std.specs.Prelude.{◌⊎◌, if◌then◌else◌}
 use Rattle.std.proofs.lemmas.Grind.{flat_map-append}
-use Rattle.replies.specs.declared.reply.Reply.{Reply}
+use Rattle.wire_replies.specs.declared.reply.Reply.{Reply}
 use Rattle.repo_api.specs.States.{RepoState}
 use Rattle.machine.specs.Settings.{Settings}
 use Rattle.machine.specs.Hearing.{Input, Yields}

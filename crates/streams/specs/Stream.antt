@@ -1,10 +1,10 @@
 -- What it is to serve one session over a stream.
 use Rattle.std.specs.Prelude.{◌≡◌, ◌⊎◌, ℕ, Bool, true, ◌&&◌, not, is_some, List, [], ◌∷◌, ◌++◌, map, Option, Some, Result, Ok, Err}
 use Rattle.std.specs.Io.KnownBytes.{Consumes, Appends, IsAtEnd}
-use Rattle.replies.specs.declared.reply.Reply.{Reply}
+use Rattle.wire_replies.specs.declared.reply.Reply.{Reply}
 use Rattle.machine.specs.Hearing.{Yields}
 use Rattle.machine.specs.Stages.{SessionState}
-use Rattle.replies.specs.Replies.{print}
+use Rattle.wire_replies.specs.Replies.{print}
 use Rattle.machine.specs.declared.env.Env.{Env}
 use Rattle.hub.specs.declared.hub.HubFault.{HubFault}
 use Rattle.hub.specs.State.{HubState, session_of}

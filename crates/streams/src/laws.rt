@@ -1,7 +1,7 @@
 //! What joins streams to runs of a hub. The function does nothing: its contract is the law.
 ghost use Rattle.std.specs.Prelude.{ℕ, List};
 ghost use Rattle.std.specs.List.{flat_map};
-ghost use Rattle.replies.specs.declared.reply.Reply.{Reply};
+ghost use Rattle.wire_replies.specs.declared.reply.Reply.{Reply};
 ghost use Rattle.machine.specs.declared.env.Env.{Env};
 ghost use Rattle.hub.specs.Runs.{HubRun};
 ghost use Rattle.hub.specs.State.{HubState};

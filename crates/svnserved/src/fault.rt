@@ -1,12 +1,12 @@
 //! Why the program ends before its time.
 
-use file_store::StoreFault;
-use folder_store::FolderFault;
 use fsfs_lines::FileFault;
 use hub::HubFault;
 use serving::ServingFault;
 use std::alloc::{AllocError, AllocFailed};
 use std::{fmt, io};
+use store_files::StoreFault;
+use store_folder::FolderFault;
 use streams::ServeFault;
 
 /// Why the program ends before its time.

@@ -7,7 +7,7 @@ mod sharing;
 
 use command_line::{CommandLineFault, Location, Order, Service, read_command_line};
 use fault::ProgramFault;
-use file_store::Store;
+use filed_opening::FolderRepository;
 use folder_hub::FolderHub;
 use hub::{HubFault, Options, is_repository_name};
 use published::NewHistory;
@@ -19,8 +19,8 @@ use std::env;
 use std::io::ErrorKind;
 use std::marker::Brand;
 use std::process::ExitCode;
+use store_files::Store;
 use streams::run_stdio;
-use world_folder::FolderRepository;
 
 /// The words of the command line.
 fn words(rt: &HostRuntime) -> Result<Vec<String>, ProgramFault> {

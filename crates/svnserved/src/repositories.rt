@@ -1,18 +1,18 @@
 //! The repositories that are made and served.
-ghost use Rattle.file_store.specs.Folders.{Folder, IsSame};
+ghost use Rattle.store_files.specs.Folders.{Folder, IsSame};
 
 use crate::fault::ProgramFault;
-use file_store::{MemoryStore, Store, StoreFault};
+use filed_opening::{FolderRepository, create, open};
 use folder_hub::{FolderHub, open_hub};
-use folder_store::{FolderStore, Unknown};
 use hub::Options;
 use rand::rngs::StdRng;
 use serving::moment_now;
 use std::alloc::{AllocError, Global};
 use std::fs;
 use std::io::ErrorKind;
+use store_files::{MemoryStore, Store, StoreFault};
+use store_folder::{FolderStore, Unknown};
 use uuid::Uuid;
-use world_folder::{FolderRepository, create, open};
 
 /// The files of a repository in a folder of the system.
 pub type DiskStore = FolderStore<HostRuntime, Unknown>;

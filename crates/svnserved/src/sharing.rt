@@ -3,6 +3,7 @@ ghost use Rattle.std.specs.Prelude.{◌≡◌};
 
 use crate::fault::ProgramFault;
 use crate::repositories::DiskStore;
+use filed_opening::{FolderRepository, opened_trees_are_sound};
 use filed_world::FiledWorld;
 use published::{Naming, NewHistory};
 use serving::{Server, Settings, desks_of, serve};
@@ -13,7 +14,6 @@ use std::random::RandomSource;
 use std::sync::Wait;
 use std::thread::Threads;
 use std::time::Clock;
-use world_folder::{FolderRepository, opened_trees_are_sound};
 
 /// Serves sessions over TCP at a repository that was opened.
 pub fn serve_shared<J, R>(

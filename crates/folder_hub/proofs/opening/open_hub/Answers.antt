@@ -1,10 +1,10 @@
 use Rattle.std.proofs.Common.{sym, subst}
 use Rattle.hub.specs.State.{HubState}
-use Rattle.stored_repository.specs.Keeping.{StandsFor}
-use Rattle.stored_repository.specs.Stored.{point_in}
+use Rattle.store_access.specs.Keeping.{StandsFor}
+use Rattle.store_access.specs.Stored.{point_in}
 use Rattle.world.specs.Whole.{txn_state_of}
 use Rattle.filed_world.specs.Files.{filed_content}
-use Rattle.file_trees.specs.StandsFor as files
+use Rattle.filed_trees.specs.StandsFor as files
 use Rattle.folder_hub.proofs.opening.open_hub.Goals as goal
 
 pub returns-clause-found : goal.returns-clause-found

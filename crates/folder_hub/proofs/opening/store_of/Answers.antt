@@ -1,6 +1,6 @@
 use Rattle.std.proofs.Common.{sym, subst, ◌∙◌}
-use Rattle.stored_repository.specs.Keeping.{StandsFor}
-use Rattle.file_trees.specs.StandsFor as files
+use Rattle.store_access.specs.Keeping.{StandsFor}
+use Rattle.filed_trees.specs.StandsFor as files
 use Rattle.folder_hub.proofs.opening.store_of.Goals as goal
 
 pub returns-clause-holds : goal.returns-clause-holds

@@ -3,7 +3,7 @@ use Rattle.std.proofs.lemmas.List.{take_all}
 use Rattle.std.proofs.lemmas.Result.{IfOk-weaker}
 use Rattle.std.specs.Prelude.{is_some}
 use Rattle.svnpath.specs.PathLaws.{under_itself}
-use Rattle.drives.proofs.Joined.{or_false}
+use Rattle.drive_rules.proofs.Joined.{or_false}
 use Rattle.reporter.specs.Walks.{IsChild, AreChildren, AreAll, goes}
 use Rattle.reporter.proofs.Planning.{same_length, not_false}
 use Rattle.reporter.proofs.Plans.{absent, alike, below_file, same}

@@ -1,5 +1,5 @@
 use Rattle.std.proofs.Common.{◌≡◌, ◌⊎◌, inl, inr, Option, Some, sym, ◌∙◌}
-use Rattle.file_store.specs.Folders.{Folder}
+use Rattle.store_files.specs.Folders.{Folder}
 use Rattle.repostore.specs.Files.{Files, files_in, HasFiles, HasEither}
 use Rattle.repostore.proofs.laws.a_stop_is_opened_as_old_or_new.Goals as goal
 

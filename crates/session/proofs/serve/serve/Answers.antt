@@ -1,7 +1,7 @@
 use Rattle.access.specs.Points.{content_of}
 use Rattle.machine.specs.Hearing.Input.{Broken}
 use Rattle.machine.specs.Steps.{input_step}
-use Rattle.telling.proofs.Steps.{said, said_part, unparted}
+use Rattle.session_replies.proofs.Steps.{said, said_part, unparted}
 use Rattle.session.proofs.Answered.{broken_answer, broken_nothing, step_broken}
 use Rattle.session.proofs.serve.serve.Goals as goal
 

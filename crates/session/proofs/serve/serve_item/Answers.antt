@@ -1,15 +1,15 @@
 use Rattle.std.proofs.Common.{refl}
 use Rattle.items.specs.View.{value_of}
 use Rattle.commands.specs.Logins.{client_greeting}
-use Rattle.edit_commands.specs.Editing.{ends_edit}
+use Rattle.wire_edits.specs.Editing.{ends_edit}
 use Rattle.machine.specs.Hearing.Input.{Whole}
 use Rattle.machine.specs.Logins.{greeting_answer}
-use Rattle.drive_commands.specs.Reporting.{client_answer}
+use Rattle.drive_wire.specs.Reporting.{client_answer}
 use Rattle.machine.specs.Machine.{skipping_answer}
 use Rattle.machine.specs.Reports.{driven_answer}
 use Rattle.machine.specs.Steps.{input_step}
 use Rattle.machine.specs.declared.phase.Phase.TheVariants.{Greeted, Skipping, Driven}
-use Rattle.telling.proofs.Steps.{only_says, told_all, said, said_part, unparted}
+use Rattle.session_replies.proofs.Steps.{only_says, told_all, said, said_part, unparted}
 use Rattle.session.proofs.Answered.{greeting_nothing, skipping_nothing, driven_nothing}
 use Rattle.session.proofs.serve.serve_item.Goals as goal
 

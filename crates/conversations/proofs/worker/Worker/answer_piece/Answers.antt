@@ -1,6 +1,6 @@
 use Rattle.std.proofs.Common.{◌∙◌, rules}
 use Rattle.std.specs.Io.KnownBytes.{Appends}
-use Rattle.replies.specs.Replies.{print}
+use Rattle.wire_replies.specs.Replies.{print}
 use Rattle.conversations.proofs.Gathered.{all_written}
 use Rattle.conversations.proofs.worker.Worker.answer_piece.Goals as goal
 

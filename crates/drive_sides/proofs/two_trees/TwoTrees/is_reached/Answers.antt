@@ -1,7 +1,7 @@
 use Rattle.std.proofs.Common.{◌∙◌, ◌++◌, ◌∷◌, [], ap}
-use Rattle.drives.specs.Scopes.{said_or}
-use Rattle.reports.specs.Reported.{reported_entries}
-use Rattle.reports.specs.Targets.{client_tree, limit_of, target_tree}
+use Rattle.drive_rules.specs.Scopes.{said_or}
+use Rattle.drive_reports.specs.Reported.{reported_entries}
+use Rattle.drive_reports.specs.Targets.{client_tree, limit_of, target_tree}
 use Rattle.drive_sides.specs.Plans.{whole}
 use Rattle.drive_sides.proofs.Reaching.{stops, goes_on, ends}
 use Rattle.drive_sides.proofs.two_trees.TwoTrees.is_reached.Goals as goal

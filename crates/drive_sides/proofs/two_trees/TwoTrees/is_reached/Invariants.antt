@@ -1,6 +1,6 @@
 use Rattle.std.proofs.Common.{drop}
-use Rattle.reports.specs.Reported.{reported_entries}
-use Rattle.reports.specs.Targets.{client_tree, limit_of, target_tree}
+use Rattle.drive_reports.specs.Reported.{reported_entries}
+use Rattle.drive_reports.specs.Targets.{client_tree, limit_of, target_tree}
 use Rattle.drive_sides.specs.Plans.{whole}
 use Rattle.drive_sides.proofs.Reaching.{IsSoFar}
 use Rattle.drive_sides.proofs.two_trees.TwoTrees.is_reached.Given as goal

@@ -1,5 +1,5 @@
 use Rattle.std.proofs.Common.{ap, ◌∙◌}
-use Rattle.drives.proofs.Joined.{or_right}
+use Rattle.drive_rules.proofs.Joined.{or_right}
 use Rattle.repo_api.specs.Readings.{names_at}
 use Rattle.drive_sides.specs.Names.{is_name_among}
 use Rattle.drive_sides.proofs.Listing.{among_target}

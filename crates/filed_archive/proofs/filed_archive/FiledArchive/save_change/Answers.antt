@@ -1,8 +1,8 @@
 use Rattle.std.proofs.Common.{refl, subst}
 use Rattle.repo_api.specs.States.{RepoState}
 use Rattle.repostore.specs.Files.{Files}
-use Rattle.stored_repository.specs.Keeping.{LeavesEither}
-use Rattle.stored_repository.proofs.Stops.{kept_next, kept_still, saves_either}
+use Rattle.store_access.specs.Keeping.{LeavesEither}
+use Rattle.store_access.proofs.Stops.{kept_next, kept_still, saves_either}
 use Rattle.filed_archive.specs.Writing.{written}
 use Rattle.filed_archive.proofs.filed_archive.FiledArchive.save_change.Goals as goal
 

@@ -1,4 +1,4 @@
-use Rattle.stored_repository.proofs.Stops.{read_stands, left_stands}
+use Rattle.store_access.proofs.Stops.{read_stands, left_stands}
 use Rattle.filed_archive.proofs.filed_archive.FiledArchive.store.Goals as goal
 
 pub returns-clause-holds : goal.returns-clause-holds

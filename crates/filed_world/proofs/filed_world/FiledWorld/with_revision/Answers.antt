@@ -3,7 +3,7 @@ use Rattle.std.specs.Prelude.{slice_get}
 use Rattle.repostore.specs.Files.{with_revision}
 use Rattle.held.proofs.Seen.{held_many}
 use Rattle.fsfs_folder.specs.declared.current.Current.{Current}
-use Rattle.file_trees.specs.StandsFor.{revision_bytes}
+use Rattle.filed_trees.specs.StandsFor.{revision_bytes}
 use Rattle.filed_world.specs.Files.{AreFilesOf}
 use Rattle.filed_world.proofs.Changed.{many_tables, revision_added}
 use Rattle.filed_world.proofs.Newest.{youngest_is}

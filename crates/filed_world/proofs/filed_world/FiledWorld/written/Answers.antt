@@ -1,7 +1,7 @@
 use Rattle.std.proofs.Common.{◌≡◌, ◌++◌, ◌∷◌, [], sym, ap, subst, ◌∙◌}
 use Rattle.repo_api.specs.Histories.{history_of}
 use Rattle.noderevs.specs.Held.{blocks_of}
-use Rattle.file_trees.specs.Tables.{AreTabled}
+use Rattle.filed_trees.specs.Tables.{AreTabled}
 use Rattle.world.specs.Whole.{world_content}
 use Rattle.filed_world.proofs.Newest.{now_tabled}
 use Rattle.filed_world.proofs.filed_world.FiledWorld.written.Goals as goal

@@ -1,5 +1,5 @@
 use Rattle.std.proofs.Common.{◌≡◌, false, List, [], ◌∷◌, ◌++◌, ℕ, refl, sym, ap, subst, ◌∙◌}
-use Rattle.replies.specs.declared.reply.Reply.TheVariants.{Greeting}
+use Rattle.wire_replies.specs.declared.reply.Reply.TheVariants.{Greeting}
 use Rattle.machine.specs.Stages.{SessionState}
 use Rattle.hub.specs.State.{HubState, hub_at}
 use Rattle.hub.specs.Runs.{new_session}

@@ -1,5 +1,5 @@
 use Rattle.std.proofs.Common.{[], ◌∷◌, sym, ◌∙◌, inl, arith, length-append}
-use Rattle.file_store.specs.declared.name.FileName.TheVariants.{Current}
+use Rattle.store_files.specs.declared.name.FileName.TheVariants.{Current}
 use Rattle.repostore.specs.Files.{RevisionFiles, HasFiles, with_revision, HasEither}
 use Rattle.repostore.specs.Saving.{HasNext}
 use Rattle.repostore.proofs.Reaching.{published, publishing, counts_few}

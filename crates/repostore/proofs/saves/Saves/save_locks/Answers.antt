@@ -1,5 +1,5 @@
 use Rattle.std.proofs.Common.{◌∙◌, inl}
-use Rattle.file_store.specs.declared.name.FileName.TheVariants.{Locks}
+use Rattle.store_files.specs.declared.name.FileName.TheVariants.{Locks}
 use Rattle.repostore.specs.Files.{HasFiles, with_locks, HasEither}
 use Rattle.repostore.proofs.Reaching.{locks_are, locks_may_be}
 use Rattle.repostore.proofs.Steps.{begun, swapped, replaced, ok_gives_both}

@@ -1,6 +1,6 @@
 use Rattle.std.proofs.Common.{◌≡◌, ◌≤◌, Some, arith, length}
-use Rattle.file_store.specs.Folders.{Folder}
-use Rattle.file_store.specs.declared.name.FileName.TheVariants.{Revision, Properties}
+use Rattle.store_files.specs.Folders.{Folder}
+use Rattle.store_files.specs.declared.name.FileName.TheVariants.{Revision, Properties}
 use Rattle.repostore.specs.Files.{HasFiles}
 use Rattle.repostore.specs.Saving.{HasNext}
 use Rattle.repostore.proofs.Reaching.{behind_revision, behind_properties, behind_properties_too, next_is}

@@ -1,0 +1,51 @@
+-- Entries at their places.
+use Rattle.std.specs.Prelude.{◌≡◌, Bool, true, false, Option, option_map, option_and_then}
+use Rattle.repo_api.specs.States.{RepoState, trees_in}
+use Rattle.repo_api.specs.Trees.{revision_of}
+use Rattle.repo_api.specs.declared.entry.Content.{Content}
+use Rattle.repo_api.specs.declared.entry.Entry.{Entry}
+use Rattle.drive_rules.specs.Steps.{node_of}
+use Rattle.drive_reports.specs.Reported.{top_entry}
+use Rattle.drive_news.specs.News.{news_of}
+use Rattle.drive_news.specs.declared.news.Had.{Had}
+use Rattle.drive_news.specs.declared.news.News.{News}
+use Rattle.drive_news.specs.declared.news.Place.{Place}
+use Rattle.drive_news.specs.declared.news.Sight.{Sight}
+
+-- what stands at a place
+abbrev pub entry_at : RepoState → Place → Option Entry
+entry_at c place = trees_in c.revisions place.revision place.path.now
+
+-- what a client has of an entry
+abbrev pub entry_had : RepoState → Had → Option Entry
+entry_had c had = option_map (top_entry had.starts_empty) (entry_at c had.place)
+
+-- what the client has of an entry that is told, if it has any
+abbrev pub old_seen : RepoState → Sight → Option Entry
+old_seen c sight = option_and_then (entry_had c) sight.old
+
+-- what an entry is told of itself
+abbrev pub news_seen : RepoState → Sight → Option News
+news_seen c sight =
+    option_map (news_of c sight.purpose sight.is_stale (old_seen c sight)) (entry_at c sight.new)
+
+-- a directory, or a file with its text, where something stands
+abbrev pub entry_content : Option Entry → Option Content
+entry_content e = option_map (λ (x : Entry). x.content) e
+
+-- presence, kind, text, properties or the last change differ
+abbrev pub AreUnlike : Option Entry → Option Entry → Type 0
+AreUnlike e f =
+    (option_map node_of e ≡ option_map node_of f)
+    × (option_map (λ (x : Entry). x.last) e ≡ option_map (λ (x : Entry). x.last) f) → ⊥
+
+-- presence, kind, text, properties and the revision of the last change are the same
+abbrev pub AreLike : Option Entry → Option Entry → Type 0
+AreLike e f =
+    (option_map node_of e ≡ option_map node_of f)
+    × (option_map (λ x. revision_of x.last) e ≡ option_map (λ x. revision_of x.last) f)
+
+-- an answer to whether two entries differ
+abbrev pub Compares : Bool → Option Entry → Option Entry → Type 0
+Compares true e f = AreUnlike e f
+Compares false e f = AreLike e f

@@ -1,0 +1,90 @@
+//! What becomes of an entry's properties.
+ghost use Rattle.std.specs.Prelude.{◌≡◌, ◌==◌, ◌++◌, Decides, IfOk, length, map};
+ghost use Rattle.drive_rules.specs.Steps.{is_entry_property, property_values};
+ghost use Rattle.drive_news.specs.News.{is_told, names_in_both, property_changes};
+ghost use Rattle.drive_news.specs.Parts.{changes_named};
+
+use crate::news::PropertyChanges;
+use byte_string::ByteString;
+use repo_api::{Properties, is_same_value};
+use std::alloc::{AllocError, Global};
+use wire_forms::copy_optional;
+
+/// Whether the name is that of an entry property.
+fn is_entry_property(name: &[u8]) -> bool
+    ensures { result ≡ is_entry_property name.now }
+{
+    name.starts_with(b"svn:entry:".as_slice())
+}
+
+/// Whether a property is told: where it has another value now.
+fn is_told(old: &Properties, new: &Properties, name: &ByteString) -> bool
+    ensures { result ≡ is_told old.now new.now name.now }
+{
+    !is_entry_property(name.as_slice()) && !is_same_value(old.get(name), new.get(name))
+}
+
+/// Whether there are no properties.
+fn are_none(properties: &Properties) -> bool
+    ensures { result ≡ (length properties.now == 0) }
+{
+    properties.iter().next().is_none()
+}
+
+/// The properties that stand in one or the other.
+fn in_both(old: &Properties, new: &Properties) -> Result<Properties, AllocError>
+    ensures { IfOk result (λ both. map (λ p. p.0) both ≡ names_in_both old.now new.now) }
+{
+    let mut both = old.clone()?;
+    for (name, value) in new.iter() {
+        both.set(name.clone()?, value.clone()?)?;
+    }
+    Ok(both)
+}
+
+/// The changes, and then what becomes of the properties of these names.
+fn with_named(
+    changes: PropertyChanges,
+    old: &Properties,
+    new: &Properties,
+    names: &Properties,
+) -> Result<PropertyChanges, AllocError>
+    ensures { IfOk result (λ more. more
+        ≡ changes ++ changes_named old.now new.now (map (λ p. p.0) names.now)) }
+{
+    let mut changes = changes;
+    for (name, _) in names.iter() {
+        if is_told(old, new, name) {
+            changes.push(name.clone()?, copy_optional(new.get(name))?)?;
+        }
+    }
+    Ok(changes)
+}
+
+/// The changes, and then what becomes of the properties. Where there are none, it takes no memory.
+pub(crate) fn with_property_changes(
+    changes: PropertyChanges,
+    old: &Properties,
+    new: &Properties,
+) -> Result<PropertyChanges, AllocError>
+    ensures { IfOk result (λ more. more ≡ changes ++ property_changes old.now new.now) }
+{
+    if are_none(old) && are_none(new) {
+        return Ok(changes);
+    }
+    let names = in_both(old, new)?;
+    with_named(changes, old, new, &names)
+}
+
+/// Whether all properties have the same values, entry properties left out.
+pub(crate) fn are_same_properties(
+    alloc: Global,
+    old: &Properties,
+    new: &Properties,
+) -> Result<bool, AllocError>
+    ensures { IfOk result (λ same. Decides same
+        (property_values old.now ≡ property_values new.now)) }
+{
+    let changes = with_property_changes(PropertyChanges::new(alloc), old, new)?;
+    Ok(changes.as_slice().is_empty())
+}

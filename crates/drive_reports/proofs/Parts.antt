@@ -1,0 +1,126 @@
+-- What a graft shows beneath a path is a subtree of its own.
+use Rattle.std.proofs.Common.{◌≡◌, ℕ, Bool, true, false, cond, List, [], ◌∷◌, ◌++◌, length, drop, Option, Some, None, refl, sym, ap, ◌∙◌, option_map}
+use Rattle.std.proofs.lemmas.Bool.{false≢true}
+use Rattle.std.proofs.lemmas.List.{append_assoc, append-nil}
+use Rattle.std.specs.Prelude.{not, is_some, option_and_then, option_copied, Result, Ok, Err, IfOk, IfSome}
+use Rattle.svnpath.specs.Paths.{PathValue, Component, is_at_or_under}
+use Rattle.svnpath.specs.PathLaws.{under_is, under_append, rest_append}
+use Rattle.repo_api.specs.Trees.{Tree, is_directory}
+use Rattle.repo_api.specs.declared.entry.Entry.{Entry}
+use Rattle.drive_rules.specs.Scopes.{depth_below}
+use Rattle.drive_rules.specs.declared.depth.Depth.{Depth}
+use Rattle.drive_rules.specs.declared.depth.Depth.TheVariants.{Empty, Files, Immediates, Infinity}
+use Rattle.drive_rules.proofs.Entries.{under_more}
+use Rattle.drive_reports.specs.Places.{part_below, in_place, reported_subtree}
+use Rattle.drive_reports.specs.Reported.{ReportedEntry, in_subtree, in_graft, left_by, reported_as, shown_by}
+use Rattle.drive_reports.specs.declared.graft.Graft.{Graft}
+use Rattle.drive_reports.specs.declared.graft.Subtree.{Subtree}
+use Rattle.drive_reports.specs.declared.reported.ReportedPlace.{ReportedPlace}
+
+-- what is left of what is shown is all of it
+left_all : (depth : Depth) (rest : List Component) (e : Option Entry) → is_some (left_by depth rest e) ≡ true → left_by depth rest e ≡ e
+left_all Empty rest e h = absurd (false≢true h)
+left_all Files [] None h = refl
+left_all Files [] (Some e) h = by (is_directory e) refl
+  where
+    by : (b : Bool) → is_directory e ≡ b → left_by Files [] (Some e) ≡ Some e
+    by true d = absurd (false≢true (sym (ap (λ (x : Bool). is_some (cond (not x) (Some e) None)) d) ∙ h))
+    by false d = ap (λ (x : Bool). cond (not x) (Some e) None) d
+left_all Files (c ∷ rest) e h = absurd (false≢true h)
+left_all Immediates [] e h = refl
+left_all Immediates (c ∷ rest) e h = absurd (false≢true h)
+left_all Infinity rest e h = refl
+
+-- beneath what is shown the same is left, one depth further down
+left_below : (s : Subtree) (front : List Component) (c : Component) (rest : List Component) (e : Option Entry)
+    → option_map (reported_as s (depth_below s.depth) None) (left_by s.depth (front ++ c ∷ rest) e)
+    ≡ option_map (reported_as (part_below s (c ∷ [])) (depth_below (depth_below s.depth)) None) (left_by (depth_below s.depth) rest e)
+left_below s front c rest e = by s.depth front
+  where
+    by : (d : Depth) (front : List Component) → option_map (reported_as s (depth_below d) None) (left_by d (front ++ c ∷ rest) e)
+        ≡ option_map (λ (x : Entry). record { entry = x; revision = s.revision; depth = depth_below (depth_below d); token = None }) (left_by (depth_below d) rest e)
+    by Empty front = refl
+    by Files [] = refl
+    by Files (x ∷ xs) = refl
+    by Immediates [] = refl
+    by Immediates (x ∷ xs) = refl
+    by Infinity front = refl
+
+mapped_some : {A B : Type 0} (f : A → B) (o : Option A) → is_some (option_map f o) ≡ is_some o
+mapped_some f None = refl
+mapped_some f (Some x) = refl
+
+-- what a subtree shows beneath a path of it where it shows something
+pub in_part : (trees : ℕ → Tree) (from : PathValue) (s : Subtree) (front rest : List Component) → is_some (in_subtree trees from s front) ≡ true
+    → in_subtree trees from s (front ++ rest) ≡ in_subtree trees (from ++ front) (part_below s front) rest
+in_part trees from s [] rest some = ap (λ p. in_subtree trees p s rest) (sym (append-nil from))
+in_part trees from s (c ∷ front) rest some = by s.starts_empty refl rest
+  where
+    shown : Bool → List Component → Option ReportedEntry
+    shown b r = cond b None (option_map (reported_as s (depth_below s.depth) None) (left_by s.depth r (trees s.revision (from ++ c ∷ r))))
+
+    by : (b : Bool) → s.starts_empty ≡ b → (rest : List Component) → in_subtree trees from s (c ∷ (front ++ rest)) ≡ in_subtree trees (from ++ c ∷ front) (part_below s (c ∷ front)) rest
+    by true e rest = absurd (false≢true (sym (ap (λ b. is_some (shown b front)) e) ∙ some))
+    by false e [] =
+        ap (λ r. in_subtree trees from s (c ∷ r)) (append-nil front)
+        ∙ ap (λ b. shown b front) e
+        ∙ ap (option_map (reported_as s (depth_below s.depth) None)) (left_all s.depth front (trees s.revision (from ++ c ∷ front)) there)
+      where
+        there : is_some (left_by s.depth front (trees s.revision (from ++ c ∷ front))) ≡ true
+        there = sym (mapped_some (reported_as s (depth_below s.depth) None) (left_by s.depth front (trees s.revision (from ++ c ∷ front)))) ∙ sym (ap (λ b. is_some (shown b front)) e) ∙ some
+    by false e (x ∷ rest) =
+        ap (λ b. shown b (front ++ x ∷ rest)) e
+        ∙ left_below s front x rest (trees s.revision (from ++ c ∷ (front ++ x ∷ rest)))
+        ∙ ap (λ p. option_map (reported_as (part_below s (c ∷ front)) (depth_below (depth_below s.depth)) None) (left_by (depth_below s.depth) rest (trees s.revision p))) (sym (append_assoc from (c ∷ front) (x ∷ rest)))
+
+-- the same of a graft
+pub shown_part : (trees : ℕ → Tree) (g : Graft) (s : Subtree) (p rest : PathValue) → g.subtree ≡ Some s → is_some (shown_by trees p (Some g)) ≡ true
+    → shown_by trees (p ++ rest) (Some g) ≡ in_subtree trees (g.from ++ drop (length g.path) p) (part_below s (drop (length g.path) p)) rest
+shown_part trees g s p rest is some =
+    ap (λ b. cond b (in_graft trees g (drop (length g.path) (p ++ rest))) None) (under_more (p ++ rest) p g.path (under_append p rest) over)
+    ∙ ap (λ o. option_and_then (λ (t : Subtree). in_subtree trees g.from t (drop (length g.path) (p ++ rest))) o) is
+    ∙ ap (in_subtree trees g.from s) beneath
+    ∙ in_part trees g.from s (drop (length g.path) p) rest shown
+  where
+    over : is_at_or_under p g.path ≡ true
+    over = by (is_at_or_under p g.path) refl
+      where
+        by : (b : Bool) → is_at_or_under p g.path ≡ b → b ≡ true
+        by true e = refl
+        by false e = sym (ap (λ b. is_some (cond b (in_graft trees g (drop (length g.path) p)) None)) e) ∙ some
+
+    beneath : drop (length g.path) (p ++ rest) ≡ drop (length g.path) p ++ rest
+    beneath = ap (drop (length g.path)) (ap (λ q. q ++ rest) (under_is p g.path over) ∙ append_assoc g.path (drop (length g.path) p) rest) ∙ rest_append g.path (drop (length g.path) p ++ rest)
+
+    shown : is_some (in_subtree trees g.from s (drop (length g.path) p)) ≡ true
+    shown =
+        sym (ap (λ b. is_some (cond b (in_graft trees g (drop (length g.path) p)) None)) over
+        ∙ ap (λ o. is_some (option_and_then (λ (t : Subtree). in_subtree trees g.from t (drop (length g.path) p)) o)) is)
+        ∙ some
+
+-- ---- places
+
+pub place_is : (trees : ℕ → Tree) (place : ReportedPlace) (from : PathValue) (t : Subtree) (rest : PathValue) → place.path ≡ from
+    → reported_subtree place.revision place.starts_empty place.depth (option_copied place.token) ≡ t → in_subtree trees from t rest ≡ in_place trees place rest
+place_is trees place from t rest is part =
+    ap (λ p. in_subtree trees p t rest) (sym is) ∙ ap (λ s. in_subtree trees place.path s rest) (sym part)
+
+none_of : {A : Type 0} (o : Option A) → false ≡ is_some o → o ≡ None
+none_of None h = refl
+none_of (Some x) h = absurd (false≢true h)
+
+pub found_here : {E : Type 0} (trees : ℕ → Tree) (had : Option ReportedEntry) (p : PathValue) (g : Graft) (found : Result (Option ReportedPlace) E) → had ≡ shown_by trees p (Some g)
+    → IfOk found (λ f. is_some f ≡ is_some (shown_by trees p (Some g)))
+    → IfOk found (λ f. (rest : List Component) → IfSome f (λ place. shown_by trees (p ++ rest) (Some g) ≡ in_place trees place rest))
+    → IfOk found (λ f. had ≡ option_and_then (λ place. in_place trees place []) f)
+found_here trees had p g (Ok None) is stands part = is ∙ none_of (shown_by trees p (Some g)) stands
+found_here trees had p g (Ok (Some place)) is stands part = is ∙ ap (λ q. shown_by trees q (Some g)) (sym (append-nil p)) ∙ part []
+found_here trees had p g (Err e) is stands part = tt
+
+pub found_beneath : {E : Type 0} (trees : ℕ → Tree) (had : PathValue → Option ReportedEntry) (over : PathValue → Bool) (p : PathValue) (g : Graft) (found : Result (Option ReportedPlace) E)
+    → ((q : PathValue) → is_at_or_under q p ≡ true → over q ≡ false → had q ≡ shown_by trees q (Some g))
+    → IfOk found (λ f. (rest : List Component) → IfSome f (λ place. shown_by trees (p ++ rest) (Some g) ≡ in_place trees place rest))
+    → IfOk found (λ f. (rest : List Component) → over (p ++ rest) ≡ false → IfSome f (λ place. had (p ++ rest) ≡ in_place trees place rest))
+found_beneath trees had over p g (Ok None) beneath part = λ rest free. tt
+found_beneath trees had over p g (Ok (Some place)) beneath part = λ rest free. beneath (p ++ rest) (under_append p rest) free ∙ part rest
+found_beneath trees had over p g (Err e) beneath part = tt

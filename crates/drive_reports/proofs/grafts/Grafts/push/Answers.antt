@@ -1,0 +1,72 @@
+use Rattle.std.proofs.Common.{arith, ◌≡◌, ◌-◌, ◌++◌, ◌∷◌, [], ◌||◌, length, take, Some, ap, sym, subst, ◌∙◌}
+use Rattle.std.proofs.Math.Seq.{take-append_seam}
+use Rattle.std.proofs.lemmas.List.{length_push}
+use Rattle.std.proofs.lemmas.List.Elements.{All-nil, All-cons, All-append}
+use Rattle.std.proofs.lemmas.List.Folds.{list_any-append}
+use Rattle.std.specs.Prelude.{if◌then◌else◌, vec_len}
+use Rattle.std.specs.List.{list_any}
+use Rattle.svnpath.specs.Paths.{PathValue, same_path}
+use Rattle.drive_reports.specs.Depths.{is_shallow}
+use Rattle.drive_reports.specs.Finding.{AreFound, place_of}
+use Rattle.drive_reports.specs.Named.{AreNamed, IsNamed}
+use Rattle.drive_reports.specs.declared.graft.Graft.{Graft}
+use Rattle.drive_reports.proofs.Finding.{found_more, or_nothing}
+use Rattle.drive_reports.proofs.grafts.Grafts.push.Goals as goal
+
+pub invariant_of-self : goal.invariant_of-self
+invariant_of-self c =
+    let index = c.self.inside.index in
+    subst
+    (λ gs. AreNamed gs × AreFound gs index.newest.entries index.older.items
+    × (c.self.inside.has_shallow ≡ list_any is_shallow gs))
+    (sym c.in_err-push.ensures.items) c.self.invariant
+
+pub invariant_of-self-in-Ok : goal.invariant_of-self-in-Ok
+invariant_of-self-in-Ok c =
+    let gs = c.self.inside.grafts.items in
+    let graft = c.args.graft in
+    let old = c.self.inside.index in
+    let new = c.note.new.self in
+    let at = c.in_ok-path.ensures.cases in
+    let named =
+    All-append (λ (g : Graft). IsNamed g.path) gs (graft ∷ []) c.self.invariant.0
+    (All-cons (λ (g : Graft). IsNamed g.path) graft [] c.requires (All-nil (λ (g : Graft). IsNamed g.path))) in
+    let put =
+    subst
+    (λ (p : PathValue). (q : PathValue) → place_of new.newest.entries q
+    ≡ (if same_path p q then Some (length old.older.items) else place_of old.newest.entries q))
+    at c.in-Ok.ensures.newest in
+    let pushed =
+    subst (λ (p : PathValue). new.older.items ≡ old.older.items ++ place_of old.newest.entries p ∷ []) at c.in-Ok.ensures.older in
+    let found =
+    found_more gs graft old.newest.entries new.newest.entries old.older.items new.older.items c.self.invariant.1 put pushed in
+    let shallow : c.has_shallow_too-has_shallow.result ≡ list_any is_shallow (gs ++ graft ∷ []) =
+    c.has_shallow_too-has_shallow.ensures
+    ∙ ap (λ b. b || is_shallow graft) c.self.invariant.2
+    ∙ ap (λ b. list_any is_shallow gs || b) (sym (or_nothing (is_shallow graft)))
+    ∙ sym (list_any-append is_shallow gs (graft ∷ [])) in
+    subst
+    (λ gs. AreNamed gs × AreFound gs new.newest.entries new.older.items
+    × (c.has_shallow_too-has_shallow.result ≡ list_any is_shallow gs))
+    (sym c.in_ok-push.ensures.items) (named, found, shallow)
+
+pub invariant_of-self-in-Err : goal.invariant_of-self-in-Err
+invariant_of-self-in-Err c =
+    let gs = c.self.inside.grafts.items in
+    let old = c.self.inside.index in
+    let new = c.note.new.self in
+    let long = c.push.new.self.ok.0 in
+    let one = ap length c.in_ok-push.ensures.items ∙ length_push gs c.args.graft in
+    let few : vec_len c.push.new.self - 1 ≡ length gs = omega (long, one, arith) in
+    let back : c.pop.new.self.items ≡ gs =
+    c.pop.ensures.rest
+    ∙ ap (λ n. take n c.push.new.self.items) few
+    ∙ ap (take (length gs)) c.in_ok-push.ensures.items
+    ∙ take-append_seam gs (c.args.graft ∷ []) in
+    let found : AreFound gs new.newest.entries new.older.items =
+    subst (λ es. AreFound gs es new.older.items) (sym c.in-Err.ensures.err.0)
+    (subst (λ os. AreFound gs old.newest.entries os) (sym c.in-Err.ensures.err.1) c.self.invariant.1) in
+    subst
+    (λ gs. AreNamed gs × AreFound gs new.newest.entries new.older.items
+    × (c.self.inside.has_shallow ≡ list_any is_shallow gs))
+    (sym back) (c.self.invariant.0, found, c.self.invariant.2)

@@ -1,0 +1,47 @@
+-- The depths that are reported and asked for.
+use Rattle.std.specs.Prelude.{Bool, true, false, not, Option, Some, None, Result, Ok, Err}
+use Rattle.std.specs.Option.{option_map_or}
+use Rattle.refusals.specs.declared.Refusal.{Refusal}
+use Rattle.refusals.specs.declared.Refusal.TheVariants as refusals
+use Rattle.drive_rules.specs.declared.depth.Depth.{Depth}
+use Rattle.drive_rules.specs.declared.depth.Depth.TheVariants.{Empty, Files, Immediates, Infinity}
+use Rattle.wire_reports.specs.declared.depth_word.DepthWord.{DepthWord}
+use Rattle.wire_reports.specs.declared.depth_word.DepthWord.TheVariants.{Known, Unknown, Exclude}
+use Rattle.drive_reports.specs.declared.ask.DepthAsked.{DepthAsked}
+use Rattle.drive_reports.specs.declared.ask.DepthAsked.TheVariants as asks
+use Rattle.drive_reports.specs.declared.ask.Purpose.{Purpose}
+use Rattle.drive_reports.specs.declared.ask.Purpose.TheVariants.{Update, Switch, Status}
+use Rattle.drive_reports.specs.declared.graft.Graft.{Graft}
+
+-- how much of what stands there a client reports: everything, where it says nothing of it
+abbrev pub graft_depth : Option DepthWord → Result Depth Refusal
+graft_depth None = Ok Infinity
+graft_depth (Some (Known depth)) = Ok depth
+graft_depth (Some Unknown) = Err refusals.NotSupported
+graft_depth (Some Exclude) = Err refusals.NotSupported
+
+-- the depth of what is asked for without what is beneath directories
+abbrev pub shallow : Purpose → Depth
+shallow Update = Files
+shallow Switch = Files
+shallow Status = Empty
+
+-- how deep a drive is to go: by its word, or else by whether it is asked for what is beneath
+-- directories too
+abbrev pub depth_asked : Purpose → Bool → Option DepthWord → Result DepthAsked Refusal
+depth_asked purpose recurse (Some (Known depth)) = Ok (asks.Given depth)
+depth_asked purpose recurse (Some Unknown) = Ok asks.AsReported
+depth_asked purpose recurse (Some Exclude) = Err refusals.NotSupported
+depth_asked purpose true None = Ok (asks.Given Infinity)
+depth_asked purpose false None = Ok (asks.Given (shallow purpose))
+
+-- everything beneath a directory is reported, or asked for
+abbrev pub is_to_the_end : Depth → Bool
+is_to_the_end Empty = false
+is_to_the_end Files = false
+is_to_the_end Immediates = false
+is_to_the_end Infinity = true
+
+-- less than everything is reported of what the graft puts
+abbrev pub is_shallow : Graft → Bool
+is_shallow g = option_map_or (λ s. not (is_to_the_end s.depth)) g.subtree false

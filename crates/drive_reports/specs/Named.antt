@@ -1,0 +1,13 @@
+-- Paths that a client can name.
+use Rattle.std.specs.Prelude.{List, All}
+use Rattle.svnpath.specs.Paths.{PathValue}
+use Rattle.svnpath.specs.Components.{IsComponent}
+use Rattle.drive_reports.specs.declared.graft.Graft.{Graft}
+
+-- its components are right ones, however many they are
+abbrev pub IsNamed : PathValue → Type 0
+IsNamed p = All IsComponent p
+
+-- each graft stands at such a path
+abbrev pub AreNamed : List Graft → Type 0
+AreNamed grafts = All (λ g. IsNamed g.path) grafts

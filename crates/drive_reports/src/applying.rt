@@ -1,0 +1,255 @@
+//! What the commands of a report make of it.
+ghost use Rattle.std.specs.Prelude.{◌≡◌, Some, option_copied, IfOk};
+ghost use Rattle.repo_api.specs.Soundness.{AreTrees};
+ghost use Rattle.drive_reports.specs.Judging.{JudgesReport};
+ghost use Rattle.drive_reports.specs.Named.{IsNamed};
+ghost use Rattle.drive_reports.specs.Refusing.{may_come, may_lack, root_after, graft_of, set_path_graft, set_path_answer, delete_path_graft, delete_path_answer, report_with_graft, kept_report, has_goal, has_anchor, finish_root};
+
+use crate::ask::{DriveAsk, Purpose};
+use crate::fault::ReportFault;
+use crate::graft::{Graft, Subtree};
+use crate::grafts::Grafts;
+use crate::judging::{graft_depth, is_directory_there, is_there, judge, revision_read, url_or};
+use crate::report::{OpenReport, Report, ReportRoot};
+use crate::reported::{has_directory, has_place};
+use crate::sources::{own_source, report_path};
+use byte_string::ByteString;
+use drive_rules::Depth;
+use refusals::Refusal;
+use repo_api::Repository;
+use std::alloc::{AllocError, Global};
+use std::mem::drop;
+use svnpath::Path;
+use wire_reports::ReportedPath;
+
+/// A path that is set, or linked to a URL.
+#[derive(Clone, Copy)]
+pub struct Link<'a> {
+    pub reported: &'a ReportedPath,
+    pub url: Option<&'a ByteString>,
+}
+
+/// Whether a path may be set now, or linked to a URL: the first command must set the target.
+fn may_come(alloc: Global, report: &OpenReport<Grafts>, link: Link<'_>) -> Result<bool, AllocError>
+    ensures { IfOk result (λ answer. answer ≡ may_come report.now link.entry.reported.now.path
+        (option_copied link.entry.url)) }
+{
+    if report.root.is_some() {
+        return Ok(true);
+    }
+    if link.url.is_some() {
+        return Ok(false);
+    }
+    match report_path(alloc, &report.ask, &link.reported.path) {
+        Ok(path) => Ok(&path == report.ask.target.as_path()),
+        Err(ReportFault::Refused(_)) => Ok(false),
+        Err(ReportFault::NoMemory) => Err(AllocError),
+    }
+}
+
+/// Whether nothing need stand where the target is reported first.
+fn may_lack(report: &OpenReport<Grafts>) -> bool
+    ensures { result ≡ may_lack report.now }
+{
+    report.root.is_none() && !report.ask.target.as_path().is_root()
+}
+
+/// The path that was reported first stays.
+fn root_after(root: Option<ReportRoot>, revision: u64, depth: Depth) -> ReportRoot
+    ensures { result ≡ root_after root revision depth }
+{
+    match root {
+        None => ReportRoot { revision, depth },
+        Some(root) => root,
+    }
+}
+
+/// The graft of a path that is set.
+fn graft_of(
+    path: Path,
+    from: Path,
+    revision: u64,
+    depth: Depth,
+    reported: &ReportedPath,
+) -> Result<Graft, AllocError>
+    ensures { IfOk result (λ graft. graft ≡ graft_of path from revision depth reported.now) }
+{
+    let token = reported.token.clone()?;
+    Ok(Graft {
+        path,
+        from,
+        subtree: Some(Subtree {
+            revision,
+            starts_empty: reported.starts_empty,
+            depth,
+            token,
+        }),
+    })
+}
+
+/// The root and the graft of a path that is set, or linked to a URL, over the repository as it is
+/// now.
+fn set_path_graft<R: Repository>(
+    alloc: Global,
+    view: &R,
+    name: &str,
+    report: &OpenReport<Grafts>,
+    link: Link<'_>,
+) -> Result<(ReportRoot, Graft), ReportFault>
+    requires { AreTrees (R.content view.now).revisions }
+    ensures judged { JudgesReport result (set_path_graft (R.content view.now) name.now report.now
+        link.entry.reported.now (option_copied link.entry.url)) }
+    ensures named { IfOk result (λ made. IsNamed made.1.path) }
+{
+    let ask = &report.ask;
+    let top = ask.target.as_path();
+    let grafts = &report.grafts;
+    judge(may_come(alloc, report, link)?, Refusal::MalformedData)?;
+    let path = report_path(alloc, ask, &link.reported.path)?;
+    let own = own_source(alloc, ask, grafts, &path)?;
+    let from = url_or(alloc, name, own, link.url)?;
+    let revision = revision_read(view, Some(link.reported.revision))?;
+    let depth = graft_depth(link.reported.depth)?;
+    let is_placed = has_place(alloc, view, top, grafts, &path)?;
+    judge(is_placed, Refusal::NotFound)?;
+    judge(
+        is_there(view, revision, &from) || may_lack(report),
+        Refusal::NotFound,
+    )?;
+    let root = root_after(report.root, revision, depth);
+    Ok((root, graft_of(path, from, revision, depth, link.reported)?))
+}
+
+/// The graft of a path at which nothing is.
+fn delete_path_graft(
+    alloc: Global,
+    report: &OpenReport<Grafts>,
+    text: &ByteString,
+) -> Result<Graft, ReportFault>
+    ensures judged { JudgesReport result (delete_path_graft report.now text.now) }
+    ensures named { IfOk result (λ graft. IsNamed graft.path) }
+{
+    judge(report.root.is_some(), Refusal::MalformedData)?;
+    let path = report_path(alloc, &report.ask, text)?;
+    judge(!path.is_root(), Refusal::MalformedData)?;
+    let from = own_source(alloc, &report.ask, &report.grafts, &path)?;
+    Ok(Graft {
+        path,
+        from,
+        subtree: None,
+    })
+}
+
+/// The report with one graft more.
+fn grafted(
+    alloc: Global,
+    mut report: OpenReport<Grafts>,
+    root: Option<ReportRoot>,
+    graft: Graft,
+) -> Result<Report<Grafts>, AllocError>
+    requires { IsNamed graft.path }
+    ensures { IfOk result (λ next. next ≡ report_with_graft report root graft) }
+{
+    report.grafts.push(graft)?;
+    report.root = root;
+    Ok(Report::Open(report))
+}
+
+/// What a path that is set, or linked to a URL, makes of a report. The first refusal is kept.
+pub fn set_path<R: Repository>(
+    alloc: Global,
+    view: &R,
+    name: &str,
+    report: OpenReport<Grafts>,
+    link: Link<'_>,
+) -> Result<Report<Grafts>, AllocError>
+    requires { AreTrees (R.content view.now).revisions }
+    ensures { IfOk result (λ next. next ≡ kept_report (set_path_answer (R.content view.now) name.now
+        report link.entry.reported.now (option_copied link.entry.url))) }
+{
+    match set_path_graft(alloc, view, name, &report, link) {
+        Ok((root, graft)) => grafted(alloc, report, Some(root), graft),
+        Err(ReportFault::Refused(refusal)) => {
+            drop(report);
+            Ok(Report::Refused(refusal))
+        }
+        Err(ReportFault::NoMemory) => {
+            drop(report);
+            Err(AllocError)
+        }
+    }
+}
+
+/// What a path at which nothing is makes of a report. The first refusal is kept.
+pub fn delete_path(
+    alloc: Global,
+    report: OpenReport<Grafts>,
+    text: &ByteString,
+) -> Result<Report<Grafts>, AllocError>
+    ensures { IfOk result (λ next. next ≡ kept_report (delete_path_answer report text.now)) }
+{
+    match delete_path_graft(alloc, &report, text) {
+        Ok(graft) => {
+            let root = report.root;
+            grafted(alloc, report, root, graft)
+        }
+        Err(ReportFault::Refused(refusal)) => {
+            drop(report);
+            Ok(Report::Refused(refusal))
+        }
+        Err(ReportFault::NoMemory) => {
+            drop(report);
+            Err(AllocError)
+        }
+    }
+}
+
+/// Whether something stands at the URL of a switch.
+fn has_goal<R: Repository>(view: &R, ask: &DriveAsk) -> bool
+    ensures { result ≡ has_goal (R.content view.now) ask.now ask.now.purpose }
+{
+    match ask.purpose {
+        Purpose::Switch => is_there(view, ask.revision, &ask.goal),
+        Purpose::Update => true,
+        Purpose::Status => true,
+    }
+}
+
+/// Whether the anchor is a directory: with a target, in the repository; without one, in what the
+/// client has and in what it is to have.
+fn has_anchor<R: Repository>(
+    alloc: Global,
+    view: &R,
+    report: &OpenReport<Grafts>,
+) -> Result<bool, AllocError>
+    requires { AreTrees (R.content view.now).revisions }
+    ensures { IfOk result (λ answer. answer
+        ≡ has_anchor (R.content view.now) report.now.ask report.now.grafts) }
+{
+    let ask = &report.ask;
+    let top = ask.target.as_path();
+    if !top.is_root() {
+        return Ok(is_directory_there(view, ask.revision, &ask.anchor));
+    }
+    if !is_directory_there(view, ask.revision, &ask.goal) {
+        return Ok(false);
+    }
+    has_directory(alloc, view, top, &report.grafts, top)
+}
+
+/// The path that was reported first, where there is to be a drive, or why there is none.
+pub fn finish<R: Repository>(
+    alloc: Global,
+    view: &R,
+    report: &OpenReport<Grafts>,
+) -> Result<ReportRoot, ReportFault>
+    requires { AreTrees (R.content view.now).revisions }
+    ensures { JudgesReport result (finish_root (R.content view.now) report.now) }
+{
+    let root = report
+        .root
+        .ok_or(ReportFault::Refused(Refusal::MalformedData))?;
+    judge(has_goal(view, &report.ask), Refusal::NotFound)?;
+    judge(has_anchor(alloc, view, report)?, Refusal::NotFound)?;
+    Ok(root)
+}

@@ -1,0 +1,34 @@
+//! What is asked of a drive.
+use crate::named_path::NamedPath;
+use drive_rules::Depth;
+use svnpath::Path;
+
+/// What a drive is for.
+#[derive(Clone, Copy, Debug, PartialEq, Eq)]
+pub enum Purpose {
+    Update,
+    Switch,
+    Status,
+}
+
+/// How deep a drive is to go: to a depth, or as deep as is reported.
+#[derive(Clone, Copy, Debug, PartialEq, Eq)]
+pub enum DepthAsked {
+    Given(Depth),
+    AsReported,
+}
+
+/// What is asked of a drive.
+#[derive(Debug, Drop)]
+pub struct DriveAsk {
+    pub purpose: Purpose,
+    /// The path of the session's URL.
+    pub anchor: Path,
+    /// The path of what is to be changed, from the anchor on.
+    pub target: NamedPath,
+    /// The path in the repository of what it is to become.
+    pub goal: Path,
+    /// The revision of what it is to become.
+    pub revision: u64,
+    pub depth: DepthAsked,
+}

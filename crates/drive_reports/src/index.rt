@@ -1,0 +1,67 @@
+//! Finds the grafts of a report by their paths.
+ghost use Rattle.std.specs.Prelude.{◌≡◌, ◌++◌, ◌∷◌, [], Option, Some, length, if◌then◌else◌, OnOk, OnErr};
+ghost use Rattle.std.specs.List.{list_any};
+ghost use Rattle.std.specs.Map.{keys_of};
+ghost use Rattle.svnpath.specs.Paths.{PathValue, same_path};
+ghost use Rattle.drive_rules.specs.Scopes.{below};
+ghost use Rattle.drive_reports.specs.Finding.{place_of};
+
+use std::alloc::{AllocError, Global};
+use std::collections::BTreeMap;
+use std::ops::Bound::{Excluded, Unbounded};
+use svnpath::Path;
+
+/// Where the grafts of a report stand in their order.
+#[derive(Drop)]
+pub(crate) struct GraftIndex {
+    /// The place of the last graft at each path.
+    pub newest: BTreeMap<Path, usize>,
+    /// For each graft the place of the one before it at the same path.
+    pub older: Vec<Option<usize>>,
+}
+
+impl GraftIndex {
+    /// Finds nothing.
+    pub fn new(alloc: Global) -> Self
+        ensures newest { result.newest.entries ≡ [] }
+        ensures older { result.older.items ≡ [] }
+    {
+        GraftIndex {
+            newest: BTreeMap::new(alloc),
+            older: Vec::new(alloc),
+        }
+    }
+
+    /// Notes one graft more, at a path.
+    pub fn note(&mut self, path: &Path) -> Result<(), AllocError>
+        ensures newest { OnOk result ((q : PathValue) → place_of self.new.newest.entries q
+            ≡ (if same_path path.now q then Some (length self.old.older.items)
+            else place_of self.old.newest.entries q)) }
+        ensures older { OnOk result (self.new.older.items
+            ≡ self.old.older.items ++ place_of self.old.newest.entries path.now ∷ []) }
+        ensures err { OnErr result ((self.new.newest.entries ≡ self.old.newest.entries)
+            × (self.new.older.items ≡ self.old.older.items)) }
+    {
+        let key = path.clone()?;
+        let place = self.older.len();
+        self.older.push(self.newest.get(path).copied())?;
+        match self.newest.insert(key, place) {
+            Ok(_) => Ok(()),
+            Err(error) => {
+                self.older.pop();
+                Err(AllocError::from(error))
+            }
+        }
+    }
+
+    /// Whether a graft stands beneath a path. If one does, the first that comes behind the path in the
+    /// order of components does.
+    pub fn has_beneath(&self, path: &Path) -> bool
+        ensures { result ≡ list_any (below path.now) (keys_of self.now.newest.entries) }
+    {
+        match self.newest.range((Excluded(path), Unbounded)).next() {
+            None => false,
+            Some((next, _)) => next.is_at_or_under(path),
+        }
+    }
+}

@@ -1,0 +1,133 @@
+//! The rules by which a command of a report is refused, each by itself.
+ghost use Rattle.std.specs.Prelude.{◌≡◌, ◌++◌, drop, length, is_some, option_copied, IfOk};
+ghost use Rattle.repo_api.specs.Trees.{is_directory_there};
+ghost use Rattle.svnpath.specs.Texts.{joined};
+ghost use Rattle.repo_api.specs.States.{trees_in};
+ghost use Rattle.drive_reports.specs.Depths.{graft_depth, depth_asked, shallow};
+ghost use Rattle.drive_reports.specs.Judging.{JudgesReport};
+ghost use Rattle.drive_reports.specs.Named.{IsNamed};
+ghost use Rattle.drive_reports.specs.Refusing.{ok_if, or_refusal, url_or, revision_read};
+
+use crate::ask::{DepthAsked, Purpose};
+use crate::fault::ReportFault;
+use byte_string::ByteString;
+use drive_rules::Depth;
+use refusals::Refusal;
+use repo_api::{NodeKind, Repository};
+use std::alloc::Global;
+use std::mem::drop;
+use svnpath::Path;
+use wire_reports::DepthWord;
+
+/// What does not hold is refused so.
+pub(crate) fn judge(holds: bool, refusal: Refusal) -> Result<(), ReportFault>
+    ensures { JudgesReport result (ok_if holds refusal) }
+{
+    if holds {
+        Ok(())
+    } else {
+        Err(ReportFault::Refused(refusal))
+    }
+}
+
+/// The path that a text names beneath another.
+pub(crate) fn path_named(alloc: Global, base: &Path, text: &ByteString) -> Result<Path, ReportFault>
+    ensures judged { JudgesReport result (or_refusal (joined base.now text.now)) }
+    ensures beneath { IfOk result (λ p. p ≡ base.now ++ drop (length base.now) p) }
+    ensures named { IfOk result (λ p. IsNamed (drop (length base.now) p)) }
+{
+    Ok(base.join(alloc, text.as_slice())?)
+}
+
+/// The path of a URL, or another path where there is no URL.
+pub(crate) fn url_or(
+    alloc: Global,
+    name: &str,
+    own: Path,
+    url: Option<&ByteString>,
+) -> Result<Path, ReportFault>
+    ensures { JudgesReport result (url_or name.now own (option_copied url.entry)) }
+{
+    match url {
+        None => Ok(own),
+        Some(url) => {
+            drop(own);
+            Ok(Path::from_url(alloc, url.as_slice(), name)?)
+        }
+    }
+}
+
+/// The revision that is named, or the youngest; one above it is refused.
+pub(crate) fn revision_read<R: Repository>(
+    view: &R,
+    revision: Option<u64>,
+) -> Result<u64, ReportFault>
+    ensures { JudgesReport result (revision_read (R.content view.now) revision) }
+{
+    let youngest = view.youngest();
+    match revision {
+        None => Ok(youngest),
+        Some(n) => {
+            if youngest < n {
+                Err(ReportFault::Refused(Refusal::NoSuchRevision))
+            } else {
+                Ok(n)
+            }
+        }
+    }
+}
+
+/// How much of what stands somewhere is reported: everything, where no depth is named.
+pub(crate) fn graft_depth(word: Option<DepthWord>) -> Result<Depth, ReportFault>
+    ensures { JudgesReport result (graft_depth word) }
+{
+    match word {
+        None => Ok(Depth::Infinity),
+        Some(DepthWord::Known(depth)) => Ok(depth),
+        Some(DepthWord::Unknown | DepthWord::Exclude) => {
+            Err(ReportFault::Refused(Refusal::NotSupported))
+        }
+    }
+}
+
+/// The depth of what is asked for without what is beneath directories.
+fn shallow(purpose: Purpose) -> Depth
+    ensures { result ≡ shallow purpose }
+{
+    match purpose {
+        Purpose::Update | Purpose::Switch => Depth::Files,
+        Purpose::Status => Depth::Empty,
+    }
+}
+
+/// How deep a drive is to go: by its word, or else by whether it is asked for what is beneath directories too.
+pub(crate) fn depth_asked(
+    purpose: Purpose,
+    recurse: bool,
+    word: Option<DepthWord>,
+) -> Result<DepthAsked, ReportFault>
+    ensures { JudgesReport result (depth_asked purpose recurse word) }
+{
+    match word {
+        Some(DepthWord::Known(depth)) => Ok(DepthAsked::Given(depth)),
+        Some(DepthWord::Unknown) => Ok(DepthAsked::AsReported),
+        Some(DepthWord::Exclude) => Err(ReportFault::Refused(Refusal::NotSupported)),
+        None if recurse => Ok(DepthAsked::Given(Depth::Infinity)),
+        None => Ok(DepthAsked::Given(shallow(purpose))),
+    }
+}
+
+/// Whether something stands at a path of a revision.
+pub(crate) fn is_there<R: Repository>(view: &R, revision: u64, path: &Path) -> bool
+    ensures { result ≡ is_some (trees_in (R.content view.now).revisions revision path.now) }
+{
+    view.kind(revision, path) != NodeKind::Absent
+}
+
+/// Whether a directory stands at a path of a revision.
+pub(crate) fn is_directory_there<R: Repository>(view: &R, revision: u64, path: &Path) -> bool
+    ensures { result
+        ≡ is_directory_there (trees_in (R.content view.now).revisions revision path.now) }
+{
+    view.kind(revision, path) == NodeKind::Directory
+}

@@ -1,0 +1,42 @@
+//! What holds of reports. The functions do nothing: their contracts are the laws.
+ghost use Rattle.std.specs.Prelude.{◌≡◌, ℕ, true, false, List, [], ◌∷◌, ◌++◌, length, drop, Some};
+ghost use Rattle.svnpath.specs.Paths.{PathValue, is_at_or_under};
+ghost use Rattle.repo_api.specs.Soundness.{AreTrees};
+ghost use Rattle.repo_api.specs.States.{RepoState, Revision};
+ghost use Rattle.repo_api.specs.Trees.{Tree};
+ghost use Rattle.drive_rules.specs.Scopes.{HoldsTogether};
+ghost use Rattle.drive_rules.specs.declared.depth.Depth.TheVariants.{Infinity};
+ghost use Rattle.drive_reports.specs.Places.{AllHoldTogether};
+ghost use Rattle.drive_reports.specs.Reported.{reported, reported_entries};
+ghost use Rattle.drive_reports.specs.Targets.{WholeReport, old_tree, new_tree};
+ghost use Rattle.drive_reports.specs.declared.graft.Graft.{Graft};
+ghost use Rattle.drive_reports.specs.declared.graft.Subtree.{Subtree};
+
+/// What stands in a revision stands in a directory of it, wherever each tree is a tree.
+pub fn revisions_hold_together()
+    ensures { (rs : List Revision) → AreTrees rs → AllHoldTogether rs }
+{}
+
+/// Whatever is reported, what stands in the reported tree stands in a directory of it, from the
+/// target on.
+pub fn reported_trees_hold_together()
+    ensures { (trees : ℕ → Tree) (top : PathValue) (grafts : List Graft)
+        → ((n : ℕ) → HoldsTogether [] (trees n))
+        → HoldsTogether top (reported_entries (reported trees top grafts)) }
+{}
+
+/// So it is in both trees of a drive, wherever each tree of the repository is a tree.
+pub fn drive_trees_hold_together()
+    ensures { (c : RepoState) (report : WholeReport) → AreTrees c.revisions
+        → HoldsTogether report.ask.target (old_tree c report)
+        × HoldsTogether report.ask.target (new_tree c report) }
+{}
+
+/// Of a report of the target alone, of all that is in it, the client has what its revision has.
+pub fn whole_reports_are_revisions()
+    ensures { (trees : ℕ → Tree) (g : Graft) (s : Subtree) (q : PathValue)
+        → g.subtree ≡ Some s → s.starts_empty ≡ false → s.depth ≡ Infinity
+        → is_at_or_under q g.path ≡ true
+        → reported_entries (reported trees g.path (g ∷ [])) q
+        ≡ trees s.revision (g.from ++ drop (length g.path) q) }
+{}

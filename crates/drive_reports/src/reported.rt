@@ -1,0 +1,283 @@
+//! What a client has, by its report.
+ghost use Rattle.std.specs.Prelude.{◌≡◌, ◌≤◌, ◌+◌, ◌++◌, [], true, false, List, Option, Some, option_copied, option_map, option_and_then, is_some, length, take, IfOk, IfSome};
+ghost use Rattle.repo_api.specs.Kinds.{kind_of};
+ghost use Rattle.repo_api.specs.States.{trees_in};
+ghost use Rattle.repo_api.specs.declared.entry.Entry.{Entry};
+ghost use Rattle.svnpath.specs.Paths.{PathValue, Component, is_at_or_under};
+ghost use Rattle.drive_rules.specs.Scopes.{depth_below};
+ghost use Rattle.drive_reports.specs.Places.{AllHoldTogether, in_place, is_grafted_over, part_below, reported_subtree};
+ghost use Rattle.drive_reports.specs.Reported.{has_directory, has_place, in_subtree, is_surely_placed, left_by, reported, shown_by};
+
+use crate::graft::{Graft, Subtree};
+use crate::grafts::Grafts;
+use crate::sources::above;
+use byte_string::ByteString;
+use drive_rules::Depth;
+use repo_api::{NodeKind, Repository};
+use std::alloc::{AllocError, Global};
+use svnpath::Path;
+
+/// What a depth leaves of an entry so many names beneath the top.
+fn left_kind(depth: Depth, names: usize, kind: NodeKind) -> NodeKind
+    ensures { (rest : List Component) (e : Option Entry) → names ≡ length rest + 1
+        → kind ≡ kind_of e → result ≡ kind_of (left_by depth rest e) }
+{
+    let is_left = match depth {
+        Depth::Empty => false,
+        Depth::Files => names == 1 && kind == NodeKind::File,
+        Depth::Immediates => names == 1,
+        Depth::Infinity => true,
+    };
+    if is_left { kind } else { NodeKind::Absent }
+}
+
+/// The kind of what a graft shows at a path.
+pub(crate) fn shown_kind<R: Repository>(
+    alloc: Global,
+    view: &R,
+    graft: &Graft,
+    path: &Path,
+) -> Result<NodeKind, AllocError>
+    ensures { IfOk result (λ kind. kind ≡ kind_of (option_map (λ h. h.entry)
+        (shown_by (trees_in (R.content view.now).revisions) path.now (Some graft.now)))) }
+{
+    let Some(subtree) = &graft.subtree else {
+        return Ok(NodeKind::Absent);
+    };
+    if !path.is_at_or_under(&graft.path) {
+        return Ok(NodeKind::Absent);
+    }
+    let from = path.rebased(alloc, &graft.path, &graft.from)?;
+    let kind = view.kind(subtree.revision, &from);
+    let names = path.len() - graft.path.len();
+    if names == 0 {
+        return Ok(kind);
+    }
+    if subtree.starts_empty {
+        return Ok(NodeKind::Absent);
+    }
+    Ok(left_kind(subtree.depth, names, kind))
+}
+
+/// Whether a graft shows a directory at a path.
+fn shows_directory<R: Repository>(
+    alloc: Global,
+    view: &R,
+    graft: Option<&Graft>,
+    path: &Path,
+) -> Result<bool, AllocError>
+    ensures { IfOk result (λ answer. answer ≡ has_directory (shown_by
+        (trees_in (R.content view.now).revisions) path.now (option_copied graft.entry))) }
+{
+    match graft {
+        None => Ok(false),
+        Some(graft) => Ok(shown_kind(alloc, view, graft, path)? == NodeKind::Directory),
+    }
+}
+
+/// Whether a graft has its place whatever stands there. The top is the target.
+fn is_surely_placed(top: &Path, graft: &Graft) -> bool
+    ensures { result ≡ is_surely_placed top.now graft.now }
+{
+    &graft.path == top || (graft.subtree.is_none() && graft.path.is_at_or_under(top))
+}
+
+/// The first so many grafts of a report.
+#[derive(Clone, Copy)]
+struct FirstGrafts<'a> {
+    grafts: &'a Grafts,
+    count: usize,
+}
+
+/// The last of so many grafts that says what the client has at a path, if one does. The top is the target.
+fn graft_among<'a, R: Repository>(
+    alloc: Global,
+    view: &R,
+    top: &Path,
+    first: FirstGrafts<'a>,
+    path: &Path,
+) -> Result<Option<&'a Graft>, AllocError>
+    requires trees { AllHoldTogether (R.content view.now).revisions }
+    requires count { first.count ≤ length first.grafts.now }
+    ensures here { IfOk result (λ found. reported (trees_in (R.content view.now).revisions) top.now
+        (take first.entry.count first.entry.grafts.now) path.now
+        ≡ shown_by (trees_in (R.content view.now).revisions) path.now (option_copied found)) }
+    ensures beneath { IfOk result (λ found. (q : PathValue) → is_at_or_under q path.now ≡ true
+        → is_grafted_over first.entry.grafts.now path.now q ≡ false
+        → reported (trees_in (R.content view.now).revisions) top.now
+        (take first.entry.count first.entry.grafts.now) q
+        ≡ shown_by (trees_in (R.content view.now).revisions) q (option_copied found)) }
+{
+    let FirstGrafts { grafts, mut count } = first;
+    while let Some(place) = grafts.last_above(alloc, path, count)? {
+        let graft = &grafts.as_slice()[place];
+        if is_surely_placed(top, graft) {
+            return Ok(Some(graft));
+        }
+        let above = above(alloc, &graft.path)?;
+        let before = FirstGrafts {
+            grafts,
+            count: place,
+        };
+        let holder = graft_among(alloc, view, top, before, &above)?;
+        if shows_directory(alloc, view, holder, &above)? {
+            return Ok(Some(graft));
+        }
+        count = place;
+    }
+    Ok(None)
+}
+
+/// The last graft that says what the client has at a path, if one does. The top is the target.
+fn graft_at<'a, R: Repository>(
+    alloc: Global,
+    view: &R,
+    top: &Path,
+    grafts: &'a Grafts,
+    path: &Path,
+) -> Result<Option<&'a Graft>, AllocError>
+    requires { AllHoldTogether (R.content view.now).revisions }
+    ensures here { IfOk result (λ found. reported (trees_in (R.content view.now).revisions) top.now
+        grafts.now path.now
+        ≡ shown_by (trees_in (R.content view.now).revisions) path.now (option_copied found)) }
+    ensures beneath { IfOk result (λ found. (q : PathValue) → is_at_or_under q path.now ≡ true
+        → is_grafted_over grafts.now path.now q ≡ false
+        → reported (trees_in (R.content view.now).revisions) top.now grafts.now q
+        ≡ shown_by (trees_in (R.content view.now).revisions) q (option_copied found)) }
+{
+    let count = grafts.as_slice().len();
+    graft_among(alloc, view, top, FirstGrafts { grafts, count }, path)
+}
+
+/// What a client has at a path: what stands at a path of a revision, its top alone where it starts
+/// empty, so deep, with the token of the lock of its top.
+#[derive(Drop)]
+pub struct ReportedPlace<'a> {
+    pub revision: u64,
+    pub path: Path,
+    pub starts_empty: bool,
+    pub depth: Depth,
+    pub token: Option<&'a ByteString>,
+}
+
+/// The depth of what is in a directory of a depth.
+fn depth_below(depth: Depth) -> Depth
+    ensures { result ≡ depth_below depth }
+{
+    match depth {
+        Depth::Infinity => Depth::Infinity,
+        Depth::Immediates | Depth::Files | Depth::Empty => Depth::Empty,
+    }
+}
+
+/// What of a subtree stands so many names beneath its top, at this path of its revision.
+fn place_in(subtree: &Subtree, names: usize, path: Path) -> ReportedPlace<'_>
+    ensures path { result.path ≡ path }
+    ensures part { (rest : List Component) → names ≡ length rest
+        → reported_subtree result.revision result.starts_empty result.depth
+        (option_copied result.token) ≡ part_below subtree.now rest }
+{
+    if names == 0 {
+        ReportedPlace {
+            revision: subtree.revision,
+            path,
+            starts_empty: subtree.starts_empty,
+            depth: subtree.depth,
+            token: subtree.token.as_ref(),
+        }
+    } else {
+        ReportedPlace {
+            revision: subtree.revision,
+            path,
+            starts_empty: false,
+            depth: depth_below(subtree.depth),
+            token: None,
+        }
+    }
+}
+
+/// Where that comes from what a graft shows at a path, if it shows something.
+fn shown_at<'a, R: Repository>(
+    alloc: Global,
+    view: &R,
+    graft: &'a Graft,
+    path: &Path,
+) -> Result<Option<ReportedPlace<'a>>, AllocError>
+    ensures stands { IfOk result (λ found. is_some found
+        ≡ is_some (shown_by (trees_in (R.content view.now).revisions) path.now (Some graft.now))) }
+    ensures part { IfOk result (λ found. (rest : List Component) → IfSome found (λ place.
+        shown_by (trees_in (R.content view.now).revisions) (path.now ++ rest) (Some graft.now)
+        ≡ in_place (trees_in (R.content view.now).revisions) place rest)) }
+{
+    let Some(subtree) = &graft.subtree else {
+        return Ok(None);
+    };
+    if shown_kind(alloc, view, graft, path)? == NodeKind::Absent {
+        return Ok(None);
+    }
+    let names = path.len() - graft.path.len();
+    let from = path.rebased(alloc, &graft.path, &graft.from)?;
+    Ok(Some(place_in(subtree, names, from)))
+}
+
+/// What a client has at a path, if it has something. The top is the target.
+pub fn reported_at<'a, R: Repository>(
+    alloc: Global,
+    view: &R,
+    top: &Path,
+    grafts: &'a Grafts,
+    path: &Path,
+) -> Result<Option<ReportedPlace<'a>>, AllocError>
+    requires { AllHoldTogether (R.content view.now).revisions }
+    ensures here { IfOk result (λ found. reported (trees_in (R.content view.now).revisions) top.now
+        grafts.now path.now ≡ option_and_then
+        (λ place. in_place (trees_in (R.content view.now).revisions) place []) found) }
+    ensures stands { IfOk result (λ found. is_some found
+        ≡ is_some (reported (trees_in (R.content view.now).revisions) top.now grafts.now
+        path.now)) }
+    ensures beneath { IfOk result (λ found. (rest : List Component)
+        → is_grafted_over grafts.now path.now (path.now ++ rest) ≡ false → IfSome found (λ place.
+        reported (trees_in (R.content view.now).revisions) top.now grafts.now (path.now ++ rest)
+        ≡ in_place (trees_in (R.content view.now).revisions) place rest)) }
+{
+    match graft_at(alloc, view, top, grafts, path)? {
+        None => Ok(None),
+        Some(graft) => shown_at(alloc, view, graft, path),
+    }
+}
+
+/// Whether a path has its place at the top of a report, or in a directory that is there.
+pub(crate) fn has_place<R: Repository>(
+    alloc: Global,
+    view: &R,
+    top: &Path,
+    grafts: &Grafts,
+    path: &Path,
+) -> Result<bool, AllocError>
+    requires { AllHoldTogether (R.content view.now).revisions }
+    ensures { IfOk result (λ answer. answer ≡ has_place top.now
+        (reported (trees_in (R.content view.now).revisions) top.now grafts.now) path.now) }
+{
+    if path == top {
+        return Ok(true);
+    }
+    let above = above(alloc, path)?;
+    let holder = graft_at(alloc, view, top, grafts, &above)?;
+    shows_directory(alloc, view, holder, &above)
+}
+
+/// Whether a client has a directory at a path.
+pub(crate) fn has_directory<R: Repository>(
+    alloc: Global,
+    view: &R,
+    top: &Path,
+    grafts: &Grafts,
+    path: &Path,
+) -> Result<bool, AllocError>
+    requires { AllHoldTogether (R.content view.now).revisions }
+    ensures { IfOk result (λ answer. answer ≡ has_directory
+        (reported (trees_in (R.content view.now).revisions) top.now grafts.now path.now)) }
+{
+    let holder = graft_at(alloc, view, top, grafts, path)?;
+    shows_directory(alloc, view, holder, path)
+}

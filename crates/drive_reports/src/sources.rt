@@ -1,0 +1,76 @@
+//! Which paths of the repository the paths of a report stand for.
+ghost use Rattle.std.specs.Prelude.{◌≡◌, ◌++◌, IfOk};
+ghost use Rattle.drive_reports.specs.Judging.{JudgesReport};
+ghost use Rattle.drive_reports.specs.Named.{IsNamed};
+ghost use Rattle.drive_reports.specs.Refusing.{report_path};
+ghost use Rattle.drive_reports.specs.Reported.{path_above, origin, own_source};
+
+use crate::ask::DriveAsk;
+use crate::fault::ReportFault;
+use crate::grafts::Grafts;
+use crate::judging::path_named;
+use byte_string::ByteString;
+use std::alloc::{AllocError, Global};
+use svnpath::Path;
+
+/// A path of a report as a path of the repository: beneath the anchor.
+fn anchored(alloc: Global, anchor: &Path, path: &Path) -> Result<Path, AllocError>
+    ensures { IfOk result (λ p. p ≡ anchor.now ++ path.now) }
+{
+    path.rebased(alloc, &Path::root(alloc), anchor)
+}
+
+/// The path that a text names beneath the target, from the anchor on.
+pub(crate) fn report_path(
+    alloc: Global,
+    ask: &DriveAsk,
+    text: &ByteString,
+) -> Result<Path, ReportFault>
+    ensures judged { JudgesReport result (report_path ask.now text.now) }
+    ensures named { IfOk result IsNamed }
+{
+    let own = anchored(alloc, &ask.anchor, ask.target.as_path())?;
+    let path = path_named(alloc, &own, text)?;
+    Ok(path.rebased(alloc, &ask.anchor, &Path::root(alloc))?)
+}
+
+/// The path above; of the root the root.
+pub(crate) fn above(alloc: Global, path: &Path) -> Result<Path, AllocError>
+    ensures { IfOk result (λ p. p ≡ path_above path.now) }
+{
+    match path.parent(alloc)? {
+        Some(parent) => Ok(parent),
+        None => Ok(Path::root(alloc)),
+    }
+}
+
+/// What a path stands for: by the last graft at or above it, or else by the anchor.
+fn origin(alloc: Global, anchor: &Path, grafts: &Grafts, path: &Path) -> Result<Path, AllocError>
+    ensures { IfOk result (λ p. p ≡ origin anchor.now grafts.now path.now) }
+{
+    let all = grafts.as_slice();
+    match grafts.last_above(alloc, path, all.len())? {
+        None => anchored(alloc, anchor, path),
+        Some(place) => {
+            let graft = &all[place];
+            path.rebased(alloc, &graft.path, &graft.from)
+        }
+    }
+}
+
+/// What a path that is set stands for from then on.
+pub(crate) fn own_source(
+    alloc: Global,
+    ask: &DriveAsk,
+    grafts: &Grafts,
+    path: &Path,
+) -> Result<Path, AllocError>
+    ensures { IfOk result (λ p. p ≡ own_source ask.now.anchor ask.now.target grafts.now path.now) }
+{
+    if path == ask.target.as_path() {
+        return anchored(alloc, &ask.anchor, ask.target.as_path());
+    }
+    let above = above(alloc, path)?;
+    let from = origin(alloc, &ask.anchor, grafts, &above)?;
+    path.rebased(alloc, &above, &from)
+}

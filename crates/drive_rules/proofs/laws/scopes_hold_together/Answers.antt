@@ -1,0 +1,5 @@
+use Rattle.drive_rules.proofs.Trees.{scope_holds}
+use Rattle.drive_rules.proofs.laws.scopes_hold_together.Goals as goal
+
+pub returns : goal.returns
+returns c = scope_holds

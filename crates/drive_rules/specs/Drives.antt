@@ -1,0 +1,71 @@
+-- The drives that lead from a reported tree to its target.
+use Rattle.std.specs.Prelude.{◌≡◌, ℕ, Bool, false, List, [], Option, option_map, IsTrue, IsSome, IsSomeAnd, ◌⊎◌}
+use Rattle.svnpath.specs.Paths.{PathValue, is_at_or_under}
+use Rattle.repo_api.specs.Trees.{Tree, HasFile, is_directory, revision_of}
+use Rattle.repo_api.specs.declared.entry.Content.{Content}
+use Rattle.repo_api.specs.declared.entry.Entry.{Entry}
+use Rattle.repo_api.specs.declared.entry.Mark.{Mark}
+use Rattle.drive_rules.specs.Steps.{Step, Node, node_at, after_steps, all_meet, has_step, is_named, is_opening, adds_or_deletes, is_text}
+
+-- the mark of the last change at or under a path, where something stands
+abbrev pub last_mark : Tree → PathValue → Option Mark
+last_mark t q = option_map (λ (e : Entry). e.last) (t q)
+
+-- the revision of the last change at or under a path, where something stands
+abbrev pub created_revision : Tree → PathValue → Option (Option ℕ)
+created_revision t q = option_map (λ e. revision_of e.last) (t q)
+
+-- a directory, or a file with its text, where something stands
+abbrev pub content_at : Tree → PathValue → Option Content
+content_at t q = option_map (λ (n : Node). n.0) (node_at t q)
+
+-- presence, kind, text, properties or the last change differ
+abbrev pub Differs : Tree → Tree → PathValue → Type 0
+Differs old new q = (node_at old q ≡ node_at new q) × (last_mark old q ≡ last_mark new q) → ⊥
+
+-- something stands there in both trees
+abbrev pub IsInBoth : Tree → Tree → PathValue → Type 0
+IsInBoth old new q = IsSome (old q) × IsSome (new q)
+
+-- a directory stands there in both trees, or a file in both
+abbrev pub IsOfOneKind : Tree → Tree → PathValue → Type 0
+IsOfOneKind old new q =
+    IsSomeAnd (old q) (λ e. IsSomeAnd (new q) (λ f. is_directory e ≡ is_directory f))
+
+-- the path is the root, or something differs or has a stale token at or under it
+abbrev pub HasReason : (PathValue → Bool) → Tree → Tree → PathValue → Type 0
+HasReason stale old new q =
+    (q ≡ []) ⊎ ((p : PathValue) × IsTrue (is_at_or_under p q)
+    × (Differs old new p ⊎ IsTrue (stale p)))
+
+-- a file, where nothing stood, or a directory, or a file of another text
+abbrev pub HasOtherText : Tree → Tree → PathValue → Type 0
+HasOtherText old new q = HasFile new q × (content_at old q ≡ content_at new q → ⊥)
+
+-- the created revision is another, or the token is stale
+abbrev pub MustBeNamed : (PathValue → Bool) → Tree → Tree → PathValue → Type 0
+MustBeNamed stale old new q =
+    (created_revision old q ≡ created_revision new q → ⊥) ⊎ IsTrue (stale q)
+
+-- A right drive from one tree to another, of the paths in scope, where some have stale tokens, by
+-- what is seen of an entry.
+pub record IsRight (seen : Node → Node) (scope stale : PathValue → Bool) (old new : Tree)
+    (cs : List Step) : Type 0 where
+  -- it ends at the new tree
+  pub ends : (q : PathValue) → IsTrue (scope q)
+      → option_map seen (after_steps q (node_at old q) cs) ≡ option_map seen (node_at new q)
+  -- it names what stays where its created revision is another or its token is stale
+  pub names : (q : PathValue) → IsTrue (scope q) → IsInBoth old new q → MustBeNamed stale old new q
+      → IsTrue (is_named q cs)
+  -- it says the text of a file that is new or has another text
+  pub texts : (q : PathValue) → IsTrue (scope q) → HasOtherText old new q
+      → IsTrue (has_step is_text q cs)
+  -- it names nothing outside the scope
+  pub within : (q : PathValue) → IsTrue (is_named q cs) → IsTrue (scope q)
+  -- it names nothing without a reason
+  pub reasons : (q : PathValue) → IsTrue (is_named q cs) → HasReason stale old new q
+  -- what keeps its kind is opened, and neither added nor deleted
+  pub opens : (q : PathValue) → IsOfOneKind old new q → IsTrue (is_named q cs)
+      → IsTrue (has_step is_opening q cs) × (has_step adds_or_deletes q cs ≡ false)
+  -- each step finds what it needs
+  pub meets : (q : PathValue) → IsTrue (scope q) → IsTrue (all_meet q (node_at old q) cs)

@@ -1,0 +1,107 @@
+-- What the commands of one entry say.
+use Rattle.std.proofs.Common.{◌≡◌, ◌≤◌, ℕ, zero, suc, true, false, List, [], ◌∷◌, ◌++◌, append-nil, length, map, take, drop, Option, Some, None, refl, sym, ap, ◌∙◌, subst, if◌then◌else◌}
+use Rattle.std.specs.Int.{div_ceil}
+use Rattle.std.specs.Prelude.{Ok}
+use Rattle.svnpath.specs.Paths.{PathValue}
+use Rattle.svnpath.specs.PathLaws.{same_component_refl}
+use Rattle.svndiff0.specs.Document.{header, document_text}
+use Rattle.svndiff0.specs.Full.{full_window, full_windows, full_document}
+use Rattle.svndiff0.specs.Window.{limit}
+use Rattle.svndiff0.proofs.Fulls.{full_again}
+use Rattle.drive_wire.specs.Sent.{or_no_text}
+use Rattle.wire_forms.specs.Forms.{is_name}
+use Rattle.wire_edits.specs.declared.editing.EditorCommand.TheVariants.{CloseFile}
+use Rattle.drive_rules.specs.Steps.{EntryKind}
+use Rattle.drive_rules.specs.Steps.EntryKind.{DirectoryKind, FileKind}
+use Rattle.drive_rules.specs.Steps.Step.{TextAt}
+use Rattle.drive_rules.proofs.Joined.{and_both}
+use Rattle.reporter.specs.Own.{property_steps, text_steps}
+use Rattle.drive_reports.specs.declared.ask.Purpose.{Purpose}
+use Rattle.drive_reports.specs.declared.ask.Purpose.TheVariants.{Update, Switch, Status}
+use Rattle.drive_wire.specs.Saying.{OpenEntry, Says, same_kind, sends_texts, is_base_checksum, is_sent_checksum, is_sent_delta, file_closed}
+use Rattle.drive_wire.specs.Saying.TextState.{Received}
+use Rattle.drive_wire.proofs.Joining.{says_append}
+use Rattle.drive_wire.proofs.Writing.{says_properties, says_text, joined_bytes, with_state}
+use Rattle.drive_news.specs.News.{news_steps}
+use Rattle.drive_news.specs.declared.news.News.{News}
+use Rattle.drive_sending.specs.Commands.{windows, chunks, text_commands, digits_of, checksum_sent, news_commands, property_command}
+use Rattle.drive_sending.specs.Tokens.{token_of}
+use Rattle.drive_sending.proofs.Tokens.{entry_at, open_directories}
+
+-- the chunks of a document are the document
+windows_joined : (n : ℕ) (text : List ℕ) → joined_bytes (windows n text) ≡ full_windows n text
+windows_joined zero text = refl
+windows_joined (suc n) text = ap (λ rest. full_window (take 65536 text) ++ rest) (windows_joined n (drop 65536 text))
+
+chunks_joined : (text : List ℕ) → joined_bytes (chunks text) ≡ full_document text
+chunks_joined text = ap (λ rest. header ++ rest) (windows_joined (div_ceil (length text) 65536) text)
+
+chunks_again : (base text : List ℕ) → length text ≤ limit → document_text base (joined_bytes (chunks text)) ≡ Ok text
+chunks_again base text short = ap (document_text base) (chunks_joined text) ∙ full_again base text short
+
+-- the checksum is right
+nothing_sent : (purpose : Purpose) → checksum_sent purpose None ≡ None
+nothing_sent Update = refl
+nothing_sent Switch = refl
+nothing_sent Status = refl
+
+right_checksum : (purpose : Purpose) (text : List ℕ) → is_sent_checksum purpose text (checksum_sent purpose (Some text)) ≡ true
+right_checksum Update text = same_component_refl (digits_of text)
+right_checksum Switch text = same_component_refl (digits_of text)
+right_checksum Status text = refl
+
+-- a status sends no text
+abbrev pub IsTextSent : Purpose → Option (List ℕ) → Type 0
+IsTextSent purpose text = sends_texts purpose ≡ false → or_no_text text ≡ []
+
+delta_sent : (purpose : Purpose) (text : List ℕ) → IsTextSent purpose (Some text) → is_sent_delta purpose (joined_bytes (chunks text)) ≡ true
+delta_sent Update text sent = refl
+delta_sent Switch text sent = refl
+delta_sent Status text sent = ap (λ t. is_name (joined_bytes (chunks t)) header) (sent refl)
+
+-- what is open once an entry was told its news: a directory, and no file
+abbrev pub after_entry : EntryKind → PathValue → List PathValue → List PathValue
+after_entry DirectoryKind p ds = p ∷ ds
+after_entry FileKind p ds = ds
+
+module _ (top : PathValue) (base : PathValue → List ℕ) (purpose : Purpose) where
+  closes : (h : OpenEntry) (hs : List OpenEntry) (checksum : Option (List ℕ)) → same_kind FileKind h.kind ≡ true → file_closed purpose checksum h.state h hs ≡ Some ([], hs)
+      → Says purpose top base (h ∷ hs) (CloseFile h.token checksum ∷ []) [] hs
+  closes h hs checksum file closed = (
+    [],
+    hs,
+    [],
+    ap (λ x. if x then file_closed purpose checksum h.state h hs else None) (and_both (is_name h.token h.token) (same_kind FileKind h.kind) (same_component_refl h.token) file) ∙ closed,
+    (refl, refl),
+    refl,
+  )
+
+  says_end : (count : ℕ) (p : PathValue) (own : List ℕ) (hs : List OpenEntry) (text : Option (List ℕ)) → length (or_no_text text) ≤ limit → IsTextSent purpose text
+      → Says purpose top base (entry_at FileKind count p own ∷ hs) (text_commands (token_of FileKind count) text ++ CloseFile (token_of FileKind count) (checksum_sent purpose text) ∷ []) (text_steps p text) hs
+  says_end count p own hs None short sent =
+      closes (entry_at FileKind count p own) hs (checksum_sent purpose None) refl
+      (ap (λ o. if is_base_checksum purpose own o then Some ([], hs) else None) (nothing_sent purpose))
+  says_end count p own hs (Some text) short sent =
+      says_append purpose top base (entry_at FileKind count p own ∷ hs) (with_state (entry_at FileKind count p own) (Received text) ∷ hs) hs
+      (text_commands (token_of FileKind count) (Some text)) (CloseFile (token_of FileKind count) (checksum_sent purpose (Some text)) ∷ []) (TextAt p text ∷ []) []
+      (says_text purpose top base (entry_at FileKind count p own) hs (chunks text) text refl (delta_sent purpose text sent) (chunks_again own text short))
+      (closes (with_state (entry_at FileKind count p own) (Received text)) hs (checksum_sent purpose (Some text)) refl
+      (ap (λ x. if x then Some ([], hs) else None) (right_checksum purpose text)))
+
+  -- an entry that was entered is told its news
+  pub says_news : (kind : EntryKind) (ds : List PathValue) (p : PathValue) (own : List ℕ) (news : News) → (kind ≡ DirectoryKind → own ≡ []) → (kind ≡ DirectoryKind → news.text ≡ None)
+      → length (or_no_text news.text) ≤ limit → IsTextSent purpose news.text
+      → Says purpose top base (entry_at kind (length ds) p own ∷ open_directories ds) (news_commands purpose kind (token_of kind (length ds)) news) (news_steps p news) (open_directories (after_entry kind p ds))
+  says_news DirectoryKind ds p own news bare silent short sent =
+      subst (λ b. Says purpose top base (entry_at DirectoryKind (length ds) p b ∷ open_directories ds) (news_commands purpose DirectoryKind (token_of DirectoryKind (length ds)) news) (news_steps p news) (open_directories (p ∷ ds)))
+      (sym (bare refl))
+      (subst (λ s. Says purpose top base (entry_at DirectoryKind (length ds) p [] ∷ open_directories ds) (news_commands purpose DirectoryKind (token_of DirectoryKind (length ds)) news) s (open_directories (p ∷ ds)))
+      (sym (ap (λ t. property_steps p news.changes ++ text_steps p t) (silent refl) ∙ append-nil (property_steps p news.changes)))
+      (says_properties purpose top base (entry_at DirectoryKind (length ds) p []) (open_directories ds) news.changes))
+  says_news FileKind ds p own news bare silent short sent =
+      says_append purpose top base (entry_at FileKind (length ds) p own ∷ open_directories ds) (entry_at FileKind (length ds) p own ∷ open_directories ds) (open_directories ds)
+      (map (property_command FileKind (token_of FileKind (length ds))) news.changes)
+      (text_commands (token_of FileKind (length ds)) news.text ++ CloseFile (token_of FileKind (length ds)) (checksum_sent purpose news.text) ∷ [])
+      (property_steps p news.changes) (text_steps p news.text)
+      (says_properties purpose top base (entry_at FileKind (length ds) p own) (open_directories ds) news.changes)
+      (says_end (length ds) p own (open_directories ds) news.text short sent)

@@ -1,0 +1,85 @@
+-- Where there is no target, a directory is to stand at the root of a drive.
+use Rattle.std.proofs.Common.{◌≡◌, List, Bool, true, false, ◌&&◌, [], ◌++◌, append-nil, length, drop, Option, Some, None, refl, sym, ap, ◌∙◌, subst, if◌then◌else◌}
+use Rattle.repo_api.specs.Trees.{is_directory_there}
+use Rattle.std.proofs.lemmas.Bool.{false≢true}
+use Rattle.std.specs.Prelude.{Result, Ok, Err, ok_or, is_some}
+use Rattle.svnpath.specs.Paths.{PathValue, same_path, is_at_or_under}
+use Rattle.svnpath.specs.PathLaws.{same_path_is}
+use Rattle.refusals.specs.declared.Refusal.{Refusal}
+use Rattle.refusals.specs.declared.Refusal.TheVariants as refusals
+use Rattle.repo_api.specs.Soundness.{AreTrees}
+use Rattle.repo_api.specs.States.{RepoState, trees_in}
+use Rattle.repo_api.specs.declared.entry.Entry.{Entry}
+use Rattle.drive_rules.specs.Scopes.{stays_in_scope, top_limit}
+use Rattle.drive_rules.specs.Steps.EntryKind.{DirectoryKind}
+use Rattle.drive_rules.proofs.Joined.{and_front}
+use Rattle.reporter.specs.Visits.{entry_kind, kind_if}
+use Rattle.drive_reports.specs.Named.{IsNamed, AreNamed}
+use Rattle.drive_reports.specs.Refusing.{◌>>=◌, ok_if, OpenState, has_goal, has_anchor, finish_root}
+use Rattle.drive_reports.specs.Reported.{reported_entries, has_directory}
+use Rattle.drive_reports.specs.Targets.{WholeReport, client_tree, reported_tree, target_tree, limit_of, new_tree}
+use Rattle.drive_reports.specs.declared.report.ReportRoot.{ReportRoot}
+use Rattle.drive_sides.specs.Plans.{whole}
+use Rattle.reporter.specs.declared.visit.Visit.{Visit}
+use Rattle.drive_wire.specs.Sent.{IsDrive}
+use Rattle.drive_sides.specs.Plans.{IsPlan}
+use Rattle.drive_sending.specs.Commands.{drive_of}
+use Rattle.drive_sending.proofs.Sending.{plan_sendable}
+use Rattle.drive_sending.proofs.Drives.{RootStands, is_drive}
+
+judged : (o : Option ReportRoot) (b : Bool) (root : ReportRoot) → ((ok_or o refusals.MalformedData) >>= (λ r. (ok_if b refusals.NotFound) >>= (λ _. Ok r))) ≡ Ok root → b ≡ true
+judged None b root e = absurd (err_is_ok e)
+  where
+    is_ok : Result ReportRoot Refusal → Bool
+    is_ok (Ok r) = true
+    is_ok (Err r) = false
+
+    err_is_ok : Err refusals.MalformedData ≡ Ok root → ⊥
+    err_is_ok x = false≢true (ap is_ok x)
+judged (Some r) true root e = refl
+judged (Some r) false root e = absurd (err_is_ok e)
+  where
+    is_ok : Result ReportRoot Refusal → Bool
+    is_ok (Ok r) = true
+    is_ok (Err r) = false
+
+    err_is_ok : Err refusals.NotFound ≡ Ok root → ⊥
+    err_is_ok x = false≢true (ap is_ok x)
+
+and_behind : (a b : Bool) → (a && b) ≡ true → b ≡ true
+and_behind true b h = h
+and_behind false b h = absurd (false≢true h)
+
+directory_stands : (o : Option Entry) → is_directory_there o ≡ true → (is_some o ≡ true) × (entry_kind o ≡ DirectoryKind)
+directory_stands None h = absurd (false≢true h)
+directory_stands (Some e) h = (refl, ap kind_if h)
+
+module _ (c : RepoState) (report : OpenState) (root : ReportRoot) where
+  abbrev Whole : WholeReport
+  Whole = whole report root
+
+  -- what is to stand at the root, by the target
+  abbrev root_entry : PathValue → Option Entry
+  root_entry top =
+      if is_at_or_under [] top && stays_in_scope (limit_of (client_tree c Whole) root report.ask.depth) (reported_entries (client_tree c Whole)) (target_tree c report.ask) top (top_limit (limit_of (client_tree c Whole) root report.ask.depth) top) (drop (length top) [])
+      then (if is_at_or_under [] top then trees_in c.revisions report.ask.revision (report.ask.goal ++ drop (length top) []) else None)
+      else None
+
+  root_is : report.ask.target ≡ [] → new_tree c Whole [] ≡ trees_in c.revisions report.ask.revision report.ask.goal
+  root_is none = ap root_entry none ∙ ap (λ p. trees_in c.revisions report.ask.revision p) (append-nil report.ask.goal)
+
+  anchored : same_path report.ask.target [] ≡ true → has_anchor c report.ask report.grafts ≡ true → is_directory_there (trees_in c.revisions report.ask.revision report.ask.goal) ≡ true
+  anchored none anchor =
+      and_front (is_directory_there (trees_in c.revisions report.ask.revision report.ask.goal)) (has_directory (reported_tree c report.ask report.grafts []))
+      (sym (ap (λ b. if b then is_directory_there (trees_in c.revisions report.ask.revision report.ask.goal) && has_directory (reported_tree c report.ask report.grafts [])
+      else is_directory_there (trees_in c.revisions report.ask.revision report.ask.anchor)) none) ∙ anchor)
+
+  pub root_stands : finish_root c report ≡ Ok root → RootStands c Whole
+  root_stands finished none =
+      subst (λ o. (is_some o ≡ true) × (entry_kind o ≡ DirectoryKind)) (sym (root_is (same_path_is report.ask.target [] none)))
+      (directory_stands (trees_in c.revisions report.ask.revision report.ask.goal)
+      (anchored none (and_behind (has_goal c report.ask report.ask.purpose) (has_anchor c report.ask report.grafts) (judged report.root (has_goal c report.ask report.ask.purpose && has_anchor c report.ask report.grafts) root finished))))
+
+  -- the drive of a plan may be sent
+  pub drive_may_be_sent : (vs : List Visit) → AreTrees c.revisions → IsNamed report.ask.target → AreNamed report.grafts → finish_root c report ≡ Ok root → IsPlan c Whole vs → IsDrive c Whole (drive_of c Whole vs)
+  drive_may_be_sent vs trees target grafts finished plan = is_drive c Whole vs (plan_sendable c Whole trees target grafts vs plan) (root_stands finished) plan

@@ -1,0 +1,245 @@
+-- Every visit of a plan can be sent: its path is one that a client can name, what it enters is to stand, and texts keep the limit.
+use Rattle.std.proofs.Common.{◌≡◌, ◌≤◌, ℕ, Bool, true, false, cond, ◌&&◌, ◌||◌, List, [], ◌∷◌, ◌++◌, length, drop, Option, Some, None, option_map, refl, sym, ap, ◌∙◌, subst, arith, append-nil, ⊎_elim, if◌then◌else◌}
+use Rattle.std.proofs.lemmas.Bool.{false≢true}
+use Rattle.std.proofs.lemmas.List.Elements.{All-nil, All-cons, All-head, All-tail, All-append}
+use Rattle.std.proofs.lemmas.Option.{none-some}
+use Rattle.std.specs.Prelude.{All, fold, is_some, option_and_then}
+use Rattle.svnpath.specs.Components.{IsComponent}
+use Rattle.svnpath.specs.Paths.{PathValue, Component, is_at_or_under, same_path}
+use Rattle.svnpath.specs.PathLaws.{under_is, same_path_refl}
+use Rattle.svndiff0.specs.Window.{limit}
+use Rattle.repo_api.specs.Soundness.{AreTrees}
+use Rattle.repo_api.specs.States.{RepoState, trees_in}
+use Rattle.repo_api.specs.Trees.{Tree, text_of, is_directory_there}
+use Rattle.repo_api.specs.declared.entry.Entry.{Entry}
+use Rattle.repo_api.specs.declared.limits.TheConstants.{TEXT_LIMIT}
+use Rattle.repo_api.proofs.Standing.{right_where, short_where}
+use Rattle.drive_rules.specs.Drives.{Differs, HasReason}
+use Rattle.drive_rules.specs.Places.{is_in_directory}
+use Rattle.drive_rules.specs.Scopes.{depth_below}
+use Rattle.drive_rules.specs.Steps.{Step, node_of, is_named}
+use Rattle.drive_rules.specs.declared.depth.Depth.{Depth}
+use Rattle.drive_rules.specs.declared.depth.Depth.TheVariants.{Empty, Files, Immediates, Infinity}
+use Rattle.drive_rules.proofs.Joined.{and_front, named_append, or_right}
+use Rattle.reporter.specs.Nesting.{walk}
+use Rattle.reporter.specs.Visits.{OwnSteps, plan_steps, visit_steps}
+use Rattle.reporter.specs.declared.visit.Visit.{Visit}
+use Rattle.reporter.specs.declared.visit.Visit.TheVariants.{Open, Add, Delete, Close}
+use Rattle.drive_reports.specs.Named.{IsNamed, AreNamed}
+use Rattle.drive_reports.specs.Reported.{ReportedEntry, ReportedTree, left_by, top_entry, reported_as, in_subtree, in_graft, has_place, with_graft}
+use Rattle.drive_reports.specs.Targets.{WholeReport, client_tree, drive_scope, goal_path, is_stale, is_stale_token, new_tree, old_tree, stale_in, target_tree}
+use Rattle.drive_reports.specs.declared.graft.Graft.{Graft}
+use Rattle.drive_reports.specs.declared.graft.Subtree.{Subtree}
+use Rattle.drive_wire.specs.Sent.{or_no_text}
+use Rattle.drive_sides.specs.Plans.{IsPlan, from_top}
+use Rattle.drive_sides.proofs.Listing.{in_old, in_new, under_target}
+use Rattle.drive_news.specs.News.{own_steps_of}
+use Rattle.drive_sending.proofs.Spelled.{IsSpelledPath, spelled}
+
+-- something is to stand there, its path is spelled by a text, and its text is short enough for a delta
+pub record IsTellable (new : Tree) (p : PathValue) : Type 0 where
+  pub stands : is_some (new p) ≡ true
+  pub spelled : IsSpelledPath p
+  pub short : length (or_no_text (text_of (new p))) ≤ limit
+
+-- the commands of the visit say what they are to say
+abbrev pub IsSendable : Tree → Visit → Type 0
+IsSendable new (Open p) = IsTellable new p
+IsSendable new (Add p) = IsTellable new p
+IsSendable new (Delete p) = IsSpelledPath p
+IsSendable new Close = Unit {0}
+
+-- ---- components
+
+named_front : (p rest : PathValue) → IsNamed (p ++ rest) → IsNamed p
+named_front [] rest right = All-nil IsComponent
+named_front (c ∷ p) rest right = All-cons IsComponent c p (All-head IsComponent c (p ++ rest) right) (named_front p rest (All-tail IsComponent c (p ++ rest) right))
+
+named_behind : (p rest : PathValue) → IsNamed (p ++ rest) → IsNamed rest
+named_behind [] rest right = right
+named_behind (c ∷ p) rest right = named_behind p rest (All-tail IsComponent c (p ++ rest) right)
+
+-- a path beneath one that can be named
+named_beneath : (top q : PathValue) → is_at_or_under q top ≡ true → IsNamed top → IsNamed (drop (length top) q) → IsNamed q
+named_beneath top q under front rest = subst IsNamed (sym (under_is q top under)) (All-append IsComponent top (drop (length top) q) front rest)
+
+named_above : (top q : PathValue) → is_at_or_under q top ≡ true → IsNamed q → IsNamed top
+named_above top q under right = named_front top (drop (length top) q) (subst IsNamed (under_is q top under) right)
+
+-- ---- what a client has
+
+-- what stands in these trees stands at paths that can be named
+abbrev pub AllNamed : (ℕ → Tree) → Type 0
+AllNamed trees = (n : ℕ) (p : PathValue) → is_some (trees n p) ≡ true → IsNamed p
+
+abbrev pub HadNamed : ReportedTree → Type 0
+HadNamed had = (q : PathValue) → is_some (had q) ≡ true → IsNamed q
+
+mapped : {X Y : Type 0} (f : X → Y) (o : Option X) → is_some (option_map f o) ≡ true → is_some o ≡ true
+mapped f None h = h
+mapped f (Some x) h = refl
+
+left_there : (depth : Depth) (rest : List Component) (o : Option Entry) → is_some (left_by depth rest o) ≡ true → is_some o ≡ true
+left_there depth rest (Some e) h = refl
+left_there Empty rest None h = h
+left_there Files [] None h = h
+left_there Files (c ∷ rest) None h = h
+left_there Immediates [] None h = h
+left_there Immediates (c ∷ rest) None h = h
+left_there Infinity rest None h = h
+
+in_there : (trees : ℕ → Tree) (from : PathValue) (s : Subtree) (rest : List Component) → is_some (in_subtree trees from s rest) ≡ true → is_some (trees s.revision (from ++ rest)) ≡ true
+in_there trees from s [] h =
+    subst (λ p. is_some (trees s.revision p) ≡ true) (sym (append-nil from)) (mapped (λ e. reported_as s s.depth s.token (top_entry s.starts_empty e)) (trees s.revision from) h)
+in_there trees from s (c ∷ rest) h = by s.starts_empty h
+  where
+    by : (b : Bool) → is_some (cond b None (option_map (reported_as s (depth_below s.depth) None) (left_by s.depth rest (trees s.revision (from ++ c ∷ rest))))) ≡ true → is_some (trees s.revision (from ++ c ∷ rest)) ≡ true
+    by true e = absurd (false≢true e)
+    by false e = left_there s.depth rest (trees s.revision (from ++ c ∷ rest)) (mapped (reported_as s (depth_below s.depth) None) (left_by s.depth rest (trees s.revision (from ++ c ∷ rest))) e)
+
+graft_named : (trees : ℕ → Tree) (from : PathValue) (o : Option Subtree) (rest : List Component) → AllNamed trees → is_some (option_and_then (λ s. in_subtree trees from s rest) o) ≡ true → IsNamed rest
+graft_named trees from None rest all h = absurd (false≢true h)
+graft_named trees from (Some s) rest all h = named_behind from rest (all s.revision (from ++ rest) (in_there trees from s rest h))
+
+and_behind : (a b : Bool) → (a && b) ≡ true → b ≡ true
+and_behind true b h = h
+and_behind false b h = absurd (false≢true h)
+
+with_graft_named : (trees : ℕ → Tree) (top : PathValue) (had : ReportedTree) (g : Graft) → AllNamed trees → IsNamed g.path → HadNamed had → HadNamed (with_graft trees top had g)
+with_graft_named trees top had g all right old q some = by (has_place top had g.path && is_at_or_under q g.path) refl some
+  where
+    by : (b : Bool) → (has_place top had g.path && is_at_or_under q g.path) ≡ b → is_some (cond b (in_graft trees g (drop (length g.path) q)) (had q)) ≡ true → IsNamed q
+    by true is h = named_beneath g.path q (and_behind (has_place top had g.path) (is_at_or_under q g.path) is) right (graft_named trees g.from g.subtree (drop (length g.path) q) all h)
+    by false is h = old q h
+
+grafts_named : (trees : ℕ → Tree) (top : PathValue) (gs : List Graft) (had : ReportedTree) → AllNamed trees → AreNamed gs → HadNamed had → HadNamed (fold (with_graft trees top) had gs)
+grafts_named trees top [] had all right old = old
+grafts_named trees top (g ∷ gs) had all right old =
+    grafts_named trees top gs (with_graft trees top had g) all (All-tail (λ (x : Graft). IsNamed x.path) g gs right)
+    (with_graft_named trees top had g all (All-head (λ (x : Graft). IsNamed x.path) g gs right) old)
+
+module _ (c : RepoState) (report : WholeReport) (trees : AreTrees c.revisions) (target : IsNamed report.ask.target) (grafts : AreNamed report.grafts) where
+  abbrev Old : Tree
+  Old = old_tree c report
+
+  abbrev New : Tree
+  New = new_tree c report
+
+  abbrev Own : OwnSteps
+  Own = own_steps_of c report
+
+  all_named : AllNamed (trees_in c.revisions)
+  all_named n p some = (right_where c.revisions n p trees some).components
+
+  old_named : (q : PathValue) → is_some (Old q) ≡ true → IsNamed q
+  old_named q some = grafts_named (trees_in c.revisions) report.ask.target report.grafts (λ _. None) all_named grafts (λ p h. absurd (false≢true h)) q (in_old c report q some)
+
+  target_named : (q : PathValue) → is_some (target_tree c report.ask q) ≡ true → IsNamed q
+  target_named q some =
+      named_beneath report.ask.target q under target
+      (named_behind report.ask.goal (drop (length report.ask.target) q)
+      (all_named report.ask.revision (goal_path report.ask q) (sym (ap (λ b. is_some (cond b (trees_in c.revisions report.ask.revision (goal_path report.ask q)) None)) under) ∙ some)))
+    where
+      under : is_at_or_under q report.ask.target ≡ true
+      under = under_target c report.ask q some
+
+  new_named : (q : PathValue) → is_some (New q) ≡ true → IsNamed q
+  new_named q some = target_named q (in_new c report q some)
+
+  -- ---- what is named
+
+  differing : (p : PathValue) → Differs Old New p → IsNamed p
+  differing p differs = by (Old p) (New p) refl refl
+    where
+      by : (a b : Option Entry) → Old p ≡ a → New p ≡ b → IsNamed p
+      by (Some e) b is_old is_new = old_named p (ap is_some is_old)
+      by None (Some f) is_old is_new = new_named p (ap is_some is_new)
+      by None None is_old is_new =
+          absurd (differs (ap (option_map node_of) (is_old ∙ sym is_new), ap (option_map (λ (e : Entry). e.last)) (is_old ∙ sym is_new)))
+
+  stale_named : (p : PathValue) → stale_in c report p ≡ true → IsNamed p
+  stale_named p stale = by (option_and_then (λ (h : ReportedEntry). h.token) (client_tree c report p)) (and_behind (drive_scope c report p) (is_stale c report p) stale)
+    where
+      by : (token : Option (List ℕ)) → is_stale_token c.locks (goal_path report.ask p) (target_tree c report.ask p) token ≡ true → IsNamed p
+      by None h = absurd (false≢true h)
+      by (Some token) h = target_named p (and_front (is_some (target_tree c report.ask p)) _ h)
+
+  reason_named : (q : PathValue) → HasReason (stale_in c report) Old New q → IsNamed q
+  reason_named q reason =
+      ⊎_elim (λ root. subst IsNamed (sym root) (All-nil IsComponent))
+      (λ w. named_above q w.0 w.1 (⊎_elim (λ differs. differing w.0 differs) (λ stale. stale_named w.0 stale) w.2)) reason
+
+  -- ---- visits
+
+  short_text : (o : Option Entry) → ((text : List ℕ) → text_of o ≡ Some text → length text ≤ TEXT_LIMIT) → length (or_no_text (text_of o)) ≤ limit
+  short_text o short = by (text_of o) refl
+    where
+      by : (t : Option (List ℕ)) → text_of o ≡ t → length (or_no_text t) ≤ limit
+      by None is = omega arith
+      by (Some text) is = short text is
+
+  short_new : (p : PathValue) → length (or_no_text (text_of (New p))) ≤ limit
+  short_new p = by (drive_scope c report p) (is_at_or_under p report.ask.target)
+    where
+      by : (a b : Bool) → length (or_no_text (text_of (cond a (cond b (trees_in c.revisions report.ask.revision (goal_path report.ask p)) None) None))) ≤ limit
+      by false b = omega arith
+      by true false = omega arith
+      by true true = short_text (trees_in c.revisions report.ask.revision (goal_path report.ask p)) (λ text is. short_where c.revisions report.ask.revision (goal_path report.ask p) text trees is)
+
+  -- a walk goes on from what is open after the visit
+  went_on : (b : Bool) (mid : List PathValue) (rest : List PathValue → Option (List PathValue)) (end : List PathValue)
+      → option_and_then rest (if b then Some mid else None) ≡ Some end → (b ≡ true) × (rest mid ≡ Some end)
+  went_on true mid rest end e = (refl, e)
+  went_on false mid rest end e = absurd (none-some end e)
+
+  first_named : (p : PathValue) (xs : List Step) → ((same_path p p && true) || is_named p xs) ≡ true
+  first_named p xs = ap (λ b. (b && true) || is_named p xs) (same_path_refl p)
+
+  abbrev AreSpelled : List Visit → Type 0
+  AreSpelled vs = (q : PathValue) → is_named q (plan_steps New Own vs) ≡ true → IsNamed q
+
+  later : (v : Visit) (vs : List Visit) → AreSpelled (v ∷ vs) → AreSpelled vs
+  later v vs right q named =
+      right q (named_append (λ _. true) q (visit_steps New Own v) (plan_steps New Own vs) ∙ or_right (is_named q (visit_steps New Own v)) (is_named q (plan_steps New Own vs)) named)
+
+  sendable : (vs : List Visit) (ds end : List PathValue) → walk New report.ask.target ds vs ≡ Some end → AreSpelled vs → All (IsSendable New) vs
+  sendable [] ds end walked right = All-nil (IsSendable New)
+  sendable (Open p ∷ vs) [] end walked right = absurd (none-some end walked)
+  sendable (Open p ∷ vs) (d ∷ ds) end walked right =
+      let on = went_on (is_in_directory report.ask.target d p && is_some (New p)) (if is_directory_there (New p) then p ∷ d ∷ ds else d ∷ ds) (λ mid. walk New report.ask.target mid vs) end walked in
+      All-cons (IsSendable New) (Open p) vs
+      (record {
+        stands = and_behind (is_in_directory report.ask.target d p) (is_some (New p)) on.0;
+        spelled = spelled p (right p (first_named p (Own p false ++ plan_steps New Own vs)));
+        short = short_new p;
+      })
+      (sendable vs (if is_directory_there (New p) then p ∷ d ∷ ds else d ∷ ds) end on.1 (later (Open p) vs right))
+  sendable (Add p ∷ vs) [] end walked right = absurd (none-some end walked)
+  sendable (Add p ∷ vs) (d ∷ ds) end walked right =
+      let on = went_on (is_in_directory report.ask.target d p && is_some (New p)) (if is_directory_there (New p) then p ∷ d ∷ ds else d ∷ ds) (λ mid. walk New report.ask.target mid vs) end walked in
+      All-cons (IsSendable New) (Add p) vs
+      (record {
+        stands = and_behind (is_in_directory report.ask.target d p) (is_some (New p)) on.0;
+        spelled = spelled p (right p (first_named p (Own p true ++ plan_steps New Own vs)));
+        short = short_new p;
+      })
+      (sendable vs (if is_directory_there (New p) then p ∷ d ∷ ds else d ∷ ds) end on.1 (later (Add p) vs right))
+  sendable (Delete p ∷ vs) [] end walked right = absurd (none-some end walked)
+  sendable (Delete p ∷ vs) (d ∷ ds) end walked right =
+      let on = went_on (is_in_directory report.ask.target d p) (d ∷ ds) (λ mid. walk New report.ask.target mid vs) end walked in
+      All-cons (IsSendable New) (Delete p) vs (spelled p (right p (first_named p (plan_steps New Own vs)))) (sendable vs (d ∷ ds) end on.1 (later (Delete p) vs right))
+  sendable (Close ∷ vs) [] end walked right = absurd (none-some end walked)
+  sendable (Close ∷ vs) (d ∷ []) end walked right = absurd (none-some end walked)
+  sendable (Close ∷ vs) (d ∷ e ∷ ds) end walked right = All-cons (IsSendable New) Close vs tt (sendable vs (e ∷ ds) end walked (later Close vs right))
+
+  -- without a target the root is opened before
+  below_root : (vs : List Visit) → AreSpelled (from_top report.ask vs) → AreSpelled vs
+  below_root vs right = by (same_path report.ask.target []) right
+    where
+      by : (b : Bool) → AreSpelled (if b then Open [] ∷ vs else vs) → AreSpelled vs
+      by true all = later (Open []) vs all
+      by false all = all
+
+  pub plan_sendable : (vs : List Visit) → IsPlan c report vs → All (IsSendable New) vs
+  plan_sendable vs plan =
+      sendable vs ([] ∷ []) ([] ∷ []) (plan.nests []) (below_root vs (λ q named. reason_named q (plan.right.reasons q named)))

@@ -1,0 +1,182 @@
+-- The commands of a plan.
+use Rattle.std.specs.Prelude.{◌+◌, ◌-◌, zero, suc, ℕ, Bool, true, false, List, [], ◌∷◌, ◌++◌, length, map, take, drop, Option, Some, None, option_map, if◌then◌else◌}
+use Rattle.std.specs.Int.{div_ceil}
+use Rattle.hex.specs.Hex.{encode_lower}
+use Rattle.md5.specs.Md5.{md5}
+use Rattle.svnpath.specs.Paths.{PathValue, same_path}
+use Rattle.svndiff0.specs.Document.{header}
+use Rattle.svndiff0.specs.Full.{full_window}
+use Rattle.repo_api.specs.States.{RepoState}
+use Rattle.repo_api.specs.Trees.{Tree}
+use Rattle.wire_edits.specs.declared.editing.AddedEntry.{AddedEntry}
+use Rattle.wire_edits.specs.declared.editing.DeletedEntry.{DeletedEntry}
+use Rattle.wire_edits.specs.declared.editing.EditorCommand.{EditorCommand}
+use Rattle.wire_edits.specs.declared.editing.EditorCommand.TheVariants.{DeleteEntry, AddDirectory, AddFile, OpenDirectory, OpenFile, ChangeDirectoryProperty, ChangeFileProperty, ApplyTextDelta, TextDeltaChunk, TextDeltaEnd, CloseDirectory, CloseFile}
+use Rattle.wire_edits.specs.declared.editing.OpenedEntry.{OpenedEntry}
+use Rattle.drive_rules.specs.Steps.{EntryKind}
+use Rattle.drive_rules.specs.Steps.EntryKind.{DirectoryKind, FileKind}
+use Rattle.reporter.specs.Own.{Change}
+use Rattle.reporter.specs.Visits.{entry_kind}
+use Rattle.reporter.specs.declared.visit.Visit.{Visit}
+use Rattle.reporter.specs.declared.visit.Visit.TheVariants.{Open, Add, Delete, Close}
+use Rattle.drive_reports.specs.Targets.{WholeReport, client_tree, new_tree}
+use Rattle.drive_reports.specs.declared.ask.Purpose.{Purpose}
+use Rattle.drive_reports.specs.declared.ask.Purpose.TheVariants.{Update, Switch, Status}
+use Rattle.drive_wire.specs.Sent.{framed}
+use Rattle.drive_news.specs.News.{news_at}
+use Rattle.drive_news.specs.declared.news.News.{News}
+use Rattle.drive_sending.specs.Tokens.{token_of, relative_text}
+
+-- ---- what is told of an entry
+
+-- a property of what is open under a token has a value now, or is taken out
+abbrev pub property_command : EntryKind → List ℕ → Change → EditorCommand
+property_command DirectoryKind token change =
+    ChangeDirectoryProperty (record { token = token; name = change.0; value = change.1 })
+property_command FileKind token change =
+    ChangeFileProperty (record { token = token; name = change.0; value = change.1 })
+
+-- so many windows of 65,536 bytes, the last shorter where the text ends
+abbrev pub windows : ℕ → List ℕ → List (List ℕ)
+windows zero text = []
+windows (suc n) text = full_window (take 65536 text) ∷ windows n (drop 65536 text)
+
+-- the chunks of a text's document: the header, and each window
+abbrev pub chunks : List ℕ → List (List ℕ)
+chunks text = header ∷ windows (div_ceil (length text) 65536) text
+
+-- a text, sent whole
+abbrev pub text_commands : List ℕ → Option (List ℕ) → List EditorCommand
+text_commands token None = []
+text_commands token (Some text) =
+    ApplyTextDelta token None
+    ∷ (map (TextDeltaChunk token) (chunks text) ++ TextDeltaEnd token ∷ [])
+
+-- the MD5 of a text, as digits
+abbrev pub digits_of : List ℕ → List ℕ
+digits_of text = encode_lower (md5 text)
+
+-- a file is closed with the digits of the text that was sent; a status sends no texts
+abbrev pub checksum_sent : Purpose → Option (List ℕ) → Option (List ℕ)
+checksum_sent Update text = option_map digits_of text
+checksum_sent Switch text = option_map digits_of text
+checksum_sent Status text = None
+
+-- what is told of an entry that was entered under a token; a file is closed at once
+abbrev pub news_commands : Purpose → EntryKind → List ℕ → News → List EditorCommand
+news_commands purpose DirectoryKind token news =
+    map (property_command DirectoryKind token) news.changes
+news_commands purpose FileKind token news =
+    map (property_command FileKind token) news.changes
+    ++ (text_commands token news.text
+    ++ CloseFile token (checksum_sent purpose news.text) ∷ [])
+
+-- the news, or none
+abbrev pub or_no_news : Option News → News
+or_no_news None = record { changes = []; text = None }
+or_no_news (Some news) = news
+
+-- the news of what the client is to have at a path
+abbrev pub news_told : RepoState → WholeReport → PathValue → Bool → News
+news_told c report p anew = or_no_news (option_map (news_at c report p anew) (new_tree c report p))
+
+-- ---- visits
+
+abbrev pub open_command : EntryKind → OpenedEntry → EditorCommand
+open_command DirectoryKind e = OpenDirectory e
+open_command FileKind e = OpenFile e
+
+abbrev pub add_command : EntryKind → AddedEntry → EditorCommand
+add_command DirectoryKind e = AddDirectory e
+add_command FileKind e = AddFile e
+
+-- the revision that the client has of an entry
+abbrev pub reported_revision : RepoState → WholeReport → PathValue → Option ℕ
+reported_revision c report p = option_map (λ h. h.revision) (client_tree c report p)
+
+-- an entry that is opened while so many directories are open around the innermost one
+abbrev pub opened_entry : RepoState → WholeReport → ℕ → PathValue → EntryKind → OpenedEntry
+opened_entry c report around p kind = record {
+  path = relative_text p;
+  parent = token_of DirectoryKind around;
+  token = token_of kind (around + 1);
+  revision = reported_revision c report p;
+}
+
+-- an entry that is added
+abbrev pub added_entry : ℕ → PathValue → EntryKind → AddedEntry
+added_entry around p kind = record {
+  path = relative_text p;
+  parent = token_of DirectoryKind around;
+  token = token_of kind (around + 1);
+  source = None;
+}
+
+-- an entry that is deleted
+abbrev pub deleted_entry : ℕ → PathValue → DeletedEntry
+deleted_entry around p = record {
+  path = relative_text p;
+  parent = token_of DirectoryKind around;
+  revision = None;
+}
+
+-- the commands of a visit, while so many directories are open around the innermost one
+abbrev pub visit_commands : RepoState → WholeReport → ℕ → Visit → List EditorCommand
+visit_commands c report around (Open p) =
+    let kind = entry_kind (new_tree c report p) in
+    open_command kind (opened_entry c report around p kind)
+    ∷ news_commands report.ask.purpose kind (token_of kind (around + 1))
+    (news_told c report p false)
+visit_commands c report around (Add p) =
+    let kind = entry_kind (new_tree c report p) in
+    add_command kind (added_entry around p kind)
+    ∷ news_commands report.ask.purpose kind (token_of kind (around + 1))
+    (news_told c report p true)
+visit_commands c report around (Delete p) = DeleteEntry (deleted_entry around p) ∷ []
+visit_commands c report around Close = CloseDirectory (token_of DirectoryKind around) ∷ []
+
+-- a directory stays open, and a file does not
+abbrev pub deeper_by : EntryKind → ℕ → ℕ
+deeper_by DirectoryKind around = around + 1
+deeper_by FileKind around = around
+
+-- how many directories are open around the innermost one after a visit
+abbrev pub around_after : Tree → ℕ → Visit → ℕ
+around_after new around (Open p) = deeper_by (entry_kind (new p)) around
+around_after new around (Add p) = deeper_by (entry_kind (new p)) around
+around_after new around (Delete p) = around
+around_after new around Close = around - 1
+
+-- the kind of the entry that a visit opens or adds, or else that of a file
+abbrev pub visited_kind : Tree → Visit → EntryKind
+visited_kind new (Open p) = entry_kind (new p)
+visited_kind new (Add p) = entry_kind (new p)
+visited_kind new (Delete p) = FileKind
+visited_kind new Close = FileKind
+
+-- the commands of all visits, in their order
+abbrev pub plan_commands : RepoState → WholeReport → ℕ → List Visit → List EditorCommand
+plan_commands c report around [] = []
+plan_commands c report around (v ∷ vs) =
+    visit_commands c report around v
+    ++ plan_commands c report (around_after (new_tree c report) around v) vs
+
+-- ---- the drive
+
+-- the root is told its news where it is one of the paths that the drive is of
+abbrev pub root_commands : RepoState → WholeReport → List EditorCommand
+root_commands c report =
+    if same_path report.ask.target []
+    then news_commands report.ask.purpose DirectoryKind (token_of DirectoryKind 0)
+    (news_told c report [] false)
+    else []
+
+-- the commands of a plan, from the open root on to its close
+abbrev pub body_commands : RepoState → WholeReport → List Visit → List EditorCommand
+body_commands c report visits =
+    root_commands c report
+    ++ (plan_commands c report 0 visits ++ CloseDirectory (token_of DirectoryKind 0) ∷ [])
+
+-- the drive of a plan
+abbrev pub drive_of : RepoState → WholeReport → List Visit → List EditorCommand
+drive_of c report visits = framed report (token_of DirectoryKind 0) (body_commands c report visits)

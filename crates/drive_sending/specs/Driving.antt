@@ -1,0 +1,39 @@
+-- What is written of a drive.
+use Rattle.std.specs.Prelude.{ℕ, List, [], ◌∷◌, map, ◌⊎◌}
+use Rattle.repo_api.specs.States.{RepoState}
+use Rattle.wire_edits.specs.declared.editing.EditorCommand.{EditorCommand}
+use Rattle.wire_replies.specs.Replies.{print}
+use Rattle.wire_replies.specs.Sinks.{WritesPart}
+use Rattle.wire_replies.specs.declared.reply.Reply.{Reply}
+use Rattle.wire_replies.specs.declared.reply.Reply.TheVariants as replies
+use Rattle.reporter.specs.Visiting.{MayVisit}
+use Rattle.reporter.specs.Walks.{WalkedTrees}
+use Rattle.reporter.specs.declared.visit.Visit.{Visit}
+use Rattle.reporter.specs.declared.visitor.Visitor.{Visitor}
+use Rattle.drive_reports.specs.Targets.{WholeReport}
+use Rattle.drive_wire.specs.Sent.{IsDrive}
+
+-- visits that a visitor may have left, of which this is so
+abbrev pub Visiting : WalkedTrees → Visitor → (List Visit → Type 0) → Type 0
+Visiting t visitor holds = (visits : List Visit) × MayVisit t visitor visits × holds visits
+
+-- the bytes of commands
+abbrev pub command_bytes : List EditorCommand → List ℕ
+command_bytes commands = print (map replies.Edit commands)
+
+-- what a client is told at the end of a report: a login request that asks for nothing, and the
+-- drive
+abbrev pub drive_replies : List EditorCommand → List Reply
+drive_replies drive = replies.NoLogin ∷ map replies.Edit drive
+
+-- a drive that may be sent was written
+abbrev pub DriveWritten : RepoState → WholeReport → (List ℕ → Type 0) → Type 0
+DriveWritten c report writes =
+    (drive : List EditorCommand) × IsDrive c report drive × writes (print (drive_replies drive))
+
+-- nothing was written, or a part of a drive that may be sent
+abbrev pub DriveLost : RepoState → WholeReport → (List ℕ → Type 0) → Type 0
+DriveLost c report writes =
+    writes []
+    ⊎ ((drive : List EditorCommand) × IsDrive c report drive
+    × WritesPart writes (print (drive_replies drive)))

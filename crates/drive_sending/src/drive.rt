@@ -1,0 +1,205 @@
+//! A drive, written as it is made. Where one of these fails, a part of what it says was written.
+ghost use Rattle.std.specs.Prelude.{◌≡◌, ◌∷◌, ◌++◌, [], Ok, Some, IfOk, OnOk, OnErr};
+ghost use Rattle.repo_api.specs.Soundness.{AreTrees};
+ghost use Rattle.wire_replies.specs.Replies.{print};
+ghost use Rattle.wire_replies.specs.Sinks.{WritesPart};
+ghost use Rattle.wire_edits.specs.declared.editing.EditorCommand.TheVariants.{CloseDirectory, CloseEdit, OpenRoot, TargetRevision};
+ghost use Rattle.drive_rules.specs.Steps.EntryKind.{DirectoryKind};
+ghost use Rattle.drive_reports.specs.Refusing.{finish_root};
+ghost use Rattle.drive_sides.specs.Plans.{drive_trees, whole};
+ghost use Rattle.drive_sending.specs.Commands.{body_commands, drive_of, plan_commands, root_commands};
+ghost use Rattle.drive_sending.specs.Driving.{command_bytes, drive_replies, DriveLost, DriveWritten, Visiting};
+ghost use Rattle.drive_sending.specs.Tokens.{token_of};
+
+use crate::naming::token;
+use crate::saying::{say_made, say_new};
+use crate::telling::say_root_news;
+use crate::visits::{root_news, say_close, say_visits};
+use drive_reports::{Grafts, OpenReport, ReportRoot};
+use drive_sides::{TwoTrees, visitor};
+use repo_api::Repository;
+use reporter::Visitor;
+use std::alloc::{AllocError, Global};
+use wire_edits::EditorCommand;
+use wire_replies::{Reply, ReplySink};
+
+/// The command that opens the root.
+fn open_root(alloc: Global, root: ReportRoot) -> Result<EditorCommand, AllocError>
+    ensures { IfOk result (λ command. command
+        ≡ OpenRoot (Some root.revision) (token_of DirectoryKind 0)) }
+{
+    Ok(EditorCommand::OpenRoot(Some(root.revision), token(alloc, true, 0)?))
+}
+
+/// Writes which revision a drive leads to, and that the root is opened.
+fn say_beginning<S: ReplySink>(
+    alloc: Global,
+    revision: u64,
+    root: ReportRoot,
+    out: &mut S,
+) -> Result<(), AllocError>
+    ensures ok { OnOk result (S.writes out.old out.new (command_bytes (TargetRevision revision
+        ∷ OpenRoot (Some root.revision) (token_of DirectoryKind 0) ∷ []))) }
+    ensures err { OnErr result (WritesPart (S.writes out.old out.new) (command_bytes
+        (TargetRevision revision
+        ∷ OpenRoot (Some root.revision) (token_of DirectoryKind 0) ∷ []))) }
+{
+    say_made(Ok(EditorCommand::TargetRevision(revision)), out)?;
+    say_made(open_root(alloc, root), out)
+}
+
+/// Writes what the root is told, where it is one of the paths of the drive.
+fn say_root<R: Repository, S: ReplySink>(
+    alloc: Global,
+    trees: &TwoTrees<R>,
+    out: &mut S,
+) -> Result<(), AllocError>
+    ensures ok { OnOk result (S.writes out.old out.new (command_bytes (root_commands
+        (R.content trees.now.view.now) (whole trees.now.report.now trees.now.root)))) }
+    ensures err { OnErr result (WritesPart (S.writes out.old out.new) (command_bytes
+        (root_commands (R.content trees.now.view.now)
+        (whole trees.now.report.now trees.now.root)))) }
+{
+    if !trees.report.ask.target.as_path().is_root() {
+        return Ok(());
+    }
+    let news = root_news(alloc, trees)?;
+    say_root_news(alloc, &news, out)
+}
+
+/// Writes visits, and that the root is closed.
+fn say_below<R: Repository, S: ReplySink>(
+    alloc: Global,
+    trees: &TwoTrees<R>,
+    visitor: &mut Visitor,
+    out: &mut S,
+) -> Result<(), AllocError>
+    ensures ok { OnOk result (Visiting (drive_trees (R.content trees.now.view.now)
+        (whole trees.now.report.now trees.now.root)) visitor.old
+        (λ visits. S.writes out.old out.new (command_bytes
+        (plan_commands (R.content trees.now.view.now)
+        (whole trees.now.report.now trees.now.root) 0 visits
+        ++ CloseDirectory (token_of DirectoryKind 0) ∷ [])))) }
+    ensures err { OnErr result (Visiting (drive_trees (R.content trees.now.view.now)
+        (whole trees.now.report.now trees.now.root)) visitor.old
+        (λ visits. WritesPart (S.writes out.old out.new) (command_bytes
+        (plan_commands (R.content trees.now.view.now)
+        (whole trees.now.report.now trees.now.root) 0 visits
+        ++ CloseDirectory (token_of DirectoryKind 0) ∷ [])))) }
+{
+    say_visits(alloc, trees, visitor, out)?;
+    say_close(alloc, 0, out)
+}
+
+/// Writes the commands from the open root on to its close.
+fn say_body<R: Repository, S: ReplySink>(
+    alloc: Global,
+    trees: &TwoTrees<R>,
+    visitor: &mut Visitor,
+    out: &mut S,
+) -> Result<(), AllocError>
+    ensures ok { OnOk result (Visiting (drive_trees (R.content trees.now.view.now)
+        (whole trees.now.report.now trees.now.root)) visitor.old
+        (λ visits. S.writes out.old out.new (command_bytes
+        (body_commands (R.content trees.now.view.now)
+        (whole trees.now.report.now trees.now.root) visits)))) }
+    ensures err { OnErr result (Visiting (drive_trees (R.content trees.now.view.now)
+        (whole trees.now.report.now trees.now.root)) visitor.old
+        (λ visits. WritesPart (S.writes out.old out.new) (command_bytes
+        (body_commands (R.content trees.now.view.now)
+        (whole trees.now.report.now trees.now.root) visits)))) }
+{
+    say_root(alloc, trees, out)?;
+    say_below(alloc, trees, visitor, out)
+}
+
+/// Writes the commands from the open root on to the end of the edit.
+fn say_rest<R: Repository, S: ReplySink>(
+    alloc: Global,
+    trees: &TwoTrees<R>,
+    visitor: &mut Visitor,
+    out: &mut S,
+) -> Result<(), AllocError>
+    ensures ok { OnOk result (Visiting (drive_trees (R.content trees.now.view.now)
+        (whole trees.now.report.now trees.now.root)) visitor.old
+        (λ visits. S.writes out.old out.new (command_bytes
+        (body_commands (R.content trees.now.view.now)
+        (whole trees.now.report.now trees.now.root) visits ++ CloseEdit ∷ [])))) }
+    ensures err { OnErr result (Visiting (drive_trees (R.content trees.now.view.now)
+        (whole trees.now.report.now trees.now.root)) visitor.old
+        (λ visits. WritesPart (S.writes out.old out.new) (command_bytes
+        (body_commands (R.content trees.now.view.now)
+        (whole trees.now.report.now trees.now.root) visits ++ CloseEdit ∷ [])))) }
+{
+    say_body(alloc, trees, visitor, out)?;
+    say_made(Ok(EditorCommand::CloseEdit), out)
+}
+
+/// Writes the drive of the visits.
+fn say_commands<R: Repository, S: ReplySink>(
+    alloc: Global,
+    trees: &TwoTrees<R>,
+    visitor: &mut Visitor,
+    out: &mut S,
+) -> Result<(), AllocError>
+    ensures ok { OnOk result (Visiting (drive_trees (R.content trees.now.view.now)
+        (whole trees.now.report.now trees.now.root)) visitor.old
+        (λ visits. S.writes out.old out.new (command_bytes
+        (drive_of (R.content trees.now.view.now)
+        (whole trees.now.report.now trees.now.root) visits)))) }
+    ensures err { OnErr result (Visiting (drive_trees (R.content trees.now.view.now)
+        (whole trees.now.report.now trees.now.root)) visitor.old
+        (λ visits. WritesPart (S.writes out.old out.new) (command_bytes
+        (drive_of (R.content trees.now.view.now)
+        (whole trees.now.report.now trees.now.root) visits)))) }
+{
+    say_beginning(alloc, trees.report.ask.revision, trees.root, out)?;
+    say_rest(alloc, trees, visitor, out)
+}
+
+/// Writes a login request that asks for nothing, and the drive of the visits.
+fn say_planned<R: Repository, S: ReplySink>(
+    alloc: Global,
+    trees: &TwoTrees<R>,
+    visitor: &mut Visitor,
+    out: &mut S,
+) -> Result<(), AllocError>
+    ensures ok { OnOk result (Visiting (drive_trees (R.content trees.now.view.now)
+        (whole trees.now.report.now trees.now.root)) visitor.old
+        (λ visits. S.writes out.old out.new (print (drive_replies
+        (drive_of (R.content trees.now.view.now)
+        (whole trees.now.report.now trees.now.root) visits))))) }
+    ensures err { OnErr result (Visiting (drive_trees (R.content trees.now.view.now)
+        (whole trees.now.report.now trees.now.root)) visitor.old
+        (λ visits. WritesPart (S.writes out.old out.new) (print (drive_replies
+        (drive_of (R.content trees.now.view.now)
+        (whole trees.now.report.now trees.now.root) visits))))) }
+{
+    say_new(Reply::NoLogin, out)?;
+    say_commands(alloc, trees, visitor, out)
+}
+
+/// Writes a login request that asks for nothing, and the drive that a report has come to.
+///
+/// # Errors
+///
+/// `AllocError` for want of memory, or where the sink fails.
+pub fn say_drive<R: Repository, S: ReplySink>(
+    alloc: Global,
+    view: &R,
+    report: &OpenReport<Grafts>,
+    root: ReportRoot,
+    out: &mut S,
+) -> Result<(), AllocError>
+    requires trees { AreTrees (R.content view.now).revisions }
+    requires finished { finish_root (R.content view.now) report.now ≡ Ok root }
+    ensures ok { OnOk result (DriveWritten (R.content view.now) (whole report.now root)
+        (S.writes out.old out.new)) }
+    ensures err { OnErr result (DriveLost (R.content view.now) (whole report.now root)
+        (S.writes out.old out.new)) }
+{
+    let trees = TwoTrees { view, report, root };
+    let mut visitor = visitor(alloc, &trees)?;
+    report.are_named();
+    say_planned(alloc, &trees, &mut visitor, out)
+}

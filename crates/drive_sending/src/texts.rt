@@ -1,0 +1,175 @@
+//! Texts, sent whole. Where one of these fails, a part of what it says was written.
+ghost use Rattle.std.specs.Prelude.{◌≡◌, ◌<◌, ◌^◌, ◌∷◌, ◌++◌, [], None, Some, map, length, IfOk, OnOk, OnErr};
+ghost use Rattle.std.specs.Int.{div_ceil};
+ghost use Rattle.svndiff0.specs.Document.{header};
+ghost use Rattle.svndiff0.specs.Full.{full_window};
+ghost use Rattle.wire_replies.specs.Sinks.{WritesPart};
+ghost use Rattle.wire_edits.specs.declared.editing.EditorCommand.TheVariants.{ApplyTextDelta, TextDeltaChunk, TextDeltaEnd, CloseFile};
+ghost use Rattle.drive_sending.specs.Commands.{windows, chunks, text_commands, checksum_sent, digits_of};
+ghost use Rattle.drive_sending.specs.Driving.{command_bytes};
+
+use crate::saying::say_made;
+use byte_string::ByteString;
+use drive_reports::Purpose;
+use repo_api::FileText;
+use std::alloc::{AllocError, Global};
+use svndiff0::{HEADER, put_window};
+use wire_edits::EditorCommand;
+use wire_replies::ReplySink;
+
+/// The longest part of a text that a window brings, in bytes.
+const WINDOW: usize = 65_536;
+
+/// The next bytes of a delta.
+fn chunk(token: &ByteString, bytes: Vec<u8>) -> Result<EditorCommand, AllocError>
+    ensures { IfOk result (λ command. command ≡ TextDeltaChunk token.now bytes.items) }
+{
+    let bytes = ByteString::new(bytes);
+    Ok(EditorCommand::TextDeltaChunk(token.clone()?, bytes))
+}
+
+/// The window of a part of a text.
+fn window(alloc: Global, token: &ByteString, part: &[u8]) -> Result<EditorCommand, AllocError>
+    requires { length part.now < 2 ^ 21 }
+    ensures { IfOk result (λ command. command ≡ TextDeltaChunk token.now (full_window part.now)) }
+{
+    let mut bytes = Vec::new(alloc);
+    put_window(&mut bytes, part)?;
+    chunk(token, bytes)
+}
+
+/// The beginning of a delta.
+fn beginning(token: &ByteString) -> Result<EditorCommand, AllocError>
+    ensures { IfOk result (λ command. command ≡ ApplyTextDelta token.now None) }
+{
+    Ok(EditorCommand::ApplyTextDelta(token.clone()?, None))
+}
+
+/// The end of a delta.
+fn end(token: &ByteString) -> Result<EditorCommand, AllocError>
+    ensures { IfOk result (λ command. command ≡ TextDeltaEnd token.now) }
+{
+    Ok(EditorCommand::TextDeltaEnd(token.clone()?))
+}
+
+/// The header of a delta.
+fn header(alloc: Global, token: &ByteString) -> Result<EditorCommand, AllocError>
+    ensures { IfOk result (λ command. command ≡ TextDeltaChunk token.now header) }
+{
+    chunk(token, Vec::from_slice(alloc, &HEADER)?)
+}
+
+/// Writes the windows of a text, each as it is made.
+fn say_windows<S: ReplySink>(
+    alloc: Global,
+    token: &ByteString,
+    text: &[u8],
+    out: &mut S,
+) -> Result<(), AllocError>
+    ensures ok { OnOk result (S.writes out.old out.new (command_bytes
+        (map (TextDeltaChunk token.now) (windows (div_ceil (length text.now) 65536) text.now)))) }
+    ensures err { OnErr result (WritesPart (S.writes out.old out.new) (command_bytes
+        (map (TextDeltaChunk token.now) (windows (div_ceil (length text.now) 65536) text.now)))) }
+{
+    let mut rest = text;
+    for _ in 0..text.len().div_ceil(WINDOW) {
+        let (front, behind) = rest.split_at(rest.len().min(WINDOW));
+        say_made(window(alloc, token, front), out)?;
+        rest = behind;
+    }
+    Ok(())
+}
+
+/// Writes a text.
+fn say_text<S: ReplySink>(
+    alloc: Global,
+    token: &ByteString,
+    text: &[u8],
+    out: &mut S,
+) -> Result<(), AllocError>
+    ensures ok { OnOk result (S.writes out.old out.new
+        (command_bytes (text_commands token.now (Some text.now)))) }
+    ensures err { OnErr result (WritesPart (S.writes out.old out.new)
+        (command_bytes (text_commands token.now (Some text.now)))) }
+{
+    say_made(beginning(token), out)?;
+    say_made(header(alloc, token), out)?;
+    say_windows(alloc, token, text, out)?;
+    say_made(end(token), out)
+}
+
+/// The digits with which a file is closed.
+fn checksum_sent(
+    alloc: Global,
+    purpose: Purpose,
+    text: &Option<FileText>,
+) -> Result<Option<ByteString>, AllocError>
+    ensures { IfOk result (λ digits. digits ≡ checksum_sent purpose text.now) }
+{
+    let Some(text) = text else {
+        return Ok(None);
+    };
+    match purpose {
+        Purpose::Status => Ok(None),
+        Purpose::Update | Purpose::Switch => Ok(Some(digits_of(alloc, text)?)),
+    }
+}
+
+/// The MD5 of a text, as digits.
+fn digits_of(alloc: Global, text: &FileText) -> Result<ByteString, AllocError>
+    ensures { IfOk result (λ digits. digits ≡ digits_of text.now) }
+{
+    let digits = hex::encode(alloc, &text.digest())?;
+    Ok(ByteString::new(digits.into_bytes()))
+}
+
+/// The close of a file.
+fn close(
+    alloc: Global,
+    purpose: Purpose,
+    token: &ByteString,
+    text: &Option<FileText>,
+) -> Result<EditorCommand, AllocError>
+    ensures { IfOk result (λ command. command
+        ≡ CloseFile token.now (checksum_sent purpose text.now)) }
+{
+    let checksum = checksum_sent(alloc, purpose, text)?;
+    Ok(EditorCommand::CloseFile(token.clone()?, checksum))
+}
+
+/// Writes a text, if it is sent, and the close of its file.
+pub(crate) fn say_file_end<S: ReplySink>(
+    alloc: Global,
+    purpose: Purpose,
+    token: &ByteString,
+    text: &Option<FileText>,
+    out: &mut S,
+) -> Result<(), AllocError>
+    ensures ok { OnOk result (S.writes out.old out.new (command_bytes
+        (text_commands token.now text.now
+        ++ CloseFile token.now (checksum_sent purpose text.now) ∷ []))) }
+    ensures err { OnErr result (WritesPart (S.writes out.old out.new) (command_bytes
+        (text_commands token.now text.now
+        ++ CloseFile token.now (checksum_sent purpose text.now) ∷ []))) }
+{
+    say_sent(alloc, token, text, out)?;
+    say_made(close(alloc, purpose, token, text), out)
+}
+
+/// Writes a text, if it is sent.
+fn say_sent<S: ReplySink>(
+    alloc: Global,
+    token: &ByteString,
+    text: &Option<FileText>,
+    out: &mut S,
+) -> Result<(), AllocError>
+    ensures ok { OnOk result (S.writes out.old out.new
+        (command_bytes (text_commands token.now text.now))) }
+    ensures err { OnErr result (WritesPart (S.writes out.old out.new)
+        (command_bytes (text_commands token.now text.now))) }
+{
+    match text {
+        None => Ok(()),
+        Some(text) => say_text(alloc, token, text.as_slice(), out),
+    }
+}

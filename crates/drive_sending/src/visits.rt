@@ -1,0 +1,316 @@
+//! The commands of visits. Where one of these fails, a part of what it says was written.
+ghost use Rattle.std.specs.Prelude.{◌≡◌, ◌<◌, ◌≤◌, ◌+◌, ◌^◌, ◌∷◌, [], false, length, Option, IfOk, OnOk, OnErr};
+ghost use Rattle.repo_api.specs.Kinds.{kind_of};
+ghost use Rattle.repo_api.specs.Trees.{Tree};
+ghost use Rattle.repo_api.specs.declared.entry.Entry.{Entry};
+ghost use Rattle.wire_replies.specs.Sinks.{WritesPart};
+ghost use Rattle.wire_edits.specs.declared.editing.EditorCommand.TheVariants.{CloseDirectory, DeleteEntry};
+ghost use Rattle.drive_rules.specs.Steps.EntryKind.{DirectoryKind};
+ghost use Rattle.reporter.specs.Visits.{entry_kind, kind_if};
+ghost use Rattle.reporter.specs.declared.visit.Visit.TheVariants.{Add, Open};
+ghost use Rattle.drive_reports.specs.Targets.{new_tree};
+ghost use Rattle.drive_sides.specs.Plans.{drive_trees, whole};
+ghost use Rattle.drive_sending.specs.Commands.{add_command, added_entry, around_after, deleted_entry, news_told, open_command, opened_entry, plan_commands, visit_commands, visited_kind};
+ghost use Rattle.drive_sending.specs.Driving.{Visiting, command_bytes};
+ghost use Rattle.drive_sending.specs.Tokens.{token_of};
+
+use crate::naming::{relative_text, token};
+use crate::saying::say_made;
+use crate::telling::{Entrance, or_no_news, say_news};
+use drive_news::News;
+use drive_sides::TwoTrees;
+use repo_api::{NodeKind, Repository};
+use reporter::{Visit, Visitor};
+use std::alloc::{AllocError, Global};
+use svnpath::Path;
+use wire_edits::{AddedEntry, DeletedEntry, EditorCommand, OpenedEntry};
+use wire_replies::ReplySink;
+
+/// The command that opens an entry.
+fn open_command<R: Repository>(
+    alloc: Global,
+    trees: &TwoTrees<R>,
+    path: &Path,
+    entrance: Entrance,
+) -> Result<EditorCommand, AllocError>
+    requires { entrance.around + 1 < 2 ^ 64 }
+    ensures { IfOk result (λ command. command ≡ open_command (kind_if entrance.is_directory)
+        (opened_entry (R.content trees.now.view.now)
+        (whole trees.now.report.now trees.now.root) entrance.around path.now
+        (kind_if entrance.is_directory))) }
+{
+    let entry = OpenedEntry {
+        path: relative_text(alloc, path)?,
+        parent: token(alloc, true, entrance.around)?,
+        token: token(alloc, entrance.is_directory, entrance.around + 1)?,
+        revision: trees.reported_revision(alloc, path)?,
+    };
+    if entrance.is_directory {
+        Ok(EditorCommand::OpenDirectory(entry))
+    } else {
+        Ok(EditorCommand::OpenFile(entry))
+    }
+}
+
+/// The command that adds an entry.
+fn add_command(alloc: Global, path: &Path, entrance: Entrance) -> Result<EditorCommand, AllocError>
+    requires { entrance.around + 1 < 2 ^ 64 }
+    ensures { IfOk result (λ command. command ≡ add_command (kind_if entrance.is_directory)
+        (added_entry entrance.around path.now (kind_if entrance.is_directory))) }
+{
+    let entry = AddedEntry {
+        path: relative_text(alloc, path)?,
+        parent: token(alloc, true, entrance.around)?,
+        token: token(alloc, entrance.is_directory, entrance.around + 1)?,
+        source: None,
+    };
+    if entrance.is_directory {
+        Ok(EditorCommand::AddDirectory(entry))
+    } else {
+        Ok(EditorCommand::AddFile(entry))
+    }
+}
+
+/// The command that deletes an entry.
+fn delete_command(alloc: Global, path: &Path, around: u64) -> Result<EditorCommand, AllocError>
+    ensures { IfOk result (λ command. command ≡ DeleteEntry (deleted_entry around path.now)) }
+{
+    Ok(EditorCommand::DeleteEntry(DeletedEntry {
+        path: relative_text(alloc, path)?,
+        parent: token(alloc, true, around)?,
+        revision: None,
+    }))
+}
+
+/// The command that closes a directory.
+fn close_command(alloc: Global, around: u64) -> Result<EditorCommand, AllocError>
+    ensures { IfOk result (λ command. command
+        ≡ CloseDirectory (token_of DirectoryKind around)) }
+{
+    Ok(EditorCommand::CloseDirectory(token(alloc, true, around)?))
+}
+
+/// What is told of an entry.
+fn news_told<R: Repository>(
+    alloc: Global,
+    trees: &TwoTrees<R>,
+    path: &Path,
+    is_anew: bool,
+) -> Result<News, AllocError>
+    ensures { IfOk result (λ news. news ≡ news_told (R.content trees.now.view.now)
+        (whole trees.now.report.now trees.now.root) path.now is_anew) }
+{
+    let found = trees.news(alloc, path, is_anew)?;
+    Ok(or_no_news(alloc, found))
+}
+
+/// What is told of the root.
+pub(crate) fn root_news<R: Repository>(
+    alloc: Global,
+    trees: &TwoTrees<R>,
+) -> Result<News, AllocError>
+    ensures { IfOk result (λ news. news ≡ news_told (R.content trees.now.view.now)
+        (whole trees.now.report.now trees.now.root) [] false) }
+{
+    news_told(alloc, trees, &Path::root(alloc), false)
+}
+
+/// Writes that an entry is opened, and what it is told.
+fn say_open<R: Repository, S: ReplySink>(
+    alloc: Global,
+    trees: &TwoTrees<R>,
+    path: &Path,
+    entrance: Entrance,
+    out: &mut S,
+) -> Result<(), AllocError>
+    requires deep { entrance.around + 1 < 2 ^ 64 }
+    requires kind { entry_kind (new_tree (R.content trees.now.view.now)
+        (whole trees.now.report.now trees.now.root) path.now) ≡ kind_if entrance.is_directory }
+    ensures ok { OnOk result (S.writes out.old out.new (command_bytes
+        (visit_commands (R.content trees.now.view.now)
+        (whole trees.now.report.now trees.now.root) entrance.around (Open path.now)))) }
+    ensures err { OnErr result (WritesPart (S.writes out.old out.new) (command_bytes
+        (visit_commands (R.content trees.now.view.now)
+        (whole trees.now.report.now trees.now.root) entrance.around (Open path.now)))) }
+{
+    let news = news_told(alloc, trees, path, false)?;
+    say_made(open_command(alloc, trees, path, entrance), out)?;
+    say_news(alloc, trees.report.ask.purpose, entrance, &news, out)
+}
+
+/// Writes that an entry is added, and what it is told.
+fn say_add<R: Repository, S: ReplySink>(
+    alloc: Global,
+    trees: &TwoTrees<R>,
+    path: &Path,
+    entrance: Entrance,
+    out: &mut S,
+) -> Result<(), AllocError>
+    requires deep { entrance.around + 1 < 2 ^ 64 }
+    requires kind { entry_kind (new_tree (R.content trees.now.view.now)
+        (whole trees.now.report.now trees.now.root) path.now) ≡ kind_if entrance.is_directory }
+    ensures ok { OnOk result (S.writes out.old out.new (command_bytes
+        (visit_commands (R.content trees.now.view.now)
+        (whole trees.now.report.now trees.now.root) entrance.around (Add path.now)))) }
+    ensures err { OnErr result (WritesPart (S.writes out.old out.new) (command_bytes
+        (visit_commands (R.content trees.now.view.now)
+        (whole trees.now.report.now trees.now.root) entrance.around (Add path.now)))) }
+{
+    let news = news_told(alloc, trees, path, true)?;
+    say_made(add_command(alloc, path, entrance), out)?;
+    say_news(alloc, trees.report.ask.purpose, entrance, &news, out)
+}
+
+/// Writes that an entry is deleted.
+fn say_delete<S: ReplySink>(
+    alloc: Global,
+    path: &Path,
+    around: u64,
+    out: &mut S,
+) -> Result<(), AllocError>
+    ensures ok { OnOk result (S.writes out.old out.new
+        (command_bytes (DeleteEntry (deleted_entry around path.now) ∷ []))) }
+    ensures err { OnErr result (WritesPart (S.writes out.old out.new)
+        (command_bytes (DeleteEntry (deleted_entry around path.now) ∷ []))) }
+{
+    say_made(delete_command(alloc, path, around), out)
+}
+
+/// Writes that a directory is closed.
+pub(crate) fn say_close<S: ReplySink>(
+    alloc: Global,
+    around: u64,
+    out: &mut S,
+) -> Result<(), AllocError>
+    ensures ok { OnOk result (S.writes out.old out.new
+        (command_bytes (CloseDirectory (token_of DirectoryKind around) ∷ []))) }
+    ensures err { OnErr result (WritesPart (S.writes out.old out.new)
+        (command_bytes (CloseDirectory (token_of DirectoryKind around) ∷ []))) }
+{
+    say_made(close_command(alloc, around), out)
+}
+
+/// Writes a visit.
+fn say_visit<R: Repository, S: ReplySink>(
+    alloc: Global,
+    trees: &TwoTrees<R>,
+    visit: &Visit,
+    entrance: Entrance,
+    out: &mut S,
+) -> Result<(), AllocError>
+    requires deep { entrance.around + 1 < 2 ^ 64 }
+    requires kind { visited_kind (new_tree (R.content trees.now.view.now)
+        (whole trees.now.report.now trees.now.root)) visit.now ≡ kind_if entrance.is_directory }
+    ensures ok { OnOk result (S.writes out.old out.new (command_bytes
+        (visit_commands (R.content trees.now.view.now)
+        (whole trees.now.report.now trees.now.root) entrance.around visit.now))) }
+    ensures err { OnErr result (WritesPart (S.writes out.old out.new) (command_bytes
+        (visit_commands (R.content trees.now.view.now)
+        (whole trees.now.report.now trees.now.root) entrance.around visit.now))) }
+{
+    match visit {
+        Visit::Open(path) => say_open(alloc, trees, path, entrance, out),
+        Visit::Add(path) => say_add(alloc, trees, path, entrance, out),
+        Visit::Delete(path) => say_delete(alloc, path, entrance.around, out),
+        Visit::Close => say_close(alloc, entrance.around, out),
+    }
+}
+
+/// Whether a directory stands there.
+fn is_directory(kind: NodeKind) -> bool
+    ensures { (e : Option Entry) → kind ≡ kind_of e → entry_kind e ≡ kind_if result }
+{
+    match kind {
+        NodeKind::Absent => false,
+        NodeKind::File => false,
+        NodeKind::Directory => true,
+    }
+}
+
+/// Whether a visit opens or adds a directory.
+fn enters_directory<R: Repository>(
+    alloc: Global,
+    trees: &TwoTrees<R>,
+    visit: &Visit,
+) -> Result<bool, AllocError>
+    ensures { IfOk result (λ answer. visited_kind (new_tree (R.content trees.now.view.now)
+        (whole trees.now.report.now trees.now.root)) visit.now ≡ kind_if answer) }
+{
+    match visit {
+        Visit::Open(path) => Ok(is_directory(trees.new_kind(alloc, path)?)),
+        Visit::Add(path) => Ok(is_directory(trees.new_kind(alloc, path)?)),
+        Visit::Delete(_) => Ok(false),
+        Visit::Close => Ok(false),
+    }
+}
+
+/// How many directories are open around the innermost one after a visit.
+fn around_after(visit: &Visit, entrance: Entrance) -> u64
+    requires { entrance.around + 1 < 2 ^ 64 }
+    ensures after { (new : Tree) → visited_kind new visit.now ≡ kind_if entrance.is_directory
+        → result ≡ around_after new entrance.around visit.now }
+    ensures grows { result ≤ entrance.around + 1 }
+{
+    match visit {
+        Visit::Open(_) | Visit::Add(_) => entrance.around + entrance.is_directory as u64,
+        Visit::Delete(_) => entrance.around,
+        Visit::Close => entrance.around.saturating_sub(1),
+    }
+}
+
+/// Writes a visit, and answers how many directories are open around the innermost one after it.
+fn say_next<R: Repository, S: ReplySink>(
+    alloc: Global,
+    trees: &TwoTrees<R>,
+    visit: &Visit,
+    around: u64,
+    out: &mut S,
+) -> Result<u64, AllocError>
+    requires { around + 1 < 2 ^ 64 }
+    ensures after { IfOk result (λ after. after ≡ around_after (new_tree
+        (R.content trees.now.view.now) (whole trees.now.report.now trees.now.root)) around
+        visit.now) }
+    ensures grows { IfOk result (λ after. after ≤ around + 1) }
+    ensures ok { OnOk result (S.writes out.old out.new (command_bytes
+        (visit_commands (R.content trees.now.view.now)
+        (whole trees.now.report.now trees.now.root) around visit.now))) }
+    ensures err { OnErr result (WritesPart (S.writes out.old out.new) (command_bytes
+        (visit_commands (R.content trees.now.view.now)
+        (whole trees.now.report.now trees.now.root) around visit.now))) }
+{
+    let is_directory = enters_directory(alloc, trees, visit)?;
+    let entrance = Entrance {
+        around,
+        is_directory,
+    };
+    say_visit(alloc, trees, visit, entrance, out)?;
+    Ok(around_after(visit, entrance))
+}
+
+/// Writes visits as they are made. More than can be counted are as want of memory.
+pub(crate) fn say_visits<R: Repository, S: ReplySink>(
+    alloc: Global,
+    trees: &TwoTrees<R>,
+    visitor: &mut Visitor,
+    out: &mut S,
+) -> Result<(), AllocError>
+    ensures ok { OnOk result (Visiting (drive_trees (R.content trees.now.view.now)
+        (whole trees.now.report.now trees.now.root)) visitor.old
+        (λ visits. S.writes out.old out.new (command_bytes
+        (plan_commands (R.content trees.now.view.now)
+        (whole trees.now.report.now trees.now.root) 0 visits)))) }
+    ensures err { OnErr result (Visiting (drive_trees (R.content trees.now.view.now)
+        (whole trees.now.report.now trees.now.root)) visitor.old
+        (λ visits. WritesPart (S.writes out.old out.new) (command_bytes
+        (plan_commands (R.content trees.now.view.now)
+        (whole trees.now.report.now trees.now.root) 0 visits)))) }
+{
+    let mut around = 0;
+    for _ in 0..u64::MAX {
+        let Some(visit) = visitor.next(alloc, trees)? else {
+            return Ok(());
+        };
+        around = say_next(alloc, trees, &visit, around, out)?;
+    }
+    Err(AllocError)
+}

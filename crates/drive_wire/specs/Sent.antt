@@ -1,0 +1,85 @@
+-- The drives that may be sent.
+use Rattle.std.specs.Prelude.{◌≡◌, ℕ, Bool, ◌||◌, List, [], ◌∷◌, ◌++◌, Option, Some, None, IsTrue, IsSomeAnd, if◌then◌else◌}
+use Rattle.svnpath.specs.Paths.{PathValue, same_path}
+use Rattle.repo_api.specs.Kinds.{text_of}
+use Rattle.repo_api.specs.States.{RepoState}
+use Rattle.repo_api.specs.Trees.{Tree}
+use Rattle.wire_edits.specs.declared.editing.EditorCommand.{EditorCommand}
+use Rattle.wire_edits.specs.declared.editing.EditorCommand.TheVariants.{TargetRevision, OpenRoot, CloseEdit}
+use Rattle.drive_rules.specs.Drives.{IsRight}
+use Rattle.drive_rules.specs.Steps.{Step, Node, has_step, is_opening, is_adding, is_entry_property, as_it_is, but_text}
+use Rattle.drive_rules.specs.Steps.EntryKind.{DirectoryKind}
+use Rattle.drive_rules.specs.Steps.Step.{OpenAt}
+use Rattle.drive_reports.specs.Targets.{WholeReport, old_tree, new_tree, drive_scope, stale_in}
+use Rattle.drive_reports.specs.declared.ask.DriveAsk.{DriveAsk}
+use Rattle.drive_reports.specs.declared.ask.Purpose.{Purpose}
+use Rattle.drive_reports.specs.declared.ask.Purpose.TheVariants.{Update, Switch, Status}
+use Rattle.drive_wire.specs.EntryProperties.{entry_property, told}
+use Rattle.drive_wire.specs.Saying.{OpenEntry, Says}
+use Rattle.drive_wire.specs.Saying.TextState.{Unchanged}
+
+-- a status sends no texts
+abbrev pub seen_by : Purpose → Node → Node
+seen_by Update = as_it_is
+seen_by Switch = as_it_is
+seen_by Status = but_text
+
+-- the text, or an empty one
+abbrev pub or_no_text : Option (List ℕ) → List ℕ
+or_no_text None = []
+or_no_text (Some text) = text
+
+-- the text that the client has of a file
+abbrev pub base_of : Tree → PathValue → List ℕ
+base_of old q = or_no_text (text_of (old q))
+
+-- the root, which is open from the first command on
+abbrev pub open_root_entry : List ℕ → OpenEntry
+open_root_entry token = record {
+  token = token;
+  path = [];
+  kind = DirectoryKind;
+  base = [];
+  state = Unchanged;
+}
+
+-- the root is one of the paths that the drive is of where there is no target
+abbrev pub from_root : DriveAsk → List Step → List Step
+from_root ask body = if same_path ask.target [] then OpenAt [] DirectoryKind ∷ body else body
+
+-- the steps open or add an entry at the path
+abbrev pub enters : PathValue → List Step → Bool
+enters q cs = has_step is_opening q cs || has_step is_adding q cs
+
+-- each entry that is opened or added is told what is due of itself, and nothing else
+abbrev pub TellsEach : RepoState → WholeReport → List Step → Type 0
+TellsEach c report steps =
+    (q : PathValue) (name : List ℕ) → IsTrue (enters q steps) → IsTrue (is_entry_property name)
+    → IsSomeAnd (new_tree c report q)
+    (λ e. told q name steps ≡ entry_property c (stale_in c report q) e name)
+
+-- the steps are a right drive from what the client has to what it is to have
+abbrev pub LeadsToTarget : RepoState → WholeReport → List Step → Type 0
+LeadsToTarget c report steps =
+    IsRight (seen_by report.ask.purpose) (drive_scope c report) (stale_in c report)
+    (old_tree c report) (new_tree c report) steps
+
+-- the commands around the commands of a drive: of its revision, and from the root, which is of the
+-- first reported revision
+abbrev pub framed : WholeReport → List ℕ → List EditorCommand → List EditorCommand
+framed report root commands =
+    TargetRevision report.ask.revision ∷ OpenRoot (Some report.root.revision) root
+    ∷ (commands ++ CloseEdit ∷ [])
+
+-- a drive that may be sent: its commands say steps that lead to the target, and tell each entry
+-- what is due
+pub record IsDrive (c : RepoState) (report : WholeReport) (drive : List EditorCommand)
+    : Type 0 where
+  pub root : List ℕ
+  pub commands : List EditorCommand
+  pub is : drive ≡ framed report root commands
+  pub body : List Step
+  pub says : Says report.ask.purpose report.ask.target (base_of (old_tree c report))
+      (open_root_entry root ∷ []) commands body []
+  pub right : LeadsToTarget c report (from_root report.ask body)
+  pub tells : TellsEach c report (from_root report.ask body)

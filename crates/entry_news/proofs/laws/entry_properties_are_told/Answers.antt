@@ -1,5 +1,0 @@
-use Rattle.entry_news.proofs.Told.{told_of_entry}
-use Rattle.entry_news.proofs.laws.entry_properties_are_told.Goals as goal
-
-pub returns : goal.returns
-returns c = told_of_entry

@@ -1,7 +1,0 @@
-use Rattle.file_store.proofs.Fuses.{fails}
-use Rattle.file_store.proofs.fuse.FuseStoreStore.write_new.Goals as goal
-
-pub returns-then-burn-clause-cause : goal.returns-then-burn-clause-cause
-returns-then-burn-clause-cause g c =
-    let b = c.if-burn.ensures in
-    fails _ _ _ _ b.0 b.2 c.leave_written.ensures.failed (g.met.S.Store.is_count c.args.self.now.inner)

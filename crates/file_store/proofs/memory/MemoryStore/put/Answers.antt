@@ -1,9 +1,0 @@
-use Rattle.std.proofs.Common.{◌≡◌, rules}
-use Rattle.file_store.proofs.Putting.{put}
-use Rattle.file_store.proofs.memory.MemoryStore.put.Goals as goal
-
-pub returns-clause-ok : goal.returns-clause-ok
-returns-clause-ok c =
-    let is : c.in_ok-bytes.bytes.items ≡ c.args.bytes.now = search rules in
-    put c.args.self.now.files c.insert.new.self c.args.name c.kind.result c.number.result c.in_ok-bytes.bytes c.args.bytes.now
-    c.kind.ensures c.number.ensures is c.in_ok-insert.ensures.updates.0

@@ -1,9 +1,0 @@
-use Rattle.std.proofs.Common.{◌≡◌, ◌<◌, ℕ, get_or, Some}
-use Rattle.std.specs.Borrow.{Bor}
-use Rattle.svnpath.specs.Paths.{Component}
-use Rattle.noderevs.specs.Nodes.{kid_of}
-use Rattle.noderevs.specs.declared.node_rev.NodeId.{NodeId}
-use Rattle.file_trees.proofs.kids.are_kids_of.Given as goal
-
-abbrev pub invariant-loop-k : goal.invariant-loop-k
-invariant-loop-k l = (i : ℕ) (d : Bor Component × NodeId) → i < l.k → kid_of (get_or l.kids i d).0.now l.node ≡ Some (get_or l.kids i d).1

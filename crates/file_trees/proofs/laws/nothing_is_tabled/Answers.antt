@@ -1,5 +1,0 @@
-use Rattle.file_trees.proofs.Seen.{none_tabled}
-use Rattle.file_trees.proofs.laws.nothing_is_tabled.Goals as goal
-
-pub returns : goal.returns
-returns c = none_tabled

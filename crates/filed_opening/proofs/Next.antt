@@ -1,0 +1,53 @@
+-- The world of the next revision comes behind those of the revisions that were read.
+use Rattle.std.proofs.Common.{◌≡◌, ℕ, suc, List, [], ◌∷◌, ◌++◌, length, refl, sym, ap, subst, ◌∙◌, arith}
+use Rattle.std.specs.Prelude.{slice_set}
+use Rattle.repo_api.specs.Properties.{PropertyList}
+use Rattle.noderevs.specs.Held.{blocks_of}
+use Rattle.world.specs.declared.world.World.{World}
+use Rattle.filed_trees.specs.declared.table.Table.{Table}
+use Rattle.filed_replaying.specs.Replayed.{HasReplayed, HasRevised}
+use Rattle.filed_world.specs.Reading.{IsNext}
+use Rattle.filed_world.proofs.Taken.{one_of}
+
+pub nothing : {X : Type 0} (xs : List X) → length xs ≡ 0 → xs ≡ []
+nothing [] none = refl
+nothing (x ∷ xs) none = absurd (omega (arith, none))
+
+module _ (before after : World) (tables : List Table) where
+  -- revision 0 with its properties
+  pub first_comes : tables ≡ [] → length before.held.value.changes ≡ 1 → HasRevised before after 0
+      → IsNext before.held.value tables after.held.value × (after.locks.value ≡ before.locks.value)
+  first_comes none one revised =
+      let h = before.held.value in
+      let change = one_of h.changes one in
+      let block = one_of (blocks_of h.nodes) (h.even ∙ one) in
+      let list = one_of h.properties (h.all ∙ one) in (
+        subst (λ ts. IsNext h ts after.held.value) (sym none) (record {
+          uuid = revised.uuid;
+          block = block.0;
+          blocks = revised.same.blocks ∙ block.1;
+          change = change.0;
+          changes = revised.same.changes ∙ change.1;
+          list = revised.list;
+          lists = revised.lists ∙ ap (λ ls. slice_set ls 0 revised.list) list.1;
+        }),
+        revised.locks,
+      )
+
+-- a revision that was done once more
+pub next_comes : (before after : World) (tables : List Table) → (tables ≡ [] → ⊥)
+    → HasReplayed before after
+    → IsNext before.held.value tables after.held.value × (after.locks.value ≡ before.locks.value)
+next_comes before after [] some replayed = absurd (some refl)
+next_comes before after (t ∷ ts) some replayed = (
+  record {
+    uuid = replayed.uuid;
+    block = replayed.more.block;
+    blocks = replayed.more.blocks;
+    change = replayed.more.change;
+    changes = replayed.more.changes;
+    list = replayed.list;
+    lists = replayed.lists;
+  },
+  replayed.locks,
+)

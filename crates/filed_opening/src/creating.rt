@@ -1,0 +1,55 @@
+//! A new repository in a folder.
+ghost use Rattle.std.specs.Prelude.{◌≡◌, ◌≤◌, ℕ, List, Option, None, IsSome, OnOk, IsErr, IsErrOf};
+ghost use Rattle.dates.specs.declared.TheConstants.{LAST_MOMENT};
+ghost use Rattle.store_files.specs.Folders.{IsSame};
+ghost use Rattle.store_files.specs.Moments.{LeavesOnly, HasRisen};
+ghost use Rattle.store_files.specs.declared.fault.StoreFault.TheVariants as faults;
+ghost use Rattle.store_files.specs.declared.name.FileName.TheVariants.{Format, Locks};
+ghost use Rattle.repostore.specs.Creating.{IsFreeWith};
+ghost use Rattle.repostore.specs.Saving.{Stands};
+ghost use Rattle.filed_opening.specs.Creating.{HasNew, IsFreeOrNew};
+
+use filed_world::new_filed;
+use std::alloc::Global;
+use store_files::{Store, StoreFault};
+
+/// Makes the files of a new repository, whose revision 0 is dated at the moment, a count of microseconds
+/// since the beginning of 1970. Where a repository is there, nothing is changed; what a stopped call left
+/// is written over.
+///
+/// # Errors
+///
+/// `Exists` where a repository is there; as the store's calls; `NoMemory`.
+pub fn create<S: Store>(
+    alloc: Global,
+    store: &mut S,
+    uuid: u128,
+    moment: u64,
+) -> Result<(), StoreFault>
+    requires { moment ≤ LAST_MOMENT }
+    ensures exists { S.is_honest store.new → IsErrOf result faults.Exists
+        → IsSome (S.holds store.old Format) × IsSame (S.holds store.old) (S.holds store.new) }
+    ensures free { S.is_honest store.new → OnOk result (S.holds store.old Format ≡ None) }
+    ensures made { S.is_honest store.new → S.holds store.old Locks ≡ None
+        → OnOk result ∥ HasNew uuid moment (S.holds store.new) ∥₁ }
+    // A stop at any moment of the call leaves no `format`, so that `create` may be asked again, or
+    // the whole new repository.
+    ensures stop { S.is_honest store.new
+        → Stands S.is_honest S.holds S.may_leave store.old (IsFreeWith None)
+        → LeavesOnly S.moment S.left_since store.old store.new (λ f. ∥ IsFreeOrNew uuid moment f ∥₁) }
+    ensures kept { S.is_honest store.new
+        → Stands S.is_honest S.holds S.may_leave store.old (IsFreeWith None)
+        → OnOk result (Stands S.is_honest S.holds S.may_leave store.new
+        (λ f. ∥ HasNew uuid moment f ∥₁)) }
+    // So does a fault, where it is known which bytes stand.
+    ensures again { (locks : Option (List ℕ)) → S.is_honest store.new
+        → Stands S.is_honest S.holds S.may_leave store.old (IsFreeWith locks)
+        → IsErr result → S.in_doubt store.new ≡ S.in_doubt store.old
+        → Stands S.is_honest S.holds S.may_leave store.new (IsFreeWith locks) }
+    ensures device { IsErrOf result faults.Device
+        → HasRisen (S.failed store.old) (S.failed store.new) }
+{
+    let (filed, files) = new_filed(alloc, uuid, moment)?;
+    std::mem::drop(filed);
+    repostore::create(alloc, store, files.opening())
+}

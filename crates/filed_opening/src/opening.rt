@@ -1,0 +1,36 @@
+//! A repository opened from its files.
+ghost use Rattle.std.specs.Prelude.{◌≡◌, IfOk, IfErr};
+ghost use Rattle.store_files.specs.Folders.{Folder, IsSame};
+ghost use Rattle.store_files.specs.Moments.{HasRisen};
+ghost use Rattle.repostore.specs.Reading.{IsFaulty, IfFaulty};
+ghost use Rattle.repostore.specs.Saving.{OnlyReads};
+ghost use Rattle.store_access.specs.Keeping.{StandsFor};
+ghost use Rattle.filed_trees.specs.StandsFor as files;
+ghost use Rattle.filed_world.specs.Files.{filed_content};
+ghost use Rattle.filed_opening.specs.Faults.{folder_faults};
+
+use crate::reader::FolderReader;
+use filed_world::FiledWorld;
+use repostore::Unopened;
+use std::alloc::Global;
+use store_access::{StoredRepository, open_repository};
+use store_files::{Store, StoreFault};
+
+/// A repository in files that share what did not change.
+pub type FolderRepository<S> = StoredRepository<FiledWorld, S>;
+
+/// Opens a repository: whatever a stop has left, it finds the repository for which the files stand that
+/// are reached from `current`. Whether it is opened or not, nothing is written.
+pub fn open<S: Store>(alloc: Global, store: S) -> Result<FolderRepository<S>, Unopened<S>>
+    requires { S.is_honest store → (f : Folder) → S.may_leave store f → IsSame (S.holds store) f }
+    ensures found { IfOk result (λ opened. S.is_honest opened.saves.store
+        → StandsFor files.StandsFor (filed_content opened.repository) (S.holds store)) }
+    ensures faulty { IfErr result (λ unopened. S.is_honest unopened.store
+        → IfFaulty unopened.fault (IsFaulty folder_faults (S.holds store))) }
+    ensures device { IfErr result (λ unopened. unopened.fault ≡ StoreFault.Device
+        → HasRisen (S.failed store) (S.failed unopened.store)) }
+    ensures unchanged { IfErr result (λ unopened. OnlyReads S.is_honest S.holds S.may_leave
+        S.moment S.left_since S.in_doubt S.failed store unopened.store) }
+{
+    open_repository::<S, FolderReader>(alloc, store)
+}

@@ -1,0 +1,136 @@
+//! The reader of a folder.
+ghost use Rattle.std.specs.Prelude.{◌≡◌, None, Some, IfOk, OnOk, OnErr, codes};
+ghost use Rattle.store_files.specs.Folders.{bytes_of};
+ghost use Rattle.fsfs_folder.specs.declared.current.Current.{Current};
+ghost use Rattle.repostore.specs.Files.{Files};
+ghost use Rattle.repostore.specs.Reading.{IfFindsFaulty, with_read_locks};
+ghost use Rattle.filed_trees.specs.StandsFor.{locks_in};
+ghost use Rattle.filed_world.specs.Reading.{AreFirst, HasRead, IsNextOf};
+ghost use Rattle.filed_opening.specs.Faults.{SaysCurrent};
+
+use filed_replaying::{replay_revision, set_revision_properties};
+use filed_world::{FiledWorld, count_of};
+use fsfs_folder::{Current, check_format, read_current, read_properties, read_uuid};
+use fsfs_judging::judge_revision;
+use fsfs_lines::FileFault;
+use fsfs_reading::read_revision;
+use repostore::Reader;
+use std::alloc::{AllocError, Global};
+use store_access::Loader;
+use world::World;
+
+/// Reads the files of a repository, and has what they say of it.
+#[derive(Drop)]
+pub struct FolderReader {
+    alloc: Global,
+    filed: FiledWorld,
+}
+
+/// Judges the file `format`, which has to be there.
+fn check_format_file(format: &Option<Vec<u8>>) -> Result<(), FileFault>
+    ensures ok { OnOk result (bytes_of format.now ≡ Some (codes "2\n")) }
+    ensures err { OnErr result (bytes_of format.now ≡ Some (codes "2\n") → ⊥) }
+{
+    match format {
+        Some(bytes) => check_format(bytes.as_slice()),
+        None => Err(FileFault::WrongFormat),
+    }
+}
+
+/// Reads the file `current`.
+fn read_current_file(bytes: &[u8]) -> Result<Current, FileFault>
+    ensures ok { IfOk result (λ current. SaysCurrent bytes.now current) }
+    ensures err { OnErr result ((current : Current) → SaysCurrent bytes.now current → ⊥) }
+{
+    let current = read_current(bytes)?;
+    match count_of(bytes) {
+        Some(count) if count - 1 == current.youngest => Ok(current),
+        _ => Err(FileFault::BadLine),
+    }
+}
+
+/// Begins with a new repository of this name, of which nothing has been read.
+fn unread(alloc: Global, uuid: u128, current: Current) -> Result<FiledWorld, AllocError>
+    ensures { IfOk result (λ made. (files : Files) → AreFirst uuid current files → HasRead made files) }
+{
+    let world = World::new(alloc, uuid, 0)?;
+    FiledWorld::unread(alloc, world, current)
+}
+
+/// Makes the repository with the next revision, by its file and that of its properties.
+fn next_world(
+    alloc: Global,
+    filed: &FiledWorld,
+    revision: &[u8],
+    properties: &[u8],
+) -> Result<World, FileFault>
+    ensures { IfOk result (λ world. (files : Files) → HasRead filed.now files
+        → IsNextOf filed.now world) }
+{
+    let number = filed.count() as u32;
+    let read = read_revision(alloc, number, revision)?;
+    judge_revision(alloc, number, &read)?;
+    let said = read_properties(alloc, properties)?;
+    if filed.count() == 0 {
+        set_revision_properties(alloc, filed.world(), 0, &said)
+    } else {
+        replay_revision(alloc, filed.world(), &read, &said)
+    }
+}
+
+/// Takes the file of locks, if there is one.
+fn with_lock_file(filed: &FiledWorld, locks: &Option<Vec<u8>>) -> Result<FiledWorld, FileFault>
+    ensures read { IfOk result (λ made. (files : Files) → HasRead filed.now files
+        → HasRead made (with_read_locks files (bytes_of locks.now))) }
+    ensures faulty { IfFindsFaulty result (locks_in (bytes_of locks.now) ≡ None) }
+{
+    match locks {
+        Some(bytes) => filed.with_read_locks(Some(bytes.as_slice())),
+        None => filed.with_read_locks(None),
+    }
+}
+
+impl Reader for FolderReader {
+    ghost use Rattle.filed_world.specs.Reading.{HasRead};
+    ghost use Rattle.filed_opening.specs.Faults.{folder_faults};
+
+    ghost took = { λ r files. HasRead r.filed files };
+
+    ghost faulty = { folder_faults };
+
+    fn begin(
+        alloc: Global,
+        format: Option<Vec<u8>>,
+        uuid: Vec<u8>,
+        current: Vec<u8>,
+    ) -> Result<(Self, u32), FileFault> {
+        check_format_file(&format)?;
+        let name = read_uuid(uuid.as_slice())?;
+        let said = read_current_file(current.as_slice())?;
+        let filed = unread(alloc, name, said)?;
+        Ok((FolderReader { alloc, filed }, said.youngest + 1))
+    }
+
+    fn take_revision(&mut self, revision: Vec<u8>, properties: Vec<u8>) -> Result<(), FileFault> {
+        let revision = revision.as_slice();
+        let properties = properties.as_slice();
+        let world = next_world(self.alloc, &self.filed, revision, properties)?;
+        self.filed = self.filed.with_read_revision(world, revision, properties)?;
+        Ok(())
+    }
+
+    fn take_locks(&mut self, locks: Option<Vec<u8>>) -> Result<(), FileFault> {
+        self.filed = with_lock_file(&self.filed, &locks)?;
+        Ok(())
+    }
+}
+
+impl Loader for FolderReader {
+    type Repository = FiledWorld;
+
+    fn finish(self) -> FiledWorld {
+        let FolderReader { alloc: _, filed } = self;
+        filed.read_whole();
+        filed
+    }
+}

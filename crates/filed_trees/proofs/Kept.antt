@@ -1,0 +1,111 @@
+-- What a line gives that a predecessor had, and what a node revision gives then.
+use Rattle.std.proofs.Common.{◌≡◌, ℕ, List, [], Option, Some, None, option_map, sym, ap, subst, ◌∙◌}
+use Rattle.std.proofs.lemmas.Option.{none-some, same_Some}
+use Rattle.std.specs.Arc.{arc_value}
+use Rattle.std.specs.Prelude.{Result, Ok, Err, IfOk}
+use Rattle.svnpath.specs.Paths.{Component}
+use Rattle.repo_api.specs.Properties.{PropertyList}
+use Rattle.repo_api.specs.Trees.{content_text}
+use Rattle.repo_api.specs.declared.entry.Content.{Content}
+use Rattle.repo_api.specs.declared.entry.Content.TheVariants as contents
+use Rattle.noderevs.specs.Nodes.{kid_of}
+use Rattle.noderevs.specs.declared.node_rev.NodeRev.{NodeRev}
+use Rattle.fsfs_ids.specs.declared.representation.Representation.{Representation}
+use Rattle.fsfs_nodes.specs.declared.entries.DirectoryEntry.{DirectoryEntry}
+use Rattle.fsfs_nodes.specs.declared.entries.EntryKind.{EntryKind}
+use Rattle.fsfs_nodes.specs.declared.entries.EntryKind.TheVariants.{File, Directory}
+use Rattle.fsfs_nodes.specs.declared.node.FileNode.{FileNode}
+use Rattle.filed_trees.specs.Pieces.{RevisionBytes, text_in, properties_in, entries_at, entries_by, entry_named, content_by}
+use Rattle.filed_trees.specs.Tables.{IsAt}
+use Rattle.filed_trees.specs.Comparing.{WasFiled, HasEntries, HasContent, tables_of, earlier_text, earlier_properties, earlier_content_text, earlier_node_properties}
+use Rattle.filed_trees.specs.declared.places.Earlier.{Earlier}
+use Rattle.filed_trees.specs.declared.places.Places.{Places}
+use Rattle.filed_trees.specs.declared.table.Table.{Table}
+
+pub if_ok : {T E : Type 0} (r : Result T E) {P Q : T → Type 0} → IfOk r P → ((x : T) → P x → Q x) → IfOk r Q
+if_ok (Ok x) p f = f x p
+if_ok (Err e) p f = p
+
+-- a directory is no file
+no_file : (t : List ℕ) → contents.Directory ≡ contents.File t → ⊥
+no_file t e = none-some t (ap content_text e)
+
+text_of_file : (t u : List ℕ) → contents.File t ≡ contents.File u → t ≡ u
+text_of_file t u e = same_Some t u (ap content_text e)
+
+file_of_text : (c : Content) (t : List ℕ) → content_text c ≡ Some t → c ≡ contents.File t
+file_of_text contents.Directory t e = absurd (none-some t e)
+file_of_text (contents.File u) t e = ap contents.File (same_Some u t e)
+
+-- the text of a node revision that is a file
+text_by : (files : RevisionBytes) (line : Option Representation) (kind : EntryKind) (t : List ℕ)
+    → content_by files line kind ≡ Some (contents.File t) → text_in files line ≡ Some t
+text_by files line File t e = by (text_in files line) e
+  where
+    by : (o : Option (List ℕ)) → option_map contents.File o ≡ Some (contents.File t) → o ≡ Some t
+    by None e = absurd (none-some (contents.File t) e)
+    by (Some u) e = ap Some (text_of_file u t (same_Some (contents.File u) (contents.File t) e))
+text_by files line Directory t e = absurd (by (entries_at files line) e)
+  where
+    by : (o : Option (List DirectoryEntry)) → option_map (λ entries. contents.Directory) o ≡ Some (contents.File t) → ⊥
+    by None e = none-some (contents.File t) e
+    by (Some es) e = no_file t (same_Some contents.Directory (contents.File t) e)
+
+-- the entries of one that is a directory
+entries_of_directory : (files : RevisionBytes) (line : Option Representation) (kind : EntryKind) (es : List DirectoryEntry)
+    → content_by files line kind ≡ Some contents.Directory → entries_by files line kind ≡ Some es → entries_at files line ≡ Some es
+entries_of_directory files line Directory es e read = read
+entries_of_directory files line File es e read = absurd (by (text_in files line) e)
+  where
+    by : (o : Option (List ℕ)) → option_map contents.File o ≡ Some contents.Directory → ⊥
+    by None e = none-some contents.Directory e
+    by (Some t) e = no_file t (sym (same_Some (contents.File t) contents.Directory e))
+
+module _ (files : RevisionBytes) (places : Places) where
+  pub kept_text : (earlier : Option Earlier) → WasFiled files places earlier → (t : List ℕ) → earlier_content_text earlier ≡ Some t
+      → text_in files (earlier_text earlier) ≡ Some t
+  kept_text None was t is = absurd (none-some t is)
+  kept_text (Some e) was t is =
+      let f = was.1 in
+      let line : e.placed.now.text ≡ f.piece.node.text = ap (λ p. p.text) f.is in
+      ap (text_in files) line
+      ∙ text_by files f.piece.node.text f.piece.node.kind t (f.content ∙ ap Some (file_of_text (arc_value e.node.now.content) t is))
+
+  pub kept_properties : (earlier : Option Earlier) → WasFiled files places earlier → (ps : PropertyList) → earlier_node_properties earlier ≡ Some ps
+      → properties_in files (earlier_properties earlier) ≡ Some ps
+  kept_properties None was ps is = absurd (none-some ps is)
+  kept_properties (Some e) was ps is =
+      let f = was.1 in
+      let line : e.placed.now.properties ≡ f.piece.node.properties = ap (λ p. p.properties) f.is in
+      ap (properties_in files) line ∙ f.properties ∙ is
+
+  pub kept_entries : (e : Earlier) → WasFiled files places (Some e) → arc_value e.node.now.content ≡ contents.Directory
+      → (node : NodeRev) → ((name : Component) → kid_of name node ≡ kid_of name e.node.now)
+      → (line : Option Representation) → line ≡ e.placed.now.text → HasEntries files (tables_of places) line node
+  kept_entries e was directory node same line is =
+      let f = was.1 in
+      let text : e.placed.now.text ≡ f.piece.node.text = ap (λ p. p.text) f.is in record {
+        entries = f.entries;
+        read = ap (entries_at files) (is ∙ text)
+            ∙ entries_of_directory files f.piece.node.text f.piece.node.kind f.entries (f.content ∙ ap Some directory) f.read;
+        kids = λ name. subst (λ o. IsAt (tables_of places) o (entry_named name f.entries)) (sym (same name)) (f.kids name);
+      }
+
+pub file_content : (files : RevisionBytes) (tables : List Table) (said : FileNode) (node : NodeRev) (t : List ℕ) → said.kind ≡ File
+    → arc_value node.content ≡ contents.File t → text_in files said.text ≡ Some t → ((name : Component) → kid_of name node ≡ None)
+    → HasContent files tables said node
+file_content files tables said node t kind is text none = record {
+  content = ap (content_by files said.text) kind ∙ ap (option_map contents.File) text ∙ ap Some (sym is);
+  entries = [];
+  read = ap (entries_by files said.text) kind;
+  kids = λ name. subst (λ o. IsAt tables o None) (sym (none name)) tt;
+}
+
+pub directory_content : (files : RevisionBytes) (tables : List Table) (said : FileNode) (node : NodeRev) → said.kind ≡ Directory
+    → arc_value node.content ≡ contents.Directory → HasEntries files tables said.text node → HasContent files tables said node
+directory_content files tables said node kind is has = record {
+  content = ap (content_by files said.text) kind ∙ ap (option_map (λ es. contents.Directory)) has.read ∙ ap Some (sym is);
+  entries = has.entries;
+  read = ap (entries_by files said.text) kind ∙ has.read;
+  kids = has.kids;
+}

@@ -1,0 +1,105 @@
+-- The entries of a node and those that a file says.
+use Rattle.std.proofs.Common.{◌≡◌, ℕ, suc, Bool, true, false, cond, List, [], ◌∷◌, map, Option, Some, None, option_map, refl, sym, ap, subst, ◌∙◌, arith}
+use Rattle.std.proofs.lemmas.Bool.{false≢true}
+use Rattle.std.proofs.lemmas.Map.Entries.{place_from_lookup}
+use Rattle.std.proofs.lemmas.Option.{none-some, same_Some, slice_get-map, slice_get_within, get_or_from_slice_get}
+use Rattle.std.specs.Borrow.{Bor}
+use Rattle.std.specs.BTreeMap.{is_at}
+use Rattle.std.specs.Cmp.Lexicographic.{slice_cmp, texts_ties}
+use Rattle.std.specs.FinMap.{find, get, entries, get-entries}
+use Rattle.std.specs.Map.{lookup}
+use Rattle.std.specs.Option.{option_or}
+use Rattle.std.specs.Ordering.{nat_cmp}
+use Rattle.std.specs.Prelude.{All, IsSome, slice_get}
+use Rattle.svnpath.specs.PathLaws.{same_component_is}
+use Rattle.svnpath.specs.Paths.{Component, same_component}
+use Rattle.noderevs.specs.Nodes.{Kids}
+use Rattle.noderevs.specs.declared.node_rev.NodeId.{NodeId}
+use Rattle.fsfs_ids.specs.declared.id.FileId.{FileId}
+use Rattle.fsfs_nodes.specs.declared.entries.DirectoryEntry.{DirectoryEntry}
+use Rattle.filed_trees.specs.Pieces.{entry_named}
+use Rattle.filed_trees.specs.Tables.{IsAt}
+use Rattle.filed_trees.specs.Comparing.{named_kid, IsAmong}
+use Rattle.filed_trees.specs.declared.table.Table.{Table}
+
+at_name : (name n : Component) → is_at (slice_cmp nat_cmp name) n ≡ same_component name n
+at_name name n = sym (texts_ties name n)
+
+found_by : (es : List (Component × NodeId)) (name : Component)
+    → find (slice_cmp nat_cmp) name es ≡ lookup (is_at (slice_cmp nat_cmp name)) es
+found_by [] name = refl
+found_by (e ∷ es) name = ap (cond (is_at (slice_cmp nat_cmp name) e.0) (Some e.1)) (found_by es name)
+
+-- what a map has at a name stands in its entries
+pub entry_found : (kids : Kids) (name : Component) (id : NodeId) → get kids name ≡ Some id
+    → lookup (is_at (slice_cmp nat_cmp name)) (entries kids) ≡ Some id
+entry_found kids name id is =
+    sym (found_by (entries kids) name) ∙ sym (get-entries kids name) ∙ is
+
+-- an entry that is found is among those that were listed
+pub among : (kids : List (Bor Component × NodeId)) (es : List (Component × NodeId)) → map named_kid kids ≡ es
+    → (name : Component) (id : NodeId) → lookup (is_at (slice_cmp nat_cmp name)) es ≡ Some id → IsAmong kids (name, id)
+among kids es all name id is =
+    let p = place_from_lookup (is_at (slice_cmp nat_cmp name)) es id is in
+    let key : name ≡ p.1 = same_component_is name p.1 (sym (at_name name p.1) ∙ p.3) in
+    by p.0 (slice_get kids p.0) refl (sym (slice_get-map named_kid kids p.0) ∙ ap (λ l. slice_get l p.0) all ∙ p.2 ∙ ap (λ k. Some (k, id)) (sym key))
+  where
+    by : (k : ℕ) (o : Option (Bor Component × NodeId)) → slice_get kids k ≡ o → option_map named_kid o ≡ Some (name, id) → IsAmong kids (name, id)
+    by k None at e = absurd (none-some (name, id) e)
+    by k (Some x) at e = (k, (x, (at, same_Some (named_kid x) (name, id) e)))
+
+-- what holds of all that were listed holds of each
+pub of_listed : (P : Component → NodeId → Type 0) (kids : List (Bor Component × NodeId)) → All (λ k. P k.0.now k.1) kids
+    → (name : Component) (id : NodeId) → IsAmong kids (name, id) → P name id
+of_listed P kids all name id a =
+    let k = a.0 in
+    let x = a.1.0 in
+    let at : slice_get kids k ≡ Some x = a.1.1.0 in
+    let same : named_kid x ≡ (name, id) = a.1.1.1 in
+    let there : P x.0.now x.1 = subst (λ (y : Bor Component × NodeId). P y.0.now y.1) (get_or_from_slice_get kids k x x at) (all k x (slice_get_within kids k x at)) in
+    subst (λ (y : Component × NodeId). P y.0 y.1) same there
+
+module _ (f g : Component → Option NodeId) where
+  pub same_kids : ((name : Component) (id : NodeId) → f name ≡ Some id → g name ≡ Some id)
+      → ((name : Component) (id : NodeId) → g name ≡ Some id → f name ≡ Some id) → (name : Component) → f name ≡ g name
+  same_kids into back name = by (f name) (g name) refl refl
+    where
+      by : (o p : Option NodeId) → f name ≡ o → g name ≡ p → f name ≡ g name
+      by (Some id) p at_f at_g = at_f ∙ sym (into name id at_f)
+      by None None at_f at_g = at_f ∙ sym at_g
+      by None (Some id) at_f at_g = absurd (none-some id (sym at_f ∙ back name id at_g))
+
+-- a name that no entry of the node has is in no line
+no_entry : (f : Component → Option NodeId) (name : Component) → f name ≡ None → (entries : List DirectoryEntry)
+    → All (λ e. IsSome (f e.name)) entries → entry_named name entries ≡ None
+no_entry f name none [] all = refl
+no_entry f name none (e ∷ entries) all = by (same_component e.name name) refl (no_entry f name none entries (λ k d lt. all (suc k) d (omega (arith, lt))))
+  where
+    by : (b : Bool) → same_component e.name name ≡ b → entry_named name entries ≡ None → (cond b (Some e.id) (entry_named name entries)) ≡ None
+    by false other rest = rest
+    by true same rest = absurd (false≢true (subst (λ o. IsSome o) (ap f (same_component_is e.name name same) ∙ none) (all 0 e (omega arith))))
+
+pub names_agree : (tables : List Table) (f : Component → Option NodeId) (ids : Component → Option FileId) (entries : List DirectoryEntry)
+    → ((name : Component) → ids name ≡ entry_named name entries)
+    → ((name : Component) (id : NodeId) → f name ≡ Some id → IsAt tables (Some id) (ids name))
+    → All (λ e. IsSome (f e.name)) entries → (name : Component) → IsAt tables (f name) (entry_named name entries)
+names_agree tables f ids entries same named all name = by (f name) refl
+  where
+    by : (o : Option NodeId) → f name ≡ o → IsAt tables (f name) (entry_named name entries)
+    by (Some id) at = subst (λ o. IsAt tables o (entry_named name entries)) (sym at) (subst (IsAt tables (Some id)) (same name) (named name id at))
+    by None at = subst (λ o. IsAt tables o (entry_named name entries)) (sym at) (subst (IsAt tables None) (sym (no_entry f name at entries all)) tt)
+
+-- an entry more is put at its name, where none stood
+pub name_more : (entry : DirectoryEntry) (rest : List DirectoryEntry) (old new : Component → Option FileId) (key : Component) → key ≡ entry.name
+    → old key ≡ None → ((n : Component) → new n ≡ cond (is_at (slice_cmp nat_cmp key) n) (Some entry.id) (old n))
+    → (n : Component) → option_or (new n) (entry_named n rest) ≡ option_or (old n) (entry_named n (entry ∷ rest))
+name_more entry rest old new key is none put n = by (same_component key n) refl
+  where
+    by : (b : Bool) → same_component key n ≡ b → option_or (new n) (entry_named n rest) ≡ option_or (old n) (entry_named n (entry ∷ rest))
+    by true same =
+        ap (λ o. option_or o (entry_named n rest)) (put n ∙ ap (λ t. cond t (Some entry.id) (old n)) (at_name key n ∙ same))
+        ∙ sym (ap (λ t. option_or (old n) (cond t (Some entry.id) (entry_named n rest))) (ap (λ k. same_component k n) (sym is) ∙ same)
+        ∙ ap (λ o. option_or o (Some entry.id)) (ap old (sym (same_component_is key n same)) ∙ none))
+    by false other =
+        ap (λ o. option_or o (entry_named n rest)) (put n ∙ ap (λ t. cond t (Some entry.id) (old n)) (at_name key n ∙ other))
+        ∙ sym (ap (λ t. option_or (old n) (cond t (Some entry.id) (entry_named n rest))) (ap (λ k. same_component k n) (sym is) ∙ other))

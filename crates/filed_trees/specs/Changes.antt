@@ -1,0 +1,78 @@
+-- The changes of a revision, by its file.
+use Rattle.std.specs.Prelude.{ℕ, List, [], ◌∷◌, Option, Some, None, option_map, slice_get}
+use Rattle.std.specs.BTreeMap.{insert_entry}
+use Rattle.std.specs.Result.{result_ok}
+use Rattle.svnpath.specs.Paths.{PathValue, path_cmp}
+use Rattle.svnpath.specs.Texts.{parsed}
+use Rattle.repo_api.specs.declared.change.Action.{Action}
+use Rattle.repo_api.specs.declared.change.Action.TheVariants as actions
+use Rattle.repo_api.specs.declared.change.Change.{Change}
+use Rattle.repo_api.specs.declared.change.Source.{Source}
+use Rattle.revision_data.specs.Found.{found}
+use Rattle.fsfs_ids.specs.Maybe.{◌>>=◌}
+use Rattle.fsfs_ids.specs.declared.place.Place.{Place}
+use Rattle.fsfs_parts.specs.declared.change.FileAction.{FileAction}
+use Rattle.fsfs_parts.specs.declared.change.FileAction.TheVariants.{Add, Delete, Replace, Modify}
+use Rattle.fsfs_parts.specs.declared.change.FileChange.{FileChange}
+use Rattle.fsfs_reading.specs.Pieces.{revision_of}
+use Rattle.fsfs_reading.specs.declared.piece.FilePiece.{FilePiece}
+use Rattle.filed_trees.specs.Pieces.{RevisionBytes}
+
+abbrev pub action_in : FileAction → Action
+action_in Add = actions.Add
+action_in Delete = actions.Delete
+action_in Replace = actions.Replace
+action_in Modify = actions.Modify
+
+-- the source of a copy, if there is one
+abbrev pub source_in : Option Place → Option (Option Source)
+source_in None = Some None
+source_in (Some place) =
+    option_map (λ path. Some (record { revision = place.revision; path = path }))
+    (result_ok (parsed place.path))
+
+-- a changed path, and its change
+unfoldable pub change_in : FileChange → Option (PathValue × Change)
+change_in change = do
+  path ← result_ok (parsed change.path)
+  source ← source_in change.source
+  Some (
+    path,
+    record {
+      action = action_in change.action;
+      text = change.text;
+      properties = change.properties;
+      source = source;
+    },
+  )
+
+-- changes with their paths, in the order of these
+abbrev pub ChangeRows : Type 0
+ChangeRows = List (PathValue × Change)
+
+-- a path is changed once
+abbrev pub with_new : ChangeRows → PathValue × Change → Option Change → Option ChangeRows
+with_new rows p None = Some (insert_entry path_cmp rows p.0 p.1)
+with_new rows p (Some change) = None
+
+abbrev pub with_change : ChangeRows → PathValue × Change → Option ChangeRows
+with_change rows p = with_new rows p (found rows p.0)
+
+abbrev pub with_changes : ChangeRows → List FileChange → Option ChangeRows
+with_changes rows [] = Some rows
+with_changes rows (c ∷ cs) =
+    change_in c >>= λ p. with_change rows p >>= λ more. with_changes more cs
+
+-- the changes that lines say, in whatever order they stand
+abbrev pub changes_by : List FileChange → Option ChangeRows
+changes_by cs = with_changes [] cs
+
+-- what the file of a revision says: its node revisions and its changed paths
+unfoldable pub revision_in : RevisionBytes → ℕ → Option (List FilePiece × List FileChange)
+revision_in files n = do
+  file ← slice_get files n
+  result_ok (revision_of n file)
+
+-- the changes of a revision; there are none of a number that is none
+unfoldable pub changes_in : RevisionBytes → ℕ → Option ChangeRows
+changes_in files n = revision_in files n >>= λ revision. changes_by revision.1

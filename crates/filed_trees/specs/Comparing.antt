@@ -1,0 +1,141 @@
+-- Comparing the nodes of a revision with its file.
+use Rattle.std.specs.Prelude.{◌≡◌, ◌<◌, ℕ, List, [], ◌∷◌, ◌++◌, Option, Some, None, IfSome, IsSomeAnd, slice_get, suc, length}
+use Rattle.std.specs.Borrow.{Bor}
+use Rattle.std.specs.Arc.{arc_value}
+use Rattle.std.specs.BTreeMap.{is_at}
+use Rattle.std.specs.Cmp.Lexicographic.{slice_cmp}
+use Rattle.std.specs.Map.{lookup}
+use Rattle.std.specs.Ordering.{nat_cmp}
+use Rattle.svnpath.specs.Paths.{Component, PathValue}
+use Rattle.repo_api.specs.Properties.{PropertyList}
+use Rattle.repo_api.specs.Trees.{content_text}
+use Rattle.noderevs.specs.Held.{node_at}
+use Rattle.noderevs.specs.Nodes.{kid_of, mark_of}
+use Rattle.noderevs.specs.declared.node_rev.NodeId.{NodeId}
+use Rattle.noderevs.specs.declared.node_rev.NodeRev.{NodeRev}
+use Rattle.noderevs.specs.declared.nodes.Nodes.{Nodes}
+use Rattle.repo_api.specs.declared.entry.Mark.{Mark}
+use Rattle.fsfs_ids.specs.declared.id.FileId.{FileId}
+use Rattle.fsfs_ids.specs.declared.representation.Representation.{Representation}
+use Rattle.fsfs_nodes.specs.declared.entries.DirectoryEntry.{DirectoryEntry}
+use Rattle.fsfs_nodes.specs.declared.node.FileNode.{FileNode}
+use Rattle.fsfs_reading.specs.declared.piece.FilePiece.{FilePiece}
+use Rattle.filed_trees.specs.Pieces.{RevisionBytes, piece_in, body_at_line, content_in, entries_in, entries_at, entry_named, path_in}
+use Rattle.filed_trees.specs.Changes.{ChangeRows, changes_in}
+use Rattle.filed_trees.specs.Tables.{placed_in, IsAt, IsFiled, IsPlaced}
+use Rattle.filed_trees.specs.declared.table.Table.{Table}
+use Rattle.filed_trees.specs.declared.body.Body.{Body}
+use Rattle.filed_trees.specs.declared.body.Body.TheVariants.{Empty, New, Kept}
+use Rattle.filed_trees.specs.declared.places.Earlier.{Earlier}
+use Rattle.filed_trees.specs.declared.places.Places.{Places}
+
+-- the name and the id of an entry that was listed
+abbrev pub named_kid : Bor Component × NodeId → Component × NodeId
+named_kid kid = (kid.0.now, kid.1)
+
+-- it is among those that were listed
+abbrev pub IsAmong : List (Bor Component × NodeId) → Component × NodeId → Type 0
+IsAmong kids kid =
+    (k : ℕ) × ((x : Bor Component × NodeId) × ((slice_get kids k ≡ Some x) × (named_kid x ≡ kid)))
+
+-- the id at a name
+abbrev pub id_at : List (Component × FileId) → Component → Option FileId
+id_at ids name = lookup (is_at (slice_cmp nat_cmp name)) ids
+
+-- where what came with a node revision of this revision's file stands in the files, if its line is of
+-- this revision
+abbrev pub CameWith : RevisionBytes → ℕ → Option Representation → Option (List ℕ) → Type 0
+CameWith files revision line new =
+    (l : Representation) (body : List ℕ) → line ≡ Some l → l.revision ≡ revision
+    → new ≡ Some body → body_at_line files l ≡ Some body
+
+-- what a line gives: nothing where there is none, bytes, or what the predecessor's line gives
+abbrev pub IsBody : RevisionBytes → Option Representation → Option Representation → Body → Type 0
+IsBody files line kept Empty = line ≡ None
+IsBody files line kept (New bytes) = IsSomeAnd line (λ l. body_at_line files l ≡ Some bytes.now)
+IsBody files line kept Kept = line ≡ kept
+
+-- the tables of all revisions, the last as far as it has come
+abbrev pub tables_of : Places → List Table
+tables_of places = places.tables.now ++ places.so_far.now ∷ []
+
+-- how many revisions have whole tables: the number of the revision that is compared
+abbrev pub revision_in : Places → ℕ
+revision_in places = length places.tables.now
+
+-- a node of an earlier revision that is the node revision of this id, if there are such
+abbrev pub IsEarlier : Places → Option FileId → Option Earlier → Type 0
+IsEarlier places None None = Unit {0}
+IsEarlier places None (Some earlier) = ⊥
+IsEarlier places (Some id) None = ⊥
+IsEarlier places (Some id) (Some earlier) =
+    (n : NodeId) × ((n.rev < revision_in places) × ((node_at places.nodes.now n ≡ Some earlier.node.now)
+    × ((placed_in places.tables.now n ≡ Some earlier.placed.now) × (earlier.placed.now.id ≡ id))))
+
+abbrev pub earlier_text : Option Earlier → Option Representation
+earlier_text None = None
+earlier_text (Some earlier) = earlier.placed.now.text
+
+abbrev pub earlier_properties : Option Earlier → Option Representation
+earlier_properties None = None
+earlier_properties (Some earlier) = earlier.placed.now.properties
+
+abbrev pub earlier_own : Option Earlier → Option Mark
+earlier_own None = None
+earlier_own (Some earlier) = Some (mark_of earlier.node.now.own)
+
+abbrev pub earlier_content_text : Option Earlier → Option (List ℕ)
+earlier_content_text None = None
+earlier_content_text (Some earlier) = content_text (arc_value earlier.node.now.content)
+
+abbrev pub earlier_node_properties : Option Earlier → Option PropertyList
+earlier_node_properties None = None
+earlier_node_properties (Some earlier) = Some (arc_value earlier.node.now.properties)
+
+abbrev pub WasFiled : RevisionBytes → Places → Option Earlier → Type 0
+WasFiled files places earlier =
+    IfSome earlier (λ e. (n : NodeId) × IsFiled files (tables_of places) n e.node.now e.placed.now)
+
+-- a line gives the entries of a node
+pub record HasEntries (files : RevisionBytes) (tables : List Table) (line : Option Representation)
+    (node : NodeRev) : Type 0 where
+  pub entries : List DirectoryEntry
+  pub read : entries_at files line ≡ Some entries
+  pub kids : (name : Component) → IsAt tables (kid_of name node) (entry_named name entries)
+
+-- a node revision gives the content and the entries of a node
+pub record HasContent (files : RevisionBytes) (tables : List Table) (said : FileNode)
+    (node : NodeRev) : Type 0 where
+  pub content : content_in files said ≡ Some (arc_value node.content)
+  pub entries : List DirectoryEntry
+  pub read : entries_in files said ≡ Some entries
+  pub kids : (name : Component) → IsAt tables (kid_of name node) (entry_named name entries)
+
+-- a piece of the file of this revision, the last of the files
+pub record IsOfLast (files : RevisionBytes) (revision : ℕ) (piece : FilePiece) : Type 0 where
+  pub there : piece_in files piece.node.id ≡ Some piece
+  pub revision_is : piece.node.id.revision ≡ revision
+  pub text : CameWith files revision piece.node.text piece.text
+  pub properties : CameWith files revision piece.node.properties piece.properties
+
+-- files whose last is that of the revision that is compared: it says these changes, and the nodes of
+-- the revisions before it are placed in them
+pub record AreFor (files : RevisionBytes) (places : Places) (rows : ChangeRows) : Type 0 where
+  pub long : length files ≡ suc (revision_in places)
+  pub changes : changes_in files (revision_in places) ≡ Some rows
+  pub earlier : (id : NodeId) → id.rev < revision_in places
+      → IsPlaced files (tables_of places) id (node_at places.nodes.now id) (placed_in places.tables.now id)
+
+-- the node revision at a place of a list was made at this path
+abbrev pub IsPieceAt : List FilePiece → PathValue → ℕ → Type 0
+IsPieceAt pieces path k = IfSome (slice_get pieces k) (λ piece. path_in piece.node ≡ Some path)
+
+-- the same files, whatever the last table is, and the node revisions that the last of them says
+pub record AreForAll (files : RevisionBytes) (nodes : Nodes) (tables : List Table) (rows : ChangeRows)
+    (pieces : List FilePiece) : Type 0 where
+  pub long : length files ≡ suc (length tables)
+  pub changes : changes_in files (length tables) ≡ Some rows
+  pub earlier : (table : Table) (id : NodeId) → id.rev < length tables
+      → IsPlaced files (tables ++ table ∷ []) id (node_at nodes id) (placed_in tables id)
+  pub last : (k : ℕ) (piece : FilePiece) → slice_get pieces k ≡ Some piece
+      → IsOfLast files (length tables) piece

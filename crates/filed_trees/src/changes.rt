@@ -1,0 +1,162 @@
+//! The changes that a revision's file says.
+ghost use Rattle.std.specs.Prelude.{◌≡◌, true, map, IfOk, Some};
+ghost use Rattle.std.specs.Map.Iter.{deref_pair};
+ghost use Rattle.std.specs.Result.{result_ok};
+ghost use Rattle.svnpath.specs.Texts.{parsed};
+ghost use Rattle.filed_trees.specs.Changes.{action_in, source_in, change_in, changes_by};
+
+use byte_string::ByteString;
+use fsfs_ids::Place;
+use fsfs_lines::FileFault;
+use fsfs_parts::{FileAction, FileChange};
+use repo_api::{Action, Change, Source};
+use std::alloc::Global;
+use std::collections::BTreeMap;
+use svnpath::{Path, PathFault};
+
+/// Reads a path.
+pub(crate) fn read_path(alloc: Global, text: &ByteString) -> Result<Path, FileFault>
+    ensures { IfOk result (λ path. result_ok (parsed text.now) ≡ Some path) }
+{
+    match Path::parse(alloc, text.as_slice()) {
+        Ok(path) => Ok(path),
+        Err(PathFault::NoMemory) => Err(FileFault::NoMemory),
+        Err(_) => Err(FileFault::BadLine),
+    }
+}
+
+/// Says what was done, as a repository does.
+fn action_in(action: FileAction) -> Action
+    ensures { result ≡ action_in action }
+{
+    match action {
+        FileAction::Add => Action::Add,
+        FileAction::Delete => Action::Delete,
+        FileAction::Replace => Action::Replace,
+        FileAction::Modify => Action::Modify,
+    }
+}
+
+/// Reads the source of a copy, if there is one.
+fn read_source(alloc: Global, place: &Option<Place>) -> Result<Option<Source>, FileFault>
+    ensures { IfOk result (λ source. source_in place.now ≡ Some source) }
+{
+    let Some(place) = place else {
+        return Ok(None);
+    };
+    let path = read_path(alloc, &place.path)?;
+    Ok(Some(Source {
+        revision: place.revision as u64,
+        path,
+    }))
+}
+
+/// Reads a changed path, and its change.
+#[tactic(auto, unfolding(crate::specs::Changes::change_in))]
+fn read_change(alloc: Global, change: &FileChange) -> Result<(Path, Change), FileFault>
+    ensures { IfOk result (λ p. change_in change.now ≡ Some p) }
+{
+    let path = read_path(alloc, &change.path)?;
+    let source = read_source(alloc, &change.source)?;
+    let made = Change {
+        action: action_in(change.action),
+        text: change.text,
+        properties: change.properties,
+        source,
+    };
+    Ok((path, made))
+}
+
+/// Gives the changes by their paths.
+///
+/// # Errors
+///
+/// `BadLine` where a path is none, or is changed twice; `NoMemory`.
+pub fn changes_by_path(
+    alloc: Global,
+    changes: &[FileChange],
+) -> Result<BTreeMap<Path, Change>, FileFault>
+    ensures { IfOk result (λ map. changes_by changes.now ≡ Some map.entries) }
+{
+    let mut map = BTreeMap::new(alloc);
+    for change in changes {
+        let (path, made) = read_change(alloc, change)?;
+        if map.get(&path).is_some() {
+            return Err(FileFault::BadLine);
+        }
+        map.insert(path, made)?;
+    }
+    Ok(map)
+}
+
+/// Says whether two paths are the same.
+#[tactic(auto, using(svnpath::specs::PathLaws::same_path_is))]
+pub(crate) fn is_same_path(path: &Path, other: &Path) -> bool
+    ensures { result ≡ true → path.now ≡ other.now }
+{
+    path == other
+}
+
+/// Says whether both are the same source, or both none.
+fn is_same_source(source: &Option<Source>, other: &Option<Source>) -> bool
+    ensures { result ≡ true → source.now ≡ other.now }
+{
+    match (source, other) {
+        (None, None) => true,
+        (Some(source), Some(other)) => source.revision == other.revision
+            && is_same_path(&source.path, &other.path),
+        _ => false,
+    }
+}
+
+/// Says whether two changes are the same.
+fn is_same_change(change: &Change, other: &Change) -> bool
+    ensures { result ≡ true → change.now ≡ other.now }
+{
+    change.action == other.action
+        && change.text == other.text
+        && change.properties == other.properties
+        && is_same_source(&change.source, &other.source)
+}
+
+/// Says whether a row is a change with its path.
+fn is_same_row(row: (&Path, &Change), changed: &(Path, Change)) -> bool
+    ensures { result ≡ true → deref_pair row.entry ≡ changed.now }
+{
+    is_same_path(row.0, &changed.0) && is_same_change(row.1, &changed.1)
+}
+
+/// Says whether rows and changes with their paths are the same, in the same order.
+fn are_same_changes(rows: &[(&Path, &Change)], changes: &[(Path, Change)]) -> bool
+    ensures { result ≡ true → map deref_pair rows.now ≡ changes.now }
+{
+    if rows.len() != changes.len() {
+        return false;
+    }
+    for k in 0..rows.len() {
+        if !is_same_row(rows[k], &changes[k]) {
+            return false;
+        }
+    }
+    true
+}
+
+/// Checks that a revision's file says these changes.
+///
+/// # Errors
+///
+/// `BadLine` where it says others; `NoMemory`.
+pub(crate) fn check_changes(
+    alloc: Global,
+    said: &BTreeMap<Path, Change>,
+    changes: &[(Path, Change)],
+) -> Result<(), FileFault>
+    ensures { IfOk result (λ _. said.now.entries ≡ changes.now) }
+{
+    let rows = said.iter().collect::<Vec<_>>(alloc)?;
+    if are_same_changes(rows.as_slice(), changes) {
+        Ok(())
+    } else {
+        Err(FileFault::BadLine)
+    }
+}

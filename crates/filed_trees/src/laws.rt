@@ -1,0 +1,44 @@
+//! What holds of files. The functions do nothing: their contracts are the laws.
+ghost use Rattle.std.specs.Prelude.{◌≡◌, ℕ, List, [], Some, slice_get};
+ghost use Rattle.std.specs.FinMap.{get};
+ghost use Rattle.svnpath.specs.Paths.{PathValue};
+ghost use Rattle.repo_api.specs.States.{ChangeMap, RepoState, Revision};
+ghost use Rattle.noderevs.specs.Nodes.{node_in, root_in};
+ghost use Rattle.noderevs.specs.Views.{shared_tree};
+ghost use Rattle.noderevs.specs.declared.node_rev.Block.{Block};
+ghost use Rattle.repostore.specs.Files.{Files};
+ghost use Rattle.filed_trees.specs.Pieces.{RevisionBytes};
+ghost use Rattle.filed_trees.specs.Trees.{tree_in};
+ghost use Rattle.filed_trees.specs.Tables.{AreTabled};
+ghost use Rattle.filed_trees.specs.StandsFor.{StandsFor, IsRevision};
+ghost use Rattle.filed_trees.specs.declared.table.Table.{Table};
+
+/// Shows that where tables say which node revision of the files each node is, the trees of the files
+/// are those of the nodes.
+pub fn tabled_trees_are_those_of_the_files()
+    ensures { (files : RevisionBytes) (blocks : List Block) (tables : List Table)
+        (changes : List ChangeMap) → AreTabled files blocks tables changes
+        → (n : ℕ) (path : PathValue)
+        → tree_in files n path ≡ shared_tree (node_in blocks) (root_in blocks n) path }
+{}
+
+/// Shows that files stand for one state at most.
+pub fn files_stand_for_one_state()
+    ensures { (files : Files) (a b : RepoState) → StandsFor files a → StandsFor files b → a ≡ b }
+{}
+
+/// Shows that no nodes stand in no files.
+pub fn nothing_is_tabled()
+    ensures { AreTabled [] [] [] [] }
+{}
+
+/// Shows that where nodes are tabled, the files say each revision that has the tree of its nodes and
+/// its changes.
+pub fn tabled_revisions_are_those_of_the_files()
+    ensures { (files : RevisionBytes) (blocks : List Block) (tables : List Table)
+        (changes : List ChangeMap) → AreTabled files blocks tables changes
+        → (n : ℕ) (revision : Revision)
+        → ((path : PathValue) → get revision.tree path
+        ≡ shared_tree (node_in blocks) (root_in blocks n) path)
+        → slice_get changes n ≡ Some revision.changes → IsRevision files n revision }
+{}

@@ -1,0 +1,138 @@
+//! Where nodes stand in the files, as far as that is known.
+ghost use Rattle.std.specs.Prelude.{◌≡◌, ◌≤◌, ◌∷◌, ◌++◌, [], true, IfOk, IfSome, IsSomeAnd, length, option_copied, option_map, slice_get, Some};
+ghost use Rattle.filed_trees.specs.Comparing.{IsEarlier, earlier_text, earlier_properties};
+ghost use Rattle.filed_trees.specs.Tables.{placed_in};
+
+use crate::table::{Placed, Table};
+use fsfs_ids::{FileId, Representation};
+use fsfs_lines::FileFault;
+use noderevs::{NodeId, NodeRev, Nodes};
+use pvec::PVec;
+
+/// Holds the nodes, the tables of the revisions before the last one, and that of the last as far as it
+/// has come.
+#[derive(Clone, Copy)]
+pub(crate) struct Places<'a> {
+    pub nodes: &'a Nodes,
+    pub tables: &'a PVec<Table>,
+    pub so_far: &'a Table,
+}
+
+/// Holds a node of an earlier revision, and where it stands in the files.
+#[derive(Clone, Copy)]
+pub(crate) struct Earlier<'a> {
+    pub node: &'a NodeRev,
+    pub placed: &'a Placed,
+}
+
+/// Says whether two ids are the same.
+pub(crate) fn is_same_id(id: FileId, other: FileId) -> bool
+    ensures { result ≡ true → id ≡ other }
+{
+    id == other
+}
+
+/// Finds the first place from which on no offset is less, where offsets rise.
+fn first_from(placed: &[Placed], offset: u64) -> usize
+    ensures { result ≤ length placed.now }
+{
+    let mut low = 0;
+    let mut high = placed.len();
+    while low < high {
+        let middle = low + (high - low) / 2;
+        if placed[middle].id.offset < offset {
+            low = middle + 1;
+        } else {
+            high = middle;
+        }
+    }
+    high
+}
+
+/// Finds the place of an id by going over all.
+fn scanned(placed: &[Placed], id: FileId) -> Option<usize>
+    ensures { IfSome result (λ k. IsSomeAnd (slice_get placed.now k) (λ p. p.id ≡ id)) }
+{
+    for k in 0..placed.len() {
+        if is_same_id(placed[k].id, id) {
+            return Some(k);
+        }
+    }
+    None
+}
+
+/// Finds the place of an id. That is quick where offsets rise with the places.
+fn place_of(placed: &[Placed], id: FileId) -> Option<usize>
+    ensures { IfSome result (λ k. IsSomeAnd (slice_get placed.now k) (λ p. p.id ≡ id)) }
+{
+    let place = first_from(placed, id.offset);
+    if place < placed.len() && is_same_id(placed[place].id, id) {
+        return Some(place);
+    }
+    scanned(placed, id)
+}
+
+/// Finds where a node of a revision before the last one stands.
+fn placed_at(tables: &PVec<Table>, id: NodeId) -> Option<&Placed>
+    ensures { option_copied result ≡ placed_in tables.now id }
+{
+    tables.get(id.rev as usize)?.placed.get(id.place as usize)
+}
+
+/// Finds the id of a node, of the last revision too.
+pub(crate) fn file_id(tables: &PVec<Table>, so_far: &Table, id: NodeId) -> Option<FileId>
+    ensures { result ≡ option_map (λ p. p.id) (placed_in (tables.now ++ so_far.now ∷ []) id) }
+{
+    if id.rev as usize == tables.len() {
+        return Some(so_far.placed.get(id.place as usize)?.id);
+    }
+    Some(placed_at(tables, id)?.id)
+}
+
+/// Finds the node of an earlier revision that a node revision names as its predecessor.
+///
+/// # Errors
+///
+/// `Dangling` where there is none.
+pub(crate) fn find_earlier<'a>(
+    places: Places<'a>,
+    predecessor: Option<FileId>,
+) -> Result<Option<Earlier<'a>>, FileFault>
+    ensures { IfOk result (IsEarlier places.entry predecessor) }
+{
+    let Some(id) = predecessor else {
+        return Ok(None);
+    };
+    match earlier_of(places, id) {
+        Some(earlier) => Ok(Some(earlier)),
+        None => Err(FileFault::Dangling),
+    }
+}
+
+/// Finds the node of an earlier revision that is the node revision of an id.
+fn earlier_of(places: Places<'_>, id: FileId) -> Option<Earlier<'_>>
+    ensures { IfSome result (λ e. IsEarlier places.entry (Some id) (Some e)) }
+{
+    let table = places.tables.get(id.revision as usize)?;
+    let place = place_of(table.placed.as_slice(), id)?;
+    let node = places.nodes.node(NodeId {
+        rev: id.revision,
+        place: place as u64,
+    })?;
+    let placed = table.placed.get(place)?;
+    Some(Earlier { node, placed })
+}
+
+/// Gives the line of the text of the predecessor.
+pub(crate) fn earlier_text(earlier: Option<Earlier<'_>>) -> Option<Representation>
+    ensures { result ≡ earlier_text earlier.entry }
+{
+    earlier?.placed.text
+}
+
+/// Gives the line of the properties of the predecessor.
+pub(crate) fn earlier_properties(earlier: Option<Earlier<'_>>) -> Option<Representation>
+    ensures { result ≡ earlier_properties earlier.entry }
+{
+    earlier?.placed.properties
+}

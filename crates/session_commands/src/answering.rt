@@ -1,0 +1,126 @@
+//! Commands, and what is none.
+ghost use Rattle.std.specs.Prelude.{◌∷◌, [], Ok, false, IfOk, OnErr};
+ghost use Rattle.items.specs.View.{value_of};
+ghost use Rattle.commands.specs.Commands.{main_command};
+ghost use Rattle.wire_replies.specs.declared.reply.Reply.{Reply};
+ghost use Rattle.wire_replies.specs.Replies.{print};
+ghost use Rattle.wire_replies.specs.Sinks.{WritesPart};
+ghost use Rattle.access.specs.Points.{content_of};
+ghost use Rattle.machine.specs.Answers.{serves};
+ghost use Rattle.machine.specs.Machine.{KnownCommand, MainStep};
+ghost use Rattle.machine.specs.Steps.{AnswerWritten, StepWritten, StepOrNothing};
+
+use crate::asking::ask_for_login;
+use crate::own::own_answer;
+use crate::request::{Request, preface_of, wants_user};
+use access::RepoAccess;
+use commands::MainCommand;
+use items::Item;
+use machine::{Client, OpenLogin, Options, Turn};
+use refusals::Refusal;
+use repo_api::Repository;
+use session_replies::{Preface, SessionPhase, end_malformed, refuse};
+use std::alloc::AllocError;
+use std::mem::drop;
+use wire_forms::CommandFault;
+use wire_replies::ReplySink;
+
+/// Refuses a command that is not known.
+fn refuse_unknown<R: Repository, S: ReplySink>(
+    client: Client,
+    turn: &mut Turn<S>,
+) -> Result<SessionPhase<R>, AllocError>
+    ensures ok { IfOk result (λ phase. AnswerWritten
+        (serves turn.old.env client (Reply.Failure Refusal.UnknownCommand))
+        phase turn.new.env (S.writes turn.old.out turn.new.out)) }
+    ensures err { OnErr result (WritesPart (S.writes turn.old.out turn.new.out)
+        (print (Reply.Failure Refusal.UnknownCommand ∷ []))) }
+{
+    refuse(client, Preface::Nothing, Refusal::UnknownCommand, turn)
+}
+
+/// A command that is known, and waits for nothing: the login request, and then its own answer.
+fn answer_command<R: Repository, A: RepoAccess<View = R>, S: ReplySink>(
+    options: &Options,
+    client: Client,
+    command: MainCommand,
+    access: &mut A,
+    turn: &mut Turn<S>,
+) -> Result<SessionPhase<R>, AllocError>
+    ensures ok { IfOk result (λ phase. StepWritten A.rules
+        (λ at a. KnownCommand false at.halted options.now turn.old.env (content_of at) client
+        command a)
+        (A.point access.old) (A.point access.new)
+        phase turn.new.env (S.writes turn.old.out turn.new.out)) }
+    ensures err { OnErr result (StepOrNothing A.rules
+        (λ at a. KnownCommand false at.halted options.now turn.old.env (content_of at) client
+        command a)
+        (A.point access.old) (A.point access.new) (S.writes turn.old.out turn.new.out)) }
+{
+    let preface = preface_of(&command);
+    let request = Request {
+        command: &command,
+        preface,
+    };
+    let answered = own_answer(options, client, request, access, turn);
+    drop(command);
+    answered
+}
+
+/// A command: it waits for a login, or is answered.
+fn take_command<R: Repository, A: RepoAccess<View = R>, S: ReplySink>(
+    options: &Options,
+    client: Client,
+    command: MainCommand,
+    access: &mut A,
+    turn: &mut Turn<S>,
+) -> Result<SessionPhase<R>, AllocError>
+    ensures ok { IfOk result (λ phase. StepWritten A.rules
+        (λ at a. MainStep at.halted options.now turn.old.env (content_of at) client
+        (Ok command) a)
+        (A.point access.old) (A.point access.new)
+        phase turn.new.env (S.writes turn.old.out turn.new.out)) }
+    ensures err { OnErr result (StepOrNothing A.rules
+        (λ at a. MainStep at.halted options.now turn.old.env (content_of at) client
+        (Ok command) a)
+        (A.point access.old) (A.point access.new) (S.writes turn.old.out turn.new.out)) }
+{
+    if wants_user(options, &client, &command) {
+        let waiting = Some(command);
+        ask_for_login(options, OpenLogin { client, waiting }, turn)
+    } else {
+        answer_command(options, client, command, access, turn)
+    }
+}
+
+/// An item that is to be a command.
+pub fn answer_item<R: Repository, A: RepoAccess<View = R>, S: ReplySink>(
+    options: &Options,
+    client: Client,
+    item: &Item,
+    access: &mut A,
+    turn: &mut Turn<S>,
+) -> Result<SessionPhase<R>, AllocError>
+    ensures ok { IfOk result (λ phase. StepWritten A.rules
+        (λ at a. MainStep at.halted options.now turn.old.env (content_of at) client
+        (main_command (value_of item.now)) a)
+        (A.point access.old) (A.point access.new)
+        phase turn.new.env (S.writes turn.old.out turn.new.out)) }
+    ensures err { OnErr result (StepOrNothing A.rules
+        (λ at a. MainStep at.halted options.now turn.old.env (content_of at) client
+        (main_command (value_of item.now)) a)
+        (A.point access.old) (A.point access.new) (S.writes turn.old.out turn.new.out)) }
+{
+    match MainCommand::from_item(turn.alloc, item) {
+        Ok(command) => take_command(options, client, command, access, turn),
+        Err(CommandFault::UnknownName) => refuse_unknown(client, turn),
+        Err(CommandFault::BadParameters) => {
+            drop(client);
+            end_malformed(turn)
+        }
+        Err(CommandFault::NoMemory) => {
+            drop(client);
+            Err(AllocError)
+        }
+    }
+}

@@ -1,0 +1,86 @@
+//! A login is asked for.
+ghost use Rattle.std.specs.Prelude.{◌≡◌, ◌∷◌, [], IfOk, OnOk, OnErr};
+ghost use Rattle.wire_replies.specs.declared.reply.Reply.{Reply};
+ghost use Rattle.wire_replies.specs.Replies.{print};
+ghost use Rattle.wire_replies.specs.Sinks.{WritesPart};
+ghost use Rattle.machine.specs.Answers.{says};
+ghost use Rattle.machine.specs.Logins.{asks};
+ghost use Rattle.machine.specs.Steps.{AnswerWritten};
+ghost use Rattle.machine.specs.declared.phase.Phase.TheVariants.{LoggingIn};
+
+use byte_string::ByteString;
+use machine::{OpenLogin, Options, Phase, Turn, offer};
+use repo_api::Repository;
+use session_replies::{SessionPhase, say_new};
+use std::alloc::{AllocError, Global};
+use std::mem::drop;
+use wire_replies::{Offer, Reply, ReplySink};
+
+/// Answers a login that is under way, and awaits the choice of a mechanism.
+pub fn await_choice<R: Repository, S: ReplySink>(
+    login: OpenLogin,
+    reply: &Reply,
+    turn: &mut Turn<S>,
+) -> Result<SessionPhase<R>, AllocError>
+    ensures ok { IfOk result (λ phase. AnswerWritten
+        (says turn.old.env (LoggingIn login) (reply.now ∷ []))
+        phase turn.new.env (S.writes turn.old.out turn.new.out)) }
+    ensures err { OnErr result (WritesPart (S.writes turn.old.out turn.new.out)
+        (print (reply.now ∷ []))) }
+{
+    match turn.out.say(reply) {
+        Ok(()) => Ok(Phase::LoggingIn(login)),
+        Err(error) => {
+            drop(login);
+            Err(error)
+        }
+    }
+}
+
+/// The request of a login to the repository of this name.
+fn login_reply(alloc: Global, options: &Options, offered: Offer) -> Result<Reply, AllocError>
+    ensures { IfOk result (λ reply. reply ≡ Reply.Login offered options.now.name) }
+{
+    let realm = ByteString::from_slice(alloc, options.name().as_bytes())?;
+    Ok(Reply::Login(offered, realm))
+}
+
+/// Asks for a login to the repository of this name.
+fn say_login<S: ReplySink>(
+    alloc: Global,
+    options: &Options,
+    offered: Offer,
+    out: &mut S,
+) -> Result<(), AllocError>
+    ensures ok { OnOk result (S.writes out.old out.new
+        (print (Reply.Login offered options.now.name ∷ []))) }
+    ensures err { OnErr result (WritesPart (S.writes out.old out.new)
+        (print (Reply.Login offered options.now.name ∷ []))) }
+{
+    match login_reply(alloc, options, offered) {
+        Ok(reply) => say_new(reply, out),
+        Err(error) => Err(error),
+    }
+}
+
+/// Asks a client for its login.
+pub fn ask_for_login<R: Repository, S: ReplySink>(
+    options: &Options,
+    login: OpenLogin,
+    turn: &mut Turn<S>,
+) -> Result<SessionPhase<R>, AllocError>
+    ensures ok { IfOk result (λ phase. AnswerWritten
+        (asks options.now turn.old.env login)
+        phase turn.new.env (S.writes turn.old.out turn.new.out)) }
+    ensures err { OnErr result (WritesPart (S.writes turn.old.out turn.new.out)
+        (print (asks options.now turn.old.env login).replies)) }
+{
+    let offered = offer(options, &login.waiting);
+    match say_login(turn.alloc, options, offered, &mut turn.out) {
+        Ok(()) => Ok(Phase::LoggingIn(login)),
+        Err(error) => {
+            drop(login);
+            Err(error)
+        }
+    }
+}

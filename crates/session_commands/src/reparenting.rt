@@ -1,0 +1,60 @@
+//! A client goes on at another URL.
+ghost use Rattle.std.specs.Prelude.{◌≡◌, IfOk, OnErr};
+ghost use Rattle.svnpath.specs.Urls.{path_of_text};
+ghost use Rattle.wire_replies.specs.Replies.{print};
+ghost use Rattle.wire_replies.specs.Sinks.{WritesPart};
+ghost use Rattle.machine.specs.Answers.{behind};
+ghost use Rattle.machine.specs.Commands.{at_path, reparented};
+ghost use Rattle.machine.specs.Steps.{AnswerWritten};
+ghost use Rattle.session_replies.specs.Telling.{told_before};
+
+use byte_string::ByteString;
+use machine::{Client, Options, Turn};
+use refusals::path_refusal;
+use repo_api::Repository;
+use session_replies::{Preface, SessionPhase, refuse, tell};
+use std::alloc::AllocError;
+use std::mem::drop;
+use svnpath::{Path, PathFault};
+use wire_replies::{Reply, ReplySink};
+
+/// The client at another path; its root stays as it was told.
+fn at_path(client: Client, path: Path) -> Client
+    ensures { result ≡ at_path client path }
+{
+    let Client {
+        path: before,
+        root,
+        user,
+    } = client;
+    drop(before);
+    Client { path, root, user }
+}
+
+/// A client goes on at another URL; one that is refused leaves it where it is.
+pub(crate) fn reparent<R: Repository, S: ReplySink>(
+    options: &Options,
+    client: Client,
+    url: &ByteString,
+    preface: Preface,
+    turn: &mut Turn<S>,
+) -> Result<SessionPhase<R>, AllocError>
+    ensures ok { IfOk result (λ phase. AnswerWritten (behind (told_before preface)
+        (reparented turn.old.env client (path_of_text url.now options.now.name)))
+        phase turn.new.env (S.writes turn.old.out turn.new.out)) }
+    ensures err { OnErr result (WritesPart (S.writes turn.old.out turn.new.out)
+        (print (behind (told_before preface)
+        (reparented turn.old.env client (path_of_text url.now options.now.name))).replies)) }
+{
+    match Path::from_url(turn.alloc, url.as_slice(), options.name()) {
+        Ok(path) => {
+            let client = at_path(client, path);
+            tell(client, preface, Ok(Reply::Success), turn)
+        }
+        Err(PathFault::NoMemory) => {
+            drop(client);
+            Err(AllocError)
+        }
+        Err(fault) => refuse(client, preface, path_refusal(fault), turn),
+    }
+}

@@ -1,0 +1,83 @@
+//! A command that is to be answered: what its client is told before, and whether it waits for a
+//! login.
+ghost use Rattle.std.specs.Prelude.{◌≡◌};
+ghost use Rattle.machine.specs.Commands.{login_request, is_write};
+ghost use Rattle.machine.specs.Logins.{wants_user};
+ghost use Rattle.session_replies.specs.Telling.{told_before};
+
+use commands::MainCommand;
+use machine::{Client, Options};
+use session_replies::Preface;
+
+/// A command that is to be answered, and what its client is told before.
+#[derive(Clone, Copy)]
+pub struct Request<'a> {
+    pub command: &'a MainCommand,
+    pub preface: Preface,
+}
+
+/// What the client of a command is told before the command's own answer.
+pub(crate) fn preface_of(command: &MainCommand) -> Preface
+    ensures { told_before result ≡ login_request command.now }
+{
+    match command {
+        MainCommand::GetLatestRev => Preface::NoLogin,
+        MainCommand::CheckPath(_, _) => Preface::NoLogin,
+        MainCommand::RevProplist(_) => Preface::NoLogin,
+        MainCommand::Commit(_) => Preface::NoLogin,
+        MainCommand::AbortEdit => Preface::Nothing,
+        MainCommand::Lock(_) => Preface::NoLogin,
+        MainCommand::Unlock(_) => Preface::NoLogin,
+        MainCommand::GetLock(_) => Preface::NoLogin,
+        MainCommand::GetLocks(_) => Preface::NoLogin,
+        MainCommand::GetFile(_) => Preface::NoLogin,
+        MainCommand::GetDir(_) => Preface::NoLogin,
+        MainCommand::Stat(_, _) => Preface::NoLogin,
+        MainCommand::GetDatedRev(_) => Preface::NoLogin,
+        MainCommand::RevProp(_, _) => Preface::NoLogin,
+        MainCommand::ChangeRevProp(_) => Preface::NoLogin,
+        MainCommand::Reparent(_) => Preface::NoLogin,
+        MainCommand::Log(_) => Preface::NoLogin,
+        MainCommand::GetLocations(_) => Preface::NoLogin,
+        MainCommand::Update(_) => Preface::NoLogin,
+        MainCommand::Switch(_, _) => Preface::NoLogin,
+        MainCommand::Status(_) => Preface::NoLogin,
+    }
+}
+
+/// Whether a command writes.
+fn is_write(command: &MainCommand) -> bool
+    ensures { result ≡ is_write command.now }
+{
+    match command {
+        MainCommand::GetLatestRev => false,
+        MainCommand::CheckPath(_, _) => false,
+        MainCommand::RevProplist(_) => false,
+        MainCommand::Commit(_) => true,
+        MainCommand::AbortEdit => false,
+        MainCommand::Lock(_) => true,
+        MainCommand::Unlock(_) => true,
+        MainCommand::GetLock(_) => false,
+        MainCommand::GetLocks(_) => false,
+        MainCommand::GetFile(_) => false,
+        MainCommand::GetDir(_) => false,
+        MainCommand::Stat(_, _) => false,
+        MainCommand::GetDatedRev(_) => false,
+        MainCommand::RevProp(_, _) => false,
+        MainCommand::ChangeRevProp(_) => true,
+        MainCommand::Reparent(_) => false,
+        MainCommand::Log(_) => false,
+        MainCommand::GetLocations(_) => false,
+        MainCommand::Update(_) => false,
+        MainCommand::Switch(_, _) => false,
+        MainCommand::Status(_) => false,
+    }
+}
+
+/// Whether a command waits for the login of a user: it writes, its client has no user, and there
+/// are users.
+pub(crate) fn wants_user(options: &Options, client: &Client, command: &MainCommand) -> bool
+    ensures { result ≡ wants_user options.now client.now command.now }
+{
+    options.users().is_some() && client.user.is_none() && is_write(command)
+}

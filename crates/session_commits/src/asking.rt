@@ -1,0 +1,138 @@
+//! What a commit asks for.
+ghost use Rattle.std.specs.Prelude.{◌≡◌, ◌++◌, [], Ok, Err, IfOk, MatchResult, option_map};
+ghost use Rattle.std.specs.List.{list_all};
+ghost use Rattle.svnpath.specs.Components.{AnswersPath};
+ghost use Rattle.edit_rules.specs.Editor.{IfEditRefused};
+ghost use Rattle.repo_api.specs.Judging.{is_property_name};
+ghost use Rattle.machine.specs.Commands.{lock_tokens, are_named, set_all, asked_by};
+
+use byte_string::ByteString;
+use commands::CommitCommand;
+use edit_rules::EditFault;
+use machine::CommitParameters;
+use refusals::{Refusal, path_refusal};
+use repo_api::{LockTokens, Properties, is_property_name};
+use std::alloc::{AllocError, Global};
+use svnpath::{Path, PathFault};
+use wire_forms::Pairs;
+
+/// The lock tokens that are handed in, with the paths that they name.
+fn lock_tokens(
+    alloc: Global,
+    base: &Path,
+    pairs: &[(ByteString, ByteString)],
+) -> Result<LockTokens, PathFault>
+    ensures { AnswersPath result (lock_tokens base.now pairs.now) }
+{
+    let mut tokens = LockTokens::new(alloc);
+    for pair in pairs {
+        let path = base.join(alloc, pair.0.as_slice())?;
+        let token = pair.1.clone()?;
+        tokens.push(path, token)?;
+    }
+    Ok(tokens)
+}
+
+/// Whether each property may have its name.
+fn are_names(pairs: &[(ByteString, ByteString)]) -> bool
+    ensures { result ≡ list_all (λ pair. is_property_name pair.0) pairs.now }
+{
+    pairs.iter().all(|pair| is_property_name(pair.0.as_slice()))
+}
+
+/// Whether each revision property that is handed in may have its name.
+fn are_named(properties: &Option<Pairs>) -> bool
+    ensures { result ≡ are_named properties.now }
+{
+    match properties {
+        None => true,
+        Some(pairs) => are_names(pairs.as_slice()),
+    }
+}
+
+/// The pairs as properties.
+fn properties_of(
+    alloc: Global,
+    pairs: &[(ByteString, ByteString)],
+) -> Result<Properties, AllocError>
+    ensures { IfOk result (λ ps. ps ≡ set_all [] pairs.now) }
+{
+    let mut properties = Properties::new(alloc);
+    for pair in pairs {
+        let name = pair.0.clone()?;
+        let value = pair.1.clone()?;
+        properties.set(name, value)?;
+    }
+    Ok(properties)
+}
+
+/// The list of revision properties, if there is one.
+fn optional_properties(
+    alloc: Global,
+    pairs: &Option<Pairs>,
+) -> Result<Option<Properties>, AllocError>
+    ensures { IfOk result (λ ps. ps ≡ option_map (set_all []) pairs.now) }
+{
+    match pairs {
+        None => Ok(None),
+        Some(pairs) => Ok(Some(properties_of(alloc, pairs.as_slice())?)),
+    }
+}
+
+/// What a commit asks for, with its lock tokens read.
+fn asked(
+    alloc: Global,
+    command: &CommitCommand,
+    tokens: LockTokens,
+) -> Result<CommitParameters, AllocError>
+    ensures { IfOk result (λ asked. asked ≡ record {
+      message = command.now.message;
+      properties = option_map (set_all []) command.now.properties;
+      tokens = tokens;
+      keep_locks = command.now.keep_locks;
+    }) }
+{
+    Ok(CommitParameters {
+        message: command.message.clone()?,
+        properties: optional_properties(alloc, &command.properties)?,
+        tokens,
+        keep_locks: command.keep_locks,
+    })
+}
+
+/// What a commit asks for, with its lock tokens read, if its revision properties may have their
+/// names.
+fn asked_with(
+    alloc: Global,
+    command: &CommitCommand,
+    tokens: LockTokens,
+) -> Result<CommitParameters, EditFault>
+    ensures { MatchResult result (λ asked. asked_by command.now (Ok tokens) ≡ Ok asked)
+        (λ fault. IfEditRefused fault (λ r. asked_by command.now (Ok tokens) ≡ Err r)) }
+{
+    if !are_named(&command.properties) {
+        return Err(EditFault::Refused(Refusal::NotSupported));
+    }
+    match asked(alloc, command, tokens) {
+        Ok(asked) => Ok(asked),
+        Err(_) => Err(EditFault::NoMemory),
+    }
+}
+
+/// What a commit asks for.
+pub fn asked_by(
+    alloc: Global,
+    base: &Path,
+    command: &CommitCommand,
+) -> Result<CommitParameters, EditFault>
+    ensures { MatchResult result
+        (λ asked. asked_by command.now (lock_tokens base.now command.now.tokens) ≡ Ok asked)
+        (λ fault. IfEditRefused fault
+        (λ r. asked_by command.now (lock_tokens base.now command.now.tokens) ≡ Err r)) }
+{
+    match lock_tokens(alloc, base, command.tokens.as_slice()) {
+        Ok(tokens) => asked_with(alloc, command, tokens),
+        Err(PathFault::NoMemory) => Err(EditFault::NoMemory),
+        Err(fault) => Err(EditFault::Refused(path_refusal(fault))),
+    }
+}

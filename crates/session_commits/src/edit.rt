@@ -1,0 +1,502 @@
+//! A commit: its beginning, its commands and its end.
+ghost use Rattle.std.specs.Prelude.{◌≡◌, ◌≤◌, ◌∷◌, [], Ok, Err, Some, None, IfOk, OnOk, OnErr, IfErr, IsSomeAnd, MatchOption, if◌then◌else◌};
+ghost use Rattle.items.specs.View.{value_of};
+ghost use Rattle.dates.specs.Dates.{IsDateText};
+ghost use Rattle.dates.specs.declared.TheConstants.{LAST_MOMENT};
+ghost use Rattle.repo_api.specs.States.{IsBeginning, tree_of};
+ghost use Rattle.repo_api.specs.Transactions.{IsMarkedTxn};
+ghost use Rattle.repo_api.specs.Trees.{IsTree};
+ghost use Rattle.wire_edits.specs.Editing.{editor_command, ends_edit};
+ghost use Rattle.edit_rules.specs.Editor.{IfEditRefused, Applies, finished, RestsOn};
+ghost use Rattle.edit_rules.specs.Edits.{new_edit};
+ghost use Rattle.edit_rules.specs.Soundness.{IsSoundEdit};
+ghost use Rattle.edit_rules.specs.Refusing.{edit_refusal};
+ghost use Rattle.wire_replies.specs.Replies.{print};
+ghost use Rattle.wire_replies.specs.Sinks.{WritesPart};
+ghost use Rattle.access.specs.Points.{content_of};
+ghost use Rattle.machine.specs.Answers.{says};
+ghost use Rattle.machine.specs.Commands.{lock_tokens, asked_by, commit_begins};
+ghost use Rattle.machine.specs.Machine.{commit_ask, skipping_answer, CloseStep, UnreleasedClose, EditStep, EditingStep, UnreleasedEnd};
+ghost use Rattle.machine.specs.Steps.{AnswerWritten, StepWritten, StepOrNothing, StepOrPart};
+ghost use Rattle.session_commits.specs.Telling.{tells_made, commit_answer};
+
+use crate::asking::asked_by;
+use crate::giving_up::give_up;
+use access::{Committed, Released, RepoAccess};
+use byte_string::ByteString;
+use commands::CommitCommand;
+use edit_rules::EditFault;
+use editor::CommitEditor;
+use items::Item;
+use machine::{Client, CommitParameters, Ending, OpenEdit, Options, Phase, Turn, ending_of};
+use refusals::Refusal;
+use repo_api::{CommitAsk, Repository};
+use session_replies::{
+    Preface, SessionEdit, SessionPhase, date_of, end_malformed, refuse, say_both, tell_fault,
+};
+use std::alloc::{AllocError, Global};
+use std::mem::drop;
+use svnpath::Path;
+use wire_edits::{EditorCommand, ends_edit};
+use wire_forms::CommandFault;
+use wire_replies::{Reply, ReplySink};
+
+/// Tells a client that its edit may begin.
+fn tell_begun<S: ReplySink>(out: &mut S) -> Result<(), AllocError>
+    ensures ok { OnOk result (S.writes out.old out.new (print (Reply.Success ∷ []))) }
+    ensures err { OnErr result (WritesPart (S.writes out.old out.new)
+        (print (Reply.Success ∷ []))) }
+{
+    out.say(&Reply::Success)
+}
+
+/// An edit that nothing has been made of.
+fn new_editor<R: Repository>(
+    alloc: Global,
+    options: &Options,
+    path: &Path,
+) -> Result<CommitEditor<R>, AllocError>
+    ensures { IfOk result (λ editor. editor ≡ new_edit path.now options.now.name) }
+{
+    let name = String::from_str(alloc, options.name())?;
+    Ok(CommitEditor::new(alloc, path.clone()?, name))
+}
+
+/// An edit is open, once its client is told that it may begin.
+fn open_edit<R: Repository, S: ReplySink>(
+    edit: SessionEdit<R>,
+    turn: &mut Turn<S>,
+) -> Result<SessionPhase<R>, AllocError>
+    ensures ok { IfOk result (λ phase. AnswerWritten
+        (says turn.old.env (Phase.Editing edit) (Reply.Success ∷ []))
+        phase turn.new.env (S.writes turn.old.out turn.new.out)) }
+    ensures err { OnErr result (WritesPart (S.writes turn.old.out turn.new.out)
+        (print (Reply.Success ∷ []))) }
+{
+    match tell_begun(&mut turn.out) {
+        Ok(()) => Ok(Phase::Editing(edit)),
+        Err(error) => {
+            drop(edit);
+            Err(error)
+        }
+    }
+}
+
+/// The beginning of an edit.
+pub fn begin_edit<R: Repository, S: ReplySink>(
+    options: &Options,
+    client: Client,
+    command: &CommitCommand,
+    turn: &mut Turn<S>,
+) -> Result<SessionPhase<R>, AllocError>
+    ensures ok { IfOk result (λ phase. AnswerWritten
+        (commit_begins options.now turn.old.env client
+        (asked_by command.now (lock_tokens client.path command.now.tokens)))
+        phase turn.new.env (S.writes turn.old.out turn.new.out)) }
+    ensures err { OnErr result (WritesPart (S.writes turn.old.out turn.new.out)
+        (print (commit_begins options.now turn.old.env client
+        (asked_by command.now (lock_tokens client.path command.now.tokens))).replies)) }
+{
+    match asked_by(turn.alloc, &client.path, command) {
+        Ok(asked) => match new_editor(turn.alloc, options, &client.path) {
+            Ok(editor) => open_edit(
+                OpenEdit {
+                    client,
+                    asked,
+                    editor,
+                },
+                turn,
+            ),
+            Err(error) => {
+                drop(client);
+                drop(asked);
+                Err(error)
+            }
+        },
+        Err(EditFault::Refused(refusal)) => refuse(client, Preface::Nothing, refusal, turn),
+        Err(EditFault::NoMemory) => {
+            drop(client);
+            Err(AllocError)
+        }
+    }
+}
+
+/// Applies a command at the repository as it is now.
+fn apply_now<R: Repository, A: RepoAccess<View = R>>(
+    editor: &mut CommitEditor<R>,
+    command: &EditorCommand,
+    access: &mut A,
+) -> Result<(), EditFault>
+    requires rests { RestsOn editor.old (content_of (A.point access.old)) }
+    requires sound { IsSoundEdit editor.old }
+    ensures ok { OnOk result (
+        (edit_refusal (content_of (A.point access.new)) editor.old command.now ≡ None)
+        × Applies (content_of (A.point access.new)) editor.old command.now editor.new) }
+    ensures err { IfErr result (λ fault. IfEditRefused fault
+        (λ r. edit_refusal (content_of (A.point access.new)) editor.old command.now ≡ Some r)) }
+    ensures later { A.rules.between (A.point access.old) (A.point access.new) }
+{
+    let view = access.look()?;
+    editor.apply(command, &view)
+}
+
+/// A command that edits. One that is refused gives the edit up.
+fn edit<R: Repository, A: RepoAccess<View = R>, S: ReplySink>(
+    edit: SessionEdit<R>,
+    command: &EditorCommand,
+    access: &mut A,
+    turn: &mut Turn<S>,
+) -> Result<SessionPhase<R>, AllocError>
+    requires rests { RestsOn edit.editor (content_of (A.point access.old)) }
+    requires sound { IsSoundEdit edit.editor }
+    ensures ok { IfOk result (λ phase. StepWritten A.rules
+        (λ at a. EditStep turn.old.env (content_of at) edit command.now a)
+        (A.point access.old) (A.point access.new)
+        phase turn.new.env (S.writes turn.old.out turn.new.out)) }
+    ensures err { OnErr result (StepOrNothing A.rules
+        (λ at a. EditStep turn.old.env (content_of at) edit command.now a)
+        (A.point access.old) (A.point access.new) (S.writes turn.old.out turn.new.out)) }
+{
+    let mut edit = edit;
+    match apply_now(&mut edit.editor, command, access) {
+        Ok(()) => Ok(Phase::Editing(edit)),
+        Err(EditFault::Refused(refusal)) => give_up(edit, refusal, turn),
+        Err(EditFault::NoMemory) => {
+            drop(edit);
+            Err(AllocError)
+        }
+    }
+}
+
+/// What a commit is asked to record.
+fn commit_ask(
+    alloc: Global,
+    client: &Client,
+    asked: CommitParameters,
+    date: &ByteString,
+) -> Result<CommitAsk, AllocError>
+    ensures { IfOk result (λ ask. ask ≡ commit_ask client.now asked date.now) }
+{
+    let CommitParameters {
+        message,
+        properties,
+        tokens,
+        keep_locks,
+    } = asked;
+    Ok(CommitAsk {
+        date: date.clone()?,
+        author: client.user.clone()?,
+        message,
+        properties,
+        tokens,
+        keep_locks,
+    })
+}
+
+/// What a client is told of its commit, beside the revision's number.
+#[derive(Drop)]
+struct Told {
+    date: ByteString,
+    author: Option<ByteString>,
+}
+
+/// What a client is told of a commit of this moment.
+fn told_of(alloc: Global, moment: u64, user: &Option<ByteString>) -> Result<Told, AllocError>
+    requires { moment ≤ LAST_MOMENT }
+    ensures date { IfOk result (λ told. IsDateText moment told.date) }
+    ensures author { IfOk result (λ told. told.author ≡ user.now) }
+{
+    let date = date_of(alloc, moment)?;
+    let author = user.clone()?;
+    Ok(Told { date, author })
+}
+
+/// Writes that a commit is made, and then what is told of it.
+fn say_made<S: ReplySink>(info: &Reply, out: &mut S) -> Result<(), AllocError>
+    ensures ok { OnOk result (S.writes out.old out.new
+        (print (Reply.Success ∷ Reply.NoLogin ∷ info.now ∷ []))) }
+    ensures err { OnErr result (WritesPart (S.writes out.old out.new)
+        (print (Reply.Success ∷ Reply.NoLogin ∷ info.now ∷ []))) }
+{
+    say_both(&Reply::Success, &Reply::NoLogin, out)?;
+    out.say(info)
+}
+
+/// Tells of a commit.
+fn report<S: ReplySink>(
+    revision: u64,
+    date: ByteString,
+    author: Option<ByteString>,
+    fails: bool,
+    out: &mut S,
+) -> Result<(), AllocError>
+    ensures ok { OnOk result (S.writes out.old out.new (print (Reply.Success ∷ Reply.NoLogin
+        ∷ Reply.CommitInfo revision date author fails ∷ []))) }
+    ensures err { OnErr result (WritesPart (S.writes out.old out.new)
+        (print (Reply.Success ∷ Reply.NoLogin
+        ∷ Reply.CommitInfo revision date author fails ∷ []))) }
+{
+    let info = Reply::CommitInfo(revision, date, author, fails);
+    let said = say_made(&info, out);
+    drop(info);
+    said
+}
+
+/// Where a session stands after a commit: at its end, where changes have come to a halt.
+fn phase_after<R: Repository>(client: Client, is_over: bool) -> SessionPhase<R>
+    ensures { result ≡ (if is_over then Phase.Ended else Phase.Serving client) }
+{
+    if is_over {
+        drop(client);
+        Phase::Ended
+    } else {
+        Phase::Serving(client)
+    }
+}
+
+/// Tells of a commit, and whether the store failed at its release. Commands are awaited again, unless it did.
+fn tell_made<R: Repository, S: ReplySink>(
+    client: Client,
+    revision: u64,
+    fails: bool,
+    told: Told,
+    turn: &mut Turn<S>,
+) -> Result<SessionPhase<R>, AllocError>
+    ensures ok { IfOk result (λ phase. AnswerWritten
+        (tells_made turn.old.env client revision told.date told.author fails)
+        phase turn.new.env (S.writes turn.old.out turn.new.out)) }
+    ensures err { OnErr result (WritesPart (S.writes turn.old.out turn.new.out)
+        (print (tells_made turn.old.env client revision told.date told.author fails).replies)) }
+{
+    let Told { date, author } = told;
+    match report(revision, date, author, fails, &mut turn.out) {
+        Ok(()) => Ok(phase_after(client, fails)),
+        Err(error) => {
+            drop(client);
+            Err(error)
+        }
+    }
+}
+
+/// Tells of a commit. Where memory was refused for its release there is no answer, and nothing is written.
+fn tell_commit<R: Repository, S: ReplySink>(
+    client: Client,
+    made: Committed,
+    told: Told,
+    turn: &mut Turn<S>,
+) -> Result<SessionPhase<R>, AllocError>
+    ensures ok { IfOk result (λ phase. IsSomeAnd
+        (commit_answer turn.old.env client told.date told.author made.revision made.released)
+        (λ answer. AnswerWritten answer
+        phase turn.new.env (S.writes turn.old.out turn.new.out))) }
+    ensures err { OnErr result (MatchOption
+        (commit_answer turn.old.env client told.date told.author made.revision made.released)
+        (S.writes turn.old.out turn.new.out [])
+        (λ answer. WritesPart (S.writes turn.old.out turn.new.out) (print answer.replies))) }
+{
+    match made.released {
+        Released::Settled => tell_made(client, made.revision, false, told, turn),
+        Released::StoreFailed => tell_made(client, made.revision, true, told, turn),
+        Released::NoMemory => {
+            drop(client);
+            drop(told);
+            Err(AllocError)
+        }
+    }
+}
+
+/// Commits a transaction.
+fn commit<R: Repository, A: RepoAccess<View = R>, S: ReplySink>(
+    client: Client,
+    asked: CommitParameters,
+    txn: R::Txn,
+    access: &mut A,
+    turn: &mut Turn<S>,
+) -> Result<SessionPhase<R>, AllocError>
+    requires rests { IsBeginning (R.txn_state txn).shown
+        (content_of (A.point access.old)).revisions }
+    requires tree { IsTree (tree_of (R.txn_state txn).tree) }
+    requires marked { IsMarkedTxn (R.txn_state txn) }
+    ensures ok { IfOk result (λ phase. StepWritten A.rules
+        (λ at a. CloseStep at.halted turn.old.env (content_of at)
+        client asked (Ok (R.txn_state txn)) a)
+        (A.point access.old) (A.point access.new)
+        phase turn.new.env (S.writes turn.old.out turn.new.out)) }
+    ensures err { OnErr result (StepOrPart A.rules
+        (λ at a. CloseStep at.halted turn.old.env (content_of at)
+        client asked (Ok (R.txn_state txn)) a)
+        (λ at a. UnreleasedClose at.halted turn.old.env (content_of at)
+        client asked (Ok (R.txn_state txn)) a)
+        (A.point access.old) (A.point access.new) (S.writes turn.old.out turn.new.out)) }
+{
+    match told_of(turn.alloc, turn.env.moment, &client.user) {
+        Ok(told) => match commit_ask(turn.alloc, &client, asked, &told.date) {
+            Ok(ask) => match access.commit(ask, txn) {
+                Ok(made) => tell_commit(client, made, told, turn),
+                Err(fault) => {
+                    drop(told);
+                    tell_fault(client, Preface::Nothing, fault, turn)
+                }
+            },
+            Err(error) => {
+                drop(client);
+                drop(told);
+                drop(txn);
+                Err(error)
+            }
+        },
+        Err(error) => {
+            drop(client);
+            drop(asked);
+            drop(txn);
+            Err(error)
+        }
+    }
+}
+
+/// The end of an edit: its transaction is committed, if it has one.
+fn close<R: Repository, A: RepoAccess<View = R>, S: ReplySink>(
+    edit: SessionEdit<R>,
+    access: &mut A,
+    turn: &mut Turn<S>,
+) -> Result<SessionPhase<R>, AllocError>
+    requires rests { RestsOn edit.editor (content_of (A.point access.old)) }
+    requires sound { IsSoundEdit edit.editor }
+    ensures ok { IfOk result (λ phase. StepWritten A.rules
+        (λ at a. CloseStep at.halted turn.old.env (content_of at)
+        edit.client edit.asked (finished edit.editor) a)
+        (A.point access.old) (A.point access.new)
+        phase turn.new.env (S.writes turn.old.out turn.new.out)) }
+    ensures err { OnErr result (StepOrPart A.rules
+        (λ at a. CloseStep at.halted turn.old.env (content_of at)
+        edit.client edit.asked (finished edit.editor) a)
+        (λ at a. UnreleasedClose at.halted turn.old.env (content_of at)
+        edit.client edit.asked (finished edit.editor) a)
+        (A.point access.old) (A.point access.new) (S.writes turn.old.out turn.new.out)) }
+{
+    let OpenEdit {
+        client,
+        asked,
+        editor,
+    } = edit;
+    match editor.finish() {
+        Ok(txn) => commit(client, asked, txn, access, turn),
+        Err(refusal) => {
+            drop(asked);
+            refuse(client, Preface::Nothing, refusal, turn)
+        }
+    }
+}
+
+/// An edit that its client gives up.
+fn abort<R: Repository, S: ReplySink>(
+    edit: SessionEdit<R>,
+    turn: &mut Turn<S>,
+) -> Result<SessionPhase<R>, AllocError>
+    ensures ok { IfOk result (λ phase. AnswerWritten
+        (says turn.old.env (Phase.Serving edit.client) (Reply.Success ∷ []))
+        phase turn.new.env (S.writes turn.old.out turn.new.out)) }
+    ensures err { OnErr result (WritesPart (S.writes turn.old.out turn.new.out)
+        (print (Reply.Success ∷ []))) }
+{
+    let OpenEdit {
+        client,
+        asked,
+        editor,
+    } = edit;
+    drop(asked);
+    drop(editor);
+    match turn.out.say(&Reply::Success) {
+        Ok(()) => Ok(Phase::Serving(client)),
+        Err(error) => {
+            drop(client);
+            Err(error)
+        }
+    }
+}
+
+/// A command of an edit.
+fn obey<R: Repository, A: RepoAccess<View = R>, S: ReplySink>(
+    edit: SessionEdit<R>,
+    command: &EditorCommand,
+    access: &mut A,
+    turn: &mut Turn<S>,
+) -> Result<SessionPhase<R>, AllocError>
+    requires rests { RestsOn edit.editor (content_of (A.point access.old)) }
+    requires sound { IsSoundEdit edit.editor }
+    ensures ok { IfOk result (λ phase. StepWritten A.rules
+        (λ at a. EditingStep at.halted turn.old.env (content_of at) edit (Ok command.now) a)
+        (A.point access.old) (A.point access.new)
+        phase turn.new.env (S.writes turn.old.out turn.new.out)) }
+    ensures err { OnErr result (StepOrPart A.rules
+        (λ at a. EditingStep at.halted turn.old.env (content_of at) edit (Ok command.now) a)
+        (λ at a. UnreleasedEnd at.halted turn.old.env (content_of at) edit (Ok command.now) a)
+        (A.point access.old) (A.point access.new) (S.writes turn.old.out turn.new.out)) }
+{
+    match ending_of(command) {
+        Some(Ending::Commits) => close(edit, access, turn),
+        Some(Ending::GivesUp) => abort(edit, turn),
+        None => self::edit(edit, command, access, turn),
+    }
+}
+
+/// An item within an edit.
+pub fn edit_item<R: Repository, A: RepoAccess<View = R>, S: ReplySink>(
+    edit: SessionEdit<R>,
+    item: &Item,
+    access: &mut A,
+    turn: &mut Turn<S>,
+) -> Result<SessionPhase<R>, AllocError>
+    requires rests { RestsOn edit.editor (content_of (A.point access.old)) }
+    requires sound { IsSoundEdit edit.editor }
+    ensures ok { IfOk result (λ phase. StepWritten A.rules
+        (λ at a. EditingStep at.halted turn.old.env (content_of at)
+        edit (editor_command (value_of item.now)) a)
+        (A.point access.old) (A.point access.new)
+        phase turn.new.env (S.writes turn.old.out turn.new.out)) }
+    ensures err { OnErr result (StepOrPart A.rules
+        (λ at a. EditingStep at.halted turn.old.env (content_of at)
+        edit (editor_command (value_of item.now)) a)
+        (λ at a. UnreleasedEnd at.halted turn.old.env (content_of at)
+        edit (editor_command (value_of item.now)) a)
+        (A.point access.old) (A.point access.new) (S.writes turn.old.out turn.new.out)) }
+{
+    match EditorCommand::from_item(item) {
+        Ok(command) => {
+            let phase = obey(edit, &command, access, turn);
+            drop(command);
+            phase
+        }
+        Err(CommandFault::UnknownName) => give_up(edit, Refusal::UnknownCommand, turn),
+        Err(CommandFault::BadParameters) => {
+            drop(edit);
+            end_malformed(turn)
+        }
+        Err(CommandFault::NoMemory) => {
+            drop(edit);
+            Err(AllocError)
+        }
+    }
+}
+
+/// An item of an edit that was given up.
+pub fn skip<R: Repository, S: ReplySink>(
+    client: Client,
+    item: &Item,
+    turn: &mut Turn<S>,
+) -> Result<SessionPhase<R>, AllocError>
+    ensures ok { IfOk result (λ phase. AnswerWritten
+        (skipping_answer turn.old.env client (ends_edit (value_of item.now)))
+        phase turn.new.env (S.writes turn.old.out turn.new.out)) }
+    ensures err { OnErr result (WritesPart (S.writes turn.old.out turn.new.out)
+        (print (skipping_answer turn.old.env client (ends_edit (value_of item.now))).replies)) }
+{
+    match ends_edit(item) {
+        Some(true) => Ok(Phase::Serving(client)),
+        Some(false) => Ok(Phase::Skipping(client)),
+        None => {
+            drop(client);
+            end_malformed(turn)
+        }
+    }
+}

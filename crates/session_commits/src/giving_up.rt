@@ -1,0 +1,49 @@
+//! An edit that is given up.
+ghost use Rattle.std.specs.Prelude.{◌≡◌, ◌∷◌, [], IfOk, OnErr};
+ghost use Rattle.wire_replies.specs.Replies.{print};
+ghost use Rattle.wire_replies.specs.Sinks.{WritesPart};
+ghost use Rattle.machine.specs.Machine.{gives_up};
+ghost use Rattle.machine.specs.Steps.{AnswerWritten};
+ghost use Rattle.machine.specs.declared.phase.Phase.TheVariants.{Skipping};
+
+use machine::{OpenEdit, Phase, Turn};
+use refusals::Refusal;
+use repo_api::Repository;
+use session_replies::{SessionEdit, SessionPhase, tell_refusal};
+use std::alloc::AllocError;
+use std::mem::drop;
+use wire_replies::{Reply, ReplySink};
+
+/// Gives an edit up, and tells why: its end is awaited.
+pub fn give_up<R: Repository, S: ReplySink>(
+    edit: SessionEdit<R>,
+    refusal: Refusal,
+    turn: &mut Turn<S>,
+) -> Result<SessionPhase<R>, AllocError>
+    ensures ok { IfOk result (λ phase. AnswerWritten (gives_up turn.old.env edit.client refusal)
+        phase turn.new.env (S.writes turn.old.out turn.new.out)) }
+    ensures err { OnErr result (WritesPart (S.writes turn.old.out turn.new.out)
+        (print (Reply.Failure refusal ∷ []))) }
+{
+    match tell_refusal(refusal, &mut turn.out) {
+        Ok(()) => Ok(skipping(edit)),
+        Err(error) => {
+            drop(edit);
+            Err(error)
+        }
+    }
+}
+
+/// Where a session stands whose edit was given up.
+fn skipping<R: Repository>(edit: SessionEdit<R>) -> SessionPhase<R>
+    ensures { result ≡ Skipping edit.client }
+{
+    let OpenEdit {
+        client,
+        asked,
+        editor,
+    } = edit;
+    drop(asked);
+    drop(editor);
+    Phase::Skipping(client)
+}

@@ -1,0 +1,125 @@
+//! What a lock and an unlock ask for.
+ghost use Rattle.std.specs.Prelude.{◌≡◌, ◌≤◌, ◌⊎◌, Ok, Err, IfOk, MatchResult};
+ghost use Rattle.dates.specs.Dates.{IsDateText};
+ghost use Rattle.dates.specs.declared.TheConstants.{LAST_MOMENT};
+ghost use Rattle.svnpath.specs.Texts.{joined};
+ghost use Rattle.svnpath.specs.declared.fault.PathFault.TheVariants.{NoMemory};
+ghost use Rattle.repo_api.specs.Locking.{owner_of, lock_of};
+ghost use Rattle.machine.specs.Commands.{lock_ask, unlock_ask};
+
+use crate::token::token_of;
+use byte_string::ByteString;
+use commands::{LockCommand, UnlockCommand};
+use machine::{Client, Env};
+use repo_api::{Lock, LockAsk, UnlockAsk};
+use session_replies::date_of;
+use std::alloc::{AllocError, Global};
+use svnpath::{Path, PathFault};
+
+/// What is asked of a path by a lock of this moment.
+fn lock_ask(
+    alloc: Global,
+    env: Env,
+    client: &Client,
+    command: &LockCommand,
+    path: Path,
+) -> Result<LockAsk, AllocError>
+    ensures date { IfOk result (λ ask. IsDateText env.moment ask.date) }
+    ensures ask { IfOk result (λ ask.
+        ask ≡ lock_ask env client.now command.now path ask.date) }
+{
+    Ok(LockAsk {
+        user: client.user.clone()?,
+        comment: command.comment.clone()?,
+        steals: command.steals,
+        current: command.current,
+        token: token_of(alloc, env.token)?,
+        date: date_of(alloc, env.moment)?,
+        path,
+    })
+}
+
+/// What a lock asks for.
+pub(crate) fn lock_asked_for(
+    alloc: Global,
+    env: Env,
+    client: &Client,
+    command: &LockCommand,
+) -> Result<LockAsk, PathFault>
+    ensures path { MatchResult result
+        (λ ask. joined client.now.path command.now.path ≡ Ok ask.path)
+        (λ fault. (joined client.now.path command.now.path ≡ Err fault) ⊎ (fault ≡ NoMemory)) }
+    ensures date { IfOk result (λ ask. IsDateText env.moment ask.date) }
+    ensures ask { IfOk result (λ ask.
+        ask ≡ lock_ask env client.now command.now ask.path ask.date) }
+{
+    let path = client.path.join(alloc, command.path.as_slice())?;
+    Ok(lock_ask(alloc, env, client, command, path)?)
+}
+
+/// What an unlock asks of a path.
+fn unlock_ask(client: &Client, command: &UnlockCommand, path: Path) -> Result<UnlockAsk, AllocError>
+    ensures { IfOk result (λ ask. ask ≡ unlock_ask client.now command.now path) }
+{
+    Ok(UnlockAsk {
+        user: client.user.clone()?,
+        token: command.token.clone()?,
+        breaks: command.breaks,
+        path,
+    })
+}
+
+/// What an unlock asks for.
+pub(crate) fn unlock_asked_for(
+    alloc: Global,
+    client: &Client,
+    command: &UnlockCommand,
+) -> Result<UnlockAsk, PathFault>
+    ensures path { MatchResult result
+        (λ ask. joined client.now.path command.now.path ≡ Ok ask.path)
+        (λ fault. (joined client.now.path command.now.path ≡ Err fault) ⊎ (fault ≡ NoMemory)) }
+    ensures ask { IfOk result (λ ask. ask ≡ unlock_ask client.now command.now ask.path) }
+{
+    let path = client.path.join(alloc, command.path.as_slice())?;
+    Ok(unlock_ask(client, command, path)?)
+}
+
+/// A lock, and where it stands.
+#[derive(Drop)]
+pub(crate) struct MadeLock {
+    pub(crate) path: Path,
+    pub(crate) lock: Lock,
+}
+
+/// The owner of a lock of this user's.
+fn owner_of(alloc: Global, user: &Option<ByteString>) -> Result<ByteString, AllocError>
+    ensures { IfOk result (λ owner. owner ≡ owner_of user.now) }
+{
+    match user {
+        None => Ok(ByteString::new(Vec::new(alloc))),
+        Some(user) => user.clone(),
+    }
+}
+
+/// The lock that is asked for.
+fn lock_of(alloc: Global, ask: &LockAsk) -> Result<Lock, AllocError>
+    ensures { IfOk result (λ lock. lock ≡ lock_of ask.now) }
+{
+    Ok(Lock {
+        token: ask.token.clone()?,
+        owner: owner_of(alloc, &ask.user)?,
+        comment: ask.comment.clone()?,
+        created: ask.date.clone()?,
+    })
+}
+
+/// The lock that is asked for, and where it is to stand.
+pub(crate) fn made_lock(alloc: Global, ask: &LockAsk) -> Result<MadeLock, AllocError>
+    ensures { IfOk result (λ made.
+        made ≡ record { path = ask.now.path; lock = lock_of ask.now }) }
+{
+    Ok(MadeLock {
+        path: ask.path.clone()?,
+        lock: lock_of(alloc, ask)?,
+    })
+}

@@ -1,0 +1,105 @@
+//! The answer to the greeting.
+ghost use Rattle.std.specs.Prelude.{◌≡◌, ◌∷◌, [], Ok, None, IfOk, OnErr};
+ghost use Rattle.items.specs.View.{value_of};
+ghost use Rattle.commands.specs.Logins.{client_greeting};
+ghost use Rattle.wire_replies.specs.declared.reply.Reply.{Reply};
+ghost use Rattle.wire_replies.specs.Replies.{print};
+ghost use Rattle.wire_replies.specs.Sinks.{WritesPart};
+ghost use Rattle.machine.specs.Answers.{says};
+ghost use Rattle.machine.specs.Logins.{greeting_answer, speaks};
+ghost use Rattle.machine.specs.Steps.{AnswerWritten};
+ghost use Rattle.machine.specs.declared.phase.Phase.TheVariants.{Ended};
+
+use byte_string::ByteString;
+use commands::ClientGreeting;
+use items::Item;
+use machine::{Client, OpenLogin, Options, Phase, Turn};
+use refusals::{Refusal, path_refusal};
+use repo_api::Repository;
+use session_commands::ask_for_login;
+use session_replies::{SessionPhase, end_malformed, say_new};
+use std::alloc::AllocError;
+use svnpath::{Path, PathFault, RepositoryUrl};
+use wire_forms::CommandFault;
+use wire_replies::{Reply, ReplySink};
+
+/// Whether a client speaks this protocol.
+fn speaks(greeting: &ClientGreeting) -> bool
+    ensures { result ≡ speaks greeting.now }
+{
+    greeting.version == 2 && greeting.edit_pipeline
+}
+
+/// The login of a client at this path of the repository, for which nothing waits.
+fn new_login(path: Path, root: ByteString) -> OpenLogin
+    ensures { result ≡ record {
+      client = record { path = path; root = root; user = None };
+      waiting = None;
+    } }
+{
+    OpenLogin {
+        client: Client {
+            path,
+            root,
+            user: None,
+        },
+        waiting: None,
+    }
+}
+
+/// Ends the session, and tells why.
+fn end_refused<R: Repository, S: ReplySink>(
+    refusal: Refusal,
+    turn: &mut Turn<S>,
+) -> Result<SessionPhase<R>, AllocError>
+    ensures ok { IfOk result (λ phase. AnswerWritten
+        (says turn.old.env Ended (Reply.Failure refusal ∷ []))
+        phase turn.new.env (S.writes turn.old.out turn.new.out)) }
+    ensures err { OnErr result (WritesPart (S.writes turn.old.out turn.new.out)
+        (print (Reply.Failure refusal ∷ []))) }
+{
+    say_new(Reply::Failure(refusal), &mut turn.out)?;
+    Ok(Phase::Ended)
+}
+
+/// Asks a client for its login, if it speaks this protocol and names this repository.
+fn answer_greeting<R: Repository, S: ReplySink>(
+    options: &Options,
+    greeting: &ClientGreeting,
+    turn: &mut Turn<S>,
+) -> Result<SessionPhase<R>, AllocError>
+    ensures ok { IfOk result (λ phase. AnswerWritten
+        (greeting_answer options.now turn.old.env (Ok greeting.now))
+        phase turn.new.env (S.writes turn.old.out turn.new.out)) }
+    ensures err { OnErr result (WritesPart (S.writes turn.old.out turn.new.out)
+        (print (greeting_answer options.now turn.old.env (Ok greeting.now)).replies)) }
+{
+    if !speaks(greeting) {
+        return Ok(Phase::Ended);
+    }
+    match RepositoryUrl::read(turn.alloc, greeting.url.as_slice(), options.name()) {
+        Ok(RepositoryUrl { root, path }) => ask_for_login(options, new_login(path, root), turn),
+        Err(PathFault::NoMemory) => Err(AllocError),
+        Err(fault) => end_refused(path_refusal(fault), turn),
+    }
+}
+
+/// The answer to the greeting.
+pub fn greet<R: Repository, S: ReplySink>(
+    options: &Options,
+    item: &Item,
+    turn: &mut Turn<S>,
+) -> Result<SessionPhase<R>, AllocError>
+    ensures ok { IfOk result (λ phase. AnswerWritten
+        (greeting_answer options.now turn.old.env (client_greeting (value_of item.now)))
+        phase turn.new.env (S.writes turn.old.out turn.new.out)) }
+    ensures err { OnErr result (WritesPart (S.writes turn.old.out turn.new.out)
+        (print (greeting_answer options.now turn.old.env
+        (client_greeting (value_of item.now))).replies)) }
+{
+    match ClientGreeting::from_item(item) {
+        Ok(greeting) => answer_greeting(options, &greeting, turn),
+        Err(CommandFault::NoMemory) => Err(AllocError),
+        Err(_) => end_malformed(turn),
+    }
+}

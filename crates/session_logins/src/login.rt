@@ -1,0 +1,190 @@
+//! The login.
+ghost use Rattle.std.specs.Prelude.{◌≡◌, Ok, Some, IfOk, OnErr};
+ghost use Rattle.items.specs.View.{value_of};
+ghost use Rattle.commands.specs.Logins.{auth_response, challenge_answer};
+ghost use Rattle.wire_replies.specs.Replies.{print};
+ghost use Rattle.wire_replies.specs.Sinks.{WritesPart};
+ghost use Rattle.access.specs.Points.{content_of};
+ghost use Rattle.machine.specs.Answers.{malformed};
+ghost use Rattle.machine.specs.Logins.{with_user, LoginStep, OutcomeStep, ChallengeStep};
+ghost use Rattle.machine.specs.Steps.{AnswerWritten, StepWritten, StepOrNothing};
+
+use crate::challenging::{challenge, user_of};
+use crate::welcoming::log_client_in;
+use access::RepoAccess;
+use byte_string::ByteString;
+use commands::{AuthResponse, challenge_answer};
+use items::Item;
+use machine::{Client, Mechanism, OpenChallenge, OpenLogin, Options, Turn, chosen, offer};
+use repo_api::Repository;
+use session_commands::await_choice;
+use session_replies::{SessionPhase, end_malformed};
+use std::alloc::AllocError;
+use std::mem::drop;
+use wire_forms::CommandFault;
+use wire_replies::{Reply, ReplySink};
+
+/// A mechanism that was chosen.
+fn choose<R: Repository, A: RepoAccess<View = R>, S: ReplySink>(
+    options: &Options,
+    login: OpenLogin,
+    response: &AuthResponse,
+    access: &mut A,
+    turn: &mut Turn<S>,
+) -> Result<SessionPhase<R>, AllocError>
+    ensures ok { IfOk result (λ phase. StepWritten A.rules
+        (λ at a. LoginStep at.halted options.now turn.old.env (content_of at) login
+        (Ok response.now) a)
+        (A.point access.old) (A.point access.new)
+        phase turn.new.env (S.writes turn.old.out turn.new.out)) }
+    ensures err { OnErr result (StepOrNothing A.rules
+        (λ at a. LoginStep at.halted options.now turn.old.env (content_of at) login
+        (Ok response.now) a)
+        (A.point access.old) (A.point access.new) (S.writes turn.old.out turn.new.out)) }
+{
+    let offered = offer(options, &login.waiting);
+    match chosen(offered, response.mechanism.as_slice()) {
+        Some(Mechanism::Anonymous) => log_client_in(options, login, access, turn),
+        Some(Mechanism::CramMd5) => challenge(options, login, turn),
+        None => await_choice(login, &Reply::MechanismNotOffered, turn),
+    }
+}
+
+/// Ends the session of a login over what chooses no mechanism.
+fn end_login<R: Repository, S: ReplySink>(
+    login: OpenLogin,
+    turn: &mut Turn<S>,
+) -> Result<SessionPhase<R>, AllocError>
+    ensures ok { IfOk result (λ phase. AnswerWritten (malformed turn.old.env)
+        phase turn.new.env (S.writes turn.old.out turn.new.out)) }
+    ensures err { OnErr result (WritesPart (S.writes turn.old.out turn.new.out)
+        (print (malformed turn.old.env).replies)) }
+{
+    drop(login);
+    end_malformed(turn)
+}
+
+/// The choice of a mechanism.
+pub fn log_in<R: Repository, A: RepoAccess<View = R>, S: ReplySink>(
+    options: &Options,
+    login: OpenLogin,
+    item: &Item,
+    access: &mut A,
+    turn: &mut Turn<S>,
+) -> Result<SessionPhase<R>, AllocError>
+    ensures ok { IfOk result (λ phase. StepWritten A.rules
+        (λ at a. LoginStep at.halted options.now turn.old.env (content_of at) login
+        (auth_response (value_of item.now)) a)
+        (A.point access.old) (A.point access.new)
+        phase turn.new.env (S.writes turn.old.out turn.new.out)) }
+    ensures err { OnErr result (StepOrNothing A.rules
+        (λ at a. LoginStep at.halted options.now turn.old.env (content_of at) login
+        (auth_response (value_of item.now)) a)
+        (A.point access.old) (A.point access.new) (S.writes turn.old.out turn.new.out)) }
+{
+    match AuthResponse::from_item(turn.alloc, item) {
+        Ok(response) => choose(options, login, &response, access, turn),
+        Err(CommandFault::UnknownName) => end_login(login, turn),
+        Err(CommandFault::BadParameters) => end_login(login, turn),
+        Err(CommandFault::NoMemory) => {
+            drop(login);
+            Err(AllocError)
+        }
+    }
+}
+
+/// The same login, of this user.
+fn of_user(login: OpenLogin, name: ByteString) -> OpenLogin
+    ensures { result ≡ record login { client = with_user login.client name } }
+{
+    let OpenLogin { client, waiting } = login;
+    let Client { path, root, user } = client;
+    drop(user);
+    OpenLogin {
+        client: Client {
+            path,
+            root,
+            user: Some(name),
+        },
+        waiting,
+    }
+}
+
+/// The outcome of a challenge: the answer was this user's, or nobody's.
+fn conclude<R: Repository, A: RepoAccess<View = R>, S: ReplySink>(
+    options: &Options,
+    login: OpenLogin,
+    user: Option<ByteString>,
+    access: &mut A,
+    turn: &mut Turn<S>,
+) -> Result<SessionPhase<R>, AllocError>
+    ensures ok { IfOk result (λ phase. StepWritten A.rules
+        (λ at a. OutcomeStep at.halted options.now turn.old.env (content_of at) login user a)
+        (A.point access.old) (A.point access.new)
+        phase turn.new.env (S.writes turn.old.out turn.new.out)) }
+    ensures err { OnErr result (StepOrNothing A.rules
+        (λ at a. OutcomeStep at.halted options.now turn.old.env (content_of at) login user a)
+        (A.point access.old) (A.point access.new) (S.writes turn.old.out turn.new.out)) }
+{
+    match user {
+        Some(name) => log_client_in(options, of_user(login, name), access, turn),
+        None => await_choice(login, &Reply::LoginFailed, turn),
+    }
+}
+
+/// The answer to a challenge.
+fn judge<R: Repository, A: RepoAccess<View = R>, S: ReplySink>(
+    options: &Options,
+    pending: OpenChallenge,
+    answer: &[u8],
+    access: &mut A,
+    turn: &mut Turn<S>,
+) -> Result<SessionPhase<R>, AllocError>
+    ensures ok { IfOk result (λ phase. StepWritten A.rules
+        (λ at a. ChallengeStep at.halted options.now turn.old.env (content_of at) pending
+        (Some answer.now) a)
+        (A.point access.old) (A.point access.new)
+        phase turn.new.env (S.writes turn.old.out turn.new.out)) }
+    ensures err { OnErr result (StepOrNothing A.rules
+        (λ at a. ChallengeStep at.halted options.now turn.old.env (content_of at) pending
+        (Some answer.now) a)
+        (A.point access.old) (A.point access.new) (S.writes turn.old.out turn.new.out)) }
+{
+    let OpenChallenge { login, challenge } = pending;
+    let user = user_of(turn.alloc, options, &challenge, answer);
+    drop(challenge);
+    match user {
+        Ok(user) => conclude(options, login, user, access, turn),
+        Err(error) => {
+            drop(login);
+            Err(error)
+        }
+    }
+}
+
+/// An item that is to be the answer to a challenge.
+pub fn answer_challenge<R: Repository, A: RepoAccess<View = R>, S: ReplySink>(
+    options: &Options,
+    pending: OpenChallenge,
+    item: &Item,
+    access: &mut A,
+    turn: &mut Turn<S>,
+) -> Result<SessionPhase<R>, AllocError>
+    ensures ok { IfOk result (λ phase. StepWritten A.rules
+        (λ at a. ChallengeStep at.halted options.now turn.old.env (content_of at) pending
+        (challenge_answer (value_of item.now)) a)
+        (A.point access.old) (A.point access.new)
+        phase turn.new.env (S.writes turn.old.out turn.new.out)) }
+    ensures err { OnErr result (StepOrNothing A.rules
+        (λ at a. ChallengeStep at.halted options.now turn.old.env (content_of at) pending
+        (challenge_answer (value_of item.now)) a)
+        (A.point access.old) (A.point access.new) (S.writes turn.old.out turn.new.out)) }
+{
+    match challenge_answer(item) {
+        Some(answer) => judge(options, pending, answer.as_slice(), access, turn),
+        None => {
+            drop(pending);
+            end_malformed(turn)
+        }
+    }
+}

@@ -1,0 +1,126 @@
+//! What a client is told once it has logged in.
+ghost use Rattle.std.specs.Prelude.{◌≡◌, ◌∷◌, [], Some, IfOk, OnOk, OnErr};
+ghost use Rattle.wire_replies.specs.declared.reply.Reply.{Reply};
+ghost use Rattle.wire_replies.specs.Replies.{print};
+ghost use Rattle.wire_replies.specs.Sinks.{WritesPart};
+ghost use Rattle.access.specs.Points.{content_of};
+ghost use Rattle.machine.specs.Answers.{says};
+ghost use Rattle.machine.specs.Logins.{LoggedIn};
+ghost use Rattle.machine.specs.Steps.{AnswerWritten, StepWritten, StepOrNothing};
+ghost use Rattle.machine.specs.declared.phase.Phase.TheVariants.{Serving};
+
+use access::RepoAccess;
+use byte_string::ByteString;
+use commands::MainCommand;
+use machine::{Client, OpenLogin, Options, Phase, Turn};
+use repo_api::Repository;
+use session_commands::{Request, own_answer};
+use session_replies::{Preface, SessionPhase, say_new_behind};
+use std::alloc::AllocError;
+use std::mem::drop;
+use wire_replies::{Reply, ReplySink};
+
+/// What a client is told of the repository that it has logged in to.
+fn repos_info<R: Repository, A: RepoAccess<View = R>>(
+    root: &ByteString,
+    access: &mut A,
+) -> Result<Reply, AllocError>
+    ensures ok { IfOk result (λ reply.
+        reply ≡ Reply.ReposInfo (content_of (A.point access.new)).uuid root.now) }
+    ensures later { A.rules.between (A.point access.old) (A.point access.new) }
+{
+    let root = root.clone()?;
+    let view = access.look()?;
+    Ok(Reply::ReposInfo(view.uuid(), root))
+}
+
+/// Tells a client that it has logged in, and of the repository.
+fn tell_welcome<R: Repository, A: RepoAccess<View = R>, S: ReplySink>(
+    root: &ByteString,
+    access: &mut A,
+    out: &mut S,
+) -> Result<(), AllocError>
+    ensures ok { OnOk result (S.writes out.old out.new (print
+        (Reply.Success ∷ Reply.ReposInfo (content_of (A.point access.new)).uuid root.now ∷ []))) }
+    ensures err { OnErr result (WritesPart (S.writes out.old out.new) (print
+        (Reply.Success ∷ Reply.ReposInfo (content_of (A.point access.new)).uuid root.now ∷ []))) }
+    ensures later { A.rules.between (A.point access.old) (A.point access.new) }
+{
+    let info = repos_info(root, access)?;
+    say_new_behind(Preface::Success, info, out)
+}
+
+/// Welcomes a client that has logged in. Its commands are awaited.
+fn welcome<R: Repository, A: RepoAccess<View = R>, S: ReplySink>(
+    client: Client,
+    access: &mut A,
+    turn: &mut Turn<S>,
+) -> Result<SessionPhase<R>, AllocError>
+    ensures ok { IfOk result (λ phase. AnswerWritten
+        (says turn.old.env (Serving client)
+        (Reply.Success ∷ Reply.ReposInfo (content_of (A.point access.new)).uuid client.root ∷ []))
+        phase turn.new.env (S.writes turn.old.out turn.new.out)) }
+    ensures err { OnErr result (WritesPart (S.writes turn.old.out turn.new.out)
+        (print (Reply.Success
+        ∷ Reply.ReposInfo (content_of (A.point access.new)).uuid client.root ∷ []))) }
+    ensures later { A.rules.between (A.point access.old) (A.point access.new) }
+{
+    match tell_welcome(&client.root, access, &mut turn.out) {
+        Ok(()) => Ok(Phase::Serving(client)),
+        Err(error) => {
+            drop(client);
+            Err(error)
+        }
+    }
+}
+
+/// The command that has waited for a login goes on.
+fn go_on<R: Repository, A: RepoAccess<View = R>, S: ReplySink>(
+    options: &Options,
+    client: Client,
+    command: MainCommand,
+    access: &mut A,
+    turn: &mut Turn<S>,
+) -> Result<SessionPhase<R>, AllocError>
+    ensures ok { IfOk result (λ phase. StepWritten A.rules
+        (λ at a. LoggedIn at.halted options.now turn.old.env (content_of at) client
+        (Some command) a)
+        (A.point access.old) (A.point access.new)
+        phase turn.new.env (S.writes turn.old.out turn.new.out)) }
+    ensures err { OnErr result (StepOrNothing A.rules
+        (λ at a. LoggedIn at.halted options.now turn.old.env (content_of at) client
+        (Some command) a)
+        (A.point access.old) (A.point access.new) (S.writes turn.old.out turn.new.out)) }
+{
+    let request = Request {
+        command: &command,
+        preface: Preface::Success,
+    };
+    let phase = own_answer(options, client, request, access, turn);
+    drop(command);
+    phase
+}
+
+/// A client has logged in: it is told of the repository, or the command that has waited goes on.
+pub fn log_client_in<R: Repository, A: RepoAccess<View = R>, S: ReplySink>(
+    options: &Options,
+    login: OpenLogin,
+    access: &mut A,
+    turn: &mut Turn<S>,
+) -> Result<SessionPhase<R>, AllocError>
+    ensures ok { IfOk result (λ phase. StepWritten A.rules
+        (λ at a. LoggedIn at.halted options.now turn.old.env (content_of at) login.client
+        login.waiting a)
+        (A.point access.old) (A.point access.new)
+        phase turn.new.env (S.writes turn.old.out turn.new.out)) }
+    ensures err { OnErr result (StepOrNothing A.rules
+        (λ at a. LoggedIn at.halted options.now turn.old.env (content_of at) login.client
+        login.waiting a)
+        (A.point access.old) (A.point access.new) (S.writes turn.old.out turn.new.out)) }
+{
+    let OpenLogin { client, waiting } = login;
+    match waiting {
+        None => welcome(client, access, turn),
+        Some(command) => go_on(options, client, command, access, turn),
+    }
+}

@@ -1,0 +1,114 @@
+//! Replies to commands that read the tree and its revisions.
+ghost use Rattle.std.specs.Prelude.{◌≡◌, ℕ, Some, IfOk, MatchOption};
+ghost use Rattle.svnpath.specs.Texts.{joined};
+ghost use Rattle.refusals.specs.declared.Refusal.TheVariants as refusals;
+ghost use Rattle.repo_api.specs.States.{youngest};
+ghost use Rattle.repo_api.specs.Kinds.{kind_at};
+ghost use Rattle.wire_replies.specs.declared.reply.Reply.{Reply};
+ghost use Rattle.wire_replies.specs.declared.reply.Reply.TheVariants as replies;
+ghost use Rattle.access.specs.Points.{content_of};
+ghost use Rattle.machine.specs.Commands.{at_revision, check_path_reply, rev_proplist_reply};
+
+use access::RepoAccess;
+use byte_string::ByteString;
+use refusals::{Refusal, path_refusal};
+use repo_api::{Properties, Repository};
+use std::alloc::{AllocError, Global};
+use svnpath::{Path, PathFault};
+use wire_replies::Reply;
+
+/// The youngest revision.
+pub fn youngest_reply<R: Repository, A: RepoAccess<View = R>>(
+    access: &mut A,
+) -> Result<Reply, AllocError>
+    ensures ok { IfOk result (λ reply.
+        reply ≡ replies.Revision (youngest (content_of (A.point access.new)))) }
+    ensures later { A.rules.between (A.point access.old) (A.point access.new) }
+{
+    Ok(Reply::Revision(access.look()?.youngest()))
+}
+
+/// What stands at a path.
+pub fn kind_reply<R: Repository, A: RepoAccess<View = R>>(
+    alloc: Global,
+    base: &Path,
+    path: &ByteString,
+    revision: Option<u64>,
+    access: &mut A,
+) -> Result<Reply, AllocError>
+    ensures ok { IfOk result (λ reply. reply ≡
+        check_path_reply (content_of (A.point access.new)) revision (joined base.now path.now)) }
+    ensures later { A.rules.between (A.point access.old) (A.point access.new) }
+{
+    let view = access.look()?;
+    check_path(alloc, &view, base, path, revision)
+}
+
+/// The properties of a revision.
+pub fn properties_reply<R: Repository, A: RepoAccess<View = R>>(
+    alloc: Global,
+    revision: u64,
+    access: &mut A,
+) -> Result<Reply, AllocError>
+    ensures ok { IfOk result (λ reply.
+        reply ≡ rev_proplist_reply (content_of (A.point access.new)) revision) }
+    ensures later { A.rules.between (A.point access.old) (A.point access.new) }
+{
+    let view = access.look()?;
+    rev_proplist(alloc, &view, revision)
+}
+
+/// The revision that is named, or the youngest; `None` above the youngest.
+fn known_revision<R: Repository>(view: &R, revision: Option<u64>) -> Option<u64>
+    ensures { MatchOption result
+        ((f : ℕ → Reply) →
+        at_revision (R.content view.now) revision f ≡ replies.Failure refusals.NoSuchRevision)
+        (λ n. (f : ℕ → Reply) → at_revision (R.content view.now) revision f ≡ f n) }
+{
+    let youngest = view.youngest();
+    match revision {
+        None => Some(youngest),
+        Some(n) => { if youngest < n { None } else { Some(n) } }
+    }
+}
+
+/// What stands at a path of a revision that is there.
+fn kind_at<R: Repository>(view: &R, revision: u64, path: &Path) -> Reply
+    ensures { result ≡ replies.Kind (kind_at (R.content view.now) revision path.now) }
+{
+    Reply::Kind(view.kind(revision, path))
+}
+
+/// What stands at a path, seen from the path of the client's URL.
+fn check_path<R: Repository>(
+    alloc: Global,
+    view: &R,
+    base: &Path,
+    path: &ByteString,
+    revision: Option<u64>,
+) -> Result<Reply, AllocError>
+    ensures { IfOk result (λ reply.
+        reply ≡ check_path_reply (R.content view.now) revision (joined base.now path.now)) }
+{
+    match base.join(alloc, path.as_slice()) {
+        Ok(path) => match known_revision(view, revision) {
+            Some(n) => Ok(kind_at(view, n, &path)),
+            None => Ok(Reply::Failure(Refusal::NoSuchRevision)),
+        },
+        Err(PathFault::NoMemory) => Err(AllocError),
+        Err(fault) => Ok(Reply::Failure(path_refusal(fault))),
+    }
+}
+
+/// The properties of a revision, if it is there.
+fn rev_proplist<R: Repository>(alloc: Global, view: &R, revision: u64) -> Result<Reply, AllocError>
+    ensures { IfOk result (λ reply. reply ≡ rev_proplist_reply (R.content view.now) revision) }
+{
+    match known_revision(view, Some(revision)) {
+        Some(n) => match view.revision_properties(n) {
+            Some(properties) => Ok(Reply::Properties(properties.clone()?)),
+            None => Ok(Reply::Properties(Properties::new(alloc))),
+        },
+        None => Ok(Reply::Failure(Refusal::NoSuchRevision)),
+    }
+}

@@ -1,0 +1,64 @@
+//! What a client is told before the answer to its command.
+ghost use Rattle.std.specs.Prelude.{◌∷◌, ◌++◌, [], OnOk, OnErr};
+ghost use Rattle.wire_replies.specs.Replies.{print};
+ghost use Rattle.wire_replies.specs.Sinks.{WritesPart};
+ghost use Rattle.session_replies.specs.Telling.{told_before};
+
+use std::alloc::AllocError;
+use std::mem::drop;
+use wire_replies::{Reply, ReplySink};
+
+/// What a client is told before the answer to its command.
+#[derive(Clone, Copy)]
+pub enum Preface {
+    /// Nothing.
+    Nothing,
+    /// A login request, which asks for nothing.
+    NoLogin,
+    /// That its login has succeeded.
+    Success,
+}
+
+/// Writes what comes before an answer.
+pub fn say_preface<S: ReplySink>(preface: Preface, out: &mut S) -> Result<(), AllocError>
+    ensures ok { OnOk result (S.writes out.old out.new (print (told_before preface))) }
+    ensures err { OnErr result (WritesPart (S.writes out.old out.new)
+        (print (told_before preface))) }
+{
+    match preface {
+        Preface::Nothing => Ok(()),
+        Preface::NoLogin => out.say(&Reply::NoLogin),
+        Preface::Success => out.say(&Reply::Success),
+    }
+}
+
+/// Writes a reply behind what comes before it.
+pub fn say_behind<S: ReplySink>(
+    preface: Preface,
+    reply: &Reply,
+    out: &mut S,
+) -> Result<(), AllocError>
+    ensures ok { OnOk result (S.writes out.old out.new
+        (print (told_before preface ++ reply.now ∷ []))) }
+    ensures err { OnErr result (WritesPart (S.writes out.old out.new)
+        (print (told_before preface ++ reply.now ∷ []))) }
+{
+    say_preface(preface, out)?;
+    out.say(reply)
+}
+
+/// Writes a new reply behind what comes before it.
+pub fn say_new_behind<S: ReplySink>(
+    preface: Preface,
+    reply: Reply,
+    out: &mut S,
+) -> Result<(), AllocError>
+    ensures ok { OnOk result (S.writes out.old out.new
+        (print (told_before preface ++ reply ∷ []))) }
+    ensures err { OnErr result (WritesPart (S.writes out.old out.new)
+        (print (told_before preface ++ reply ∷ []))) }
+{
+    let said = say_behind(preface, &reply, out);
+    drop(reply);
+    said
+}

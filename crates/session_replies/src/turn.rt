@@ -1,0 +1,37 @@
+//! Where a session at a repository stands, and its end over what is no command.
+ghost use Rattle.std.specs.Prelude.{◌≡◌, IfOk, OnErr};
+ghost use Rattle.wire_replies.specs.Replies.{print};
+ghost use Rattle.wire_replies.specs.Sinks.{WritesPart};
+ghost use Rattle.machine.specs.Answers.{malformed};
+ghost use Rattle.machine.specs.Steps.{AnswerWritten};
+
+use crate::saying::tell_refusal;
+use drive_reports::Grafts;
+use editor::CommitEditor;
+use machine::{OpenEdit, OpenReporting, Phase, Turn};
+use refusals::Refusal;
+use repo_api::Repository;
+use std::alloc::AllocError;
+use wire_replies::ReplySink;
+
+/// An edit of a session at a repository.
+pub type SessionEdit<R> = OpenEdit<CommitEditor<R>>;
+
+/// A report of a session.
+pub type SessionReport = OpenReporting<Grafts>;
+
+/// Where a session at a repository stands.
+pub type SessionPhase<R> = Phase<CommitEditor<R>, Grafts>;
+
+/// Ends the session over what is no command.
+pub fn end_malformed<R: Repository, S: ReplySink>(
+    turn: &mut Turn<S>,
+) -> Result<SessionPhase<R>, AllocError>
+    ensures ok { IfOk result (λ phase. AnswerWritten (malformed turn.old.env)
+        phase turn.new.env (S.writes turn.old.out turn.new.out)) }
+    ensures err { OnErr result (WritesPart (S.writes turn.old.out turn.new.out)
+        (print (malformed turn.old.env).replies)) }
+{
+    tell_refusal(Refusal::MalformedData, &mut turn.out)?;
+    Ok(Phase::Ended)
+}

@@ -1,0 +1,111 @@
+//! The client's answer to a drive.
+ghost use Rattle.std.specs.Prelude.{◌≡◌, ◌∷◌, [], IfOk, OnOk, OnErr};
+ghost use Rattle.items.specs.View.{value_of};
+ghost use Rattle.wire_edits.specs.declared.editing.EditorCommand.{EditorCommand};
+ghost use Rattle.wire_replies.specs.declared.reply.Reply.{Reply};
+ghost use Rattle.wire_replies.specs.Replies.{print};
+ghost use Rattle.wire_replies.specs.Sinks.{WritesPart};
+ghost use Rattle.drive_wire.specs.Reporting.{client_answer, is_success};
+ghost use Rattle.machine.specs.Answers.{serves, says};
+ghost use Rattle.machine.specs.Reports.{driven_answer};
+ghost use Rattle.machine.specs.Steps.{AnswerWritten};
+ghost use Rattle.machine.specs.declared.phase.Phase.TheVariants.{Serving};
+
+use items::Item;
+use machine::{Client, Phase, Turn};
+use refusals::Refusal;
+use repo_api::Repository;
+use session_replies::{Preface, SessionPhase, end_malformed, say_new, tell, tell_refusal};
+use std::alloc::AllocError;
+use std::mem::drop;
+use wire_edits::EditorCommand;
+use wire_forms::read_form;
+use wire_replies::{Reply, ReplySink};
+
+/// Whether an answer of this name tells a success; `None` for what is no answer.
+fn is_success(name: &[u8]) -> Option<bool>
+    ensures { result ≡ is_success name.now }
+{
+    if name == b"success".as_slice() {
+        Some(true)
+    } else if name == b"failure".as_slice() {
+        Some(false)
+    } else {
+        None
+    }
+}
+
+/// Whether the client's answer is a success; `None` for an item that is no answer.
+fn client_answer(item: &Item) -> Option<bool>
+    ensures { result ≡ client_answer (value_of item.now) }
+{
+    let (name, _) = read_form(item)?;
+    is_success(name)
+}
+
+/// Writes that a drive is given up, and then that it has failed.
+fn say_given_up<S: ReplySink>(out: &mut S) -> Result<(), AllocError>
+    ensures ok { OnOk result (S.writes out.old out.new
+        (print (Reply.Edit EditorCommand.AbortEdit ∷ Reply.Failure Refusal.EditAborted ∷ []))) }
+    ensures err { OnErr result (WritesPart (S.writes out.old out.new)
+        (print (Reply.Edit EditorCommand.AbortEdit ∷ Reply.Failure Refusal.EditAborted ∷ []))) }
+{
+    say_new(Reply::Edit(EditorCommand::AbortEdit), out)?;
+    tell_refusal(Refusal::EditAborted, out)
+}
+
+/// Gives a drive up. The next command is awaited.
+fn give_up<R: Repository, S: ReplySink>(
+    client: Client,
+    turn: &mut Turn<S>,
+) -> Result<SessionPhase<R>, AllocError>
+    ensures ok { IfOk result (λ phase. AnswerWritten
+        (says turn.old.env (Serving client)
+        (Reply.Edit EditorCommand.AbortEdit ∷ Reply.Failure Refusal.EditAborted ∷ []))
+        phase turn.new.env (S.writes turn.old.out turn.new.out)) }
+    ensures err { OnErr result (WritesPart (S.writes turn.old.out turn.new.out)
+        (print (Reply.Edit EditorCommand.AbortEdit ∷ Reply.Failure Refusal.EditAborted ∷ []))) }
+{
+    match say_given_up(&mut turn.out) {
+        Ok(()) => Ok(Phase::Serving(client)),
+        Err(error) => {
+            drop(client);
+            Err(error)
+        }
+    }
+}
+
+/// Tells that a drive was taken. The next command is awaited.
+fn take_over<R: Repository, S: ReplySink>(
+    client: Client,
+    turn: &mut Turn<S>,
+) -> Result<SessionPhase<R>, AllocError>
+    ensures ok { IfOk result (λ phase. AnswerWritten (serves turn.old.env client Reply.Success)
+        phase turn.new.env (S.writes turn.old.out turn.new.out)) }
+    ensures err { OnErr result (WritesPart (S.writes turn.old.out turn.new.out)
+        (print (Reply.Success ∷ []))) }
+{
+    tell(client, Preface::Nothing, Ok(Reply::Success), turn)
+}
+
+/// An item behind a drive: the client's answer to it.
+pub fn serve_driven<R: Repository, S: ReplySink>(
+    client: Client,
+    item: &Item,
+    turn: &mut Turn<S>,
+) -> Result<SessionPhase<R>, AllocError>
+    ensures ok { IfOk result (λ phase. AnswerWritten
+        (driven_answer turn.old.env client (client_answer (value_of item.now)))
+        phase turn.new.env (S.writes turn.old.out turn.new.out)) }
+    ensures err { OnErr result (WritesPart (S.writes turn.old.out turn.new.out)
+        (print (driven_answer turn.old.env client (client_answer (value_of item.now))).replies)) }
+{
+    match client_answer(item) {
+        Some(true) => take_over(client, turn),
+        Some(false) => give_up(client, turn),
+        None => {
+            drop(client);
+            end_malformed(turn)
+        }
+    }
+}

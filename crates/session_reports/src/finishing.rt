@@ -1,0 +1,107 @@
+//! The end of a report: a drive, or why there is none.
+ghost use Rattle.std.specs.Prelude.{◌≡◌, IfOk, OnErr, MatchResult};
+ghost use Rattle.repo_api.specs.Soundness.{AreSound, AreTrees};
+ghost use Rattle.drive_reports.specs.Refusing.{finish_answer};
+ghost use Rattle.drive_reports.specs.declared.report.Report.TheVariants.{Open};
+ghost use Rattle.drive_wire.specs.Reporting.{Drawn, Finishes};
+ghost use Rattle.access.specs.Points.{content_of};
+ghost use Rattle.machine.specs.Reports.{drawn_answer};
+ghost use Rattle.machine.specs.Steps.{StepWritten, StepOrNothing};
+ghost use Rattle.session_reports.specs.Finishing.{IsAnswered, IsUnanswered};
+
+use crate::refused::fail;
+use access::RepoAccess;
+use drive_reports::{Grafts, OpenReport, ReportFault};
+use drive_sending::say_drive;
+use machine::{Client, Phase, Turn};
+use repo_api::Repository;
+use session_replies::SessionPhase;
+use std::alloc::{AllocError, Global};
+use std::mem::drop;
+use wire_replies::ReplySink;
+
+/// A report that goes on, and whose it is.
+#[derive(Drop)]
+pub(crate) struct OpenErrand {
+    pub(crate) client: Client,
+    pub(crate) report: OpenReport<Grafts>,
+}
+
+/// Writes the drive of a report, if there is one.
+fn say_end<R: Repository, S: ReplySink>(
+    alloc: Global,
+    view: &R,
+    report: &OpenReport<Grafts>,
+    out: &mut S,
+) -> Result<(), ReportFault>
+    requires trees { AreTrees (R.content view.now).revisions }
+    ensures { MatchResult result
+        (λ _. IsAnswered (R.content view.now) report.now (S.writes out.old out.new))
+        (IsUnanswered (R.content view.now) report.now (S.writes out.old out.new)) }
+{
+    match drive_reports::finish(alloc, view, report) {
+        Ok(root) => match say_drive(alloc, view, report, root, out) {
+            Ok(()) => Ok(()),
+            Err(_) => Err(ReportFault::NoMemory),
+        },
+        Err(fault) => Err(fault),
+    }
+}
+
+/// Writes the drive of a report at the repository as it is now, if there is one.
+fn drive_now<R: Repository, A: RepoAccess<View = R>, S: ReplySink>(
+    alloc: Global,
+    report: &OpenReport<Grafts>,
+    access: &mut A,
+    out: &mut S,
+) -> Result<(), ReportFault>
+    requires trees { AreSound (content_of (A.point access.old)).revisions }
+    ensures drive { MatchResult result
+        (λ _. IsAnswered (content_of (A.point access.new)) report.now
+        (S.writes out.old out.new))
+        (IsUnanswered (content_of (A.point access.new)) report.now
+        (S.writes out.old out.new)) }
+    ensures later { A.rules.between (A.point access.old) (A.point access.new) }
+{
+    match access.look() {
+        Ok(view) => say_end(alloc, &view, report, out),
+        Err(_) => Err(ReportFault::NoMemory),
+    }
+}
+
+/// The end of a report.
+pub(crate) fn finish<R: Repository, A: RepoAccess<View = R>, S: ReplySink>(
+    errand: OpenErrand,
+    access: &mut A,
+    turn: &mut Turn<S>,
+) -> Result<SessionPhase<R>, AllocError>
+    requires trees { AreSound (content_of (A.point access.old)).revisions }
+    ensures ok { IfOk result (λ phase. StepWritten A.rules
+        (λ at a. (d : Drawn) × Finishes (content_of at)
+        (finish_answer (content_of at) (Open errand.report)) d
+        × (a ≡ drawn_answer turn.old.env errand.client d))
+        (A.point access.old) (A.point access.new)
+        phase turn.new.env (S.writes turn.old.out turn.new.out)) }
+    ensures err { OnErr result (StepOrNothing A.rules
+        (λ at a. (d : Drawn) × Finishes (content_of at)
+        (finish_answer (content_of at) (Open errand.report)) d
+        × (a ≡ drawn_answer turn.old.env errand.client d))
+        (A.point access.old) (A.point access.new) (S.writes turn.old.out turn.new.out)) }
+{
+    let OpenErrand { client, report } = errand;
+    match drive_now(turn.alloc, &report, access, &mut turn.out) {
+        Ok(()) => {
+            drop(report);
+            Ok(Phase::Driven(client))
+        }
+        Err(ReportFault::Refused(refusal)) => {
+            drop(report);
+            fail(client, refusal, turn)
+        }
+        Err(ReportFault::NoMemory) => {
+            drop(report);
+            drop(client);
+            Err(AllocError)
+        }
+    }
+}

@@ -1,0 +1,140 @@
+//! The commands of a report that goes on.
+ghost use Rattle.std.specs.Prelude.{◌≡◌, Ok, IfOk, OnErr, option_copied};
+ghost use Rattle.repo_api.specs.Soundness.{AreSound};
+ghost use Rattle.drive_reports.specs.Refusing.{delete_path_answer, kept_report, set_path_answer};
+ghost use Rattle.drive_wire.specs.Reporting.{Drawn, OpenStep};
+ghost use Rattle.access.specs.Points.{content_of};
+ghost use Rattle.machine.specs.Reports.{drawn_answer};
+ghost use Rattle.machine.specs.Steps.{StepWritten, StepOrNothing};
+ghost use Rattle.machine.specs.declared.phase.Phase.TheVariants.{Reporting};
+
+use crate::finishing::{OpenErrand, finish};
+use access::RepoAccess;
+use byte_string::ByteString;
+use drive_reports::{Grafts, Link, OpenReport, Report};
+use machine::{OpenReporting, Options, Phase, Turn};
+use repo_api::Repository;
+use session_replies::SessionPhase;
+use std::alloc::{AllocError, Global};
+use std::mem::drop;
+use wire_replies::ReplySink;
+use wire_reports::ReportCommand;
+
+/// What a path that is set, or linked to a URL, makes of a report at the repository as it is now.
+fn set_path_now<R: Repository, A: RepoAccess<View = R>>(
+    alloc: Global,
+    name: &str,
+    report: OpenReport<Grafts>,
+    link: Link<'_>,
+    access: &mut A,
+) -> Result<Report<Grafts>, AllocError>
+    requires trees { AreSound (content_of (A.point access.old)).revisions }
+    ensures next { IfOk result (λ next. next ≡ kept_report (set_path_answer
+        (content_of (A.point access.new)) name.now report link.entry.reported.now
+        (option_copied link.entry.url))) }
+    ensures later { A.rules.between (A.point access.old) (A.point access.new) }
+{
+    match access.look() {
+        Ok(view) => drive_reports::set_path(alloc, &view, name, report, link),
+        Err(error) => {
+            drop(report);
+            Err(error)
+        }
+    }
+}
+
+/// A path that is set, or linked to a URL. The report goes on.
+fn set_path<R: Repository, A: RepoAccess<View = R>>(
+    alloc: Global,
+    options: &Options,
+    errand: OpenErrand,
+    link: Link<'_>,
+    access: &mut A,
+) -> Result<SessionPhase<R>, AllocError>
+    requires trees { AreSound (content_of (A.point access.old)).revisions }
+    ensures next { IfOk result (λ phase. phase ≡ Reporting (record {
+      client = errand.client;
+      report = kept_report (set_path_answer (content_of (A.point access.new)) options.now.name
+          errand.report link.entry.reported.now (option_copied link.entry.url));
+    })) }
+    ensures later { A.rules.between (A.point access.old) (A.point access.new) }
+{
+    let OpenErrand { client, report } = errand;
+    match set_path_now(alloc, options.name(), report, link, access) {
+        Ok(report) => Ok(Phase::Reporting(OpenReporting { client, report })),
+        Err(error) => {
+            drop(client);
+            Err(error)
+        }
+    }
+}
+
+/// A path at which nothing is. The report goes on.
+fn delete_path<R: Repository>(
+    alloc: Global,
+    errand: OpenErrand,
+    text: &ByteString,
+) -> Result<SessionPhase<R>, AllocError>
+    ensures { IfOk result (λ phase. phase ≡ Reporting (record {
+      client = errand.client;
+      report = kept_report (delete_path_answer errand.report text.now);
+    })) }
+{
+    let OpenErrand { client, report } = errand;
+    match drive_reports::delete_path(alloc, report, text) {
+        Ok(report) => Ok(Phase::Reporting(OpenReporting { client, report })),
+        Err(error) => {
+            drop(client);
+            Err(error)
+        }
+    }
+}
+
+/// A report that is given up. The next command is awaited.
+fn abort<R: Repository>(errand: OpenErrand) -> SessionPhase<R>
+    ensures { result ≡ Phase.Serving errand.client }
+{
+    let OpenErrand { client, report } = errand;
+    drop(report);
+    Phase::Serving(client)
+}
+
+/// A command of a report.
+pub(crate) fn heed<R: Repository, A: RepoAccess<View = R>, S: ReplySink>(
+    options: &Options,
+    errand: OpenErrand,
+    command: &ReportCommand,
+    access: &mut A,
+    turn: &mut Turn<S>,
+) -> Result<SessionPhase<R>, AllocError>
+    requires trees { AreSound (content_of (A.point access.old)).revisions }
+    ensures ok { IfOk result (λ phase. StepWritten A.rules
+        (λ at a. (d : Drawn) × OpenStep (content_of at) options.now.name errand.report
+        (Ok command.now) d × (a ≡ drawn_answer turn.old.env errand.client d))
+        (A.point access.old) (A.point access.new)
+        phase turn.new.env (S.writes turn.old.out turn.new.out)) }
+    ensures err { OnErr result (StepOrNothing A.rules
+        (λ at a. (d : Drawn) × OpenStep (content_of at) options.now.name errand.report
+        (Ok command.now) d × (a ≡ drawn_answer turn.old.env errand.client d))
+        (A.point access.old) (A.point access.new) (S.writes turn.old.out turn.new.out)) }
+{
+    match command {
+        ReportCommand::SetPath(reported) => {
+            let link = Link {
+                reported,
+                url: None,
+            };
+            set_path(turn.alloc, options, errand, link, access)
+        }
+        ReportCommand::LinkPath(reported, url) => {
+            let link = Link {
+                reported,
+                url: Some(url),
+            };
+            set_path(turn.alloc, options, errand, link, access)
+        }
+        ReportCommand::DeletePath(path) => delete_path(turn.alloc, errand, path),
+        ReportCommand::FinishReport => finish(errand, access, turn),
+        ReportCommand::AbortReport => Ok(abort(errand)),
+    }
+}

@@ -1,0 +1,72 @@
+//! A report that is refused: its commands are read by their names alone.
+ghost use Rattle.std.specs.Prelude.{◌≡◌, ◌∷◌, [], IfOk, OnErr};
+ghost use Rattle.items.specs.View.{value_of};
+ghost use Rattle.wire_replies.specs.declared.reply.Reply.{Reply};
+ghost use Rattle.wire_replies.specs.Replies.{print};
+ghost use Rattle.wire_replies.specs.Sinks.{WritesPart};
+ghost use Rattle.wire_reports.specs.Reporting.{name_of};
+ghost use Rattle.drive_wire.specs.Reporting.{refused_drawn};
+ghost use Rattle.drive_wire.specs.Reporting.Drawn.{Fails};
+ghost use Rattle.machine.specs.Reports.{drawn_answer};
+ghost use Rattle.machine.specs.Steps.{AnswerWritten};
+ghost use Rattle.machine.specs.declared.phase.Phase.TheVariants.{Reporting};
+ghost use Rattle.drive_reports.specs.declared.report.Report.TheVariants.{Refused};
+
+use drive_reports::Report;
+use items::Item;
+use machine::{Client, OpenReporting, Phase, Turn};
+use refusals::Refusal;
+use repo_api::Repository;
+use session_replies::{Preface, SessionPhase, end_malformed, refuse};
+use std::alloc::AllocError;
+use std::mem::drop;
+use wire_replies::{Reply, ReplySink};
+use wire_reports::{ReportName, read_name};
+
+/// Tells at the end of a report why there is no drive. The next command is awaited.
+pub(crate) fn fail<R: Repository, S: ReplySink>(
+    client: Client,
+    refusal: Refusal,
+    turn: &mut Turn<S>,
+) -> Result<SessionPhase<R>, AllocError>
+    ensures ok { IfOk result (λ phase. AnswerWritten
+        (drawn_answer turn.old.env client (Fails refusal))
+        phase turn.new.env (S.writes turn.old.out turn.new.out)) }
+    ensures err { OnErr result (WritesPart (S.writes turn.old.out turn.new.out)
+        (print (drawn_answer turn.old.env client (Fails refusal)).replies)) }
+{
+    refuse(client, Preface::NoLogin, refusal, turn)
+}
+
+/// A report that is refused goes on.
+pub(crate) fn stay_refused<R: Repository>(client: Client, refusal: Refusal) -> SessionPhase<R>
+    ensures { result ≡ Reporting (record { client = client; report = Refused refusal }) }
+{
+    let report = Report::Refused(refusal);
+    Phase::Reporting(OpenReporting { client, report })
+}
+
+/// A command of a report that is refused.
+pub(crate) fn pass_over<R: Repository, S: ReplySink>(
+    client: Client,
+    refusal: Refusal,
+    item: &Item,
+    turn: &mut Turn<S>,
+) -> Result<SessionPhase<R>, AllocError>
+    ensures ok { IfOk result (λ phase. AnswerWritten
+        (drawn_answer turn.old.env client (refused_drawn refusal (name_of (value_of item.now))))
+        phase turn.new.env (S.writes turn.old.out turn.new.out)) }
+    ensures err { OnErr result (WritesPart (S.writes turn.old.out turn.new.out)
+        (print (drawn_answer turn.old.env client
+        (refused_drawn refusal (name_of (value_of item.now)))).replies)) }
+{
+    match read_name(item) {
+        None => {
+            drop(client);
+            end_malformed(turn)
+        }
+        Some(Some(ReportName::FinishReport)) => fail(client, refusal, turn),
+        Some(Some(ReportName::AbortReport)) => Ok(Phase::Serving(client)),
+        Some(_) => Ok(stay_refused(client, refusal)),
+    }
+}

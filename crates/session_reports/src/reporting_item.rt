@@ -1,0 +1,101 @@
+//! One item within a report.
+ghost use Rattle.std.specs.Prelude.{◌≡◌, IfOk, OnErr};
+ghost use Rattle.items.specs.View.{value_of};
+ghost use Rattle.repo_api.specs.Soundness.{AreSound};
+ghost use Rattle.wire_reports.specs.Reporting.{report_command};
+ghost use Rattle.drive_wire.specs.Reporting.{Drawn, OpenStep};
+ghost use Rattle.access.specs.Points.{content_of};
+ghost use Rattle.machine.specs.Reports.{ReportingStep, drawn_answer};
+ghost use Rattle.machine.specs.Steps.{StepWritten, StepOrNothing};
+ghost use Rattle.machine.specs.declared.phase.Phase.TheVariants.{Reporting};
+ghost use Rattle.drive_reports.specs.declared.report.Report.TheVariants.{Refused};
+
+use crate::finishing::OpenErrand;
+use crate::heeding::heed;
+use crate::refused::{pass_over, stay_refused};
+use access::RepoAccess;
+use drive_reports::Report;
+use items::Item;
+use machine::{OpenReporting, Options, Turn};
+use refusals::Refusal;
+use repo_api::Repository;
+use session_replies::{SessionPhase, SessionReport, end_malformed};
+use std::alloc::AllocError;
+use std::mem::drop;
+use wire_forms::CommandFault;
+use wire_replies::ReplySink;
+use wire_reports::ReportCommand;
+
+/// A report that is refused from now on.
+fn refuse_from_now<R: Repository>(errand: OpenErrand, refusal: Refusal) -> SessionPhase<R>
+    ensures { result ≡ Reporting (record { client = errand.client; report = Refused refusal }) }
+{
+    let OpenErrand { client, report } = errand;
+    drop(report);
+    stay_refused(client, refusal)
+}
+
+/// An item within a report that goes on.
+fn heed_item<R: Repository, A: RepoAccess<View = R>, S: ReplySink>(
+    options: &Options,
+    errand: OpenErrand,
+    item: &Item,
+    access: &mut A,
+    turn: &mut Turn<S>,
+) -> Result<SessionPhase<R>, AllocError>
+    requires trees { AreSound (content_of (A.point access.old)).revisions }
+    ensures ok { IfOk result (λ phase. StepWritten A.rules
+        (λ at a. (d : Drawn) × OpenStep (content_of at) options.now.name errand.report
+        (report_command (value_of item.now)) d × (a ≡ drawn_answer turn.old.env errand.client d))
+        (A.point access.old) (A.point access.new)
+        phase turn.new.env (S.writes turn.old.out turn.new.out)) }
+    ensures err { OnErr result (StepOrNothing A.rules
+        (λ at a. (d : Drawn) × OpenStep (content_of at) options.now.name errand.report
+        (report_command (value_of item.now)) d × (a ≡ drawn_answer turn.old.env errand.client d))
+        (A.point access.old) (A.point access.new) (S.writes turn.old.out turn.new.out)) }
+{
+    match ReportCommand::from_item(item) {
+        Ok(command) => {
+            let phase = heed(options, errand, &command, access, turn);
+            drop(command);
+            phase
+        }
+        Err(CommandFault::UnknownName) => Ok(refuse_from_now(errand, Refusal::UnknownCommand)),
+        Err(CommandFault::BadParameters) => {
+            drop(errand);
+            end_malformed(turn)
+        }
+        Err(CommandFault::NoMemory) => {
+            drop(errand);
+            Err(AllocError)
+        }
+    }
+}
+
+/// An item within a report.
+pub fn serve_report<R: Repository, A: RepoAccess<View = R>, S: ReplySink>(
+    options: &Options,
+    reporting: SessionReport,
+    item: &Item,
+    access: &mut A,
+    turn: &mut Turn<S>,
+) -> Result<SessionPhase<R>, AllocError>
+    requires trees { AreSound (content_of (A.point access.old)).revisions }
+    ensures ok { IfOk result (λ phase. StepWritten A.rules
+        (λ at a. ReportingStep options.now turn.old.env (content_of at) reporting
+        (value_of item.now) a)
+        (A.point access.old) (A.point access.new)
+        phase turn.new.env (S.writes turn.old.out turn.new.out)) }
+    ensures err { OnErr result (StepOrNothing A.rules
+        (λ at a. ReportingStep options.now turn.old.env (content_of at) reporting
+        (value_of item.now) a)
+        (A.point access.old) (A.point access.new) (S.writes turn.old.out turn.new.out)) }
+{
+    let OpenReporting { client, report } = reporting;
+    match report {
+        Report::Refused(refusal) => pass_over(client, refusal, item, turn),
+        Report::Open(report) => {
+            heed_item(options, OpenErrand { client, report }, item, access, turn)
+        }
+    }
+}

@@ -1,0 +1,53 @@
+-- What is listed, as the answer of a step that changes nothing.
+use Rattle.std.proofs.Common.{◌≡◌, ℕ, List, ◌++◌, refl, sym, ap, ◌∙◌}
+use Rattle.std.specs.Prelude.{Option, None, Ok}
+use Rattle.refusals.specs.declared.Refusal.{Refusal}
+use Rattle.repo_api.specs.States.{RepoState}
+use Rattle.svnpath.specs.Paths.{PathValue}
+use Rattle.commands.specs.declared.command.LogCommand.{LogCommand}
+use Rattle.commands.specs.declared.command.GetLocationsCommand.{GetLocationsCommand}
+use Rattle.history.specs.Logs.{place_at}
+use Rattle.history.specs.declared.log_ask.LogAsk.{LogAsk}
+use Rattle.wire_replies.specs.Replies.{print}
+use Rattle.wire_replies.specs.Sinks.{WritesPart}
+use Rattle.wire_replies.specs.declared.reply.Reply.{Reply}
+use Rattle.wire_replies.specs.declared.reply.Reply.TheVariants as replies
+use Rattle.access.specs.Points.{Point, AccessRules, content_of}
+use Rattle.machine.specs.Answers.{Answer, says, Behind}
+use Rattle.machine.specs.Histories.{ended, listed_unless, log_ask, log_refusal, log_replies, log_told, locations_refusal, locations_replies, locations_told}
+use Rattle.machine.specs.Stages.{Stage}
+use Rattle.machine.specs.Steps.{StepWritten, StepOrNothing}
+use Rattle.machine.specs.declared.env.Env.{Env}
+use Rattle.machine.specs.declared.phase.Client.{Client}
+use Rattle.machine.specs.declared.phase.Phase.TheVariants.{Serving}
+use Rattle.session_replies.proofs.Steps.{Leads, only_says, leads_behind, told_all, told_part}
+
+-- a log that is not refused
+pub log_listed : (c : RepoState) (command : LogCommand) (paths : List PathValue) (ask : LogAsk) (r : Option Refusal) → ask ≡ log_ask c command → r ≡ log_refusal c ask paths → r ≡ None
+    → log_replies c command (Ok paths) ≡ log_told c command.wants_changes ask paths ++ ended replies.Success
+log_listed c command paths ask r asked judged none =
+    ap (λ x. listed_unless (log_refusal c x paths) (log_told c command.wants_changes x paths)) (sym asked)
+    ∙ ap (λ o. listed_unless o (log_told c command.wants_changes ask paths)) (sym judged ∙ none)
+
+-- and locations
+pub locations_listed : (c : RepoState) (command : GetLocationsCommand) (path : PathValue) (r : Option Refusal)
+    → r ≡ locations_refusal c (place_at command.peg path) command.revisions → r ≡ None
+    → locations_replies c command (Ok path) ≡ locations_told c (place_at command.peg path) command.revisions ++ ended replies.Success
+locations_listed c command path r judged none =
+    ap (λ o. listed_unless o (locations_told c (place_at command.peg path) command.revisions)) (sym judged ∙ none)
+
+module _ (rules : AccessRules) (told : RepoState → List Reply) (p q : Point) (env : Env) (client : Client) (before : List Reply)
+    (later : rules.between p q) (writes : List ℕ → Type 0) where
+  abbrev Listing : Point → Answer → Type 0
+  Listing at a = Behind before (λ own. own ≡ says env (Serving client) (told (content_of at))) a
+
+  leads : Leads rules Listing p q env (Serving client) (before ++ told (content_of q))
+  leads = leads_behind before (only_says {step = λ at own. own ≡ says env (Serving client) (told (content_of at))} later refl)
+
+  -- what is told is written
+  pub listed : (phase' : Stage) (env' : Env) → phase' ≡ Serving client → env' ≡ env → writes (print (before ++ told (content_of q))) → StepWritten rules Listing p q phase' env' writes
+  listed phase' env' serves same written = told_all leads writes phase' env' (record { phase_after = serves; env_after = same; written = written })
+
+  -- or a part of it
+  pub listed_part : WritesPart writes (print (before ++ told (content_of q))) → StepOrNothing rules Listing p q writes
+  listed_part part = told_part leads writes part

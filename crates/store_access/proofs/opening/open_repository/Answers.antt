@@ -1,0 +1,25 @@
+use Rattle.std.proofs.Common.{subst, sym}
+use Rattle.repostore.proofs.Reaching.{has_count}
+use Rattle.store_access.specs.Keeping.{StandsFor}
+use Rattle.store_access.proofs.opening.open_repository.Goals as goal
+
+pub new-requires : goal.new-requires
+new-requires g c = ∣ (λ honest goes_on.
+    let opened = c.in_ok-saves.ensures in
+    let old = g.S.Store.holds c.args.store in
+    let found = opened.found honest in
+    let rests = c.requires (opened.reads.honest honest) in
+    record {
+      files = found.files;
+      saved = opened.saved honest rests found.files found.are;
+      of_these = c.finish.ensures found.files found.taken (has_count old found.files found.are);
+    }) ∣₁
+
+pub returns-clause-found : goal.returns-clause-found
+returns-clause-found g c = λ honest.
+    let r = g.L.Repository in
+    let old = g.S.Store.holds c.args.store in
+    let found = c.in_ok-saves.ensures.found (subst (λ x. g.S.Store.is_honest x.store) c.new.ensures.saves honest) in
+    let of_these = c.finish.ensures found.files found.taken (has_count old found.files found.are) in
+    subst (λ x. StandsFor r.Filed.stands_for (r.Repository.content x) old) (sym c.new.ensures.repository)
+    (found.files, found.are, g.met.L.Repository.Filed.is_state c.finish.result found.files of_these)

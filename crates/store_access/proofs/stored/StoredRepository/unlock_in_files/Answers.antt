@@ -1,0 +1,19 @@
+use Rattle.repo_api.specs.Locking.{unlocked}
+use Rattle.store_access.proofs.Stops.{unmoved}
+use Rattle.store_access.proofs.stored.StoredRepository.unlock_in_files.Goals as goal
+
+pub returns-in-Err-clause-stop : goal.returns-in-Err-clause-stop
+returns-in-Err-clause-stop g c = λ honest goes_on.
+    let s = g.S.Store in
+    let f = g.F.Filed in
+    unmoved s.is_honest s.holds s.may_leave s.moment s.left_since f.stands_for f.is_of g.F.Repository.content g.met.F.Filed.is_state
+    c.args.self.now.saves c.args.self.now.repository (unlocked (g.F.Repository.content c.args.self.now.repository) c.args.ask.now)
+    (λ d. g.met.S.Store.only_now c.args.self.now.saves.store d) c.args.self.now.kept goes_on honest
+
+pub returns-in_default-clause-stop : goal.returns-in_default-clause-stop
+returns-in_default-clause-stop g c = λ honest goes_on.
+    let s = g.S.Store in
+    let f = g.F.Filed in
+    unmoved s.is_honest s.holds s.may_leave s.moment s.left_since f.stands_for f.is_of g.F.Repository.content g.met.F.Filed.is_state
+    c.args.self.now.saves c.args.self.now.repository (unlocked (g.F.Repository.content c.args.self.now.repository) c.args.ask.now)
+    (λ d. g.met.S.Store.only_now c.args.self.now.saves.store d) c.args.self.now.kept goes_on honest

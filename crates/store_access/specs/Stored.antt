@@ -1,0 +1,83 @@
+-- A repository whose changes are saved before they are made.
+use Rattle.std.specs.Prelude.{◌≡◌, ◌⊎◌, ℕ, Bool, true, false, [], List, Option, Some, None, Result, Ok, Err}
+use Rattle.repo_api.specs.States.{RepoState, TxnState}
+use Rattle.repo_api.specs.Accepted.{Accepted}
+use Rattle.repo_api.specs.Accepted.Accepted.{Commits, Locks, Unlocks, Releases, ChangesProperty}
+use Rattle.repo_api.specs.Locking.{HandedTokens, releases, without_released}
+use Rattle.repo_api.specs.declared.fault.ChangeFault.{ChangeFault}
+use Rattle.repo_api.specs.declared.fault.ChangeFault.TheVariants.{Refused, StoreFailed, Halted, NoMemory}
+use Rattle.access.specs.declared.access.Released.{Released}
+use Rattle.access.specs.declared.access.Released.TheVariants as releases_so
+use Rattle.access.specs.declared.handed.Handed.{Handed}
+use Rattle.access.specs.Points.{Point, content_of}
+use Rattle.access.specs.Changing.{IsHalt}
+use Rattle.repostore.specs.declared.saves.Saves.{Saves}
+use Rattle.store_access.specs.declared.change.SavedChange.{SavedChange}
+use Rattle.store_access.specs.declared.change.SavedChange.TheVariants.{Commit, Lock, Unlock, Release, Property}
+
+-- the change that is being saved
+abbrev pub accepted_by : {T : Type 0} → (T → TxnState) → SavedChange T → Accepted
+accepted_by txn_state (Commit ask txn) = Commits ask (txn_state txn)
+accepted_by txn_state (Lock ask) = Locks ask
+accepted_by txn_state (Unlock ask) = Unlocks ask
+accepted_by txn_state (Release handed) = Releases handed.user handed.tokens
+accepted_by txn_state (Property ask) = ChangesProperty ask
+
+abbrev pub pending_in : {T : Type 0} → (T → TxnState) → Option (SavedChange T) → Option Accepted
+pending_in txn_state None = None
+pending_in txn_state (Some change) = Some (accepted_by txn_state change)
+
+-- where the repository contains this, by whether changes have come to a halt, how often the store
+-- has failed, and the change that was being saved then
+abbrev pub stored_at : RepoState → Bool → ℕ → Option Accepted → Point
+stored_at content halted failures pending = record {
+  first = content;
+  changes = [];
+  halted = halted;
+  failures = failures;
+  pending = pending;
+}
+
+abbrev pub point_in : {F S T : Type 0} → (F → RepoState) → (S → ℕ) → (T → TxnState) → F → Saves S
+    → Option (SavedChange T) → Point
+point_in content failed txn_state repository saves pending =
+    stored_at (content repository) saves.is_halted (failed saves.store) (pending_in txn_state pending)
+
+-- what the save of a change leads to, where a failure that does not halt leads to this: the change is
+-- made; or the store failed, and goes on or not; or memory was refused
+abbrev pub SavesTo : (Point → Type 0) → Accepted → Point → RepoState → Result (Unit {0}) ChangeFault
+    → Point → Type 0
+SavesTo Fails e at next (Ok x) q = q ≡ stored_at next at.halted at.failures at.pending
+SavesTo Fails e at next (Err (Refused r)) q = ⊥
+SavesTo Fails e at next (Err StoreFailed) q = Fails q
+SavesTo Fails e at next (Err Halted) q = IsHalt e at q
+SavesTo Fails e at next (Err NoMemory) q = q ≡ at
+
+-- what a release leads to: it is made where there is one; or memory is refused for it; or the store
+-- fails at it, and changes have come to a halt
+abbrev pub ReleasesBy : Option (List ℕ) → HandedTokens → Point → Released → Point → Type 0
+ReleasesBy user tokens at releases_so.Settled q =
+    ((releases user tokens (content_of at).locks ≡ true)
+    × (q ≡ stored_at (without_released (content_of at) user tokens) at.halted at.failures at.pending))
+    ⊎ ((releases user tokens (content_of at).locks ≡ false) × (q ≡ at))
+ReleasesBy user tokens at releases_so.NoMemory q =
+    (releases user tokens (content_of at).locks ≡ true) × (q ≡ at)
+ReleasesBy user tokens at releases_so.StoreFailed q =
+    (releases user tokens (content_of at).locks ≡ true) × IsHalt (Releases user tokens) at q
+
+-- how the save of a release is told
+abbrev pub released_as : Result (Unit {0}) ChangeFault → Released
+released_as (Ok x) = releases_so.Settled
+released_as (Err (Refused r)) = releases_so.StoreFailed
+released_as (Err StoreFailed) = releases_so.StoreFailed
+released_as (Err Halted) = releases_so.StoreFailed
+released_as (Err NoMemory) = releases_so.NoMemory
+
+-- once what was handed in is released; where nothing was kept, there is no release
+abbrev pub without_handed : RepoState → Option Handed → RepoState
+without_handed c None = c
+without_handed c (Some handed) = without_released c handed.user handed.tokens
+
+abbrev pub ReleasesKept : Option Handed → Point → Released → Point → Type 0
+ReleasesKept None at released q = (released ≡ releases_so.Settled) × (q ≡ at)
+ReleasesKept (Some handed) at released q = ReleasesBy handed.user handed.tokens at released q

@@ -1,0 +1,229 @@
+//! A repository in files as a session reaches it.
+ghost use Rattle.std.specs.Prelude.{◌≡◌, false, true};
+ghost use Rattle.access.specs.Changing.{CommitsAt, LocksAt, UnlocksAt, ChangesPropertyAt};
+ghost use Rattle.access.specs.Handed.{IsHandedIn};
+ghost use Rattle.access.specs.Sole.{sole_rules};
+ghost use Rattle.repo_api.specs.Commits.{committed};
+ghost use Rattle.repo_api.specs.Locking.{locked, unlocked, without_released};
+ghost use Rattle.repo_api.specs.RevisionProperties.{with_changed_property};
+ghost use Rattle.repo_api.specs.States.{IsBeginning, tree_of};
+ghost use Rattle.repo_api.specs.Transactions.{IsMarkedTxn};
+ghost use Rattle.repo_api.specs.Trees.{IsTree};
+ghost use Rattle.store_access.specs.Stored.{point_in};
+ghost use Rattle.store_access.specs.Keeping.{LeavesEither, LeavesOneOf};
+
+use crate::change::{SavedChange, copied};
+use crate::filed::Filed;
+use crate::stored::StoredRepository;
+use access::{Committed, Handed, RepoAccess, SoleAccess, handed_in};
+use repo_api::{ChangeFault, CommitAsk, LockAsk, PropertyAsk, UnlockAsk};
+use std::alloc::AllocError;
+use store_files::Store;
+
+impl<F: Filed, S: Store> StoredRepository<F, S> {
+    /// Makes the transaction the next revision, and then releases what was handed in with it. A stop at any moment
+    /// of the call leaves files that stand for the repository from before it, with the revision, or without the
+    /// released locks too.
+    pub fn commit_in_files(&mut self, ask: CommitAsk, txn: F::Txn) -> Result<Committed, ChangeFault>
+        requires rests { IsBeginning (F.txn_state txn).shown
+            (F.content self.old.repository).revisions }
+        requires tree { IsTree (tree_of (F.txn_state txn).tree) }
+        requires marked { IsMarkedTxn (F.txn_state txn) }
+        ensures point { CommitsAt sole_rules ask (F.txn_state txn)
+            (point_in F.content S.failed F.txn_state self.old.repository self.old.saves
+            self.old.pending) result
+            (point_in F.content S.failed F.txn_state self.new.repository self.new.saves
+            self.new.pending) }
+        ensures stop { S.is_honest self.old.saves.store → self.old.saves.is_halted ≡ false
+            → ∥ LeavesOneOf S.moment S.left_since F.stands_for self.old.saves.store
+            self.new.saves.store (F.content self.old.repository)
+            (committed (F.content self.old.repository) ask (F.txn_state txn))
+            (without_released (committed (F.content self.old.repository) ask (F.txn_state txn))
+            ask.author ask.tokens) ∥₁ }
+        ensures stays { self.old.saves.is_halted ≡ true → self.new.saves ≡ self.old.saves }
+    {
+        if self.saves.is_halted() {
+            std::mem::drop((ask, txn));
+            return Err(ChangeFault::Halted);
+        }
+        match handed_in(&ask) {
+            Ok(handed) => self.commit_and_release(ask, txn, handed),
+            Err(AllocError) => {
+                std::mem::drop((ask, txn));
+                Err(ChangeFault::NoMemory)
+            }
+        }
+    }
+
+    /// Commits, and then releases what was handed in with it.
+    fn commit_and_release(
+        &mut self,
+        ask: CommitAsk,
+        txn: F::Txn,
+        handed: Option<Handed>,
+    ) -> Result<Committed, ChangeFault>
+        requires goes_on { self.old.saves.is_halted ≡ false }
+        requires rests { IsBeginning (F.txn_state txn).shown
+            (F.content self.old.repository).revisions }
+        requires tree { IsTree (tree_of (F.txn_state txn).tree) }
+        requires marked { IsMarkedTxn (F.txn_state txn) }
+        requires handed_in { IsHandedIn ask handed }
+        ensures point { CommitsAt sole_rules ask (F.txn_state txn)
+            (point_in F.content S.failed F.txn_state self.old.repository self.old.saves
+            self.old.pending) result
+            (point_in F.content S.failed F.txn_state self.new.repository self.new.saves
+            self.new.pending) }
+        ensures stop { S.is_honest self.old.saves.store
+            → ∥ LeavesOneOf S.moment S.left_since F.stands_for self.old.saves.store
+            self.new.saves.store (F.content self.old.repository)
+            (committed (F.content self.old.repository) ask (F.txn_state txn))
+            (without_released (committed (F.content self.old.repository) ask (F.txn_state txn))
+            ask.author ask.tokens) ∥₁ }
+    {
+        match self.repository.committed(&ask, &txn) {
+            Ok((next, new)) => {
+                match self.settle_revision(next, &new, SavedChange::Commit(ask, txn)) {
+                    Ok(()) => Ok(Committed {
+                        revision: new.number,
+                        released: self.release_handed(handed),
+                    }),
+                    Err(fault) => {
+                        std::mem::drop(handed);
+                        Err(fault)
+                    }
+                }
+            }
+            Err(fault) => {
+                std::mem::drop((ask, txn, handed));
+                Err(fault)
+            }
+        }
+    }
+
+    /// Locks the path of a file, in place of a lock that stands there if that may be stolen. A stop at any moment of
+    /// the call leaves files that stand for the repository from before it, or with the lock.
+    pub fn lock_in_files(&mut self, ask: LockAsk) -> Result<(), ChangeFault>
+        ensures point { LocksAt sole_rules ask
+            (point_in F.content S.failed F.txn_state self.old.repository self.old.saves
+            self.old.pending) result
+            (point_in F.content S.failed F.txn_state self.new.repository self.new.saves
+            self.new.pending) }
+        ensures stop { S.is_honest self.old.saves.store → self.old.saves.is_halted ≡ false
+            → ∥ LeavesEither S.moment S.left_since F.stands_for self.old.saves.store
+            self.new.saves.store (F.content self.old.repository)
+            (locked (F.content self.old.repository) ask) ∥₁ }
+        ensures stays { self.old.saves.is_halted ≡ true → self.new.saves ≡ self.old.saves }
+    {
+        if self.saves.is_halted() {
+            return Err(ChangeFault::Halted);
+        }
+        match self.repository.locked(&ask) {
+            Ok((next, file)) => self.settle_locks(next, &file, SavedChange::Lock(ask)),
+            Err(fault) => Err(fault),
+        }
+    }
+
+    /// Takes the lock at a path away. A stop at any moment of the call leaves files that stand for the repository
+    /// from before it, or without the lock.
+    pub fn unlock_in_files(&mut self, ask: &UnlockAsk) -> Result<(), ChangeFault>
+        ensures point { UnlocksAt sole_rules ask.now
+            (point_in F.content S.failed F.txn_state self.old.repository self.old.saves
+            self.old.pending) result
+            (point_in F.content S.failed F.txn_state self.new.repository self.new.saves
+            self.new.pending) }
+        ensures stop { S.is_honest self.old.saves.store → self.old.saves.is_halted ≡ false
+            → ∥ LeavesEither S.moment S.left_since F.stands_for self.old.saves.store
+            self.new.saves.store (F.content self.old.repository)
+            (unlocked (F.content self.old.repository) ask.now) ∥₁ }
+        ensures stays { self.old.saves.is_halted ≡ true → self.new.saves ≡ self.old.saves }
+    {
+        if self.saves.is_halted() {
+            return Err(ChangeFault::Halted);
+        }
+        let Ok(asked) = copied(ask) else {
+            return Err(ChangeFault::NoMemory);
+        };
+        match self.repository.unlocked(&asked) {
+            Ok((next, file)) => self.settle_locks(next, &file, SavedChange::Unlock(asked)),
+            Err(fault) => Err(fault),
+        }
+    }
+
+    /// Makes this the value of a property of a revision, or takes the property out where there is no value, if the
+    /// value before is the one that is asked for. A stop at any moment of the call leaves files that stand for the repository from before it, or with the change.
+    pub fn change_property_in_files(&mut self, ask: PropertyAsk) -> Result<(), ChangeFault>
+        ensures point { ChangesPropertyAt sole_rules ask
+            (point_in F.content S.failed F.txn_state self.old.repository self.old.saves
+            self.old.pending) result
+            (point_in F.content S.failed F.txn_state self.new.repository self.new.saves
+            self.new.pending) }
+        ensures stop { S.is_honest self.old.saves.store → self.old.saves.is_halted ≡ false
+            → ∥ LeavesEither S.moment S.left_since F.stands_for self.old.saves.store
+            self.new.saves.store (F.content self.old.repository)
+            (with_changed_property (F.content self.old.repository) ask.revision ask.name ask.value) ∥₁ }
+        ensures stays { self.old.saves.is_halted ≡ true → self.new.saves ≡ self.old.saves }
+    {
+        if self.saves.is_halted() {
+            return Err(ChangeFault::Halted);
+        }
+        match self.repository.property_changed(&ask) {
+            Ok((next, new)) => self.settle_properties(next, &new, SavedChange::Property(ask)),
+            Err(fault) => Err(fault),
+        }
+    }
+}
+
+impl<F: Filed, S: Store> RepoAccess for StoredRepository<F, S> {
+    ghost use Rattle.std.specs.Prelude.{◌≡◌, refl};
+    ghost use Rattle.std.proofs.Common.{◌∙◌};
+    ghost use Rattle.access.specs.Sole.{sole_rules, same_keeps, same_sound, same_lasts, adds_counts};
+    ghost use Rattle.store_access.specs.Stored.{point_in};
+
+    type View = F;
+
+    ghost point = { λ d. point_in F.content S.failed F.txn_state d.repository d.saves d.pending };
+
+    ghost rules = { sole_rules };
+
+    ghost stays = { λ p. refl };
+
+    ghost goes_on = { λ p q r a b. b ∙ a };
+
+    ghost keeps = { same_keeps };
+
+    ghost sound = { same_sound };
+
+    ghost lasts = { same_lasts };
+
+    ghost counts = { adds_counts };
+
+    fn look(&mut self) -> Result<F, AllocError> {
+        self.repository.share()
+    }
+
+    fn is_halted(&self) -> bool {
+        self.saves.is_halted()
+    }
+
+    fn commit(&mut self, ask: CommitAsk, txn: F::Txn) -> Result<Committed, ChangeFault> {
+        self.commit_in_files(ask, txn)
+    }
+
+    fn lock(&mut self, ask: LockAsk) -> Result<(), ChangeFault> {
+        self.lock_in_files(ask)
+    }
+
+    fn unlock(&mut self, ask: &UnlockAsk) -> Result<(), ChangeFault> {
+        self.unlock_in_files(ask)
+    }
+
+    fn change_property(&mut self, ask: PropertyAsk) -> Result<(), ChangeFault> {
+        self.change_property_in_files(ask)
+    }
+}
+
+impl<F: Filed, S: Store> SoleAccess for StoredRepository<F, S> {
+    ghost use Rattle.access.specs.Sole.{same_alone};
+
+    ghost alone = { same_alone };
+}

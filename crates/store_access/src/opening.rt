@@ -1,0 +1,47 @@
+//! A repository opened from its files.
+ghost use Rattle.std.specs.Prelude.{◌≡◌, Some, IfOk, IfErr, length};
+ghost use Rattle.store_files.specs.Folders.{Folder, IsSame};
+ghost use Rattle.store_files.specs.Moments.{HasRisen};
+ghost use Rattle.repostore.specs.Current.{count_in};
+ghost use Rattle.repostore.specs.Files.{Files};
+ghost use Rattle.repostore.specs.Reading.{IsFaulty, IfFaulty};
+ghost use Rattle.repostore.specs.Saving.{OnlyReads};
+ghost use Rattle.store_access.specs.Keeping.{StandsFor};
+
+use crate::filed::Filed;
+use crate::stored::StoredRepository;
+use repostore::{Reader, Unopened, open};
+use std::alloc::Global;
+use store_files::{Store, StoreFault};
+
+/// Makes a repository once it has taken all files.
+pub trait Loader: Reader {
+    type Repository: Filed;
+
+    /// Gives the repository of the files that it has taken, where those of all revisions are among them.
+    fn finish(self) -> Self::Repository
+        ensures { (files : Files) → Self.took self files
+            → count_in files.current ≡ Some (length files.revisions)
+            → Self.Repository.is_of result files };
+}
+
+/// Opens a repository: whatever a stop has left, it finds the repository for which the files stand that are
+/// reached from `current`. Whether it is opened or not, nothing is written.
+pub fn open_repository<S: Store, L: Loader>(
+    alloc: Global,
+    store: S,
+) -> Result<StoredRepository<L::Repository, S>, Unopened<S>>
+    requires { S.is_honest store → (f : Folder) → S.may_leave store f → IsSame (S.holds store) f }
+    ensures found { IfOk result (λ opened. S.is_honest opened.saves.store
+        → StandsFor L.Repository.stands_for (L.Repository.content opened.repository)
+        (S.holds store)) }
+    ensures faulty { IfErr result (λ unopened. S.is_honest unopened.store
+        → IfFaulty unopened.fault (IsFaulty L.faulty (S.holds store))) }
+    ensures device { IfErr result (λ unopened. unopened.fault ≡ StoreFault.Device
+        → HasRisen (S.failed store) (S.failed unopened.store)) }
+    ensures unchanged { IfErr result (λ unopened. OnlyReads S.is_honest S.holds S.may_leave
+        S.moment S.left_since S.in_doubt S.failed store unopened.store) }
+{
+    let (saves, loader) = open::<S, L>(alloc, store)?;
+    Ok(StoredRepository::new(loader.finish(), saves))
+}

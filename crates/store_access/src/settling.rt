@@ -1,0 +1,209 @@
+//! Changes saved, and then made.
+ghost use Rattle.std.specs.Prelude.{◌≡◌, ◌+◌, ◌<◌, Some, false, true, length};
+ghost use Rattle.access.specs.Changing.{IsFailure};
+ghost use Rattle.repo_api.specs.Locking.{without_released};
+ghost use Rattle.repostore.specs.Current.{count_in};
+ghost use Rattle.repostore.specs.Files.{Files, with_revision, with_locks, with_properties};
+ghost use Rattle.store_access.specs.Stored.{point_in, accepted_by, SavesTo, ReleasesBy, ReleasesKept, released_as, without_handed};
+ghost use Rattle.store_access.specs.Keeping.{LeavesEither};
+
+use crate::change::{SavedChange, forget};
+use crate::filed::{Filed, NewProperties, NewRevision};
+use crate::stored::StoredRepository;
+use access::{Handed, Released};
+use repo_api::ChangeFault;
+use store_files::{Store, StoreFault};
+
+/// How a save that failed is told, by whether saves have come to a halt: the change of which nobody knows whether
+/// it was saved is kept.
+fn failed<T: Drop>(
+    pending: &mut Option<SavedChange<T>>,
+    is_halted: bool,
+    fault: StoreFault,
+    change: SavedChange<T>,
+) -> ChangeFault
+    ensures memory { fault ≡ StoreFault.NoMemory
+        → (result ≡ ChangeFault.NoMemory) × (pending.new ≡ pending.old) }
+    ensures halted { (fault ≡ StoreFault.NoMemory → ⊥) → is_halted ≡ true
+        → (result ≡ ChangeFault.Halted) × (pending.new ≡ Some change) }
+    ensures other { (fault ≡ StoreFault.NoMemory → ⊥) → is_halted ≡ false
+        → (result ≡ ChangeFault.StoreFailed) × (pending.new ≡ pending.old) }
+{
+    if let StoreFault::NoMemory = fault {
+        forget(change);
+        return ChangeFault::NoMemory;
+    }
+    if !is_halted {
+        forget(change);
+        return ChangeFault::StoreFailed;
+    }
+    *pending = Some(change);
+    ChangeFault::Halted
+}
+
+/// What a release is told as.
+fn released(answer: Result<(), ChangeFault>) -> Released
+    ensures { result ≡ released_as answer }
+{
+    match answer {
+        Ok(()) => Released::Settled,
+        Err(ChangeFault::NoMemory) => Released::NoMemory,
+        Err(_) => Released::StoreFailed,
+    }
+}
+
+impl<F: Filed, S: Store> StoredRepository<F, S> {
+    /// Saves the locks, and then has this repository.
+    pub(crate) fn settle_locks(
+        &mut self,
+        next: F,
+        file: &[u8],
+        change: SavedChange<F::Txn>,
+    ) -> Result<(), ChangeFault>
+        requires goes_on { self.old.saves.is_halted ≡ false }
+        requires files { (files : Files) → F.is_of self.old.repository files
+            → F.is_of next (with_locks files file.now) }
+        ensures point { SavesTo (λ q. ⊥) (accepted_by F.txn_state change)
+            (point_in F.content S.failed F.txn_state self.old.repository self.old.saves
+            self.old.pending) (F.content next) result
+            (point_in F.content S.failed F.txn_state self.new.repository self.new.saves
+            self.new.pending) }
+        ensures stop { S.is_honest self.old.saves.store
+            → ∥ LeavesEither S.moment S.left_since F.stands_for self.old.saves.store
+            self.new.saves.store (F.content self.old.repository) (F.content next) ∥₁ }
+    {
+        match self.saves.save_locks(file) {
+            Ok(()) => {
+                forget(change);
+                self.repository = next;
+                Ok(())
+            }
+            Err(fault) => {
+                let is_halted = self.saves.is_halted();
+                Err(failed(&mut self.pending, is_halted, fault, change))
+            }
+        }
+    }
+
+    /// Saves the properties of a revision, and then has this repository.
+    pub(crate) fn settle_properties(
+        &mut self,
+        next: F,
+        new: &NewProperties,
+        change: SavedChange<F::Txn>,
+    ) -> Result<(), ChangeFault>
+        requires goes_on { self.old.saves.is_halted ≡ false }
+        requires files { (files : Files) → F.is_of self.old.repository files
+            → (F.is_of next (with_properties files new.now.revision new.now.file.items))
+            × (new.now.revision < length files.revisions) }
+        ensures point { SavesTo (λ q. ⊥) (accepted_by F.txn_state change)
+            (point_in F.content S.failed F.txn_state self.old.repository self.old.saves
+            self.old.pending) (F.content next) result
+            (point_in F.content S.failed F.txn_state self.new.repository self.new.saves
+            self.new.pending) }
+        ensures stop { S.is_honest self.old.saves.store
+            → ∥ LeavesEither S.moment S.left_since F.stands_for self.old.saves.store
+            self.new.saves.store (F.content self.old.repository) (F.content next) ∥₁ }
+    {
+        match self.saves.save_rev_prop(new.revision, &new.file) {
+            Ok(()) => {
+                forget(change);
+                self.repository = next;
+                Ok(())
+            }
+            Err(fault) => {
+                let is_halted = self.saves.is_halted();
+                Err(failed(&mut self.pending, is_halted, fault, change))
+            }
+        }
+    }
+
+    /// Saves a revision, and then has this repository.
+    pub(crate) fn settle_revision(
+        &mut self,
+        next: F,
+        new: &NewRevision,
+        change: SavedChange<F::Txn>,
+    ) -> Result<(), ChangeFault>
+        requires goes_on { self.old.saves.is_halted ≡ false }
+        requires files { (files : Files) → F.is_of self.old.repository files
+            → (F.is_of next (with_revision files (new.now.revision.items, new.now.properties.items)
+            new.now.current.items))
+            × (count_in new.now.current.items ≡ Some (length files.revisions + 1)) }
+        ensures point { SavesTo (IsFailure (point_in F.content S.failed F.txn_state
+            self.old.repository self.old.saves self.old.pending))
+            (accepted_by F.txn_state change)
+            (point_in F.content S.failed F.txn_state self.old.repository self.old.saves
+            self.old.pending) (F.content next) result
+            (point_in F.content S.failed F.txn_state self.new.repository self.new.saves
+            self.new.pending) }
+        ensures honest { S.is_honest self.old.saves.store → S.is_honest self.new.saves.store }
+        ensures stop { S.is_honest self.old.saves.store
+            → ∥ LeavesEither S.moment S.left_since F.stands_for self.old.saves.store
+            self.new.saves.store (F.content self.old.repository) (F.content next) ∥₁ }
+    {
+        match self
+            .saves
+            .save_commit(&new.revision, &new.properties, &new.current)
+        {
+            Ok(()) => {
+                forget(change);
+                self.repository = next;
+                Ok(())
+            }
+            Err(fault) => {
+                let is_halted = self.saves.is_halted();
+                Err(failed(&mut self.pending, is_halted, fault, change))
+            }
+        }
+    }
+
+    /// Releases what was handed in.
+    pub(crate) fn release_handed(&mut self, handed: Option<Handed>) -> Released
+        requires { self.old.saves.is_halted ≡ false }
+        ensures point { ReleasesKept handed
+            (point_in F.content S.failed F.txn_state self.old.repository self.old.saves
+            self.old.pending) result
+            (point_in F.content S.failed F.txn_state self.new.repository self.new.saves
+            self.new.pending) }
+        ensures stop { S.is_honest self.old.saves.store
+            → ∥ LeavesEither S.moment S.left_since F.stands_for self.old.saves.store
+            self.new.saves.store (F.content self.old.repository)
+            (without_handed (F.content self.old.repository) handed) ∥₁ }
+    {
+        match handed {
+            None => Released::Settled,
+            Some(handed) => self.release(handed),
+        }
+    }
+
+    /// Releases the locks that are the user's and were handed in, if there are any.
+    fn release(&mut self, handed: Handed) -> Released
+        requires { self.old.saves.is_halted ≡ false }
+        ensures point { ReleasesBy handed.user handed.tokens
+            (point_in F.content S.failed F.txn_state self.old.repository self.old.saves
+            self.old.pending) result
+            (point_in F.content S.failed F.txn_state self.new.repository self.new.saves
+            self.new.pending) }
+        ensures stop { S.is_honest self.old.saves.store
+            → ∥ LeavesEither S.moment S.left_since F.stands_for self.old.saves.store
+            self.new.saves.store (F.content self.old.repository)
+            (without_released (F.content self.old.repository) handed.user handed.tokens) ∥₁ }
+    {
+        if !self
+            .repository
+            .releases(handed.user.as_ref(), &handed.tokens)
+        {
+            return Released::Settled;
+        }
+        match self
+            .repository
+            .released(handed.user.as_ref(), &handed.tokens)
+        {
+            Ok((next, file)) => {
+                released(self.settle_locks(next, &file, SavedChange::Release(handed)))
+            }
+            Err(_) => Released::NoMemory,
+        }
+    }
+}

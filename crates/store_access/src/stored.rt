@@ -1,0 +1,80 @@
+//! A repository in files that one hub alone has.
+ghost use Rattle.std.specs.Prelude.{◌≡◌, false};
+ghost use Rattle.store_files.specs.Folders.{Folder};
+ghost use Rattle.store_access.specs.Keeping.{Keeps, StandsFor};
+
+use crate::change::SavedChange;
+use crate::filed::Filed;
+use repostore::Saves;
+use store_files::Store;
+
+/// A repository in files that one hub alone has: each change is saved, and then made. Where a save
+/// fails, nothing is changed; where nobody knows whether a file was replaced, no change is made any more.
+#[derive(Drop)]
+pub struct StoredRepository<F: Filed, S: Store> {
+    pub(crate) repository: F,
+    pub(crate) saves: Saves<S>,
+    /// The change that was being saved when changes came to a halt.
+    pub(crate) pending: Option<SavedChange<F::Txn>>,
+    ghost kept: { ∥ Keeps S.is_honest S.holds S.may_leave F.is_of saves repository ∥₁ },
+}
+
+impl<F: Filed, S: Store> StoredRepository<F, S> {
+    /// The access to a repository and its files.
+    pub fn new(repository: F, saves: Saves<S>) -> Self
+        requires { ∥ Keeps S.is_honest S.holds S.may_leave F.is_of saves repository ∥₁ }
+        ensures repository { result.repository ≡ repository }
+        ensures saves { result.saves ≡ saves }
+    {
+        StoredRepository {
+            repository,
+            saves,
+            pending: None,
+        }
+    }
+
+    /// The repository that the files stand for.
+    pub fn repository(&self) -> &F
+        ensures { result.now ≡ self.now.repository }
+    {
+        &self.repository
+    }
+
+    /// The repository and its saves. While changes are made, its files are those of the repository.
+    pub fn into_parts(self) -> (F, Saves<S>)
+        ensures repository { result.0 ≡ self.repository }
+        ensures saves { result.1 ≡ self.saves }
+        ensures kept { ∥ Keeps S.is_honest S.holds S.may_leave F.is_of result.1 result.0 ∥₁ }
+    {
+        let StoredRepository {
+            repository,
+            saves,
+            pending,
+        } = self;
+        std::mem::drop(pending);
+        (repository, saves)
+    }
+
+    /// The store of the files. While changes are made, what it reads stands for what the repository contains, and
+    /// so does what a stop leaves now.
+    pub fn store(&self) -> &S
+        ensures store { result.now ≡ self.now.saves.store }
+        ensures holds { S.is_honest self.now.saves.store → self.now.saves.is_halted ≡ false
+            → ∥ StandsFor F.stands_for (F.content self.now.repository)
+            (S.holds self.now.saves.store) ∥₁ }
+        ensures leaves { S.is_honest self.now.saves.store → self.now.saves.is_halted ≡ false
+            → (f : Folder) → S.may_leave self.now.saves.store f
+            → ∥ StandsFor F.stands_for (F.content self.now.repository) f ∥₁ }
+    {
+        self.saves.store()
+    }
+
+    /// Lets go of the repository: the store of its files.
+    pub fn into_store(self) -> S
+        ensures { result ≡ self.saves.store }
+    {
+        let (repository, saves) = self.into_parts();
+        std::mem::drop(repository);
+        saves.into_store()
+    }
+}

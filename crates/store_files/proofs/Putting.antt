@@ -1,0 +1,64 @@
+-- One file more in memory.
+use Rattle.std.proofs.Common.{◌≡◌, ◌≢◌, ◌⊎◌, inl, inr, ⊎_elim, ℕ, Bool, true, false, cond, List, Option, Some, None, refl, sym, ap, ◌∙◌, arith, le_refl}
+use Rattle.std.specs.Prelude.{◌==◌, ◌&&◌, Vec}
+use Rattle.std.specs.BTreeMap.{BTreeMap, get, is_at}
+use Rattle.std.specs.Ordering.{nat_cmp, ordering_then, is_eq}
+use Rattle.std.specs.declared.alloc.Global.{Global}
+use Rattle.std.specs.declared.cmp.Ordering.{Ordering}
+use Rattle.std.specs.declared.cmp.Ordering.TheVariants.{Less, Equal, Greater}
+use Rattle.std.proofs.lemmas.Bool.Decides.{nat_tests}
+use Rattle.store_files.specs.Names.{kind_of, number_of, same_name}
+use Rattle.store_files.specs.NameLaws.{same_name_tells}
+use Rattle.store_files.specs.Folders.{Folder, IsSame, SameBut, bytes_of, with_file}
+use Rattle.store_files.specs.Memory.{by_numbers, files_of}
+use Rattle.store_files.specs.Moments.{Elapses}
+use Rattle.store_files.specs.declared.name.FileName.{FileName}
+
+both : (o p : Ordering) → is_eq (ordering_then o p) ≡ is_eq o && is_eq p
+both Less p = refl
+both Equal p = refl
+both Greater p = refl
+
+-- names are found by their numbers
+at_name : (a b : FileName) → is_at (by_numbers (kind_of a, number_of a)) (kind_of b, number_of b) ≡ same_name a b
+at_name a b =
+    both (nat_cmp (kind_of a) (kind_of b)) (nat_cmp (number_of a) (number_of b))
+    ∙ (λ i. equal (kind_of a) (kind_of b) i && equal (number_of a) (number_of b) i)
+  where
+    equal : (x y : ℕ) → is_eq (nat_cmp x y) ≡ (x == y)
+    equal x y = grind (arith, nat_tests)
+
+bytes_if : (b : Bool) (v : Vec ℕ Global) (o : Option (Vec ℕ Global)) → bytes_of (cond b (Some v) o) ≡ cond b (Some v.items) (bytes_of o)
+bytes_if true v o = refl
+bytes_if false v o = refl
+
+-- what the files are once one was put among them
+pub put : (old new : BTreeMap (ℕ × ℕ) (Vec ℕ Global)) (name : FileName) (kind number : ℕ) (v : Vec ℕ Global) (bytes : List ℕ)
+    → kind ≡ kind_of name → number ≡ number_of name → v.items ≡ bytes
+    → ((q : ℕ × ℕ) → get by_numbers new q ≡ cond (is_at (by_numbers (kind, number)) q) (Some v) (get by_numbers old q))
+    → IsSame (with_file (files_of old) name bytes) (files_of new)
+put old new name kind number v bytes is_kind is_number is updates n =
+    ap bytes_of (updates at)
+    ∙ ap (λ b. bytes_of (cond b (Some v) (get by_numbers old at))) ((λ i. is_at (by_numbers (is_kind i, is_number i)) at) ∙ at_name name n)
+    ∙ bytes_if (same_name name n) v (get by_numbers old at)
+    ∙ ap (λ (l : List ℕ). cond (same_name name n) (Some l) (files_of old n)) is
+  where
+    at : ℕ × ℕ
+    at = (kind_of n, number_of n)
+
+-- it has its bytes, and every other is as it was
+pub put_here : (old new : Folder) (name : FileName) (bytes : List ℕ) → IsSame (with_file old name bytes) new → new name ≡ Some bytes
+put_here old new name bytes is = is name ∙ elim (same_name_tells name name) [
+  | inl same ↦ ap (λ b. cond b (Some bytes) (old name)) same.0
+  | inr differs ↦ absurd (differs.1 refl)
+]
+
+pub put_others : (old new : Folder) (name : FileName) (bytes : List ℕ) → IsSame (with_file old name bytes) new → SameBut name old new
+put_others old new name bytes is n other = is n ∙ elim (same_name_tells name n) [
+  | inl same ↦ absurd (other (sym same.1))
+  | inr differs ↦ ap (λ b. cond b (Some bytes) (old n)) differs.0
+]
+
+-- a stop leaves no files of memory, at no moment
+pub leaves_none : (during : Folder → Type 0) → Elapses 0 0 (λ t f. ⊥) (λ t f. ⊥) during
+leaves_none during = record { later = le_refl 0; nothing_else = λ t f le none. absurd none; keeps = λ t f le none. none }

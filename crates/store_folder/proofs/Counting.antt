@@ -1,0 +1,58 @@
+-- Answers are counted where the device failed.
+use Rattle.std.proofs.Common.{◌≡◌, ◌⊎◌, inl, inr, ℕ, List, ◌∷◌, Result, Ok, Err, refl, sym, ap, subst, arith, le_refl}
+use Rattle.std.specs.Prelude.{◌+◌, ◌≤◌, ◌<◌, min, IsErr, IsErrOf}
+use Rattle.std.proofs.lemmas.Bool.{cases_lt}
+use Rattle.store_files.specs.Moments.{HasCause, HasRisen, last_count}
+use Rattle.store_files.specs.declared.fault.StoreFault.{StoreFault}
+use Rattle.store_files.specs.declared.fault.StoreFault.TheVariants as faults
+use Rattle.store_folder.specs.Note.{Event}
+use Rattle.store_folder.specs.Answers.{fault_of, trouble_number, done_number, done_result}
+use Rattle.store_folder.specs.Replay.{failed_in, count_after, failed_is}
+use Rattle.store_folder.specs.declared.folder.Trouble.{Trouble}
+use Rattle.store_folder.specs.declared.folder.Trouble.TheVariants.{Device, NoMemory}
+
+rises : (x : ℕ) → x ≤ last_count → HasRisen x (min (x + 1) last_count)
+rises x few = elim (cases_lt x last_count) [
+  | inl lt ↦ inl (omega arith)
+  | inr ge ↦ inr (omega arith)
+]
+
+abbrev told : {T : Type 0} → StoreFault → Result T StoreFault
+told fault = Err fault
+
+other : (T : Type 0) → told {T = T} faults.NoMemory ≡ told faults.Device → ⊥
+other T e = cc
+
+failed : (T : Type 0) (x : ℕ) (a : Trouble) → x ≤ last_count → HasCause {T = T} x (count_after (trouble_number a) x) (Err (fault_of a))
+failed T x Device few = record {
+  later = omega arith;
+  device = λ _. rises x few;
+  steady = λ no_device. absurd (no_device refl);
+  only = λ _. inl refl;
+}
+failed T x NoMemory few = record {
+  later = le_refl x;
+  device = λ e. absurd (other T e);
+  steady = λ _. refl;
+  only = λ _. inr refl;
+}
+
+done : (x : ℕ) (answer : Result (Unit {0}) Trouble) → x ≤ last_count → HasCause x (count_after (done_number answer) x) (done_result answer)
+done x (Ok u) few = record {
+  later = le_refl x;
+  device = λ e. absurd (cc);
+  steady = λ _. refl;
+  only = λ e. absurd (cc);
+}
+done x (Err a) few = failed (Unit {0}) x a few
+
+-- so it is of the record
+pub failed_call : (T : Type 0) (old new : List Event) (k n m : ℕ) (bytes : List ℕ) (a : Trouble) → new ≡ (k, n, m, trouble_number a, bytes) ∷ old
+    → HasCause {T = T} (failed_in old) (failed_in new) (Err (fault_of a))
+failed_call T old new k n m bytes a is =
+    subst (λ (es : List Event). HasCause {T = T} (failed_in old) (failed_in es) (Err (fault_of a))) (sym is) (failed T (failed_in old) a (failed_is old))
+
+pub done_call : (old new : List Event) (k n m : ℕ) (bytes : List ℕ) (answer : Result (Unit {0}) Trouble) → new ≡ (k, n, m, done_number answer, bytes) ∷ old
+    → HasCause (failed_in old) (failed_in new) (done_result answer)
+done_call old new k n m bytes answer is =
+    subst (λ (es : List Event). HasCause (failed_in old) (failed_in es) (done_result answer)) (sym is) (done (failed_in old) answer (failed_is old))

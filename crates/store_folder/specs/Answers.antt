@@ -1,0 +1,23 @@
+-- The answers of calls as numbers.
+use Rattle.std.specs.Prelude.{ℕ, List, [], Option, Some, None, Result, Ok, Err, Vec}
+use Rattle.std.specs.declared.alloc.Global.{Global}
+use Rattle.store_files.specs.declared.fault.StoreFault.{StoreFault}
+use Rattle.store_files.specs.declared.fault.StoreFault.TheVariants as faults
+use Rattle.store_folder.specs.declared.folder.Trouble.{Trouble}
+use Rattle.store_folder.specs.declared.folder.Trouble.TheVariants.{Device, NoMemory}
+
+abbrev pub fault_of : Trouble → StoreFault
+fault_of Device = faults.Device
+fault_of NoMemory = faults.NoMemory
+
+abbrev pub trouble_number : Trouble → ℕ
+trouble_number Device = 1
+trouble_number NoMemory = 2
+
+abbrev pub done_number : Result (Unit {0}) Trouble → ℕ
+done_number (Ok _) = 0
+done_number (Err trouble) = trouble_number trouble
+
+abbrev pub done_result : Result (Unit {0}) Trouble → Result (Unit {0}) StoreFault
+done_result (Ok x) = Ok x
+done_result (Err trouble) = Err (fault_of trouble)

@@ -1,0 +1,112 @@
+-- The commands of an edit, as the items that spell them.
+use Rattle.std.specs.Prelude.{ℕ, Bool, ◌||◌, List, [], ◌∷◌, Option, Some, option_map, ok_or, Result, Err, codes}
+use Rattle.std.specs.List.{find}
+use Rattle.std.specs.Option.{option_map_or}
+use Rattle.items.specs.Values.{ItemValue, ItemValues}
+use Rattle.wire_forms.specs.Forms.{◌>>=◌, is_name, command_form, number_first, string_first, list_first, optional_number}
+use Rattle.wire_edits.specs.Places.{added_entry_of, opened_entry_of, deleted_entry_of, absent}
+use Rattle.wire_edits.specs.Texts.{property, with_checksum, chunk, token_alone}
+use Rattle.wire_edits.specs.declared.editing.EditorCommand.{EditorCommand}
+use Rattle.wire_edits.specs.declared.editing.EditorCommand.TheVariants.{TargetRevision, OpenRoot, DeleteEntry, AddDirectory, AddFile, OpenDirectory, OpenFile, AbsentDirectory, AbsentFile, ChangeDirectoryProperty, ChangeFileProperty, ApplyTextDelta, TextDeltaChunk, TextDeltaEnd, CloseDirectory, CloseFile, CloseEdit, AbortEdit}
+use Rattle.wire_edits.specs.declared.editing.CommandName.{CommandName}
+use Rattle.wire_edits.specs.declared.editing.CommandName.TheVariants as names
+use Rattle.wire_forms.specs.declared.fault.CommandFault.{CommandFault}
+use Rattle.wire_forms.specs.declared.fault.CommandFault.TheVariants.{UnknownName, BadParameters}
+
+-- ---- names
+
+-- the name of a command, as it is sent
+abbrev pub editor_name_text : CommandName → List ℕ
+editor_name_text names.TargetRevision = codes "target-rev"
+editor_name_text names.OpenRoot = codes "open-root"
+editor_name_text names.DeleteEntry = codes "delete-entry"
+editor_name_text names.AddDirectory = codes "add-dir"
+editor_name_text names.OpenDirectory = codes "open-dir"
+editor_name_text names.ChangeDirectoryProperty = codes "change-dir-prop"
+editor_name_text names.CloseDirectory = codes "close-dir"
+editor_name_text names.AbsentDirectory = codes "absent-dir"
+editor_name_text names.AddFile = codes "add-file"
+editor_name_text names.OpenFile = codes "open-file"
+editor_name_text names.ChangeFileProperty = codes "change-file-prop"
+editor_name_text names.ApplyTextDelta = codes "apply-textdelta"
+editor_name_text names.TextDeltaChunk = codes "textdelta-chunk"
+editor_name_text names.TextDeltaEnd = codes "textdelta-end"
+editor_name_text names.CloseFile = codes "close-file"
+editor_name_text names.AbsentFile = codes "absent-file"
+editor_name_text names.CloseEdit = codes "close-edit"
+editor_name_text names.AbortEdit = codes "abort-edit"
+
+-- the commands of an edit
+abbrev pub editor_names : List CommandName
+editor_names =
+    names.TargetRevision ∷ names.OpenRoot ∷ names.DeleteEntry ∷ names.AddDirectory
+    ∷ names.OpenDirectory ∷ names.ChangeDirectoryProperty ∷ names.CloseDirectory
+    ∷ names.AbsentDirectory ∷ names.AddFile ∷ names.OpenFile ∷ names.ChangeFileProperty
+    ∷ names.ApplyTextDelta ∷ names.TextDeltaChunk ∷ names.TextDeltaEnd ∷ names.CloseFile
+    ∷ names.AbsentFile ∷ names.CloseEdit ∷ names.AbortEdit ∷ []
+
+-- the command of an edit that has this name
+abbrev pub editor_command_name : List ℕ → Option CommandName
+editor_command_name name = find (λ known. is_name name (editor_name_text known)) editor_names
+
+-- ---- parameters
+
+-- `( rev )`
+abbrev pub target_revision : ItemValues → Option EditorCommand
+target_revision params = do
+  (revision, _) ← number_first params
+  Some (TargetRevision revision)
+
+-- `( [ rev ] token )`
+abbrev pub open_root : ItemValues → Option EditorCommand
+open_root params = do
+  (revision, rest) ← list_first params
+  revision ← optional_number revision
+  (token, _) ← string_first rest
+  Some (OpenRoot revision token)
+
+-- the command of a name and its parameters, if they are of its form
+abbrev pub editor_command_with : CommandName → ItemValues → Option EditorCommand
+editor_command_with names.TargetRevision params = target_revision params
+editor_command_with names.OpenRoot params = open_root params
+editor_command_with names.DeleteEntry params = option_map DeleteEntry (deleted_entry_of params)
+editor_command_with names.AddDirectory params = option_map AddDirectory (added_entry_of params)
+editor_command_with names.OpenDirectory params = option_map OpenDirectory (opened_entry_of params)
+editor_command_with names.ChangeDirectoryProperty params =
+    option_map ChangeDirectoryProperty (property params)
+editor_command_with names.CloseDirectory params = option_map CloseDirectory (token_alone params)
+editor_command_with names.AbsentDirectory params = option_map AbsentDirectory (absent params)
+editor_command_with names.AddFile params = option_map AddFile (added_entry_of params)
+editor_command_with names.OpenFile params = option_map OpenFile (opened_entry_of params)
+editor_command_with names.ChangeFileProperty params = option_map ChangeFileProperty (property params)
+editor_command_with names.ApplyTextDelta params =
+    option_map (λ p. ApplyTextDelta p.0 p.1) (with_checksum params)
+editor_command_with names.TextDeltaChunk params = option_map (λ p. TextDeltaChunk p.0 p.1) (chunk params)
+editor_command_with names.TextDeltaEnd params = option_map TextDeltaEnd (token_alone params)
+editor_command_with names.CloseFile params = option_map (λ p. CloseFile p.0 p.1) (with_checksum params)
+editor_command_with names.AbsentFile params = option_map AbsentFile (absent params)
+editor_command_with names.CloseEdit params = Some CloseEdit
+editor_command_with names.AbortEdit params = Some AbortEdit
+
+-- ---- items
+
+-- the command of a name and its parameters, or why there is none
+abbrev pub editor_command_named : List ℕ → ItemValues → Result EditorCommand CommandFault
+editor_command_named name params =
+    option_map_or (λ known. ok_or (editor_command_with known params) BadParameters)
+    (editor_command_name name) (Err UnknownName)
+
+-- the command of an edit that an item is, or why it is none
+abbrev pub editor_command : ItemValue → Result EditorCommand CommandFault
+editor_command item =
+    option_map_or (λ form. editor_command_named form.0 form.1) (command_form item) (Err BadParameters)
+
+-- ---- an edit that has failed
+
+-- the commands that end an edit
+abbrev pub is_last : List ℕ → Bool
+is_last name = is_name name (codes "abort-edit") || is_name name (codes "close-edit")
+
+-- whether a command that is read by its name alone ends an edit, if the item is a command
+abbrev pub ends_edit : ItemValue → Option Bool
+ends_edit item = option_map (λ form. is_last form.0) (command_form item)

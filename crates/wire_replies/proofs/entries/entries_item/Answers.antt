@@ -1,0 +1,14 @@
+use Rattle.std.proofs.Common.{rules, ◌≡◌, ◌∙◌, map, ap, append-nil}
+use Rattle.std.proofs.lemmas.List.{drop_all}
+use Rattle.items.specs.declared.item.Item.{List, the_lemmas}
+use Rattle.items.specs.Values.{list}
+use Rattle.items.specs.View.{row_of, value_of, values_of}
+use Rattle.wire_replies.proofs.EntryRows.{tree_of_entry, row_of-entries}
+use Rattle.wire_replies.proofs.entries.entries_item.Goals as goal
+
+pub returns : goal.returns
+returns c =
+    let made = c.loop-name.items in
+    let seen : value_of (List made) ≡ list (values_of made.items) = search (rules, the_lemmas) in
+    let rows : map value_of made.items ≡ map tree_of_entry c.args.entries.now = search (rules, drop_all, append-nil) in
+    seen ∙ ap list (ap row_of rows ∙ row_of-entries c.args.entries.now)

@@ -1,0 +1,159 @@
+//! What is known of files and directories, as items.
+ghost use Rattle.std.specs.Prelude.{◌≡◌, ◌++◌, ◌∷◌, [], IfOk, OnOk, OnErr, map};
+ghost use Rattle.items.specs.View.{row_of, value_of};
+ghost use Rattle.items.specs.Values.{list};
+ghost use Rattle.wire_replies.specs.Replies.{directory_info, entry_tree, entry_trees, file_info, node_trees, stat_trees};
+
+use crate::build::{
+    boolean_item, kind_name, list_item, number_item, optional_string_item, string_item,
+    success_row, with_made, word_item,
+};
+use crate::properties::properties_item;
+use byte_string::ByteString;
+use items::Item;
+use repo_api::{NodeKind, Properties};
+use std::alloc::{AllocError, Global};
+use std::marker::Model;
+
+/// What is known of a file or a directory.
+#[derive(Drop)]
+pub struct NodeInfo {
+    pub kind: NodeKind,
+    /// How many bytes the text of a file has, 0 for a directory.
+    pub size: u64,
+    pub has_properties: bool,
+    /// The revision that last changed it.
+    pub created: u64,
+    /// The date of that revision, if it has one.
+    pub date: Option<ByteString>,
+    /// The author of that revision, if it has one.
+    pub author: Option<ByteString>,
+}
+
+/// What is told of a file.
+#[derive(Drop)]
+pub struct FileInfo {
+    /// The MD5 of its text, as hexadecimal digits, if it is told.
+    pub digest: Option<ByteString>,
+    pub revision: u64,
+    pub properties: Properties,
+}
+
+/// What is told of a directory.
+#[derive(Drop)]
+pub struct DirectoryInfo {
+    pub revision: u64,
+    pub properties: Properties,
+    pub entries: EntryList,
+}
+
+/// Names, each with what is known of the entry.
+#[derive(Drop)]
+pub struct EntryList {
+    entries: Vec<(ByteString, NodeInfo)>,
+}
+
+impl Model for EntryList {
+    ghost use Rattle.std.specs.Prelude.{ℕ, List};
+    ghost use Rattle.wire_replies.specs.declared.entries.NodeInfo.{NodeInfo};
+
+    ghost Value = { List (List ℕ × NodeInfo) };
+
+    ghost view = { λ l. l.entries.items };
+}
+
+impl EntryList {
+    /// No entries.
+    pub fn new(alloc: Global) -> Self
+        ensures { result ≡ [] }
+    {
+        EntryList {
+            entries: Vec::new(alloc),
+        }
+    }
+
+    /// Puts an entry at the end.
+    pub fn push(&mut self, name: ByteString, node: NodeInfo) -> Result<(), AllocError>
+        ensures ok { OnOk result (self.new ≡ self.old ++ (name, node) ∷ []) }
+        ensures err { OnErr result (self.new ≡ self.old) }
+    {
+        self.entries.push((name, node)).map_err(AllocError::from)
+    }
+
+    /// The entries in the order in which they were put.
+    pub fn as_slice(&self) -> &[(ByteString, NodeInfo)]
+        ensures { result.now ≡ self.now }
+    {
+        self.entries.as_slice()
+    }
+}
+
+/// `( success ( [ md5 ] rev ( property ... ) ) )`
+pub(crate) fn file_info_item(alloc: Global, info: &FileInfo) -> Result<Item, AllocError>
+    ensures { IfOk result (λ item. value_of item ≡ file_info info.now) }
+{
+    let items = with_made(Vec::new(alloc), optional_string_item(alloc, &info.digest))?;
+    let items = with_made(items, Ok(number_item(info.revision)))?;
+    let items = with_made(items, properties_item(alloc, &info.properties))?;
+    success_row(alloc, items)
+}
+
+/// `( success ( rev ( property ... ) ( entry ... ) ) )`
+pub(crate) fn directory_info_item(alloc: Global, info: &DirectoryInfo) -> Result<Item, AllocError>
+    ensures { IfOk result (λ item. value_of item ≡ directory_info info.now) }
+{
+    let items = with_made(Vec::new(alloc), Ok(number_item(info.revision)))?;
+    let items = with_made(items, properties_item(alloc, &info.properties))?;
+    let items = with_made(items, entries_item(alloc, &info.entries))?;
+    success_row(alloc, items)
+}
+
+/// `( entry ... )`
+fn entries_item(alloc: Global, entries: &EntryList) -> Result<Item, AllocError>
+    ensures { IfOk result (λ item. value_of item ≡ list (entry_trees entries.now)) }
+{
+    let mut items = Vec::new(alloc);
+    for (name, node) in entries.as_slice() {
+        items = with_made(items, entry_item(alloc, name.as_slice(), node))?;
+    }
+    Ok(Item::List(items))
+}
+
+/// `( name kind size has-props created-rev [ date ] [ author ] )`
+fn entry_item(alloc: Global, name: &[u8], node: &NodeInfo) -> Result<Item, AllocError>
+    ensures { IfOk result (λ item. value_of item ≡ entry_tree name.now node.now) }
+{
+    let items = with_made(Vec::new(alloc), string_item(alloc, name))?;
+    let items = with_node(alloc, items, node)?;
+    Ok(Item::List(items))
+}
+
+/// `[ ( kind size has-props created-rev [ date ] [ author ] ) ]`
+pub(crate) fn stat_item(alloc: Global, node: &Option<NodeInfo>) -> Result<Item, AllocError>
+    ensures { IfOk result (λ item. value_of item ≡ list (stat_trees node.now)) }
+{
+    match node {
+        Some(node) => list_item(alloc, [node_item(alloc, node)?]),
+        None => list_item(alloc, []),
+    }
+}
+
+/// `( kind size has-props created-rev [ date ] [ author ] )`
+fn node_item(alloc: Global, node: &NodeInfo) -> Result<Item, AllocError>
+    ensures { IfOk result (λ item. value_of item ≡ list (row_of (node_trees node.now))) }
+{
+    Ok(Item::List(with_node(alloc, Vec::new(alloc), node)?))
+}
+
+/// The items, and behind them `kind size has-props created-rev [ date ] [ author ]`.
+fn with_node(alloc: Global, items: Vec<Item>, node: &NodeInfo) -> Result<Vec<Item>, AllocError>
+    ensures { IfOk result (λ longer. map value_of longer.items
+        ≡ map value_of items.items ++ node_trees node.now) }
+{
+    let items = with_made(items, word_item(alloc, kind_name(node.kind)))?;
+    let items = with_made(items, Ok(number_item(node.size)))?;
+    let items = with_made(items, boolean_item(alloc, node.has_properties))?;
+    let items = with_made(items, Ok(number_item(node.created)))?;
+    let items = with_made(items, optional_string_item(alloc, &node.date))?;
+    with_made(items, optional_string_item(alloc, &node.author))
+}
