@@ -3,6 +3,7 @@
 
 mod answering;
 mod asking;
+mod beginning;
 mod files;
 mod own;
 mod reparenting;

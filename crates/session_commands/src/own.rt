@@ -9,6 +9,7 @@ ghost use Rattle.machine.specs.Steps.{AnswerWritten, StepWritten, StepOrNothing}
 ghost use Rattle.machine.specs.declared.phase.Phase.TheVariants.{Serving};
 ghost use Rattle.session_replies.specs.Telling.{told_before};
 
+use crate::beginning::{begun_report, open_report};
 use crate::files::tell_file;
 use crate::reparenting::reparent;
 use crate::request::Request;
@@ -18,16 +19,13 @@ use drive_reports::{Errand, Purpose};
 use machine::{Client, Options, Phase, Turn};
 use refusals::Refusal;
 use repo_api::Repository;
+use session_changes::{change_property, lock, unlock};
 use session_commits::begin_edit;
-use session_locks::{lock, unlock};
-use session_properties::change_property;
 use session_reads::{
     dated_reply, directory_reply, file_answer, kind_reply, lock_reply, locks_reply,
-    properties_reply, property_reply, stat_reply, youngest_reply,
+    properties_reply, property_reply, stat_reply, tell_locations, tell_log, youngest_reply,
 };
 use session_replies::{Preface, SessionPhase, refuse, say_preface, tell};
-use session_reports::{begun_report, open_report};
-use session_traces::{tell_locations, tell_log};
 use std::alloc::AllocError;
 use std::mem::drop;
 use wire_replies::ReplySink;

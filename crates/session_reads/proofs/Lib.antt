@@ -1,1 +1,4 @@
 pub mod Values
+pub mod Joined
+pub mod Each
+pub mod Listed

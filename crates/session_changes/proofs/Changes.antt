@@ -1,0 +1,56 @@
+-- The steps of a lock and of an unlock.
+use Rattle.std.proofs.Common.{◌≡◌, Bool, refl, sym, subst, inl, inr}
+use Rattle.std.specs.Prelude.{◌⊎◌, Result, Ok, Err}
+use Rattle.dates.specs.Dates.{IsDateText}
+use Rattle.svnpath.specs.Paths.{PathValue}
+use Rattle.svnpath.specs.declared.fault.PathFault.{PathFault}
+use Rattle.svnpath.specs.declared.fault.PathFault.TheVariants.{NoMemory}
+use Rattle.refusals.specs.Refusing.{path_refusal}
+use Rattle.commands.specs.declared.command.LockCommand.{LockCommand}
+use Rattle.commands.specs.declared.command.UnlockCommand.{UnlockCommand}
+use Rattle.repo_api.specs.States.{RepoState}
+use Rattle.repo_api.specs.declared.lock_ask.LockAsk.{LockAsk}
+use Rattle.repo_api.specs.declared.lock_ask.UnlockAsk.{UnlockAsk}
+use Rattle.wire_replies.specs.declared.reply.Reply.TheVariants as replies
+use Rattle.access.specs.Points.{Point, content_of}
+use Rattle.machine.specs.Answers.{Answer, serves}
+use Rattle.machine.specs.Commands.{lock_ask, unlock_ask, LockStep, UnlockStep}
+use Rattle.machine.specs.declared.env.Env.{Env}
+use Rattle.machine.specs.declared.phase.Client.{Client}
+use Rattle.session_changes.specs.Asked.{LockAsked, UnlockAsked}
+
+-- ---- a lock and an unlock
+
+module _ (env : Env) (client : Client) where
+  pub lock_is : (command : LockCommand) (ask : LockAsk) (found : Result PathValue PathFault) → found ≡ Ok ask.path → IsDateText env.moment ask.date
+      → ask ≡ lock_ask env client command ask.path ask.date → (at : Point) (a : Answer)
+      → LockAsked at.halted env (content_of at) client ask a → LockStep at.halted env (content_of at) client command found a
+  lock_is command ask found is_path dated same at a asked =
+      let now = subst (λ (x : LockAsk). LockAsked at.halted env (content_of at) client x a) same asked in
+      subst (λ (f : Result PathValue PathFault). LockStep at.halted env (content_of at) client command f a) (sym is_path) (ask.date, dated, now)
+
+  pub unlock_is : (command : UnlockCommand) (ask : UnlockAsk) (found : Result PathValue PathFault) → found ≡ Ok ask.path
+      → ask ≡ unlock_ask client command ask.path → (at : Point) (a : Answer)
+      → UnlockAsked at.halted env (content_of at) client ask a → UnlockStep at.halted env (content_of at) client command found a
+  unlock_is command ask found is_path same at a asked =
+      let now = subst (λ (x : UnlockAsk). UnlockAsked at.halted env (content_of at) client x a) same asked in
+      subst (λ (f : Result PathValue PathFault). UnlockStep at.halted env (content_of at) client command f a) (sym is_path) now
+
+  -- a path that is none
+  pub lock_refused : (command : LockCommand) (found : Result PathValue PathFault) (fault : PathFault) → found ≡ Err fault → (halts : Bool) (c : RepoState)
+      → LockStep halts env c client command found (serves env client (replies.Failure (path_refusal fault)))
+  lock_refused command found fault is halts c =
+      let said = serves env client (replies.Failure (path_refusal fault)) in
+      subst (λ (f : Result PathValue PathFault). LockStep halts env c client command f said) (sym is) refl
+
+  pub unlock_refused : (command : UnlockCommand) (found : Result PathValue PathFault) (fault : PathFault) → found ≡ Err fault → (halts : Bool) (c : RepoState)
+      → UnlockStep halts env c client command found (serves env client (replies.Failure (path_refusal fault)))
+  unlock_refused command found fault is halts c =
+      let said = serves env client (replies.Failure (path_refusal fault)) in
+      subst (λ (f : Result PathValue PathFault). UnlockStep halts env c client command f said) (sym is) refl
+
+-- what is known of a fault that is not want of memory
+pub fault_is : {T : Type 0} (found : Result T PathFault) (fault : PathFault) → (found ≡ Err fault) ⊎ (fault ≡ NoMemory)
+    → (fault ≡ NoMemory → ⊥) → found ≡ Err fault
+fault_is found fault (inl is) other = is
+fault_is found fault (inr is) other = absurd (other is)

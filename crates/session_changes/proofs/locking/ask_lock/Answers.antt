@@ -1,0 +1,25 @@
+use Rattle.std.proofs.Common.{[], ◌∷◌, refl}
+use Rattle.wire_replies.specs.declared.reply.Reply.TheVariants as replies
+use Rattle.repo_api.specs.Accepted.Accepted.{Locks}
+use Rattle.repo_api.specs.Locking.{lock_refusal, lock_of}
+use Rattle.machine.specs.Commands.{lock_answer, env_without_token}
+use Rattle.session_replies.specs.Telling.{told_before}
+use Rattle.session_replies.proofs.Steps.{stepped}
+use Rattle.session_replies.proofs.Changes.{made, not_made}
+use Rattle.session_changes.proofs.locking.ask_lock.Goals as goal
+
+pub returns-in-Ok-lock : goal.returns-in-Ok-lock
+returns-in-Ok-lock g c =
+    let ask = c.args.ask in
+    let env = c.args.turn.now.env in
+    let said = rw c.in-Ok.ensures at c.tell_lock.ensures in
+    stepped (made (λ x. lock_refusal x ask) (Locks ask) env c.args.client (told_before c.args.preface) (lock_answer env c.args.client ask) _ _ _
+    (env_without_token env) (replies.Lock ask.path (lock_of ask) ∷ []) _ refl c.in-Ok-lock.ensures)
+    _ c.tell_lock.result _ said
+
+pub returns-in-Err-lock : goal.returns-in-Err-lock
+returns-in-Err-lock g c =
+    let ask = c.args.ask in
+    let env = c.args.turn.now.env in
+    not_made (λ x. lock_refusal x ask) (Locks ask) env c.args.client (told_before c.args.preface) (lock_answer env c.args.client ask) _ _ _
+    _ c.tell_fault.result _ _ refl c.in-Err-lock.ensures c.tell_fault.ensures

@@ -1,0 +1,26 @@
+use Rattle.std.proofs.Common.{[], ◌∷◌, refl}
+use Rattle.wire_replies.specs.declared.reply.Reply.TheVariants as replies
+use Rattle.repo_api.specs.Accepted.Accepted.{ChangesProperty}
+use Rattle.repo_api.specs.RevisionProperties.{property_refusal}
+use Rattle.machine.specs.Answers.{change_answer}
+use Rattle.session_replies.specs.Telling.{told_before}
+use Rattle.session_replies.proofs.Steps.{stepped}
+use Rattle.session_replies.proofs.Changes.{made, not_made}
+use Rattle.session_changes.proofs.revising.ask_change.Goals as goal
+
+pub returns-in-Ok : goal.returns-in-Ok
+returns-in-Ok g c =
+    let change = ChangesProperty c.args.ask in
+    let env = c.args.turn.now.env in
+    let client = c.args.client in
+    stepped (made (λ x. property_refusal x c.args.ask) change env client (told_before c.args.preface) (change_answer env client change (replies.Success ∷ [])) _ _ _
+    env (replies.Success ∷ []) _ refl c.in-Ok.ensures)
+    _ c.tell.result _ (record { ok = c.tell.ensures.ok replies.Success refl; err = c.tell.ensures.err replies.Success refl })
+
+pub returns-in-Err : goal.returns-in-Err
+returns-in-Err g c =
+    let change = ChangesProperty c.args.ask in
+    let env = c.args.turn.now.env in
+    let client = c.args.client in
+    not_made (λ x. property_refusal x c.args.ask) change env client (told_before c.args.preface) (change_answer env client change (replies.Success ∷ [])) _ _ _
+    _ c.tell_fault.result _ _ refl c.in-Err.ensures c.tell_fault.ensures

@@ -1,0 +1,106 @@
+//! A path of the repository is locked.
+ghost use Rattle.std.specs.Prelude.{◌∷◌, ◌++◌, [], IfOk, OnErr};
+ghost use Rattle.svnpath.specs.Texts.{joined};
+ghost use Rattle.wire_replies.specs.Replies.{print};
+ghost use Rattle.wire_replies.specs.Sinks.{WritesPart};
+ghost use Rattle.access.specs.Points.{content_of};
+ghost use Rattle.machine.specs.Answers.{serves, behind, Behind};
+ghost use Rattle.machine.specs.Commands.{LockStep, env_without_token};
+ghost use Rattle.machine.specs.Steps.{AnswerWritten, StepWritten, StepOrNothing};
+ghost use Rattle.session_replies.specs.Telling.{told_before};
+ghost use Rattle.session_changes.specs.Asked.{LockAsked};
+
+use crate::asking::{MadeLock, lock_asked_for, made_lock};
+use access::RepoAccess;
+use commands::LockCommand;
+use machine::{Client, Turn};
+use refusals::path_refusal;
+use repo_api::{LockAsk, Repository};
+use session_replies::{Preface, SessionPhase, refuse, tell, tell_fault};
+use std::alloc::AllocError;
+use std::mem::drop;
+use svnpath::PathFault;
+use wire_replies::{Reply, ReplySink};
+
+/// Tells of a lock that is made, and with it uses its token.
+fn tell_lock<R: Repository, S: ReplySink>(
+    client: Client,
+    preface: Preface,
+    made: MadeLock,
+    turn: &mut Turn<S>,
+) -> Result<SessionPhase<R>, AllocError>
+    ensures ok { IfOk result (λ phase. AnswerWritten (behind (told_before preface)
+        (serves (env_without_token turn.old.env) client (Reply.Lock made.path made.lock)))
+        phase turn.new.env (S.writes turn.old.out turn.new.out)) }
+    ensures err { OnErr result (WritesPart (S.writes turn.old.out turn.new.out)
+        (print (told_before preface ++ Reply.Lock made.path made.lock ∷ []))) }
+{
+    let MadeLock { path, lock } = made;
+    turn.env = turn.env.without_token();
+    tell(client, preface, Ok(Reply::Lock(path, lock)), turn)
+}
+
+/// Asks for a lock. What is told of it is made before, so that nothing but the writing can fail
+/// once it is made.
+fn ask_lock<R: Repository, A: RepoAccess<View = R>, S: ReplySink>(
+    client: Client,
+    ask: LockAsk,
+    preface: Preface,
+    access: &mut A,
+    turn: &mut Turn<S>,
+) -> Result<SessionPhase<R>, AllocError>
+    ensures ok { IfOk result (λ phase. StepWritten A.rules
+        (λ at a. Behind (told_before preface)
+        (LockAsked at.halted turn.old.env (content_of at) client ask) a)
+        (A.point access.old) (A.point access.new)
+        phase turn.new.env (S.writes turn.old.out turn.new.out)) }
+    ensures err { OnErr result (StepOrNothing A.rules
+        (λ at a. Behind (told_before preface)
+        (LockAsked at.halted turn.old.env (content_of at) client ask) a)
+        (A.point access.old) (A.point access.new) (S.writes turn.old.out turn.new.out)) }
+{
+    match made_lock(turn.alloc, &ask) {
+        Ok(made) => match access.lock(ask) {
+            Ok(()) => tell_lock(client, preface, made, turn),
+            Err(fault) => {
+                drop(made);
+                tell_fault(client, preface, fault, turn)
+            }
+        },
+        Err(error) => {
+            drop(client);
+            drop(ask);
+            Err(error)
+        }
+    }
+}
+
+/// Locks a path, behind what the client is told before.
+pub fn lock<R: Repository, A: RepoAccess<View = R>, S: ReplySink>(
+    client: Client,
+    command: &LockCommand,
+    preface: Preface,
+    access: &mut A,
+    turn: &mut Turn<S>,
+) -> Result<SessionPhase<R>, AllocError>
+    ensures ok { IfOk result (λ phase. StepWritten A.rules
+        (λ at a. Behind (told_before preface) (LockStep at.halted turn.old.env (content_of at)
+        client command.now (joined client.path command.now.path)) a)
+        (A.point access.old) (A.point access.new)
+        phase turn.new.env (S.writes turn.old.out turn.new.out)) }
+    ensures err { OnErr result (StepOrNothing A.rules
+        (λ at a. Behind (told_before preface) (LockStep at.halted turn.old.env (content_of at)
+        client command.now (joined client.path command.now.path)) a)
+        (A.point access.old) (A.point access.new) (S.writes turn.old.out turn.new.out)) }
+{
+    match lock_asked_for(turn.alloc, turn.env, &client, command) {
+        Ok(ask) => ask_lock(client, ask, preface, access, turn),
+        Err(fault) => match fault {
+            PathFault::NoMemory => {
+                drop(client);
+                Err(AllocError)
+            }
+            _ => refuse(client, preface, path_refusal(fault), turn),
+        },
+    }
+}

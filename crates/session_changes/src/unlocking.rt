@@ -1,0 +1,79 @@
+//! A path of the repository is unlocked.
+ghost use Rattle.std.specs.Prelude.{IfOk, OnErr};
+ghost use Rattle.svnpath.specs.Texts.{joined};
+ghost use Rattle.access.specs.Points.{content_of};
+ghost use Rattle.machine.specs.Answers.{Behind};
+ghost use Rattle.machine.specs.Commands.{UnlockStep};
+ghost use Rattle.machine.specs.Steps.{StepWritten, StepOrNothing};
+ghost use Rattle.session_replies.specs.Telling.{told_before};
+ghost use Rattle.session_changes.specs.Asked.{UnlockAsked};
+
+use crate::asking::unlock_asked_for;
+use access::RepoAccess;
+use commands::UnlockCommand;
+use machine::{Client, Turn};
+use refusals::path_refusal;
+use repo_api::{Repository, UnlockAsk};
+use session_replies::{Preface, SessionPhase, refuse, tell, tell_fault};
+use std::alloc::AllocError;
+use std::mem::drop;
+use svnpath::PathFault;
+use wire_replies::{Reply, ReplySink};
+
+/// Asks for an unlock.
+fn ask_unlock<R: Repository, A: RepoAccess<View = R>, S: ReplySink>(
+    client: Client,
+    ask: &UnlockAsk,
+    preface: Preface,
+    access: &mut A,
+    turn: &mut Turn<S>,
+) -> Result<SessionPhase<R>, AllocError>
+    ensures ok { IfOk result (λ phase. StepWritten A.rules
+        (λ at a. Behind (told_before preface)
+        (UnlockAsked at.halted turn.old.env (content_of at) client ask.now) a)
+        (A.point access.old) (A.point access.new)
+        phase turn.new.env (S.writes turn.old.out turn.new.out)) }
+    ensures err { OnErr result (StepOrNothing A.rules
+        (λ at a. Behind (told_before preface)
+        (UnlockAsked at.halted turn.old.env (content_of at) client ask.now) a)
+        (A.point access.old) (A.point access.new) (S.writes turn.old.out turn.new.out)) }
+{
+    match access.unlock(ask) {
+        Ok(()) => tell(client, preface, Ok(Reply::Success), turn),
+        Err(fault) => tell_fault(client, preface, fault, turn),
+    }
+}
+
+/// Unlocks a path, behind what the client is told before.
+pub fn unlock<R: Repository, A: RepoAccess<View = R>, S: ReplySink>(
+    client: Client,
+    command: &UnlockCommand,
+    preface: Preface,
+    access: &mut A,
+    turn: &mut Turn<S>,
+) -> Result<SessionPhase<R>, AllocError>
+    ensures ok { IfOk result (λ phase. StepWritten A.rules
+        (λ at a. Behind (told_before preface) (UnlockStep at.halted turn.old.env (content_of at)
+        client command.now (joined client.path command.now.path)) a)
+        (A.point access.old) (A.point access.new)
+        phase turn.new.env (S.writes turn.old.out turn.new.out)) }
+    ensures err { OnErr result (StepOrNothing A.rules
+        (λ at a. Behind (told_before preface) (UnlockStep at.halted turn.old.env (content_of at)
+        client command.now (joined client.path command.now.path)) a)
+        (A.point access.old) (A.point access.new) (S.writes turn.old.out turn.new.out)) }
+{
+    match unlock_asked_for(turn.alloc, &client, command) {
+        Ok(ask) => {
+            let phase = ask_unlock(client, &ask, preface, access, turn);
+            drop(ask);
+            phase
+        }
+        Err(fault) => match fault {
+            PathFault::NoMemory => {
+                drop(client);
+                Err(AllocError)
+            }
+            _ => refuse(client, preface, path_refusal(fault), turn),
+        },
+    }
+}

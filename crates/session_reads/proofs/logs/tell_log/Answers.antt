@@ -1,0 +1,18 @@
+use Rattle.std.proofs.Common.{refl}
+use Rattle.repo_api.specs.States.{RepoState}
+use Rattle.machine.specs.Histories.{all_joined, log_replies}
+use Rattle.session_replies.specs.Telling.{told_before}
+use Rattle.session_reads.proofs.Listed.{listed, listed_part}
+use Rattle.session_reads.proofs.logs.tell_log.Goals as goal
+
+pub returns-in-Ok-clause-ok : goal.returns-in-Ok-clause-ok
+returns-in-Ok-clause-ok g c =
+    let told = λ (x : RepoState). log_replies x c.args.command.now (all_joined c.args.client.path c.args.command.now.paths) in
+    listed g.A.RepoAccess.rules told _ _ c.args.turn.now.env c.args.client (told_before c.args.preface) c.say_log_behind.ensures.later _
+    _ _ refl c.say_log_behind.ensures.env c.in-Ok.ensures.ok
+
+pub returns-in-Err-clause-err : goal.returns-in-Err-clause-err
+returns-in-Err-clause-err g c =
+    let told = λ (x : RepoState). log_replies x c.args.command.now (all_joined c.args.client.path c.args.command.now.paths) in
+    listed_part g.A.RepoAccess.rules told _ _ c.args.turn.now.env c.args.client (told_before c.args.preface) c.say_log_behind.ensures.later _
+    c.in-Err.ensures.err

@@ -1,3 +1,0 @@
-pub mod Joined
-pub mod Each
-pub mod Listed
