@@ -13,7 +13,7 @@ use Rattle.repo_api.specs.States.{RepoState, trees_in}
 use Rattle.repo_api.specs.Trees.{Tree, text_of, is_directory_there}
 use Rattle.repo_api.specs.declared.entry.Entry.{Entry}
 use Rattle.repo_api.specs.declared.limits.TheConstants.{TEXT_LIMIT}
-use Rattle.repo_api.proofs.Standing.{right_where, short_where}
+use Rattle.repo_laws.proofs.Standing.{right_where, short_where}
 use Rattle.drive_rules.specs.Drives.{Differs, HasReason}
 use Rattle.drive_rules.specs.Places.{is_in_directory}
 use Rattle.drive_rules.specs.Scopes.{depth_below}

@@ -42,7 +42,7 @@ use Rattle.edit_rules.specs.declared.opened.Opened.{Opened}
 use Rattle.edit_rules.specs.declared.opened.Opened.TheVariants.{Directory, File}
 use Rattle.edit_rules.specs.declared.opened.DeltaState.TheVariants.{NotBegun, Reading, Ended}
 use Rattle.repo_api.specs.RightEdits.{IsRightEdit}
-use Rattle.repo_api.proofs.Standing.{source_there}
+use Rattle.repo_laws.proofs.Standing.{source_there}
 use Rattle.svndiff0.proofs.Documents.{fed_more}
 use Rattle.edit_rules.specs.Soundness.{IsRightIn}
 use Rattle.edit_rules.proofs.Standing.{OfOpened, all_inserted, all_removed, all_changed, all_kept, IsNewOr, all_with_new, found_under, StandsAs, stays_same, stays_begun, stays_added, new_stands, stays_revised, stays_renewed, stays_written, stays_outside, copy_stands, directory_there, first_none, file_there, nothing_there, tree_there, stands_some, named_none, begins_at, new_token, right_source}

@@ -26,11 +26,11 @@ pub fn edits_keep_trees()
         → AreSound c.revisions → RestsOn old c → IsSoundEdit old → edit_refusal c old command ≡ None
         → Applies c old command new → IsSoundEdit new }
 {
-    repo_api::beginnings_are_trees();
-    repo_api::edits_keep_trees();
-    repo_api::same_entries_make_a_tree();
-    repo_api::transactions_begin_marked();
-    repo_api::transactions_stay_marked();
+    repo_laws::beginnings_are_trees();
+    repo_laws::edits_keep_trees();
+    repo_laws::same_entries_make_a_tree();
+    repo_laws::transactions_begin_marked();
+    repo_laws::transactions_stay_marked();
 }
 
 /// What the commands of a sound edit make of its transaction may be made of it, where the command is not refused,

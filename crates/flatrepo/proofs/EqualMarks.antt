@@ -13,7 +13,7 @@ use Rattle.repo_api.specs.Trees.{Tree, is_open_mark}
 use Rattle.repo_api.specs.declared.entry.Entry.{Entry}
 use Rattle.repo_api.specs.declared.entry.Mark.{Mark}
 use Rattle.repo_api.specs.declared.entry.Mark.TheVariants.{Open, Made}
-use Rattle.history.specs.Sound.{IsSoundRepo}
+use Rattle.history_marks.specs.Sound.{IsSoundRepo}
 use Rattle.flatrepo.specs.Sameness.{HaveSameMark}
 
 open_last : (o : Option Entry) → last_of o ≡ Some Open → has_open_last o ≡ true

@@ -11,9 +11,9 @@ use Rattle.repo_api.specs.Histories.{changes_in}
 use Rattle.repo_api.specs.Soundness.{AreSound}
 use Rattle.repo_api.specs.States.{TreeMap, ChangeMap, LockMap, RepoState, TxnState, IsBeginning, IsBegun, tree_of, trees_in}
 use Rattle.repo_api.specs.declared.ask.CommitAsk.{CommitAsk}
-use Rattle.history.specs.Quiet.{IsMarkedBy}
-use Rattle.history.specs.Sound.{IsSoundRepo, IsSoundTxn}
-use Rattle.history.proofs.Staying.{changed_sound}
+use Rattle.history_marks.specs.Quiet.{IsMarkedBy}
+use Rattle.history_marks.specs.Sound.{IsSoundRepo, IsSoundTxn}
+use Rattle.history_marks.proofs.Staying.{changed_sound}
 use Rattle.flat_trees.specs.Contents.{revisions_of, flat_state}
 use Rattle.flat_trees.specs.Perhaps.{map_or_empty}
 use Rattle.flat_trees.specs.declared.flat_content.FlatContent.{FlatContent}

@@ -13,9 +13,9 @@ use Rattle.repo_api.specs.Histories.{history_of, IsQuiet, IsQuietSince}
 use Rattle.repo_api.specs.Kinds.{created_of}
 use Rattle.repo_api.specs.States.{RepoState, tree_of, tree_at}
 use Rattle.repo_api.specs.Trees.{Tree}
-use Rattle.history.specs.Settling.{HasNoLaterMark, or_zero}
-use Rattle.history.specs.Sound.{IsSoundRepo}
-use Rattle.history.proofs.Settling.{marks_settle, walked}
+use Rattle.history_marks.specs.Settling.{HasNoLaterMark, or_zero}
+use Rattle.history_marks.specs.Sound.{IsSoundRepo}
+use Rattle.history_marks.proofs.Settling.{marks_settle, walked}
 use Rattle.flatrepo.specs.Settling.{own_above, IsNewestOwn, IsNewestMark}
 
 pub first_own : (t : Tree) (p : PathValue) (k : ℕ) → k ≡ own_above t p 0 → IsNewestOwn t p 0 k

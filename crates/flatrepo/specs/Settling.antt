@@ -2,8 +2,8 @@
 use Rattle.std.specs.Prelude.{◌≤◌, ℕ, take}
 use Rattle.svnpath.specs.Paths.{PathValue}
 use Rattle.repo_api.specs.Trees.{Tree}
-use Rattle.history.specs.Quiet.{own_revision}
-use Rattle.history.specs.Settling.{HasNoLaterMark, or_zero}
+use Rattle.history_marks.specs.Quiet.{own_revision}
+use Rattle.history_marks.specs.Settling.{HasNoLaterMark, or_zero}
 
 -- the revision of `own` at the path's first names, so many
 abbrev pub own_above : Tree → PathValue → ℕ → ℕ

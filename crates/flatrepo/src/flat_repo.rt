@@ -1,5 +1,5 @@
 //! What a repository in memory has.
-ghost use Rattle.history.specs.Sound.{IsSoundRepo};
+ghost use Rattle.history_marks.specs.Sound.{IsSoundRepo};
 ghost use Rattle.flat_trees.specs.Contents.{flat_state};
 
 use flat_trees::FlatContent;

@@ -1,5 +1,5 @@
 //! What an open transaction has.
-ghost use Rattle.history.specs.Sound.{IsSoundTxn};
+ghost use Rattle.history_marks.specs.Sound.{IsSoundTxn};
 ghost use Rattle.flatrepo.specs.Open.{txn_of};
 
 use flat_trees::{FlatContent, FlatTree};

@@ -1,7 +1,7 @@
 //! Where marks tell that entries are the same, with all that is beneath them.
 ghost use Rattle.std.specs.Prelude.{◌≡◌, true, option_copied};
 ghost use Rattle.repo_api.specs.Readings.{IsSameAt};
-ghost use Rattle.history.specs.Sound.{IsSoundRepo};
+ghost use Rattle.history_marks.specs.Sound.{IsSoundRepo};
 ghost use Rattle.flat_trees.specs.Contents.{flat_state};
 ghost use Rattle.flatrepo.specs.Sameness.{HaveSameMark};
 

@@ -17,7 +17,7 @@ ghost use Rattle.repo_api.specs.MergedMaps.{has_conflict, merged_map};
 ghost use Rattle.repo_api.specs.declared.ask.CommitAsk.{CommitAsk};
 ghost use Rattle.repo_api.specs.States.{IsBeginning, IsEdited, tree_of, tree_at, trees_in, changes_of, youngest};
 ghost use Rattle.repo_api.specs.RightEdits.{IsRightEdit};
-ghost use Rattle.history.specs.Sound.{IsSoundRepo};
+ghost use Rattle.history_marks.specs.Sound.{IsSoundRepo};
 ghost use Rattle.flat_trees.specs.Contents.{fixed_of, flat_state, revisions_of, properties_of};
 ghost use Rattle.flatrepo.specs.Whole.{state_of, repo_content, txn_state_of};
 
@@ -30,7 +30,7 @@ use flat_trees::{
     FlatContent, FlatRevision, FlatTree, begun_tree, created, edit_tree, entry_at, has_deeper,
     kind_at, names, properties, text,
 };
-use history::{repositories_stay_sound, transactions_stay_sound};
+use history_marks::{repositories_stay_sound, transactions_stay_sound};
 use pathlocks::{Locks, lock_shared, put_shared, release_shared, unlock_shared};
 use refusals::Refusal;
 use repo_api::{

@@ -4,9 +4,9 @@ ghost use Rattle.std.specs.FinMap.{get};
 ghost use Rattle.repo_api.specs.Histories.{history_of, IsQuietSince};
 ghost use Rattle.repo_api.specs.Kinds.{created_of};
 ghost use Rattle.repo_api.specs.States.{tree_of};
-ghost use Rattle.history.specs.Quiet.{own_revision};
-ghost use Rattle.history.specs.Settling.{or_zero};
-ghost use Rattle.history.specs.Sound.{IsSoundRepo};
+ghost use Rattle.history_marks.specs.Quiet.{own_revision};
+ghost use Rattle.history_marks.specs.Settling.{or_zero};
+ghost use Rattle.history_marks.specs.Sound.{IsSoundRepo};
 ghost use Rattle.flat_trees.specs.Contents.{flat_state};
 ghost use Rattle.flatrepo.specs.Settling.{IsNewestOwn, IsNewestMark};
 

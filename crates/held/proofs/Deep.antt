@@ -20,7 +20,7 @@ use Rattle.repo_api.specs.MergeLaws.{key_there}
 use Rattle.repo_api.specs.Soundness.{AreTrees}
 use Rattle.repo_api.specs.States.{TreeMap, Revision, tree_at, tree_in, tree_of}
 use Rattle.repo_api.specs.declared.entry.Entry.{Entry}
-use Rattle.history.specs.Sound.{IsSoundRepo}
+use Rattle.history_marks.specs.Sound.{IsSoundRepo}
 use Rattle.noderevs.specs.Beneath.{IsShallow}
 use Rattle.noderevs.specs.Held.{trees_of}
 use Rattle.held.specs.Contents.{held_state}

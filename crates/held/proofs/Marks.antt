@@ -12,10 +12,10 @@ use Rattle.repo_api.specs.Histories.{history_of, IsQuiet, IsQuietSince}
 use Rattle.repo_api.specs.Kinds.{created_of}
 use Rattle.repo_api.specs.States.{tree_of, tree_at}
 use Rattle.repo_api.specs.Trees.{Tree}
-use Rattle.history.specs.Quiet.{own_revision}
-use Rattle.history.specs.Settling.{or_zero}
-use Rattle.history.specs.Sound.{IsSoundRepo}
-use Rattle.history.proofs.Settling.{marks_settle, walked}
+use Rattle.history_marks.specs.Quiet.{own_revision}
+use Rattle.history_marks.specs.Settling.{or_zero}
+use Rattle.history_marks.specs.Sound.{IsSoundRepo}
+use Rattle.history_marks.proofs.Settling.{marks_settle, walked}
 use Rattle.noderevs.specs.Held.{trees_of}
 use Rattle.noderevs.specs.Nodes.{Look}
 use Rattle.noderevs.specs.Views.{find_id, shared_entry, entry_at, shared_tree}

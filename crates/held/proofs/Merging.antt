@@ -16,8 +16,8 @@ use Rattle.repo_api.specs.declared.entry.Content.{Content}
 use Rattle.repo_api.specs.declared.entry.Entry.{Entry}
 use Rattle.repo_api.specs.declared.entry.Mark.{Mark}
 use Rattle.repo_api.specs.declared.entry.Mark.TheVariants.{Open, Made}
-use Rattle.repo_api.proofs.MergeLaws.{untouched_own, same_look}
-use Rattle.repo_api.proofs.Naming.{same_mark_is}
+use Rattle.repo_laws.proofs.MergeLaws.{untouched_own, same_look}
+use Rattle.repo_laws.proofs.Naming.{same_mark_is}
 use Rattle.treemerge.specs.Merges.{IsTold, IfConflict}
 use Rattle.treemerge.specs.declared.merging.MergeFault.{MergeFault}
 use Rattle.treemerge.specs.declared.merging.MergeFault.TheVariants as merges

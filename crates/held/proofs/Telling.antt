@@ -7,9 +7,9 @@ use Rattle.repo_api.specs.Edits.{touched}
 use Rattle.repo_api.specs.Merge.{is_untouched, has_open_last}
 use Rattle.repo_api.specs.States.{TxnState, IsBeginning, tree_of, trees_in}
 use Rattle.repo_api.specs.Trees.{Tree}
-use Rattle.repo_api.proofs.Marking.{transaction_later}
-use Rattle.repo_api.proofs.Revisions.{beginning_keeps}
-use Rattle.history.specs.Sound.{IsSoundRepo, IsSoundTxn}
+use Rattle.repo_laws.proofs.Marking.{transaction_later}
+use Rattle.repo_laws.proofs.Revisions.{beginning_keeps}
+use Rattle.history_marks.specs.Sound.{IsSoundRepo, IsSoundTxn}
 use Rattle.noderevs.specs.Held.{trees_of}
 use Rattle.treemerge.specs.Merges.{IsTold}
 use Rattle.held.specs.Contents.{held_state, revisions_of}

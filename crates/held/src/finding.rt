@@ -2,7 +2,7 @@
 ghost use Rattle.std.specs.Prelude.{◌≡◌, ◌<◌, true, length, map, IfOk, option_copied, slice_get};
 ghost use Rattle.std.specs.Map.Iter.{deref};
 ghost use Rattle.repo_api.specs.Histories.{changes_in};
-ghost use Rattle.history.specs.Sound.{IsSoundRepo};
+ghost use Rattle.history_marks.specs.Sound.{IsSoundRepo};
 ghost use Rattle.repo_api.specs.Kinds.{kind_of, created_of, has_deeper_at, node_properties, text_of};
 ghost use Rattle.repo_api.specs.Readings.{names_in, IsSameAt};
 ghost use Rattle.repo_api.specs.States.{tree_in, youngest};

@@ -4,7 +4,7 @@ ghost use Rattle.svnpath.specs.Paths.{PathValue};
 ghost use Rattle.std.specs.FinMap.{get};
 ghost use Rattle.repo_api.specs.States.{TxnState, IsBeginning};
 ghost use Rattle.repo_api.specs.Trees.{Tree};
-ghost use Rattle.history.specs.Sound.{IsSoundRepo, IsSoundTxn};
+ghost use Rattle.history_marks.specs.Sound.{IsSoundRepo, IsSoundTxn};
 ghost use Rattle.treemerge.specs.Merges.{IsTold};
 ghost use Rattle.noderevs.specs.Held.{node_at, trees_of};
 ghost use Rattle.noderevs.specs.declared.node_rev.NodeId.{NodeId};

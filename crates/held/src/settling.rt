@@ -1,7 +1,7 @@
 //! How far back the marks at and above a path go.
 ghost use Rattle.std.specs.Prelude.{◌≡◌, ◌≤◌, IfSome};
 ghost use Rattle.repo_api.specs.Histories.{history_of, IsQuietSince};
-ghost use Rattle.history.specs.Sound.{IsSoundRepo};
+ghost use Rattle.history_marks.specs.Sound.{IsSoundRepo};
 ghost use Rattle.noderevs.specs.Held.{node_at};
 ghost use Rattle.noderevs.specs.Views.{shared_tree};
 ghost use Rattle.held.specs.Contents.{held_state};

@@ -1,5 +1,4 @@
 pub mod Steps
-pub mod Settled
 pub mod Dating
 pub mod Once
 pub mod Among
@@ -10,11 +9,3 @@ pub mod Logging
 pub mod Orders
 pub mod OnTraces
 pub mod Passing
-pub mod Above
-pub mod Telling
-pub mod Told
-pub mod Sealing
-pub mod Entries
-pub mod Marked
-pub mod Staying
-pub mod Settling

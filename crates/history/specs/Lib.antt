@@ -1,10 +1,6 @@
 pub mod Traces
 pub mod Logs
 pub mod Locations
-pub mod Quiet
-pub mod Transactions
-pub mod Sound
-pub mod Settling
 pub mod Dates
 pub mod Walks
 pub mod Laws

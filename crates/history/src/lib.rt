@@ -18,9 +18,7 @@ pub use changes::{is_touched, next_place, place_before};
 pub use dates::{dated_rev, is_date_text};
 pub use kinds::kind_shown;
 pub use laws::{
-    commits_mark_changes, dated_revisions_are_greatest, locations_are_on_traces, logs_are_right,
-    marks_lead_back, marks_settle, new_repositories_are_marked, repositories_stay_sound,
-    traces_fall, transactions_stay_sound, transactions_tell_changes,
+    dated_revisions_are_greatest, locations_are_on_traces, logs_are_right, traces_fall,
 };
 pub use listed::Listed;
 pub use locating::{each_once, location, locations};

@@ -70,7 +70,7 @@ pub fn changes_are_asked_for()
         → (changes : List Accepted) × CallsHaveDone old calls outcomes new run changes }
 {
     machine::steps_keep_trees();
-    repo_api::commits_keep_both_sides();
+    repo_laws::commits_keep_both_sides();
 }
 
 /// What is not the session's own is not asked for: a commit of another transaction than that of its edit, at another
@@ -177,7 +177,7 @@ pub fn revision_properties_stay()
         → KeepsProperties old.content new.content }
 {
     only_accepted_changes();
-    repo_api::changes_of_properties_keep_revisions();
+    repo_laws::changes_of_properties_keep_revisions();
 }
 
 /// The count of the store's failures never falls.
@@ -251,8 +251,8 @@ pub fn new_repositories_are_sound()
     ensures { (c : RepoState) (uuid : ℕ) (date : List ℕ) → c ≡ new_repository uuid date
         → AreSound c.revisions }
 {
-    repo_api::opening_is_a_tree();
-    repo_api::opening_is_marked();
+    repo_laws::opening_is_a_tree();
+    repo_laws::opening_is_marked();
 }
 
 /// Every tree is a tree in a hub to which nobody has connected yet, over a new repository, or over one whose trees are

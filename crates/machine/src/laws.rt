@@ -42,6 +42,6 @@ pub fn steps_keep_trees()
         → StandsOn a.phase (content_after c a.effect) × MeetBy c a.effect.changes }
 {
     edit_rules::edits_keep_trees();
-    repo_api::accepted_commits_meet_well();
-    repo_api::commits_keep_both_sides();
+    repo_laws::accepted_commits_meet_well();
+    repo_laws::commits_keep_both_sides();
 }

@@ -15,6 +15,6 @@ pub fn commits_are_right()
         → IsBeginning t.shown c.revisions → IsTree (tree_of t.tree) → IsMarkedTxn t
         → commit_refusal c ask t ≡ None → IsRight c (Commits ask t) }
 {
-    repo_api::accepted_commits_meet_well();
-    repo_api::commits_keep_both_sides();
+    repo_laws::accepted_commits_meet_well();
+    repo_laws::commits_keep_both_sides();
 }

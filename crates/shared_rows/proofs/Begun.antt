@@ -9,7 +9,7 @@ use Rattle.repo_api.specs.States.{RepoState, TxnState, IsBegun, tree_of, trees_i
 use Rattle.repo_api.specs.Trees.{Tree, IsTree}
 use Rattle.repo_api.specs.declared.entry.Entry.{Entry}
 use Rattle.repo_api.specs.declared.entry.NodeKind.TheVariants as kinds
-use Rattle.repo_api.proofs.Standing.{tree_where}
+use Rattle.repo_laws.proofs.Standing.{tree_where}
 
 -- where a directory stands, something stands
 some_of : (e : Option Entry) → kinds.Directory ≡ kind_of e → IsSome e

@@ -32,9 +32,9 @@ fn begin<R: Repository>(alloc: Global, view: R) -> Result<R::Txn, AllocError>
     ensures tree { IfOk result (λ txn. IsTree (tree_of (R.txn_state txn).tree)) }
     ensures marked { IfOk result (λ txn. IsMarkedTxn (R.txn_state txn)) }
 {
-    repo_api::beginnings_are_trees();
-    repo_api::same_entries_make_a_tree();
-    repo_api::transactions_begin_marked();
+    repo_laws::beginnings_are_trees();
+    repo_laws::same_entries_make_a_tree();
+    repo_laws::transactions_begin_marked();
     match view.kind(view.youngest(), &Path::root(alloc)) {
         NodeKind::Directory => view.begin(),
         _ => Err(AllocError),

@@ -8,7 +8,7 @@ use Rattle.repo_api.specs.Trees.{Tree, same_mark, is_open_mark, is_directory}
 use Rattle.repo_api.specs.declared.entry.Entry.{Entry}
 use Rattle.repo_api.specs.declared.entry.Mark.{Mark}
 use Rattle.repo_api.specs.declared.entry.Mark.TheVariants.{Open, Made}
-use Rattle.repo_api.proofs.Naming.{same_mark_is}
+use Rattle.repo_laws.proofs.Naming.{same_mark_is}
 use Rattle.noderevs.specs.Nodes.{Look, kid_at, IsThere}
 use Rattle.noderevs.specs.Soundness.{AreKidsThere, AreApart}
 use Rattle.noderevs.specs.Views.{shared_entry}

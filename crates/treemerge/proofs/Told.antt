@@ -11,7 +11,7 @@ use Rattle.repo_api.specs.declared.entry.Content.{Content}
 use Rattle.repo_api.specs.declared.entry.Entry.{Entry}
 use Rattle.repo_api.specs.declared.entry.Mark.{Mark}
 use Rattle.repo_api.specs.declared.entry.Mark.TheVariants.{Open, Made}
-use Rattle.repo_api.proofs.Naming.{same_mark_is}
+use Rattle.repo_laws.proofs.Naming.{same_mark_is}
 use Rattle.treemerge.specs.Merges.{IsTold}
 
 both : (a b : Bool) → (a && b) ≡ true → (a ≡ true) × (b ≡ true)

@@ -13,9 +13,9 @@ use Rattle.repo_api.specs.States.{LockMap, RepoState, TxnState, IsBeginning, tre
 use Rattle.repo_api.specs.Trees.{Tree}
 use Rattle.repo_api.specs.declared.ask.CommitAsk.{CommitAsk}
 use Rattle.repo_api.specs.declared.entry.Entry.{Entry}
-use Rattle.history.specs.Quiet.{IsMarkedBy}
-use Rattle.history.specs.Sound.{IsSoundRepo, IsSoundTxn}
-use Rattle.history.proofs.Staying.{changed_sound}
+use Rattle.history_marks.specs.Quiet.{IsMarkedBy}
+use Rattle.history_marks.specs.Sound.{IsSoundRepo, IsSoundTxn}
+use Rattle.history_marks.proofs.Staying.{changed_sound}
 use Rattle.noderevs.specs.Held.{trees_of}
 use Rattle.treemerge.specs.Merges.{IsTold}
 use Rattle.held.specs.Contents.{held_state, revisions_of, state_of}

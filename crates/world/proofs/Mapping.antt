@@ -8,7 +8,7 @@ use Rattle.repo_api.specs.StateLaws.{same_tree}
 use Rattle.repo_api.specs.States.{TreeMap, tree_of}
 use Rattle.repo_api.specs.Trees.{Tree}
 use Rattle.repo_api.specs.declared.edit.EditOp.{EditOp}
-use Rattle.history.specs.Sound.{IsSoundTxn}
+use Rattle.history_marks.specs.Sound.{IsSoundTxn}
 use Rattle.txntree.specs.Whole.{txn_tree}
 use Rattle.held.specs.Maps.{IsMapOf, Mapped, one_map}
 use Rattle.world.specs.Open.{txn_of}

@@ -9,9 +9,9 @@ use Rattle.repo_api.specs.Soundness.{AreSound, AreTrees}
 use Rattle.repo_api.specs.States.{TreeMap, ChangeMap, LockMap, Revision, TxnState, IsBeginning, IsBegun, IsEdited, changes_of, tree_of, trees_in, youngest}
 use Rattle.repo_api.specs.Trees.{Tree, IsTree}
 use Rattle.repo_api.specs.declared.edit.EditOp.{EditOp}
-use Rattle.repo_api.proofs.Standing.{edited_tree}
-use Rattle.history.specs.Sound.{IsSoundRepo, IsSoundTxn}
-use Rattle.history.proofs.Staying.{begun_sound, edited_sound}
+use Rattle.repo_laws.proofs.Standing.{edited_tree}
+use Rattle.history_marks.specs.Sound.{IsSoundRepo, IsSoundTxn}
+use Rattle.history_marks.proofs.Staying.{begun_sound, edited_sound}
 use Rattle.noderevs.specs.Held.{trees_of}
 use Rattle.txntree.specs.Whole.{txn_tree}
 use Rattle.txntree.specs.declared.tree.TxnTree.{TxnTree}

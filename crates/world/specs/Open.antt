@@ -1,7 +1,7 @@
 -- A transaction by its parts.
 use Rattle.std.specs.Prelude.{ℕ}
 use Rattle.repo_api.specs.States.{TreeMap, ChangeMap, TxnState}
-use Rattle.history.specs.Sound.{IsSoundTxn}
+use Rattle.history_marks.specs.Sound.{IsSoundTxn}
 use Rattle.txntree.specs.Whole.{txn_tree}
 use Rattle.txntree.specs.declared.tree.TxnTree.{TxnTree}
 use Rattle.held.specs.Contents.{revisions_of}

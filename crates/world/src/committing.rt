@@ -6,7 +6,7 @@ ghost use Rattle.repo_api.specs.Commits.{commit_refusal, committed, limit_refusa
 ghost use Rattle.repo_api.specs.Locking.{check_refusal};
 ghost use Rattle.repo_api.specs.States.{TreeMap, IsBeginning};
 ghost use Rattle.repo_api.specs.declared.limits.TheConstants.{REVISION_LIMIT};
-ghost use Rattle.history.specs.Sound.{IsSoundRepo};
+ghost use Rattle.history_marks.specs.Sound.{IsSoundRepo};
 ghost use Rattle.held.specs.Committing.{conflicts, next_map};
 ghost use Rattle.held.specs.Contents.{held_state, revisions_of, state_of};
 ghost use Rattle.held.specs.Growing.{HasOneMore};

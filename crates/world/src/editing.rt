@@ -6,7 +6,7 @@ ghost use Rattle.repo_api.specs.Changes.{changes_after};
 ghost use Rattle.repo_api.specs.Edits.{edited};
 ghost use Rattle.repo_api.specs.RightEdits.{IsRightEdit};
 ghost use Rattle.repo_api.specs.States.{IsBeginning, IsEdited, changes_of, tree_of, trees_in};
-ghost use Rattle.history.specs.Sound.{IsSoundRepo};
+ghost use Rattle.history_marks.specs.Sound.{IsSoundRepo};
 ghost use Rattle.noderevs.specs.Held.{node_at};
 ghost use Rattle.noderevs.specs.declared.node_rev.NodeId.{NodeId};
 ghost use Rattle.txntree.specs.Whole.{txn_tree, IsSound};

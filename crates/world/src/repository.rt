@@ -17,7 +17,7 @@ use crate::world::World;
 use crate::world_txn::WorldTxn;
 use byte_string::ByteString;
 use held::Held;
-use history::{repositories_stay_sound, transactions_stay_sound};
+use history_marks::{repositories_stay_sound, transactions_stay_sound};
 use pathlocks::{Locks, lock_shared, put_shared, release_shared, unlock_shared};
 use refusals::Refusal;
 use repo_api::{
@@ -149,7 +149,7 @@ impl Repository for World {
 
     fn begin(&self) -> Result<WorldTxn, AllocError> {
         transactions_stay_sound();
-        repo_api::beginnings_are_trees();
+        repo_laws::beginnings_are_trees();
         let tree = self.held.begun(self.alloc)?;
         Ok(WorldTxn {
             shown: Arc::try_clone(&self.held)?,

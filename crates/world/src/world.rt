@@ -1,5 +1,5 @@
 //! What a repository over node revisions has.
-ghost use Rattle.history.specs.Sound.{IsSoundRepo};
+ghost use Rattle.history_marks.specs.Sound.{IsSoundRepo};
 ghost use Rattle.held.specs.Contents.{held_state};
 
 use held::Held;

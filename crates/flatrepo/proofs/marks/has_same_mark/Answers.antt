@@ -1,6 +1,6 @@
 use Rattle.std.proofs.Common.{Some, sym, ap, ◌∙◌}
 use Rattle.std.specs.Prelude.{option_copied}
-use Rattle.repo_api.proofs.Naming.{same_mark_is}
+use Rattle.repo_laws.proofs.Naming.{same_mark_is}
 use Rattle.repo_api.specs.Marks.{last_of}
 use Rattle.repo_api.specs.declared.entry.Mark.{Mark}
 use Rattle.flatrepo.proofs.marks.has_same_mark.Goals as goal

@@ -2,7 +2,7 @@ use Rattle.std.proofs.Common.{refl, ap, ◌∙◌}
 use Rattle.std.proofs.Math.Logic.{∥∥₁_map₂}
 use Rattle.repo_api.specs.Edits.{edited}
 use Rattle.repo_api.specs.States.{IsEdited, tree_of, trees_in}
-use Rattle.history.proofs.Staying.{edited_sound}
+use Rattle.history_marks.proofs.Staying.{edited_sound}
 use Rattle.flat_trees.specs.Contents.{revisions_of}
 use Rattle.flatrepo.specs.Open.{txn_of}
 use Rattle.flatrepo.specs.Whole.{txn_state_of}

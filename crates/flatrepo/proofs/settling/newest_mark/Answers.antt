@@ -1,7 +1,7 @@
 use Rattle.std.proofs.Common.{rules, ◌≡◌, max, ap, ◌∙◌}
 use Rattle.repo_api.specs.Kinds.{created_of}
 use Rattle.repo_api.specs.States.{tree_of}
-use Rattle.history.specs.Settling.{or_zero}
+use Rattle.history_marks.specs.Settling.{or_zero}
 use Rattle.flatrepo.proofs.NewestMarks.{newest_of}
 use Rattle.flatrepo.proofs.settling.newest_mark.Goals as goal
 

@@ -2,8 +2,8 @@ use Rattle.std.proofs.Common.{rules, ◌≡◌, ◌+◌, take, [], ◌∷◌, �
 use Rattle.std.proofs.lemmas.List.{take_more}
 use Rattle.svnpath.specs.Paths.{Component}
 use Rattle.repo_api.specs.States.{tree_of}
-use Rattle.history.specs.Quiet.{own_revision}
-use Rattle.history.specs.Settling.{or_zero}
+use Rattle.history_marks.specs.Quiet.{own_revision}
+use Rattle.history_marks.specs.Settling.{or_zero}
 use Rattle.flatrepo.specs.Settling.{own_above}
 use Rattle.flatrepo.proofs.NewestMarks.{next_own}
 use Rattle.flatrepo.proofs.settling.newest_own.Goals as goal

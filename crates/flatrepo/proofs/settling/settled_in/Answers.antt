@@ -2,7 +2,7 @@ use Rattle.std.proofs.Common.{rules, ◌≡◌, ap, subst, ◌∙◌}
 use Rattle.std.specs.FinMap.{get}
 use Rattle.std.specs.Prelude.{IsSome, slice_get}
 use Rattle.repo_api.specs.States.{TreeMap, tree_of, tree_at}
-use Rattle.history.specs.Settling.{HasNoLaterMark}
+use Rattle.history_marks.specs.Settling.{HasNoLaterMark}
 use Rattle.flat_trees.specs.Contents.{revisions_of, flat_state}
 use Rattle.flat_trees.specs.Perhaps.{map_or_empty}
 use Rattle.flat_trees.proofs.Rules.{map_of_tree}

@@ -1,7 +1,7 @@
 use Rattle.std.proofs.Common.{rules, ◌≡◌}
 use Rattle.std.specs.Prelude.{None}
 use Rattle.repo_api.specs.Commits.{commit_refusal, committed}
-use Rattle.history.specs.Sound.{IsSoundRepo}
+use Rattle.history_marks.specs.Sound.{IsSoundRepo}
 use Rattle.flat_trees.specs.Contents.{flat_state}
 use Rattle.flat_trees.specs.declared.flat_content.FlatContent.{FlatContent}
 use Rattle.flatrepo.specs.Whole.{state_of, txn_state_of}

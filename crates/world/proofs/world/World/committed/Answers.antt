@@ -1,7 +1,7 @@
 use Rattle.std.proofs.Common.{rules, ◌≡◌}
 use Rattle.std.specs.Prelude.{None}
 use Rattle.repo_api.specs.Commits.{commit_refusal, committed}
-use Rattle.history.specs.Sound.{IsSoundRepo}
+use Rattle.history_marks.specs.Sound.{IsSoundRepo}
 use Rattle.held.specs.Contents.{held_state, state_of}
 use Rattle.held.specs.declared.held.Held.{Held}
 use Rattle.world.specs.Whole.{txn_state_of}

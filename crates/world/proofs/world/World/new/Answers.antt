@@ -1,5 +1,5 @@
 use Rattle.std.proofs.Common.{sym, ap, subst, ◌∙◌}
-use Rattle.history.specs.Sound.{IsSoundRepo}
+use Rattle.history_marks.specs.Sound.{IsSoundRepo}
 use Rattle.held.specs.Contents.{held_state}
 use Rattle.world.proofs.world.World.new.Goals as goal
 

@@ -1,8 +1,0 @@
-use Rattle.history.proofs.Staying.{opening_sound, changed_sound}
-use Rattle.history.proofs.laws.repositories_stay_sound.Goals as goal
-
-pub returns-clause-opens : goal.returns-clause-opens
-returns-clause-opens c = opening_sound c.opening_is_a_tree.ensures
-
-pub returns-clause-changes : goal.returns-clause-changes
-returns-clause-changes c = changed_sound

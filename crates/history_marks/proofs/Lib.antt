@@ -1,0 +1,9 @@
+pub mod Settled
+pub mod Above
+pub mod Telling
+pub mod Told
+pub mod Sealing
+pub mod Entries
+pub mod Marked
+pub mod Staying
+pub mod Settling

@@ -1,0 +1,4 @@
+pub mod Quiet
+pub mod Transactions
+pub mod Sound
+pub mod Settling

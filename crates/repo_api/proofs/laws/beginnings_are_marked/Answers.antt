@@ -1,5 +1,0 @@
-use Rattle.repo_api.proofs.Edited.{begun_transaction}
-use Rattle.repo_api.proofs.laws.beginnings_are_marked.Goals as goal
-
-pub returns : goal.returns
-returns c = λ trees n marked. begun_transaction trees (trees n) (marked.named n) (marked.closed n)

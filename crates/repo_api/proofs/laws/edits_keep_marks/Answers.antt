@@ -1,5 +1,0 @@
-use Rattle.repo_api.proofs.Marking.{edit_marks}
-use Rattle.repo_api.proofs.laws.edits_keep_marks.Goals as goal
-
-pub returns : goal.returns
-returns c = edit_marks

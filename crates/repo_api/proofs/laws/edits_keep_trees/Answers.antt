@@ -1,5 +1,0 @@
-use Rattle.repo_api.proofs.Standing.{edited_tree}
-use Rattle.repo_api.proofs.laws.edits_keep_trees.Goals as goal
-
-pub returns : goal.returns
-returns c = edited_tree

@@ -1,5 +1,0 @@
-use Rattle.repo_api.proofs.MergeLaws.{merged_tree}
-use Rattle.repo_api.proofs.laws.merges_are_trees.Goals as goal
-
-pub returns : goal.returns
-returns c = λ trees n base youngest txn w. merged_tree trees n base youngest txn w
