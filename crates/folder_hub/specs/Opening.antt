@@ -3,7 +3,7 @@ use Rattle.std.specs.Prelude.{◌≡◌, ℕ, []}
 use Rattle.store_files.specs.Folders.{Folder}
 use Rattle.access.specs.Points.{Point}
 use Rattle.machine.specs.Settings.{Settings}
-use Rattle.hub.specs.State.{HubState, hub_at}
+use Rattle.hub_runs.specs.State.{HubState, hub_at}
 use Rattle.store_access.specs.Keeping.{StandsFor}
 use Rattle.filed_trees.specs.StandsFor as files
 

@@ -14,11 +14,11 @@ use Rattle.machine.specs.Answers.Verdict.{Written, NotWritten, Unknown}
 use Rattle.machine.specs.Steps.{AddsAll, Stores, EffectAt, StepAt, SessionRun, Leaves as LeavesAt, input_step, unreleased_step}
 use Rattle.machine.specs.declared.env.Env.{Env}
 use Rattle.machine.specs.declared.phase.Phase.TheVariants.{Greeted, LoggingIn, Challenged, Serving, Editing, Skipping, Reporting, Driven, Ended}
-use Rattle.hub.specs.State.{HubState, hub_at, session_of, updated, without, kept}
-use Rattle.hub.specs.Runs.{Event, InputHappens, CommitLeaves, HubStep, HubRun, InputsAre, ends_of, answered}
-use Rattle.hub.specs.Runs.Event.{Hears, Leaves, Drops}
-use Rattle.hub.specs.SessionLaws.{session_of-updated, session_of-without}
-use Rattle.hub.proofs.Failing.{or_false, or_true}
+use Rattle.hub_runs.specs.State.{HubState, hub_at, session_of, updated, without, kept}
+use Rattle.hub_runs.specs.Runs.{Event, InputHappens, CommitLeaves, HubStep, HubRun, InputsAre, ends_of, answered}
+use Rattle.hub_runs.specs.Runs.Event.{Hears, Leaves, Drops}
+use Rattle.hub_runs.specs.SessionLaws.{session_of-updated, session_of-without}
+use Rattle.hub_runs.proofs.Failing.{or_false, or_true}
 use Rattle.hub.proofs.Places.{updated_same, without_none, kept_kept, kept_ended, without-kept}
 
 abbrev pub events_of : ℕ → List Input → List Event

@@ -11,12 +11,12 @@ use Rattle.machine.specs.Hearing.{HasNoMore}
 use Rattle.machine.specs.Stages.{SessionState, StandsOn, is_open}
 use Rattle.machine.specs.Steps.{FeedWritten, FeedLost}
 use Rattle.machine.specs.declared.env.Env.{Env}
-use Rattle.hub.specs.State.{HubState, AllOpen, HasTrees, Finds, hub_at, session_of, updated, without, kept}
-use Rattle.hub.specs.Runs.{HubRun, IfOpen, ends_of, with_rest, Feeds, BreaksOff}
-use Rattle.hub.specs.SessionLaws.{session_of-updated, session_of-without, kept-updated, without-updated}
+use Rattle.hub_runs.specs.State.{HubState, AllOpen, HasTrees, Finds, hub_at, session_of, updated, without, kept}
+use Rattle.hub_runs.specs.Runs.{HubRun, IfOpen, ends_of, with_rest, Feeds, BreaksOff}
+use Rattle.hub_runs.specs.SessionLaws.{session_of-updated, session_of-without, kept-updated, without-updated}
 use Rattle.hub.proofs.Places.{without-kept, settled, kept_ended}
-use Rattle.hub.proofs.Everywhere.{AllOpen-at, AllOpen-kept, HasTrees-at, HasTrees-kept}
-use Rattle.hub.proofs.Staying.{feeds_keep, breaks_keep}
+use Rattle.hub_runs.proofs.Everywhere.{AllOpen-at, AllOpen-kept, HasTrees-at, HasTrees-kept}
+use Rattle.hub_runs.proofs.Staying.{feeds_keep, breaks_keep}
 use Rattle.hub.proofs.Composing.{StandsAlone, AddsOwn, holds_open, holds_kept, events_of, inputs_are, composed, ends, runs_on}
 
 if_open : (xs : List (ℕ × SessionState)) (n : ℕ) (session s' : SessionState) (rest : List ℕ) → session_of xs n ≡ Some session

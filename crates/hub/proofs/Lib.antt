@@ -1,14 +1,6 @@
 pub mod Places
-pub mod Running
-pub mod Revising
-pub mod Effects
-pub mod Everywhere
-pub mod Acting
-pub mod Staying
-pub mod Failing
 pub mod Composing
 pub mod Feeding
-pub mod Trees
 pub mod Calling
 pub mod Owning
 pub mod Respecting

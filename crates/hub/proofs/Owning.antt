@@ -13,22 +13,23 @@ use Rattle.wire_replies.specs.declared.reply.Reply.{Reply}
 use Rattle.machine.specs.Soundness.{MeetBy}
 use Rattle.machine.specs.Stages.{SessionState}
 use Rattle.machine.specs.declared.env.Env.{Env}
-use Rattle.hub.specs.State.{HubState, HasTrees, session_of, updated}
-use Rattle.hub.specs.Runs.{Event, HubStep, HubRun, ends_of, with_rest}
-use Rattle.hub.specs.Runs.Event.{Connects, Drops}
+use Rattle.hub_runs.specs.State.{HubState, HasTrees, session_of, updated}
+use Rattle.hub_runs.specs.Runs.{Event, HubStep, HubRun, ends_of, with_rest}
+use Rattle.hub_runs.specs.Runs.Event.{Connects, Drops}
 use Rattle.hub.specs.Calls.{CallStep, CallRun}
-use Rattle.hub.specs.Laws.{AllKeepSides}
-use Rattle.hub.specs.Done.{GoesOnBy, HasDone, HaveDone, CallHasDone, CallsHaveDone}
+use Rattle.hub_runs.specs.Laws.{AllKeepSides}
+use Rattle.hub_runs.specs.Done.{GoesOnBy, HasDone, HaveDone}
+use Rattle.hub.specs.CallLaws.{CallHasDone, CallsHaveDone}
 use Rattle.hub.specs.declared.hub.HubFault.TheVariants.{NoSession, NoMemory, Halted, Full}
 use Rattle.hub.specs.declared.calls.Call.{Call}
 use Rattle.hub.specs.declared.calls.Call.TheVariants.{Connect, Feed, Disconnect}
 use Rattle.hub.specs.declared.calls.Outcome.{Outcome}
 use Rattle.hub.specs.declared.calls.Outcome.TheVariants.{Connected, Wrote, Dropped, Failed}
-use Rattle.hub.proofs.Acting.{KeepTrees, acts}
+use Rattle.hub_runs.proofs.Acting.{KeepTrees, acts}
 use Rattle.hub.proofs.Calling.{with_sessions, some_words}
-use Rattle.hub.proofs.Everywhere.{HasTrees-with_rest}
-use Rattle.hub.proofs.Staying.{goes_nowhere, goes_on}
-use Rattle.hub.proofs.Trees.{event_keeps}
+use Rattle.hub_runs.proofs.Everywhere.{HasTrees-with_rest}
+use Rattle.hub_runs.proofs.Staying.{goes_nowhere, goes_on}
+use Rattle.hub_runs.proofs.Trees.{event_keeps}
 
 module _ (keeps : KeepTrees)
     (theirs : (c : RepoState) (t : TxnState) → MeetWell (trees_in c.revisions) t.base (tree_of t.tree) (youngest c) → (p : PathValue) → is_changed (get (tree_at c t.base) p) (get (tree_at c (youngest c)) p) ≡ true → (shown (get (next_tree c t) p) ≡ shown (get (tree_at c (youngest c)) p)) × (own_of (get (next_tree c t) p) ≡ own_of (get (tree_at c (youngest c)) p)))

@@ -7,8 +7,8 @@ use Rattle.std.proofs.Common.{◌<◌, ◌≤◌, ◌+◌, below_more, length, s
 use Rattle.std.proofs.lemmas.Option.{slice_get_within}
 use Rattle.std.specs.List.{slice_get}
 use Rattle.std.specs.Prelude.{slice_set}
-use Rattle.hub.specs.State.{session_of, updated, without, kept, Finds}
-use Rattle.hub.specs.SessionLaws.{updated_updated, without-updated, session_of-without}
+use Rattle.hub_runs.specs.State.{session_of, updated, without, kept, Finds}
+use Rattle.hub_runs.specs.SessionLaws.{updated_updated, without-updated, session_of-without}
 
 pub updated_same : (xs : List (ℕ × SessionState)) (n : ℕ) (s : SessionState) → session_of xs n ≡ Some s → updated xs n s ≡ xs
 updated_same [] n s h = refl

@@ -16,18 +16,19 @@ use Rattle.repo_api.specs.declared.lock.Lock.{Lock as LockValue}
 use Rattle.wire_replies.specs.declared.reply.Reply.{Reply}
 use Rattle.machine.specs.Hearing.{Input}
 use Rattle.machine.specs.declared.env.Env.{Env}
-use Rattle.hub.specs.State.{HubState}
-use Rattle.hub.specs.Runs.{Event, HubStep, HubRun, ends_of, with_rest}
-use Rattle.hub.specs.Runs.Event.{Connects, HandsIn, Hears, Leaves, Drops}
+use Rattle.hub_runs.specs.State.{HubState}
+use Rattle.hub_runs.specs.Runs.{Event, HubStep, HubRun, ends_of, with_rest}
+use Rattle.hub_runs.specs.Runs.Event.{Connects, HandsIn, Hears, Leaves, Drops}
 use Rattle.hub.specs.Calls.{CallStep, CallRun}
-use Rattle.hub.specs.Laws.{IsTold, UsesWord, AllHoldLocks, RespectLocks, IsNewWord, MakesNewTokens, CallMakesNewTokens, CallsMakeNewTokens}
-use Rattle.hub.specs.Done.{GoesOnBy}
+use Rattle.hub_runs.specs.Laws.{IsTold, UsesWord, AllHoldLocks, RespectLocks, IsNewWord, MakesNewTokens}
+use Rattle.hub.specs.CallLaws.{CallMakesNewTokens, CallsMakeNewTokens}
+use Rattle.hub_runs.specs.Done.{GoesOnBy}
 use Rattle.hub.specs.declared.hub.HubFault.TheVariants.{NoSession, NoMemory, Halted, Full}
 use Rattle.hub.specs.declared.calls.Call.{Call}
 use Rattle.hub.specs.declared.calls.Call.TheVariants.{Connect, Feed, Disconnect}
 use Rattle.hub.specs.declared.calls.Outcome.{Outcome}
 use Rattle.hub.specs.declared.calls.Outcome.TheVariants.{Connected, Wrote, Dropped, Failed}
-use Rattle.hub.proofs.Acting.{Acts, acts}
+use Rattle.hub_runs.proofs.Acting.{Acts, acts}
 use Rattle.hub.proofs.Calling.{some_words}
 
 -- where there are no locks, no two have one token

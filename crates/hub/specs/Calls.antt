@@ -10,9 +10,9 @@ use Rattle.hub.specs.declared.calls.Call.{Call}
 use Rattle.hub.specs.declared.calls.Call.TheVariants.{Connect, Feed, Disconnect}
 use Rattle.hub.specs.declared.calls.Outcome.{Outcome}
 use Rattle.hub.specs.declared.calls.Outcome.TheVariants.{Connected, Wrote, Dropped, Failed}
-use Rattle.hub.specs.State.{HubState, session_of}
-use Rattle.hub.specs.Runs.{HubStep, Feeds, Breaks, BreaksOff}
-use Rattle.hub.specs.Runs.Event.{Connects, Drops}
+use Rattle.hub_runs.specs.State.{HubState, session_of}
+use Rattle.hub_runs.specs.Runs.{HubStep, Feeds, Breaks, BreaksOff}
+use Rattle.hub_runs.specs.Runs.Event.{Connects, Drops}
 
 -- there was room for a new session, which is greeted so
 pub record ConnectsAs (old : HubState) (n : ℕ) (out : List ℕ) (new : HubState) : Type 0 where

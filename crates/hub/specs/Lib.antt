@@ -1,7 +1,2 @@
-pub mod State
-pub mod Runs
 pub mod Calls
-pub mod Asked
-pub mod Laws
-pub mod Done
-pub mod SessionLaws
+pub mod CallLaws

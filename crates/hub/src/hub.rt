@@ -7,10 +7,10 @@ ghost use Rattle.access.specs.Points.{content_of};
 ghost use Rattle.wire_replies.specs.Replies.{print};
 ghost use Rattle.wire_replies.specs.declared.reply.Reply.TheVariants.{Greeting};
 ghost use Rattle.hub.specs.declared.hub.TheConstants.{MAX_SESSIONS};
-ghost use Rattle.hub.specs.State.{hub_at, session_of, without, Finds};
+ghost use Rattle.hub_runs.specs.State.{hub_at, session_of, without, Finds};
 ghost use Rattle.access.specs.Sole.{point_at};
-ghost use Rattle.hub.specs.Runs.{HubStep, Feeds, BreaksOff, new_session};
-ghost use Rattle.hub.specs.Runs.Event.{Drops};
+ghost use Rattle.hub_runs.specs.Runs.{HubStep, Feeds, BreaksOff, new_session};
+ghost use Rattle.hub_runs.specs.Runs.Event.{Drops};
 ghost use Rattle.hub.specs.Calls.{IsFull, ConnectsAs, ConnectFails, FeedsAs, FeedFails, FeedsTo, FeedBreaks};
 
 use crate::laws::new_repositories_are_sound;
@@ -116,7 +116,7 @@ pub struct Hub<A: SoleAccess> {
 impl<A: SoleAccess> Model for Hub<A> {
     ghost use Rattle.std.specs.Coded.{codes};
     ghost use Rattle.std.specs.FinMap.{code as map_code};
-    ghost use Rattle.hub.specs.State.{HubState, hub_at, AllOpen, HasTrees};
+    ghost use Rattle.hub_runs.specs.State.{HubState, hub_at, AllOpen, HasTrees};
 
     ghost Value = { HubState };
 

@@ -1,7 +1,7 @@
 //! What the lines before a hub's first call ask for.
 ghost use Rattle.std.specs.Prelude.{◌≡◌, ℕ, List, IfOk};
 ghost use Rattle.dates.specs.Dates.{IsDateText};
-ghost use Rattle.hub.specs.Laws.{new_hub};
+ghost use Rattle.hub_runs.specs.Laws.{new_hub};
 
 use crate::fault::LineFault;
 use crate::hubs::{PlayedHub, new_folder_hub, new_memory_hub};

@@ -12,11 +12,11 @@ use Rattle.machine.specs.Answers.{Answer, content_after, halted_after, pending_a
 use Rattle.machine.specs.Machine.{InputStep}
 use Rattle.machine.specs.declared.env.Env.{Env}
 use Rattle.machine.specs.declared.phase.Phase.TheVariants.{Greeted, LoggingIn, Challenged, Serving, Editing, Skipping, Reporting, Driven, Ended}
-use Rattle.hub.specs.State.{HubState, session_of, updated, without, kept}
-use Rattle.hub.specs.Runs.{Event, HubStep, HubRun, InputHappens, InputsAre, Feeds, answered, with_rest}
-use Rattle.hub.specs.Runs.Event.{Connects, HandsIn, Hears, Leaves, Drops}
-use Rattle.hub.specs.Laws.{IsUnbroken}
-use Rattle.hub.specs.SessionLaws.{session_of-updated, updated_updated, session_of-without, kept-updated, yields_more}
+use Rattle.hub_runs.specs.State.{HubState, session_of, updated, without, kept}
+use Rattle.hub_runs.specs.Runs.{Event, HubStep, HubRun, InputHappens, InputsAre, Feeds, answered, with_rest}
+use Rattle.hub_runs.specs.Runs.Event.{Connects, HandsIn, Hears, Leaves, Drops}
+use Rattle.hub_runs.specs.Laws.{IsUnbroken}
+use Rattle.hub_runs.specs.SessionLaws.{session_of-updated, updated_updated, session_of-without, kept-updated, yields_more}
 use Rattle.std.specs.List.{flat_map}
 use Rattle.hub.proofs.Composing.{runs_on}
 use Rattle.conversations.specs.Pieces.{Piece, bytes_of, inputs_of, ComesInPieces}

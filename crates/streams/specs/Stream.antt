@@ -7,9 +7,9 @@ use Rattle.machine.specs.Stages.{SessionState}
 use Rattle.wire_replies.specs.Replies.{print}
 use Rattle.machine.specs.declared.env.Env.{Env}
 use Rattle.hub.specs.declared.hub.HubFault.{HubFault}
-use Rattle.hub.specs.State.{HubState, session_of}
-use Rattle.hub.specs.Runs.{Event, HubRun, InputsAre, IfOpen, with_rest}
-use Rattle.hub.specs.Runs.Event.{HandsIn, Hears}
+use Rattle.hub_runs.specs.State.{HubState, session_of}
+use Rattle.hub_runs.specs.Runs.{Event, HubRun, InputsAre, IfOpen, with_rest}
+use Rattle.hub_runs.specs.Runs.Event.{HandsIn, Hears}
 use Rattle.hub.specs.Calls.{ConnectsAs, ConnectFails, FeedBreaks}
 use Rattle.conversations.specs.Pieces.{Piece, bytes_of, inputs_of, GivesAll, ComesInPieces}
 use Rattle.streams.specs.declared.fault.ServeFault.{ServeFault}

@@ -3,8 +3,8 @@ ghost use Rattle.std.specs.Prelude.{ℕ, List};
 ghost use Rattle.std.specs.List.{flat_map};
 ghost use Rattle.wire_replies.specs.declared.reply.Reply.{Reply};
 ghost use Rattle.machine.specs.declared.env.Env.{Env};
-ghost use Rattle.hub.specs.Runs.{HubRun};
-ghost use Rattle.hub.specs.State.{HubState};
+ghost use Rattle.hub_runs.specs.Runs.{HubRun};
+ghost use Rattle.hub_runs.specs.State.{HubState};
 ghost use Rattle.conversations.specs.Pieces.{Piece};
 ghost use Rattle.streams.specs.Stream.{PiecesRun, events_of};
 

@@ -1,5 +1,5 @@
 use Rattle.std.proofs.Common.{sym, subst}
-use Rattle.hub.specs.State.{HubState}
+use Rattle.hub_runs.specs.State.{HubState}
 use Rattle.store_access.specs.Keeping.{StandsFor}
 use Rattle.store_access.specs.Stored.{point_in}
 use Rattle.world.specs.Whole.{txn_state_of}

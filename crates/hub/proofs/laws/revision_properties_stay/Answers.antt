@@ -1,4 +1,4 @@
-use Rattle.hub.proofs.Staying.{others_kept, run_closed}
+use Rattle.hub_runs.proofs.Staying.{others_kept, run_closed}
 use Rattle.hub.proofs.Calling.{calls_closed}
 use Rattle.hub.proofs.laws.revision_properties_stay.Goals as goal
 

@@ -1,7 +1,7 @@
 use Rattle.std.proofs.Common.{arith}
 use Rattle.repo_api.specs.States.{IsBeginning}
 use Rattle.access.specs.Points.{content_of}
-use Rattle.hub.specs.State.{hub_at}
+use Rattle.hub_runs.specs.State.{hub_at}
 use Rattle.hub.proofs.Feeding.{Feed, IsFed, finds_here, is_entry, entry_rests, is_fed, fed_feeds, fed_later, lost_breaks, lost_later, fed_holds}
 use Rattle.hub.proofs.hub.Hub.feed_open.Given.{Over}
 use Rattle.hub.proofs.hub.Hub.feed_open.Goals as goal

@@ -1,6 +1,6 @@
 use Rattle.std.proofs.Common.{ℕ, List, ap}
 use Rattle.machine.specs.Stages.{SessionState}
-use Rattle.hub.specs.State.{hub_at}
+use Rattle.hub_runs.specs.State.{hub_at}
 use Rattle.hub.proofs.hub.Hub.with_access.Goals as goal
 
 pub returns : goal.returns

@@ -7,11 +7,11 @@ use Rattle.machine.specs.Stages.{SessionState}
 use Rattle.machine.specs.Answers.{Verdict, Answer, Counts, is_halt}
 use Rattle.machine.specs.Answers.Verdict.{Written, NotWritten, Unknown}
 use Rattle.machine.specs.declared.env.Env.{Env}
-use Rattle.hub.specs.State.{HubState, session_of}
-use Rattle.hub.specs.Runs.{Event, InputHappens, CommitLeaves, HubStep, HubRun, answered}
-use Rattle.hub.specs.Runs.Event.{Connects, HandsIn, Hears, Leaves, Drops}
-use Rattle.hub.proofs.Running.{through_run}
-use Rattle.hub.proofs.Staying.{event_halted}
+use Rattle.hub_runs.specs.State.{HubState, session_of}
+use Rattle.hub_runs.specs.Runs.{Event, InputHappens, CommitLeaves, HubStep, HubRun, answered}
+use Rattle.hub_runs.specs.Runs.Event.{Connects, HandsIn, Hears, Leaves, Drops}
+use Rattle.hub_runs.proofs.Running.{through_run}
+use Rattle.hub_runs.proofs.Staying.{event_halted}
 
 pub or_false : (b : Bool) → (b || false) ≡ b
 or_false true = refl

@@ -8,17 +8,11 @@ use Rattle.repo_api.specs.Accepted.Accepted.{Commits}
 use Rattle.repo_api.specs.declared.ask.CommitAsk.{CommitAsk}
 use Rattle.wire_replies.specs.declared.reply.Reply.{Reply}
 use Rattle.machine.specs.declared.env.Env.{Env}
-use Rattle.hub.specs.State.{HubState, HasTrees}
-use Rattle.hub.specs.Runs.{Event, HubRun, ends_of, with_rest}
-use Rattle.hub.specs.Runs.Event.{Connects, HandsIn, Hears, Leaves, Drops}
-use Rattle.hub.specs.Calls.{CallStep, CallRun}
-use Rattle.hub.specs.declared.hub.HubFault.TheVariants.{NoSession, NoMemory, Halted, Full}
-use Rattle.hub.specs.declared.calls.Call.{Call}
-use Rattle.hub.specs.declared.calls.Call.TheVariants.{Connect, Feed, Disconnect}
-use Rattle.hub.specs.declared.calls.Outcome.{Outcome}
-use Rattle.hub.specs.declared.calls.Outcome.TheVariants.{Connected, Wrote, Dropped, Failed}
-use Rattle.hub.specs.Asked.{IsAskedAt, AreAll}
-use Rattle.hub.specs.Laws.{IsTold, UsesWord, AllKeepSides}
+use Rattle.hub_runs.specs.State.{HubState, HasTrees}
+use Rattle.hub_runs.specs.Runs.{Event, HubRun}
+use Rattle.hub_runs.specs.Runs.Event.{Connects, HandsIn, Hears, Leaves, Drops}
+use Rattle.hub_runs.specs.Asked.{IsAskedAt, AreAll}
+use Rattle.hub_runs.specs.Laws.{IsTold, UsesWord, AllKeepSides}
 
 -- the repository has gone on by these changes, each accepted in the state that those before it make
 pub record GoesOnBy (old : RepoState) (changes : List Accepted) (new : RepoState) : Type 0 where
@@ -71,31 +65,3 @@ HaveDone old env (e ∷ es) told new after (first, mid, between, more, step, run
     (front : List Accepted) × HasDone old env e front first mid between
     × (back : List Accepted) × HaveDone mid between es more new after run back
     × (changes ≡ front ++ back)
-
--- so have those of a call
-abbrev pub CallHasDone : (old : HubState) (call : Call) (outcome : Outcome) (new : HubState)
-    → CallStep old call outcome new → List Accepted → Type 0
-CallHasDone old Connect outcome new step changes = changes ≡ []
-CallHasDone old (Feed n piece env) (Wrote out) new step changes =
-    let f = step.feeds in
-    HaveDone (with_rest old n f.session f.rest) env f.events f.told new f.env_after f.run changes
-CallHasDone old (Feed n piece env) (Failed NoMemory) new step changes =
-    let b = step.1 in
-    HaveDone (with_rest old n b.session b.rest) env (b.events ++ ends_of n b.left) b.told new
-    b.env_after b.run changes
-CallHasDone old (Feed n piece env) (Failed NoSession) new step changes = changes ≡ []
-CallHasDone old (Feed n piece env) (Failed Halted) new step changes = changes ≡ []
-CallHasDone old (Feed n piece env) (Failed Full) new step changes = changes ≡ []
-CallHasDone old (Feed n piece env) (Connected m out) new step changes = changes ≡ []
-CallHasDone old (Feed n piece env) Dropped new step changes = changes ≡ []
-CallHasDone old (Disconnect n) outcome new step changes = changes ≡ []
-
--- so have those of each of the calls
-abbrev pub CallsHaveDone : (old : HubState) (calls : List Call) (outcomes : List Outcome)
-    (new : HubState) → CallRun old calls outcomes new → List Accepted → Type 0
-CallsHaveDone old [] outcomes new run changes = changes ≡ []
-CallsHaveDone old (call ∷ calls) (outcome ∷ outcomes) new (mid, step, run) changes =
-    (front : List Accepted) × CallHasDone old call outcome mid step front
-    × (back : List Accepted) × CallsHaveDone mid calls outcomes new run back
-    × (changes ≡ front ++ back)
-CallsHaveDone old (call ∷ calls) [] new run changes = changes ≡ []

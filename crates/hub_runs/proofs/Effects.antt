@@ -55,9 +55,9 @@ use Rattle.machine.specs.declared.login.OpenLogin.{OpenLogin}
 use Rattle.machine.specs.declared.login.OpenChallenge.{OpenChallenge}
 use Rattle.machine.specs.declared.phase.Phase.TheVariants.{Greeted, LoggingIn, Challenged, Serving, Editing, Skipping, Reporting, Driven, Ended}
 use Rattle.machine.specs.declared.phase.Client.{Client}
-use Rattle.hub.specs.Asked.{IsAskedBy, IsOfEdit, IsWaiting, IsAsked, AreAll}
-use Rattle.hub.specs.Laws.{EndsWith, release_behind, IsTold, UsesWord}
-use Rattle.hub.proofs.Revising.{AreOthers}
+use Rattle.hub_runs.specs.Asked.{IsAskedBy, IsOfEdit, IsWaiting, IsAsked, AreAll}
+use Rattle.hub_runs.specs.Laws.{EndsWith, release_behind, IsTold, UsesWord}
+use Rattle.hub_runs.proofs.Revising.{AreOthers}
 
 -- ---- replies without a failure
 

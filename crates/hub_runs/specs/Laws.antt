@@ -24,14 +24,8 @@ use Rattle.machine.specs.Settings.{Settings}
 use Rattle.machine.specs.Commands.{token_text, env_without_token}
 use Rattle.machine.specs.Readings.{revision_value}
 use Rattle.machine.specs.declared.env.Env.{Env}
-use Rattle.hub.specs.State.{HubState}
-use Rattle.hub.specs.Runs.{Event, HubRun, ends_of, with_rest}
-use Rattle.hub.specs.Calls.{CallStep, CallRun}
-use Rattle.hub.specs.declared.hub.HubFault.TheVariants.{NoSession, NoMemory, Halted, Full}
-use Rattle.hub.specs.declared.calls.Call.{Call}
-use Rattle.hub.specs.declared.calls.Call.TheVariants.{Connect, Feed, Disconnect}
-use Rattle.hub.specs.declared.calls.Outcome.{Outcome}
-use Rattle.hub.specs.declared.calls.Outcome.TheVariants.{Connected, Wrote, Dropped, Failed}
+use Rattle.hub_runs.specs.State.{HubState}
+use Rattle.hub_runs.specs.Runs.{Event, HubRun}
 use Rattle.machine.specs.Hearing.{Input}
 use Rattle.machine.specs.Hearing.Input.{Whole, Broken}
 
@@ -180,29 +174,3 @@ abbrev pub MakesNewTokens : (old : HubState) (env : Env) (events : List Event) (
 MakesNewTokens old env [] told new after run = Unit {0}
 MakesNewTokens old env (e ∷ es) told new after (first, mid, between, more, step, run, is_told) =
     IsNewWord old.content.locks env between × MakesNewTokens mid between es more new after run
-
--- and so at each event of a call
-abbrev pub CallMakesNewTokens : (old : HubState) (call : Call) (outcome : Outcome) (new : HubState)
-    → CallStep old call outcome new → Type 0
-CallMakesNewTokens old Connect outcome new step = Unit {0}
-CallMakesNewTokens old (Feed n piece env) (Wrote out) new step =
-    let f = step.feeds in
-    MakesNewTokens (with_rest old n f.session f.rest) env f.events f.told new f.env_after f.run
-CallMakesNewTokens old (Feed n piece env) (Failed NoMemory) new step =
-    let b = step.1 in
-    MakesNewTokens (with_rest old n b.session b.rest) env (b.events ++ ends_of n b.left) b.told new
-    b.env_after b.run
-CallMakesNewTokens old (Feed n piece env) (Failed NoSession) new step = Unit {0}
-CallMakesNewTokens old (Feed n piece env) (Failed Halted) new step = Unit {0}
-CallMakesNewTokens old (Feed n piece env) (Failed Full) new step = Unit {0}
-CallMakesNewTokens old (Feed n piece env) (Connected m out) new step = Unit {0}
-CallMakesNewTokens old (Feed n piece env) Dropped new step = Unit {0}
-CallMakesNewTokens old (Disconnect n) outcome new step = Unit {0}
-
--- and so at each of the calls
-abbrev pub CallsMakeNewTokens : (old : HubState) (calls : List Call) (outcomes : List Outcome)
-    (new : HubState) → CallRun old calls outcomes new → Type 0
-CallsMakeNewTokens old [] outcomes new run = Unit {0}
-CallsMakeNewTokens old (call ∷ calls) (outcome ∷ outcomes) new (mid, step, run) =
-    CallMakesNewTokens old call outcome mid step × CallsMakeNewTokens mid calls outcomes new run
-CallsMakeNewTokens old (call ∷ calls) [] new run = Unit {0}

@@ -4,8 +4,8 @@ use Rattle.std.specs.Prelude.{if◌then◌else◌, ◌==◌, not}
 use Rattle.machine.specs.Hearing.{Input, Yields}
 use Rattle.machine.specs.Hearing.Input.{Whole, Broken}
 use Rattle.machine.specs.Stages.{SessionState, is_open}
-use Rattle.hub.specs.State.{session_of, updated, without, kept}
-use Rattle.hub.specs.Laws.{IsUnbroken}
+use Rattle.hub_runs.specs.State.{session_of, updated, without, kept}
+use Rattle.hub_runs.specs.Laws.{IsUnbroken}
 
 abbrev IsNone : Option SessionState → Type 0
 IsNone None = Unit {0}

@@ -13,15 +13,15 @@ use Rattle.machine.specs.Answers.{Verdict, Answer, content_after, is_halt, pendi
 use Rattle.machine.specs.Answers.Verdict.{Written, NotWritten, Unknown}
 use Rattle.machine.specs.Machine.{InputStep, UnreleasedStep}
 use Rattle.machine.specs.declared.env.Env.{Env}
-use Rattle.hub.specs.State.{HubState, HasTrees, session_of}
-use Rattle.hub.specs.Runs.{Event, InputHappens, CommitLeaves, HubStep}
-use Rattle.hub.specs.Runs.Event.{Connects, HandsIn, Hears, Leaves, Drops}
-use Rattle.hub.specs.Asked.{IsAsked, IsAskedIn, IsAskedAt, AreAll}
-use Rattle.hub.specs.Laws.{IsTold, UsesWord}
-use Rattle.hub.specs.Done.{GoesOnBy, LeavesWords, Tells, NamesHalt}
-use Rattle.hub.proofs.Effects.{ArePlain, Halts, all_on, halts_as, does, leaves}
-use Rattle.hub.proofs.Everywhere.{HasTrees-at}
-use Rattle.hub.proofs.Revising.{AreOthers}
+use Rattle.hub_runs.specs.State.{HubState, HasTrees, session_of}
+use Rattle.hub_runs.specs.Runs.{Event, InputHappens, CommitLeaves, HubStep}
+use Rattle.hub_runs.specs.Runs.Event.{Connects, HandsIn, Hears, Leaves, Drops}
+use Rattle.hub_runs.specs.Asked.{IsAsked, IsAskedIn, IsAskedAt, AreAll}
+use Rattle.hub_runs.specs.Laws.{IsTold, UsesWord}
+use Rattle.hub_runs.specs.Done.{GoesOnBy, LeavesWords, Tells, NamesHalt}
+use Rattle.hub_runs.proofs.Effects.{ArePlain, Halts, all_on, halts_as, does, leaves}
+use Rattle.hub_runs.proofs.Everywhere.{HasTrees-at}
+use Rattle.hub_runs.proofs.Revising.{AreOthers}
 
 -- each step of a session keeps what it stands on, and its changes meet the trees well
 abbrev pub StepsKeepTrees : Type 0

@@ -22,9 +22,9 @@ use Rattle.machine.specs.Stages.{Stage, SessionState}
 use Rattle.machine.specs.declared.env.Env.{Env}
 use Rattle.machine.specs.declared.phase.Client.{Client}
 use Rattle.machine.specs.declared.phase.Phase.TheVariants.{Greeted, LoggingIn, Challenged, Serving, Editing, Skipping, Reporting, Driven, Ended}
-use Rattle.hub.specs.State.{HubState, session_of}
-use Rattle.hub.specs.Runs.{Event}
-use Rattle.hub.specs.Runs.Event.{Connects, HandsIn, Hears, Leaves, Drops}
+use Rattle.hub_runs.specs.State.{HubState, session_of}
+use Rattle.hub_runs.specs.Runs.{Event}
+use Rattle.hub_runs.specs.Runs.Event.{Connects, HandsIn, Hears, Leaves, Drops}
 
 -- a client asks for the change by a command, at the moment and with the word that are handed in
 abbrev pub IsAskedBy : Env → Client → MainCommand → Accepted → Type 0
