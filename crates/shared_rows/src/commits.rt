@@ -1,20 +1,19 @@
 //! Each look has what the other seat has changed.
 ghost use Rattle.std.specs.Prelude.{◌≡◌, IfOk};
-ghost use Rattle.access.specs.Points.{content_of};
 ghost use Rattle.repo_api.specs.Soundness.{AreSound};
 ghost use Rattle.repo_api.specs.States.{IsBeginning, tree_of};
 ghost use Rattle.repo_api.specs.Transactions.{IsMarkedTxn};
 ghost use Rattle.repo_api.specs.Trees.{IsTree};
 
 use crate::seats::{Access, SoundTrees, new_files, opened, two_seats};
-use access::RepoAccess;
+use access::{Committed, RepoAccess};
 use byte_string::ByteString;
 use filed_world::FiledWorld;
 use published::{Naming, NewHistory};
 use repo_api::{ChangeFault, CommitAsk, LockTokens, NodeKind, Repository};
 use std::alloc::{AllocError, Global};
 use std::marker::Brand;
-use std::mem::{drop, swap};
+use std::mem::swap;
 use std::sync::Wait;
 use std::test::Fail;
 use store_access::Filed;
@@ -42,7 +41,7 @@ fn begin<R: Repository>(alloc: Global, view: R) -> Result<R::Txn, AllocError>
 }
 
 /// What an empty commit asks for.
-fn empty_ask(alloc: Global) -> Result<CommitAsk, AllocError> {
+pub(crate) fn empty_ask(alloc: Global) -> Result<CommitAsk, AllocError> {
     let date = ByteString::from_slice(alloc, b"1970-01-01T00:00:00.000000Z")?;
     Ok(CommitAsk {
         date,
@@ -54,35 +53,16 @@ fn empty_ask(alloc: Global) -> Result<CommitAsk, AllocError> {
     })
 }
 
-/// Makes a transaction the next revision, and answers its number.
-fn commit_txn<A: RepoAccess>(
-    alloc: Global,
-    access: &mut A,
-    txn: <A::View as Repository>::Txn,
-) -> Result<u64, ChangeFault>
-    requires rests { IsBeginning (A.View.txn_state txn).shown
-        (content_of (A.point access.old)).revisions }
-    requires tree { IsTree (tree_of (A.View.txn_state txn).tree) }
-    requires marked { IsMarkedTxn (A.View.txn_state txn) }
-{
-    match empty_ask(alloc) {
-        Ok(ask) => Ok(access.commit(ask, txn)?.revision),
-        Err(error) => {
-            drop(txn);
-            Err(ChangeFault::from(error))
-        }
-    }
-}
-
-/// Makes an empty commit of what a look shows, and answers the number of its revision.
+/// Commits what a look shows, unchanged.
 fn commit_seen<A: RepoAccess<View = V>, V: SoundTrees>(
     alloc: Global,
     access: &mut A,
-) -> Result<u64, ChangeFault> {
+    ask: CommitAsk,
+) -> Result<Committed, ChangeFault> {
     let view = access.look()?;
     view.trees_are_sound();
     let txn = begin(alloc, view)?;
-    commit_txn(alloc, access, txn)
+    access.commit(ask, txn)
 }
 
 /// The youngest revision that a look has.
@@ -90,12 +70,21 @@ fn youngest_seen<A: RepoAccess>(access: &mut A) -> Result<u64, AllocError> {
     Ok(access.look()?.youngest())
 }
 
-/// Makes an empty commit at a seat, and answers the number of its revision.
+/// Makes an empty commit at a seat.
+pub(crate) fn commit_of<F: SoundTrees, S: Store, J: Naming, R: Wait>(
+    alloc: Global,
+    seat: &mut Access<'_, F, S, J, R>,
+    ask: CommitAsk,
+) -> Result<Committed, ChangeFault> {
+    commit_seen::<Access<'_, F, S, J, R>, F>(alloc, seat, ask)
+}
+
+/// Makes an empty commit at a seat that hands no lock in, and answers the number of its revision.
 pub(crate) fn commit<F: SoundTrees, S: Store, J: Naming, R: Wait>(
     alloc: Global,
     seat: &mut Access<'_, F, S, J, R>,
 ) -> Result<u64, ChangeFault> {
-    commit_seen::<Access<'_, F, S, J, R>, F>(alloc, seat)
+    Ok(commit_of(alloc, seat, empty_ask(alloc)?)?.revision)
 }
 
 /// The youngest revision that a seat's look has.

@@ -4,10 +4,16 @@
 #[cfg(test)]
 mod commits;
 #[cfg(test)]
+mod files;
+#[cfg(test)]
 mod halts;
 #[cfg(test)]
 mod properties;
 #[cfg(test)]
+mod releases;
+#[cfg(test)]
 mod saves;
 #[cfg(test)]
 mod seats;
+#[cfg(test)]
+mod sixteen;

@@ -4,7 +4,7 @@ ghost use Rattle.store_files.specs.Folders.{Folder, IsSame};
 ghost use Rattle.filed_world.specs.Files.{filed_content};
 ghost use Rattle.repo_api.specs.Soundness.{AreSound};
 
-use filed_archive::{FiledArchive, share};
+use filed_archive::{FiledArchive, ServedRepo, ServedSeat, share};
 use filed_opening::{FolderRepository, create, open, opened_trees_are_sound};
 use filed_world::FiledWorld;
 use published::{Naming, NewHistory, Published, Setting, Shown};
@@ -86,4 +86,52 @@ pub(crate) fn two_seats<'r, F: Filed, S: Store, J: Naming, R: Wait>(
         rt,
     };
     Ok((first, second))
+}
+
+/// A seat of a repository that is shared, for a thread of its own.
+#[derive(Drop)]
+pub(crate) struct Place<'r, F: Filed, S: Store, J: Naming, R: Wait> {
+    repository: Arc<ServedRepo<F, S, J>>,
+    seat: ServedSeat<F, J>,
+    rt: &'r R,
+}
+
+impl<'r, F: Filed, S: Store, J: Naming, R: Wait> Place<'r, F, S, J, R> {
+    /// The seat as a session reaches it.
+    pub(crate) fn into_access(self) -> Access<'r, F, S, J, R> {
+        let Place {
+            repository,
+            seat,
+            rt,
+        } = self;
+        SeatAccess {
+            repository,
+            seat,
+            rt,
+        }
+    }
+}
+
+/// So many seats of a repository, each for a thread of its own.
+pub(crate) fn places<'r, F: Filed, S: Store, J: Naming, R: Wait>(
+    rt: &'r R,
+    alloc: Global,
+    stored: StoredRepository<F, S>,
+    count: usize,
+    history: NewHistory,
+) -> Result<Vec<Place<'r, F, S, J, R>>, Fail>
+    requires book { history.seen.book ≡ J.book }
+    requires sound { AreSound (F.content stored.repository).revisions }
+{
+    let (repository, seats) = share::<F, S, J>(alloc, stored, count, history)?;
+    let repository = Arc::new(alloc, repository)?;
+    let mut found = Vec::new(alloc);
+    for seat in seats {
+        found.push(Place {
+            repository: Arc::try_clone(&repository)?,
+            seat,
+            rt,
+        })?;
+    }
+    Ok(found)
 }
