@@ -1,6 +1,4 @@
 pub mod Rules
 pub mod Anys
 pub mod Parts
-pub mod Aboves
 pub mod Copied
-pub mod Children

@@ -33,9 +33,9 @@ pub fn edit_tree(
             tree.delete(path);
             Ok(())
         }
-        EditOp::SetProperty(path, name, value) => tree.set_property(alloc, path, name, value),
-        EditOp::RemoveProperty(path, name) => tree.remove_property(alloc, path, name),
-        EditOp::SetText(path, text) => tree.set_text(alloc, path, text),
+        EditOp::SetProperty(path, name, value) => tree.set_property(path, name, value),
+        EditOp::RemoveProperty(path, name) => tree.remove_property(path, name),
+        EditOp::SetText(path, text) => tree.set_text(path, text),
     }
 }
 

@@ -79,7 +79,7 @@ impl FlatTree {
         ensures { IfOk result (λ t. (q : PathValue) → get t q ≡ begun (tree_of self.now) q) }
     {
         let mut entries = self.entries.clone()?;
-        touch_above(&mut entries, alloc, &Path::root(alloc));
+        touch_above(&mut entries, &Path::root(alloc));
         Ok(FlatTree { entries })
     }
 
@@ -91,14 +91,13 @@ impl FlatTree {
         ensures err { OnErr result (self.new ≡ self.old) }
     {
         put(&mut self.entries, path.clone()?, new_entry(alloc, content))?;
-        touch_above(&mut self.entries, alloc, path);
+        touch_above(&mut self.entries, path);
         Ok(())
     }
 
     /// Sets the property of this name at the path to the value.
     pub fn set_property(
         &mut self,
-        alloc: Global,
         path: &Path,
         name: &ByteString,
         value: &ByteString,
@@ -108,26 +107,21 @@ impl FlatTree {
         ensures err { OnErr result (self.new ≡ self.old) }
     {
         match self.properties_with(path, name, value)? {
-            Some(properties) => self.set_properties(alloc, path, properties),
-            None => self.touch(alloc, path),
+            Some(properties) => self.set_properties(path, properties),
+            None => self.touch(path),
         }
         Ok(())
     }
 
     /// Takes out the property of this name at the path.
-    pub fn remove_property(
-        &mut self,
-        alloc: Global,
-        path: &Path,
-        name: &ByteString,
-    ) -> Result<(), AllocError>
+    pub fn remove_property(&mut self, path: &Path, name: &ByteString) -> Result<(), AllocError>
         ensures ok { OnOk result ((q : PathValue) → get self.new q
             ≡ revised (tree_of self.old) path.now (without_value name.now) q) }
         ensures err { OnErr result (self.new ≡ self.old) }
     {
         match self.properties_without(path, name)? {
-            Some(properties) => self.set_properties(alloc, path, properties),
-            None => self.touch(alloc, path),
+            Some(properties) => self.set_properties(path, properties),
+            None => self.touch(path),
         }
         Ok(())
     }
@@ -176,38 +170,33 @@ impl FlatTree {
 
     /// Gives the entry at the path these properties, where there is one. It does not fail for want of memory.
     #[tactic(auto, using(repo_api::specs::StateLaws::get_path))]
-    fn set_properties(&mut self, alloc: Global, path: &Path, properties: Properties)
+    fn set_properties(&mut self, path: &Path, properties: Properties)
         ensures { (q : PathValue) → get self.new q
             ≡ revised (tree_of self.old) path.now (with_properties properties) q }
     {
         put_properties(&mut self.entries, path, properties);
-        touch_above(&mut self.entries, alloc, path);
+        touch_above(&mut self.entries, path);
     }
 
     /// Makes this the text of the file at the path.
     #[tactic(auto, using(repo_api::specs::StateLaws::get_path))]
-    pub fn set_text(
-        &mut self,
-        alloc: Global,
-        path: &Path,
-        text: &FileText,
-    ) -> Result<(), AllocError>
+    pub fn set_text(&mut self, path: &Path, text: &FileText) -> Result<(), AllocError>
         ensures ok { OnOk result ((q : PathValue) → get self.new q
             ≡ revised (tree_of self.old) path.now (with_text text.now) q) }
         ensures err { OnErr result (self.new ≡ self.old) }
     {
         let text = text.clone()?;
         put_text(&mut self.entries, path, text);
-        touch_above(&mut self.entries, alloc, path);
+        touch_above(&mut self.entries, path);
         Ok(())
     }
 
     /// Opens `last` at the path and above it. It does not fail for want of memory.
     #[tactic(auto, using(repo_api::specs::StateLaws::get_path))]
-    fn touch(&mut self, alloc: Global, path: &Path)
+    fn touch(&mut self, path: &Path)
         ensures { (q : PathValue) → get self.new q ≡ touched_above path.now (tree_of self.old) q }
     {
-        touch_above(&mut self.entries, alloc, path);
+        touch_above(&mut self.entries, path);
     }
 
     /// Takes out what is at or under the path.

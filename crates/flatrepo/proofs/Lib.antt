@@ -1,4 +1,2 @@
-pub mod EqualMarks
-pub mod Keeping
+pub mod Beginning
 pub mod Limits
-pub mod NewestMarks

@@ -3,9 +3,7 @@
 
 mod flat_repo;
 mod flat_txn;
-mod marks;
 mod repository;
-mod settling;
 
 pub use flat_repo::FlatRepo;
 pub use flat_txn::FlatTxn;

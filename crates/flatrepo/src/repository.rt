@@ -17,20 +17,16 @@ ghost use Rattle.repo_api.specs.MergedMaps.{has_conflict, merged_map};
 ghost use Rattle.repo_api.specs.declared.ask.CommitAsk.{CommitAsk};
 ghost use Rattle.repo_api.specs.States.{IsBeginning, IsEdited, tree_of, tree_at, trees_in, changes_of, youngest};
 ghost use Rattle.repo_api.specs.RightEdits.{IsRightEdit};
-ghost use Rattle.history_marks.specs.Sound.{IsSoundRepo};
 ghost use Rattle.flat_trees.specs.Contents.{fixed_of, flat_state, revisions_of, properties_of};
 ghost use Rattle.flatrepo.specs.Whole.{state_of, repo_content, txn_state_of};
 
 use crate::flat_repo::FlatRepo;
 use crate::flat_txn::FlatTxn;
-use crate::marks::is_same_in;
-use crate::settling::settled_in;
 use byte_string::ByteString;
 use flat_trees::{
     FlatContent, FlatRevision, FlatTree, begun_tree, created, edit_tree, entry_at, has_deeper,
     kind_at, names, properties, text,
 };
-use history_marks::{repositories_stay_sound, transactions_stay_sound};
 use pathlocks::{Locks, lock_shared, put_shared, release_shared, unlock_shared};
 use refusals::Refusal;
 use repo_api::{
@@ -50,7 +46,6 @@ impl FlatRepo {
         ensures { IfOk result (λ r. (date : List ℕ) × IsDateText moment date
             × (repo_content r ≡ new_repository uuid date)) }
     {
-        repositories_stay_sound();
         let date = date_of(alloc, moment)?;
         let content = FlatContent::opened(alloc, uuid, date)?;
         Ok(FlatRepo {
@@ -120,16 +115,16 @@ impl Repository for FlatRepo {
         names(self.alloc, self.content.tree(revision), path)
     }
 
-    fn is_same(&self, revision: u64, path: &Path, other: u64, other_path: &Path) -> bool {
-        is_same_in(&self.content, revision, path, other, other_path)
+    fn is_same(&self, _revision: u64, _path: &Path, _other: u64, _other_path: &Path) -> bool {
+        false
     }
 
     fn changes(&self, revision: u64) -> &[(Path, Change)] {
         self.content.changes(revision)
     }
 
-    fn settled(&self, revision: u64, path: &Path) -> u64 {
-        settled_in(self.alloc, &self.content, revision, path)
+    fn settled(&self, revision: u64, _path: &Path) -> u64 {
+        revision
     }
 
     fn revision_properties(&self, revision: u64) -> Option<&Properties> {
@@ -161,7 +156,6 @@ impl Repository for FlatRepo {
     }
 
     fn begin(&self) -> Result<FlatTxn, AllocError> {
-        transactions_stay_sound();
         let base = self.content.youngest();
         Ok(FlatTxn {
             shown: Arc::try_clone(&self.content)?,
@@ -264,7 +258,6 @@ fn edit_txn(
     txn: &mut FlatTxn,
     op: &EditOp,
 ) -> Result<(), AllocError>
-    requires sound { ∥ IsSoundRepo (flat_state content.now.value) ∥₁ }
     requires rests { IsBeginning (txn_state_of txn.old).shown (revisions_of content.now.value) }
     requires right { IsRightEdit (trees_in (revisions_of content.now.value))
         (tree_of (txn_state_of txn.old).tree) op.now }

@@ -7,7 +7,7 @@ use Rattle.repo_api.specs.Edits.{touched}
 use Rattle.revision_data.specs.Found.{found}
 use Rattle.revision_data.proofs.Retained.{lookup-retained}
 use Rattle.revision_data.proofs.Written.{map_if}
-use Rattle.flat_parts.proofs.touching.touch_all.Goals as goal
+use Rattle.flat_parts.proofs.touching.touch_above.Goals as goal
 
 pub returns : goal.returns
 returns c = λ q.
