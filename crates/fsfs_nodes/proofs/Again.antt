@@ -1,15 +1,15 @@
 -- The lines of a node revision that was written are read again.
-use Rattle.std.proofs.Common.{◌≡◌, ℕ, zero, suc, ◌+◌, ◌-◌, ◌^◌, ◌<◌, ◌≤◌, Bool, true, false, not, ◌&&◌, cond, eqb, ltb, List, [], ◌∷◌, ◌++◌, length, drop, Option, Some, None, Result, Ok, Err, refl, sym, ap, ◌∙◌, append_assoc, arith, lit≤, lit<}
-use Rattle.std.specs.Prelude.{codes, option_map, IfSome}
+use Rattle.std.proofs.Common.{◌≡◌, ℕ, zero, suc, ◌-◌, ◌^◌, ◌<◌, true, false, ◌&&◌, cond, eqb, ltb, List, [], ◌∷◌, ◌++◌, length, drop, Option, Some, None, Result, Ok, Err, refl, sym, ap, ◌∙◌, append_assoc, arith, lit≤, lit<}
+use Rattle.std.specs.Prelude.{codes, option_map, if◌then◌else◌, IfSome}
 use Rattle.std.specs.List.{flat_map}
 use Rattle.std.specs.Cmp.Lexicographic.{pointwise}
 use Rattle.std.proofs.lemmas.Bool.{eq-eqb, le-ltb}
-use Rattle.std.proofs.lemmas.List.{append-nil, length-append, drop_at}
+use Rattle.std.proofs.lemmas.List.{length-append, drop_at}
 use Rattle.fsfs_lines.specs.declared.fault.FileFault.{FileFault}
 use Rattle.fsfs_lines.specs.declared.fault.FileFault.TheVariants.{Dangling}
 use Rattle.fsfs_lines.specs.Reading.{◌>>=◌, or_bad}
-use Rattle.fsfs_lines.specs.Splits.{split_once, without_prefix, line_at, line_of, is_free}
-use Rattle.fsfs_lines.specs.Numerals.{numeral, decimal_of}
+use Rattle.fsfs_lines.specs.Splits.{split_once, line_at, line_of, is_free}
+use Rattle.fsfs_lines.specs.Numerals.{numeral}
 use Rattle.fsfs_lines.proofs.Splits.{split_again, prefix_again, same_bytes}
 use Rattle.fsfs_lines.proofs.Numbers.{number_again}
 use Rattle.fsfs_ids.specs.Ids.{id_text, id_of}
@@ -23,15 +23,16 @@ use Rattle.fsfs_ids.specs.declared.place.Place.{Place}
 use Rattle.fsfs_nodes.specs.declared.entries.EntryKind.{EntryKind}
 use Rattle.fsfs_nodes.specs.declared.entries.EntryKind.TheVariants.{File, Directory}
 use Rattle.fsfs_nodes.specs.declared.node.FileNode.{FileNode}
-use Rattle.fsfs_nodes.specs.Headers.{Line, line_bytes, optional_line, name_value, named, before, with_others, block_within, block_of, value_of, optional, there, field}
-use Rattle.fsfs_nodes.specs.Nodes.{kind_text, kind_of, node_bytes, id_first, id_line, standing, own_id, count_of, path_of, node_of, node_from, node_at}
+use Rattle.fsfs_nodes.specs.Headers.{Line, line_bytes, optional_line, name_value, named, with_name, before, with_others, block_within, block_of, value_of, optional, there, field}
+use Rattle.fsfs_nodes.specs.Nodes.{kind_text, kind_of, node_bytes, id_first, id_line, standing, own_id, count_of, path_of, node_of, node_at}
 use Rattle.fsfs_nodes.specs.Fits.{NodeFits, PlaceFits}
 
 -- ---- blocks of lines
 
--- a name that isn't empty, without `:` and line feeds, and a value without line feeds
+-- a name that isn't empty, without NUL, `:` and line feeds, and a value without line feeds
 pub record IsRight (line : Line) : Type 0 where
   pub some : 0 < length line.0
+  pub nul : is_free 0 line.0 ≡ true
   pub colon : is_free 58 line.0 ≡ true
   pub name : is_free 10 line.0 ≡ true
   pub value : is_free 10 line.1 ≡ true
@@ -53,7 +54,8 @@ bytes-append line rest = simp append_assoc
 name_value_again : (line : Line) → IsRight line → name_value (text_of line) ≡ Some line
 unfolding name_value
 name_value_again line right =
-    ap named (split_again 58 line.0 (32 ∷ line.1) right.colon) ∙ rw (prefix_again (32 ∷ []) line.1) refl
+    ap named (split_again 58 line.0 (32 ∷ line.1) right.colon) ∙ ap (with_name line.0) (prefix_again (32 ∷ []) line.1)
+    ∙ ap (λ b. if b then Some line else None) right.nul
 
 with_others_again : (line : Line) (others : Result (List Line) FileFault) (text : List ℕ) → text ≡ text_of line → IsRight line → with_others text others ≡ before line others
 with_others_again line others [] same right = absurd (omega (arith, right.some, simp length-append at (ap length same)))
@@ -266,22 +268,22 @@ id_line_again node rest fits =
     ∙ ap id_first (split_again 10 (text_of first) others free)
     ∙ rw (prefix_again (codes "id: ") (id_text node.id)) (id_again node.id fits.id)
 
-optional_right : (name : List ℕ) {A : Type 0} (write : A → List ℕ) (o : Option A) (lines : List Line) → 0 < length name → is_free 58 name ≡ true → is_free 10 name ≡ true
-    → IfSome o (λ x. is_free 10 (write x) ≡ true) → AreRight lines → AreRight (optional_pair name (option_map write o) ++ lines)
-optional_right name write None lines some colon feed h right = right
-optional_right name write (Some x) lines some colon feed h right = (record { some = some; colon = colon; name = feed; value = h }, right)
+optional_right : (name : List ℕ) {A : Type 0} (write : A → List ℕ) (o : Option A) (lines : List Line) → 0 < length name
+    → is_free 0 name ≡ true → is_free 58 name ≡ true → is_free 10 name ≡ true → IfSome o (λ x. is_free 10 (write x) ≡ true) → AreRight lines → AreRight (optional_pair name (option_map write o) ++ lines)
+optional_right name write None lines some nul colon feed h right = right
+optional_right name write (Some x) lines some nul colon feed h right = (record { some = some; nul = nul; colon = colon; name = feed; value = h }, right)
 
 header_right : (node : FileNode) → NodeFits node → AreRight (header_of node)
 header_right node fits =
-    let copyroot = optional_right (codes "copyroot") place_text node.copyroot [] (lit< tt) refl refl (places node.copyroot fits.copyroot) tt in
-    let copyfrom = optional_right (codes "copyfrom") place_text node.copyfrom _ (lit< tt) refl refl (places node.copyfrom fits.copyfrom) copyroot in
-    let path : IsRight (codes "cpath", node.path) = record { some = lit< tt; colon = refl; name = refl; value = fits.path } in
-    let properties = optional_right (codes "props") representation_text node.properties ((codes "cpath", node.path) ∷ last_lines node) (lit< tt) refl refl (representations node.properties fits.properties) (path, copyfrom) in
-    let text = optional_right (codes "text") representation_text node.text (optional_pair (codes "props") (option_map representation_text node.properties) ++ ((codes "cpath", node.path) ∷ last_lines node)) (lit< tt) refl refl (representations node.text fits.text) properties in
-    let count : IsRight (codes "count", numeral 10 node.count) = record { some = lit< tt; colon = refl; name = refl; value = decimal_free 10 node.count refl } in
-    let predecessor = optional_right (codes "pred") id_text node.predecessor ((codes "count", numeral 10 node.count) ∷ middle_lines node) (lit< tt) refl refl (ids node.predecessor) (count, text) in
-    let kind : IsRight (codes "type", kind_text node.kind) = record { some = lit< tt; colon = refl; name = refl; value = kinds node.kind } in
-    let id : IsRight (codes "id", id_text node.id) = record { some = lit< tt; colon = refl; name = refl; value = id_free 10 node.id feed_apart } in
+    let copyroot = optional_right (codes "copyroot") place_text node.copyroot [] (lit< tt) refl refl refl (places node.copyroot fits.copyroot) tt in
+    let copyfrom = optional_right (codes "copyfrom") place_text node.copyfrom _ (lit< tt) refl refl refl (places node.copyfrom fits.copyfrom) copyroot in
+    let path : IsRight (codes "cpath", node.path) = record { some = lit< tt; nul = refl; colon = refl; name = refl; value = fits.path } in
+    let properties = optional_right (codes "props") representation_text node.properties ((codes "cpath", node.path) ∷ last_lines node) (lit< tt) refl refl refl (representations node.properties fits.properties) (path, copyfrom) in
+    let text = optional_right (codes "text") representation_text node.text (optional_pair (codes "props") (option_map representation_text node.properties) ++ ((codes "cpath", node.path) ∷ last_lines node)) (lit< tt) refl refl refl (representations node.text fits.text) properties in
+    let count : IsRight (codes "count", numeral 10 node.count) = record { some = lit< tt; nul = refl; colon = refl; name = refl; value = decimal_free 10 node.count refl } in
+    let predecessor = optional_right (codes "pred") id_text node.predecessor ((codes "count", numeral 10 node.count) ∷ middle_lines node) (lit< tt) refl refl refl (ids node.predecessor) (count, text) in
+    let kind : IsRight (codes "type", kind_text node.kind) = record { some = lit< tt; nul = refl; colon = refl; name = refl; value = kinds node.kind } in
+    let id : IsRight (codes "id", id_text node.id) = record { some = lit< tt; nul = refl; colon = refl; name = refl; value = id_free 10 node.id feed_apart } in
     (id, (kind, predecessor))
   where
     places : (o : Option Place) → IfSome o PlaceFits → IfSome o (λ x. is_free 10 (place_text x) ≡ true)

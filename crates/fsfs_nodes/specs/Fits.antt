@@ -1,5 +1,5 @@
 -- What the lines of a node revision can say.
-use Rattle.std.specs.Prelude.{◌≡◌, ℕ, ◌<◌, ◌^◌, true, IfSome}
+use Rattle.std.specs.Prelude.{◌≡◌, ◌<◌, ◌^◌, true, IfSome}
 use Rattle.fsfs_lines.specs.Splits.{is_free}
 use Rattle.fsfs_ids.specs.Fits.{IdFits, RepresentationFits}
 use Rattle.fsfs_ids.specs.declared.place.Place.{Place}

@@ -4,7 +4,7 @@ use Rattle.std.specs.Cmp.Lexicographic.{pointwise}
 use Rattle.fsfs_lines.specs.declared.fault.FileFault.{FileFault}
 use Rattle.fsfs_lines.specs.declared.fault.FileFault.TheVariants.{Truncated, BadLine}
 use Rattle.fsfs_lines.specs.Reading.{◌>>=◌, or_bad}
-use Rattle.fsfs_lines.specs.Splits.{split_once, without_prefix, line_at}
+use Rattle.fsfs_lines.specs.Splits.{split_once, without_prefix, line_at, is_free}
 use Rattle.fsfs_nodes.specs.declared.header.HeaderLine.{HeaderLine}
 
 -- a name and its value
@@ -27,10 +27,10 @@ line_pair line = (line.name.now, line.value.now)
 abbrev pub line_pairs : List HeaderLine → List Line
 line_pairs lines = map line_pair lines
 
--- a value stands behind a space
+-- a value stands behind a space, and no NUL in the name
 abbrev pub with_name : List ℕ → Option (List ℕ) → Option Line
 with_name name None = None
-with_name name (Some value) = Some (name, value)
+with_name name (Some value) = if is_free 0 name then Some (name, value) else None
 
 abbrev pub named : Option (List ℕ × List ℕ) → Option Line
 named None = None

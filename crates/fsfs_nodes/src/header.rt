@@ -1,6 +1,7 @@
 //! The lines of a node revision.
 ghost use Rattle.std.specs.Prelude.{◌≡◌, map, option_map};
 ghost use Rattle.fsfs_lines.specs.Reading.{Gives, Answers, or_bad};
+ghost use Rattle.fsfs_lines.specs.Splits.{is_free};
 ghost use Rattle.fsfs_nodes.specs.Headers.{line_pair, line_pairs, name_value, value_of, block_of, field, optional};
 ghost use Rattle.fsfs_ids.specs.Ids.{id_of};
 ghost use Rattle.fsfs_ids.specs.Representations.{representation_of};
@@ -17,6 +18,13 @@ pub struct HeaderLine<'a> {
     pub value: &'a [u8],
 }
 
+/// Whether a name has no NUL.
+fn is_name(name: &[u8]) -> bool
+    ensures { result ≡ is_free 0 name.now }
+{
+    name.iter().all(|byte| *byte != 0)
+}
+
 /// Reads the name and the value of a line.
 #[tactic(auto, unfolding(crate::specs::Headers::name_value))]
 fn parse_line(line: &[u8]) -> Option<HeaderLine<'_>>
@@ -24,6 +32,9 @@ fn parse_line(line: &[u8]) -> Option<HeaderLine<'_>>
 {
     let (name, rest) = split_once(line, b':')?;
     let value = without_prefix(rest, b" ")?;
+    if !is_name(name) {
+        return None;
+    }
     Some(HeaderLine { name, value })
 }
 
@@ -31,7 +42,7 @@ fn parse_line(line: &[u8]) -> Option<HeaderLine<'_>>
 ///
 /// # Errors
 ///
-/// `Truncated` where no empty line comes, `BadLine` where a line before it has no name, `NoMemory`.
+/// `Truncated` where no empty line comes, `BadLine` where a line before it has no name, or one with a NUL, `NoMemory`.
 pub fn read_block(alloc: Global, bytes: &[u8]) -> Result<Vec<HeaderLine<'_>>, FileFault>
     ensures { Answers (λ v. line_pairs v.items) result (block_of bytes.now) }
 {
