@@ -1,7 +1,7 @@
 -- What the values of this crate stand for.
 use Rattle.repo_api.specs.States.{LockMap, RepoState, TxnState}
-use Rattle.flat_trees.specs.Contents.{flat_state}
-use Rattle.flat_trees.specs.declared.flat_content.FlatContent.{FlatContent}
+use Rattle.flatrepo.specs.Contents.{flat_state}
+use Rattle.flatrepo.specs.declared.flat_content.FlatContent.{FlatContent}
 use Rattle.flatrepo.specs.Open.{txn_of}
 use Rattle.flatrepo.specs.declared.flat_repo.FlatRepo.{FlatRepo}
 use Rattle.flatrepo.specs.declared.flat_txn.FlatTxn.{FlatTxn}

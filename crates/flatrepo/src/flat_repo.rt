@@ -1,5 +1,5 @@
 //! What a repository in memory has.
-use flat_trees::FlatContent;
+use crate::flat_content::FlatContent;
 use pathlocks::Locks;
 use std::alloc::Global;
 use std::sync::Arc;

@@ -1,5 +1,6 @@
 //! What an open transaction has.
-use flat_trees::{FlatContent, FlatTree};
+use crate::flat_content::FlatContent;
+use crate::flat_tree::FlatTree;
 use revision_data::TxnChanges;
 use std::sync::Arc;
 

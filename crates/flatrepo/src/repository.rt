@@ -17,16 +17,16 @@ ghost use Rattle.repo_api.specs.MergedMaps.{has_conflict, merged_map};
 ghost use Rattle.repo_api.specs.declared.ask.CommitAsk.{CommitAsk};
 ghost use Rattle.repo_api.specs.States.{IsBeginning, IsEdited, tree_of, tree_at, trees_in, changes_of, youngest};
 ghost use Rattle.repo_api.specs.RightEdits.{IsRightEdit};
-ghost use Rattle.flat_trees.specs.Contents.{fixed_of, flat_state, revisions_of, properties_of};
+ghost use Rattle.flatrepo.specs.Contents.{fixed_of, flat_state, revisions_of, properties_of};
 ghost use Rattle.flatrepo.specs.Whole.{state_of, repo_content, txn_state_of};
 
+use crate::edits::edit_tree;
+use crate::flat_content::{FlatContent, FlatRevision};
 use crate::flat_repo::FlatRepo;
+use crate::flat_tree::FlatTree;
 use crate::flat_txn::FlatTxn;
+use crate::looking::{created, kind, properties, text};
 use byte_string::ByteString;
-use flat_trees::{
-    FlatContent, FlatRevision, FlatTree, begun_tree, created, edit_tree, entry_at, has_deeper,
-    kind_at, names, properties, text,
-};
 use pathlocks::{Locks, lock_shared, put_shared, release_shared, unlock_shared};
 use refusals::Refusal;
 use repo_api::{
@@ -35,6 +35,7 @@ use repo_api::{
 };
 use revision_data::{TxnChanges, current_refusal, date_of, property_refusal, revision_properties};
 use std::alloc::{AllocError, Global};
+use std::mem::drop;
 use std::sync::Arc;
 use svnpath::Path;
 
@@ -92,27 +93,27 @@ impl Repository for FlatRepo {
     }
 
     fn kind(&self, revision: u64, path: &Path) -> NodeKind {
-        kind_at(self.content.tree(revision), path)
+        kind(self.content.tree(revision).get(path))
     }
 
     fn has_deeper(&self, revision: u64, path: &Path, names: usize) -> bool {
-        has_deeper(self.content.tree(revision), path, names)
+        self.content.tree(revision).has_deeper(path, names)
     }
 
     fn created(&self, revision: u64, path: &Path) -> Option<u64> {
-        created(entry_at(self.content.tree(revision), path))
+        created(self.content.tree(revision).get(path))
     }
 
     fn properties(&self, revision: u64, path: &Path) -> Option<&Properties> {
-        properties(entry_at(self.content.tree(revision), path))
+        properties(self.content.tree(revision).get(path))
     }
 
     fn text(&self, revision: u64, path: &Path) -> Option<&FileText> {
-        text(entry_at(self.content.tree(revision), path))
+        text(self.content.tree(revision).get(path))
     }
 
     fn names(&self, revision: u64, path: &Path) -> Result<Vec<&ByteString>, AllocError> {
-        names(self.alloc, self.content.tree(revision), path)
+        self.content.tree(revision).names(self.alloc, path)
     }
 
     fn is_same(&self, _revision: u64, _path: &Path, _other: u64, _other_path: &Path) -> bool {
@@ -144,7 +145,7 @@ impl Repository for FlatRepo {
     }
 
     fn kind_in(&self, txn: &FlatTxn, path: &Path) -> NodeKind {
-        kind_at(Some(&txn.tree), path)
+        kind(txn.tree.get(path))
     }
 
     fn created_in(&self, txn: &FlatTxn, path: &Path) -> Option<u64> {
@@ -160,7 +161,7 @@ impl Repository for FlatRepo {
         Ok(FlatTxn {
             shown: Arc::try_clone(&self.content)?,
             base,
-            tree: begun_tree(self.alloc, self.content.tree(base))?,
+            tree: self.content.tree(base).begun(self.alloc)?,
             changes: TxnChanges::new(self.alloc),
         })
     }
@@ -171,7 +172,7 @@ impl Repository for FlatRepo {
 
     fn commit(&mut self, ask: CommitAsk, txn: FlatTxn) -> Result<u64, ChangeFault> {
         if let Err(fault) = judge(self.alloc, &self.content, &self.locks, &ask, &txn) {
-            let_go(ask, txn);
+            drop((ask, txn));
             return Err(fault);
         }
         let number = self.content.count();
@@ -181,10 +182,10 @@ impl Repository for FlatRepo {
 
     fn lock(&mut self, ask: LockAsk) -> Result<(), ChangeFault> {
         if let Some(refusal) = current_refusal(self.content.youngest(), ask.current) {
-            std::mem::drop(ask);
+            drop(ask);
             return Err(ChangeFault::Refused(refusal));
         }
-        let (kind, created) = standing(&self.content, &ask.path);
+        let (kind, created) = kind_and_created(&self.content, &ask.path);
         lock_shared(self.alloc, &mut self.locks, kind, created, ask)
     }
 
@@ -194,7 +195,7 @@ impl Repository for FlatRepo {
 
     fn change_property(&mut self, ask: PropertyAsk) -> Result<(), ChangeFault> {
         if let Some(refusal) = refusal_of(&self.content, &ask) {
-            std::mem::drop(ask);
+            drop(ask);
             return Err(ChangeFault::Refused(refusal));
         }
         self.content = with_property(self.alloc, &self.content, ask)?;
@@ -238,18 +239,15 @@ fn with_property(
 }
 
 /// What stands at the path in the youngest revision, and the revision of its last change.
-fn standing(content: &FlatContent, path: &Path) -> (NodeKind, Option<u64>)
+fn kind_and_created(content: &FlatContent, path: &Path) -> (NodeKind, Option<u64>)
     ensures kind { result.0
         ≡ kind_at (flat_state content.now) (youngest (flat_state content.now)) path.now }
     ensures created { result.1
         ≡ created_at (flat_state content.now) (youngest (flat_state content.now)) path.now }
 {
-    let tree = content.tree(content.youngest());
-    (kind_at(tree, path), created(entry_at(tree, path)))
+    let entry = content.tree(content.youngest()).get(path);
+    (kind(entry), created(entry))
 }
-
-/// What a commit that is not made was asked for.
-fn let_go(_ask: CommitAsk, _txn: FlatTxn) {}
 
 /// Makes the edit in the transaction, and shows it this content.
 fn edit_txn(
@@ -314,7 +312,8 @@ fn judge(
         (txn_state_of txn.now) ≡ Some r) }
     ensures memory { IsOfMemory result }
 {
-    if has_conflict(content, txn.base, &txn.tree) {
+    let (base, youngest) = (content.tree(txn.base), content.tree(content.youngest()));
+    if txn.tree.has_conflict(base, youngest) {
         return Err(ChangeFault::Refused(Refusal::Conflict));
     }
     check_locks(alloc, locks, &txn.changes, ask)?;
@@ -339,14 +338,6 @@ fn check_locks(
 {
     let tokens = ask.tokens.as_slice();
     locks.check(alloc, changes.as_map(), ask.author.as_ref(), tokens)
-}
-
-/// Whether the tree of a transaction from this base is in conflict with the youngest revision's.
-fn has_conflict(content: &FlatContent, base: u64, tree: &FlatTree) -> bool
-    ensures { result ≡ has_conflict (tree_at (flat_state content.now) base) tree.now
-        (tree_at (flat_state content.now) (youngest (flat_state content.now))) }
-{
-    tree.has_conflict(content.tree(base), content.tree(content.youngest()))
 }
 
 /// The tree of the revision that a commit of this tree, from this base, adds.
@@ -395,43 +386,8 @@ fn with_revision(
         ++ revision_properties ask ∷ []) }
     ensures uuid { IfOk result (λ c. c.value.uuid ≡ content.now.uuid) }
 {
-    let revision = shared_revision(alloc, tree, changes)?;
-    let properties = next_properties(alloc, ask)?;
-    with_one_more(alloc, content, &revision, &properties)
-}
-
-/// A revision with this tree and these changes, to be shared.
-fn shared_revision(
-    alloc: Global,
-    tree: FlatTree,
-    changes: TxnChanges,
-) -> Result<Arc<FlatRevision>, AllocError>
-    ensures { IfOk result (λ r. fixed_of r.value ≡ record { tree = tree; changes = changes }) }
-{
     let changes = changes.into_list(alloc)?;
-    Ok(Arc::new(alloc, FlatRevision { tree, changes })?)
-}
-
-/// What is held after one revision more, which is shared.
-fn with_one_more(
-    alloc: Global,
-    content: &FlatContent,
-    revision: &Arc<FlatRevision>,
-    properties: &Arc<Properties>,
-) -> Result<Arc<FlatContent>, AllocError>
-    ensures revisions { IfOk result (λ c. revisions_of c.value ≡ revisions_of content.now
-        ++ fixed_of revision.now.value ∷ []) }
-    ensures properties { IfOk result (λ c. properties_of c.value ≡ properties_of content.now
-        ++ properties.now.value ∷ []) }
-    ensures uuid { IfOk result (λ c. c.value.uuid ≡ content.now.uuid) }
-{
-    let next = content.with_revision(alloc, revision, properties)?;
+    let properties = revision_properties(alloc, ask)?;
+    let next = content.with_revision(alloc, FlatRevision { tree, changes }, properties)?;
     Ok(Arc::new(alloc, next)?)
-}
-
-/// The properties of the revision that is asked for.
-fn next_properties(alloc: Global, ask: CommitAsk) -> Result<Arc<Properties>, AllocError>
-    ensures { IfOk result (λ ps. ps.value ≡ revision_properties ask) }
-{
-    Ok(Arc::new(alloc, revision_properties(alloc, ask)?)?)
 }

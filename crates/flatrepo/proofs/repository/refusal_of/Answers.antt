@@ -1,5 +1,5 @@
 use Rattle.std.proofs.Common.{sym}
-use Rattle.flat_trees.specs.Contents.{flat_state}
+use Rattle.flatrepo.specs.Contents.{flat_state}
 use Rattle.flatrepo.proofs.repository.refusal_of.Goals as goal
 
 pub returns : goal.returns

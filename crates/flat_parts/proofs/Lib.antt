@@ -1,4 +1,0 @@
-pub mod Rules
-pub mod Anys
-pub mod Parts
-pub mod Copied

@@ -1,0 +1,18 @@
+use Rattle.std.proofs.Common.{◌≡◌, None}
+use Rattle.std.specs.Prelude.{if◌then◌else◌}
+use Rattle.std.specs.Option.{option_or}
+use Rattle.std.specs.List.{list_any}
+use Rattle.std.specs.Map.{keys_of}
+use Rattle.svnpath.specs.Paths.{PathValue}
+use Rattle.revision_data.specs.Found.{found}
+use Rattle.flatrepo.specs.EntryChanges.{landed}
+use Rattle.flatrepo.proofs.Copied.{lands}
+use Rattle.flatrepo.proofs.copies.put_copies.Given as goal
+
+-- what the entries that are left put makes the whole
+abbrev pub invariant-loop-path : goal.invariant-loop-path
+invariant-loop-path l =
+    let landing = landed (found l.source.entries) l.from l.to in
+    (q : PathValue)
+    → option_or (if list_any (lands l.from l.to q) (keys_of l.path-iterator) then landing q else None) (found l.entries.entries q)
+    ≡ option_or (landing q) (found l.initial.entries.entries q)

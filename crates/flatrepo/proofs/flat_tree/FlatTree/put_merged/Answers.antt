@@ -1,0 +1,33 @@
+use Rattle.std.proofs.Common.{None, is_some, sym, ap, ◌∙◌}
+use Rattle.std.proofs.lemmas.Map.Iter.{rest_more}
+use Rattle.std.specs.Prelude.{if◌then◌else◌}
+use Rattle.std.specs.Option.{option_or}
+use Rattle.std.specs.List.{list_any}
+use Rattle.std.specs.BTreeMap.{is_at}
+use Rattle.std.specs.Map.Iter.{deref}
+use Rattle.svnpath.specs.Paths.{path_cmp}
+use Rattle.revision_data.specs.Found.{found}
+use Rattle.flatrepo.specs.Merging.{merged_at}
+use Rattle.flatrepo.proofs.Anys.{found_key}
+use Rattle.flatrepo.proofs.Merged.{put_more}
+use Rattle.revision_data.proofs.Seen.{seen_at}
+use Rattle.flatrepo.proofs.flat_tree.FlatTree.put_merged.Goals as goal
+
+pub loop-path-init : goal.loop-path-init
+loop-path-init c = λ q.
+    let t = merged_at c.args.revision c.args.base.now c.args.self.now c.args.youngest.now in
+    let es = c.paths.inside.entries.entries in
+    ap (λ b. option_or (if b then t q else None) (found c.args.entries.now.entries q))
+    (ap (list_any (is_at (path_cmp q))) (c.into_iter-path-iterator.ensures.into_iter_gives ∙ c.keys-path-items.ensures.rest)
+    ∙ sym (found_key es q) ∙ ap is_some (sym (seen_at es c.args.paths.now q c.paths.view_is)))
+
+pub loop-path-preserved : goal.loop-path-preserved
+loop-path-preserved c = λ q.
+    let t = merged_at c.args.revision c.args.base.now c.args.self.now c.args.youngest.now in
+    let out = found c.loop-path.entries.entries q in
+    let left = c.next.new.self in
+    put_more t c.in-Some.path.now q (list_any (is_at (path_cmp q)) left) c.in_ok-entry.entry out (found c.put_optional.new.entries.entries q)
+    c.in_ok-entry.ensures (c.in_ok-put_optional.ensures q)
+    ∙ ap (λ ks. option_or (if list_any (is_at (path_cmp q)) ks then t q else None) out)
+    (sym (rest_more deref c.loop-path.path-iterator left c.next.result c.in-Some.path c.in-Some.is c.next.ensures.steps))
+    ∙ c.loop-path.invariant q

@@ -1,0 +1,31 @@
+-- What is held, as the state of a repository.
+use Rattle.std.specs.Prelude.{List, map}
+use Rattle.std.specs.FinMap.{empty}
+use Rattle.std.specs.declared.sync.Arc.{Arc}
+use Rattle.repo_api.specs.Properties.{PropertyList}
+use Rattle.repo_api.specs.States.{Revision, RepoState}
+use Rattle.flatrepo.specs.declared.flat_content.FlatRevision.{FlatRevision}
+use Rattle.flatrepo.specs.declared.flat_content.FlatContent.{FlatContent}
+
+abbrev pub fixed_of : FlatRevision → Revision
+fixed_of r = record { tree = r.tree; changes = r.changes }
+
+-- what the shared pointers point to
+abbrev pub values : {X Z : Type 0} → List (Arc X Z) → List X
+values = map (λ a. a.value)
+
+abbrev pub revisions_of : FlatContent → List Revision
+revisions_of c = map fixed_of (values c.revisions.items)
+
+abbrev pub properties_of : FlatContent → List PropertyList
+properties_of c = values c.properties.items
+
+-- what is held, with no locks
+abbrev pub flat_state : FlatContent → RepoState
+flat_state c =
+    record {
+      uuid = c.uuid;
+      revisions = revisions_of c;
+      properties = properties_of c;
+      locks = empty;
+    }

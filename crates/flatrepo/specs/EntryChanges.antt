@@ -1,0 +1,28 @@
+-- The steps of an edit in the entries of a tree.
+use Rattle.std.specs.Prelude.{ℕ, List, length, drop, option_map, Option, None, Bool, true, false, if◌then◌else◌}
+use Rattle.svnpath.specs.Paths.{PathValue, same_path, is_at_or_under}
+use Rattle.repo_api.specs.Edits.{with_open_mark, copy_of}
+use Rattle.repo_api.specs.Properties.{PropertyList}
+use Rattle.repo_api.specs.RevisionProperties.{property_changed}
+use Rattle.repo_api.specs.Trees.{Tree}
+use Rattle.repo_api.specs.declared.entry.Entry.{Entry}
+
+-- the entry at q once the one at p has a part changed
+abbrev pub part_at : PathValue → (Entry → Entry) → PathValue → Option Entry → Option Entry
+part_at p f q o = if same_path p q then option_map (λ e. with_open_mark (f e)) o else o
+
+abbrev pub with_properties : PropertyList → Entry → Entry
+with_properties properties e = record e { properties = properties }
+
+abbrev pub with_change : List ℕ → Option (List ℕ) → Entry → Entry
+with_change name value e = record e { properties = property_changed name value e.properties }
+
+-- an entry that is copied, as the top of what is copied or beneath it
+abbrev pub copied_entry : Bool → Entry → Entry
+copied_entry true e = with_open_mark e
+copied_entry false e = e
+
+-- what a copy from `from` of the source to `to` puts at q
+abbrev pub landed : Tree → PathValue → PathValue → Tree
+landed source from to q =
+    if is_at_or_under q to then copy_of source from (drop (length to) q) else None

@@ -1,0 +1,270 @@
+//! A tree as one ordered map.
+ghost use Rattle.std.specs.Prelude.{◌≡◌, IfOk, OnOk, OnErr, map, option_copied};
+ghost use Rattle.std.specs.FinMap.{get, empty, keys};
+ghost use Rattle.std.specs.List.{list_any};
+ghost use Rattle.std.specs.Map.Iter.{deref};
+ghost use Rattle.svnpath.specs.Paths.{PathValue};
+ghost use Rattle.repo_api.specs.Edits.{added, touched_above, revised, with_text, deleted, copied, begun};
+ghost use Rattle.repo_api.specs.Kinds.{has_deeper};
+ghost use Rattle.repo_api.specs.Readings.{names_in};
+ghost use Rattle.repo_api.specs.MergedMaps.{has_conflict, merged_map};
+ghost use Rattle.repo_api.specs.Opening.{opening_tree};
+ghost use Rattle.repo_api.specs.States.{tree_of};
+ghost use Rattle.revision_data.specs.Found.{found};
+ghost use Rattle.flatrepo.specs.EntryChanges.{with_change};
+ghost use Rattle.flatrepo.specs.Merging.{conflict_at, merged_at, put_over};
+
+use crate::copies::{cut_subtree, put_copies};
+use crate::entries::{is_deeper, new_entry, opening_root, put_properties, put_text};
+use crate::merging::{is_in_conflict, merged_entry};
+use crate::names::names_beneath;
+use crate::path_map::put_optional;
+use crate::touching::touch_above;
+use byte_string::ByteString;
+use repo_api::{Content, Entry, FileText, Properties};
+use revision_data::{changed_property, put};
+use std::alloc::{AllocError, Global};
+use std::collections::BTreeMap;
+use std::marker::Model;
+use std::mem::drop;
+use svnpath::Path;
+
+/// The entries of a tree, in the order of their paths.
+#[derive(Drop)]
+pub(crate) struct FlatTree {
+    entries: BTreeMap<Path, Entry>,
+}
+
+impl Model for FlatTree {
+    ghost use Rattle.std.specs.Coded.{codes};
+    ghost use Rattle.std.specs.FinMap.{from_entries, code as map_code};
+    ghost use Rattle.repo_api.specs.States.{TreeMap};
+
+    ghost Value = { TreeMap };
+
+    ghost coded = { Prim.hlevel (map_code, codes) };
+
+    ghost view = { λ t. from_entries t.entries.entries };
+}
+
+impl FlatTree {
+    /// No entries.
+    pub(crate) fn new(alloc: Global) -> Self
+        ensures { result ≡ empty }
+    {
+        FlatTree {
+            entries: BTreeMap::new(alloc),
+        }
+    }
+
+    /// The tree of revision 0: the root alone.
+    pub(crate) fn opening(alloc: Global) -> Result<Self, AllocError>
+        ensures { IfOk result (λ t. t ≡ opening_tree) }
+    {
+        let mut entries = BTreeMap::new(alloc);
+        entries.insert(Path::root(alloc), opening_root(alloc))?;
+        Ok(FlatTree { entries })
+    }
+
+    /// The entry at the path.
+    #[tactic(auto, using(repo_api::specs::StateLaws::get_path))]
+    pub(crate) fn get(&self, path: &Path) -> Option<&Entry>
+        ensures { option_copied result ≡ get self.now path.now }
+    {
+        self.entries.get(path)
+    }
+
+    /// A copy with the root's `last` open: a transaction that begins from this tree.
+    pub(crate) fn begun(&self, alloc: Global) -> Result<Self, AllocError>
+        ensures { IfOk result (λ t. (q : PathValue) → get t q ≡ begun (tree_of self.now) q) }
+    {
+        let mut entries = self.entries.clone()?;
+        touch_above(&mut entries, &Path::root(alloc));
+        Ok(FlatTree { entries })
+    }
+
+    /// Puts a new entry with this content at the path.
+    #[tactic(auto, using(repo_api::specs::StateLaws::get_path))]
+    pub(crate) fn add(
+        &mut self,
+        alloc: Global,
+        path: &Path,
+        content: Content,
+    ) -> Result<(), AllocError>
+        ensures ok { OnOk result ((q : PathValue) → get self.new q
+            ≡ added (tree_of self.old) path.now content q) }
+        ensures err { OnErr result (self.new ≡ self.old) }
+    {
+        put(&mut self.entries, path.clone()?, new_entry(alloc, content))?;
+        touch_above(&mut self.entries, path);
+        Ok(())
+    }
+
+    /// Sets the property of this name at the path to the value, or takes it out where there is no value.
+    #[tactic(auto, using(repo_api::specs::StateLaws::get_path))]
+    pub(crate) fn change_property(
+        &mut self,
+        alloc: Global,
+        path: &Path,
+        name: ByteString,
+        value: Option<ByteString>,
+    ) -> Result<(), AllocError>
+        ensures ok { OnOk result ((q : PathValue) → get self.new q
+            ≡ revised (tree_of self.old) path.now (with_change name value) q) }
+        ensures err { OnErr result (self.new ≡ self.old) }
+    {
+        let properties = match self.entries.get(path) {
+            None => {
+                drop((name, value));
+                Properties::new(alloc)
+            }
+            Some(entry) => changed_property(&entry.properties, name, value)?,
+        };
+        put_properties(&mut self.entries, path, properties);
+        touch_above(&mut self.entries, path);
+        Ok(())
+    }
+
+    /// Makes this the text of the file at the path.
+    #[tactic(auto, using(repo_api::specs::StateLaws::get_path))]
+    pub(crate) fn set_text(&mut self, path: &Path, text: &FileText) -> Result<(), AllocError>
+        ensures ok { OnOk result ((q : PathValue) → get self.new q
+            ≡ revised (tree_of self.old) path.now (with_text text.now) q) }
+        ensures err { OnErr result (self.new ≡ self.old) }
+    {
+        let text = text.clone()?;
+        put_text(&mut self.entries, path, text);
+        touch_above(&mut self.entries, path);
+        Ok(())
+    }
+
+    /// Takes out what is at or under the path.
+    #[tactic(auto, using(repo_api::specs::StateLaws::get_path))]
+    pub(crate) fn delete(&mut self, path: &Path)
+        ensures { (q : PathValue) → get self.new q ≡ deleted (tree_of self.old) path.now q }
+    {
+        cut_subtree(&mut self.entries, path);
+    }
+
+    /// Whether something stands more than so many names beneath the path.
+    pub(crate) fn has_deeper(&self, path: &Path, names: usize) -> bool
+        ensures { result ≡ has_deeper self.now path.now names }
+    {
+        self.entries.keys().any(|key| is_deeper(key, path, names))
+    }
+
+    /// The names of what stands straight beneath the path, by their bytes.
+    pub(crate) fn names(&self, alloc: Global, path: &Path) -> Result<Vec<&ByteString>, AllocError>
+        ensures { IfOk result (λ names. map deref names.items ≡ names_in self.now path.now) }
+    {
+        match names_beneath(alloc, &self.entries, path) {
+            Ok(names) => Ok(names),
+            Err(error) => Err(error),
+        }
+    }
+
+    /// This tree after a copy of what stands at `from` of the source, and under it, to `to`.
+    pub(crate) fn with_copy(
+        &self,
+        alloc: Global,
+        source: &FlatTree,
+        from: &Path,
+        to: &Path,
+    ) -> Result<FlatTree, AllocError>
+        ensures { IfOk result (λ t. (q : PathValue)
+            → get t q ≡ copied (tree_of source.now) from.now (tree_of self.now) to.now q) }
+    {
+        let mut entries = self.entries.clone()?;
+        cut_subtree(&mut entries, to);
+        put_copies(alloc, &mut entries, &source.entries, from, to)?;
+        Ok(FlatTree { entries })
+    }
+
+    /// Whether a path of the base or of this tree, the transaction's, is in conflict.
+    pub(crate) fn has_conflict(&self, base: &FlatTree, youngest: &FlatTree) -> bool
+        ensures { result ≡ has_conflict base.now self.now
+            youngest.now }
+    {
+        self.conflicts_among(base, base, youngest) || self.conflicts_among(self, base, youngest)
+    }
+
+    /// Whether one of the paths is in conflict.
+    fn conflicts_among(&self, paths: &FlatTree, base: &FlatTree, youngest: &FlatTree) -> bool
+        ensures { result ≡ list_any
+            (conflict_at base.now self.now youngest.now)
+            (keys paths.now) }
+    {
+        paths
+            .entries
+            .keys()
+            .any(|path| self.conflicts_at(path, base, youngest))
+    }
+
+    /// Whether the path is in conflict.
+    fn conflicts_at(&self, path: &Path, base: &FlatTree, youngest: &FlatTree) -> bool
+        ensures { result ≡ conflict_at base.now self.now
+            youngest.now path.now }
+    {
+        is_in_conflict(base.get(path), self.get(path), youngest.get(path))
+    }
+
+    /// The merge of this tree, the transaction's, with the others, as revision of that number.
+    pub(crate) fn merged(
+        &self,
+        alloc: Global,
+        revision: u32,
+        base: &FlatTree,
+        youngest: &FlatTree,
+    ) -> Result<FlatTree, AllocError>
+        ensures { IfOk result (λ t. t
+            ≡ merged_map revision base.now self.now
+            youngest.now) }
+    {
+        let mut entries = BTreeMap::new(alloc);
+        self.put_merged(&mut entries, self, revision, base, youngest)?;
+        self.put_merged(&mut entries, youngest, revision, base, youngest)?;
+        Ok(FlatTree { entries })
+    }
+
+    /// Puts what the merge has at each of the paths.
+    fn put_merged(
+        &self,
+        entries: &mut BTreeMap<Path, Entry>,
+        paths: &FlatTree,
+        revision: u32,
+        base: &FlatTree,
+        youngest: &FlatTree,
+    ) -> Result<(), AllocError>
+        ensures { OnOk result ((q : PathValue)
+            → found entries.new.entries q ≡ put_over paths.now
+            (merged_at revision base.now self.now
+            youngest.now) (found entries.old.entries) q) }
+    {
+        for path in paths.entries.keys() {
+            let entry = self.merged_at(path, revision, base, youngest)?;
+            put_optional(entries, path, entry)?;
+        }
+        Ok(())
+    }
+
+    /// What the merge has at the path.
+    fn merged_at(
+        &self,
+        path: &Path,
+        revision: u32,
+        base: &FlatTree,
+        youngest: &FlatTree,
+    ) -> Result<Option<Entry>, AllocError>
+        ensures { IfOk result (λ o. o
+            ≡ merged_at revision base.now self.now
+            youngest.now path.now) }
+    {
+        merged_entry(
+            revision,
+            path,
+            base.get(path),
+            self.get(path),
+            youngest.get(path),
+        )
+    }
+}

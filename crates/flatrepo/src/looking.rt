@@ -1,0 +1,42 @@
+//! What is seen of an entry that there may be none of.
+ghost use Rattle.std.specs.Prelude.{◌≡◌, option_copied};
+ghost use Rattle.repo_api.specs.Kinds.{kind_of, created_of, node_properties, text_of};
+
+use repo_api::{Content, Entry, FileText, Mark, NodeKind, Properties};
+
+/// What the entry is, nothing where there is none.
+pub(crate) fn kind(entry: Option<&Entry>) -> NodeKind
+    ensures { result ≡ kind_of (option_copied entry.entry) }
+{
+    match entry {
+        Some(entry) => entry.kind(),
+        None => NodeKind::Absent,
+    }
+}
+
+/// The properties of the entry.
+pub(crate) fn properties(entry: Option<&Entry>) -> Option<&Properties>
+    ensures { option_copied result ≡ node_properties (option_copied entry.entry) }
+{
+    Some(&entry?.properties)
+}
+
+/// The revision that last changed the entry, at or under its path.
+pub(crate) fn created(entry: Option<&Entry>) -> Option<u64>
+    ensures { result ≡ created_of (option_copied entry.entry) }
+{
+    match entry?.last {
+        Mark::Open => None,
+        Mark::Made(revision, _) => Some(revision as u64),
+    }
+}
+
+/// The text of the entry, if it is a file.
+pub(crate) fn text(entry: Option<&Entry>) -> Option<&FileText>
+    ensures { option_copied result ≡ text_of (option_copied entry.entry) }
+{
+    match &entry?.content {
+        Content::Directory => None,
+        Content::File(text) => Some(text),
+    }
+}
