@@ -1,3 +1,2 @@
 pub mod Created
-pub mod Next
 pub mod Sound

@@ -5,15 +5,12 @@ ghost use Rattle.fsfs_folder.specs.declared.current.Current.{Current};
 ghost use Rattle.repostore.specs.Files.{Files};
 ghost use Rattle.repostore.specs.Reading.{IfFindsFaulty, with_read_locks};
 ghost use Rattle.filed_trees.specs.StandsFor.{locks_in};
-ghost use Rattle.filed_world.specs.Reading.{AreFirst, HasRead, IsNextOf};
+ghost use Rattle.filed_world.specs.Reading.{AreFirst, HasRead};
 ghost use Rattle.filed_opening.specs.Faults.{SaysCurrent};
 
-use filed_replaying::{replay_revision, set_revision_properties};
 use filed_world::{FiledWorld, count_of};
-use fsfs_folder::{Current, check_format, read_current, read_properties, read_uuid};
-use fsfs_judging::judge_revision;
+use fsfs_folder::{Current, check_format, read_current, read_uuid};
 use fsfs_lines::FileFault;
-use fsfs_reading::read_revision;
 use repostore::Reader;
 use std::alloc::{AllocError, Global};
 use store_access::Loader;
@@ -57,27 +54,6 @@ fn unread(alloc: Global, uuid: u128, current: Current) -> Result<FiledWorld, All
     FiledWorld::unread(alloc, world, current)
 }
 
-/// Makes the repository with the next revision, by its file and that of its properties.
-fn next_world(
-    alloc: Global,
-    filed: &FiledWorld,
-    revision: &[u8],
-    properties: &[u8],
-) -> Result<World, FileFault>
-    ensures { IfOk result (λ world. (files : Files) → HasRead filed.now files
-        → IsNextOf filed.now world) }
-{
-    let number = filed.count() as u32;
-    let read = read_revision(alloc, number, revision)?;
-    judge_revision(alloc, number, &read)?;
-    let said = read_properties(alloc, properties)?;
-    if filed.count() == 0 {
-        set_revision_properties(alloc, filed.world(), 0, &said)
-    } else {
-        replay_revision(alloc, filed.world(), &read, &said)
-    }
-}
-
 /// Takes the file of locks, if there is one.
 fn with_lock_file(filed: &FiledWorld, locks: &Option<Vec<u8>>) -> Result<FiledWorld, FileFault>
     ensures read { IfOk result (λ made. (files : Files) → HasRead filed.now files
@@ -112,10 +88,9 @@ impl Reader for FolderReader {
     }
 
     fn take_revision(&mut self, revision: Vec<u8>, properties: Vec<u8>) -> Result<(), FileFault> {
-        let revision = revision.as_slice();
-        let properties = properties.as_slice();
-        let world = next_world(self.alloc, &self.filed, revision, properties)?;
-        self.filed = self.filed.with_read_revision(world, revision, properties)?;
+        self.filed = self
+            .filed
+            .with_next_revision(revision.as_slice(), properties.as_slice())?;
         Ok(())
     }
 

@@ -3,4 +3,5 @@ pub mod Counts
 pub mod Listed
 pub mod Lists
 pub mod Newest
+pub mod Next
 pub mod Taken

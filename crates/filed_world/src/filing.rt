@@ -133,6 +133,21 @@ impl FiledWorld {
         }
     }
 
+    /// Reads the files of the next revision as opening the folder does, where no locks have been read yet. What could
+    /// not be read then is not made.
+    fn check_next_revision(&self, revision: &[u8], properties: &[u8]) -> Result<(), AllocError> {
+        let unlocked = self.with_listed_locks(&[])?;
+        let read = unlocked.with_next_revision(revision, properties);
+        std::mem::drop(unlocked);
+        match read {
+            Ok(read) => {
+                std::mem::drop(read);
+                Ok(())
+            }
+            Err(_) => Err(AllocError),
+        }
+    }
+
     /// Makes the repository with one more revision, and the files of it.
     pub(crate) fn with_revision(
         &self,
@@ -168,6 +183,7 @@ impl FiledWorld {
             current: current_file(self.alloc, current)?,
         };
         let tables = with_table(self.alloc, &self.tables, table)?;
+        self.check_next_revision(new.revision.as_slice(), new.properties.as_slice())?;
         let made = FiledWorld {
             alloc: self.alloc,
             world,

@@ -14,9 +14,12 @@ ghost use Rattle.filed_world.specs.Reading.{AreFirst, AreRead, HasRead, IsNextOf
 
 use crate::filed_world::FiledWorld;
 use crate::filing::with_table;
+use filed_replaying::{replay_revision, set_revision_properties};
 use filed_trees::{Table, check_same_properties, nothing_is_tabled, tabulated};
 use fsfs_folder::{Current, read_locks, read_properties};
+use fsfs_judging::judge_revision;
 use fsfs_lines::FileFault;
+use fsfs_reading::read_revision;
 use pvec::PVec;
 use repo_api::{Lock, Repository};
 use std::alloc::{AllocError, Global};
@@ -146,8 +149,41 @@ impl FiledWorld {
         }
     }
 
+    /// Makes the repository with the next revision, by its file and that of its properties.
+    fn next_world(&self, revision: &[u8], properties: &[u8]) -> Result<World, FileFault>
+        ensures { IfOk result (λ world. (files : Files) → HasRead self.now files
+            → IsNextOf self.now world) }
+    {
+        let number = self.tables.len() as u32;
+        let read = read_revision(self.alloc, number, revision)?;
+        judge_revision(self.alloc, number, &read)?;
+        let said = read_properties(self.alloc, properties)?;
+        if number == 0 {
+            set_revision_properties(self.alloc, &self.world, 0, &said)
+        } else {
+            replay_revision(self.alloc, &self.world, &read, &said)
+        }
+    }
+
+    /// Reads the files of the next revision, and takes them.
+    ///
+    /// # Errors
+    ///
+    /// As `read_revision`, `judge_revision`, `read_properties`, `replay_revision` and `with_read_revision`.
+    pub fn with_next_revision(
+        &self,
+        revision: &[u8],
+        properties: &[u8],
+    ) -> Result<FiledWorld, FileFault>
+        ensures { IfOk result (λ made. (files : Files) → HasRead self.now files
+            → HasRead made (with_one_more files (revision.now, properties.now))) }
+    {
+        let world = self.next_world(revision, properties)?;
+        self.with_read_revision(world, revision, properties)
+    }
+
     /// Makes the repository with the locks of a list and no others.
-    fn with_listed_locks(&self, locks: &[(Path, Lock)]) -> Result<FiledWorld, AllocError>
+    pub(crate) fn with_listed_locks(&self, locks: &[(Path, Lock)]) -> Result<FiledWorld, AllocError>
         ensures { IfOk result (λ made. (files : Files) (file : Option (List ℕ))
             → HasRead self.now files → locks_in file ≡ Some locks.now
             → HasRead made (with_read_locks files file)) }
