@@ -1,5 +1,5 @@
 //! A repository in files that threads share.
-ghost use Rattle.std.specs.Prelude.{◌≡◌, false, None, ◌∷◌, [], All, IfOk};
+ghost use Rattle.std.specs.Prelude.{◌≡◌, false, true, None, ◌∷◌, [], All, IfOk, IsErrOf};
 ghost use Rattle.access.specs.Points.{content_of};
 ghost use Rattle.published.specs.Events.{point_of};
 ghost use Rattle.published.specs.Events.Event.{Opened};
@@ -36,6 +36,7 @@ pub fn share<F: Filed, S: Store, J: Naming>(
     ensures opened { IfOk result (λ r. All (λ s. s
         ≡ point_of (Opened (F.content stored.repository) ∷ []) false
         (S.failed stored.saves.store) None) r.1.items) }
+    ensures halted { IsErrOf result StoreFault.Halted → stored.saves.is_halted ≡ true }
     ensures sound { IfOk result (λ r. All (λ s. AreSound (content_of s).revisions) r.1.items) }
 {
     let archive = FiledArchive::new(stored);
