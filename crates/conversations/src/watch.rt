@@ -1,5 +1,7 @@
 //! Who is told of sessions what an administrator wants to know.
 
+use crate::fault::TalkFault;
+
 /// Is told of logins, and how sessions end.
 pub trait Watch {
     /// The client of the session of this number has logged in as this user.
@@ -7,6 +9,9 @@ pub trait Watch {
 
     /// So many logins of the session of this number were refused.
     fn refused(&self, session: u64, logins: u64);
+
+    /// The session of this number is given up, for this fault.
+    fn given_up(&self, session: u64, fault: &TalkFault);
 
     /// The session of this number has ended, in order or because its connection failed, and whether changes have come
     /// to a halt by then.
@@ -21,6 +26,8 @@ impl Watch for Unwatched {
     fn logged_in(&self, _session: u64, _user: &[u8]) {}
 
     fn refused(&self, _session: u64, _logins: u64) {}
+
+    fn given_up(&self, _session: u64, _fault: &TalkFault) {}
 
     fn ended(&self, _session: u64, _is_halted: bool) {}
 }

@@ -8,6 +8,7 @@ ghost use Rattle.drive_reports.specs.Named.{AreNamed, IsNamed};
 
 use crate::graft::{Graft, is_shallow};
 use crate::index::GraftIndex;
+use crate::room::taken_with;
 use std::alloc::{AllocError, Global};
 use std::marker::Model;
 use svnpath::Path;
@@ -19,6 +20,8 @@ pub struct Grafts {
     grafts: Vec<Graft>,
     index: GraftIndex,
     has_shallow: bool,
+    /// About how many bytes of memory they take.
+    taken: usize,
 }
 
 impl Model for Grafts {
@@ -65,21 +68,24 @@ impl Grafts {
             grafts: Vec::new(alloc),
             index: GraftIndex::new(alloc),
             has_shallow: false,
+            taken: 0,
         }
     }
 
-    /// Puts a graft behind the others.
+    /// Puts a graft after the others. Memory is refused to grafts that take some 1 GiB.
     pub fn push(&mut self, graft: Graft) -> Result<(), AllocError>
         requires { IsNamed graft.path }
         ensures ok { OnOk result (self.new ≡ self.old ++ graft ∷ []) }
         ensures err { OnErr result (self.new ≡ self.old) }
     {
         let has_shallow = has_shallow_too(self.has_shallow, &graft);
+        let taken = taken_with(self.taken, &graft)?;
         let path = graft.path.clone()?;
         self.grafts.push(graft)?;
         match self.index.note(&path) {
             Ok(()) => {
                 self.has_shallow = has_shallow;
+                self.taken = taken;
                 Ok(())
             }
             Err(error) => {

@@ -13,6 +13,7 @@ mod laws;
 mod named_path;
 mod report;
 mod reported;
+mod room;
 mod sources;
 
 pub use applying::{Link, delete_path, finish, set_path};

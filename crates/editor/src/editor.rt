@@ -8,6 +8,7 @@ ghost use Rattle.edit_rules.specs.Judging.{Judges, Leaves};
 ghost use Rattle.edit_rules.specs.Soundness.{IsSoundEdit};
 ghost use Rattle.edit_rules.specs.declared.fault.EditFault.TheVariants.{Refused};
 
+use crate::room::EDIT_LIMIT;
 use byte_string::ByteString;
 use edit_rules::{EditFault, Opened, has_unfinished, judge};
 use refusals::Refusal;
@@ -28,6 +29,8 @@ pub struct CommitEditor<R: Repository> {
     pub(crate) txn: Option<R::Txn>,
     pub(crate) tokens: BTreeMap<ByteString, Opened>,
     pub(crate) refused: bool,
+    /// How many bytes of memory it may still take.
+    pub(crate) room: u64,
 }
 
 impl<R: Repository> Model for CommitEditor<R> {
@@ -61,12 +64,13 @@ impl<R: Repository> CommitEditor<R> {
             txn: None,
             tokens: BTreeMap::new(alloc),
             refused: false,
+            room: EDIT_LIMIT,
         }
     }
 
     /// Carries a command out. After one that is refused the edit is given up, and each further one is answered
     /// by `EditAborted`. The repository's revisions begin with those that the edit has seen, and the edit's
-    /// transaction has a tree in which stands what is open.
+    /// transaction has a tree in which stands what is open. Memory is refused to an edit that takes some 4 GiB.
     pub fn apply(&mut self, command: &EditorCommand, repository: &R) -> Result<(), EditFault>
         requires rests { RestsOn self.old (R.content repository.now) }
         requires sound { IsSoundEdit self.old }
@@ -75,6 +79,7 @@ impl<R: Repository> CommitEditor<R> {
         ensures err { IfErr result (λ fault. NotApplied
             (R.content repository.now) self.old command.now fault self.new) }
     {
+        self.take_room(command)?;
         match self.carry_out(command, repository) {
             Ok(()) => Ok(()),
             Err(EditFault::Refused(refusal)) => Err(self.give_up(refusal)),

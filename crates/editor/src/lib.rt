@@ -5,5 +5,6 @@ mod deltas;
 mod editor;
 mod entries;
 mod properties;
+mod room;
 
 pub use editor::CommitEditor;

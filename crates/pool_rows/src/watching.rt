@@ -2,7 +2,7 @@
 
 use crate::connections::{Client, LOGIN, NEVER, Still, call};
 use crate::repositories::empty_repository;
-use conversations::{OpenGate, Watch};
+use conversations::{OpenGate, TalkFault, Watch};
 use cram::Users;
 use crossbeam_channel::unbounded;
 use machine::Options;
@@ -11,13 +11,14 @@ use std::mem::drop;
 use std::sync::atomic::{AtomicU64, Ordering};
 use std::test::Fail;
 
-/// Counts what it is told: the logins of alice in session 1 and all logins, the logins that session 1 has refused, and
-/// the sessions that have ended without a halt.
+/// Counts what it is told: the logins of alice in session 1 and all logins, the logins that session 1 has refused, the
+/// sessions that are given up, and those that have ended without a halt.
 #[derive(Drop)]
 struct Counts {
     of_alice: AtomicU64,
     logins: AtomicU64,
     refused: AtomicU64,
+    given_up: AtomicU64,
     ended: AtomicU64,
 }
 
@@ -33,6 +34,10 @@ impl Watch for Counts {
         if session == 1 {
             self.refused.fetch_add(logins, Ordering::SeqCst);
         }
+    }
+
+    fn given_up(&self, _session: u64, _fault: &TalkFault) {
+        self.given_up.fetch_add(1, Ordering::SeqCst);
     }
 
     fn ended(&self, session: u64, is_halted: bool) {
@@ -68,14 +73,17 @@ fn logins_and_ends_are_told(rt: HostRuntime) -> Result<(), Fail> {
         of_alice: AtomicU64::new(0),
         logins: AtomicU64::new(0),
         refused: AtomicU64::new(0),
+        given_up: AtomicU64::new(0),
         ended: AtomicU64::new(0),
     };
     let pool = SessionPool::new(&options, &OpenGate, &counts);
     let alice = Client::new(alloc, NEVER)?;
     let nobody = Client::new(alloc, NEVER)?;
+    let lost = Client::new(alloc, NEVER)?;
     let (to, from) = unbounded(alloc)?;
     call(&rt, alloc, &to, (1, &PIECES), (&alice, usize::MAX))?;
     call(&rt, alloc, &to, (2, &[LOGIN]), (&nobody, usize::MAX))?;
+    call(&rt, alloc, &to, (3, &[LOGIN]), (&lost, 10))?;
     drop(to);
     let desk = (
         empty_repository(alloc)?,
@@ -90,6 +98,7 @@ fn logins_and_ends_are_told(rt: HostRuntime) -> Result<(), Fail> {
     assert_eq!(rt; counts.of_alice.load(Ordering::SeqCst), 1);
     assert_eq!(rt; counts.logins.load(Ordering::SeqCst), 1);
     assert_eq!(rt; counts.refused.load(Ordering::SeqCst), 1);
+    assert_eq!(rt; counts.given_up.load(Ordering::SeqCst), 1);
     assert_eq!(rt; counts.ended.load(Ordering::SeqCst), 2);
     Ok(())
 }

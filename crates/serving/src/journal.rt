@@ -3,7 +3,7 @@ ghost use Rattle.std.specs.Prelude.{◌≤◌};
 
 use crate::envs::moment_now;
 use crate::guests::Guests;
-use conversations::Watch;
+use conversations::{TalkFault, Watch};
 use dates::date_text;
 use std::alloc::{AllocError, Global};
 use std::io::Eprint;
@@ -136,6 +136,12 @@ impl<'a, R: Eprint + Clock + Wait> Watch for Journal<'a, R> {
             self.write(format!(in self.alloc; "session {session} has logins refused: {logins}"));
         }
         thread::sleep(self.rt, Duration::from_secs(REFUSED_WAIT));
+    }
+
+    fn given_up(&self, session: u64, fault: &TalkFault) {
+        if !self.is_quiet {
+            self.write(format!(in self.alloc; "session {session} is given up: {fault}"));
+        }
     }
 
     fn ended(&self, session: u64, is_halted: bool) {

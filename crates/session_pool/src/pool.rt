@@ -51,7 +51,9 @@ fn serve_caller<
         mut output,
     } = caller;
     // a connection that fails is closed
-    let _ = worker.serve(number, &mut input, &mut output);
+    if let Err(fault) = worker.serve(number, &mut input, &mut output) {
+        worker.watch.given_up(number, &fault);
+    }
     drop((input, output));
     worker.access.is_halted()
 }

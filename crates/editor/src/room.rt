@@ -1,0 +1,100 @@
+//! How much memory an edit may take.
+ghost use Rattle.std.specs.Prelude.{◌≡◌};
+
+use crate::editor::CommitEditor;
+use byte_string::ByteString;
+use edit_rules::{DeltaState, Opened};
+use repo_api::Repository;
+use std::alloc::AllocError;
+use std::collections::BTreeMap;
+use wire_edits::{EditorCommand, PropertyChange};
+
+/// About how many bytes of memory an edit takes at most: 4 GiB.
+pub(crate) const EDIT_LIMIT: u64 = 4_294_967_296;
+
+/// What a text delta counts as while it is read, in bytes: as much as the longest text of a file.
+const OPEN_DELTA: u64 = 16_777_216;
+
+/// What a command counts as beside its strings and the names of its path, in bytes.
+const COMMAND: u64 = 512;
+
+/// What a name of a path counts as beside its bytes: a path is kept in two places.
+const NAME: usize = 128;
+
+/// How many bytes the names of a relative path count as.
+fn path_weight(path: &ByteString) -> usize {
+    let mut weight = NAME.saturating_add(path.as_slice().len());
+    for byte in path.as_slice() {
+        if *byte == b'/' {
+            weight = weight.saturating_add(NAME);
+        }
+    }
+    weight
+}
+
+/// What an entry counts as, in bytes.
+fn entry_weight(path: &ByteString, token: &ByteString) -> usize {
+    path_weight(path).saturating_add(token.as_slice().len())
+}
+
+/// What a change of a property counts as: the bytes of its name and its value.
+fn change_weight(change: &PropertyChange) -> usize {
+    let name = change.name.as_slice().len();
+    match &change.value {
+        None => name,
+        Some(value) => name.saturating_add(value.as_slice().len()),
+    }
+}
+
+/// What an edit keeps of the strings of a command counts as, in bytes.
+fn strings_weight(command: &EditorCommand) -> usize {
+    match command {
+        EditorCommand::OpenRoot(_, token) => token.as_slice().len(),
+        EditorCommand::DeleteEntry(entry) => path_weight(&entry.path),
+        EditorCommand::AddDirectory(entry) => entry_weight(&entry.path, &entry.token),
+        EditorCommand::AddFile(entry) => entry_weight(&entry.path, &entry.token),
+        EditorCommand::OpenDirectory(entry) => entry_weight(&entry.path, &entry.token),
+        EditorCommand::OpenFile(entry) => entry_weight(&entry.path, &entry.token),
+        EditorCommand::ChangeDirectoryProperty(change) => change_weight(change),
+        EditorCommand::ChangeFileProperty(change) => change_weight(change),
+        _ => 0,
+    }
+}
+
+/// What a command counts as, in bytes, in an edit whose root has so many names.
+fn weight(command: &EditorCommand, names: usize) -> u64 {
+    let strings = strings_weight(command).saturating_add(names.saturating_mul(NAME));
+    let weight = COMMAND.saturating_add(strings as u64);
+    match command {
+        EditorCommand::ApplyTextDelta(_, _) => weight.saturating_add(OPEN_DELTA),
+        _ => weight,
+    }
+}
+
+/// What a text that is made counts for less than the delta that makes it, in bytes.
+fn spared(tokens: &BTreeMap<ByteString, Opened>, token: &ByteString) -> u64 {
+    match tokens.get(token) {
+        Some(Opened::File(_, DeltaState::Reading(delta))) => match delta.text() {
+            Ok(text) => OPEN_DELTA.saturating_sub(text.len() as u64),
+            Err(_) => 0,
+        },
+        _ => 0,
+    }
+}
+
+impl<R: Repository> CommitEditor<R> {
+    /// Takes what a command counts as from the room of the edit. An `Err` is that there isn't as much; no clause says
+    /// when.
+    pub(crate) fn take_room(&mut self, command: &EditorCommand) -> Result<(), AllocError>
+        ensures { self.new ≡ self.old }
+    {
+        let Some(room) = self.room.checked_sub(weight(command, self.path.len())) else {
+            return Err(AllocError);
+        };
+        self.room = match command {
+            EditorCommand::TextDeltaEnd(token) => room.saturating_add(spared(&self.tokens, token)),
+            _ => room,
+        };
+        Ok(())
+    }
+}
