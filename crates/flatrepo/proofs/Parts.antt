@@ -20,8 +20,8 @@ pub part_missing : (old new : List (PathValue × Entry)) (p q : PathValue) (f : 
 part_missing old new p q f = missing old new p q (λ e. with_open_mark (f e))
 
 -- what is changed of an entry's properties is changed of the entry
-pub changed_as : (ps : PropertyList) (name : List ℕ) (value : Option (List ℕ)) (o : Option Entry) (entry e : Entry) → ps ≡ property_changed name value entry.properties
-    → Some entry ≡ o → o ≡ Some e → with_properties ps e ≡ with_change name value e
+pub changed_as : (ps : PropertyList) (name : List ℕ) (value : Option (List ℕ)) (o : Option Entry) (entry e : Entry)
+    → ps ≡ property_changed name value entry.properties → Some entry ≡ o → o ≡ Some e → with_properties ps e ≡ with_change name value e
 changed_as ps name value o entry e is there here =
     ap (λ x. with_properties x e) (is ∙ ap (λ x. property_changed name value (unwrap_or x entry).properties) (there ∙ here))
 

@@ -21,7 +21,8 @@ returns-clause-ok c = λ q.
       | in-None w ↦ ap (λ s. from_entries {R = path_cmp} s.entries.entries) w.self-inside-is ∙ c.self.view_is
       | in-Some+in_ok-properties-in-Some w ↦ ap (λ s. from_entries {R = path_cmp} s.entries.entries) w.self-inside-is ∙ c.self.view_is
     ] in
-    part_seen m c.match-get.self-inside.entries.entries c.put_properties.new.entries.entries c.touch_above.new.entries.entries p q (with_properties c.match-get.properties) seen
+    part_seen m c.match-get.self-inside.entries.entries c.put_properties.new.entries.entries c.touch_above.new.entries.entries p q
+    (with_properties c.match-get.properties) seen
     c.put_properties.ensures (c.touch_above.ensures q)
     ∙ revised_as (tree_of m) p q (with_properties c.match-get.properties) (with_change c.args.name c.args.value) (λ e here.
     let there = c.get.ensures.value ∙ sym (seen_at es m p c.self.view_is) in
