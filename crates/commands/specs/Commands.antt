@@ -9,7 +9,9 @@ use Rattle.commands.specs.Logins.{are_words}
 use Rattle.commands.specs.declared.command.CommandName.{CommandName}
 use Rattle.commands.specs.declared.command.CommandName.TheVariants as names
 use Rattle.commands.specs.declared.command.MainCommand.{MainCommand}
-use Rattle.commands.specs.declared.command.MainCommand.TheVariants.{GetLatestRev, CheckPath, RevProplist, Commit, AbortEdit, Lock, Unlock, GetLock, GetLocks, GetFile, GetDir, Stat, GetDatedRev, RevProp, ChangeRevProp, Reparent, Log, GetLocations, Update, Switch, Status}
+use Rattle.commands.specs.declared.command.DriveCommand.TheVariants.{Update, Switch, Status}
+use Rattle.commands.specs.declared.command.MainCommand.TheVariants.{Read, Drive, Commit, AbortEdit, Lock, Unlock, ChangeRevProp, Reparent}
+use Rattle.commands.specs.declared.command.ReadCommand.TheVariants.{GetLatestRev, CheckPath, RevProplist, GetLock, GetLocks, GetFile, GetDir, Stat, GetDatedRev, RevProp, Log, GetLocations}
 use Rattle.repo_api.specs.declared.property_ask.PreviousValue.{PreviousValue}
 use Rattle.repo_api.specs.declared.property_ask.PreviousValue.TheVariants.{Any, Exactly}
 use Rattle.wire_forms.specs.declared.fault.CommandFault.{CommandFault}
@@ -21,13 +23,13 @@ check_path params = do
   (path, rest) ← string_first params
   (revision, _) ← list_first rest
   revision ← optional_number revision
-  Some (CheckPath path revision)
+  Some (Read (CheckPath path revision))
 
 -- `( rev )`
 abbrev pub rev_proplist : ItemValues → Option MainCommand
 rev_proplist params = do
   (revision, _) ← number_first params
-  Some (RevProplist revision)
+  Some (Read (RevProplist revision))
 
 -- `? ( ( path token ) ... ) keep-locks`: what is in the list, whether the locks stay, and what
 -- stands behind them; without them no locks are handed in, and all stay
@@ -83,13 +85,13 @@ unlock params = do
 abbrev pub get_lock : ItemValues → Option MainCommand
 get_lock params = do
   (path, _) ← string_first params
-  Some (GetLock path)
+  Some (Read (GetLock path))
 
 -- `( path )`
 abbrev pub get_locks : ItemValues → Option MainCommand
 get_locks params = do
   (path, _) ← string_first params
-  Some (GetLocks path)
+  Some (Read (GetLocks path))
 
 -- `path [ rev ]` in front: a path and the revision, if there is one, and what stands behind them
 abbrev pub path_first : ItemValues → Option (List ℕ × Option ℕ × ItemValues)
@@ -105,12 +107,12 @@ get_file params = do
   (path, revision, rest) ← path_first params
   (properties, rest) ← flag_first rest
   (contents, _) ← flag_first rest
-  Some (GetFile (record {
+  Some (Read (GetFile (record {
     path = path;
     revision = revision;
     wants_properties = properties;
     wants_contents = contents;
-  }))
+  })))
 
 -- `? ( field ... )`: nothing, or a list of words
 abbrev pub has_fields : ItemValues → Bool
@@ -125,32 +127,32 @@ get_dir params = do
   (properties, rest) ← flag_first rest
   (contents, rest) ← flag_first rest
   if has_fields rest
-      then Some (GetDir (record {
+      then Some (Read (GetDir (record {
         path = path;
         revision = revision;
         wants_properties = properties;
         wants_contents = contents;
-      }))
+      })))
       else None
 
 -- `( path [ rev ] )`
 abbrev pub stat : ItemValues → Option MainCommand
 stat params = do
   (path, revision, _) ← path_first params
-  Some (Stat path revision)
+  Some (Read (Stat path revision))
 
 -- `( date )`
 abbrev pub get_dated_rev : ItemValues → Option MainCommand
 get_dated_rev params = do
   (date, _) ← string_first params
-  Some (GetDatedRev date)
+  Some (Read (GetDatedRev date))
 
 -- `( rev name )`
 abbrev pub rev_prop : ItemValues → Option MainCommand
 rev_prop params = do
   (revision, rest) ← number_first params
   (name, _) ← string_first rest
-  Some (RevProp revision name)
+  Some (Read (RevProp revision name))
 
 -- `( rev name ? value )`
 abbrev pub change_rev_prop : ItemValues → Option MainCommand
@@ -210,14 +212,14 @@ log_command params = do
   (changes, rest) ← flag_first rest
   (strict, rest) ← flag_first rest
   limit ← limit_at_end rest
-  Some (Log (record {
+  Some (Read (Log (record {
     paths = paths;
     start = start;
     end = end;
     wants_changes = changes;
     strict = strict;
     limit = limit;
-  }))
+  })))
 
 -- `( path peg-rev ( rev ... ) )`
 abbrev pub get_locations : ItemValues → Option MainCommand
@@ -226,7 +228,7 @@ get_locations params = do
   (peg, rest) ← number_first rest
   (revisions, _) ← list_first rest
   revisions ← numbers revisions
-  Some (GetLocations (record { path = path; peg = peg; revisions = revisions }))
+  Some (Read (GetLocations (record { path = path; peg = peg; revisions = revisions })))
 
 -- the name of a command, as it is sent
 abbrev pub name_text : CommandName → List ℕ
@@ -268,7 +270,7 @@ main_command_name name = find (λ known. is_name name (name_text known)) all_nam
 
 -- the command of a name and its parameters, if they are of its form
 abbrev pub main_command_with : CommandName → ItemValues → Option MainCommand
-main_command_with names.GetLatestRev params = Some GetLatestRev
+main_command_with names.GetLatestRev params = Some (Read GetLatestRev)
 main_command_with names.CheckPath params = check_path params
 main_command_with names.RevProplist params = rev_proplist params
 main_command_with names.Commit params = commit params
@@ -287,9 +289,9 @@ main_command_with names.ChangeRevProp2 params = change_rev_prop2 params
 main_command_with names.Reparent params = reparent params
 main_command_with names.Log params = log_command params
 main_command_with names.GetLocations params = get_locations params
-main_command_with names.Update params = option_map Update (update params)
-main_command_with names.Switch params = option_map (λ p. Switch p.0 p.1) (switch params)
-main_command_with names.Status params = option_map Status (status params)
+main_command_with names.Update params = option_map (λ r. Drive (Update r)) (update params)
+main_command_with names.Switch params = option_map (λ p. Drive (Switch p.0 p.1)) (switch params)
+main_command_with names.Status params = option_map (λ r. Drive (Status r)) (status params)
 
 -- the command of a name and its parameters, or why there is none
 abbrev pub main_command_named : List ℕ → ItemValues → Result MainCommand CommandFault

@@ -105,24 +105,15 @@ pub struct GetLocationsCommand {
     pub revisions: Numbers,
 }
 
-/// A command outside an edit or a report, with its parameters.
+/// A command that only reads the repository, with its parameters.
 #[derive(Drop)]
-pub enum MainCommand {
+pub enum ReadCommand {
     /// The number of the youngest revision: `( get-latest-rev ( ) )`.
     GetLatestRev,
     /// What stands at a path, in a revision or the youngest: `( check-path ( path [ rev ] ) )`.
     CheckPath(ByteString, Option<u64>),
     /// The properties of a revision: `( rev-proplist ( rev ) )`.
     RevProplist(u64),
-    /// Begins an edit:
-    /// `( commit ( message ? ( ( path token ) ... ) keep-locks ? ( ( name value ) ... ) ) )`.
-    Commit(CommitCommand),
-    /// What a client sends after a commit that failed: `( abort-edit ( ) )`.
-    AbortEdit,
-    /// Locks a file: `( lock ( path [ comment ] steal [ current-rev ] ) )`.
-    Lock(LockCommand),
-    /// Takes a lock away: `( unlock ( path [ token ] break ) )`.
-    Unlock(UnlockCommand),
     /// The lock at a path, if there is one: `( get-lock ( path ) )`.
     GetLock(ByteString),
     /// The locks at a path and under it: `( get-locks ( path ) )`.
@@ -139,17 +130,16 @@ pub enum MainCommand {
     GetDatedRev(ByteString),
     /// One property of a revision: `( rev-prop ( rev name ) )`.
     RevProp(u64, ByteString),
-    /// Sets a property of a revision, or takes it out: `( change-rev-prop ( rev name ? value ) )`, or where
-    /// it has the value that the client has seen,
-    /// `( change-rev-prop2 ( rev name [ value ] ( dont-care ? previous ) ) )`.
-    ChangeRevProp(PropertyAsk),
-    /// Goes on at another URL of the same repository: `( reparent ( url ) )`.
-    Reparent(ByteString),
     /// The revisions that changed paths:
     /// `( log ( ( path ... ) [ start ] [ end ] changed-paths strict-node ? limit ) )`.
     Log(LogCommand),
     /// Where something was in other revisions: `( get-locations ( path peg-rev ( rev ... ) ) )`.
     GetLocations(GetLocationsCommand),
+}
+
+/// A command that begins a report of what the client has, which a drive answers.
+#[derive(Drop)]
+pub enum DriveCommand {
     /// What leads from what the client has to a revision:
     /// `( update ( [ rev ] target recurse ? depth send-copyfrom ) )`.
     Update(DriveRequest),
@@ -159,6 +149,30 @@ pub enum MainCommand {
     /// What an update would bring, without the texts:
     /// `( status ( target recurse ? [ rev ] ? depth ) )`.
     Status(DriveRequest),
+}
+
+/// A command outside an edit or a report, with its parameters.
+#[derive(Drop)]
+pub enum MainCommand {
+    /// Reads the repository.
+    Read(ReadCommand),
+    /// Begins a report.
+    Drive(DriveCommand),
+    /// Begins an edit:
+    /// `( commit ( message ? ( ( path token ) ... ) keep-locks ? ( ( name value ) ... ) ) )`.
+    Commit(CommitCommand),
+    /// What a client sends after a commit that failed: `( abort-edit ( ) )`.
+    AbortEdit,
+    /// Locks a file: `( lock ( path [ comment ] steal [ current-rev ] ) )`.
+    Lock(LockCommand),
+    /// Takes a lock away: `( unlock ( path [ token ] break ) )`.
+    Unlock(UnlockCommand),
+    /// Sets a property of a revision, or takes it out: `( change-rev-prop ( rev name ? value ) )`, or where
+    /// it has the value that the client has seen,
+    /// `( change-rev-prop2 ( rev name [ value ] ( dont-care ? previous ) ) )`.
+    ChangeRevProp(PropertyAsk),
+    /// Goes on at another URL of the same repository: `( reparent ( url ) )`.
+    Reparent(ByteString),
 }
 
 impl MainCommand {
@@ -286,7 +300,7 @@ fn read_command(
     ensures { Reads result (main_command_with name (values_of params.now)) }
 {
     match name {
-        CommandName::GetLatestRev => Ok(MainCommand::GetLatestRev),
+        CommandName::GetLatestRev => Ok(MainCommand::Read(ReadCommand::GetLatestRev)),
         CommandName::CheckPath => read_check_path(params),
         CommandName::RevProplist => read_rev_proplist(params),
         CommandName::Commit => read_commit(alloc, params),
@@ -305,12 +319,12 @@ fn read_command(
         CommandName::Reparent => read_reparent(params),
         CommandName::Log => read_log(alloc, params),
         CommandName::GetLocations => read_get_locations(alloc, params),
-        CommandName::Update => Ok(MainCommand::Update(read_update(params)?)),
+        CommandName::Update => Ok(MainCommand::Drive(DriveCommand::Update(read_update(params)?))),
         CommandName::Switch => {
             let (request, url) = read_switch(params)?;
-            Ok(MainCommand::Switch(request, url))
+            Ok(MainCommand::Drive(DriveCommand::Switch(request, url)))
         }
-        CommandName::Status => Ok(MainCommand::Status(read_status(params)?)),
+        CommandName::Status => Ok(MainCommand::Drive(DriveCommand::Status(read_status(params)?))),
     }
 }
 
@@ -321,7 +335,7 @@ fn read_check_path(params: &[Item]) -> Result<MainCommand, CommandFault>
     let (path, rest) = read_string(params).ok_or(BadParameters)?;
     let (revision, _) = read_list(rest).ok_or(BadParameters)?;
     let revision = read_optional_number(revision).ok_or(BadParameters)?;
-    Ok(MainCommand::CheckPath(path.clone()?, revision))
+    Ok(MainCommand::Read(ReadCommand::CheckPath(path.clone()?, revision)))
 }
 
 /// `( rev )`
@@ -329,7 +343,7 @@ fn read_rev_proplist(params: &[Item]) -> Result<MainCommand, CommandFault>
     ensures { Reads result (rev_proplist (values_of params.now)) }
 {
     let (revision, _) = read_number(params).ok_or(BadParameters)?;
-    Ok(MainCommand::RevProplist(revision))
+    Ok(MainCommand::Read(ReadCommand::RevProplist(revision)))
 }
 
 /// `( message ? ( ( path token ) ... ) keep-locks ? ( ( name value ) ... ) )`
@@ -408,7 +422,7 @@ fn read_get_lock(params: &[Item]) -> Result<MainCommand, CommandFault>
     ensures { Reads result (get_lock (values_of params.now)) }
 {
     let (path, _) = read_string(params).ok_or(BadParameters)?;
-    Ok(MainCommand::GetLock(path.clone()?))
+    Ok(MainCommand::Read(ReadCommand::GetLock(path.clone()?)))
 }
 
 /// `( path )`
@@ -416,7 +430,7 @@ fn read_get_locks(params: &[Item]) -> Result<MainCommand, CommandFault>
     ensures { Reads result (get_locks (values_of params.now)) }
 {
     let (path, _) = read_string(params).ok_or(BadParameters)?;
-    Ok(MainCommand::GetLocks(path.clone()?))
+    Ok(MainCommand::Read(ReadCommand::GetLocks(path.clone()?)))
 }
 
 /// `path [ rev ]` in front, and what stands behind it.
@@ -436,12 +450,12 @@ fn read_get_file(params: &[Item]) -> Result<MainCommand, CommandFault>
     let (path, revision, rest) = read_path(params).ok_or(BadParameters)?;
     let (wants_properties, rest) = read_flag(rest).ok_or(BadParameters)?;
     let (wants_contents, _) = read_flag(rest).ok_or(BadParameters)?;
-    Ok(MainCommand::GetFile(GetFileCommand {
+    Ok(MainCommand::Read(ReadCommand::GetFile(GetFileCommand {
         path: path.clone()?,
         revision,
         wants_properties,
         wants_contents,
-    }))
+    })))
 }
 
 /// `( path [ rev ] want-props want-contents ? ( field ... ) )`
@@ -454,12 +468,12 @@ fn read_get_dir(params: &[Item]) -> Result<MainCommand, CommandFault>
     if !has_fields(rest) {
         return Err(BadParameters);
     }
-    Ok(MainCommand::GetDir(GetDirCommand {
+    Ok(MainCommand::Read(ReadCommand::GetDir(GetDirCommand {
         path: path.clone()?,
         revision,
         wants_properties,
         wants_contents,
-    }))
+    })))
 }
 
 /// `? ( field ... )`: nothing, or a list of words.
@@ -478,7 +492,7 @@ fn read_stat(params: &[Item]) -> Result<MainCommand, CommandFault>
     ensures { Reads result (stat (values_of params.now)) }
 {
     let (path, revision, _) = read_path(params).ok_or(BadParameters)?;
-    Ok(MainCommand::Stat(path.clone()?, revision))
+    Ok(MainCommand::Read(ReadCommand::Stat(path.clone()?, revision)))
 }
 
 /// `( date )`
@@ -486,7 +500,7 @@ fn read_get_dated_rev(params: &[Item]) -> Result<MainCommand, CommandFault>
     ensures { Reads result (get_dated_rev (values_of params.now)) }
 {
     let (date, _) = read_string(params).ok_or(BadParameters)?;
-    Ok(MainCommand::GetDatedRev(date.clone()?))
+    Ok(MainCommand::Read(ReadCommand::GetDatedRev(date.clone()?)))
 }
 
 /// `( rev name )`
@@ -495,7 +509,7 @@ fn read_rev_prop(params: &[Item]) -> Result<MainCommand, CommandFault>
 {
     let (revision, rest) = read_number(params).ok_or(BadParameters)?;
     let (name, _) = read_string(rest).ok_or(BadParameters)?;
-    Ok(MainCommand::RevProp(revision, name.clone()?))
+    Ok(MainCommand::Read(ReadCommand::RevProp(revision, name.clone()?)))
 }
 
 /// `( rev name ? value )`
@@ -572,14 +586,14 @@ fn read_log(alloc: Global, params: &[Item]) -> Result<MainCommand, CommandFault>
     let (wants_changes, rest) = read_flag(rest).ok_or(BadParameters)?;
     let (strict, rest) = read_flag(rest).ok_or(BadParameters)?;
     let limit = read_limit(rest).ok_or(BadParameters)?;
-    Ok(MainCommand::Log(LogCommand {
+    Ok(MainCommand::Read(ReadCommand::Log(LogCommand {
         paths: read_strings(alloc, paths)?,
         start,
         end,
         wants_changes,
         strict,
         limit,
-    }))
+    })))
 }
 
 /// `( path peg-rev ( rev ... ) )`
@@ -589,9 +603,9 @@ fn read_get_locations(alloc: Global, params: &[Item]) -> Result<MainCommand, Com
     let (path, rest) = read_string(params).ok_or(BadParameters)?;
     let (peg, rest) = read_number(rest).ok_or(BadParameters)?;
     let (revisions, _) = read_list(rest).ok_or(BadParameters)?;
-    Ok(MainCommand::GetLocations(GetLocationsCommand {
+    Ok(MainCommand::Read(ReadCommand::GetLocations(GetLocationsCommand {
         path: path.clone()?,
         peg,
         revisions: read_numbers(alloc, revisions)?,
-    }))
+    })))
 }

@@ -5,7 +5,7 @@ mod command;
 mod login;
 
 pub use command::{
-    CommandName, CommitCommand, GetDirCommand, GetFileCommand, GetLocationsCommand, LockCommand,
-    LogCommand, MainCommand, UnlockCommand,
+    CommandName, CommitCommand, DriveCommand, GetDirCommand, GetFileCommand, GetLocationsCommand,
+    LockCommand, LogCommand, MainCommand, ReadCommand, UnlockCommand,
 };
 pub use login::{AuthResponse, ClientGreeting, challenge_answer};

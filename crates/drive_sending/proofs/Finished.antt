@@ -1,5 +1,5 @@
 -- Where there is no target, a directory is to stand at the root of a drive.
-use Rattle.std.proofs.Common.{◌≡◌, List, Bool, true, false, ◌&&◌, [], ◌++◌, append-nil, length, drop, Option, Some, None, refl, sym, ap, ◌∙◌, subst, if◌then◌else◌}
+use Rattle.std.proofs.Common.{◌≡◌, ℕ, inr, List, Bool, true, false, ◌&&◌, [], ◌++◌, append-nil, length, drop, Option, Some, None, refl, sym, ap, ◌∙◌, subst, if◌then◌else◌}
 use Rattle.repo_api.specs.Trees.{is_directory_there}
 use Rattle.std.proofs.lemmas.Bool.{false≢true}
 use Rattle.std.specs.Prelude.{Result, Ok, Err, ok_or, is_some}
@@ -21,9 +21,12 @@ use Rattle.drive_reports.specs.Targets.{WholeReport, client_tree, reported_tree,
 use Rattle.drive_reports.specs.declared.report.ReportRoot.{ReportRoot}
 use Rattle.drive_sides.specs.Plans.{whole}
 use Rattle.reporter.specs.declared.visit.Visit.{Visit}
+use Rattle.wire_edits.specs.declared.editing.EditorCommand.{EditorCommand}
+use Rattle.wire_replies.specs.Sinks.{Says}
 use Rattle.drive_wire.specs.Sent.{IsDrive}
 use Rattle.drive_sides.specs.Plans.{IsPlan}
 use Rattle.drive_sending.specs.Commands.{drive_of}
+use Rattle.drive_sending.specs.Driving.{drive_replies, SaysDrive}
 use Rattle.drive_sending.proofs.Sending.{plan_sendable}
 use Rattle.drive_sending.proofs.Drives.{RootStands, is_drive}
 
@@ -83,3 +86,9 @@ module _ (c : RepoState) (report : OpenState) (root : ReportRoot) where
   -- the drive of a plan may be sent
   pub drive_may_be_sent : (vs : List Visit) → AreTrees c.revisions → IsNamed report.ask.target → AreNamed report.grafts → finish_root c report ≡ Ok root → IsPlan c Whole vs → IsDrive c Whole (drive_of c Whole vs)
   drive_may_be_sent vs trees target grafts finished plan = is_drive c Whole vs (plan_sendable c Whole trees target grafts vs plan) (root_stands finished) plan
+
+-- a drive that may be sent, as far as it is written
+pub drive_said : {T E : Type 0} (r : Result T E) (writes : List ℕ → Type 0) (c : RepoState) (report : WholeReport) (drive : List EditorCommand) → IsDrive c report drive
+    → Says r writes (drive_replies drive) → SaysDrive r writes c report
+drive_said (Ok x) writes c report drive is said = (drive, is, said)
+drive_said (Err e) writes c report drive is part = inr (drive, is, part)

@@ -32,8 +32,8 @@ module _ (c : RepoState) (report : WholeReport) where
       pub splits : Splits said around
       pub wrote : writes s t (command_bytes (plan_commands c report 0 said))
 
-    abbrev Says : Visitor → S → S → Type 0
-    Says start s t = Visiting (drive_trees c report) start (λ visits. writes s t (command_bytes (plan_commands c report 0 visits)))
+    abbrev SaysAll : Visitor → S → S → Type 0
+    SaysAll start s t = Visiting (drive_trees c report) start (λ visits. writes s t (command_bytes (plan_commands c report 0 visits)))
 
     abbrev SaysPart : Visitor → S → S → Type 0
     SaysPart start s t = Visiting (drive_trees c report) start (λ visits. WritesPart (writes s t) (command_bytes (plan_commands c report 0 visits)))
@@ -43,7 +43,7 @@ module _ (c : RepoState) (report : WholeReport) where
     said_none nothing start s = record { said = []; follows = λ rest may. may; splits = λ rest. refl; wrote = nothing s }
 
     -- where none is left, all is said
-    pub said_all : (start now : Visitor) (s t : S) (around : ℕ) → HasSaid start now s t around → MayVisit (drive_trees c report) now [] → Says start s t
+    pub said_all : (start now : Visitor) (s t : S) (around : ℕ) → HasSaid start now s t around → MayVisit (drive_trees c report) now [] → SaysAll start s t
     said_all start now s t around so end =
         (so.said, subst (MayVisit (drive_trees c report) start) (append-nil so.said) (so.follows [] end), so.wrote)
 

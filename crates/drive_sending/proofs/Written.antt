@@ -10,7 +10,7 @@ use Rattle.wire_edits.specs.declared.editing.EditorCommand.TheVariants.{TextDelt
 use Rattle.drive_sending.specs.Commands.{windows}
 use Rattle.wire_edits.specs.declared.editing.EditorCommand.{EditorCommand}
 use Rattle.wire_replies.specs.Replies.{print}
-use Rattle.wire_replies.specs.Sinks.{WritesPart}
+use Rattle.wire_replies.specs.Sinks.{WritesPart, Writes}
 use Rattle.wire_replies.specs.declared.reply.Reply.{Reply}
 use Rattle.wire_replies.specs.declared.reply.Reply.TheVariants as replies
 use Rattle.wire_replies.proofs.Parts.{both_written, part_all, part_first, part_behind}
@@ -51,6 +51,12 @@ module _ {S : Type 0} (writes : S → S → List ℕ → Type 0) where
     pub behind_part : (s t u : S) (xs ys : List EditorCommand) → writes s t (command_bytes xs) → WritesPart (writes t u) (command_bytes ys) → WritesPart (writes s u) (command_bytes (xs ++ ys))
     behind_part s t u xs ys a part =
         subst (λ (rs : List Reply). WritesPart (writes s u) (print rs)) (sym (map-append replies.Edit xs ys)) (part_behind writes more s t u (map replies.Edit xs) (map replies.Edit ys) a part)
+
+    -- commands, and then others, as far as they are written
+    pub sent_behind : {T E : Type 0} (r : Result T E) (s t u : S) (xs ys : List EditorCommand) → writes s t (command_bytes xs)
+        → Writes r (writes t u) (command_bytes ys) → Writes r (writes s u) (command_bytes (xs ++ ys))
+    sent_behind (Ok x) s t u xs ys a b = both s t u xs ys a b
+    sent_behind (Err e) s t u xs ys a part = behind_part s t u xs ys a part
 
     -- some more are written
     pub going_on : (s t u : S) (all left xs rest : List EditorCommand) → left ≡ xs ++ rest → Going s t all left → writes t u (command_bytes xs) → Going s u all rest

@@ -1,5 +1,5 @@
 -- What is written of a drive.
-use Rattle.std.specs.Prelude.{ℕ, List, [], ◌∷◌, map, ◌⊎◌}
+use Rattle.std.specs.Prelude.{ℕ, List, [], ◌∷◌, map, ◌⊎◌, Result, MatchResult}
 use Rattle.repo_api.specs.States.{RepoState}
 use Rattle.wire_edits.specs.declared.editing.EditorCommand.{EditorCommand}
 use Rattle.wire_replies.specs.Replies.{print}
@@ -37,3 +37,8 @@ DriveLost c report writes =
     writes []
     ⊎ ((drive : List EditorCommand) × IsDrive c report drive
     × WritesPart writes (print (drive_replies drive)))
+
+-- a drive that may be sent is written; or, where there is an error, nothing, or a part of one
+abbrev pub SaysDrive : {T E : Type 0} → Result T E → (List ℕ → Type 0) → RepoState → WholeReport → Type 0
+SaysDrive r writes c report =
+    MatchResult r (λ _. DriveWritten c report writes) (λ _. DriveLost c report writes)

@@ -1,15 +1,14 @@
 //! A drive, written as it is made. Where one of these fails, a part of what it says was written.
-ghost use Rattle.std.specs.Prelude.{◌≡◌, ◌∷◌, ◌++◌, [], Ok, Some, IfOk, OnOk, OnErr};
+ghost use Rattle.std.specs.Prelude.{◌≡◌, ◌∷◌, ◌++◌, [], Ok, Some, IfOk};
 ghost use Rattle.repo_api.specs.Soundness.{AreTrees};
-ghost use Rattle.wire_replies.specs.Replies.{print};
-ghost use Rattle.wire_replies.specs.Sinks.{WritesPart};
 ghost use Rattle.wire_edits.specs.declared.editing.EditorCommand.TheVariants.{CloseDirectory, CloseEdit, OpenRoot, TargetRevision};
 ghost use Rattle.drive_rules.specs.Steps.EntryKind.{DirectoryKind};
 ghost use Rattle.drive_reports.specs.Refusing.{finish_root};
 ghost use Rattle.drive_sides.specs.Plans.{drive_trees, whole};
 ghost use Rattle.drive_sending.specs.Commands.{body_commands, drive_of, plan_commands, root_commands};
-ghost use Rattle.drive_sending.specs.Driving.{command_bytes, drive_replies, DriveLost, DriveWritten, Visiting};
+ghost use Rattle.drive_sending.specs.Driving.{command_bytes, drive_replies, SaysDrive, Visiting};
 ghost use Rattle.drive_sending.specs.Tokens.{token_of};
+ghost use Rattle.wire_replies.specs.Sinks.{Says, Writes};
 
 use crate::naming::token;
 use crate::saying::{say_made, say_new};
@@ -38,11 +37,9 @@ fn say_beginning<S: ReplySink>(
     root: ReportRoot,
     out: &mut S,
 ) -> Result<(), AllocError>
-    ensures ok { OnOk result (S.writes out.old out.new (command_bytes (TargetRevision revision
-        ∷ OpenRoot (Some root.revision) (token_of DirectoryKind 0) ∷ []))) }
-    ensures err { OnErr result (WritesPart (S.writes out.old out.new) (command_bytes
-        (TargetRevision revision
-        ∷ OpenRoot (Some root.revision) (token_of DirectoryKind 0) ∷ []))) }
+    ensures { Writes result (S.writes out.old out.new)
+        (command_bytes (TargetRevision revision ∷ OpenRoot (Some root.revision)
+        (token_of DirectoryKind 0) ∷ [])) }
 {
     say_made(Ok(EditorCommand::TargetRevision(revision)), out)?;
     say_made(open_root(alloc, root), out)
@@ -54,11 +51,9 @@ fn say_root<R: Repository, S: ReplySink>(
     trees: &TwoTrees<R>,
     out: &mut S,
 ) -> Result<(), AllocError>
-    ensures ok { OnOk result (S.writes out.old out.new (command_bytes (root_commands
-        (R.content trees.now.view.now) (whole trees.now.report.now trees.now.root)))) }
-    ensures err { OnErr result (WritesPart (S.writes out.old out.new) (command_bytes
-        (root_commands (R.content trees.now.view.now)
-        (whole trees.now.report.now trees.now.root)))) }
+    ensures { Writes result (S.writes out.old out.new)
+        (command_bytes (root_commands (R.content trees.now.view.now)
+        (whole trees.now.report.now trees.now.root))) }
 {
     if !trees.report.ask.target.as_path().is_root() {
         return Ok(());
@@ -74,18 +69,12 @@ fn say_below<R: Repository, S: ReplySink>(
     visitor: &mut Visitor,
     out: &mut S,
 ) -> Result<(), AllocError>
-    ensures ok { OnOk result (Visiting (drive_trees (R.content trees.now.view.now)
+    ensures { Visiting (drive_trees (R.content trees.now.view.now)
         (whole trees.now.report.now trees.now.root)) visitor.old
-        (λ visits. S.writes out.old out.new (command_bytes
-        (plan_commands (R.content trees.now.view.now)
-        (whole trees.now.report.now trees.now.root) 0 visits
-        ++ CloseDirectory (token_of DirectoryKind 0) ∷ [])))) }
-    ensures err { OnErr result (Visiting (drive_trees (R.content trees.now.view.now)
-        (whole trees.now.report.now trees.now.root)) visitor.old
-        (λ visits. WritesPart (S.writes out.old out.new) (command_bytes
-        (plan_commands (R.content trees.now.view.now)
-        (whole trees.now.report.now trees.now.root) 0 visits
-        ++ CloseDirectory (token_of DirectoryKind 0) ∷ [])))) }
+        (λ visits. Writes result (S.writes out.old out.new)
+        (command_bytes (plan_commands (R.content trees.now.view.now)
+        (whole trees.now.report.now trees.now.root) 0 visits ++ CloseDirectory
+        (token_of DirectoryKind 0) ∷ []))) }
 {
     say_visits(alloc, trees, visitor, out)?;
     say_close(alloc, 0, out)
@@ -98,16 +87,11 @@ fn say_body<R: Repository, S: ReplySink>(
     visitor: &mut Visitor,
     out: &mut S,
 ) -> Result<(), AllocError>
-    ensures ok { OnOk result (Visiting (drive_trees (R.content trees.now.view.now)
+    ensures { Visiting (drive_trees (R.content trees.now.view.now)
         (whole trees.now.report.now trees.now.root)) visitor.old
-        (λ visits. S.writes out.old out.new (command_bytes
-        (body_commands (R.content trees.now.view.now)
-        (whole trees.now.report.now trees.now.root) visits)))) }
-    ensures err { OnErr result (Visiting (drive_trees (R.content trees.now.view.now)
-        (whole trees.now.report.now trees.now.root)) visitor.old
-        (λ visits. WritesPart (S.writes out.old out.new) (command_bytes
-        (body_commands (R.content trees.now.view.now)
-        (whole trees.now.report.now trees.now.root) visits)))) }
+        (λ visits. Writes result (S.writes out.old out.new)
+        (command_bytes (body_commands (R.content trees.now.view.now)
+        (whole trees.now.report.now trees.now.root) visits))) }
 {
     say_root(alloc, trees, out)?;
     say_below(alloc, trees, visitor, out)
@@ -120,16 +104,11 @@ fn say_rest<R: Repository, S: ReplySink>(
     visitor: &mut Visitor,
     out: &mut S,
 ) -> Result<(), AllocError>
-    ensures ok { OnOk result (Visiting (drive_trees (R.content trees.now.view.now)
+    ensures { Visiting (drive_trees (R.content trees.now.view.now)
         (whole trees.now.report.now trees.now.root)) visitor.old
-        (λ visits. S.writes out.old out.new (command_bytes
-        (body_commands (R.content trees.now.view.now)
-        (whole trees.now.report.now trees.now.root) visits ++ CloseEdit ∷ [])))) }
-    ensures err { OnErr result (Visiting (drive_trees (R.content trees.now.view.now)
-        (whole trees.now.report.now trees.now.root)) visitor.old
-        (λ visits. WritesPart (S.writes out.old out.new) (command_bytes
-        (body_commands (R.content trees.now.view.now)
-        (whole trees.now.report.now trees.now.root) visits ++ CloseEdit ∷ [])))) }
+        (λ visits. Writes result (S.writes out.old out.new)
+        (command_bytes (body_commands (R.content trees.now.view.now)
+        (whole trees.now.report.now trees.now.root) visits ++ CloseEdit ∷ []))) }
 {
     say_body(alloc, trees, visitor, out)?;
     say_made(Ok(EditorCommand::CloseEdit), out)
@@ -142,16 +121,11 @@ fn say_commands<R: Repository, S: ReplySink>(
     visitor: &mut Visitor,
     out: &mut S,
 ) -> Result<(), AllocError>
-    ensures ok { OnOk result (Visiting (drive_trees (R.content trees.now.view.now)
+    ensures { Visiting (drive_trees (R.content trees.now.view.now)
         (whole trees.now.report.now trees.now.root)) visitor.old
-        (λ visits. S.writes out.old out.new (command_bytes
-        (drive_of (R.content trees.now.view.now)
-        (whole trees.now.report.now trees.now.root) visits)))) }
-    ensures err { OnErr result (Visiting (drive_trees (R.content trees.now.view.now)
-        (whole trees.now.report.now trees.now.root)) visitor.old
-        (λ visits. WritesPart (S.writes out.old out.new) (command_bytes
-        (drive_of (R.content trees.now.view.now)
-        (whole trees.now.report.now trees.now.root) visits)))) }
+        (λ visits. Writes result (S.writes out.old out.new)
+        (command_bytes (drive_of (R.content trees.now.view.now)
+        (whole trees.now.report.now trees.now.root) visits))) }
 {
     say_beginning(alloc, trees.report.ask.revision, trees.root, out)?;
     say_rest(alloc, trees, visitor, out)
@@ -164,16 +138,11 @@ fn say_planned<R: Repository, S: ReplySink>(
     visitor: &mut Visitor,
     out: &mut S,
 ) -> Result<(), AllocError>
-    ensures ok { OnOk result (Visiting (drive_trees (R.content trees.now.view.now)
+    ensures { Visiting (drive_trees (R.content trees.now.view.now)
         (whole trees.now.report.now trees.now.root)) visitor.old
-        (λ visits. S.writes out.old out.new (print (drive_replies
-        (drive_of (R.content trees.now.view.now)
-        (whole trees.now.report.now trees.now.root) visits))))) }
-    ensures err { OnErr result (Visiting (drive_trees (R.content trees.now.view.now)
-        (whole trees.now.report.now trees.now.root)) visitor.old
-        (λ visits. WritesPart (S.writes out.old out.new) (print (drive_replies
-        (drive_of (R.content trees.now.view.now)
-        (whole trees.now.report.now trees.now.root) visits))))) }
+        (λ visits. Says result (S.writes out.old out.new)
+        (drive_replies (drive_of (R.content trees.now.view.now)
+        (whole trees.now.report.now trees.now.root) visits))) }
 {
     say_new(Reply::NoLogin, out)?;
     say_commands(alloc, trees, visitor, out)
@@ -193,10 +162,8 @@ pub fn say_drive<R: Repository, S: ReplySink>(
 ) -> Result<(), AllocError>
     requires trees { AreTrees (R.content view.now).revisions }
     requires finished { finish_root (R.content view.now) report.now ≡ Ok root }
-    ensures ok { OnOk result (DriveWritten (R.content view.now) (whole report.now root)
-        (S.writes out.old out.new)) }
-    ensures err { OnErr result (DriveLost (R.content view.now) (whole report.now root)
-        (S.writes out.old out.new)) }
+    ensures { SaysDrive result (S.writes out.old out.new) (R.content view.now)
+        (whole report.now root) }
 {
     let trees = TwoTrees { view, report, root };
     let mut visitor = visitor(alloc, &trees)?;

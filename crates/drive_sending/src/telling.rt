@@ -1,12 +1,12 @@
 //! What entries are told. Where one of these fails, a part of what it says was written.
-ghost use Rattle.std.specs.Prelude.{◌≡◌, ◌<◌, ◌+◌, ◌^◌, ◌∷◌, ◌++◌, [], map, IfOk, OnOk, OnErr};
-ghost use Rattle.wire_replies.specs.Sinks.{WritesPart};
+ghost use Rattle.std.specs.Prelude.{◌≡◌, ◌<◌, ◌+◌, ◌^◌, map, IfOk};
 ghost use Rattle.reporter.specs.Visits.{kind_if};
 ghost use Rattle.drive_sending.specs.Commands.{property_command, news_commands, or_no_news};
 ghost use Rattle.drive_sending.specs.Driving.{command_bytes};
 ghost use Rattle.drive_sending.specs.Tokens.{token_of};
 ghost use Rattle.drive_rules.specs.Steps.EntryKind.{DirectoryKind, FileKind};
 ghost use Rattle.drive_reports.specs.declared.ask.Purpose.{Purpose};
+ghost use Rattle.wire_replies.specs.Sinks.{Writes};
 
 use crate::naming::token;
 use crate::saying::say_made;
@@ -47,10 +47,8 @@ fn say_properties<S: ReplySink>(
     changes: &PropertyChanges,
     out: &mut S,
 ) -> Result<(), AllocError>
-    ensures ok { OnOk result (S.writes out.old out.new (command_bytes
-        (map (property_command (kind_if is_directory) token.now) changes.now))) }
-    ensures err { OnErr result (WritesPart (S.writes out.old out.new) (command_bytes
-        (map (property_command (kind_if is_directory) token.now) changes.now))) }
+    ensures { Writes result (S.writes out.old out.new)
+        (command_bytes (map (property_command (kind_if is_directory) token.now) changes.now)) }
 {
     say_each(is_directory, token, changes.as_slice(), out)
 }
@@ -62,10 +60,8 @@ fn say_each<S: ReplySink>(
     changes: &[(ByteString, Option<ByteString>)],
     out: &mut S,
 ) -> Result<(), AllocError>
-    ensures ok { OnOk result (S.writes out.old out.new (command_bytes
-        (map (property_command (kind_if is_directory) token.now) changes.now))) }
-    ensures err { OnErr result (WritesPart (S.writes out.old out.new) (command_bytes
-        (map (property_command (kind_if is_directory) token.now) changes.now))) }
+    ensures { Writes result (S.writes out.old out.new)
+        (command_bytes (map (property_command (kind_if is_directory) token.now) changes.now)) }
 {
     for change in changes {
         say_made(property_command(is_directory, token, change), out)?;
@@ -79,10 +75,8 @@ fn say_directory_news<S: ReplySink>(
     news: &News,
     out: &mut S,
 ) -> Result<(), AllocError>
-    ensures ok { (purpose : Purpose) → OnOk result (S.writes out.old out.new
-        (command_bytes (news_commands purpose DirectoryKind token.now news.now))) }
-    ensures err { (purpose : Purpose) → OnErr result (WritesPart (S.writes out.old out.new)
-        (command_bytes (news_commands purpose DirectoryKind token.now news.now))) }
+    ensures { (purpose : Purpose) → Writes result (S.writes out.old out.new)
+        (command_bytes (news_commands purpose DirectoryKind token.now news.now)) }
 {
     say_properties(true, token, &news.changes, out)
 }
@@ -95,10 +89,8 @@ fn say_file_news<S: ReplySink>(
     news: &News,
     out: &mut S,
 ) -> Result<(), AllocError>
-    ensures ok { OnOk result (S.writes out.old out.new
-        (command_bytes (news_commands purpose FileKind token.now news.now))) }
-    ensures err { OnErr result (WritesPart (S.writes out.old out.new)
-        (command_bytes (news_commands purpose FileKind token.now news.now))) }
+    ensures { Writes result (S.writes out.old out.new)
+        (command_bytes (news_commands purpose FileKind token.now news.now)) }
 {
     say_properties(false, token, &news.changes, out)?;
     say_file_end(alloc, purpose, token, &news.text, out)
@@ -110,12 +102,8 @@ pub(crate) fn say_root_news<S: ReplySink>(
     news: &News,
     out: &mut S,
 ) -> Result<(), AllocError>
-    ensures ok { (purpose : Purpose) → OnOk result (S.writes out.old out.new
-        (command_bytes (news_commands purpose DirectoryKind (token_of DirectoryKind 0)
-        news.now))) }
-    ensures err { (purpose : Purpose) → OnErr result (WritesPart (S.writes out.old out.new)
-        (command_bytes (news_commands purpose DirectoryKind (token_of DirectoryKind 0)
-        news.now))) }
+    ensures { (purpose : Purpose) → Writes result (S.writes out.old out.new)
+        (command_bytes (news_commands purpose DirectoryKind (token_of DirectoryKind 0) news.now)) }
 {
     let token = token(alloc, true, 0)?;
     say_directory_news(&token, news, out)
@@ -130,12 +118,9 @@ pub(crate) fn say_news<S: ReplySink>(
     out: &mut S,
 ) -> Result<(), AllocError>
     requires { entrance.around + 1 < 2 ^ 64 }
-    ensures ok { OnOk result (S.writes out.old out.new
+    ensures { Writes result (S.writes out.old out.new)
         (command_bytes (news_commands purpose (kind_if entrance.is_directory)
-        (token_of (kind_if entrance.is_directory) (entrance.around + 1)) news.now))) }
-    ensures err { OnErr result (WritesPart (S.writes out.old out.new)
-        (command_bytes (news_commands purpose (kind_if entrance.is_directory)
-        (token_of (kind_if entrance.is_directory) (entrance.around + 1)) news.now))) }
+        (token_of (kind_if entrance.is_directory) (entrance.around + 1)) news.now)) }
 {
     let token = token(alloc, entrance.is_directory, entrance.around + 1)?;
     if entrance.is_directory {

@@ -1,12 +1,12 @@
 //! Texts, sent whole. Where one of these fails, a part of what it says was written.
-ghost use Rattle.std.specs.Prelude.{◌≡◌, ◌<◌, ◌^◌, ◌∷◌, ◌++◌, [], None, Some, map, length, IfOk, OnOk, OnErr};
+ghost use Rattle.std.specs.Prelude.{◌≡◌, ◌<◌, ◌^◌, ◌∷◌, ◌++◌, [], None, Some, map, length, IfOk};
 ghost use Rattle.std.specs.Int.{div_ceil};
 ghost use Rattle.svndiff0.specs.Document.{header};
 ghost use Rattle.svndiff0.specs.Full.{full_window};
-ghost use Rattle.wire_replies.specs.Sinks.{WritesPart};
 ghost use Rattle.wire_edits.specs.declared.editing.EditorCommand.TheVariants.{ApplyTextDelta, TextDeltaChunk, TextDeltaEnd, CloseFile};
 ghost use Rattle.drive_sending.specs.Commands.{windows, chunks, text_commands, checksum_sent, digits_of};
 ghost use Rattle.drive_sending.specs.Driving.{command_bytes};
+ghost use Rattle.wire_replies.specs.Sinks.{Writes};
 
 use crate::saying::say_made;
 use byte_string::ByteString;
@@ -66,10 +66,9 @@ fn say_windows<S: ReplySink>(
     text: &[u8],
     out: &mut S,
 ) -> Result<(), AllocError>
-    ensures ok { OnOk result (S.writes out.old out.new (command_bytes
-        (map (TextDeltaChunk token.now) (windows (div_ceil (length text.now) 65536) text.now)))) }
-    ensures err { OnErr result (WritesPart (S.writes out.old out.new) (command_bytes
-        (map (TextDeltaChunk token.now) (windows (div_ceil (length text.now) 65536) text.now)))) }
+    ensures { Writes result (S.writes out.old out.new)
+        (command_bytes (map (TextDeltaChunk token.now)
+        (windows (div_ceil (length text.now) 65536) text.now))) }
 {
     let mut rest = text;
     for _ in 0..text.len().div_ceil(WINDOW) {
@@ -87,10 +86,8 @@ fn say_text<S: ReplySink>(
     text: &[u8],
     out: &mut S,
 ) -> Result<(), AllocError>
-    ensures ok { OnOk result (S.writes out.old out.new
-        (command_bytes (text_commands token.now (Some text.now)))) }
-    ensures err { OnErr result (WritesPart (S.writes out.old out.new)
-        (command_bytes (text_commands token.now (Some text.now)))) }
+    ensures { Writes result (S.writes out.old out.new)
+        (command_bytes (text_commands token.now (Some text.now))) }
 {
     say_made(beginning(token), out)?;
     say_made(header(alloc, token), out)?;
@@ -145,12 +142,9 @@ pub(crate) fn say_file_end<S: ReplySink>(
     text: &Option<FileText>,
     out: &mut S,
 ) -> Result<(), AllocError>
-    ensures ok { OnOk result (S.writes out.old out.new (command_bytes
-        (text_commands token.now text.now
-        ++ CloseFile token.now (checksum_sent purpose text.now) ∷ []))) }
-    ensures err { OnErr result (WritesPart (S.writes out.old out.new) (command_bytes
-        (text_commands token.now text.now
-        ++ CloseFile token.now (checksum_sent purpose text.now) ∷ []))) }
+    ensures { Writes result (S.writes out.old out.new)
+        (command_bytes (text_commands token.now text.now ++ CloseFile token.now
+        (checksum_sent purpose text.now) ∷ [])) }
 {
     say_sent(alloc, token, text, out)?;
     say_made(close(alloc, purpose, token, text), out)
@@ -163,10 +157,8 @@ fn say_sent<S: ReplySink>(
     text: &Option<FileText>,
     out: &mut S,
 ) -> Result<(), AllocError>
-    ensures ok { OnOk result (S.writes out.old out.new
-        (command_bytes (text_commands token.now text.now))) }
-    ensures err { OnErr result (WritesPart (S.writes out.old out.new)
-        (command_bytes (text_commands token.now text.now))) }
+    ensures { Writes result (S.writes out.old out.new)
+        (command_bytes (text_commands token.now text.now)) }
 {
     match text {
         None => Ok(()),

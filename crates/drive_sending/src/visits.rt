@@ -1,9 +1,8 @@
 //! The commands of visits. Where one of these fails, a part of what it says was written.
-ghost use Rattle.std.specs.Prelude.{◌≡◌, ◌<◌, ◌≤◌, ◌+◌, ◌^◌, ◌∷◌, [], false, length, Option, IfOk, OnOk, OnErr};
+ghost use Rattle.std.specs.Prelude.{◌≡◌, ◌<◌, ◌≤◌, ◌+◌, ◌^◌, ◌∷◌, [], false, length, Option, IfOk};
 ghost use Rattle.repo_api.specs.Kinds.{kind_of};
 ghost use Rattle.repo_api.specs.Trees.{Tree};
 ghost use Rattle.repo_api.specs.declared.entry.Entry.{Entry};
-ghost use Rattle.wire_replies.specs.Sinks.{WritesPart};
 ghost use Rattle.wire_edits.specs.declared.editing.EditorCommand.TheVariants.{CloseDirectory, DeleteEntry};
 ghost use Rattle.drive_rules.specs.Steps.EntryKind.{DirectoryKind};
 ghost use Rattle.reporter.specs.Visits.{entry_kind, kind_if};
@@ -13,6 +12,7 @@ ghost use Rattle.drive_sides.specs.Plans.{drive_trees, whole};
 ghost use Rattle.drive_sending.specs.Commands.{add_command, added_entry, around_after, deleted_entry, news_told, open_command, opened_entry, plan_commands, visit_commands, visited_kind};
 ghost use Rattle.drive_sending.specs.Driving.{Visiting, command_bytes};
 ghost use Rattle.drive_sending.specs.Tokens.{token_of};
+ghost use Rattle.wire_replies.specs.Sinks.{Writes};
 
 use crate::naming::{relative_text, token};
 use crate::saying::say_made;
@@ -126,12 +126,9 @@ fn say_open<R: Repository, S: ReplySink>(
     requires deep { entrance.around + 1 < 2 ^ 64 }
     requires kind { entry_kind (new_tree (R.content trees.now.view.now)
         (whole trees.now.report.now trees.now.root) path.now) ≡ kind_if entrance.is_directory }
-    ensures ok { OnOk result (S.writes out.old out.new (command_bytes
-        (visit_commands (R.content trees.now.view.now)
-        (whole trees.now.report.now trees.now.root) entrance.around (Open path.now)))) }
-    ensures err { OnErr result (WritesPart (S.writes out.old out.new) (command_bytes
-        (visit_commands (R.content trees.now.view.now)
-        (whole trees.now.report.now trees.now.root) entrance.around (Open path.now)))) }
+    ensures { Writes result (S.writes out.old out.new)
+        (command_bytes (visit_commands (R.content trees.now.view.now)
+        (whole trees.now.report.now trees.now.root) entrance.around (Open path.now))) }
 {
     let news = news_told(alloc, trees, path, false)?;
     say_made(open_command(alloc, trees, path, entrance), out)?;
@@ -149,12 +146,9 @@ fn say_add<R: Repository, S: ReplySink>(
     requires deep { entrance.around + 1 < 2 ^ 64 }
     requires kind { entry_kind (new_tree (R.content trees.now.view.now)
         (whole trees.now.report.now trees.now.root) path.now) ≡ kind_if entrance.is_directory }
-    ensures ok { OnOk result (S.writes out.old out.new (command_bytes
-        (visit_commands (R.content trees.now.view.now)
-        (whole trees.now.report.now trees.now.root) entrance.around (Add path.now)))) }
-    ensures err { OnErr result (WritesPart (S.writes out.old out.new) (command_bytes
-        (visit_commands (R.content trees.now.view.now)
-        (whole trees.now.report.now trees.now.root) entrance.around (Add path.now)))) }
+    ensures { Writes result (S.writes out.old out.new)
+        (command_bytes (visit_commands (R.content trees.now.view.now)
+        (whole trees.now.report.now trees.now.root) entrance.around (Add path.now))) }
 {
     let news = news_told(alloc, trees, path, true)?;
     say_made(add_command(alloc, path, entrance), out)?;
@@ -168,10 +162,8 @@ fn say_delete<S: ReplySink>(
     around: u64,
     out: &mut S,
 ) -> Result<(), AllocError>
-    ensures ok { OnOk result (S.writes out.old out.new
-        (command_bytes (DeleteEntry (deleted_entry around path.now) ∷ []))) }
-    ensures err { OnErr result (WritesPart (S.writes out.old out.new)
-        (command_bytes (DeleteEntry (deleted_entry around path.now) ∷ []))) }
+    ensures { Writes result (S.writes out.old out.new)
+        (command_bytes (DeleteEntry (deleted_entry around path.now) ∷ [])) }
 {
     say_made(delete_command(alloc, path, around), out)
 }
@@ -182,10 +174,8 @@ pub(crate) fn say_close<S: ReplySink>(
     around: u64,
     out: &mut S,
 ) -> Result<(), AllocError>
-    ensures ok { OnOk result (S.writes out.old out.new
-        (command_bytes (CloseDirectory (token_of DirectoryKind around) ∷ []))) }
-    ensures err { OnErr result (WritesPart (S.writes out.old out.new)
-        (command_bytes (CloseDirectory (token_of DirectoryKind around) ∷ []))) }
+    ensures { Writes result (S.writes out.old out.new)
+        (command_bytes (CloseDirectory (token_of DirectoryKind around) ∷ [])) }
 {
     say_made(close_command(alloc, around), out)
 }
@@ -201,12 +191,9 @@ fn say_visit<R: Repository, S: ReplySink>(
     requires deep { entrance.around + 1 < 2 ^ 64 }
     requires kind { visited_kind (new_tree (R.content trees.now.view.now)
         (whole trees.now.report.now trees.now.root)) visit.now ≡ kind_if entrance.is_directory }
-    ensures ok { OnOk result (S.writes out.old out.new (command_bytes
-        (visit_commands (R.content trees.now.view.now)
-        (whole trees.now.report.now trees.now.root) entrance.around visit.now))) }
-    ensures err { OnErr result (WritesPart (S.writes out.old out.new) (command_bytes
-        (visit_commands (R.content trees.now.view.now)
-        (whole trees.now.report.now trees.now.root) entrance.around visit.now))) }
+    ensures { Writes result (S.writes out.old out.new)
+        (command_bytes (visit_commands (R.content trees.now.view.now)
+        (whole trees.now.report.now trees.now.root) entrance.around visit.now)) }
 {
     match visit {
         Visit::Open(path) => say_open(alloc, trees, path, entrance, out),
@@ -271,12 +258,9 @@ fn say_next<R: Repository, S: ReplySink>(
         (R.content trees.now.view.now) (whole trees.now.report.now trees.now.root)) around
         visit.now) }
     ensures grows { IfOk result (λ after. after ≤ around + 1) }
-    ensures ok { OnOk result (S.writes out.old out.new (command_bytes
-        (visit_commands (R.content trees.now.view.now)
-        (whole trees.now.report.now trees.now.root) around visit.now))) }
-    ensures err { OnErr result (WritesPart (S.writes out.old out.new) (command_bytes
-        (visit_commands (R.content trees.now.view.now)
-        (whole trees.now.report.now trees.now.root) around visit.now))) }
+    ensures said { Writes result (S.writes out.old out.new)
+        (command_bytes (visit_commands (R.content trees.now.view.now)
+        (whole trees.now.report.now trees.now.root) around visit.now)) }
 {
     let is_directory = enters_directory(alloc, trees, visit)?;
     let entrance = Entrance {
@@ -294,16 +278,11 @@ pub(crate) fn say_visits<R: Repository, S: ReplySink>(
     visitor: &mut Visitor,
     out: &mut S,
 ) -> Result<(), AllocError>
-    ensures ok { OnOk result (Visiting (drive_trees (R.content trees.now.view.now)
+    ensures { Visiting (drive_trees (R.content trees.now.view.now)
         (whole trees.now.report.now trees.now.root)) visitor.old
-        (λ visits. S.writes out.old out.new (command_bytes
-        (plan_commands (R.content trees.now.view.now)
-        (whole trees.now.report.now trees.now.root) 0 visits)))) }
-    ensures err { OnErr result (Visiting (drive_trees (R.content trees.now.view.now)
-        (whole trees.now.report.now trees.now.root)) visitor.old
-        (λ visits. WritesPart (S.writes out.old out.new) (command_bytes
-        (plan_commands (R.content trees.now.view.now)
-        (whole trees.now.report.now trees.now.root) 0 visits)))) }
+        (λ visits. Writes result (S.writes out.old out.new)
+        (command_bytes (plan_commands (R.content trees.now.view.now)
+        (whole trees.now.report.now trees.now.root) 0 visits))) }
 {
     let mut around = 0;
     for _ in 0..u64::MAX {

@@ -37,20 +37,24 @@ Finishes c (Ok report) d =
     (drive : List EditorCommand) × (d ≡ Drives drive) × AreTrees c.revisions
     × IsDrive c report drive
 
+-- the end of a report, by what it comes to
+abbrev pub EndStep : OpenState → RepoState → Drawn → Type 0
+EndStep report c d = Finishes c (finish_answer c (Open report)) d
+
 -- a command of a report that goes on
-abbrev pub OpenStep : RepoState → List ℕ → OpenState → Result ReportCommand CommandFault → Drawn
+abbrev pub OpenStep : List ℕ → OpenState → Result ReportCommand CommandFault → RepoState → Drawn
     → Type 0
-OpenStep c name report (Ok (SetPath reported)) d =
+OpenStep name report (Ok (SetPath reported)) c d =
     d ≡ GoesOn (kept_report (set_path_answer c name report reported None))
-OpenStep c name report (Ok (LinkPath reported url)) d =
+OpenStep name report (Ok (LinkPath reported url)) c d =
     d ≡ GoesOn (kept_report (set_path_answer c name report reported (Some url)))
-OpenStep c name report (Ok (DeletePath path)) d =
+OpenStep name report (Ok (DeletePath path)) c d =
     d ≡ GoesOn (kept_report (delete_path_answer report path))
-OpenStep c name report (Ok FinishReport) d = Finishes c (finish_answer c (Open report)) d
-OpenStep c name report (Ok AbortReport) d = d ≡ GivenUp
-OpenStep c name report (Err UnknownName) d = d ≡ GoesOn (Refused refusals.UnknownCommand)
-OpenStep c name report (Err BadParameters) d = d ≡ Malformed
-OpenStep c name report (Err NoMemory) d = d ≡ Malformed
+OpenStep name report (Ok FinishReport) c d = EndStep report c d
+OpenStep name report (Ok AbortReport) c d = d ≡ GivenUp
+OpenStep name report (Err UnknownName) c d = d ≡ GoesOn (Refused refusals.UnknownCommand)
+OpenStep name report (Err BadParameters) c d = d ≡ Malformed
+OpenStep name report (Err NoMemory) c d = d ≡ Malformed
 
 -- a command of a report that is refused, which is read by its name alone
 abbrev pub refused_drawn : Refusal → Option (Option ReportName) → Drawn
@@ -60,9 +64,9 @@ refused_drawn r (Some (Some names.AbortReport)) = GivenUp
 refused_drawn r (Some _) = GoesOn (Refused r)
 
 -- what an item draws of a report
-abbrev pub ReportStep : RepoState → List ℕ → ReportState → ItemValue → Drawn → Type 0
-ReportStep c name (Refused r) item d = d ≡ refused_drawn r (name_of item)
-ReportStep c name (Open report) item d = OpenStep c name report (report_command item) d
+abbrev pub ReportStep : List ℕ → ReportState → ItemValue → RepoState → Drawn → Type 0
+ReportStep name (Refused r) item c d = d ≡ refused_drawn r (name_of item)
+ReportStep name (Open report) item c d = OpenStep name report (report_command item) c d
 
 -- ---- the client's answer to a drive
 

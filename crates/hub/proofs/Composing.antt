@@ -8,10 +8,10 @@ use Rattle.access.specs.Points.{Point, AccessRules, content_of}
 use Rattle.machine.specs.Settings.{Settings}
 use Rattle.machine.specs.Hearing.{Input}
 use Rattle.machine.specs.Stages.{Stage, SessionState, is_open}
-use Rattle.machine.specs.Answers.{Verdict, Effect, Answer, Counts, no_effect, is_halt, says, content_after, halted_after, pending_by, pending_after}
+use Rattle.machine.specs.Answers.{Verdict, Effect, Answer, Step, Counts, no_effect, is_halt, says, content_after, halted_after, pending_by, pending_after}
 use Rattle.machine.specs.Machine.{InputStep, UnreleasedStep}
 use Rattle.machine.specs.Answers.Verdict.{Written, NotWritten, Unknown}
-use Rattle.machine.specs.Steps.{AddsAll, Stores, EffectAt, StepAt, SessionRun, Leaves as LeavesAt, input_step, unreleased_step}
+use Rattle.machine.specs.Steps.{AddsAll, Stores, EffectAt, StepAt, SessionRun, Leaves as LeavesAt}
 use Rattle.machine.specs.declared.env.Env.{Env}
 use Rattle.machine.specs.declared.phase.Phase.TheVariants.{Greeted, LoggingIn, Challenged, Serving, Editing, Skipping, Reporting, Driven, Ended}
 use Rattle.hub_runs.specs.State.{HubState, hub_at, session_of, updated, without, kept}
@@ -124,7 +124,7 @@ module _ (rules : AccessRules) (s : Settings) (alone : StandsAlone rules) (count
       }
 
   -- the effect of a step leads to the next point
-  served : (step : Point → Answer → Type 0) (p : Point) (a : Answer) (q : Point) → StepAt rules step p a q → Moved p a.effect q
+  served : (step : Step) (p : Point) (a : Answer) (q : Point) → StepAt rules step p a q → Moved p a.effect q
   served step p a q serves =
       let same = alone p serves.at serves.later in
       let on = moved serves.at a.effect q serves.moves in
@@ -136,15 +136,15 @@ module _ (rules : AccessRules) (s : Settings) (alone : StandsAlone rules) (count
       }
 
   -- the input's answer stands at the point where the hub is
-  step_here : (env : Env) (p : Point) (phase : Stage) (input : Input) (a : Answer) (q : Point) → StepAt rules (input_step s env phase input) p a q
-      → InputStep p.halted s env (content_of p) phase input a
+  step_here : (env : Env) (p : Point) (phase : Stage) (input : Input) (a : Answer) (q : Point) → StepAt rules (InputStep s env phase input) p a q
+      → InputStep s env phase input p.halted (content_of p) a
   step_here env p phase input a q serves =
       let same = alone p serves.at serves.later in
-      subst (λ (w : RepoState). InputStep p.halted s env w phase input a) (sym same.0)
-      (subst (λ (b : Bool). InputStep b s env (content_of serves.at) phase input a) (sym same.1) serves.step_is)
+      subst (λ (w : RepoState). InputStep s env phase input p.halted w a) (sym same.0)
+      (subst (λ (b : Bool). InputStep s env phase input b (content_of serves.at) a) (sym same.1) serves.step_is)
 
   -- only an open session is gone so
-  leaves_open : (halted : Bool) (env : Env) (c : RepoState) (phase : Stage) (input : Input) (a : Answer) → UnreleasedStep halted env c phase input a → is_open phase ≡ true
+  leaves_open : (halted : Bool) (env : Env) (c : RepoState) (phase : Stage) (input : Input) (a : Answer) → UnreleasedStep env phase input halted c a → is_open phase ≡ true
   leaves_open halted env c (Editing edit) input a step = refl
   leaves_open halted env c Greeted input a step = absurd step
   leaves_open halted env c (LoggingIn login) input a step = absurd step
@@ -156,12 +156,12 @@ module _ (rules : AccessRules) (s : Settings) (alone : StandsAlone rules) (count
   leaves_open halted env c Ended input a step = absurd step
 
   -- so does that of a commit whose session is gone
-  leaves_here : (env : Env) (p : Point) (phase : Stage) (input : Input) (a : Answer) (q : Point) → StepAt rules (unreleased_step env phase input) p a q
-      → UnreleasedStep p.halted env (content_of p) phase input a
+  leaves_here : (env : Env) (p : Point) (phase : Stage) (input : Input) (a : Answer) (q : Point) → StepAt rules (UnreleasedStep env phase input) p a q
+      → UnreleasedStep env phase input p.halted (content_of p) a
   leaves_here env p phase input a q serves =
       let same = alone p serves.at serves.later in
-      subst (λ (w : RepoState). UnreleasedStep p.halted env w phase input a) (sym same.0)
-      (subst (λ (b : Bool). UnreleasedStep b env (content_of serves.at) phase input a) (sym same.1) serves.step_is)
+      subst (λ (w : RepoState). UnreleasedStep env phase input p.halted w a) (sym same.0)
+      (subst (λ (b : Bool). UnreleasedStep env phase input b (content_of serves.at) a) (sym same.1) serves.step_is)
 
   answered_at : (p : Point) (r : List ℕ) (phase : Stage) (a : Answer) (q : Point) (xs : List (ℕ × SessionState)) (used n : ℕ) → Moved p a.effect q
       → hub_at s q (kept xs n (record { rest = r; phase = a.phase })) used ≡ answered (hub_at s p xs used) n (record { rest = r; phase = phase }) a q.failures
@@ -240,7 +240,7 @@ module _ (rules : AccessRules) (s : Settings) (alone : StandsAlone rules) (count
       λ i. record { settings = s; content = w i; halted = e i; failures = k i; pending = o i; sessions = sessions i; used = used }
 
   one_more : (xs : List (ℕ × SessionState)) (used n : ℕ) (r : List ℕ) (env : Env) (p : Point) (phase : Stage) (input : Input) (inputs : List Input) (told : List Reply) (env' : Env) (p' : Point) (phase' : Stage)
-      (a : Answer) (q : Point) (more : List Reply) (serves : StepAt rules (input_step s env phase input) p a q) (run : SessionRun rules s a.env q a.phase inputs more env' p' phase')
+      (a : Answer) (q : Point) (more : List Reply) (serves : StepAt rules (InputStep s env phase input) p a q) (run : SessionRun rules s a.env q a.phase inputs more env' p' phase')
       → told ≡ a.replies ++ more → session_of xs n ≡ Some (record { rest = r; phase = phase })
       → HubRun (hub_at s q (kept xs n (record { rest = r; phase = a.phase })) used) a.env (events_of n inputs) more
       (hub_at s p' (kept (kept xs n (record { rest = r; phase = a.phase })) n (record { rest = r; phase = phase' })) used) env'
@@ -248,7 +248,7 @@ module _ (rules : AccessRules) (s : Settings) (alone : StandsAlone rules) (count
   one_more xs used n r env p phase input inputs told env' p' phase' a q more serves run is_told h next =
       let mid = hub_at s q (kept xs n (record { rest = r; phase = a.phase })) used in
       let step = step_here env p phase input a q serves in
-      let on = served (input_step s env phase input) p a q serves in (
+      let on = served (InputStep s env phase input) p a q serves in (
         a.replies,
         mid,
         a.env,
@@ -290,10 +290,10 @@ module _ (rules : AccessRules) (s : Settings) (alone : StandsAlone rules) (count
 
   -- a commit whose session is gone before the release
   pub leaving : (xs : List (ℕ × SessionState)) (used n : ℕ) (r : List ℕ) (env : Env) (p : Point) (phase : Stage) (input : Input) (a : Answer) (q : Point)
-      → session_of xs n ≡ Some (record { rest = r; phase = phase }) → StepAt rules (unreleased_step env phase input) p a q
+      → session_of xs n ≡ Some (record { rest = r; phase = phase }) → StepAt rules (UnreleasedStep env phase input) p a q
       → HubStep (hub_at s p xs used) env (Leaves n input) a.replies (hub_at s q (kept xs n (record { rest = r; phase = a.phase })) used) a.env
   leaving xs used n r env p phase input a q found serves =
-      let on = served (unreleased_step env phase input) p a q serves in
+      let on = served (UnreleasedStep env phase input) p a q serves in
       let new = hub_at s q (kept xs n (record { rest = r; phase = a.phase })) used in
       subst (λ (o : Option SessionState). CommitLeaves (hub_at s p xs used) env n o input a.replies new a.env) (sym found)
       (a, leaves_here env p phase input a q serves, refl, refl, q.failures, on.counted, answered_at p r phase a q xs used n on)

@@ -27,12 +27,12 @@ use Rattle.hub_runs.proofs.Revising.{AreOthers}
 abbrev pub StepsKeepTrees : Type 0
 StepsKeepTrees =
     (halted : Bool) (s : Settings) (env : Env) (c : RepoState) (phase : Stage) (input : Input) (a : Answer)
-    → StandsOn phase c → InputStep halted s env c phase input a → StandsOn a.phase (content_after c a.effect) × MeetBy c a.effect.changes
+    → StandsOn phase c → InputStep s env phase input halted c a → StandsOn a.phase (content_after c a.effect) × MeetBy c a.effect.changes
 
 abbrev pub UnreleasedKeepTrees : Type 0
 UnreleasedKeepTrees =
     (halted : Bool) (env : Env) (c : RepoState) (phase : Stage) (input : Input) (a : Answer)
-    → StandsOn phase c → UnreleasedStep halted env c phase input a → StandsOn a.phase (content_after c a.effect) × MeetBy c a.effect.changes
+    → StandsOn phase c → UnreleasedStep env phase input halted c a → StandsOn a.phase (content_after c a.effect) × MeetBy c a.effect.changes
 
 abbrev pub KeepTrees : Type 0
 KeepTrees = StepsKeepTrees × UnreleasedKeepTrees

@@ -22,7 +22,7 @@ use Rattle.wire_forms.specs.declared.fault.CommandFault.TheVariants.{UnknownName
 use Rattle.commands.specs.Commands.{main_command}
 use Rattle.commands.specs.Logins.{client_greeting, auth_response, challenge_answer}
 use Rattle.commands.specs.declared.command.MainCommand.{MainCommand}
-use Rattle.commands.specs.declared.command.MainCommand.TheVariants.{GetLatestRev, CheckPath, RevProplist, Commit, AbortEdit, Lock as LockPath, Unlock as UnlockPath, GetLock, GetLocks, GetFile, GetDir, Stat, GetDatedRev, RevProp, ChangeRevProp, Reparent, Log, GetLocations, Update, Switch, Status}
+use Rattle.commands.specs.declared.command.MainCommand.TheVariants.{Read, Drive, Commit, AbortEdit, Lock as LockPath, Unlock as UnlockPath, ChangeRevProp, Reparent}
 use Rattle.repo_api.specs.declared.property_ask.PropertyAsk.{PropertyAsk}
 use Rattle.commands.specs.declared.command.LockCommand.{LockCommand}
 use Rattle.commands.specs.declared.command.UnlockCommand.{UnlockCommand}
@@ -40,7 +40,7 @@ use Rattle.machine.specs.Settings.{Settings}
 use Rattle.machine.specs.Stages.{Stage}
 use Rattle.machine.specs.Hearing.{Input}
 use Rattle.machine.specs.Hearing.Input.{Whole, Broken}
-use Rattle.machine.specs.Answers.{Verdict, Answer, content_after, is_halt, change_answer, IsOfReplace, ChangeStep, behind, Behind, says}
+use Rattle.machine.specs.Answers.{Verdict, Answer, Step, content_after, is_halt, change_answer, IsOfReplace, ChangeStep, behind, Behind, says}
 use Rattle.machine.specs.Answers.Verdict.{Written, NotWritten, Unknown}
 use Rattle.machine.specs.Commands.{asked_by, lock_tokens, commit_begins, lock_ask, unlock_ask, lock_answer, LockStep, UnlockStep, PropertyStep, reparented, login_request, OwnStep}
 use Rattle.machine.specs.Logins.{offer, chosen, wants_user, speaks, url_answer, greeting_answer, LoggedIn, ChoiceStep, LoginStep, with_user, ChallengeStep}
@@ -78,27 +78,14 @@ plain_all [] more plain rest = rest
 plain_all (reply ∷ told) more plain rest = (plain.0, plain_all told more plain.1 rest)
 
 plain_request : (command : MainCommand) → ArePlain (login_request command)
-plain_request GetLatestRev = (λ r e. cc, tt)
-plain_request (CheckPath path revision) = (λ r e. cc, tt)
-plain_request (RevProplist n) = (λ r e. cc, tt)
+plain_request (Read command) = (λ r e. cc, tt)
+plain_request (Drive command) = (λ r e. cc, tt)
 plain_request (Commit command) = (λ r e. cc, tt)
 plain_request AbortEdit = tt
 plain_request (LockPath command) = (λ r e. cc, tt)
 plain_request (UnlockPath command) = (λ r e. cc, tt)
-plain_request (GetLock path) = (λ r e. cc, tt)
-plain_request (GetLocks path) = (λ r e. cc, tt)
-plain_request (GetFile command) = (λ r e. cc, tt)
-plain_request (GetDir command) = (λ r e. cc, tt)
-plain_request (Stat path revision) = (λ r e. cc, tt)
-plain_request (GetDatedRev date) = (λ r e. cc, tt)
-plain_request (RevProp n name) = (λ r e. cc, tt)
 plain_request (ChangeRevProp command) = (λ r e. cc, tt)
 plain_request (Reparent url) = (λ r e. cc, tt)
-plain_request (Log command) = (λ r e. cc, tt)
-plain_request (GetLocations command) = (λ r e. cc, tt)
-plain_request (Update request) = (λ r e. cc, tt)
-plain_request (Switch request url) = (λ r e. cc, tt)
-plain_request (Status request) = (λ r e. cc, tt)
 
 -- ---- what an answer does
 
@@ -179,9 +166,9 @@ told_behind c halted (Unlocks ask ∷ es) told all (none, ends) = (none, ends_be
 told_behind c halted (Releases user tokens ∷ es) told all bad = bad
 told_behind c halted (ChangesProperty ask ∷ es) told all (none, ends) = (none, ends_behind told all _ ends)
 
-does_behind : (P : Accepted → Type 0) (may halted : Bool) (env : Env) (c : RepoState) (told : List Reply) (Step : Answer → Type 0) (a : Answer)
-    → ArePlain told → ((b : Answer) → Step b → Does P may halted env c b) → Behind told Step a → Does P may halted env c a
-does_behind P may halted env c told Step a plain each (b, step, is) =
+does_behind : (P : Accepted → Type 0) (may halted : Bool) (env : Env) (c : RepoState) (told : List Reply) (own : Step) (a : Answer)
+    → ArePlain told → ((b : Answer) → own halted c b → Does P may halted env c b) → Behind told own halted c a → Does P may halted env c a
+does_behind P may halted env c told own a plain each (b, step, is) =
     let d = each b step in
     does_is P may halted env c a (behind told b) is (record {
       own = d.own;
@@ -278,7 +265,7 @@ locks may env c client command path date named dated accepted (Unknown x) of =
     halts_at (IsAskedBy env client (LockPath command)) may env c client (Locks (lock_ask env client command path date)) x [] (command, refl, path, named, date, dated, refl) accepted of
 
 does_lock : (may halted : Bool) (env : Env) (c : RepoState) (client : Client) (command : LockCommand) (path : Result PathValue PathFault) (a : Answer)
-    → joined client.path command.path ≡ path → LockStep halted env c client command path a → Does (IsAskedBy env client (LockPath command)) may halted env c a
+    → joined client.path command.path ≡ path → LockStep env client command path halted c a → Does (IsAskedBy env client (LockPath command)) may halted env c a
 does_lock may halted env c client command (Ok path) a named (date, dated, step) =
     let ask = lock_ask env client command path date in
     does_change (IsAskedBy env client (LockPath command)) may halted env c client (lock_refusal c ask) (lock_refusal c ask) (Locks ask) (lock_answer env client ask) a refl
@@ -302,7 +289,7 @@ unlocks may env c client command path named accepted (Unknown x) of =
     halts_at (IsAskedBy env client (UnlockPath command)) may env c client (Unlocks (unlock_ask client command path)) x (Success ∷ []) (command, refl, path, named, refl) accepted of
 
 does_unlock : (may halted : Bool) (env : Env) (c : RepoState) (client : Client) (command : UnlockCommand) (path : Result PathValue PathFault) (a : Answer)
-    → joined client.path command.path ≡ path → UnlockStep halted env c client command path a → Does (IsAskedBy env client (UnlockPath command)) may halted env c a
+    → joined client.path command.path ≡ path → UnlockStep env client command path halted c a → Does (IsAskedBy env client (UnlockPath command)) may halted env c a
 does_unlock may halted env c client command (Ok path) a named step =
     let ask = unlock_ask client command path in
     does_change (IsAskedBy env client (UnlockPath command)) may halted env c client (unlock_refusal c ask) (unlock_refusal c ask) (Unlocks ask)
@@ -325,7 +312,7 @@ revises env c client ask accepted (Unknown x) of =
     halts_at (IsAskedBy env client (ChangeRevProp ask)) true env c client (ChangesProperty ask) x (Success ∷ []) refl accepted of
 
 does_property : (may halted : Bool) (env : Env) (c : RepoState) (client : Client) (ask : PropertyAsk) (a : Answer)
-    → PropertyStep may halted env c client ask a → Does (IsAskedBy env client (ChangeRevProp ask)) may halted env c a
+    → PropertyStep may env client ask halted c a → Does (IsAskedBy env client (ChangeRevProp ask)) may halted env c a
 does_property false halted env c client ask a is = quiet a _ is (refl, refl, refl)
 does_property true halted env c client ask a step =
     does_change (IsAskedBy env client (ChangeRevProp ask)) true halted env c client (property_refusal c ask) (property_refusal c ask)
@@ -337,38 +324,25 @@ abbrev ByCommand : Bool → Settings → Env → RepoState → Client → MainCo
 ByCommand halted s env c client command a = Does (IsAskedBy env client command) s.revprops halted env c a
 
 own : (halted : Bool) (s : Settings) (env : Env) (c : RepoState) (client : Client) (command : MainCommand) (a : Answer)
-    → OwnStep halted s env c client command a → ByCommand halted s env c client command a
-own halted s env c client GetLatestRev a is = quiet a _ is (refl, refl, refl)
-own halted s env c client (CheckPath path revision) a is = quiet a _ is (refl, refl, refl)
-own halted s env c client (RevProplist n) a is = quiet a _ is (refl, refl, refl)
+    → OwnStep s env client command halted c a → ByCommand halted s env c client command a
+own halted s env c client (Read command) a is = quiet a _ is (refl, refl, refl)
+own halted s env c client (Drive command) a is = quiet a _ is (refl, refl, refl)
 own halted s env c client (Commit command) a is = quiet a _ is (quiet_begins s env client (asked_by command (lock_tokens client.path command.tokens)))
 own halted s env c client AbortEdit a is = quiet a _ is (refl, refl, refl)
 own halted s env c client (LockPath command) a step = does_lock s.revprops halted env c client command (joined client.path command.path) a refl step
 own halted s env c client (UnlockPath command) a step = does_unlock s.revprops halted env c client command (joined client.path command.path) a refl step
-own halted s env c client (GetLock path) a is = quiet a _ is (refl, refl, refl)
-own halted s env c client (GetLocks path) a is = quiet a _ is (refl, refl, refl)
-own halted s env c client (GetFile command) a is = quiet a _ is (refl, refl, refl)
-own halted s env c client (GetDir command) a is = quiet a _ is (refl, refl, refl)
-own halted s env c client (Stat path revision) a is = quiet a _ is (refl, refl, refl)
-own halted s env c client (GetDatedRev date) a is = quiet a _ is (refl, refl, refl)
-own halted s env c client (RevProp n name) a is = quiet a _ is (refl, refl, refl)
 own halted s env c client (ChangeRevProp ask) a step = does_property s.revprops halted env c client ask a step
 own halted s env c client (Reparent url) a is = quiet a _ is (quiet_reparented env client (path_of_text url s.name))
-own halted s env c client (Log command) a is = quiet a _ is (refl, refl, refl)
-own halted s env c client (GetLocations command) a is = quiet a _ is (refl, refl, refl)
-own halted s env c client (Update request) a is = quiet a _ is (refl, refl, refl)
-own halted s env c client (Switch request url) a is = quiet a _ is (refl, refl, refl)
-own halted s env c client (Status request) a is = quiet a _ is (refl, refl, refl)
 
 does_known : (waits halted : Bool) (s : Settings) (env : Env) (c : RepoState) (client : Client) (command : MainCommand) (a : Answer)
-    → KnownCommand waits halted s env c client command a → ByCommand halted s env c client command a
+    → KnownCommand waits s env client command halted c a → ByCommand halted s env c client command a
 does_known true halted s env c client command a is = quiet a _ is (refl, refl, refl)
 does_known false halted s env c client command a step =
-    does_behind (IsAskedBy env client command) s.revprops halted env c (login_request command) (OwnStep halted s env c client command) a (plain_request command)
+    does_behind (IsAskedBy env client command) s.revprops halted env c (login_request command) (OwnStep s env client command) a (plain_request command)
     (own halted s env c client command) step
 
 does_main : (halted : Bool) (s : Settings) (env : Env) (c : RepoState) (client : Client) (t : ItemValue) (r : Result MainCommand CommandFault) (a : Answer)
-    → main_command t ≡ r → MainStep halted s env c client r a → Does (IsAsked env (Serving client) (Whole t)) s.revprops halted env c a
+    → main_command t ≡ r → MainStep s env client r halted c a → Does (IsAsked env (Serving client) (Whole t)) s.revprops halted env c a
 does_main halted s env c client t (Ok command) a named step =
     does_as (IsAskedBy env client command) (IsAsked env (Serving client) (Whole t)) a (λ e one. (command, named, one))
     (does_known (wants_user s client command) halted s env c client command a step)
@@ -379,25 +353,25 @@ does_main halted s env c client t (Err NoMemory) a named is = quiet a _ is (refl
 -- ---- logins
 
 does_logged_in : (halted : Bool) (s : Settings) (env : Env) (c : RepoState) (client : Client) (waiting : Option MainCommand) (a : Answer)
-    → LoggedIn halted s env c client waiting a → Does (IsWaiting env client waiting) s.revprops halted env c a
+    → LoggedIn s env client waiting halted c a → Does (IsWaiting env client waiting) s.revprops halted env c a
 does_logged_in halted s env c client None a is = quiet a _ is (refl, refl, refl)
 does_logged_in halted s env c client (Some command) a step =
     does_as (IsAskedBy env client command) (IsWaiting env client (Some command)) a (λ e one. (command, refl, one))
-    (does_behind (IsAskedBy env client command) s.revprops halted env c (Success ∷ []) (OwnStep halted s env c client command) a (λ r e. cc, tt) (own halted s env c client command) step)
+    (does_behind (IsAskedBy env client command) s.revprops halted env c (Success ∷ []) (OwnStep s env client command) a (λ r e. cc, tt) (own halted s env c client command) step)
 
 does_choice : (halted : Bool) (s : Settings) (env : Env) (c : RepoState) (login : OpenLogin) (mechanism : Option Mechanism) (a : Answer)
-    → ChoiceStep halted s env c login mechanism a → Does (IsWaiting env login.client login.waiting) s.revprops halted env c a
+    → ChoiceStep s env login mechanism halted c a → Does (IsWaiting env login.client login.waiting) s.revprops halted env c a
 does_choice halted s env c login None a is = quiet a _ is (refl, refl, refl)
 does_choice halted s env c login (Some mechanisms.Anonymous) a step = does_logged_in halted s env c login.client login.waiting a step
 does_choice halted s env c login (Some mechanisms.CramMd5) a is = quiet a _ is (refl, refl, refl)
 
 does_login : (halted : Bool) (s : Settings) (env : Env) (c : RepoState) (login : OpenLogin) (r : Result AuthResponse CommandFault) (a : Answer)
-    → LoginStep halted s env c login r a → Does (IsWaiting env login.client login.waiting) s.revprops halted env c a
+    → LoginStep s env login r halted c a → Does (IsWaiting env login.client login.waiting) s.revprops halted env c a
 does_login halted s env c login (Ok r) a step = does_choice halted s env c login (chosen (offer s.users login.waiting) r.mechanism) a step
 does_login halted s env c login (Err fault) a is = quiet a _ is (refl, refl, refl)
 
 does_challenge : (halted : Bool) (s : Settings) (env : Env) (c : RepoState) (pending : OpenChallenge) (t : ItemValue) (text : Option (List ℕ)) (a : Answer)
-    → ChallengeStep halted s env c pending text a → Does (IsAsked env (Challenged pending) (Whole t)) s.revprops halted env c a
+    → ChallengeStep s env pending text halted c a → Does (IsAsked env (Challenged pending) (Whole t)) s.revprops halted env c a
 does_challenge halted s env c pending t None a is = quiet a _ is (refl, refl, refl)
 does_challenge halted s env c pending t (Some text) a (None, whose, is) = quiet a _ is (refl, refl, refl)
 does_challenge halted s env c pending t (Some text) a (Some name, whose, step) =
@@ -487,7 +461,7 @@ does_commit false env c edit t date (Some r) a txn dated judged is = quiet a _ i
 does_commit false env c edit t date None a txn dated judged (v, step) = does_committed env c edit t date v a txn dated judged step
 
 does_close : {may : Bool} (halted : Bool) (env : Env) (c : RepoState) (edit : MachineEdit) (r : Result TxnState Refusal) (a : Answer)
-    → finished edit.editor ≡ r → CloseStep halted env c edit.client edit.asked r a → Does (IsOfEdit env edit) may halted env c a
+    → finished edit.editor ≡ r → CloseStep env edit.client edit.asked r halted c a → Does (IsOfEdit env edit) may halted env c a
 does_close halted env c edit (Ok t) a txn (date, dated, step) =
     does_commit halted env c edit t date (commit_refusal c (commit_ask edit.client edit.asked date) t) a txn dated refl step
 does_close halted env c edit (Err r) a txn is = quiet a _ is (refl, refl, refl)
@@ -507,7 +481,7 @@ closes : {may halted : Bool} (env : Env) (c : RepoState) (edit : MachineEdit) (t
 closes env c edit t a named d = does_as (IsOfEdit env edit) (IsAsked env (Editing edit) (Whole t)) a (λ e one. (named, one)) d
 
 does_command : {may : Bool} (halted : Bool) (env : Env) (c : RepoState) (edit : MachineEdit) (t : ItemValue) (command : EditorCommand) (a : Answer)
-    → editor_command t ≡ Ok command → CommandStep halted env c edit command (ending_of command) a → InEdit may halted env c edit t a
+    → editor_command t ≡ Ok command → CommandStep env edit command (ending_of command) halted c a → InEdit may halted env c edit t a
 does_command halted env c edit t (edits.TargetRevision revision) a named step = does_edit env c edit (edits.TargetRevision revision) _ a step
 does_command halted env c edit t (edits.OpenRoot revision token) a named step = does_edit env c edit (edits.OpenRoot revision token) _ a step
 does_command halted env c edit t (edits.DeleteEntry entry) a named step = does_edit env c edit (edits.DeleteEntry entry) _ a step
@@ -528,7 +502,7 @@ does_command halted env c edit t edits.CloseEdit a named step = closes env c edi
 does_command halted env c edit t edits.AbortEdit a named is = quiet a _ is (refl, refl, refl)
 
 does_editing : {may : Bool} (halted : Bool) (env : Env) (c : RepoState) (edit : MachineEdit) (t : ItemValue) (r : Result EditorCommand CommandFault) (a : Answer)
-    → editor_command t ≡ r → EditingStep halted env c edit r a → InEdit may halted env c edit t a
+    → editor_command t ≡ r → EditingStep env edit r halted c a → InEdit may halted env c edit t a
 does_editing halted env c edit t (Ok command) a named step = does_command halted env c edit t command a named step
 does_editing halted env c edit t (Err UnknownName) a named is = quiet a _ is (refl, refl, refl)
 does_editing halted env c edit t (Err BadParameters) a named is = quiet a _ is (refl, refl, refl)
@@ -536,7 +510,7 @@ does_editing halted env c edit t (Err NoMemory) a named is = quiet a _ is (refl,
 
 -- ---- an input
 
-pub does : (halted : Bool) (s : Settings) (env : Env) (c : RepoState) (phase : Stage) (input : Input) (a : Answer) → InputStep halted s env c phase input a
+pub does : (halted : Bool) (s : Settings) (env : Env) (c : RepoState) (phase : Stage) (input : Input) (a : Answer) → InputStep s env phase input halted c a
     → Does (IsAsked env phase input) s.revprops halted env c a
 does halted s env c Greeted (Whole t) a is = quiet a _ is (quiet_greeting s env (client_greeting t))
 does halted s env c (LoggingIn login) (Whole t) a step = does_login halted s env c login (auth_response t) a step
@@ -557,7 +531,7 @@ does halted s env c (Driven client) Broken a is = quiet a _ is (refl, refl, refl
 does halted s env c Ended input a is = quiet a _ is (refl, refl, refl)
 
 -- a commit whose session is gone before the release
-pub leaves : (halted : Bool) (env : Env) (c : RepoState) (phase : Stage) (input : Input) (a : Answer) → UnreleasedStep halted env c phase input a
+pub leaves : (halted : Bool) (env : Env) (c : RepoState) (phase : Stage) (input : Input) (a : Answer) → UnreleasedStep env phase input halted c a
     → (ask : CommitAsk) × (t : TxnState) × (halted ≡ false) × IsAsked env phase input (Commits ask t) × (commit_refusal c ask t ≡ None) × (wants_release ask (committed c ask t) ≡ true)
     × (a ≡ unreleased_answer env ask t)
 leaves halted env c (Editing edit) (Whole t) a (named, u) =

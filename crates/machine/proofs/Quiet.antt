@@ -25,7 +25,7 @@ use Rattle.machine.specs.declared.login.OpenChallenge.{OpenChallenge}
 use Rattle.wire_forms.specs.declared.fault.CommandFault.{CommandFault}
 use Rattle.wire_forms.specs.declared.fault.CommandFault.TheVariants.{UnknownName, BadParameters, NoMemory}
 use Rattle.commands.specs.declared.command.MainCommand.{MainCommand}
-use Rattle.commands.specs.declared.command.MainCommand.TheVariants.{GetLatestRev, CheckPath, RevProplist, Commit, AbortEdit, Lock, Unlock, GetLock, GetLocks, GetFile, GetDir, Stat, GetDatedRev, RevProp, ChangeRevProp, Reparent, Log, GetLocations, Update, Switch, Status}
+use Rattle.commands.specs.declared.command.MainCommand.TheVariants.{Read, Drive, Commit, AbortEdit, Lock, Unlock, ChangeRevProp, Reparent}
 use Rattle.commands.specs.declared.login.ClientGreeting.{ClientGreeting}
 use Rattle.commands.specs.declared.login.AuthResponse.{AuthResponse}
 use Rattle.wire_replies.specs.declared.reply.Reply.{Reply}
@@ -35,7 +35,7 @@ use Rattle.drive_wire.specs.Reporting.Drawn.{GoesOn, GivenUp, Fails, Drives, Mal
 use Rattle.edit_rules.specs.Edits.{new_edit}
 use Rattle.machine.specs.Settings.{Settings}
 use Rattle.machine.specs.Stages.{Stage}
-use Rattle.machine.specs.Answers.{Verdict, Answer, says, change_answer, ChangeStep, behind, Behind}
+use Rattle.machine.specs.Answers.{Verdict, Answer, Step, says, change_answer, ChangeStep, behind, Behind}
 use Rattle.machine.specs.Commands.{OwnStep, asked_by, lock_tokens, commit_begins, env_without_token, lock_ask, unlock_ask, lock_answer, LockStep, UnlockStep, PropertyStep, reparented, login_request}
 use Rattle.machine.specs.Reports.{drawn_answer, driven_answer}
 use Rattle.machine.specs.Logins.{offer, chosen, wants_user, speaks, url_answer, greeting_answer, LoggedIn, ChoiceStep, LoginStep, with_user, OutcomeStep, ChallengeStep}
@@ -84,9 +84,9 @@ quiet_if : (s : Settings) (b : Bool) (x y : Answer) → IsQuiet s x → IsQuiet 
 quiet_if s true x y p q = p
 quiet_if s false x y p q = q
 
-quiet_behind : (s : Settings) (told : List Reply) (Step : Answer → Type 0) (a : Answer)
-    → ((b : Answer) → Step b → IsQuiet s b) → Behind told Step a → IsQuiet s a
-quiet_behind s told Step a quiet (b, step, is) =
+quiet_behind : (s : Settings) (told : List Reply) (own : Step) (halted : Bool) (c : RepoState) (a : Answer)
+    → ((b : Answer) → own halted c b → IsQuiet s b) → Behind told own halted c a → IsQuiet s a
+quiet_behind s told own halted c a quiet (b, step, is) =
     quiet_is s a (behind told b) is (record { kept = (quiet b step).kept; new = (quiet b step).new })
 
 -- replies after which no edit is open
@@ -146,14 +146,14 @@ quiet_locked s env client ask NotWritten = quiet_change s env client (Locks ask)
 quiet_locked s env client ask (Unknown x) = quiet_change s env client (Locks ask) [] (Unknown x) refl
 
 quiet_lock : (s : Settings) (halted : Bool) (env : Env) (c : RepoState) (client : Client) (command : LockCommand) (path : Result PathValue PathFault) (a : Answer)
-    → LockStep halted env c client command path a → IsQuiet s a
+    → LockStep env client command path halted c a → IsQuiet s a
 quiet_lock s halted env c client command (Ok path) a (date, is_date, step) =
     let ask = lock_ask env client command path date in
     quiet_step s halted env client (lock_refusal c ask) (Locks ask) (lock_answer env client ask) a (quiet_locked s env client ask) step
 quiet_lock s halted env c client command (Err fault) a is = quiet_is s a _ is (plain s env client _)
 
 quiet_unlock : (s : Settings) (halted : Bool) (env : Env) (c : RepoState) (client : Client) (command : UnlockCommand) (path : Result PathValue PathFault) (a : Answer)
-    → UnlockStep halted env c client command path a → IsQuiet s a
+    → UnlockStep env client command path halted c a → IsQuiet s a
 quiet_unlock s halted env c client command (Ok path) a step =
     let ask = unlock_ask client command path in
     quiet_step s halted env client (unlock_refusal c ask) (Unlocks ask) (change_answer env client (Unlocks ask) (replies.Success ∷ [])) a
@@ -161,7 +161,7 @@ quiet_unlock s halted env c client command (Ok path) a step =
 quiet_unlock s halted env c client command (Err fault) a is = quiet_is s a _ is (plain s env client _)
 
 quiet_property : (s : Settings) (may halted : Bool) (env : Env) (c : RepoState) (client : Client) (ask : PropertyAsk) (a : Answer)
-    → PropertyStep may halted env c client ask a → IsQuiet s a
+    → PropertyStep may env client ask halted c a → IsQuiet s a
 quiet_property s false halted env c client ask a is = quiet_is s a _ is (plain s env client _)
 quiet_property s true halted env c client ask a step =
     quiet_step s halted env client (property_refusal c ask) (ChangesProperty ask) (change_answer env client (ChangesProperty ask) (replies.Success ∷ [])) a
@@ -178,39 +178,26 @@ quiet_reparented s env client (Ok path) = record { kept = tt; new = tt }
 quiet_reparented s env client (Err fault) = plain s env client _
 
 quiet_own : (s : Settings) (halted : Bool) (env : Env) (c : RepoState) (client : Client) (command : MainCommand) (a : Answer)
-    → OwnStep halted s env c client command a → IsQuiet s a
-quiet_own s halted env c client GetLatestRev a is = quiet_is s a _ is (plain s env client _)
-quiet_own s halted env c client (CheckPath path revision) a is = quiet_is s a _ is (plain s env client _)
-quiet_own s halted env c client (RevProplist n) a is = quiet_is s a _ is (plain s env client _)
+    → OwnStep s env client command halted c a → IsQuiet s a
+quiet_own s halted env c client (Read command) a is = quiet_is s a _ is (plain s env client _)
+quiet_own s halted env c client (Drive command) a is = quiet_is s a _ is (quiet_drawn s env client (GoesOn _))
 quiet_own s halted env c client (Commit command) a is =
     quiet_is s a _ is (quiet_begins s env client (asked_by command (lock_tokens client.path command.tokens)))
 quiet_own s halted env c client AbortEdit a is = quiet_is s a _ is (plain s env client _)
 quiet_own s halted env c client (Lock command) a step = quiet_lock s halted env c client command (joined client.path command.path) a step
 quiet_own s halted env c client (Unlock command) a step = quiet_unlock s halted env c client command (joined client.path command.path) a step
-quiet_own s halted env c client (GetLock path) a is = quiet_is s a _ is (plain s env client _)
-quiet_own s halted env c client (GetLocks path) a is = quiet_is s a _ is (plain s env client _)
-quiet_own s halted env c client (GetFile command) a is = quiet_is s a _ is (plain s env client _)
-quiet_own s halted env c client (GetDir command) a is = quiet_is s a _ is (plain s env client _)
-quiet_own s halted env c client (Stat path revision) a is = quiet_is s a _ is (plain s env client _)
-quiet_own s halted env c client (GetDatedRev date) a is = quiet_is s a _ is (plain s env client _)
-quiet_own s halted env c client (RevProp n name) a is = quiet_is s a _ is (plain s env client _)
 quiet_own s halted env c client (ChangeRevProp ask) a step = quiet_property s s.revprops halted env c client ask a step
 quiet_own s halted env c client (Reparent url) a is =
     quiet_is s a _ is (quiet_reparented s env client (path_of_text url s.name))
-quiet_own s halted env c client (Log command) a is = quiet_is s a _ is (plain s env client _)
-quiet_own s halted env c client (GetLocations command) a is = quiet_is s a _ is (plain s env client _)
-quiet_own s halted env c client (Update request) a is = quiet_is s a _ is (quiet_drawn s env client (GoesOn _))
-quiet_own s halted env c client (Switch request url) a is = quiet_is s a _ is (quiet_drawn s env client (GoesOn _))
-quiet_own s halted env c client (Status request) a is = quiet_is s a _ is (quiet_drawn s env client (GoesOn _))
 
 quiet_known : (s : Settings) (waits halted : Bool) (env : Env) (c : RepoState) (client : Client) (command : MainCommand) (a : Answer)
-    → KnownCommand waits halted s env c client command a → IsQuiet s a
+    → KnownCommand waits s env client command halted c a → IsQuiet s a
 quiet_known s true halted env c client command a is = quiet_is s a _ is (asking s env _ _)
 quiet_known s false halted env c client command a step =
-    quiet_behind s (login_request command) (OwnStep halted s env c client command) a (quiet_own s halted env c client command) step
+    quiet_behind s (login_request command) (OwnStep s env client command) halted c a (quiet_own s halted env c client command) step
 
 quiet_main : (s : Settings) (halted : Bool) (env : Env) (c : RepoState) (client : Client) (r : Result MainCommand CommandFault) (a : Answer)
-    → MainStep halted s env c client r a → IsQuiet s a
+    → MainStep s env client r halted c a → IsQuiet s a
 quiet_main s halted env c client (Ok command) a step = quiet_known s (wants_user s client command) halted env c client command a step
 quiet_main s halted env c client (Err UnknownName) a is = quiet_is s a _ is (plain s env client _)
 quiet_main s halted env c client (Err BadParameters) a is = quiet_is s a _ is (ending s env _)
@@ -219,29 +206,29 @@ quiet_main s halted env c client (Err NoMemory) a is = quiet_is s a _ is (ending
 -- ---- logins
 
 quiet_logged_in : (s : Settings) (halted : Bool) (env : Env) (c : RepoState) (client : Client) (waiting : Option MainCommand) (a : Answer)
-    → LoggedIn halted s env c client waiting a → IsQuiet s a
+    → LoggedIn s env client waiting halted c a → IsQuiet s a
 quiet_logged_in s halted env c client None a is = quiet_is s a _ is (plain s env client _)
 quiet_logged_in s halted env c client (Some command) a step =
-    quiet_behind s (replies.Success ∷ []) (OwnStep halted s env c client command) a (quiet_own s halted env c client command) step
+    quiet_behind s (replies.Success ∷ []) (OwnStep s env client command) halted c a (quiet_own s halted env c client command) step
 
 quiet_choice : (s : Settings) (halted : Bool) (env : Env) (c : RepoState) (login : OpenLogin) (mechanism : Option Mechanism) (a : Answer)
-    → ChoiceStep halted s env c login mechanism a → IsQuiet s a
+    → ChoiceStep s env login mechanism halted c a → IsQuiet s a
 quiet_choice s halted env c login None a is = quiet_is s a _ is (asking s env login _)
 quiet_choice s halted env c login (Some mechanisms.Anonymous) a step = quiet_logged_in s halted env c login.client login.waiting a step
 quiet_choice s halted env c login (Some mechanisms.CramMd5) a is = quiet_is s a _ is (record { kept = tt; new = tt })
 
 quiet_login : (s : Settings) (halted : Bool) (env : Env) (c : RepoState) (login : OpenLogin) (r : Result AuthResponse CommandFault) (a : Answer)
-    → LoginStep halted s env c login r a → IsQuiet s a
+    → LoginStep s env login r halted c a → IsQuiet s a
 quiet_login s halted env c login (Ok r) a step = quiet_choice s halted env c login (chosen (offer s.users login.waiting) r.mechanism) a step
 quiet_login s halted env c login (Err fault) a is = quiet_is s a _ is (ending s env _)
 
 quiet_outcome : (s : Settings) (halted : Bool) (env : Env) (c : RepoState) (login : OpenLogin) (user : Option (List ℕ)) (a : Answer)
-    → OutcomeStep halted s env c login user a → IsQuiet s a
+    → OutcomeStep s env login user halted c a → IsQuiet s a
 quiet_outcome s halted env c login None a is = quiet_is s a _ is (asking s env login _)
 quiet_outcome s halted env c login (Some name) a step = quiet_logged_in s halted env c (with_user login.client name) login.waiting a step
 
 quiet_challenge : (s : Settings) (halted : Bool) (env : Env) (c : RepoState) (pending : OpenChallenge) (text : Option (List ℕ)) (a : Answer)
-    → ChallengeStep halted s env c pending text a → IsQuiet s a
+    → ChallengeStep s env pending text halted c a → IsQuiet s a
 quiet_challenge s halted env c pending None a is = quiet_is s a _ is (ending s env _)
 quiet_challenge s halted env c pending (Some text) a (user, whose, step) = quiet_outcome s halted env c pending.login user a step
 
@@ -261,7 +248,7 @@ IsEditing phase input = ⊥
 
 -- but for the commands of an edit, an input keeps all revisions
 pub quiet_input : (s : Settings) (halted : Bool) (env : Env) (c : RepoState) (phase : Stage) (input : Input) (a : Answer)
-    → (IsEditing phase input → ⊥) → InputStep halted s env c phase input a → IsQuiet s a
+    → (IsEditing phase input → ⊥) → InputStep s env phase input halted c a → IsQuiet s a
 quiet_input s halted env c Greeted (Whole t) a not is = quiet_is s a _ is (quiet_greeting s env (client_greeting t))
 quiet_input s halted env c (LoggingIn login) (Whole t) a not step = quiet_login s halted env c login (auth_response t) a step
 quiet_input s halted env c (Challenged pending) (Whole t) a not step = quiet_challenge s halted env c pending (challenge_answer t) a step

@@ -24,10 +24,10 @@ use Rattle.machine.specs.Stages.{Stage, EditRests, StandsOn}
 use Rattle.machine.specs.Soundness.{MeetBy}
 use Rattle.machine.specs.Hearing.{Input}
 use Rattle.machine.specs.Hearing.Input.{Whole, Broken}
-use Rattle.machine.specs.Answers.{Verdict, Effect, Answer, content_after}
+use Rattle.machine.specs.Answers.{Verdict, Effect, Answer, Step, content_after}
 use Rattle.machine.specs.Machine.{InputStep, UnreleasedStep, MachineEdit, JudgedEdit, CommitStep, CloseStep, CommandStep, EditingStep, ending_of, commit_ask, release_effect, phase_after, CommittedStep}
 use Rattle.machine.specs.Answers.Verdict.{Written, NotWritten, Unknown}
-use Rattle.machine.specs.Steps.{input_step, unreleased_step, StepAt, StepWritten, StepOrPart, AddsAll, Stores, EffectAt}
+use Rattle.machine.specs.Steps.{StepAt, StepWritten, StepOrPart, AddsAll, Stores, EffectAt}
 use Rattle.machine.specs.declared.commit_parameters.CommitParameters.{CommitParameters}
 use Rattle.machine.specs.declared.env.Env.{Env}
 use Rattle.machine.specs.declared.ending.Ending.{Ending}
@@ -143,19 +143,19 @@ rests_commit false env c client ask t (Some r) a is = rests_is c a _ is tt
 rests_commit false env c client ask t None a (v, step) = rests_committed env c client ask t v a step
 
 rests_close : (halted : Bool) (env : Env) (c : RepoState) (client : Client) (asked : CommitParameters) (r : Result TxnState Refusal) (a : Answer)
-    → CloseStep halted env c client asked r a → EditRests a.phase c
+    → CloseStep env client asked r halted c a → EditRests a.phase c
 rests_close halted env c client asked (Ok t) a (date, is_date, step) =
     rests_commit halted env c client (commit_ask client asked date) t (commit_refusal c (commit_ask client asked date) t) a step
 rests_close halted env c client asked (Err r) a is = rests_is c a _ is tt
 
 rests_told : (halted : Bool) (env : Env) (c : RepoState) (edit : MachineEdit) (command : EditorCommand) (ending : Option Ending) (a : Answer)
-    → RestsOn edit.editor c → CommandStep halted env c edit command ending a → EditRests a.phase c
+    → RestsOn edit.editor c → CommandStep env edit command ending halted c a → EditRests a.phase c
 rests_told halted env c edit command None a rests step = rests_edits env c edit command (edit_refusal c edit.editor command) a rests step
 rests_told halted env c edit command (Some ToCommit) a rests step = rests_close halted env c edit.client edit.asked (finished edit.editor) a step
 rests_told halted env c edit command (Some GivesUp) a rests is = rests_is c a _ is tt
 
 rests_editing : (halted : Bool) (env : Env) (c : RepoState) (edit : MachineEdit) (r : Result EditorCommand CommandFault) (a : Answer)
-    → RestsOn edit.editor c → EditingStep halted env c edit r a → EditRests a.phase c
+    → RestsOn edit.editor c → EditingStep env edit r halted c a → EditRests a.phase c
 rests_editing halted env c edit (Ok command) a rests step = rests_told halted env c edit command (ending_of command) a rests step
 rests_editing halted env c edit (Err UnknownName) a rests is = rests_is c a _ is tt
 rests_editing halted env c edit (Err BadParameters) a rests is = rests_is c a _ is tt
@@ -166,7 +166,7 @@ rests_editing halted env c edit (Err NoMemory) a rests is = rests_is c a _ is tt
 rests_quiet : (s : Settings) (c : RepoState) (a : Answer) → IsQuiet s a → EditRests a.phase c
 rests_quiet s c a quiet = rests_new s a.phase c quiet.new
 
-rests_step : (halted : Bool) (s : Settings) (env : Env) (c : RepoState) (phase : Stage) (input : Input) (a : Answer) → EditRests phase c → InputStep halted s env c phase input a → EditRests a.phase c
+rests_step : (halted : Bool) (s : Settings) (env : Env) (c : RepoState) (phase : Stage) (input : Input) (a : Answer) → EditRests phase c → InputStep s env phase input halted c a → EditRests a.phase c
 rests_step halted s env c Greeted (Whole t) a rests step = rests_quiet s c a (quiet_input s halted env c Greeted (Whole t) a (λ h. h) step)
 rests_step halted s env c (LoggingIn login) (Whole t) a rests step = rests_quiet s c a (quiet_input s halted env c (LoggingIn login) (Whole t) a (λ h. h) step)
 rests_step halted s env c (Challenged pending) (Whole t) a rests step = rests_quiet s c a (quiet_input s halted env c (Challenged pending) (Whole t) a (λ h. h) step)
@@ -196,7 +196,7 @@ changes_keep : (c : RepoState) (es : List Accepted) → IsBeginning c.revisions 
 changes_keep c [] = begins c.revisions
 changes_keep c (e ∷ es) = beginning_trans c.revisions (changed c e).revisions (changed_all (changed c e) es).revisions (change_keeps c e) (changes_keep (changed c e) es)
 
-pub rests_on : (halted : Bool) (s : Settings) (env : Env) (c : RepoState) (phase : Stage) (input : Input) (a : Answer) → EditRests phase c → InputStep halted s env c phase input a → EditRests a.phase (content_after c a.effect)
+pub rests_on : (halted : Bool) (s : Settings) (env : Env) (c : RepoState) (phase : Stage) (input : Input) (a : Answer) → EditRests phase c → InputStep s env phase input halted c a → EditRests a.phase (content_after c a.effect)
 rests_on halted s env c phase input a rests step = rests_trans a.phase c (content_after c a.effect) (rests_step halted s env c phase input a rests step) (changes_keep c a.effect.changes)
 
 module _ (rules : AccessRules)
@@ -224,36 +224,36 @@ module _ (rules : AccessRules)
     }
 
     -- after a step that keeps what a session stands on
-    stands_after : (step : Point → Answer → Type 0) (p q : Point) (phase : Stage) (a : Answer)
-        → ((at : Point) → StandsOn phase (content_of at) → step at a → StandsOn a.phase (content_after (content_of at) a.effect))
+    stands_after : (step : Step) (p q : Point) (phase : Stage) (a : Answer)
+        → ((at : Point) → StandsOn phase (content_of at) → step at.halted (content_of at) a → StandsOn a.phase (content_after (content_of at) a.effect))
         → StepAt rules step p a q → StandsOn phase (content_of p) → StandsOn a.phase (content_of q)
     stands_after step p q phase a keeps_it h rests =
         let here = keeps_it h.at (rests_later phase p h.at h.later rests) h.step_is in
         subst (λ (c : RepoState). StandsOn a.phase c) (sym (moved h.at a.effect q h.moves)) here
 
     module _ (step_keeps : (halted : Bool) (s : Settings) (env : Env) (c : RepoState) (phase : Stage) (input : Input) (a : Answer)
-        → StandsOn phase c → InputStep halted s env c phase input a → StandsOn a.phase (content_after c a.effect) × MeetBy c a.effect.changes) where
+        → StandsOn phase c → InputStep s env phase input halted c a → StandsOn a.phase (content_after c a.effect) × MeetBy c a.effect.changes) where
       rests_after : (s : Settings) (env : Env) (p q : Point) (phase : Stage) (input : Input) (a : Answer)
-          → StepAt rules (input_step s env phase input) p a q → StandsOn phase (content_of p) → StandsOn a.phase (content_of q)
+          → StepAt rules (InputStep s env phase input) p a q → StandsOn phase (content_of p) → StandsOn a.phase (content_of q)
       rests_after s env p q phase input a =
-          stands_after (input_step s env phase input) p q phase a
+          stands_after (InputStep s env phase input) p q phase a
           (λ at h is. (step_keeps at.halted s env (content_of at) phase input a h is).0)
 
       pub rests_served : (s : Settings) (env env' : Env) (p q : Point) (phase after : Stage) (input : Input) (writes : List ℕ → Type 0)
-          → StepWritten rules (input_step s env phase input) p q after env' writes → StandsOn phase (content_of p) → StandsOn after (content_of q)
+          → StepWritten rules (InputStep s env phase input) p q after env' writes → StandsOn phase (content_of p) → StandsOn after (content_of q)
       rests_served s env env' p q phase after input writes h rests =
           subst (λ (x : Stage). StandsOn x (content_of q)) (sym h.phase_after) (rests_after s env p q phase input h.answer h.happens rests)
 
       -- for want of memory the session has ended, and the repository is sound
       pub trees_failed : ((halted : Bool) (env : Env) (c : RepoState) (phase : Stage) (input : Input) (a : Answer)
-          → StandsOn phase c → UnreleasedStep halted env c phase input a → StandsOn a.phase (content_after c a.effect) × MeetBy c a.effect.changes)
+          → StandsOn phase c → UnreleasedStep env phase input halted c a → StandsOn a.phase (content_after c a.effect) × MeetBy c a.effect.changes)
           → (s : Settings) (env : Env) (p q : Point) (phase : Stage) (input : Input) (writes : List ℕ → Type 0)
-          → StepOrPart rules (input_step s env phase input) (unreleased_step env phase input) p q writes
+          → StepOrPart rules (InputStep s env phase input) (UnreleasedStep env phase input) p q writes
           → StandsOn phase (content_of p) → AreSound (content_of q).revisions
       trees_failed part_keeps s env p q phase input writes (inl (inl (later, unwritten))) rests = sound p q later rests.trees
       trees_failed part_keeps s env p q phase input writes (inl (inr (a, serves, part))) rests = (rests_after s env p q phase input a serves rests).trees
       trees_failed part_keeps s env p q phase input writes (inr (a, happens, unwritten)) rests =
-          (stands_after (unreleased_step env phase input) p q phase a
+          (stands_after (UnreleasedStep env phase input) p q phase a
           (λ at h is. (part_keeps at.halted env (content_of at) phase input a h is).0) happens rests).trees
 
 pub edit_rests_later : (rules : AccessRules) → ((p q : Point) → rules.between p q → IsBeginning (content_of p).revisions (content_of q).revisions)

@@ -173,7 +173,7 @@ module _ (begins : (path : PathValue) (name : List ℕ) → IsSoundEdit (new_edi
       meets c ask t trees.1 (youngest_tree c t trees.0 b s.2) b s.2 s.0 accepted
 
   leaves_close : (halted : Bool) (env : Env) (c : RepoState) (client : Client) (asked : CommitParameters) (edit : EditState) (r : Result TxnState Refusal) (a : Answer)
-      → AreSound c.revisions → RestsOn edit c → IsSoundEdit edit → finished edit ≡ r → CloseStep halted env c client asked r a → LeavesTrees c a
+      → AreSound c.revisions → RestsOn edit c → IsSoundEdit edit → finished edit ≡ r → CloseStep env client asked r halted c a → LeavesTrees c a
   leaves_close halted env c client asked edit (Ok t) a trees rests sound is (date, is_date, step) =
       let ask = commit_ask client asked date in
       leaves_commit halted env c client ask t (commit_refusal c ask t) a trees (ends_well c edit ask t trees rests sound is) step
@@ -181,7 +181,7 @@ module _ (begins : (path : PathValue) (name : List ℕ) → IsSoundEdit (new_edi
 
   -- a commit whose session is gone before the release
   leaves_unreleased : (halted : Bool) (env : Env) (c : RepoState) (client : Client) (asked : CommitParameters) (edit : EditState) (a : Answer)
-      → AreSound c.revisions → RestsOn edit c → IsSoundEdit edit → UnreleasedClose halted env c client asked (finished edit) a → LeavesTrees c a
+      → AreSound c.revisions → RestsOn edit c → IsSoundEdit edit → UnreleasedClose env client asked (finished edit) halted c a → LeavesTrees c a
   leaves_unreleased halted env c client asked edit a trees rests sound u =
       let ask = commit_ask client asked u.date in
       let w = ends_well c edit ask u.txn trees rests sound u.txn_is u.accepted in
@@ -189,20 +189,20 @@ module _ (begins : (path : PathValue) (name : List ℕ) → IsSoundEdit (new_edi
       ((trees_more c.revisions _ trees.0 (makes_tree c u.txn w), makes_marks c ask u.txn w), tt, (w, tt))
 
   leaves_told : (halted : Bool) (env : Env) (c : RepoState) (edit : MachineEdit) (command : EditorCommand) (ending : Option Ending) (a : Answer)
-      → AreSound c.revisions → RestsOn edit.editor c → IsSoundEdit edit.editor → CommandStep halted env c edit command ending a → LeavesTrees c a
+      → AreSound c.revisions → RestsOn edit.editor c → IsSoundEdit edit.editor → CommandStep env edit command ending halted c a → LeavesTrees c a
   leaves_told halted env c edit command None a trees rests sound step = leaves_edits env c edit command (edit_refusal c edit.editor command) a trees rests sound refl step
   leaves_told halted env c edit command (Some ToCommit) a trees rests sound step = leaves_close halted env c edit.client edit.asked edit.editor (finished edit.editor) a trees rests sound refl step
   leaves_told halted env c edit command (Some GivesUp) a trees rests sound is = leaves_is c a _ is (trees, tt, tt)
 
   leaves_editing : (halted : Bool) (env : Env) (c : RepoState) (edit : MachineEdit) (r : Result EditorCommand CommandFault) (a : Answer)
-      → AreSound c.revisions → RestsOn edit.editor c → IsSoundEdit edit.editor → EditingStep halted env c edit r a → LeavesTrees c a
+      → AreSound c.revisions → RestsOn edit.editor c → IsSoundEdit edit.editor → EditingStep env edit r halted c a → LeavesTrees c a
   leaves_editing halted env c edit (Ok command) a trees rests sound step = leaves_told halted env c edit command (ending_of command) a trees rests sound step
   leaves_editing halted env c edit (Err UnknownName) a trees rests sound is = leaves_is c a _ is (trees, tt, tt)
   leaves_editing halted env c edit (Err BadParameters) a trees rests sound is = leaves_is c a _ is (trees, tt, tt)
   leaves_editing halted env c edit (Err NoMemory) a trees rests sound is = leaves_is c a _ is (trees, tt, tt)
 
   leaves_trees : (halted : Bool) (s : Settings) (env : Env) (c : RepoState) (phase : Stage) (input : Input) (a : Answer)
-      → AreSound c.revisions → EditRests phase c → EditIsSound phase → InputStep halted s env c phase input a → LeavesTrees c a
+      → AreSound c.revisions → EditRests phase c → EditIsSound phase → InputStep s env phase input halted c a → LeavesTrees c a
   leaves_trees halted s env c Greeted (Whole t) a trees rests sound step = leaves_quiet c s a trees (quiet_input s halted env c Greeted (Whole t) a (λ h. h) step)
   leaves_trees halted s env c (LoggingIn login) (Whole t) a trees rests sound step = leaves_quiet c s a trees (quiet_input s halted env c (LoggingIn login) (Whole t) a (λ h. h) step)
   leaves_trees halted s env c (Challenged pending) (Whole t) a trees rests sound step = leaves_quiet c s a trees (quiet_input s halted env c (Challenged pending) (Whole t) a (λ h. h) step)
@@ -222,14 +222,14 @@ module _ (begins : (path : PathValue) (name : List ℕ) → IsSoundEdit (new_edi
   leaves_trees halted s env c Ended input a trees rests sound is = leaves_is c a _ is (trees, tt, tt)
 
   pub keeps_rests : (halted : Bool) (s : Settings) (env : Env) (c : RepoState) (phase : Stage) (input : Input) (a : Answer)
-      → StandsOn phase c → InputStep halted s env c phase input a
+      → StandsOn phase c → InputStep s env phase input halted c a
       → StandsOn a.phase (content_after c a.effect) × MeetBy c a.effect.changes
   keeps_rests halted s env c phase input a h step =
       let kept = leaves_trees halted s env c phase input a h.trees h.rests h.sound step in
       (record { trees = kept.0; rests = rests_on halted s env c phase input a h.rests step; sound = kept.1 }, kept.2)
 
   pub keeps_unreleased : (halted : Bool) (env : Env) (c : RepoState) (phase : Stage) (input : Input) (a : Answer)
-      → StandsOn phase c → UnreleasedStep halted env c phase input a
+      → StandsOn phase c → UnreleasedStep env phase input halted c a
       → StandsOn a.phase (content_after c a.effect) × MeetBy c a.effect.changes
   keeps_unreleased halted env c (Editing edit) (Whole t) a h (ends, step) =
       let kept = leaves_unreleased halted env c edit.client edit.asked edit.editor a h.trees h.rests h.sound step in

@@ -65,6 +65,19 @@ pub record Answer : Type 0 where
   pub env : Env
   pub effect : Effect
 
+-- what an input may be answered, where changes have come to a halt or not, by what the repository
+-- contains (a relation where the program or the store may choose)
+abbrev pub Step : Type 1
+Step = Bool → RepoState → Answer → Type 0
+
+-- this answer
+abbrev pub Always : Answer → Step
+Always answer halted c a = a ≡ answer
+
+-- an answer that what the repository contains decides
+abbrev pub Shows : (RepoState → Answer) → Step
+Shows answer halted c a = a ≡ answer c
+
 -- replies that change nothing
 abbrev pub says : Env → Stage → List Reply → Answer
 says env phase told = record { replies = told; phase = phase; env = env; effect = no_effect }
@@ -125,5 +138,5 @@ abbrev pub behind : List Reply → Answer → Answer
 behind told a = record a { replies = told ++ a.replies }
 
 -- a step whose answer comes behind other replies
-abbrev pub Behind : List Reply → (Answer → Type 0) → Answer → Type 0
-Behind told Step a = (b : Answer) × Step b × (a ≡ behind told b)
+abbrev pub Behind : List Reply → Step → Step
+Behind told step halted c a = (b : Answer) × step halted c b × (a ≡ behind told b)

@@ -21,25 +21,30 @@ use Rattle.repo_api.specs.declared.lock_ask.UnlockAsk.{UnlockAsk}
 use Rattle.repo_api.specs.declared.property_ask.PropertyAsk.{PropertyAsk}
 use Rattle.dates.specs.Dates.{IsDateText}
 use Rattle.commands.specs.declared.command.CommitCommand.{CommitCommand}
+use Rattle.commands.specs.declared.command.DriveCommand.{DriveCommand}
+use Rattle.commands.specs.declared.command.DriveCommand.TheVariants.{Update, Switch, Status}
 use Rattle.commands.specs.declared.command.MainCommand.{MainCommand}
-use Rattle.commands.specs.declared.command.MainCommand.TheVariants.{GetLatestRev, CheckPath, RevProplist, Commit, AbortEdit, Lock, Unlock, GetLock, GetLocks, GetFile, GetDir, Stat, GetDatedRev, RevProp, ChangeRevProp, Reparent, Log, GetLocations, Update, Switch, Status}
+use Rattle.commands.specs.declared.command.MainCommand.TheVariants.{Read, Drive, Commit, AbortEdit, Lock, Unlock, ChangeRevProp, Reparent}
+use Rattle.commands.specs.declared.command.ReadCommand.{ReadCommand}
+use Rattle.commands.specs.declared.command.ReadCommand.TheVariants.{GetLatestRev, CheckPath, RevProplist, GetLock, GetLocks, GetFile, GetDir, Stat, GetDatedRev, RevProp, Log, GetLocations}
 use Rattle.commands.specs.declared.command.LockCommand.{LockCommand}
 use Rattle.commands.specs.declared.command.UnlockCommand.{UnlockCommand}
 use Rattle.wire_replies.specs.Replies.{uuid_text}
 use Rattle.wire_replies.specs.declared.reply.Reply.{Reply}
 use Rattle.wire_replies.specs.declared.reply.Reply.TheVariants as replies
+use Rattle.drive_reports.specs.Refusing.{ask_of, begun_report}
+use Rattle.drive_reports.specs.declared.ask.DriveAsk.{DriveAsk}
 use Rattle.drive_reports.specs.declared.ask.Purpose.TheVariants as purposes
 use Rattle.edit_rules.specs.Edits.{new_edit}
 use Rattle.repo_api.specs.Judging.{is_property_name}
 use Rattle.machine.specs.Settings.{Settings}
-use Rattle.machine.specs.Answers.{Verdict, Answer, says, serves, change_answer, ChangeStep}
+use Rattle.machine.specs.Answers.{Verdict, Answer, Step, says, serves, change_answer, ChangeStep, Always, Shows}
 use Rattle.machine.specs.Answers.Verdict.{Written, NotWritten, Unknown}
 use Rattle.machine.specs.Histories.{all_joined, log_replies, locations_replies}
 use Rattle.machine.specs.Readings.{place_read, file_replies, directory_reply, stat_reply, dated_reply, property_reply}
-use Rattle.machine.specs.Reports.{report_begins}
 use Rattle.machine.specs.declared.env.Env.{Env}
 use Rattle.machine.specs.declared.commit_parameters.CommitParameters.{CommitParameters}
-use Rattle.machine.specs.declared.phase.Phase.TheVariants.{Serving, Editing}
+use Rattle.machine.specs.declared.phase.Phase.TheVariants.{Serving, Editing, Reporting}
 use Rattle.machine.specs.declared.phase.Client.{Client}
 
 -- paths with the tokens of the locks that stand there
@@ -61,6 +66,54 @@ check_path_reply c revision (Err fault) = replies.Failure (path_refusal fault)
 
 abbrev pub rev_proplist_reply : RepoState → ℕ → Reply
 rev_proplist_reply c n = at_revision c (Some n) (λ m. replies.Properties (properties_at c m))
+
+-- the lock at a path, if there is one; those at the path and under it
+abbrev pub lock_at : RepoState → PathValue → LockList
+lock_at c path = option_to_list (option_map (λ l. (path, l)) (get c.locks path))
+
+abbrev pub locks_reply : (PathValue → LockList) → Result PathValue PathFault → Reply
+locks_reply found (Ok path) = replies.Locks (found path)
+locks_reply found (Err fault) = replies.Failure (path_refusal fault)
+
+-- what is told where the repository is read, as it is seen from the path of the client's URL
+abbrev pub read_replies : PathValue → ReadCommand → RepoState → List Reply
+read_replies base GetLatestRev c = replies.Revision (youngest c) ∷ []
+read_replies base (CheckPath path revision) c =
+    check_path_reply c revision (joined base path) ∷ []
+read_replies base (RevProplist n) c = rev_proplist_reply c n ∷ []
+read_replies base (GetLock path) c = locks_reply (lock_at c) (joined base path) ∷ []
+read_replies base (GetLocks path) c = locks_reply (at_or_under c.locks) (joined base path) ∷ []
+read_replies base (GetFile command) c =
+    file_replies c command (place_read c command.revision (joined base command.path))
+read_replies base (GetDir command) c =
+    directory_reply c command (place_read c command.revision (joined base command.path)) ∷ []
+read_replies base (Stat path revision) c =
+    stat_reply c (place_read c revision (joined base path)) ∷ []
+read_replies base (GetDatedRev date) c = dated_reply c date ∷ []
+read_replies base (RevProp n name) c = property_reply c n name ∷ []
+read_replies base (Log command) c = log_replies c command (all_joined base command.paths)
+read_replies base (GetLocations command) c =
+    locations_replies c command (joined base command.path)
+
+-- it is told, and the next command is awaited
+abbrev pub read_answer : Env → Client → ReadCommand → RepoState → Answer
+read_answer env client command c = says env (Serving client) (read_replies client.path command c)
+
+-- ---- the beginning of a report
+
+-- what a command asks a report for, or why it is refused
+abbrev pub drive_ask : RepoState → List ℕ → PathValue → DriveCommand → Result DriveAsk Refusal
+drive_ask c name path (Update request) = ask_of c name path purposes.Update request None
+drive_ask c name path (Switch request url) =
+    ask_of c name path purposes.Switch request (Some url)
+drive_ask c name path (Status request) = ask_of c name path purposes.Status request None
+
+-- a report begins, with its refusal if there is one
+abbrev pub drive_begins : Settings → Env → Client → DriveCommand → RepoState → Answer
+drive_begins s env client command c =
+    says env
+    (Reporting (record { client = client; report = begun_report (drive_ask c s.name client.path command) }))
+    []
 
 -- ---- the beginning of a commit
 
@@ -101,14 +154,6 @@ commit_begins s env client (Err r) = serves env client (replies.Failure r)
 
 -- ---- locks
 
--- the lock at a path, if there is one; those at the path and under it
-abbrev pub lock_at : RepoState → PathValue → LockList
-lock_at c path = option_to_list (option_map (λ l. (path, l)) (get c.locks path))
-
-abbrev pub locks_reply : (PathValue → LockList) → Result PathValue PathFault → Reply
-locks_reply found (Ok path) = replies.Locks (found path)
-locks_reply found (Err fault) = replies.Failure (path_refusal fault)
-
 -- `opaquelocktoken:` and the text of a word
 abbrev pub token_text : ℕ → List ℕ
 token_text word = codes "opaquelocktoken:" ++ uuid_text word
@@ -145,37 +190,35 @@ lock_answer env client ask Written =
 lock_answer env client ask NotWritten = change_answer env client (Locks ask) [] NotWritten
 lock_answer env client ask (Unknown x) = change_answer env client (Locks ask) [] (Unknown x)
 
-abbrev pub LockStep : Bool → Env → RepoState → Client → LockCommand → Result PathValue PathFault
-    → Answer → Type 0
-LockStep halted env c client command (Ok path) a = (date : List ℕ) × IsDateText env.moment date
+abbrev pub LockStep : Env → Client → LockCommand → Result PathValue PathFault → Step
+LockStep env client command (Ok path) halted c a = (date : List ℕ) × IsDateText env.moment date
     × (let ask = lock_ask env client command path date in
     ChangeStep halted env client (lock_refusal c ask) (Locks ask) (lock_answer env client ask) a)
-LockStep halted env c client command (Err fault) a =
+LockStep env client command (Err fault) halted c a =
     a ≡ serves env client (replies.Failure (path_refusal fault))
 
-abbrev pub UnlockStep : Bool → Env → RepoState → Client → UnlockCommand
-    → Result PathValue PathFault → Answer → Type 0
-UnlockStep halted env c client command (Ok path) a =
+abbrev pub UnlockStep : Env → Client → UnlockCommand → Result PathValue PathFault → Step
+UnlockStep env client command (Ok path) halted c a =
     let ask = unlock_ask client command path in
     ChangeStep halted env client (unlock_refusal c ask) (Unlocks ask)
     (change_answer env client (Unlocks ask) (replies.Success ∷ [])) a
-UnlockStep halted env c client command (Err fault) a =
+UnlockStep env client command (Err fault) halted c a =
     a ≡ serves env client (replies.Failure (path_refusal fault))
 
 -- ---- properties of revisions
 
 -- a property of a revision is changed: the value takes the place of the one before, and without a
 -- value there is none; the value before has to be the one that the client asks for, if it does
-abbrev pub RevisingStep : Bool → Env → RepoState → Client → PropertyAsk → Answer → Type 0
-RevisingStep halted env c client ask a =
+abbrev pub RevisingStep : Env → Client → PropertyAsk → Step
+RevisingStep env client ask halted c a =
     ChangeStep halted env client (property_refusal c ask) (ChangesProperty ask)
     (change_answer env client (ChangesProperty ask) (replies.Success ∷ [])) a
 
 -- where clients may not change them it is refused, whatever else would be said of it
-abbrev pub PropertyStep : Bool → Bool → Env → RepoState → Client → PropertyAsk → Answer → Type 0
-PropertyStep false halted env c client ask a =
-    a ≡ serves env client (replies.Failure refusals.RevisionPropertiesClosed)
-PropertyStep true halted env c client ask a = RevisingStep halted env c client ask a
+abbrev pub PropertyStep : Bool → Env → Client → PropertyAsk → Step
+PropertyStep false env client ask =
+    Always (serves env client (replies.Failure refusals.RevisionPropertiesClosed))
+PropertyStep true env client ask = RevisingStep env client ask
 
 -- ---- another URL
 
@@ -191,92 +234,38 @@ reparented env client (Err fault) = serves env client (replies.Failure (path_ref
 -- ---- a command, and what comes before it
 
 -- what a command is answered, once nothing has to come before
-abbrev pub OwnStep : Bool → Settings → Env → RepoState → Client → MainCommand → Answer → Type 0
-OwnStep halted s env c client GetLatestRev a =
-    a ≡ serves env client (replies.Revision (youngest c))
-OwnStep halted s env c client (CheckPath path revision) a =
-    a ≡ serves env client (check_path_reply c revision (joined client.path path))
-OwnStep halted s env c client (RevProplist n) a = a ≡ serves env client (rev_proplist_reply c n)
-OwnStep halted s env c client (Commit command) a =
-    a ≡ commit_begins s env client (asked_by command (lock_tokens client.path command.tokens))
-OwnStep halted s env c client AbortEdit a = a ≡ says env (Serving client) []
-OwnStep halted s env c client (Lock command) a =
-    LockStep halted env c client command (joined client.path command.path) a
-OwnStep halted s env c client (Unlock command) a =
-    UnlockStep halted env c client command (joined client.path command.path) a
-OwnStep halted s env c client (GetLock path) a =
-    a ≡ serves env client (locks_reply (lock_at c) (joined client.path path))
-OwnStep halted s env c client (GetLocks path) a =
-    a ≡ serves env client (locks_reply (at_or_under c.locks) (joined client.path path))
-OwnStep halted s env c client (GetFile command) a =
-    a ≡ says env (Serving client)
-    (file_replies c command (place_read c command.revision (joined client.path command.path)))
-OwnStep halted s env c client (GetDir command) a =
-    a ≡ serves env client
-    (directory_reply c command (place_read c command.revision (joined client.path command.path)))
-OwnStep halted s env c client (Stat path revision) a =
-    a ≡ serves env client (stat_reply c (place_read c revision (joined client.path path)))
-OwnStep halted s env c client (GetDatedRev date) a = a ≡ serves env client (dated_reply c date)
-OwnStep halted s env c client (RevProp n name) a = a ≡ serves env client (property_reply c n name)
-OwnStep halted s env c client (ChangeRevProp ask) a =
-    PropertyStep s.revprops halted env c client ask a
-OwnStep halted s env c client (Reparent url) a = a ≡ reparented env client (path_of_text url s.name)
-OwnStep halted s env c client (Log command) a =
-    a ≡ says env (Serving client) (log_replies c command (all_joined client.path command.paths))
-OwnStep halted s env c client (GetLocations command) a =
-    a ≡ says env (Serving client) (locations_replies c command (joined client.path command.path))
-OwnStep halted s env c client (Update request) a =
-    a ≡ report_begins s env c client purposes.Update request None
-OwnStep halted s env c client (Switch request url) a =
-    a ≡ report_begins s env c client purposes.Switch request (Some url)
-OwnStep halted s env c client (Status request) a =
-    a ≡ report_begins s env c client purposes.Status request None
+abbrev pub OwnStep : Settings → Env → Client → MainCommand → Step
+OwnStep s env client (Read command) = Shows (read_answer env client command)
+OwnStep s env client (Drive command) = Shows (drive_begins s env client command)
+OwnStep s env client (Commit command) =
+    Always (commit_begins s env client
+    (asked_by command (lock_tokens client.path command.tokens)))
+OwnStep s env client AbortEdit = Always (says env (Serving client) [])
+OwnStep s env client (Lock command) = LockStep env client command (joined client.path command.path)
+OwnStep s env client (Unlock command) =
+    UnlockStep env client command (joined client.path command.path)
+OwnStep s env client (ChangeRevProp ask) = PropertyStep s.revprops env client ask
+OwnStep s env client (Reparent url) = Always (reparented env client (path_of_text url s.name))
 
 -- what is told before it: a login request, which asks for nothing; an edit that is given up outside
 -- one draws no reply
 abbrev pub login_request : MainCommand → List Reply
-login_request GetLatestRev = replies.NoLogin ∷ []
-login_request (CheckPath path revision) = replies.NoLogin ∷ []
-login_request (RevProplist n) = replies.NoLogin ∷ []
+login_request (Read command) = replies.NoLogin ∷ []
+login_request (Drive command) = replies.NoLogin ∷ []
 login_request (Commit command) = replies.NoLogin ∷ []
 login_request AbortEdit = []
 login_request (Lock command) = replies.NoLogin ∷ []
 login_request (Unlock command) = replies.NoLogin ∷ []
-login_request (GetLock path) = replies.NoLogin ∷ []
-login_request (GetLocks path) = replies.NoLogin ∷ []
-login_request (GetFile command) = replies.NoLogin ∷ []
-login_request (GetDir command) = replies.NoLogin ∷ []
-login_request (Stat path revision) = replies.NoLogin ∷ []
-login_request (GetDatedRev date) = replies.NoLogin ∷ []
-login_request (RevProp n name) = replies.NoLogin ∷ []
 login_request (ChangeRevProp ask) = replies.NoLogin ∷ []
 login_request (Reparent url) = replies.NoLogin ∷ []
-login_request (Log command) = replies.NoLogin ∷ []
-login_request (GetLocations command) = replies.NoLogin ∷ []
-login_request (Update request) = replies.NoLogin ∷ []
-login_request (Switch request url) = replies.NoLogin ∷ []
-login_request (Status request) = replies.NoLogin ∷ []
 
 -- whether a command writes
 abbrev pub is_write : MainCommand → Bool
-is_write GetLatestRev = false
-is_write (CheckPath path revision) = false
-is_write (RevProplist n) = false
+is_write (Read command) = false
+is_write (Drive command) = false
 is_write (Commit command) = true
 is_write AbortEdit = false
 is_write (Lock command) = true
 is_write (Unlock command) = true
-is_write (GetLock path) = false
-is_write (GetLocks path) = false
-is_write (GetFile command) = false
-is_write (GetDir command) = false
-is_write (Stat path revision) = false
-is_write (GetDatedRev date) = false
-is_write (RevProp n name) = false
 is_write (ChangeRevProp ask) = true
 is_write (Reparent url) = false
-is_write (Log command) = false
-is_write (GetLocations command) = false
-is_write (Update request) = false
-is_write (Switch request url) = false
-is_write (Status request) = false

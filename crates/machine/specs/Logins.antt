@@ -7,7 +7,6 @@ use Rattle.svnpath.specs.declared.fault.PathFault.{PathFault}
 use Rattle.refusals.specs.Refusing.{path_refusal}
 use Rattle.cram.specs.Login.{Login}
 use Rattle.cram.specs.Answer.{challenge_text, IsAnswerOf}
-use Rattle.repo_api.specs.States.{RepoState}
 use Rattle.wire_forms.specs.Forms.{is_name}
 use Rattle.wire_forms.specs.declared.fault.CommandFault.{CommandFault}
 use Rattle.commands.specs.declared.command.MainCommand.{MainCommand}
@@ -17,7 +16,7 @@ use Rattle.wire_replies.specs.declared.reply.Offer.{Offer}
 use Rattle.wire_replies.specs.declared.reply.Offer.TheVariants.{Anonymous, AnonymousOrUser, User}
 use Rattle.wire_replies.specs.declared.reply.Reply.TheVariants as replies
 use Rattle.machine.specs.Settings.{Settings}
-use Rattle.machine.specs.Answers.{Answer, says, Behind, malformed}
+use Rattle.machine.specs.Answers.{Answer, Step, says, Behind, malformed, Always, Shows}
 use Rattle.machine.specs.Commands.{is_write, OwnStep}
 use Rattle.machine.specs.declared.env.Env.{Env}
 use Rattle.machine.specs.declared.login.Mechanism.{Mechanism}
@@ -86,12 +85,11 @@ greeting_answer s env (Err fault) = malformed env
 -- ---- a mechanism is chosen
 
 -- the client is told of the repository, or the command that waited goes on
-abbrev pub LoggedIn : Bool → Settings → Env → RepoState → Client → Option MainCommand → Answer
-    → Type 0
-LoggedIn halted s env c client None a =
-    a ≡ says env (Serving client) (replies.Success ∷ replies.ReposInfo c.uuid client.root ∷ [])
-LoggedIn halted s env c client (Some command) a =
-    Behind (replies.Success ∷ []) (OwnStep halted s env c client command) a
+abbrev pub LoggedIn : Settings → Env → Client → Option MainCommand → Step
+LoggedIn s env client None =
+    Shows (λ c. says env (Serving client)
+    (replies.Success ∷ replies.ReposInfo c.uuid client.root ∷ []))
+LoggedIn s env client (Some command) = Behind (replies.Success ∷ []) (OwnStep s env client command)
 
 abbrev pub challenge_of : Settings → Env → List ℕ
 challenge_of s env = challenge_text env.nonce env.moment s.name
@@ -107,19 +105,16 @@ challenges s env login =
     (replies.Challenge (challenge_of s env) ∷ [])
 
 -- after a mechanism that is not offered another choice is awaited
-abbrev pub ChoiceStep : Bool → Settings → Env → RepoState → OpenLogin → Option Mechanism → Answer
-    → Type 0
-ChoiceStep halted s env c login None a =
-    a ≡ says env (LoggingIn login) (replies.MechanismNotOffered ∷ [])
-ChoiceStep halted s env c login (Some mechanisms.Anonymous) a =
-    LoggedIn halted s env c login.client login.waiting a
-ChoiceStep halted s env c login (Some mechanisms.CramMd5) a = a ≡ challenges s env login
+abbrev pub ChoiceStep : Settings → Env → OpenLogin → Option Mechanism → Step
+ChoiceStep s env login None =
+    Always (says env (LoggingIn login) (replies.MechanismNotOffered ∷ []))
+ChoiceStep s env login (Some mechanisms.Anonymous) = LoggedIn s env login.client login.waiting
+ChoiceStep s env login (Some mechanisms.CramMd5) = Always (challenges s env login)
 
-abbrev pub LoginStep : Bool → Settings → Env → RepoState → OpenLogin
-    → Result AuthResponse CommandFault → Answer → Type 0
-LoginStep halted s env c login (Ok r) a =
-    ChoiceStep halted s env c login (chosen (offer s.users login.waiting) r.mechanism) a
-LoginStep halted s env c login (Err fault) a = a ≡ malformed env
+abbrev pub LoginStep : Settings → Env → OpenLogin → Result AuthResponse CommandFault → Step
+LoginStep s env login (Ok r) =
+    ChoiceStep s env login (chosen (offer s.users login.waiting) r.mechanism)
+LoginStep s env login (Err fault) = Always (malformed env)
 
 -- ---- a challenge is answered
 
@@ -131,17 +126,13 @@ abbrev pub with_user : Client → List ℕ → Client
 with_user client name = record client { user = Some name }
 
 -- after an answer that is no user's another choice is awaited
-abbrev pub OutcomeStep : Bool → Settings → Env → RepoState → OpenLogin → Option (List ℕ) → Answer
-    → Type 0
-OutcomeStep halted s env c login None a =
-    a ≡ says env (LoggingIn login) (replies.LoginFailed ∷ [])
-OutcomeStep halted s env c login (Some name) a =
-    LoggedIn halted s env c (with_user login.client name) login.waiting a
+abbrev pub OutcomeStep : Settings → Env → OpenLogin → Option (List ℕ) → Step
+OutcomeStep s env login None = Always (says env (LoggingIn login) (replies.LoginFailed ∷ []))
+OutcomeStep s env login (Some name) = LoggedIn s env (with_user login.client name) login.waiting
 
 -- the answer is judged by whose it is; what is no string is no answer
-abbrev pub ChallengeStep : Bool → Settings → Env → RepoState → OpenChallenge → Option (List ℕ)
-    → Answer → Type 0
-ChallengeStep halted s env c pending None a = a ≡ malformed env
-ChallengeStep halted s env c pending (Some text) a =
+abbrev pub ChallengeStep : Settings → Env → OpenChallenge → Option (List ℕ) → Step
+ChallengeStep s env pending None halted c a = a ≡ malformed env
+ChallengeStep s env pending (Some text) halted c a =
     (user : Option (List ℕ)) × IsAnswerOf pending.challenge (logins_or_none s.users) text user
-    × OutcomeStep halted s env c pending.login user a
+    × OutcomeStep s env pending.login user halted c a

@@ -26,7 +26,7 @@ use Rattle.machine.specs.Settings.{Settings}
 use Rattle.machine.specs.Hearing.{Input}
 use Rattle.machine.specs.Hearing.Input.{Whole, Broken}
 use Rattle.machine.specs.Stages.{Stage}
-use Rattle.machine.specs.Answers.{Verdict, Effect, no_effect, Answer, says, serves, change_answer, Behind, malformed}
+use Rattle.machine.specs.Answers.{Verdict, Effect, no_effect, Answer, Step, says, serves, change_answer, Behind, malformed, Always}
 use Rattle.machine.specs.Answers.Verdict.{Written, NotWritten, Unknown}
 use Rattle.machine.specs.Commands.{login_request, OwnStep}
 use Rattle.machine.specs.Reports.{ReportingStep, driven_answer}
@@ -43,21 +43,18 @@ use Rattle.machine.specs.declared.phase.Client.{Client}
 
 -- a command waits for a login, or is answered: the login request, which asks for nothing, comes
 -- before its own answer
-abbrev pub KnownCommand : Bool → Bool → Settings → Env → RepoState → Client → MainCommand → Answer
-    → Type 0
-KnownCommand true halted s env c client command a =
-    a ≡ asks s env (record { client = client; waiting = Some command })
-KnownCommand false halted s env c client command a =
-    Behind (login_request command) (OwnStep halted s env c client command) a
+abbrev pub KnownCommand : Bool → Settings → Env → Client → MainCommand → Step
+KnownCommand true s env client command =
+    Always (asks s env (record { client = client; waiting = Some command }))
+KnownCommand false s env client command =
+    Behind (login_request command) (OwnStep s env client command)
 
-abbrev pub MainStep : Bool → Settings → Env → RepoState → Client
-    → Result MainCommand CommandFault → Answer → Type 0
-MainStep halted s env c client (Ok command) a =
-    KnownCommand (wants_user s client command) halted s env c client command a
-MainStep halted s env c client (Err UnknownName) a =
-    a ≡ serves env client (replies.Failure refusals.UnknownCommand)
-MainStep halted s env c client (Err BadParameters) a = a ≡ malformed env
-MainStep halted s env c client (Err NoMemory) a = a ≡ malformed env
+abbrev pub MainStep : Settings → Env → Client → Result MainCommand CommandFault → Step
+MainStep s env client (Ok command) = KnownCommand (wants_user s client command) s env client command
+MainStep s env client (Err UnknownName) =
+    Always (serves env client (replies.Failure refusals.UnknownCommand))
+MainStep s env client (Err BadParameters) = Always (malformed env)
+MainStep s env client (Err NoMemory) = Always (malformed env)
 
 -- ---- an edit
 
@@ -77,8 +74,9 @@ JudgedEdit env c edit command None a =
     × (a ≡ says env (Editing (record { client = edit.client; asked = edit.asked; editor = after })) [])
 JudgedEdit env c edit command (Some r) a = a ≡ gives_up env edit.client r
 
-abbrev pub EditStep : Env → RepoState → MachineEdit → EditorCommand → Answer → Type 0
-EditStep env c edit command a = JudgedEdit env c edit command (edit_refusal c edit.editor command) a
+abbrev pub EditStep : Env → MachineEdit → EditorCommand → Step
+EditStep env edit command halted c a =
+    JudgedEdit env c edit command (edit_refusal c edit.editor command) a
 
 -- ---- the end of an edit
 
@@ -160,12 +158,11 @@ CommitStep false env c client ask t None a =
     (v : Verdict) × CommittedStep env c client ask t v a
 
 -- the edit's transaction is committed, if it has one: dated by the moment, and then judged
-abbrev pub CloseStep : Bool → Env → RepoState → Client → CommitParameters → Result TxnState Refusal → Answer
-    → Type 0
-CloseStep halted env c client asked (Ok t) a = (date : List ℕ) × IsDateText env.moment date
+abbrev pub CloseStep : Env → Client → CommitParameters → Result TxnState Refusal → Step
+CloseStep env client asked (Ok t) halted c a = (date : List ℕ) × IsDateText env.moment date
     × (let ask = commit_ask client asked date in
     CommitStep halted env c client ask t (commit_refusal c ask t) a)
-CloseStep halted env c client asked (Err r) a =
+CloseStep env client asked (Err r) halted c a =
     a ≡ says env (Serving client) (replies.Failure r ∷ [])
 
 -- ---- an end of an edit for which memory is refused
@@ -181,8 +178,8 @@ unreleased_answer env ask t = record {
 
 -- the edit's transaction is committed, and memory is refused for the release that is wanted behind
 -- it: the locks stand, and the session ends
-pub record UnreleasedClose (halted : Bool) (env : Env) (c : RepoState) (client : Client)
-    (asked : CommitParameters) (r : Result TxnState Refusal) (a : Answer) : Type 0 where
+pub record UnreleasedClose (env : Env) (client : Client) (asked : CommitParameters)
+    (r : Result TxnState Refusal) (halted : Bool) (c : RepoState) (a : Answer) : Type 0 where
   pub txn : TxnState
   pub txn_is : r ≡ Ok txn
   pub date : List ℕ
@@ -216,29 +213,25 @@ ending_of (CloseFile token checksum) = None
 ending_of CloseEdit = Some Commits
 ending_of edits.AbortEdit = Some GivesUp
 
-abbrev pub CommandStep : Bool → Env → RepoState → MachineEdit → EditorCommand → Option Ending
-    → Answer → Type 0
-CommandStep halted env c edit command None a = EditStep env c edit command a
-CommandStep halted env c edit command (Some Commits) a =
-    CloseStep halted env c edit.client edit.asked (finished edit.editor) a
-CommandStep halted env c edit command (Some GivesUp) a =
-    a ≡ says env (Serving edit.client) (replies.Success ∷ [])
+abbrev pub CommandStep : Env → MachineEdit → EditorCommand → Option Ending → Step
+CommandStep env edit command None = EditStep env edit command
+CommandStep env edit command (Some Commits) =
+    CloseStep env edit.client edit.asked (finished edit.editor)
+CommandStep env edit command (Some GivesUp) =
+    Always (says env (Serving edit.client) (replies.Success ∷ []))
 
-abbrev pub EditingStep : Bool → Env → RepoState → MachineEdit → Result EditorCommand CommandFault
-    → Answer → Type 0
-EditingStep halted env c edit (Ok command) a =
-    CommandStep halted env c edit command (ending_of command) a
-EditingStep halted env c edit (Err UnknownName) a =
-    a ≡ gives_up env edit.client refusals.UnknownCommand
-EditingStep halted env c edit (Err BadParameters) a = a ≡ malformed env
-EditingStep halted env c edit (Err NoMemory) a = a ≡ malformed env
+abbrev pub EditingStep : Env → MachineEdit → Result EditorCommand CommandFault → Step
+EditingStep env edit (Ok command) = CommandStep env edit command (ending_of command)
+EditingStep env edit (Err UnknownName) =
+    Always (gives_up env edit.client refusals.UnknownCommand)
+EditingStep env edit (Err BadParameters) = Always (malformed env)
+EditingStep env edit (Err NoMemory) = Always (malformed env)
 
 -- the command ends the edit, and memory is refused for the release behind its commit
-abbrev pub UnreleasedEnd : Bool → Env → RepoState → MachineEdit → Result EditorCommand CommandFault
-    → Answer → Type 0
-UnreleasedEnd halted env c edit r a =
+abbrev pub UnreleasedEnd : Env → MachineEdit → Result EditorCommand CommandFault → Step
+UnreleasedEnd env edit r halted c a =
     (r ≡ Ok CloseEdit)
-    × UnreleasedClose halted env c edit.client edit.asked (finished edit.editor) a
+    × UnreleasedClose env edit.client edit.asked (finished edit.editor) halted c a
 
 -- a command of an edit that was given up is read by its name alone, and draws no reply
 abbrev pub skipping_answer : Env → Client → Option Bool → Answer
@@ -248,46 +241,38 @@ skipping_answer env client (Some false) = says env (Skipping client) []
 
 -- ---- an input
 
--- What an input does in a state of the repository, where changes have come to a halt or not. (A
--- relation where the
--- program or the store may choose.)
-abbrev pub InputStep : Bool → Settings → Env → RepoState → Stage → Input → Answer → Type 0
-InputStep halted s env c Greeted (Whole t) a = a ≡ greeting_answer s env (client_greeting t)
-InputStep halted s env c (LoggingIn login) (Whole t) a =
-    LoginStep halted s env c login (auth_response t) a
-InputStep halted s env c (Challenged pending) (Whole t) a =
-    ChallengeStep halted s env c pending (challenge_answer t) a
-InputStep halted s env c (Serving client) (Whole t) a =
-    MainStep halted s env c client (main_command t) a
-InputStep halted s env c (Editing edit) (Whole t) a =
-    EditingStep halted env c edit (editor_command t) a
-InputStep halted s env c (Skipping client) (Whole t) a =
-    a ≡ skipping_answer env client (ends_edit t)
-InputStep halted s env c (Reporting reporting) (Whole t) a = ReportingStep s env c reporting t a
-InputStep halted s env c (Driven client) (Whole t) a =
-    a ≡ driven_answer env client (client_answer t)
-InputStep halted s env c Greeted Broken a = a ≡ malformed env
-InputStep halted s env c (LoggingIn login) Broken a = a ≡ malformed env
-InputStep halted s env c (Challenged pending) Broken a = a ≡ malformed env
-InputStep halted s env c (Serving client) Broken a = a ≡ malformed env
-InputStep halted s env c (Editing edit) Broken a = a ≡ malformed env
-InputStep halted s env c (Skipping client) Broken a = a ≡ malformed env
-InputStep halted s env c (Reporting reporting) Broken a = a ≡ malformed env
-InputStep halted s env c (Driven client) Broken a = a ≡ malformed env
+-- What an input does, where changes have come to a halt or not, in a state of the repository.
+abbrev pub InputStep : Settings → Env → Stage → Input → Step
+InputStep s env Greeted (Whole t) = Always (greeting_answer s env (client_greeting t))
+InputStep s env (LoggingIn login) (Whole t) = LoginStep s env login (auth_response t)
+InputStep s env (Challenged pending) (Whole t) = ChallengeStep s env pending (challenge_answer t)
+InputStep s env (Serving client) (Whole t) = MainStep s env client (main_command t)
+InputStep s env (Editing edit) (Whole t) = EditingStep env edit (editor_command t)
+InputStep s env (Skipping client) (Whole t) = Always (skipping_answer env client (ends_edit t))
+InputStep s env (Reporting reporting) (Whole t) = ReportingStep s env reporting t
+InputStep s env (Driven client) (Whole t) = Always (driven_answer env client (client_answer t))
+InputStep s env Greeted Broken = Always (malformed env)
+InputStep s env (LoggingIn login) Broken = Always (malformed env)
+InputStep s env (Challenged pending) Broken = Always (malformed env)
+InputStep s env (Serving client) Broken = Always (malformed env)
+InputStep s env (Editing edit) Broken = Always (malformed env)
+InputStep s env (Skipping client) Broken = Always (malformed env)
+InputStep s env (Reporting reporting) Broken = Always (malformed env)
+InputStep s env (Driven client) Broken = Always (malformed env)
 -- what comes after the end is dropped
-InputStep halted s env c Ended input a = a ≡ says env Ended []
+InputStep s env Ended input = Always (says env Ended [])
 
 -- Where memory is refused for the release behind a commit, the input at which its session ends. (It
 -- is no step of a session that goes on: it may be the last that a session hears.)
-abbrev pub UnreleasedStep : Bool → Env → RepoState → Stage → Input → Answer → Type 0
-UnreleasedStep halted env c (Editing edit) (Whole t) a =
-    UnreleasedEnd halted env c edit (editor_command t) a
-UnreleasedStep halted env c (Editing edit) Broken a = ⊥
-UnreleasedStep halted env c Greeted input a = ⊥
-UnreleasedStep halted env c (LoggingIn login) input a = ⊥
-UnreleasedStep halted env c (Challenged pending) input a = ⊥
-UnreleasedStep halted env c (Serving client) input a = ⊥
-UnreleasedStep halted env c (Skipping client) input a = ⊥
-UnreleasedStep halted env c (Reporting reporting) input a = ⊥
-UnreleasedStep halted env c (Driven client) input a = ⊥
-UnreleasedStep halted env c Ended input a = ⊥
+abbrev pub UnreleasedStep : Env → Stage → Input → Step
+UnreleasedStep env (Editing edit) (Whole t) halted c a =
+    UnreleasedEnd env edit (editor_command t) halted c a
+UnreleasedStep env (Editing edit) Broken halted c a = ⊥
+UnreleasedStep env Greeted input halted c a = ⊥
+UnreleasedStep env (LoggingIn login) input halted c a = ⊥
+UnreleasedStep env (Challenged pending) input halted c a = ⊥
+UnreleasedStep env (Serving client) input halted c a = ⊥
+UnreleasedStep env (Skipping client) input halted c a = ⊥
+UnreleasedStep env (Reporting reporting) input halted c a = ⊥
+UnreleasedStep env (Driven client) input halted c a = ⊥
+UnreleasedStep env Ended input halted c a = ⊥

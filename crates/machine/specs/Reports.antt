@@ -12,7 +12,7 @@ use Rattle.drive_reports.specs.declared.graft.Graft.{Graft}
 use Rattle.drive_wire.specs.Reporting.{Drawn, ReportStep}
 use Rattle.drive_wire.specs.Reporting.Drawn.{GoesOn, GivenUp, Fails, Drives, Malformed}
 use Rattle.machine.specs.Settings.{Settings}
-use Rattle.machine.specs.Answers.{Answer, says, serves, malformed}
+use Rattle.machine.specs.Answers.{Answer, Step, says, serves, malformed}
 use Rattle.machine.specs.declared.env.Env.{Env}
 use Rattle.machine.specs.declared.phase.Client.{Client}
 use Rattle.machine.specs.declared.phase.OpenReporting.{OpenReporting}
@@ -33,18 +33,14 @@ drawn_answer env client (Drives drive) =
     says env (Driven client) (replies.NoLogin ∷ map replies.Edit drive)
 drawn_answer env client Malformed = malformed env
 
--- a report begins, with its refusal if there is one
-abbrev pub report_begins : Settings → Env → RepoState → Client → Purpose → DriveRequest
-    → Option (List ℕ) → Answer
-report_begins s env c client purpose request url =
-    drawn_answer env client
-    (GoesOn (begun_report (ask_of c s.name client.path purpose request url)))
+-- what may be drawn, as a step
+abbrev pub Draws : Env → Client → (RepoState → Drawn → Type 0) → Step
+Draws env client MayDraw halted c a = (d : Drawn) × MayDraw c d × (a ≡ drawn_answer env client d)
 
 -- a command of a report
-abbrev pub ReportingStep : Settings → Env → RepoState → MachineReport → ItemValue → Answer → Type 0
-ReportingStep s env c reporting item a =
-    (d : Drawn) × ReportStep c s.name reporting.report item d
-    × (a ≡ drawn_answer env reporting.client d)
+abbrev pub ReportingStep : Settings → Env → MachineReport → ItemValue → Step
+ReportingStep s env reporting item =
+    Draws env reporting.client (ReportStep s.name reporting.report item)
 
 -- the client's answer to a drive: it was taken, or the drive is given up
 abbrev pub driven_answer : Env → Client → Option Bool → Answer

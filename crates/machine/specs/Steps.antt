@@ -1,7 +1,7 @@
 -- What becomes of a session's steps: each happens at one point of the repository, and its replies
 -- are written, or a
 -- part of them where memory or the sink fails.
-use Rattle.std.specs.Prelude.{◌≡◌, ◌⊎◌, ℕ, true, List, [], ◌∷◌, ◌++◌, Option, Some, None}
+use Rattle.std.specs.Prelude.{◌≡◌, ◌⊎◌, ℕ, true, List, [], ◌∷◌, ◌++◌, Option, Some, None, Result, MatchResult}
 use Rattle.std.specs.Option.{option_to_list}
 use Rattle.repo_api.specs.Accepted.{Accepted}
 use Rattle.wire_replies.specs.declared.reply.Reply.{Reply}
@@ -13,7 +13,7 @@ use Rattle.machine.specs.declared.env.Env.{Env}
 use Rattle.machine.specs.Stages.{Stage, is_open}
 use Rattle.machine.specs.Settings.{Settings}
 use Rattle.machine.specs.Hearing.{Input, Yields, HasNoMore}
-use Rattle.machine.specs.Answers.{Verdict, Effect, Answer}
+use Rattle.machine.specs.Answers.{Verdict, Effect, Answer, Step}
 use Rattle.machine.specs.Machine.{InputStep, UnreleasedStep}
 use Rattle.machine.specs.Answers.Verdict.{Written, NotWritten, Unknown}
 
@@ -36,21 +36,12 @@ EffectAt rules p effect q =
     (mid : Point) × AddsAll rules p effect.changes mid × Stores effect.store mid q
 
 -- a step happens at one point: what others did before it, the answer there, and the answer's effect
-pub record StepAt (rules : AccessRules) (step : Point → Answer
-    → Type 0) (p : Point) (a : Answer) (q : Point) : Type 0 where
+pub record StepAt (rules : AccessRules) (step : Step) (p : Point) (a : Answer) (q : Point)
+    : Type 0 where
   pub at : Point
   pub later : rules.between p at
-  pub step_is : step at a
+  pub step_is : step at.halted (content_of at) a
   pub moves : EffectAt rules at a.effect q
-
--- what an input does at a point
-abbrev pub input_step : Settings → Env → Stage → Input → Point → Answer → Type 0
-input_step s env phase input at a = InputStep at.halted s env (content_of at) phase input a
-
--- what it does at a point where memory is refused for the release behind a commit
-abbrev pub unreleased_step : Env → Stage → Input → Point → Answer → Type 0
-unreleased_step env phase input at a =
-    UnreleasedStep at.halted env (content_of at) phase input a
 
 -- one input after another
 abbrev pub SessionRun : AccessRules → Settings → Env → Point → Stage → List Input → List Reply → Env
@@ -59,7 +50,7 @@ SessionRun rules s env p phase [] told env' p' phase' =
     rules.between p p' × (told ≡ []) × (env' ≡ env) × (phase' ≡ phase)
 SessionRun rules s env p phase (input ∷ inputs) told env' p' phase' =
     (a : Answer) × (q : Point) × (more : List Reply)
-    × StepAt rules (input_step s env phase input) p a q
+    × StepAt rules (InputStep s env phase input) p a q
     × SessionRun rules s a.env q a.phase inputs more env' p' phase' × (told ≡ a.replies ++ more)
 
 -- ---- and written
@@ -72,29 +63,57 @@ pub record AnswerWritten (a : Answer) (phase' : Stage) (env' : Env) (writes : Li
   pub written : writes (print a.replies)
 
 -- a step has happened, and its replies are written
-pub record StepWritten (rules : AccessRules) (step : Point → Answer → Type 0) (p q : Point)
-    (phase' : Stage) (env' : Env) (writes : List ℕ → Type 0) : Type 0 where
+pub record StepWritten (rules : AccessRules) (step : Step) (p q : Point) (phase' : Stage)
+    (env' : Env) (writes : List ℕ → Type 0) : Type 0 where
   pub answer : Answer
   pub happens : StepAt rules step p answer q
   pub phase_after : phase' ≡ answer.phase
   pub env_after : env' ≡ answer.env
   pub written : writes (print answer.replies)
 
--- for want of memory or of the sink a step has not happened, and nothing was written; or it has,
--- and a part of its
--- replies was written
-abbrev pub StepOrNothing : AccessRules → (Point → Answer → Type 0) → Point → Point
-    → (List ℕ → Type 0) → Type 0
+-- where memory or the sink has failed: the step has not happened, and nothing was written; or it
+-- has, and a part of its replies was written
+abbrev pub StepOrNothing : AccessRules → Step → Point → Point → (List ℕ → Type 0) → Type 0
 StepOrNothing rules step p q writes =
     (rules.between p q × writes []) ⊎ ((a : Answer) × StepAt rules step p a q
     × WritesPart writes (print a.replies))
 
--- so it is for want of memory or of the sink; or a part of the step has happened, and nothing was
--- written
-abbrev pub StepOrPart : AccessRules → (Point → Answer → Type 0) → (Point → Answer → Type 0) → Point
-    → Point → (List ℕ → Type 0) → Type 0
+-- so it is; or a part of the step has happened, and nothing was written
+abbrev pub StepOrPart : AccessRules → Step → Step → Point → Point → (List ℕ → Type 0) → Type 0
 StepOrPart rules step part p q writes =
     StepOrNothing rules step p q writes ⊎ ((a : Answer) × StepAt rules part p a q × writes [])
+
+-- ---- as results
+
+-- an answer is written, and the session stands where it says, with these words left; or, where there
+-- is an error, a part of it is written
+abbrev pub Answered : {E : Type 0} → Result Stage E → Env → (List ℕ → Type 0) → Answer → Type 0
+Answered r env' writes a =
+    MatchResult r (λ phase'. AnswerWritten a phase' env' writes)
+    (λ _. WritesPart writes (print a.replies))
+
+-- so it is where there is an answer; where there is none, there is an error, and nothing is written
+abbrev pub AnsweredIfAny : {E : Type 0} → Result Stage E → Env → (List ℕ → Type 0) → Option Answer
+    → Type 0
+AnsweredIfAny r env' writes (Some a) = Answered r env' writes a
+AnsweredIfAny r env' writes None = MatchResult r (λ _. ⊥) (λ _. writes [])
+
+-- from a point to another a step has happened and is written; or, where there is an error, it has
+-- not happened, or a part of it is written
+abbrev pub Stepped : {E : Type 0} → Result Stage E → Env → (List ℕ → Type 0) → AccessRules → Point
+    → Point → Step → Type 0
+Stepped r env' writes rules p q step =
+    MatchResult r (λ phase'. StepWritten rules step p q phase' env' writes)
+    (λ _. StepOrNothing rules step p q writes)
+
+-- so it is of a step of which a part may happen alone, where there is an error
+abbrev pub SteppedInPart : {E : Type 0} → Result Stage E → Env → (List ℕ → Type 0) → AccessRules
+    → Point → Point → Step → Step → Type 0
+SteppedInPart r env' writes rules p q step part =
+    MatchResult r (λ phase'. StepWritten rules step p q phase' env' writes)
+    (λ _. StepOrPart rules step part p q writes)
+
+-- ---- a stream's inputs
 
 -- the stream's inputs have happened, and their replies are written; a session that is still open
 -- leaves none
@@ -113,7 +132,7 @@ pub record FeedWritten (rules : AccessRules) (s : Settings) (env : Env) (p : Poi
 abbrev pub Leaves : AccessRules → Env → Point → Stage → Option Input → Point → Type 0
 Leaves rules env p phase None q = q ≡ p
 Leaves rules env p phase (Some input) q =
-    (a : Answer) × StepAt rules (unreleased_step env phase input) p a q
+    (a : Answer) × StepAt rules (UnreleasedStep env phase input) p a q
 
 -- some of the stream's inputs have happened in order, and a part of their replies was written; then
 -- the session is gone, at once or by one more input, of which nothing is told

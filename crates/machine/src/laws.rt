@@ -27,7 +27,7 @@ pub fn one_hearing()
 /// A session's edit goes on to rest on what the repository contains.
 pub fn steps_rest()
     ensures { (halted : Bool) (s : Settings) (env : Env) (c : RepoState) (phase : Stage) (input : Input) (a : Answer)
-        → EditRests phase c → InputStep halted s env c phase input a → EditRests a.phase (content_after c a.effect) }
+        → EditRests phase c → InputStep s env phase input halted c a → EditRests a.phase (content_after c a.effect) }
 {}
 
 /// Where every tree of the repository is a tree whose marks name what they mark, and so is the tree of the session's
@@ -35,10 +35,10 @@ pub fn steps_rest()
 /// youngest revision well; and so too where memory is refused for the release behind it.
 pub fn steps_keep_trees()
     ensures step { (halted : Bool) (s : Settings) (env : Env) (c : RepoState) (phase : Stage) (input : Input) (a : Answer)
-        → StandsOn phase c → InputStep halted s env c phase input a
+        → StandsOn phase c → InputStep s env phase input halted c a
         → StandsOn a.phase (content_after c a.effect) × MeetBy c a.effect.changes }
     ensures unreleased { (halted : Bool) (env : Env) (c : RepoState) (phase : Stage) (input : Input) (a : Answer)
-        → StandsOn phase c → UnreleasedStep halted env c phase input a
+        → StandsOn phase c → UnreleasedStep env phase input halted c a
         → StandsOn a.phase (content_after c a.effect) × MeetBy c a.effect.changes }
 {
     edit_rules::edits_keep_trees();

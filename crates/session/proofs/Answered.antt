@@ -59,7 +59,7 @@ pub broken_nothing : (env : Env) (phase : Stage) → (broken_answer env phase).e
 broken_nothing env phase = nothing_if (is_open phase) (malformed env) (says env Ended []) refl refl
 
 pub step_broken : (halted : Bool) (s : Settings) (env : Env) (c : RepoState) (phase : Stage)
-    → InputStep halted s env c phase Broken (broken_answer env phase)
+    → InputStep s env phase Broken halted c (broken_answer env phase)
 step_broken halted s env c Greeted = refl
 step_broken halted s env c (LoggingIn login) = refl
 step_broken halted s env c (Challenged pending) = refl

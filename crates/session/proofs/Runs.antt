@@ -6,7 +6,8 @@ use Rattle.wire_replies.specs.declared.reply.Reply.{Reply}
 use Rattle.access.specs.Points.{Point, AccessRules}
 use Rattle.machine.specs.Settings.{Settings}
 use Rattle.machine.specs.Hearing.{Input, YieldsFirst, Yields, HasNoMore}
-use Rattle.machine.specs.Steps.{input_step, unreleased_step, SessionRun, StepWritten, StepOrPart, FeedWritten, FeedLost}
+use Rattle.machine.specs.Machine.{InputStep, UnreleasedStep}
+use Rattle.machine.specs.Steps.{SessionRun, StepWritten, StepOrPart, FeedWritten, FeedLost}
 use Rattle.machine.specs.declared.env.Env.{Env}
 use Rattle.machine.specs.Stages.{Stage, is_open}
 
@@ -28,7 +29,7 @@ module _ {S : Type 0} (writes : S → S → List ℕ → Type 0) (nothing : (o :
   pub more : (env env' : Env) (p q : Point) (phase phase' : Stage) (rest rest' : List ℕ) (out out' : S) (input : Input)
       → Progress rules s env0 p0 phase0 stream env p phase rest (writes out0 out)
       → YieldsFirst rest input rest'
-      → StepWritten rules (input_step s env phase input) p q phase' env' (writes out out')
+      → StepWritten rules (InputStep s env phase input) p q phase' env' (writes out out')
       → Progress rules s env0 p0 phase0 stream env' q phase' rest' (writes out0 out')
   more env env' p q phase phase' rest rest' out out' input h brings served =
       let a = served.answer in
@@ -61,7 +62,7 @@ module _ {S : Type 0} (writes : S → S → List ℕ → Type 0) (nothing : (o :
       }
 
   pub stop : (env : Env) (p q : Point) (phase : Stage) (rest rest' : List ℕ) (out out' : S) (input : Input) → Progress rules s env0 p0 phase0 stream env p phase rest (writes out0 out)
-      → YieldsFirst rest input rest' → StepOrPart rules (input_step s env phase input) (unreleased_step env phase input) p q (writes out out')
+      → YieldsFirst rest input rest' → StepOrPart rules (InputStep s env phase input) (UnreleasedStep env phase input) p q (writes out out')
       → FeedLost rules s env0 p0 phase0 stream q (writes out0 out')
   stop env p q phase rest rest' out out' input h brings (inl (inl (later, unwritten))) =
       record {

@@ -1,13 +1,12 @@
 //! One input of a session.
-ghost use Rattle.std.specs.Prelude.{◌≡◌, [], IfOk, OnErr, if◌then◌else◌};
+ghost use Rattle.std.specs.Prelude.{[], if◌then◌else◌};
 ghost use Rattle.items.specs.View.{value_of};
-ghost use Rattle.wire_replies.specs.Replies.{print};
-ghost use Rattle.wire_replies.specs.Sinks.{WritesPart};
 ghost use Rattle.access.specs.Points.{content_of};
 ghost use Rattle.machine.specs.Hearing.Input.{Whole};
 ghost use Rattle.machine.specs.Answers.{malformed, says};
 ghost use Rattle.machine.specs.Stages.{is_open, StandsOn};
-ghost use Rattle.machine.specs.Steps.{input_step, unreleased_step, AnswerWritten, StepWritten, StepOrPart};
+ghost use Rattle.machine.specs.Machine.{InputStep, UnreleasedStep};
+ghost use Rattle.machine.specs.Steps.{Answered, SteppedInPart};
 ghost use Rattle.machine.specs.declared.phase.Phase.TheVariants.{Ended};
 ghost use Rattle.session.specs.Taking.{input_of};
 
@@ -34,14 +33,10 @@ fn serve_item<R: Repository, A: RepoAccess<View = R>, S: ReplySink>(
     turn: &mut Turn<S>,
 ) -> Result<SessionPhase<R>, AllocError>
     requires rests { StandsOn phase (content_of (A.point access.old)) }
-    ensures ok { IfOk result (λ after. StepWritten A.rules
-        (input_step options.now turn.old.env phase (Whole (value_of item.now)))
+    ensures { SteppedInPart result turn.new.env (S.writes turn.old.out turn.new.out) A.rules
         (A.point access.old) (A.point access.new)
-        after turn.new.env (S.writes turn.old.out turn.new.out)) }
-    ensures err { OnErr result (StepOrPart A.rules
-        (input_step options.now turn.old.env phase (Whole (value_of item.now)))
-        (unreleased_step turn.old.env phase (Whole (value_of item.now)))
-        (A.point access.old) (A.point access.new) (S.writes turn.old.out turn.new.out)) }
+        (InputStep options.now turn.old.env phase (Whole (value_of item.now)))
+        (UnreleasedStep turn.old.env phase (Whole (value_of item.now))) }
 {
     match phase {
         Phase::Greeted => greet(options, item, turn),
@@ -61,12 +56,8 @@ fn serve_broken<R: Repository, S: ReplySink>(
     phase: SessionPhase<R>,
     turn: &mut Turn<S>,
 ) -> Result<SessionPhase<R>, AllocError>
-    ensures ok { IfOk result (λ after. AnswerWritten
-        (if is_open phase then malformed turn.old.env else says turn.old.env Ended [])
-        after turn.new.env (S.writes turn.old.out turn.new.out)) }
-    ensures err { OnErr result (WritesPart (S.writes turn.old.out turn.new.out)
-        (print (if is_open phase then malformed turn.old.env
-        else says turn.old.env Ended []).replies)) }
+    ensures { Answered result turn.new.env (S.writes turn.old.out turn.new.out)
+        (if is_open phase then malformed turn.old.env else says turn.old.env Ended []) }
 {
     let was_open = phase.is_open();
     drop(phase);
@@ -86,14 +77,10 @@ pub fn serve<R: Repository, A: RepoAccess<View = R>, S: ReplySink>(
     turn: &mut Turn<S>,
 ) -> Result<SessionPhase<R>, AllocError>
     requires rests { StandsOn phase (content_of (A.point access.old)) }
-    ensures ok { IfOk result (λ after. StepWritten A.rules
-        (input_step options.now turn.old.env phase (input_of incoming))
+    ensures { SteppedInPart result turn.new.env (S.writes turn.old.out turn.new.out) A.rules
         (A.point access.old) (A.point access.new)
-        after turn.new.env (S.writes turn.old.out turn.new.out)) }
-    ensures err { OnErr result (StepOrPart A.rules
-        (input_step options.now turn.old.env phase (input_of incoming))
-        (unreleased_step turn.old.env phase (input_of incoming))
-        (A.point access.old) (A.point access.new) (S.writes turn.old.out turn.new.out)) }
+        (InputStep options.now turn.old.env phase (input_of incoming))
+        (UnreleasedStep turn.old.env phase (input_of incoming)) }
 {
     match incoming {
         Incoming::Whole(item) => serve_item(options, phase, &item, access, turn),

@@ -24,30 +24,30 @@ use Rattle.session_changes.specs.Asked.{LockAsked, UnlockAsked}
 module _ (env : Env) (client : Client) where
   pub lock_is : (command : LockCommand) (ask : LockAsk) (found : Result PathValue PathFault) → found ≡ Ok ask.path → IsDateText env.moment ask.date
       → ask ≡ lock_ask env client command ask.path ask.date → (at : Point) (a : Answer)
-      → LockAsked at.halted env (content_of at) client ask a → LockStep at.halted env (content_of at) client command found a
+      → LockAsked env client ask at.halted (content_of at) a → LockStep env client command found at.halted (content_of at) a
   lock_is command ask found is_path dated same at a asked =
-      let now = subst (λ (x : LockAsk). LockAsked at.halted env (content_of at) client x a) same asked in
-      subst (λ (f : Result PathValue PathFault). LockStep at.halted env (content_of at) client command f a) (sym is_path) (ask.date, dated, now)
+      let now = subst (λ (x : LockAsk). LockAsked env client x at.halted (content_of at) a) same asked in
+      subst (λ (f : Result PathValue PathFault). LockStep env client command f at.halted (content_of at) a) (sym is_path) (ask.date, dated, now)
 
   pub unlock_is : (command : UnlockCommand) (ask : UnlockAsk) (found : Result PathValue PathFault) → found ≡ Ok ask.path
       → ask ≡ unlock_ask client command ask.path → (at : Point) (a : Answer)
-      → UnlockAsked at.halted env (content_of at) client ask a → UnlockStep at.halted env (content_of at) client command found a
+      → UnlockAsked env client ask at.halted (content_of at) a → UnlockStep env client command found at.halted (content_of at) a
   unlock_is command ask found is_path same at a asked =
-      let now = subst (λ (x : UnlockAsk). UnlockAsked at.halted env (content_of at) client x a) same asked in
-      subst (λ (f : Result PathValue PathFault). UnlockStep at.halted env (content_of at) client command f a) (sym is_path) now
+      let now = subst (λ (x : UnlockAsk). UnlockAsked env client x at.halted (content_of at) a) same asked in
+      subst (λ (f : Result PathValue PathFault). UnlockStep env client command f at.halted (content_of at) a) (sym is_path) now
 
   -- a path that is none
   pub lock_refused : (command : LockCommand) (found : Result PathValue PathFault) (fault : PathFault) → found ≡ Err fault → (halts : Bool) (c : RepoState)
-      → LockStep halts env c client command found (serves env client (replies.Failure (path_refusal fault)))
+      → LockStep env client command found halts c (serves env client (replies.Failure (path_refusal fault)))
   lock_refused command found fault is halts c =
       let said = serves env client (replies.Failure (path_refusal fault)) in
-      subst (λ (f : Result PathValue PathFault). LockStep halts env c client command f said) (sym is) refl
+      subst (λ (f : Result PathValue PathFault). LockStep env client command f halts c said) (sym is) refl
 
   pub unlock_refused : (command : UnlockCommand) (found : Result PathValue PathFault) (fault : PathFault) → found ≡ Err fault → (halts : Bool) (c : RepoState)
-      → UnlockStep halts env c client command found (serves env client (replies.Failure (path_refusal fault)))
+      → UnlockStep env client command found halts c (serves env client (replies.Failure (path_refusal fault)))
   unlock_refused command found fault is halts c =
       let said = serves env client (replies.Failure (path_refusal fault)) in
-      subst (λ (f : Result PathValue PathFault). UnlockStep halts env c client command f said) (sym is) refl
+      subst (λ (f : Result PathValue PathFault). UnlockStep env client command f halts c said) (sym is) refl
 
 -- what is known of a fault that is not want of memory
 pub fault_is : {T : Type 0} (found : Result T PathFault) (fault : PathFault) → (found ≡ Err fault) ⊎ (fault ≡ NoMemory)

@@ -1,21 +1,20 @@
 -- A lock and an unlock that are asked for, of a path of the repository.
-use Rattle.std.specs.Prelude.{Bool, [], ◌∷◌}
-use Rattle.repo_api.specs.States.{RepoState}
+use Rattle.std.specs.Prelude.{[], ◌∷◌}
 use Rattle.repo_api.specs.Accepted.Accepted.{Locks, Unlocks}
 use Rattle.repo_api.specs.Locking.{lock_refusal, unlock_refusal}
 use Rattle.repo_api.specs.declared.lock_ask.LockAsk.{LockAsk}
 use Rattle.repo_api.specs.declared.lock_ask.UnlockAsk.{UnlockAsk}
 use Rattle.wire_replies.specs.declared.reply.Reply.TheVariants as replies
-use Rattle.machine.specs.Answers.{Answer, change_answer, ChangeStep}
+use Rattle.machine.specs.Answers.{Step, change_answer, ChangeStep}
 use Rattle.machine.specs.Commands.{lock_answer}
 use Rattle.machine.specs.declared.env.Env.{Env}
 use Rattle.machine.specs.declared.phase.Client.{Client}
 
-abbrev pub LockAsked : Bool → Env → RepoState → Client → LockAsk → Answer → Type 0
-LockAsked halted env c client ask a =
+abbrev pub LockAsked : Env → Client → LockAsk → Step
+LockAsked env client ask halted c a =
     ChangeStep halted env client (lock_refusal c ask) (Locks ask) (lock_answer env client ask) a
 
-abbrev pub UnlockAsked : Bool → Env → RepoState → Client → UnlockAsk → Answer → Type 0
-UnlockAsked halted env c client ask a =
+abbrev pub UnlockAsked : Env → Client → UnlockAsk → Step
+UnlockAsked env client ask halted c a =
     ChangeStep halted env client (unlock_refusal c ask) (Unlocks ask)
     (change_answer env client (Unlocks ask) (replies.Success ∷ [])) a

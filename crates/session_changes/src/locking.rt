@@ -1,14 +1,10 @@
 //! A path of the repository is locked.
-ghost use Rattle.std.specs.Prelude.{◌∷◌, ◌++◌, [], IfOk, OnErr};
 ghost use Rattle.svnpath.specs.Texts.{joined};
-ghost use Rattle.wire_replies.specs.Replies.{print};
-ghost use Rattle.wire_replies.specs.Sinks.{WritesPart};
-ghost use Rattle.access.specs.Points.{content_of};
 ghost use Rattle.machine.specs.Answers.{serves, behind, Behind};
 ghost use Rattle.machine.specs.Commands.{LockStep, env_without_token};
-ghost use Rattle.machine.specs.Steps.{AnswerWritten, StepWritten, StepOrNothing};
 ghost use Rattle.session_replies.specs.Telling.{told_before};
 ghost use Rattle.session_changes.specs.Asked.{LockAsked};
+ghost use Rattle.machine.specs.Steps.{Answered, Stepped};
 
 use crate::asking::{MadeLock, lock_asked_for, made_lock};
 use access::RepoAccess;
@@ -29,11 +25,9 @@ fn tell_lock<R: Repository, S: ReplySink>(
     made: MadeLock,
     turn: &mut Turn<S>,
 ) -> Result<SessionPhase<R>, AllocError>
-    ensures ok { IfOk result (λ phase. AnswerWritten (behind (told_before preface)
-        (serves (env_without_token turn.old.env) client (Reply.Lock made.path made.lock)))
-        phase turn.new.env (S.writes turn.old.out turn.new.out)) }
-    ensures err { OnErr result (WritesPart (S.writes turn.old.out turn.new.out)
-        (print (told_before preface ++ Reply.Lock made.path made.lock ∷ []))) }
+    ensures { Answered result turn.new.env (S.writes turn.old.out turn.new.out)
+        (behind (told_before preface)
+        (serves (env_without_token turn.old.env) client (Reply.Lock made.path made.lock))) }
 {
     let MadeLock { path, lock } = made;
     turn.env = turn.env.without_token();
@@ -49,15 +43,9 @@ fn ask_lock<R: Repository, A: RepoAccess<View = R>, S: ReplySink>(
     access: &mut A,
     turn: &mut Turn<S>,
 ) -> Result<SessionPhase<R>, AllocError>
-    ensures ok { IfOk result (λ phase. StepWritten A.rules
-        (λ at a. Behind (told_before preface)
-        (LockAsked at.halted turn.old.env (content_of at) client ask) a)
+    ensures { Stepped result turn.new.env (S.writes turn.old.out turn.new.out) A.rules
         (A.point access.old) (A.point access.new)
-        phase turn.new.env (S.writes turn.old.out turn.new.out)) }
-    ensures err { OnErr result (StepOrNothing A.rules
-        (λ at a. Behind (told_before preface)
-        (LockAsked at.halted turn.old.env (content_of at) client ask) a)
-        (A.point access.old) (A.point access.new) (S.writes turn.old.out turn.new.out)) }
+        (Behind (told_before preface) (LockAsked turn.old.env client ask)) }
 {
     match made_lock(turn.alloc, &ask) {
         Ok(made) => match access.lock(ask) {
@@ -83,15 +71,10 @@ pub fn lock<R: Repository, A: RepoAccess<View = R>, S: ReplySink>(
     access: &mut A,
     turn: &mut Turn<S>,
 ) -> Result<SessionPhase<R>, AllocError>
-    ensures ok { IfOk result (λ phase. StepWritten A.rules
-        (λ at a. Behind (told_before preface) (LockStep at.halted turn.old.env (content_of at)
-        client command.now (joined client.path command.now.path)) a)
+    ensures { Stepped result turn.new.env (S.writes turn.old.out turn.new.out) A.rules
         (A.point access.old) (A.point access.new)
-        phase turn.new.env (S.writes turn.old.out turn.new.out)) }
-    ensures err { OnErr result (StepOrNothing A.rules
-        (λ at a. Behind (told_before preface) (LockStep at.halted turn.old.env (content_of at)
-        client command.now (joined client.path command.now.path)) a)
-        (A.point access.old) (A.point access.new) (S.writes turn.old.out turn.new.out)) }
+        (Behind (told_before preface)
+        (LockStep turn.old.env client command.now (joined client.path command.now.path))) }
 {
     match lock_asked_for(turn.alloc, turn.env, &client, command) {
         Ok(ask) => ask_lock(client, ask, preface, access, turn),

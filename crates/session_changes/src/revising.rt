@@ -1,10 +1,8 @@
 //! A property of a revision is changed.
-ghost use Rattle.std.specs.Prelude.{IfOk, OnErr};
-ghost use Rattle.access.specs.Points.{content_of};
 ghost use Rattle.machine.specs.Answers.{Behind};
 ghost use Rattle.machine.specs.Commands.{RevisingStep};
-ghost use Rattle.machine.specs.Steps.{StepWritten, StepOrNothing};
 ghost use Rattle.session_replies.specs.Telling.{told_before};
+ghost use Rattle.machine.specs.Steps.{Stepped};
 
 use access::RepoAccess;
 use machine::{Client, Turn};
@@ -22,15 +20,9 @@ fn ask_change<R: Repository, A: RepoAccess<View = R>, S: ReplySink>(
     access: &mut A,
     turn: &mut Turn<S>,
 ) -> Result<SessionPhase<R>, AllocError>
-    ensures ok { IfOk result (λ phase. StepWritten A.rules
-        (λ at a. Behind (told_before preface)
-        (RevisingStep at.halted turn.old.env (content_of at) client ask) a)
+    ensures { Stepped result turn.new.env (S.writes turn.old.out turn.new.out) A.rules
         (A.point access.old) (A.point access.new)
-        phase turn.new.env (S.writes turn.old.out turn.new.out)) }
-    ensures err { OnErr result (StepOrNothing A.rules
-        (λ at a. Behind (told_before preface)
-        (RevisingStep at.halted turn.old.env (content_of at) client ask) a)
-        (A.point access.old) (A.point access.new) (S.writes turn.old.out turn.new.out)) }
+        (Behind (told_before preface) (RevisingStep turn.old.env client ask)) }
 {
     match access.change_property(ask) {
         Ok(()) => tell(client, preface, Ok(Reply::Success), turn),
@@ -46,15 +38,9 @@ pub fn change_property<R: Repository, A: RepoAccess<View = R>, S: ReplySink>(
     access: &mut A,
     turn: &mut Turn<S>,
 ) -> Result<SessionPhase<R>, AllocError>
-    ensures ok { IfOk result (λ phase. StepWritten A.rules
-        (λ at a. Behind (told_before preface)
-        (RevisingStep at.halted turn.old.env (content_of at) client ask.now) a)
+    ensures { Stepped result turn.new.env (S.writes turn.old.out turn.new.out) A.rules
         (A.point access.old) (A.point access.new)
-        phase turn.new.env (S.writes turn.old.out turn.new.out)) }
-    ensures err { OnErr result (StepOrNothing A.rules
-        (λ at a. Behind (told_before preface)
-        (RevisingStep at.halted turn.old.env (content_of at) client ask.now) a)
-        (A.point access.old) (A.point access.new) (S.writes turn.old.out turn.new.out)) }
+        (Behind (told_before preface) (RevisingStep turn.old.env client ask.now)) }
 {
     match ask.clone() {
         Ok(ask) => ask_change(client, ask, preface, access, turn),

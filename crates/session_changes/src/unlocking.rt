@@ -1,12 +1,10 @@
 //! A path of the repository is unlocked.
-ghost use Rattle.std.specs.Prelude.{IfOk, OnErr};
 ghost use Rattle.svnpath.specs.Texts.{joined};
-ghost use Rattle.access.specs.Points.{content_of};
 ghost use Rattle.machine.specs.Answers.{Behind};
 ghost use Rattle.machine.specs.Commands.{UnlockStep};
-ghost use Rattle.machine.specs.Steps.{StepWritten, StepOrNothing};
 ghost use Rattle.session_replies.specs.Telling.{told_before};
 ghost use Rattle.session_changes.specs.Asked.{UnlockAsked};
+ghost use Rattle.machine.specs.Steps.{Stepped};
 
 use crate::asking::unlock_asked_for;
 use access::RepoAccess;
@@ -28,15 +26,9 @@ fn ask_unlock<R: Repository, A: RepoAccess<View = R>, S: ReplySink>(
     access: &mut A,
     turn: &mut Turn<S>,
 ) -> Result<SessionPhase<R>, AllocError>
-    ensures ok { IfOk result (λ phase. StepWritten A.rules
-        (λ at a. Behind (told_before preface)
-        (UnlockAsked at.halted turn.old.env (content_of at) client ask.now) a)
+    ensures { Stepped result turn.new.env (S.writes turn.old.out turn.new.out) A.rules
         (A.point access.old) (A.point access.new)
-        phase turn.new.env (S.writes turn.old.out turn.new.out)) }
-    ensures err { OnErr result (StepOrNothing A.rules
-        (λ at a. Behind (told_before preface)
-        (UnlockAsked at.halted turn.old.env (content_of at) client ask.now) a)
-        (A.point access.old) (A.point access.new) (S.writes turn.old.out turn.new.out)) }
+        (Behind (told_before preface) (UnlockAsked turn.old.env client ask.now)) }
 {
     match access.unlock(ask) {
         Ok(()) => tell(client, preface, Ok(Reply::Success), turn),
@@ -52,15 +44,10 @@ pub fn unlock<R: Repository, A: RepoAccess<View = R>, S: ReplySink>(
     access: &mut A,
     turn: &mut Turn<S>,
 ) -> Result<SessionPhase<R>, AllocError>
-    ensures ok { IfOk result (λ phase. StepWritten A.rules
-        (λ at a. Behind (told_before preface) (UnlockStep at.halted turn.old.env (content_of at)
-        client command.now (joined client.path command.now.path)) a)
+    ensures { Stepped result turn.new.env (S.writes turn.old.out turn.new.out) A.rules
         (A.point access.old) (A.point access.new)
-        phase turn.new.env (S.writes turn.old.out turn.new.out)) }
-    ensures err { OnErr result (StepOrNothing A.rules
-        (λ at a. Behind (told_before preface) (UnlockStep at.halted turn.old.env (content_of at)
-        client command.now (joined client.path command.now.path)) a)
-        (A.point access.old) (A.point access.new) (S.writes turn.old.out turn.new.out)) }
+        (Behind (told_before preface)
+        (UnlockStep turn.old.env client command.now (joined client.path command.now.path))) }
 {
     match unlock_asked_for(turn.alloc, &client, command) {
         Ok(ask) => {

@@ -1,14 +1,11 @@
 //! Commands, and what is none.
-ghost use Rattle.std.specs.Prelude.{◌∷◌, [], Ok, false, IfOk, OnErr};
+ghost use Rattle.std.specs.Prelude.{Ok, false};
 ghost use Rattle.items.specs.View.{value_of};
 ghost use Rattle.commands.specs.Commands.{main_command};
 ghost use Rattle.wire_replies.specs.declared.reply.Reply.{Reply};
-ghost use Rattle.wire_replies.specs.Replies.{print};
-ghost use Rattle.wire_replies.specs.Sinks.{WritesPart};
-ghost use Rattle.access.specs.Points.{content_of};
 ghost use Rattle.machine.specs.Answers.{serves};
 ghost use Rattle.machine.specs.Machine.{KnownCommand, MainStep};
-ghost use Rattle.machine.specs.Steps.{AnswerWritten, StepWritten, StepOrNothing};
+ghost use Rattle.machine.specs.Steps.{Answered, Stepped};
 
 use crate::asking::ask_for_login;
 use crate::own::own_answer;
@@ -30,11 +27,8 @@ fn refuse_unknown<R: Repository, S: ReplySink>(
     client: Client,
     turn: &mut Turn<S>,
 ) -> Result<SessionPhase<R>, AllocError>
-    ensures ok { IfOk result (λ phase. AnswerWritten
-        (serves turn.old.env client (Reply.Failure Refusal.UnknownCommand))
-        phase turn.new.env (S.writes turn.old.out turn.new.out)) }
-    ensures err { OnErr result (WritesPart (S.writes turn.old.out turn.new.out)
-        (print (Reply.Failure Refusal.UnknownCommand ∷ []))) }
+    ensures { Answered result turn.new.env (S.writes turn.old.out turn.new.out)
+        (serves turn.old.env client (Reply.Failure Refusal.UnknownCommand)) }
 {
     refuse(client, Preface::Nothing, Refusal::UnknownCommand, turn)
 }
@@ -47,15 +41,9 @@ fn answer_command<R: Repository, A: RepoAccess<View = R>, S: ReplySink>(
     access: &mut A,
     turn: &mut Turn<S>,
 ) -> Result<SessionPhase<R>, AllocError>
-    ensures ok { IfOk result (λ phase. StepWritten A.rules
-        (λ at a. KnownCommand false at.halted options.now turn.old.env (content_of at) client
-        command a)
+    ensures { Stepped result turn.new.env (S.writes turn.old.out turn.new.out) A.rules
         (A.point access.old) (A.point access.new)
-        phase turn.new.env (S.writes turn.old.out turn.new.out)) }
-    ensures err { OnErr result (StepOrNothing A.rules
-        (λ at a. KnownCommand false at.halted options.now turn.old.env (content_of at) client
-        command a)
-        (A.point access.old) (A.point access.new) (S.writes turn.old.out turn.new.out)) }
+        (KnownCommand false options.now turn.old.env client command) }
 {
     let preface = preface_of(&command);
     let request = Request {
@@ -75,15 +63,9 @@ fn take_command<R: Repository, A: RepoAccess<View = R>, S: ReplySink>(
     access: &mut A,
     turn: &mut Turn<S>,
 ) -> Result<SessionPhase<R>, AllocError>
-    ensures ok { IfOk result (λ phase. StepWritten A.rules
-        (λ at a. MainStep at.halted options.now turn.old.env (content_of at) client
-        (Ok command) a)
+    ensures { Stepped result turn.new.env (S.writes turn.old.out turn.new.out) A.rules
         (A.point access.old) (A.point access.new)
-        phase turn.new.env (S.writes turn.old.out turn.new.out)) }
-    ensures err { OnErr result (StepOrNothing A.rules
-        (λ at a. MainStep at.halted options.now turn.old.env (content_of at) client
-        (Ok command) a)
-        (A.point access.old) (A.point access.new) (S.writes turn.old.out turn.new.out)) }
+        (MainStep options.now turn.old.env client (Ok command)) }
 {
     if wants_user(options, &client, &command) {
         let waiting = Some(command);
@@ -101,15 +83,9 @@ pub fn answer_item<R: Repository, A: RepoAccess<View = R>, S: ReplySink>(
     access: &mut A,
     turn: &mut Turn<S>,
 ) -> Result<SessionPhase<R>, AllocError>
-    ensures ok { IfOk result (λ phase. StepWritten A.rules
-        (λ at a. MainStep at.halted options.now turn.old.env (content_of at) client
-        (main_command (value_of item.now)) a)
+    ensures { Stepped result turn.new.env (S.writes turn.old.out turn.new.out) A.rules
         (A.point access.old) (A.point access.new)
-        phase turn.new.env (S.writes turn.old.out turn.new.out)) }
-    ensures err { OnErr result (StepOrNothing A.rules
-        (λ at a. MainStep at.halted options.now turn.old.env (content_of at) client
-        (main_command (value_of item.now)) a)
-        (A.point access.old) (A.point access.new) (S.writes turn.old.out turn.new.out)) }
+        (MainStep options.now turn.old.env client (main_command (value_of item.now))) }
 {
     match MainCommand::from_item(turn.alloc, item) {
         Ok(command) => take_command(options, client, command, access, turn),

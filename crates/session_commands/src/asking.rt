@@ -1,12 +1,11 @@
 //! A login is asked for.
-ghost use Rattle.std.specs.Prelude.{◌≡◌, ◌∷◌, [], IfOk, OnOk, OnErr};
+ghost use Rattle.std.specs.Prelude.{◌≡◌, ◌∷◌, [], IfOk};
 ghost use Rattle.wire_replies.specs.declared.reply.Reply.{Reply};
-ghost use Rattle.wire_replies.specs.Replies.{print};
-ghost use Rattle.wire_replies.specs.Sinks.{WritesPart};
 ghost use Rattle.machine.specs.Answers.{says};
 ghost use Rattle.machine.specs.Logins.{asks};
-ghost use Rattle.machine.specs.Steps.{AnswerWritten};
 ghost use Rattle.machine.specs.declared.phase.Phase.TheVariants.{LoggingIn};
+ghost use Rattle.wire_replies.specs.Sinks.{Says};
+ghost use Rattle.machine.specs.Steps.{Answered};
 
 use byte_string::ByteString;
 use machine::{OpenLogin, Options, Phase, Turn, offer};
@@ -22,11 +21,8 @@ pub fn await_choice<R: Repository, S: ReplySink>(
     reply: &Reply,
     turn: &mut Turn<S>,
 ) -> Result<SessionPhase<R>, AllocError>
-    ensures ok { IfOk result (λ phase. AnswerWritten
-        (says turn.old.env (LoggingIn login) (reply.now ∷ []))
-        phase turn.new.env (S.writes turn.old.out turn.new.out)) }
-    ensures err { OnErr result (WritesPart (S.writes turn.old.out turn.new.out)
-        (print (reply.now ∷ []))) }
+    ensures { Answered result turn.new.env (S.writes turn.old.out turn.new.out)
+        (says turn.old.env (LoggingIn login) (reply.now ∷ [])) }
 {
     match turn.out.say(reply) {
         Ok(()) => Ok(Phase::LoggingIn(login)),
@@ -52,10 +48,7 @@ fn say_login<S: ReplySink>(
     offered: Offer,
     out: &mut S,
 ) -> Result<(), AllocError>
-    ensures ok { OnOk result (S.writes out.old out.new
-        (print (Reply.Login offered options.now.name ∷ []))) }
-    ensures err { OnErr result (WritesPart (S.writes out.old out.new)
-        (print (Reply.Login offered options.now.name ∷ []))) }
+    ensures { Says result (S.writes out.old out.new) (Reply.Login offered options.now.name ∷ []) }
 {
     match login_reply(alloc, options, offered) {
         Ok(reply) => say_new(reply, out),
@@ -69,11 +62,8 @@ pub fn ask_for_login<R: Repository, S: ReplySink>(
     login: OpenLogin,
     turn: &mut Turn<S>,
 ) -> Result<SessionPhase<R>, AllocError>
-    ensures ok { IfOk result (λ phase. AnswerWritten
-        (asks options.now turn.old.env login)
-        phase turn.new.env (S.writes turn.old.out turn.new.out)) }
-    ensures err { OnErr result (WritesPart (S.writes turn.old.out turn.new.out)
-        (print (asks options.now turn.old.env login).replies)) }
+    ensures { Answered result turn.new.env (S.writes turn.old.out turn.new.out)
+        (asks options.now turn.old.env login) }
 {
     let offered = offer(options, &login.waiting);
     match say_login(turn.alloc, options, offered, &mut turn.out) {

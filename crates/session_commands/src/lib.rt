@@ -4,7 +4,6 @@
 mod answering;
 mod asking;
 mod beginning;
-mod files;
 mod own;
 mod reparenting;
 mod request;

@@ -1,31 +1,23 @@
 //! What a command is answered, behind what its client is told before.
-ghost use Rattle.std.specs.Prelude.{◌++◌, [], IfOk, OnErr};
-ghost use Rattle.wire_replies.specs.Replies.{print};
-ghost use Rattle.wire_replies.specs.Sinks.{WritesPart};
-ghost use Rattle.access.specs.Points.{content_of};
+ghost use Rattle.std.specs.Prelude.{[]};
 ghost use Rattle.machine.specs.Answers.{says, behind, Behind};
 ghost use Rattle.machine.specs.Commands.{lock_tokens, asked_by, commit_begins, OwnStep};
-ghost use Rattle.machine.specs.Steps.{AnswerWritten, StepWritten, StepOrNothing};
 ghost use Rattle.machine.specs.declared.phase.Phase.TheVariants.{Serving};
 ghost use Rattle.session_replies.specs.Telling.{told_before};
+ghost use Rattle.machine.specs.Steps.{Answered, Stepped};
 
 use crate::beginning::{begun_report, open_report};
-use crate::files::tell_file;
 use crate::reparenting::reparent;
 use crate::request::Request;
 use access::RepoAccess;
 use commands::{CommitCommand, MainCommand};
-use drive_reports::{Errand, Purpose};
 use machine::{Client, Options, Phase, Turn};
 use refusals::Refusal;
 use repo_api::Repository;
 use session_changes::{change_property, lock, unlock};
 use session_commits::begin_edit;
-use session_reads::{
-    dated_reply, directory_reply, file_answer, kind_reply, lock_reply, locks_reply,
-    properties_reply, property_reply, stat_reply, tell_locations, tell_log, youngest_reply,
-};
-use session_replies::{Preface, SessionPhase, refuse, say_preface, tell};
+use session_reads::tell_read;
+use session_replies::{Preface, SessionPhase, refuse, say_preface};
 use std::alloc::AllocError;
 use std::mem::drop;
 use wire_replies::ReplySink;
@@ -38,13 +30,10 @@ fn begin<R: Repository, S: ReplySink>(
     preface: Preface,
     turn: &mut Turn<S>,
 ) -> Result<SessionPhase<R>, AllocError>
-    ensures ok { IfOk result (λ phase. AnswerWritten (behind (told_before preface)
+    ensures { Answered result turn.new.env (S.writes turn.old.out turn.new.out)
+        (behind (told_before preface)
         (commit_begins options.now turn.old.env client
-        (asked_by command.now (lock_tokens client.path command.now.tokens))))
-        phase turn.new.env (S.writes turn.old.out turn.new.out)) }
-    ensures err { OnErr result (WritesPart (S.writes turn.old.out turn.new.out)
-        (print (behind (told_before preface) (commit_begins options.now turn.old.env client
-        (asked_by command.now (lock_tokens client.path command.now.tokens)))).replies)) }
+        (asked_by command.now (lock_tokens client.path command.now.tokens)))) }
 {
     match say_preface(preface, &mut turn.out) {
         Ok(()) => begin_edit(options, client, command, turn),
@@ -61,11 +50,8 @@ fn tell_nothing<R: Repository, S: ReplySink>(
     preface: Preface,
     turn: &mut Turn<S>,
 ) -> Result<SessionPhase<R>, AllocError>
-    ensures ok { IfOk result (λ phase. AnswerWritten
-        (behind (told_before preface) (says turn.old.env (Serving client) []))
-        phase turn.new.env (S.writes turn.old.out turn.new.out)) }
-    ensures err { OnErr result (WritesPart (S.writes turn.old.out turn.new.out)
-        (print (told_before preface ++ []))) }
+    ensures { Answered result turn.new.env (S.writes turn.old.out turn.new.out)
+        (behind (told_before preface) (says turn.old.env (Serving client) [])) }
 {
     match say_preface(preface, &mut turn.out) {
         Ok(()) => Ok(Phase::Serving(client)),
@@ -84,62 +70,22 @@ pub fn own_answer<R: Repository, A: RepoAccess<View = R>, S: ReplySink>(
     access: &mut A,
     turn: &mut Turn<S>,
 ) -> Result<SessionPhase<R>, AllocError>
-    ensures ok { IfOk result (λ phase. StepWritten A.rules
-        (λ at a. Behind (told_before request.entry.preface) (OwnStep at.halted options.now
-        turn.old.env (content_of at) client request.entry.command.now) a)
+    ensures { Stepped result turn.new.env (S.writes turn.old.out turn.new.out) A.rules
         (A.point access.old) (A.point access.new)
-        phase turn.new.env (S.writes turn.old.out turn.new.out)) }
-    ensures err { OnErr result (StepOrNothing A.rules
-        (λ at a. Behind (told_before request.entry.preface) (OwnStep at.halted options.now
-        turn.old.env (content_of at) client request.entry.command.now) a)
-        (A.point access.old) (A.point access.new) (S.writes turn.old.out turn.new.out)) }
+        (Behind (told_before request.entry.preface)
+        (OwnStep options.now turn.old.env client request.entry.command.now)) }
 {
     let Request { command, preface } = request;
     match command {
-        MainCommand::GetLatestRev => {
-            let reply = youngest_reply(access);
-            tell(client, preface, reply, turn)
-        }
-        MainCommand::CheckPath(path, revision) => {
-            let reply = kind_reply(turn.alloc, &client.path, path, *revision, access);
-            tell(client, preface, reply, turn)
-        }
-        MainCommand::RevProplist(revision) => {
-            let reply = properties_reply(turn.alloc, *revision, access);
-            tell(client, preface, reply, turn)
+        MainCommand::Read(command) => tell_read(client, command, preface, access, turn),
+        MainCommand::Drive(command) => {
+            let report = begun_report(turn.alloc, options, &client, command, access);
+            open_report(client, preface, report, turn)
         }
         MainCommand::Commit(commit) => begin(options, client, commit, preface, turn),
         MainCommand::AbortEdit => tell_nothing(client, preface, turn),
         MainCommand::Lock(command) => lock(client, command, preface, access, turn),
         MainCommand::Unlock(command) => unlock(client, command, preface, access, turn),
-        MainCommand::GetLock(path) => {
-            let reply = lock_reply(turn.alloc, &client.path, path, access);
-            tell(client, preface, reply, turn)
-        }
-        MainCommand::GetLocks(path) => {
-            let reply = locks_reply(turn.alloc, &client.path, path, access);
-            tell(client, preface, reply, turn)
-        }
-        MainCommand::GetFile(command) => {
-            let answer = file_answer(turn.alloc, &client.path, command, access);
-            tell_file(client, preface, answer, turn)
-        }
-        MainCommand::GetDir(command) => {
-            let reply = directory_reply(turn.alloc, &client.path, command, access);
-            tell(client, preface, reply, turn)
-        }
-        MainCommand::Stat(path, revision) => {
-            let reply = stat_reply(turn.alloc, &client.path, path, *revision, access);
-            tell(client, preface, reply, turn)
-        }
-        MainCommand::GetDatedRev(date) => {
-            let reply = dated_reply(date, access);
-            tell(client, preface, reply, turn)
-        }
-        MainCommand::RevProp(revision, name) => {
-            let reply = property_reply(*revision, name, access);
-            tell(client, preface, reply, turn)
-        }
         MainCommand::ChangeRevProp(ask) => {
             if options.has_revprops() {
                 change_property(client, ask, preface, access, turn)
@@ -148,36 +94,5 @@ pub fn own_answer<R: Repository, A: RepoAccess<View = R>, S: ReplySink>(
             }
         }
         MainCommand::Reparent(url) => reparent(options, client, url, preface, turn),
-        MainCommand::Log(command) => tell_log(client, command, preface, access, turn),
-        MainCommand::GetLocations(command) => {
-            tell_locations(client, command, preface, access, turn)
-        }
-        MainCommand::Update(request) => {
-            let errand = Errand {
-                purpose: Purpose::Update,
-                request,
-                url: None,
-            };
-            let report = begun_report(turn.alloc, options, &client, errand, access);
-            open_report(client, preface, report, turn)
-        }
-        MainCommand::Switch(request, url) => {
-            let errand = Errand {
-                purpose: Purpose::Switch,
-                request,
-                url: Some(url),
-            };
-            let report = begun_report(turn.alloc, options, &client, errand, access);
-            open_report(client, preface, report, turn)
-        }
-        MainCommand::Status(request) => {
-            let errand = Errand {
-                purpose: Purpose::Status,
-                request,
-                url: None,
-            };
-            let report = begun_report(turn.alloc, options, &client, errand, access);
-            open_report(client, preface, report, turn)
-        }
     }
 }

@@ -1,12 +1,10 @@
 //! A client goes on at another URL.
-ghost use Rattle.std.specs.Prelude.{◌≡◌, IfOk, OnErr};
+ghost use Rattle.std.specs.Prelude.{◌≡◌};
 ghost use Rattle.svnpath.specs.Urls.{path_of_text};
-ghost use Rattle.wire_replies.specs.Replies.{print};
-ghost use Rattle.wire_replies.specs.Sinks.{WritesPart};
 ghost use Rattle.machine.specs.Answers.{behind};
 ghost use Rattle.machine.specs.Commands.{at_path, reparented};
-ghost use Rattle.machine.specs.Steps.{AnswerWritten};
 ghost use Rattle.session_replies.specs.Telling.{told_before};
+ghost use Rattle.machine.specs.Steps.{Answered};
 
 use byte_string::ByteString;
 use machine::{Client, Options, Turn};
@@ -39,12 +37,9 @@ pub(crate) fn reparent<R: Repository, S: ReplySink>(
     preface: Preface,
     turn: &mut Turn<S>,
 ) -> Result<SessionPhase<R>, AllocError>
-    ensures ok { IfOk result (λ phase. AnswerWritten (behind (told_before preface)
-        (reparented turn.old.env client (path_of_text url.now options.now.name)))
-        phase turn.new.env (S.writes turn.old.out turn.new.out)) }
-    ensures err { OnErr result (WritesPart (S.writes turn.old.out turn.new.out)
-        (print (behind (told_before preface)
-        (reparented turn.old.env client (path_of_text url.now options.now.name))).replies)) }
+    ensures { Answered result turn.new.env (S.writes turn.old.out turn.new.out)
+        (behind (told_before preface)
+        (reparented turn.old.env client (path_of_text url.now options.now.name))) }
 {
     match Path::from_url(turn.alloc, url.as_slice(), options.name()) {
         Ok(path) => {

@@ -21,27 +21,14 @@ pub(crate) fn preface_of(command: &MainCommand) -> Preface
     ensures { told_before result ≡ login_request command.now }
 {
     match command {
-        MainCommand::GetLatestRev => Preface::NoLogin,
-        MainCommand::CheckPath(_, _) => Preface::NoLogin,
-        MainCommand::RevProplist(_) => Preface::NoLogin,
+        MainCommand::Read(_) => Preface::NoLogin,
+        MainCommand::Drive(_) => Preface::NoLogin,
         MainCommand::Commit(_) => Preface::NoLogin,
         MainCommand::AbortEdit => Preface::Nothing,
         MainCommand::Lock(_) => Preface::NoLogin,
         MainCommand::Unlock(_) => Preface::NoLogin,
-        MainCommand::GetLock(_) => Preface::NoLogin,
-        MainCommand::GetLocks(_) => Preface::NoLogin,
-        MainCommand::GetFile(_) => Preface::NoLogin,
-        MainCommand::GetDir(_) => Preface::NoLogin,
-        MainCommand::Stat(_, _) => Preface::NoLogin,
-        MainCommand::GetDatedRev(_) => Preface::NoLogin,
-        MainCommand::RevProp(_, _) => Preface::NoLogin,
         MainCommand::ChangeRevProp(_) => Preface::NoLogin,
         MainCommand::Reparent(_) => Preface::NoLogin,
-        MainCommand::Log(_) => Preface::NoLogin,
-        MainCommand::GetLocations(_) => Preface::NoLogin,
-        MainCommand::Update(_) => Preface::NoLogin,
-        MainCommand::Switch(_, _) => Preface::NoLogin,
-        MainCommand::Status(_) => Preface::NoLogin,
     }
 }
 
@@ -50,27 +37,14 @@ fn is_write(command: &MainCommand) -> bool
     ensures { result ≡ is_write command.now }
 {
     match command {
-        MainCommand::GetLatestRev => false,
-        MainCommand::CheckPath(_, _) => false,
-        MainCommand::RevProplist(_) => false,
+        MainCommand::Read(_) => false,
+        MainCommand::Drive(_) => false,
         MainCommand::Commit(_) => true,
         MainCommand::AbortEdit => false,
         MainCommand::Lock(_) => true,
         MainCommand::Unlock(_) => true,
-        MainCommand::GetLock(_) => false,
-        MainCommand::GetLocks(_) => false,
-        MainCommand::GetFile(_) => false,
-        MainCommand::GetDir(_) => false,
-        MainCommand::Stat(_, _) => false,
-        MainCommand::GetDatedRev(_) => false,
-        MainCommand::RevProp(_, _) => false,
         MainCommand::ChangeRevProp(_) => true,
         MainCommand::Reparent(_) => false,
-        MainCommand::Log(_) => false,
-        MainCommand::GetLocations(_) => false,
-        MainCommand::Update(_) => false,
-        MainCommand::Switch(_, _) => false,
-        MainCommand::Status(_) => false,
     }
 }
 

@@ -1,6 +1,6 @@
 -- The steps of an edit.
 use Rattle.std.proofs.Common.{◌≡◌, ℕ, List, [], ◌∷◌, ◌++◌, Bool, true, false, Option, Some, None, refl, sym, ap, subst, inl, inr, length}
-use Rattle.std.specs.Prelude.{Result, Ok, Err, IfOk, OnErr, IsSomeAnd, MatchOption}
+use Rattle.std.specs.Prelude.{Result, Ok, Err, option_map}
 use Rattle.dates.specs.Dates.{IsDateText}
 use Rattle.refusals.specs.declared.Refusal.{Refusal}
 use Rattle.refusals.specs.declared.Refusal.TheVariants as refusals
@@ -20,9 +20,7 @@ use Rattle.edit_rules.specs.Refusing.{edit_refusal}
 use Rattle.edit_rules.specs.Editor.{Applies, finished}
 use Rattle.access.specs.Points.{Point, AccessRules, content_of}
 use Rattle.machine.specs.Stages.{Stage}
-use Rattle.wire_replies.specs.Replies.{print}
-use Rattle.wire_replies.specs.Sinks.{WritesPart}
-use Rattle.machine.specs.Answers.{Answer, says, serves, behind, change_answer}
+use Rattle.machine.specs.Answers.{Answer, Step, says, serves, behind, change_answer}
 use Rattle.machine.specs.Machine.{MachineEdit, JudgedEdit, EditStep, CommitStep, CloseStep, UnreleasedClose, CommandStep, EditingStep, UnreleasedEnd, ending_of, commit_ask, gives_up, Release, IsReleaseOf, release_fails, release_effect, phase_after, made_answer, unreleased_answer}
 use Rattle.machine.specs.Machine.Release.{Stays as StayThere, Released as FreedThere, Fails}
 use Rattle.machine.specs.Answers.Verdict.{Written, NotWritten, Unknown}
@@ -30,7 +28,7 @@ use Rattle.access.specs.Changing.{CommitsAt, wants_release}
 use Rattle.access.specs.declared.access.Committed.{Committed}
 use Rattle.access.specs.declared.access.Released.{Released}
 use Rattle.access.specs.declared.access.Released.TheVariants.{Settled, NoMemory, StoreFailed}
-use Rattle.machine.specs.Steps.{EffectAt, AnswerWritten, StepWritten, StepOrPart}
+use Rattle.machine.specs.Steps.{EffectAt, AnsweredIfAny, SteppedInPart}
 use Rattle.session_replies.specs.Telling.{fault_answer}
 use Rattle.session_replies.proofs.Steps.{Leads, leads_by, only_says, stepped, unparted, not_asked}
 use Rattle.session_commits.specs.Telling.{commit_answer}
@@ -46,7 +44,7 @@ use Rattle.machine.specs.declared.phase.Client.{Client}
 module _ (rules : AccessRules) (env : Env) (edit : MachineEdit) (command : EditorCommand) (p q : Point) (later : rules.between p q) where
   -- a command is applied
   pub goes_on : (after : EditState) → edit_refusal (content_of q) edit.editor command ≡ None → Applies (content_of q) edit.editor command after
-      → Leads rules (λ at a. EditStep env (content_of at) edit command a) p q env
+      → Leads rules (EditStep env edit command) p q env
       (Editing (record { client = edit.client; asked = edit.asked; editor = after })) []
   goes_on after accepted applies =
       let phase : Stage = Editing (record { client = edit.client; asked = edit.asked; editor = after }) in
@@ -55,26 +53,26 @@ module _ (rules : AccessRules) (env : Env) (edit : MachineEdit) (command : Edito
 
   -- one that is refused gives the edit up
   pub ends : (r : Refusal) → edit_refusal (content_of q) edit.editor command ≡ Some r
-      → Leads rules (λ at a. EditStep env (content_of at) edit command a) p q env (Skipping edit.client) (replies.Failure r ∷ [])
+      → Leads rules (EditStep env edit command) p q env (Skipping edit.client) (replies.Failure r ∷ [])
   ends r refused =
       let judged = subst (λ (o : Option Refusal). JudgedEdit env (content_of q) edit command o (gives_up env edit.client r)) (sym refused) refl in
       only_says later judged
 
 -- an edit that cannot be committed
 pub closes_by : (rules : AccessRules) (env : Env) (edit : MachineEdit) (p : Point) (r : Refusal) → rules.between p p → finished edit.editor ≡ Err r
-    → Leads rules (λ at a. CloseStep at.halted env (content_of at) edit.client edit.asked (finished edit.editor) a) p p env
+    → Leads rules (CloseStep env edit.client edit.asked (finished edit.editor)) p p env
     (Serving edit.client) (replies.Failure r ∷ [])
 closes_by rules env edit p r stays is =
     let said = says env (Serving edit.client) (replies.Failure r ∷ []) in
-    let step = subst (λ (x : Result TxnState Refusal). CloseStep p.halted env (content_of p) edit.client edit.asked x said) (sym is) refl in
+    let step = subst (λ (x : Result TxnState Refusal). CloseStep env edit.client edit.asked x p.halted (content_of p) said) (sym is) refl in
     only_says stays step
 
 -- an edit that is given up
 pub aborts : (rules : AccessRules) (env : Env) (edit : MachineEdit) (command : EditorCommand) (p : Point) → rules.between p p → ending_of command ≡ Some GivesUp
-    → Leads rules (λ at a. EditingStep at.halted env (content_of at) edit (Ok command) a) p p env (Serving edit.client) (replies.Success ∷ [])
+    → Leads rules (EditingStep env edit (Ok command)) p p env (Serving edit.client) (replies.Success ∷ [])
 aborts rules env edit command p stays is =
     let said = says env (Serving edit.client) (replies.Success ∷ []) in
-    let step = subst (λ (e : Option Ending). CommandStep p.halted env (content_of p) edit command e said) (sym is) refl in
+    let step = subst (λ (e : Option Ending). CommandStep env edit command e p.halted (content_of p) said) (sym is) refl in
     only_says stays step
 
 -- what a commit is asked to record, at its moment
@@ -85,11 +83,11 @@ pub record IsAsked (env : Env) (client : Client) (asked : CommitParameters) (dat
 module _ {env : Env} {client : Client} {asked : CommitParameters} {date : List ℕ} {ask : CommitAsk} (is : IsAsked env client asked date ask)
     (rules : AccessRules) (t : TxnState) (p q : Point) where
   -- the end of the edit, at a point, and the part of it that may happen alone
-  abbrev Closes : Point → Answer → Type 0
-  Closes at a = CloseStep at.halted env (content_of at) client asked (Ok t) a
+  abbrev Closes : Step
+  Closes = CloseStep env client asked (Ok t)
 
-  abbrev Stays : Point → Answer → Type 0
-  Stays at a = UnreleasedClose at.halted env (content_of at) client asked (Ok t) a
+  abbrev Stays : Step
+  Stays = UnreleasedClose env client asked (Ok t)
 
   -- what the commit has come to
   abbrev Came : Result Committed ChangeFault → Type 0
@@ -97,7 +95,7 @@ module _ {env : Env} {client : Client} {asked : CommitParameters} {date : List �
 
   -- it is dated, and judged as what is asked to be recorded
   closes : (at : Point) (h : Bool) (r : Option Refusal) (a : Answer) → at.halted ≡ h → commit_refusal (content_of at) ask t ≡ r
-      → CommitStep h env (content_of at) client ask t r a → Closes at a
+      → CommitStep h env (content_of at) client ask t r a → Closes at.halted (content_of at) a
   closes at h r a halts judged step =
       let c = content_of at in
       let here = subst (λ (o : Option Refusal). CommitStep h env c client ask t o a) (sym judged) step in
@@ -128,14 +126,7 @@ module _ {env : Env} {client : Client} {asked : CommitParameters} {date : List �
     -- one that is written, whatever became of the locks
     pub committed : (released : Released) → Came (Ok (record { revision = n; released = released }))
         → {E : Type 0} (r : Result Stage E) (env' : Env) (writes : List ℕ → Type 0)
-        → record {
-          ok : IfOk r (λ phase'. IsSomeAnd (commit_answer env client date author n released) (λ a. AnswerWritten a phase' env' writes));
-          err : OnErr r (MatchOption (commit_answer env client date author n released) (writes []) (λ a. WritesPart writes (print a.replies)));
-        }
-        → record {
-          ok : IfOk r (λ phase'. StepWritten rules Closes p q phase' env' writes);
-          err : OnErr r (StepOrPart rules Closes Stays p q writes);
-        }
+        → AnsweredIfAny r env' writes (commit_answer env client date author n released) → SteppedInPart r env' writes rules p q Closes Stays
     committed Settled (at, later, (going, accepted, (number, (mid, added, inl (wants, freed))))) r env' writes said =
         unparted rules Closes Stays p q writes r env' (stepped (made at mid FreedThere later going accepted number added (subst (λ (b : Bool). IsReleaseOf b FreedThere) (sym wants) tt)
         (q, (mid, added, (q, freed, refl)), refl)) writes r env' said)
@@ -145,47 +136,37 @@ module _ {env : Env} {client : Client} {asked : CommitParameters} {date : List �
     committed StoreFailed (at, later, (going, accepted, (number, (mid, added, (wants, halt))))) r env' writes said =
         unparted rules Closes Stays p q writes r env' (stepped (made at mid Fails later going accepted number added (subst (λ (b : Bool). IsReleaseOf b Fails) (sym wants) tt)
         (mid, (mid, added, refl), halt)) writes r env' said)
-    committed NoMemory came (Ok phase') env' writes said = absurd said.ok
+    committed NoMemory came (Ok phase') env' writes said = absurd said
     committed NoMemory (at, later, (going, accepted, (number, (mid, added, (wants, same))))) (Err e) env' writes said =
         let c = content_of at in
         let there = subst (λ (x : RepoState). wants_release ask x ≡ true) (counts at (Commits ask t) mid added).0 wants in
         let same_ask = is.same in
-        record {
-          ok = tt;
-          err = inr (
-            unreleased_answer env ask t,
-            record {
-              at = at;
-              later = later;
-              step_is = record {
-                txn = t;
-                txn_is = refl;
-                date = date;
-                is_date = is.dated;
-                running = going;
-                accepted = subst (λ (x : CommitAsk). commit_refusal c x t ≡ None) same_ask accepted;
-                wanted = subst (λ (x : CommitAsk). wants_release x (with_commit c x t) ≡ true) same_ask there;
-                is = ap (λ (x : CommitAsk). unreleased_answer env x t) same_ask;
-              };
-              moves = (mid, (mid, added, refl), same);
-            },
-            said.err,
-          );
-        }
+        inr (
+          unreleased_answer env ask t,
+          record {
+            at = at;
+            later = later;
+            step_is = record {
+              txn = t;
+              txn_is = refl;
+              date = date;
+              is_date = is.dated;
+              running = going;
+              accepted = subst (λ (x : CommitAsk). commit_refusal c x t ≡ None) same_ask accepted;
+              wanted = subst (λ (x : CommitAsk). wants_release x (with_commit c x t) ≡ true) same_ask there;
+              is = ap (λ (x : CommitAsk). unreleased_answer env x t) same_ask;
+            };
+            moves = (mid, (mid, added, refl), same);
+          },
+          said,
+        )
 
   -- one that is refused, or not written, or lacks memory
-  led : (at : Point) (a : Answer) → rules.between p at → Closes at a → EffectAt rules at a.effect q → Leads rules Closes p q a.env a.phase a.replies
+  led : (at : Point) (a : Answer) → rules.between p at → Closes at.halted (content_of at) a → EffectAt rules at a.effect q → Leads rules Closes p q a.env a.phase a.replies
   led at a later step_is moves = leads_by a at later step_is moves
 
   pub not_committed : (fault : ChangeFault) → Came (Err fault) → {E : Type 0} (r : Result Stage E) (env' : Env) (writes : List ℕ → Type 0)
-      → record {
-        ok : IfOk r (λ phase'. IsSomeAnd (fault_answer env client fault) (λ a. AnswerWritten (behind [] a) phase' env' writes));
-        err : OnErr r (MatchOption (fault_answer env client fault) (writes []) (λ a. WritesPart writes (print ([] ++ a.replies))));
-      }
-      → record {
-        ok : IfOk r (λ phase'. StepWritten rules Closes p q phase' env' writes);
-        err : OnErr r (StepOrPart rules Closes Stays p q writes);
-      }
+      → AnsweredIfAny r env' writes (option_map (behind []) (fault_answer env client fault)) → SteppedInPart r env' writes rules p q Closes Stays
   not_committed (change_faults.Refused why) (at, later, (going, refused, stays)) r env' writes said =
       let a = serves env client (replies.Failure why) in
       unparted rules Closes Stays p q writes r env' (stepped (led at a later (closes at false (Some why) a going refused refl) (at, refl, stays)) writes r env' said)
@@ -198,8 +179,8 @@ module _ {env : Env} {client : Client} {asked : CommitParameters} {date : List �
   not_committed change_faults.Halted (at, later, inr (going, accepted, halts)) r env' writes said =
       let a = change_answer env client (Commits ask t) [] (Unknown (Commits ask t)) in
       unparted rules Closes Stays p q writes r env' (stepped (led at a later (closes at false None a going accepted (Unknown (Commits ask t), (refl, refl))) (at, refl, halts)) writes r env' said)
-  not_committed change_faults.NoMemory came (Ok phase') env' writes said = absurd said.ok
-  not_committed change_faults.NoMemory came (Err e) env' writes said = record { ok = tt; err = inl (not_asked came said.err) }
+  not_committed change_faults.NoMemory came (Ok phase') env' writes said = absurd said
+  not_committed change_faults.NoMemory came (Err e) env' writes said = inl (not_asked came said)
 
 -- ---- the command that ends an edit by its commit
 
@@ -224,5 +205,5 @@ close_edit CloseEdit is = refl
 close_edit AbortEdit is = cc
 
 pub ends_so : (env : Env) (edit : MachineEdit) (command : EditorCommand) → ending_of command ≡ Some ToCommit → (at : Point) (a : Answer)
-    → UnreleasedClose at.halted env (content_of at) edit.client edit.asked (finished edit.editor) a → UnreleasedEnd at.halted env (content_of at) edit (Ok command) a
+    → UnreleasedClose env edit.client edit.asked (finished edit.editor) at.halted (content_of at) a → UnreleasedEnd env edit (Ok command) at.halted (content_of at) a
 ends_so env edit command is at a closed = (ap Ok (close_edit command is), closed)

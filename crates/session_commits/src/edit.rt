@@ -1,5 +1,5 @@
 //! A commit: its beginning, its commands and its end.
-ghost use Rattle.std.specs.Prelude.{◌≡◌, ◌≤◌, ◌∷◌, [], Ok, Err, Some, None, IfOk, OnOk, OnErr, IfErr, IsSomeAnd, MatchOption, if◌then◌else◌};
+ghost use Rattle.std.specs.Prelude.{◌≡◌, ◌≤◌, ◌∷◌, [], Ok, Err, Some, None, IfOk, OnOk, IfErr, if◌then◌else◌};
 ghost use Rattle.items.specs.View.{value_of};
 ghost use Rattle.dates.specs.Dates.{IsDateText};
 ghost use Rattle.dates.specs.declared.TheConstants.{LAST_MOMENT};
@@ -11,14 +11,13 @@ ghost use Rattle.edit_rules.specs.Editor.{IfEditRefused, Applies, finished, Rest
 ghost use Rattle.edit_rules.specs.Edits.{new_edit};
 ghost use Rattle.edit_rules.specs.Soundness.{IsSoundEdit};
 ghost use Rattle.edit_rules.specs.Refusing.{edit_refusal};
-ghost use Rattle.wire_replies.specs.Replies.{print};
-ghost use Rattle.wire_replies.specs.Sinks.{WritesPart};
 ghost use Rattle.access.specs.Points.{content_of};
 ghost use Rattle.machine.specs.Answers.{says};
 ghost use Rattle.machine.specs.Commands.{lock_tokens, asked_by, commit_begins};
 ghost use Rattle.machine.specs.Machine.{commit_ask, skipping_answer, CloseStep, UnreleasedClose, EditStep, EditingStep, UnreleasedEnd};
-ghost use Rattle.machine.specs.Steps.{AnswerWritten, StepWritten, StepOrNothing, StepOrPart};
 ghost use Rattle.session_commits.specs.Telling.{tells_made, commit_answer};
+ghost use Rattle.wire_replies.specs.Sinks.{Says};
+ghost use Rattle.machine.specs.Steps.{Answered, Stepped, SteppedInPart, AnsweredIfAny};
 
 use crate::asking::asked_by;
 use crate::giving_up::give_up;
@@ -43,9 +42,7 @@ use wire_replies::{Reply, ReplySink};
 
 /// Tells a client that its edit may begin.
 fn tell_begun<S: ReplySink>(out: &mut S) -> Result<(), AllocError>
-    ensures ok { OnOk result (S.writes out.old out.new (print (Reply.Success ∷ []))) }
-    ensures err { OnErr result (WritesPart (S.writes out.old out.new)
-        (print (Reply.Success ∷ []))) }
+    ensures { Says result (S.writes out.old out.new) (Reply.Success ∷ []) }
 {
     out.say(&Reply::Success)
 }
@@ -67,11 +64,8 @@ fn open_edit<R: Repository, S: ReplySink>(
     edit: SessionEdit<R>,
     turn: &mut Turn<S>,
 ) -> Result<SessionPhase<R>, AllocError>
-    ensures ok { IfOk result (λ phase. AnswerWritten
-        (says turn.old.env (Phase.Editing edit) (Reply.Success ∷ []))
-        phase turn.new.env (S.writes turn.old.out turn.new.out)) }
-    ensures err { OnErr result (WritesPart (S.writes turn.old.out turn.new.out)
-        (print (Reply.Success ∷ []))) }
+    ensures { Answered result turn.new.env (S.writes turn.old.out turn.new.out)
+        (says turn.old.env (Phase.Editing edit) (Reply.Success ∷ [])) }
 {
     match tell_begun(&mut turn.out) {
         Ok(()) => Ok(Phase::Editing(edit)),
@@ -89,13 +83,9 @@ pub fn begin_edit<R: Repository, S: ReplySink>(
     command: &CommitCommand,
     turn: &mut Turn<S>,
 ) -> Result<SessionPhase<R>, AllocError>
-    ensures ok { IfOk result (λ phase. AnswerWritten
+    ensures { Answered result turn.new.env (S.writes turn.old.out turn.new.out)
         (commit_begins options.now turn.old.env client
-        (asked_by command.now (lock_tokens client.path command.now.tokens)))
-        phase turn.new.env (S.writes turn.old.out turn.new.out)) }
-    ensures err { OnErr result (WritesPart (S.writes turn.old.out turn.new.out)
-        (print (commit_begins options.now turn.old.env client
-        (asked_by command.now (lock_tokens client.path command.now.tokens))).replies)) }
+        (asked_by command.now (lock_tokens client.path command.now.tokens))) }
 {
     match asked_by(turn.alloc, &client.path, command) {
         Ok(asked) => match new_editor(turn.alloc, options, &client.path) {
@@ -149,13 +139,8 @@ fn edit<R: Repository, A: RepoAccess<View = R>, S: ReplySink>(
 ) -> Result<SessionPhase<R>, AllocError>
     requires rests { RestsOn edit.editor (content_of (A.point access.old)) }
     requires sound { IsSoundEdit edit.editor }
-    ensures ok { IfOk result (λ phase. StepWritten A.rules
-        (λ at a. EditStep turn.old.env (content_of at) edit command.now a)
-        (A.point access.old) (A.point access.new)
-        phase turn.new.env (S.writes turn.old.out turn.new.out)) }
-    ensures err { OnErr result (StepOrNothing A.rules
-        (λ at a. EditStep turn.old.env (content_of at) edit command.now a)
-        (A.point access.old) (A.point access.new) (S.writes turn.old.out turn.new.out)) }
+    ensures { Stepped result turn.new.env (S.writes turn.old.out turn.new.out) A.rules
+        (A.point access.old) (A.point access.new) (EditStep turn.old.env edit command.now) }
 {
     let mut edit = edit;
     match apply_now(&mut edit.editor, command, access) {
@@ -213,10 +198,8 @@ fn told_of(alloc: Global, moment: u64, user: &Option<ByteString>) -> Result<Told
 
 /// Writes that a commit is made, and then what is told of it.
 fn say_made<S: ReplySink>(info: &Reply, out: &mut S) -> Result<(), AllocError>
-    ensures ok { OnOk result (S.writes out.old out.new
-        (print (Reply.Success ∷ Reply.NoLogin ∷ info.now ∷ []))) }
-    ensures err { OnErr result (WritesPart (S.writes out.old out.new)
-        (print (Reply.Success ∷ Reply.NoLogin ∷ info.now ∷ []))) }
+    ensures { Says result (S.writes out.old out.new)
+        (Reply.Success ∷ Reply.NoLogin ∷ info.now ∷ []) }
 {
     say_both(&Reply::Success, &Reply::NoLogin, out)?;
     out.say(info)
@@ -230,11 +213,8 @@ fn report<S: ReplySink>(
     fails: bool,
     out: &mut S,
 ) -> Result<(), AllocError>
-    ensures ok { OnOk result (S.writes out.old out.new (print (Reply.Success ∷ Reply.NoLogin
-        ∷ Reply.CommitInfo revision date author fails ∷ []))) }
-    ensures err { OnErr result (WritesPart (S.writes out.old out.new)
-        (print (Reply.Success ∷ Reply.NoLogin
-        ∷ Reply.CommitInfo revision date author fails ∷ []))) }
+    ensures { Says result (S.writes out.old out.new)
+        (Reply.Success ∷ Reply.NoLogin ∷ Reply.CommitInfo revision date author fails ∷ []) }
 {
     let info = Reply::CommitInfo(revision, date, author, fails);
     let said = say_made(&info, out);
@@ -262,11 +242,8 @@ fn tell_made<R: Repository, S: ReplySink>(
     told: Told,
     turn: &mut Turn<S>,
 ) -> Result<SessionPhase<R>, AllocError>
-    ensures ok { IfOk result (λ phase. AnswerWritten
-        (tells_made turn.old.env client revision told.date told.author fails)
-        phase turn.new.env (S.writes turn.old.out turn.new.out)) }
-    ensures err { OnErr result (WritesPart (S.writes turn.old.out turn.new.out)
-        (print (tells_made turn.old.env client revision told.date told.author fails).replies)) }
+    ensures { Answered result turn.new.env (S.writes turn.old.out turn.new.out)
+        (tells_made turn.old.env client revision told.date told.author fails) }
 {
     let Told { date, author } = told;
     match report(revision, date, author, fails, &mut turn.out) {
@@ -285,14 +262,8 @@ fn tell_commit<R: Repository, S: ReplySink>(
     told: Told,
     turn: &mut Turn<S>,
 ) -> Result<SessionPhase<R>, AllocError>
-    ensures ok { IfOk result (λ phase. IsSomeAnd
-        (commit_answer turn.old.env client told.date told.author made.revision made.released)
-        (λ answer. AnswerWritten answer
-        phase turn.new.env (S.writes turn.old.out turn.new.out))) }
-    ensures err { OnErr result (MatchOption
-        (commit_answer turn.old.env client told.date told.author made.revision made.released)
-        (S.writes turn.old.out turn.new.out [])
-        (λ answer. WritesPart (S.writes turn.old.out turn.new.out) (print answer.replies))) }
+    ensures { AnsweredIfAny result turn.new.env (S.writes turn.old.out turn.new.out)
+        (commit_answer turn.old.env client told.date told.author made.revision made.released) }
 {
     match made.released {
         Released::Settled => tell_made(client, made.revision, false, told, turn),
@@ -317,17 +288,10 @@ fn commit<R: Repository, A: RepoAccess<View = R>, S: ReplySink>(
         (content_of (A.point access.old)).revisions }
     requires tree { IsTree (tree_of (R.txn_state txn).tree) }
     requires marked { IsMarkedTxn (R.txn_state txn) }
-    ensures ok { IfOk result (λ phase. StepWritten A.rules
-        (λ at a. CloseStep at.halted turn.old.env (content_of at)
-        client asked (Ok (R.txn_state txn)) a)
+    ensures { SteppedInPart result turn.new.env (S.writes turn.old.out turn.new.out) A.rules
         (A.point access.old) (A.point access.new)
-        phase turn.new.env (S.writes turn.old.out turn.new.out)) }
-    ensures err { OnErr result (StepOrPart A.rules
-        (λ at a. CloseStep at.halted turn.old.env (content_of at)
-        client asked (Ok (R.txn_state txn)) a)
-        (λ at a. UnreleasedClose at.halted turn.old.env (content_of at)
-        client asked (Ok (R.txn_state txn)) a)
-        (A.point access.old) (A.point access.new) (S.writes turn.old.out turn.new.out)) }
+        (CloseStep turn.old.env client asked (Ok (R.txn_state txn)))
+        (UnreleasedClose turn.old.env client asked (Ok (R.txn_state txn))) }
 {
     match told_of(turn.alloc, turn.env.moment, &client.user) {
         Ok(told) => match commit_ask(turn.alloc, &client, asked, &told.date) {
@@ -362,17 +326,10 @@ fn close<R: Repository, A: RepoAccess<View = R>, S: ReplySink>(
 ) -> Result<SessionPhase<R>, AllocError>
     requires rests { RestsOn edit.editor (content_of (A.point access.old)) }
     requires sound { IsSoundEdit edit.editor }
-    ensures ok { IfOk result (λ phase. StepWritten A.rules
-        (λ at a. CloseStep at.halted turn.old.env (content_of at)
-        edit.client edit.asked (finished edit.editor) a)
+    ensures { SteppedInPart result turn.new.env (S.writes turn.old.out turn.new.out) A.rules
         (A.point access.old) (A.point access.new)
-        phase turn.new.env (S.writes turn.old.out turn.new.out)) }
-    ensures err { OnErr result (StepOrPart A.rules
-        (λ at a. CloseStep at.halted turn.old.env (content_of at)
-        edit.client edit.asked (finished edit.editor) a)
-        (λ at a. UnreleasedClose at.halted turn.old.env (content_of at)
-        edit.client edit.asked (finished edit.editor) a)
-        (A.point access.old) (A.point access.new) (S.writes turn.old.out turn.new.out)) }
+        (CloseStep turn.old.env edit.client edit.asked (finished edit.editor))
+        (UnreleasedClose turn.old.env edit.client edit.asked (finished edit.editor)) }
 {
     let OpenEdit {
         client,
@@ -393,11 +350,8 @@ fn abort<R: Repository, S: ReplySink>(
     edit: SessionEdit<R>,
     turn: &mut Turn<S>,
 ) -> Result<SessionPhase<R>, AllocError>
-    ensures ok { IfOk result (λ phase. AnswerWritten
-        (says turn.old.env (Phase.Serving edit.client) (Reply.Success ∷ []))
-        phase turn.new.env (S.writes turn.old.out turn.new.out)) }
-    ensures err { OnErr result (WritesPart (S.writes turn.old.out turn.new.out)
-        (print (Reply.Success ∷ []))) }
+    ensures { Answered result turn.new.env (S.writes turn.old.out turn.new.out)
+        (says turn.old.env (Phase.Serving edit.client) (Reply.Success ∷ [])) }
 {
     let OpenEdit {
         client,
@@ -424,14 +378,10 @@ fn obey<R: Repository, A: RepoAccess<View = R>, S: ReplySink>(
 ) -> Result<SessionPhase<R>, AllocError>
     requires rests { RestsOn edit.editor (content_of (A.point access.old)) }
     requires sound { IsSoundEdit edit.editor }
-    ensures ok { IfOk result (λ phase. StepWritten A.rules
-        (λ at a. EditingStep at.halted turn.old.env (content_of at) edit (Ok command.now) a)
+    ensures { SteppedInPart result turn.new.env (S.writes turn.old.out turn.new.out) A.rules
         (A.point access.old) (A.point access.new)
-        phase turn.new.env (S.writes turn.old.out turn.new.out)) }
-    ensures err { OnErr result (StepOrPart A.rules
-        (λ at a. EditingStep at.halted turn.old.env (content_of at) edit (Ok command.now) a)
-        (λ at a. UnreleasedEnd at.halted turn.old.env (content_of at) edit (Ok command.now) a)
-        (A.point access.old) (A.point access.new) (S.writes turn.old.out turn.new.out)) }
+        (EditingStep turn.old.env edit (Ok command.now))
+        (UnreleasedEnd turn.old.env edit (Ok command.now)) }
 {
     match ending_of(command) {
         Some(Ending::Commits) => close(edit, access, turn),
@@ -449,17 +399,10 @@ pub fn edit_item<R: Repository, A: RepoAccess<View = R>, S: ReplySink>(
 ) -> Result<SessionPhase<R>, AllocError>
     requires rests { RestsOn edit.editor (content_of (A.point access.old)) }
     requires sound { IsSoundEdit edit.editor }
-    ensures ok { IfOk result (λ phase. StepWritten A.rules
-        (λ at a. EditingStep at.halted turn.old.env (content_of at)
-        edit (editor_command (value_of item.now)) a)
+    ensures { SteppedInPart result turn.new.env (S.writes turn.old.out turn.new.out) A.rules
         (A.point access.old) (A.point access.new)
-        phase turn.new.env (S.writes turn.old.out turn.new.out)) }
-    ensures err { OnErr result (StepOrPart A.rules
-        (λ at a. EditingStep at.halted turn.old.env (content_of at)
-        edit (editor_command (value_of item.now)) a)
-        (λ at a. UnreleasedEnd at.halted turn.old.env (content_of at)
-        edit (editor_command (value_of item.now)) a)
-        (A.point access.old) (A.point access.new) (S.writes turn.old.out turn.new.out)) }
+        (EditingStep turn.old.env edit (editor_command (value_of item.now)))
+        (UnreleasedEnd turn.old.env edit (editor_command (value_of item.now))) }
 {
     match EditorCommand::from_item(item) {
         Ok(command) => {
@@ -485,11 +428,8 @@ pub fn skip<R: Repository, S: ReplySink>(
     item: &Item,
     turn: &mut Turn<S>,
 ) -> Result<SessionPhase<R>, AllocError>
-    ensures ok { IfOk result (λ phase. AnswerWritten
-        (skipping_answer turn.old.env client (ends_edit (value_of item.now)))
-        phase turn.new.env (S.writes turn.old.out turn.new.out)) }
-    ensures err { OnErr result (WritesPart (S.writes turn.old.out turn.new.out)
-        (print (skipping_answer turn.old.env client (ends_edit (value_of item.now))).replies)) }
+    ensures { Answered result turn.new.env (S.writes turn.old.out turn.new.out)
+        (skipping_answer turn.old.env client (ends_edit (value_of item.now))) }
 {
     match ends_edit(item) {
         Some(true) => Ok(Phase::Serving(client)),

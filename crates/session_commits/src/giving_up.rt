@@ -1,10 +1,8 @@
 //! An edit that is given up.
-ghost use Rattle.std.specs.Prelude.{◌≡◌, ◌∷◌, [], IfOk, OnErr};
-ghost use Rattle.wire_replies.specs.Replies.{print};
-ghost use Rattle.wire_replies.specs.Sinks.{WritesPart};
+ghost use Rattle.std.specs.Prelude.{◌≡◌};
 ghost use Rattle.machine.specs.Machine.{gives_up};
-ghost use Rattle.machine.specs.Steps.{AnswerWritten};
 ghost use Rattle.machine.specs.declared.phase.Phase.TheVariants.{Skipping};
+ghost use Rattle.machine.specs.Steps.{Answered};
 
 use machine::{OpenEdit, Phase, Turn};
 use refusals::Refusal;
@@ -20,10 +18,8 @@ pub fn give_up<R: Repository, S: ReplySink>(
     refusal: Refusal,
     turn: &mut Turn<S>,
 ) -> Result<SessionPhase<R>, AllocError>
-    ensures ok { IfOk result (λ phase. AnswerWritten (gives_up turn.old.env edit.client refusal)
-        phase turn.new.env (S.writes turn.old.out turn.new.out)) }
-    ensures err { OnErr result (WritesPart (S.writes turn.old.out turn.new.out)
-        (print (Reply.Failure refusal ∷ []))) }
+    ensures { Answered result turn.new.env (S.writes turn.old.out turn.new.out)
+        (gives_up turn.old.env edit.client refusal) }
 {
     match tell_refusal(refusal, &mut turn.out) {
         Ok(()) => Ok(skipping(edit)),

@@ -1,13 +1,12 @@
 //! Challenges: how one is sent, and whose an answer to it is.
-ghost use Rattle.std.specs.Prelude.{◌≡◌, ◌≢◌, ◌∷◌, [], None, IfOk, OnOk, OnErr};
+ghost use Rattle.std.specs.Prelude.{◌≡◌, ◌≢◌, ◌∷◌, [], None, IfOk};
 ghost use Rattle.cram.specs.Answer.{IsAnswerOf};
 ghost use Rattle.wire_replies.specs.declared.reply.Reply.{Reply};
-ghost use Rattle.wire_replies.specs.Replies.{print};
-ghost use Rattle.wire_replies.specs.Sinks.{WritesPart};
 ghost use Rattle.machine.specs.Answers.{says};
 ghost use Rattle.machine.specs.Logins.{challenge_of, without_nonce, challenges, logins_or_none};
-ghost use Rattle.machine.specs.Steps.{AnswerWritten};
 ghost use Rattle.machine.specs.declared.phase.Phase.TheVariants.{Challenged};
+ghost use Rattle.wire_replies.specs.Sinks.{Says};
+ghost use Rattle.machine.specs.Steps.{Answered};
 
 use byte_string::ByteString;
 use cram::{Challenge, CramFault};
@@ -34,10 +33,7 @@ fn say_challenge<S: ReplySink>(
     challenge: &Challenge,
     out: &mut S,
 ) -> Result<(), AllocError>
-    ensures ok { OnOk result (S.writes out.old out.new
-        (print (Reply.Challenge challenge.now ∷ []))) }
-    ensures err { OnErr result (WritesPart (S.writes out.old out.new)
-        (print (Reply.Challenge challenge.now ∷ []))) }
+    ensures { Says result (S.writes out.old out.new) (Reply.Challenge challenge.now ∷ []) }
 {
     let text = ByteString::from_slice(alloc, challenge.text().as_bytes())?;
     say_new(Reply::Challenge(text), out)
@@ -48,12 +44,9 @@ fn await_answer<R: Repository, S: ReplySink>(
     pending: OpenChallenge,
     turn: &mut Turn<S>,
 ) -> Result<SessionPhase<R>, AllocError>
-    ensures ok { IfOk result (λ phase. AnswerWritten
+    ensures { Answered result turn.new.env (S.writes turn.old.out turn.new.out)
         (says (without_nonce turn.old.env) (Challenged pending)
-        (Reply.Challenge pending.challenge ∷ []))
-        phase turn.new.env (S.writes turn.old.out turn.new.out)) }
-    ensures err { OnErr result (WritesPart (S.writes turn.old.out turn.new.out)
-        (print (Reply.Challenge pending.challenge ∷ []))) }
+        (Reply.Challenge pending.challenge ∷ [])) }
 {
     match say_challenge(turn.alloc, &pending.challenge, &mut turn.out) {
         Ok(()) => {
@@ -73,11 +66,8 @@ pub fn challenge<R: Repository, S: ReplySink>(
     login: OpenLogin,
     turn: &mut Turn<S>,
 ) -> Result<SessionPhase<R>, AllocError>
-    ensures ok { IfOk result (λ phase. AnswerWritten
-        (challenges options.now turn.old.env login)
-        phase turn.new.env (S.writes turn.old.out turn.new.out)) }
-    ensures err { OnErr result (WritesPart (S.writes turn.old.out turn.new.out)
-        (print (challenges options.now turn.old.env login).replies)) }
+    ensures { Answered result turn.new.env (S.writes turn.old.out turn.new.out)
+        (challenges options.now turn.old.env login) }
 {
     match new_challenge(turn.alloc, options, turn.env) {
         Ok(challenge) => await_answer(OpenChallenge { login, challenge }, turn),

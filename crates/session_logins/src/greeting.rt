@@ -1,14 +1,12 @@
 //! The answer to the greeting.
-ghost use Rattle.std.specs.Prelude.{◌≡◌, ◌∷◌, [], Ok, None, IfOk, OnErr};
+ghost use Rattle.std.specs.Prelude.{◌≡◌, ◌∷◌, [], Ok, None};
 ghost use Rattle.items.specs.View.{value_of};
 ghost use Rattle.commands.specs.Logins.{client_greeting};
 ghost use Rattle.wire_replies.specs.declared.reply.Reply.{Reply};
-ghost use Rattle.wire_replies.specs.Replies.{print};
-ghost use Rattle.wire_replies.specs.Sinks.{WritesPart};
 ghost use Rattle.machine.specs.Answers.{says};
 ghost use Rattle.machine.specs.Logins.{greeting_answer, speaks};
-ghost use Rattle.machine.specs.Steps.{AnswerWritten};
 ghost use Rattle.machine.specs.declared.phase.Phase.TheVariants.{Ended};
+ghost use Rattle.machine.specs.Steps.{Answered};
 
 use byte_string::ByteString;
 use commands::ClientGreeting;
@@ -52,11 +50,8 @@ fn end_refused<R: Repository, S: ReplySink>(
     refusal: Refusal,
     turn: &mut Turn<S>,
 ) -> Result<SessionPhase<R>, AllocError>
-    ensures ok { IfOk result (λ phase. AnswerWritten
-        (says turn.old.env Ended (Reply.Failure refusal ∷ []))
-        phase turn.new.env (S.writes turn.old.out turn.new.out)) }
-    ensures err { OnErr result (WritesPart (S.writes turn.old.out turn.new.out)
-        (print (Reply.Failure refusal ∷ []))) }
+    ensures { Answered result turn.new.env (S.writes turn.old.out turn.new.out)
+        (says turn.old.env Ended (Reply.Failure refusal ∷ [])) }
 {
     say_new(Reply::Failure(refusal), &mut turn.out)?;
     Ok(Phase::Ended)
@@ -68,11 +63,8 @@ fn answer_greeting<R: Repository, S: ReplySink>(
     greeting: &ClientGreeting,
     turn: &mut Turn<S>,
 ) -> Result<SessionPhase<R>, AllocError>
-    ensures ok { IfOk result (λ phase. AnswerWritten
-        (greeting_answer options.now turn.old.env (Ok greeting.now))
-        phase turn.new.env (S.writes turn.old.out turn.new.out)) }
-    ensures err { OnErr result (WritesPart (S.writes turn.old.out turn.new.out)
-        (print (greeting_answer options.now turn.old.env (Ok greeting.now)).replies)) }
+    ensures { Answered result turn.new.env (S.writes turn.old.out turn.new.out)
+        (greeting_answer options.now turn.old.env (Ok greeting.now)) }
 {
     if !speaks(greeting) {
         return Ok(Phase::Ended);
@@ -90,12 +82,8 @@ pub fn greet<R: Repository, S: ReplySink>(
     item: &Item,
     turn: &mut Turn<S>,
 ) -> Result<SessionPhase<R>, AllocError>
-    ensures ok { IfOk result (λ phase. AnswerWritten
-        (greeting_answer options.now turn.old.env (client_greeting (value_of item.now)))
-        phase turn.new.env (S.writes turn.old.out turn.new.out)) }
-    ensures err { OnErr result (WritesPart (S.writes turn.old.out turn.new.out)
-        (print (greeting_answer options.now turn.old.env
-        (client_greeting (value_of item.now))).replies)) }
+    ensures { Answered result turn.new.env (S.writes turn.old.out turn.new.out)
+        (greeting_answer options.now turn.old.env (client_greeting (value_of item.now))) }
 {
     match ClientGreeting::from_item(item) {
         Ok(greeting) => answer_greeting(options, &greeting, turn),

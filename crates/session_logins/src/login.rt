@@ -1,13 +1,10 @@
 //! The login.
-ghost use Rattle.std.specs.Prelude.{◌≡◌, Ok, Some, IfOk, OnErr};
+ghost use Rattle.std.specs.Prelude.{◌≡◌, Ok, Some};
 ghost use Rattle.items.specs.View.{value_of};
 ghost use Rattle.commands.specs.Logins.{auth_response, challenge_answer};
-ghost use Rattle.wire_replies.specs.Replies.{print};
-ghost use Rattle.wire_replies.specs.Sinks.{WritesPart};
-ghost use Rattle.access.specs.Points.{content_of};
 ghost use Rattle.machine.specs.Answers.{malformed};
 ghost use Rattle.machine.specs.Logins.{with_user, LoginStep, OutcomeStep, ChallengeStep};
-ghost use Rattle.machine.specs.Steps.{AnswerWritten, StepWritten, StepOrNothing};
+ghost use Rattle.machine.specs.Steps.{Answered, Stepped};
 
 use crate::challenging::{challenge, user_of};
 use crate::welcoming::log_client_in;
@@ -32,15 +29,9 @@ fn choose<R: Repository, A: RepoAccess<View = R>, S: ReplySink>(
     access: &mut A,
     turn: &mut Turn<S>,
 ) -> Result<SessionPhase<R>, AllocError>
-    ensures ok { IfOk result (λ phase. StepWritten A.rules
-        (λ at a. LoginStep at.halted options.now turn.old.env (content_of at) login
-        (Ok response.now) a)
+    ensures { Stepped result turn.new.env (S.writes turn.old.out turn.new.out) A.rules
         (A.point access.old) (A.point access.new)
-        phase turn.new.env (S.writes turn.old.out turn.new.out)) }
-    ensures err { OnErr result (StepOrNothing A.rules
-        (λ at a. LoginStep at.halted options.now turn.old.env (content_of at) login
-        (Ok response.now) a)
-        (A.point access.old) (A.point access.new) (S.writes turn.old.out turn.new.out)) }
+        (LoginStep options.now turn.old.env login (Ok response.now)) }
 {
     let offered = offer(options, &login.waiting);
     match chosen(offered, response.mechanism.as_slice()) {
@@ -55,10 +46,8 @@ fn end_login<R: Repository, S: ReplySink>(
     login: OpenLogin,
     turn: &mut Turn<S>,
 ) -> Result<SessionPhase<R>, AllocError>
-    ensures ok { IfOk result (λ phase. AnswerWritten (malformed turn.old.env)
-        phase turn.new.env (S.writes turn.old.out turn.new.out)) }
-    ensures err { OnErr result (WritesPart (S.writes turn.old.out turn.new.out)
-        (print (malformed turn.old.env).replies)) }
+    ensures { Answered result turn.new.env (S.writes turn.old.out turn.new.out)
+        (malformed turn.old.env) }
 {
     drop(login);
     end_malformed(turn)
@@ -72,15 +61,9 @@ pub fn log_in<R: Repository, A: RepoAccess<View = R>, S: ReplySink>(
     access: &mut A,
     turn: &mut Turn<S>,
 ) -> Result<SessionPhase<R>, AllocError>
-    ensures ok { IfOk result (λ phase. StepWritten A.rules
-        (λ at a. LoginStep at.halted options.now turn.old.env (content_of at) login
-        (auth_response (value_of item.now)) a)
+    ensures { Stepped result turn.new.env (S.writes turn.old.out turn.new.out) A.rules
         (A.point access.old) (A.point access.new)
-        phase turn.new.env (S.writes turn.old.out turn.new.out)) }
-    ensures err { OnErr result (StepOrNothing A.rules
-        (λ at a. LoginStep at.halted options.now turn.old.env (content_of at) login
-        (auth_response (value_of item.now)) a)
-        (A.point access.old) (A.point access.new) (S.writes turn.old.out turn.new.out)) }
+        (LoginStep options.now turn.old.env login (auth_response (value_of item.now))) }
 {
     match AuthResponse::from_item(turn.alloc, item) {
         Ok(response) => choose(options, login, &response, access, turn),
@@ -118,13 +101,9 @@ fn conclude<R: Repository, A: RepoAccess<View = R>, S: ReplySink>(
     access: &mut A,
     turn: &mut Turn<S>,
 ) -> Result<SessionPhase<R>, AllocError>
-    ensures ok { IfOk result (λ phase. StepWritten A.rules
-        (λ at a. OutcomeStep at.halted options.now turn.old.env (content_of at) login user a)
+    ensures { Stepped result turn.new.env (S.writes turn.old.out turn.new.out) A.rules
         (A.point access.old) (A.point access.new)
-        phase turn.new.env (S.writes turn.old.out turn.new.out)) }
-    ensures err { OnErr result (StepOrNothing A.rules
-        (λ at a. OutcomeStep at.halted options.now turn.old.env (content_of at) login user a)
-        (A.point access.old) (A.point access.new) (S.writes turn.old.out turn.new.out)) }
+        (OutcomeStep options.now turn.old.env login user) }
 {
     match user {
         Some(name) => log_client_in(options, of_user(login, name), access, turn),
@@ -140,15 +119,9 @@ fn judge<R: Repository, A: RepoAccess<View = R>, S: ReplySink>(
     access: &mut A,
     turn: &mut Turn<S>,
 ) -> Result<SessionPhase<R>, AllocError>
-    ensures ok { IfOk result (λ phase. StepWritten A.rules
-        (λ at a. ChallengeStep at.halted options.now turn.old.env (content_of at) pending
-        (Some answer.now) a)
+    ensures { Stepped result turn.new.env (S.writes turn.old.out turn.new.out) A.rules
         (A.point access.old) (A.point access.new)
-        phase turn.new.env (S.writes turn.old.out turn.new.out)) }
-    ensures err { OnErr result (StepOrNothing A.rules
-        (λ at a. ChallengeStep at.halted options.now turn.old.env (content_of at) pending
-        (Some answer.now) a)
-        (A.point access.old) (A.point access.new) (S.writes turn.old.out turn.new.out)) }
+        (ChallengeStep options.now turn.old.env pending (Some answer.now)) }
 {
     let OpenChallenge { login, challenge } = pending;
     let user = user_of(turn.alloc, options, &challenge, answer);
@@ -170,15 +143,9 @@ pub fn answer_challenge<R: Repository, A: RepoAccess<View = R>, S: ReplySink>(
     access: &mut A,
     turn: &mut Turn<S>,
 ) -> Result<SessionPhase<R>, AllocError>
-    ensures ok { IfOk result (λ phase. StepWritten A.rules
-        (λ at a. ChallengeStep at.halted options.now turn.old.env (content_of at) pending
-        (challenge_answer (value_of item.now)) a)
+    ensures { Stepped result turn.new.env (S.writes turn.old.out turn.new.out) A.rules
         (A.point access.old) (A.point access.new)
-        phase turn.new.env (S.writes turn.old.out turn.new.out)) }
-    ensures err { OnErr result (StepOrNothing A.rules
-        (λ at a. ChallengeStep at.halted options.now turn.old.env (content_of at) pending
-        (challenge_answer (value_of item.now)) a)
-        (A.point access.old) (A.point access.new) (S.writes turn.old.out turn.new.out)) }
+        (ChallengeStep options.now turn.old.env pending (challenge_answer (value_of item.now))) }
 {
     match challenge_answer(item) {
         Some(answer) => judge(options, pending, answer.as_slice(), access, turn),

@@ -1,13 +1,12 @@
 //! What a client is told once it has logged in.
-ghost use Rattle.std.specs.Prelude.{◌≡◌, ◌∷◌, [], Some, IfOk, OnOk, OnErr};
+ghost use Rattle.std.specs.Prelude.{◌≡◌, ◌∷◌, [], Some, IfOk};
 ghost use Rattle.wire_replies.specs.declared.reply.Reply.{Reply};
-ghost use Rattle.wire_replies.specs.Replies.{print};
-ghost use Rattle.wire_replies.specs.Sinks.{WritesPart};
 ghost use Rattle.access.specs.Points.{content_of};
 ghost use Rattle.machine.specs.Answers.{says};
 ghost use Rattle.machine.specs.Logins.{LoggedIn};
-ghost use Rattle.machine.specs.Steps.{AnswerWritten, StepWritten, StepOrNothing};
 ghost use Rattle.machine.specs.declared.phase.Phase.TheVariants.{Serving};
+ghost use Rattle.wire_replies.specs.Sinks.{Says};
+ghost use Rattle.machine.specs.Steps.{Answered, Stepped};
 
 use access::RepoAccess;
 use byte_string::ByteString;
@@ -40,10 +39,8 @@ fn tell_welcome<R: Repository, A: RepoAccess<View = R>, S: ReplySink>(
     access: &mut A,
     out: &mut S,
 ) -> Result<(), AllocError>
-    ensures ok { OnOk result (S.writes out.old out.new (print
-        (Reply.Success ∷ Reply.ReposInfo (content_of (A.point access.new)).uuid root.now ∷ []))) }
-    ensures err { OnErr result (WritesPart (S.writes out.old out.new) (print
-        (Reply.Success ∷ Reply.ReposInfo (content_of (A.point access.new)).uuid root.now ∷ []))) }
+    ensures said { Says result (S.writes out.old out.new)
+        (Reply.Success ∷ Reply.ReposInfo (content_of (A.point access.new)).uuid root.now ∷ []) }
     ensures later { A.rules.between (A.point access.old) (A.point access.new) }
 {
     let info = repos_info(root, access)?;
@@ -56,13 +53,9 @@ fn welcome<R: Repository, A: RepoAccess<View = R>, S: ReplySink>(
     access: &mut A,
     turn: &mut Turn<S>,
 ) -> Result<SessionPhase<R>, AllocError>
-    ensures ok { IfOk result (λ phase. AnswerWritten
+    ensures said { Answered result turn.new.env (S.writes turn.old.out turn.new.out)
         (says turn.old.env (Serving client)
-        (Reply.Success ∷ Reply.ReposInfo (content_of (A.point access.new)).uuid client.root ∷ []))
-        phase turn.new.env (S.writes turn.old.out turn.new.out)) }
-    ensures err { OnErr result (WritesPart (S.writes turn.old.out turn.new.out)
-        (print (Reply.Success
-        ∷ Reply.ReposInfo (content_of (A.point access.new)).uuid client.root ∷ []))) }
+        (Reply.Success ∷ Reply.ReposInfo (content_of (A.point access.new)).uuid client.root ∷ [])) }
     ensures later { A.rules.between (A.point access.old) (A.point access.new) }
 {
     match tell_welcome(&client.root, access, &mut turn.out) {
@@ -82,15 +75,9 @@ fn go_on<R: Repository, A: RepoAccess<View = R>, S: ReplySink>(
     access: &mut A,
     turn: &mut Turn<S>,
 ) -> Result<SessionPhase<R>, AllocError>
-    ensures ok { IfOk result (λ phase. StepWritten A.rules
-        (λ at a. LoggedIn at.halted options.now turn.old.env (content_of at) client
-        (Some command) a)
+    ensures { Stepped result turn.new.env (S.writes turn.old.out turn.new.out) A.rules
         (A.point access.old) (A.point access.new)
-        phase turn.new.env (S.writes turn.old.out turn.new.out)) }
-    ensures err { OnErr result (StepOrNothing A.rules
-        (λ at a. LoggedIn at.halted options.now turn.old.env (content_of at) client
-        (Some command) a)
-        (A.point access.old) (A.point access.new) (S.writes turn.old.out turn.new.out)) }
+        (LoggedIn options.now turn.old.env client (Some command)) }
 {
     let request = Request {
         command: &command,
@@ -108,15 +95,9 @@ pub fn log_client_in<R: Repository, A: RepoAccess<View = R>, S: ReplySink>(
     access: &mut A,
     turn: &mut Turn<S>,
 ) -> Result<SessionPhase<R>, AllocError>
-    ensures ok { IfOk result (λ phase. StepWritten A.rules
-        (λ at a. LoggedIn at.halted options.now turn.old.env (content_of at) login.client
-        login.waiting a)
+    ensures { Stepped result turn.new.env (S.writes turn.old.out turn.new.out) A.rules
         (A.point access.old) (A.point access.new)
-        phase turn.new.env (S.writes turn.old.out turn.new.out)) }
-    ensures err { OnErr result (StepOrNothing A.rules
-        (λ at a. LoggedIn at.halted options.now turn.old.env (content_of at) login.client
-        login.waiting a)
-        (A.point access.old) (A.point access.new) (S.writes turn.old.out turn.new.out)) }
+        (LoggedIn options.now turn.old.env login.client login.waiting) }
 {
     let OpenLogin { client, waiting } = login;
     match waiting {

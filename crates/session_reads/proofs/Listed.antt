@@ -1,4 +1,4 @@
--- What is listed, as the answer of a step that changes nothing.
+-- What is read, as the answer of a step that changes nothing.
 use Rattle.std.proofs.Common.{◌≡◌, ℕ, List, ◌++◌, refl, sym, ap, ◌∙◌}
 use Rattle.std.specs.Prelude.{Option, None, Ok}
 use Rattle.refusals.specs.declared.Refusal.{Refusal}
@@ -13,7 +13,7 @@ use Rattle.wire_replies.specs.Sinks.{WritesPart}
 use Rattle.wire_replies.specs.declared.reply.Reply.{Reply}
 use Rattle.wire_replies.specs.declared.reply.Reply.TheVariants as replies
 use Rattle.access.specs.Points.{Point, AccessRules, content_of}
-use Rattle.machine.specs.Answers.{Answer, says, Behind}
+use Rattle.machine.specs.Answers.{Step, Shows, says, Behind}
 use Rattle.machine.specs.Histories.{ended, listed_unless, log_ask, log_refusal, log_replies, log_told, locations_refusal, locations_replies, locations_told}
 use Rattle.machine.specs.Stages.{Stage}
 use Rattle.machine.specs.Steps.{StepWritten, StepOrNothing}
@@ -38,11 +38,11 @@ locations_listed c command path r judged none =
 
 module _ (rules : AccessRules) (told : RepoState → List Reply) (p q : Point) (env : Env) (client : Client) (before : List Reply)
     (later : rules.between p q) (writes : List ℕ → Type 0) where
-  abbrev Listing : Point → Answer → Type 0
-  Listing at a = Behind before (λ own. own ≡ says env (Serving client) (told (content_of at))) a
+  abbrev Listing : Step
+  Listing = Behind before (Shows (λ c. says env (Serving client) (told c)))
 
   leads : Leads rules Listing p q env (Serving client) (before ++ told (content_of q))
-  leads = leads_behind before (only_says {step = λ at own. own ≡ says env (Serving client) (told (content_of at))} later refl)
+  leads = leads_behind before (only_says {step = Shows (λ c. says env (Serving client) (told c))} later refl)
 
   -- what is told is written
   pub listed : (phase' : Stage) (env' : Env) → phase' ≡ Serving client → env' ≡ env → writes (print (before ++ told (content_of q))) → StepWritten rules Listing p q phase' env' writes

@@ -2,12 +2,10 @@
 ghost use Rattle.std.specs.Prelude.{◌≡◌, IfOk, true};
 ghost use Rattle.svnpath.specs.Texts.{joined};
 ghost use Rattle.repo_api.specs.Kinds.{kind_at};
-ghost use Rattle.access.specs.Points.{content_of};
 ghost use Rattle.machine.specs.Readings.{directory_at, directory_reply, entries_told, entry_told, place_read};
 
 use crate::entries::{node_info, shown_properties};
 use crate::places::place_read;
-use access::RepoAccess;
 use byte_string::ByteString;
 use commands::GetDirCommand;
 use history::Place;
@@ -17,25 +15,8 @@ use std::alloc::{AllocError, Global};
 use svnpath::Path;
 use wire_replies::{DirectoryInfo, EntryList, NodeInfo, Reply};
 
-/// The directory at a path.
-pub fn directory_reply<R: Repository, A: RepoAccess<View = R>>(
-    alloc: Global,
-    base: &Path,
-    command: &GetDirCommand,
-    access: &mut A,
-) -> Result<Reply, AllocError>
-    ensures ok { IfOk result (λ reply. reply ≡
-        directory_reply (content_of (A.point access.new)) command.now
-        (place_read (content_of (A.point access.new)) command.now.revision
-        (joined base.now command.now.path))) }
-    ensures later { A.rules.between (A.point access.old) (A.point access.new) }
-{
-    let view = access.look()?;
-    get_dir(alloc, &view, base, command)
-}
-
 /// The directory at a path, seen from the path of the client's URL.
-fn get_dir<R: Repository>(
+pub(crate) fn get_dir<R: Repository>(
     alloc: Global,
     view: &R,
     base: &Path,

@@ -4,12 +4,10 @@ ghost use Rattle.svnpath.specs.Texts.{joined};
 ghost use Rattle.repo_api.specs.Kinds.{kind_at};
 ghost use Rattle.repo_api.specs.Properties.{with_property};
 ghost use Rattle.wire_replies.specs.Replies.{uuid_text};
-ghost use Rattle.access.specs.Points.{content_of};
 ghost use Rattle.machine.specs.Readings.{are_any, changed_at, entry_properties, node_found, node_info, place_read, shown_properties, size_at, stat_reply, with_optional, with_revision};
 
 use crate::places::place_read;
 use crate::revisions::{author_of, date_of};
-use access::RepoAccess;
 use byte_string::ByteString;
 use history::Place;
 use repo_api::{NodeKind, Properties, Repository};
@@ -18,24 +16,8 @@ use svnpath::Path;
 use uuid::Uuid;
 use wire_replies::{NodeInfo, Reply};
 
-/// What is known of what stands at a path.
-pub fn stat_reply<R: Repository, A: RepoAccess<View = R>>(
-    alloc: Global,
-    base: &Path,
-    path: &ByteString,
-    revision: Option<u64>,
-    access: &mut A,
-) -> Result<Reply, AllocError>
-    ensures ok { IfOk result (λ reply. reply ≡ stat_reply (content_of (A.point access.new))
-        (place_read (content_of (A.point access.new)) revision (joined base.now path.now))) }
-    ensures later { A.rules.between (A.point access.old) (A.point access.new) }
-{
-    let view = access.look()?;
-    stat(alloc, &view, base, path, revision)
-}
-
 /// What is known of what stands at a path, seen from the path of the client's URL.
-fn stat<R: Repository>(
+pub(crate) fn stat<R: Repository>(
     alloc: Global,
     view: &R,
     base: &Path,

@@ -1,9 +1,7 @@
 //! The end of what is listed. Where one of these fails, a part of what it says was written.
-ghost use Rattle.std.specs.Prelude.{OnOk, OnErr};
 ghost use Rattle.wire_replies.specs.declared.reply.Reply.{Reply};
-ghost use Rattle.wire_replies.specs.Replies.{print};
-ghost use Rattle.wire_replies.specs.Sinks.{WritesPart};
 ghost use Rattle.machine.specs.Histories.{ended};
+ghost use Rattle.wire_replies.specs.Sinks.{Says};
 
 use refusals::Refusal;
 use session_replies::say_both;
@@ -13,8 +11,7 @@ use wire_replies::{Reply, ReplySink};
 
 /// Writes that no more is listed, and what the command came to.
 pub(crate) fn say_end<S: ReplySink>(reply: Reply, out: &mut S) -> Result<(), AllocError>
-    ensures ok { OnOk result (S.writes out.old out.new (print (ended reply))) }
-    ensures err { OnErr result (WritesPart (S.writes out.old out.new) (print (ended reply))) }
+    ensures { Says result (S.writes out.old out.new) (ended reply) }
 {
     let said = say_both(&Reply::Done, &reply, out);
     drop(reply);
@@ -23,10 +20,7 @@ pub(crate) fn say_end<S: ReplySink>(reply: Reply, out: &mut S) -> Result<(), All
 
 /// Writes that nothing is listed, and why.
 pub(crate) fn say_refused<S: ReplySink>(refusal: Refusal, out: &mut S) -> Result<(), AllocError>
-    ensures ok { OnOk result (S.writes out.old out.new
-        (print (ended (Reply.Failure refusal)))) }
-    ensures err { OnErr result (WritesPart (S.writes out.old out.new)
-        (print (ended (Reply.Failure refusal)))) }
+    ensures { Says result (S.writes out.old out.new) (ended (Reply.Failure refusal)) }
 {
     say_end(Reply::Failure(refusal), out)
 }

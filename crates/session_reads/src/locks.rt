@@ -2,10 +2,8 @@
 ghost use Rattle.std.specs.Prelude.{◌≡◌, IfOk};
 ghost use Rattle.svnpath.specs.Texts.{joined};
 ghost use Rattle.repo_api.specs.Locking.{at_or_under};
-ghost use Rattle.access.specs.Points.{content_of};
 ghost use Rattle.machine.specs.Commands.{lock_at, locks_reply};
 
-use access::RepoAccess;
 use byte_string::ByteString;
 use refusals::path_refusal;
 use repo_api::Repository;
@@ -13,38 +11,8 @@ use std::alloc::{AllocError, Global};
 use svnpath::{Path, PathFault};
 use wire_replies::{LockList, Reply};
 
-/// The lock at a path, if there is one.
-pub fn lock_reply<R: Repository, A: RepoAccess<View = R>>(
-    alloc: Global,
-    base: &Path,
-    path: &ByteString,
-    access: &mut A,
-) -> Result<Reply, AllocError>
-    ensures ok { IfOk result (λ reply. reply ≡
-        locks_reply (lock_at (content_of (A.point access.new))) (joined base.now path.now)) }
-    ensures later { A.rules.between (A.point access.old) (A.point access.new) }
-{
-    let view = access.look()?;
-    get_lock(alloc, &view, base, path)
-}
-
-/// The locks at a path and under it.
-pub fn locks_reply<R: Repository, A: RepoAccess<View = R>>(
-    alloc: Global,
-    base: &Path,
-    path: &ByteString,
-    access: &mut A,
-) -> Result<Reply, AllocError>
-    ensures ok { IfOk result (λ reply. reply ≡ locks_reply
-        (at_or_under (content_of (A.point access.new)).locks) (joined base.now path.now)) }
-    ensures later { A.rules.between (A.point access.old) (A.point access.new) }
-{
-    let view = access.look()?;
-    get_locks(alloc, &view, base, path)
-}
-
 /// The lock at a path, seen from the path of the client's URL.
-fn get_lock<R: Repository>(
+pub(crate) fn get_lock<R: Repository>(
     alloc: Global,
     view: &R,
     base: &Path,
@@ -61,7 +29,7 @@ fn get_lock<R: Repository>(
 }
 
 /// The locks at a path and under it, seen from the path of the client's URL.
-fn get_locks<R: Repository>(
+pub(crate) fn get_locks<R: Repository>(
     alloc: Global,
     view: &R,
     base: &Path,

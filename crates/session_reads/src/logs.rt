@@ -1,27 +1,19 @@
 //! The revisions that changed paths. Where one of these fails, a part of what it says was written.
-ghost use Rattle.std.specs.Prelude.{◌≡◌, ◌++◌, ◌∷◌, ℕ, List, [], map, Ok, IfOk, OnOk, OnErr};
+ghost use Rattle.std.specs.Prelude.{◌≡◌, ◌++◌, ◌∷◌, ℕ, List, [], map, Ok, IfOk};
 ghost use Rattle.repo_api.specs.Histories.{history_of};
-ghost use Rattle.wire_replies.specs.Replies.{print};
-ghost use Rattle.wire_replies.specs.Sinks.{WritesPart};
 ghost use Rattle.wire_replies.specs.declared.reply.Reply.TheVariants as replies;
-ghost use Rattle.access.specs.Points.{content_of};
 ghost use Rattle.history.specs.Walks.{to_come};
-ghost use Rattle.machine.specs.Answers.{says, Behind};
 ghost use Rattle.machine.specs.Histories.{all_joined, ended, log_ask, log_refusal, log_replies, or_youngest, revision_told};
-ghost use Rattle.machine.specs.Steps.{StepWritten, StepOrNothing};
-ghost use Rattle.machine.specs.declared.phase.Phase.TheVariants.{Serving};
-ghost use Rattle.session_replies.specs.Telling.{told_before};
+ghost use Rattle.wire_replies.specs.Sinks.{Says};
 
 use crate::listing::{say_end, say_refused};
 use crate::log_entries::revision_told;
 use crate::paths::{all_joined, are_there, is_to_come};
-use access::RepoAccess;
 use commands::LogCommand;
 use history::{Log, LogAsk};
-use machine::{Client, Phase, Turn};
 use refusals::{Refusal, path_refusal};
 use repo_api::Repository;
-use session_replies::{Preface, SessionPhase, say_new, say_preface};
+use session_replies::say_new;
 use std::alloc::{AllocError, Global};
 use std::mem::drop;
 use svnpath::{Path, PathFault};
@@ -72,10 +64,8 @@ fn say_revision<R: Repository, S: ReplySink>(
     revision: u64,
     out: &mut S,
 ) -> Result<(), AllocError>
-    ensures ok { OnOk result (S.writes out.old out.new
-        (print (revision_told (R.content view.now) wants_changes revision ∷ []))) }
-    ensures err { OnErr result (WritesPart (S.writes out.old out.new)
-        (print (revision_told (R.content view.now) wants_changes revision ∷ []))) }
+    ensures { Says result (S.writes out.old out.new)
+        (revision_told (R.content view.now) wants_changes revision ∷ []) }
 {
     match revision_told(alloc, view, wants_changes, revision) {
         Ok(reply) => say_new(reply, out),
@@ -91,10 +81,8 @@ fn say_revisions<R: Repository, S: ReplySink>(
     log: &mut Log,
     out: &mut S,
 ) -> Result<(), AllocError>
-    ensures ok { let c = R.content view.now in OnOk result (S.writes out.old out.new
-        (print (map (revision_told c wants_changes) (to_come (history_of c) log.old)))) }
-    ensures err { let c = R.content view.now in OnErr result (WritesPart (S.writes out.old out.new)
-        (print (map (revision_told c wants_changes) (to_come (history_of c) log.old)))) }
+    ensures { let c = R.content view.now in Says result (S.writes out.old out.new)
+        (map (revision_told c wants_changes) (to_come (history_of c) log.old)) }
 {
     while let Some(revision) = log.next(alloc, view)? {
         say_revision(alloc, view, wants_changes, revision, out)?;
@@ -110,12 +98,9 @@ fn say_listed<R: Repository, S: ReplySink>(
     log: &mut Log,
     out: &mut S,
 ) -> Result<(), AllocError>
-    ensures ok { let c = R.content view.now in OnOk result (S.writes out.old out.new
-        (print (map (revision_told c wants_changes) (to_come (history_of c) log.old)
-        ++ ended replies.Success))) }
-    ensures err { let c = R.content view.now in OnErr result (WritesPart (S.writes out.old out.new)
-        (print (map (revision_told c wants_changes) (to_come (history_of c) log.old)
-        ++ ended replies.Success))) }
+    ensures { let c = R.content view.now in Says result (S.writes out.old out.new)
+        (map (revision_told c wants_changes) (to_come (history_of c) log.old) ++ ended
+        replies.Success) }
 {
     say_revisions(alloc, view, wants_changes, log, out)?;
     say_end(Reply::Success, out)
@@ -129,14 +114,9 @@ fn say_opened<R: Repository, S: ReplySink>(
     log: Result<Log, AllocError>,
     out: &mut S,
 ) -> Result<(), AllocError>
-    ensures ok { let c = R.content view.now in (ns : List ℕ)
-        → IfOk log (λ opened. to_come (history_of c) opened ≡ ns)
-        → OnOk result (S.writes out.old out.new
-        (print (map (revision_told c wants_changes) ns ++ ended replies.Success))) }
-    ensures err { let c = R.content view.now in (ns : List ℕ)
-        → IfOk log (λ opened. to_come (history_of c) opened ≡ ns)
-        → OnErr result (WritesPart (S.writes out.old out.new)
-        (print (map (revision_told c wants_changes) ns ++ ended replies.Success))) }
+    ensures { let c = R.content view.now in (ns : List ℕ) → IfOk log
+        (λ opened. to_come (history_of c) opened ≡ ns) → Says result (S.writes out.old out.new)
+        (map (revision_told c wants_changes) ns ++ ended replies.Success) }
 {
     match log {
         Ok(log) => {
@@ -157,10 +137,8 @@ fn say_log<R: Repository, S: ReplySink>(
     paths: &[Path],
     out: &mut S,
 ) -> Result<(), AllocError>
-    ensures ok { OnOk result (S.writes out.old out.new
-        (print (log_replies (R.content view.now) command.now (Ok paths.now)))) }
-    ensures err { OnErr result (WritesPart (S.writes out.old out.new)
-        (print (log_replies (R.content view.now) command.now (Ok paths.now)))) }
+    ensures { Says result (S.writes out.old out.new)
+        (log_replies (R.content view.now) command.now (Ok paths.now)) }
 {
     let ask = log_ask(view, command);
     match log_refusal(view, ask, paths) {
@@ -173,19 +151,15 @@ fn say_log<R: Repository, S: ReplySink>(
 }
 
 /// Writes the log of the paths that are named, seen from the path of the client's URL.
-fn say_named<R: Repository, S: ReplySink>(
+pub(crate) fn say_named<R: Repository, S: ReplySink>(
     alloc: Global,
     view: &R,
     base: &Path,
     command: &LogCommand,
     out: &mut S,
 ) -> Result<(), AllocError>
-    ensures ok { OnOk result (S.writes out.old out.new
-        (print (log_replies (R.content view.now) command.now
-        (all_joined base.now command.now.paths)))) }
-    ensures err { OnErr result (WritesPart (S.writes out.old out.new)
-        (print (log_replies (R.content view.now) command.now
-        (all_joined base.now command.now.paths)))) }
+    ensures { Says result (S.writes out.old out.new)
+        (log_replies (R.content view.now) command.now (all_joined base.now command.now.paths)) }
 {
     match all_joined(alloc, base, command.paths.as_slice()) {
         Ok(paths) => {
@@ -195,54 +169,5 @@ fn say_named<R: Repository, S: ReplySink>(
         }
         Err(PathFault::NoMemory) => Err(AllocError),
         Err(fault) => say_refused(path_refusal(fault), out),
-    }
-}
-
-/// Looks at the repository, and writes the log behind what comes before it.
-fn say_log_behind<R: Repository, A: RepoAccess<View = R>, S: ReplySink>(
-    base: &Path,
-    command: &LogCommand,
-    preface: Preface,
-    access: &mut A,
-    turn: &mut Turn<S>,
-) -> Result<(), AllocError>
-    ensures ok { OnOk result (S.writes turn.old.out turn.new.out
-        (print (told_before preface ++ log_replies (content_of (A.point access.new)) command.now
-        (all_joined base.now command.now.paths)))) }
-    ensures err { OnErr result (WritesPart (S.writes turn.old.out turn.new.out)
-        (print (told_before preface ++ log_replies (content_of (A.point access.new)) command.now
-        (all_joined base.now command.now.paths)))) }
-    ensures later { A.rules.between (A.point access.old) (A.point access.new) }
-    ensures env { turn.new.env ≡ turn.old.env }
-{
-    let view = access.look()?;
-    say_preface(preface, &mut turn.out)?;
-    say_named(turn.alloc, &view, base, command, &mut turn.out)
-}
-
-/// Tells the revisions that changed paths. The next command is awaited.
-pub fn tell_log<R: Repository, A: RepoAccess<View = R>, S: ReplySink>(
-    client: Client,
-    command: &LogCommand,
-    preface: Preface,
-    access: &mut A,
-    turn: &mut Turn<S>,
-) -> Result<SessionPhase<R>, AllocError>
-    ensures ok { IfOk result (λ phase. StepWritten A.rules
-        (λ at a. Behind (told_before preface) (λ own. own ≡ says turn.old.env (Serving client)
-        (log_replies (content_of at) command.now (all_joined client.path command.now.paths))) a)
-        (A.point access.old) (A.point access.new)
-        phase turn.new.env (S.writes turn.old.out turn.new.out)) }
-    ensures err { OnErr result (StepOrNothing A.rules
-        (λ at a. Behind (told_before preface) (λ own. own ≡ says turn.old.env (Serving client)
-        (log_replies (content_of at) command.now (all_joined client.path command.now.paths))) a)
-        (A.point access.old) (A.point access.new) (S.writes turn.old.out turn.new.out)) }
-{
-    match say_log_behind(&client.path, command, preface, access, turn) {
-        Ok(()) => Ok(Phase::Serving(client)),
-        Err(error) => {
-            drop(client);
-            Err(error)
-        }
     }
 }

@@ -2,61 +2,17 @@
 ghost use Rattle.std.specs.Prelude.{◌≡◌, ℕ, Some, IfOk, MatchOption};
 ghost use Rattle.svnpath.specs.Texts.{joined};
 ghost use Rattle.refusals.specs.declared.Refusal.TheVariants as refusals;
-ghost use Rattle.repo_api.specs.States.{youngest};
 ghost use Rattle.repo_api.specs.Kinds.{kind_at};
 ghost use Rattle.wire_replies.specs.declared.reply.Reply.{Reply};
 ghost use Rattle.wire_replies.specs.declared.reply.Reply.TheVariants as replies;
-ghost use Rattle.access.specs.Points.{content_of};
 ghost use Rattle.machine.specs.Commands.{at_revision, check_path_reply, rev_proplist_reply};
 
-use access::RepoAccess;
 use byte_string::ByteString;
 use refusals::{Refusal, path_refusal};
 use repo_api::{Properties, Repository};
 use std::alloc::{AllocError, Global};
 use svnpath::{Path, PathFault};
 use wire_replies::Reply;
-
-/// The youngest revision.
-pub fn youngest_reply<R: Repository, A: RepoAccess<View = R>>(
-    access: &mut A,
-) -> Result<Reply, AllocError>
-    ensures ok { IfOk result (λ reply.
-        reply ≡ replies.Revision (youngest (content_of (A.point access.new)))) }
-    ensures later { A.rules.between (A.point access.old) (A.point access.new) }
-{
-    Ok(Reply::Revision(access.look()?.youngest()))
-}
-
-/// What stands at a path.
-pub fn kind_reply<R: Repository, A: RepoAccess<View = R>>(
-    alloc: Global,
-    base: &Path,
-    path: &ByteString,
-    revision: Option<u64>,
-    access: &mut A,
-) -> Result<Reply, AllocError>
-    ensures ok { IfOk result (λ reply. reply ≡
-        check_path_reply (content_of (A.point access.new)) revision (joined base.now path.now)) }
-    ensures later { A.rules.between (A.point access.old) (A.point access.new) }
-{
-    let view = access.look()?;
-    check_path(alloc, &view, base, path, revision)
-}
-
-/// The properties of a revision.
-pub fn properties_reply<R: Repository, A: RepoAccess<View = R>>(
-    alloc: Global,
-    revision: u64,
-    access: &mut A,
-) -> Result<Reply, AllocError>
-    ensures ok { IfOk result (λ reply.
-        reply ≡ rev_proplist_reply (content_of (A.point access.new)) revision) }
-    ensures later { A.rules.between (A.point access.old) (A.point access.new) }
-{
-    let view = access.look()?;
-    rev_proplist(alloc, &view, revision)
-}
 
 /// The revision that is named, or the youngest; `None` above the youngest.
 fn known_revision<R: Repository>(view: &R, revision: Option<u64>) -> Option<u64>
@@ -80,7 +36,7 @@ fn kind_at<R: Repository>(view: &R, revision: u64, path: &Path) -> Reply
 }
 
 /// What stands at a path, seen from the path of the client's URL.
-fn check_path<R: Repository>(
+pub(crate) fn check_path<R: Repository>(
     alloc: Global,
     view: &R,
     base: &Path,
@@ -101,7 +57,11 @@ fn check_path<R: Repository>(
 }
 
 /// The properties of a revision, if it is there.
-fn rev_proplist<R: Repository>(alloc: Global, view: &R, revision: u64) -> Result<Reply, AllocError>
+pub(crate) fn rev_proplist<R: Repository>(
+    alloc: Global,
+    view: &R,
+    revision: u64,
+) -> Result<Reply, AllocError>
     ensures { IfOk result (λ reply. reply ≡ rev_proplist_reply (R.content view.now) revision) }
 {
     match known_revision(view, Some(revision)) {

@@ -1,11 +1,9 @@
 //! Properties of revisions, and revisions by their dates.
 ghost use Rattle.std.specs.Prelude.{◌≡◌, IfOk, option_copied};
 ghost use Rattle.repo_api.specs.Kinds.{properties_at};
-ghost use Rattle.access.specs.Points.{content_of};
 ghost use Rattle.machine.specs.Readings.{author_of, revision_date, dated_reply, property_reply, revision_value, value_of_property};
 
 use crate::places::revision_read;
-use access::RepoAccess;
 use byte_string::ByteString;
 use history::{dated_rev, is_date_text};
 use refusals::Refusal;
@@ -14,35 +12,8 @@ use std::alloc::AllocError;
 use wire_forms::copy_optional;
 use wire_replies::Reply;
 
-/// The youngest revision up to a date.
-pub fn dated_reply<R: Repository, A: RepoAccess<View = R>>(
-    date: &ByteString,
-    access: &mut A,
-) -> Result<Reply, AllocError>
-    ensures ok { IfOk result (λ reply.
-        reply ≡ dated_reply (content_of (A.point access.new)) date.now) }
-    ensures later { A.rules.between (A.point access.old) (A.point access.new) }
-{
-    let view = access.look()?;
-    Ok(get_dated_rev(&view, date.as_slice()))
-}
-
-/// One property of a revision.
-pub fn property_reply<R: Repository, A: RepoAccess<View = R>>(
-    revision: u64,
-    name: &ByteString,
-    access: &mut A,
-) -> Result<Reply, AllocError>
-    ensures ok { IfOk result (λ reply.
-        reply ≡ property_reply (content_of (A.point access.new)) revision name.now) }
-    ensures later { A.rules.between (A.point access.old) (A.point access.new) }
-{
-    let view = access.look()?;
-    rev_prop(&view, revision, name.as_slice())
-}
-
 /// The youngest revision up to a date, if the text is a date.
-fn get_dated_rev<R: Repository>(view: &R, date: &[u8]) -> Reply
+pub(crate) fn get_dated_rev<R: Repository>(view: &R, date: &[u8]) -> Reply
     ensures { result ≡ dated_reply (R.content view.now) date.now }
 {
     if is_date_text(date) {
@@ -53,7 +24,11 @@ fn get_dated_rev<R: Repository>(view: &R, date: &[u8]) -> Reply
 }
 
 /// A property of a revision, if the revision is there.
-fn rev_prop<R: Repository>(view: &R, revision: u64, name: &[u8]) -> Result<Reply, AllocError>
+pub(crate) fn rev_prop<R: Repository>(
+    view: &R,
+    revision: u64,
+    name: &[u8],
+) -> Result<Reply, AllocError>
     ensures { IfOk result (λ reply. reply ≡
         property_reply (R.content view.now) revision name.now) }
 {

@@ -1,22 +1,20 @@
 -- Changes that were asked for, and the steps that they are.
 use Rattle.std.proofs.Common.{◌≡◌, ℕ, List, [], ◌∷◌, ◌++◌, Bool, true, false, Option, Some, None, refl, sym, subst, inl, inr}
-use Rattle.std.specs.Prelude.{Result, Ok, Err, IfOk, OnErr, IsSomeAnd, MatchOption}
+use Rattle.std.specs.Prelude.{Result, Ok, Err, option_map}
 use Rattle.repo_api.specs.declared.fault.ChangeFault.{ChangeFault}
 use Rattle.refusals.specs.declared.Refusal.{Refusal}
 use Rattle.refusals.specs.declared.Refusal.TheVariants as refusals
 use Rattle.repo_api.specs.States.{RepoState}
 use Rattle.repo_api.specs.Accepted.{Accepted}
 use Rattle.repo_api.specs.declared.fault.ChangeFault.TheVariants as change_faults
-use Rattle.wire_replies.specs.Replies.{print}
-use Rattle.wire_replies.specs.Sinks.{WritesPart}
 use Rattle.wire_replies.specs.declared.reply.Reply.{Reply}
 use Rattle.wire_replies.specs.declared.reply.Reply.TheVariants as replies
 use Rattle.access.specs.Points.{Point, AccessRules, content_of}
 use Rattle.access.specs.Changing.{ReplacesAt}
-use Rattle.machine.specs.Answers.{Verdict, Answer, says, serves, behind, change_answer, ChangeStep, Behind}
+use Rattle.machine.specs.Answers.{Verdict, Answer, Step, says, serves, behind, change_answer, ChangeStep, Behind}
 use Rattle.machine.specs.Answers.Verdict.{Written, Unknown}
 use Rattle.machine.specs.Stages.{Stage}
-use Rattle.machine.specs.Steps.{EffectAt, StepAt, AnswerWritten, StepWritten, StepOrNothing}
+use Rattle.machine.specs.Steps.{EffectAt, StepAt, AnsweredIfAny, Stepped}
 use Rattle.machine.specs.declared.env.Env.{Env}
 use Rattle.machine.specs.declared.phase.Client.{Client}
 use Rattle.machine.specs.declared.phase.Phase.TheVariants.{Serving, Ended}
@@ -28,23 +26,23 @@ use Rattle.session_replies.proofs.Steps.{Leads, leads_by, leads_behind, stepped,
 -- what the rules say of a change at a repository, and what it is answered by what the store says
 module _ (refusal : RepoState → Option Refusal) (e : Accepted) (env : Env) (client : Client) (told : List Reply) (answer : Verdict → Answer)
     (rules : AccessRules) (p q : Point) where
-  abbrev Judged : Point → Answer → Type 0
-  Judged at a = ChangeStep at.halted env client (refusal (content_of at)) e answer a
+  abbrev Judged : Step
+  Judged halts c a = ChangeStep halts env client (refusal c) e answer a
 
   abbrev ChangeLeads : Env → Stage → List Reply → Type 0
-  ChangeLeads env' phase own = Leads rules (λ at a. Behind told (Judged at) a) p q env' phase (told ++ own)
+  ChangeLeads env' phase own = Leads rules (Behind told Judged) p q env' phase (told ++ own)
 
   -- what it has led to
   abbrev Came : Result (Unit {0}) ChangeFault → Type 0
   Came r = (at : Point) × rules.between p at × ReplacesAt rules (refusal (content_of at)) e at r q
 
   judged : (at : Point) (h : Bool) (r : Option Refusal) (a : Answer) → at.halted ≡ h → refusal (content_of at) ≡ r
-      → ChangeStep h env client r e answer a → Judged at a
+      → ChangeStep h env client r e answer a → Judged at.halted (content_of at) a
   judged at h r a halts says_so step =
       let here = subst (λ (o : Option Refusal). ChangeStep h env client o e answer a) (sym says_so) step in
       subst (λ (b : Bool). ChangeStep b env client (refusal (content_of at)) e answer a) (sym halts) here
 
-  led : (a : Answer) (at : Point) → rules.between p at → Judged at a → EffectAt rules at a.effect q → ChangeLeads a.env a.phase a.replies
+  led : (a : Answer) (at : Point) → rules.between p at → Judged at.halted (content_of at) a → EffectAt rules at a.effect q → ChangeLeads a.env a.phase a.replies
   led a at later step_is moves = leads_behind told (leads_by a at later step_is moves)
 
   pub made : (env' : Env) (own : List Reply) (x : Unit {0}) → answer Written ≡ change_answer env' client e own Written → Came (Ok x)
@@ -71,51 +69,31 @@ module _ (refusal : RepoState → Option Refusal) (e : Accepted) (env : Env) (cl
   -- one that was not made, and why is told
   pub not_made : {E : Type 0} (fault : ChangeFault) (r : Result Stage E) (env' : Env) (writes : List ℕ → Type 0)
       → answer (Unknown e) ≡ change_answer env client e [] (Unknown e) → Came (Err fault)
-      → record {
-        ok : IfOk r (λ phase'. IsSomeAnd (fault_answer env client fault) (λ a. AnswerWritten (behind told a) phase' env' writes));
-        err : OnErr r (MatchOption (fault_answer env client fault) (writes []) (λ a. WritesPart writes (print (told ++ a.replies))));
-      }
-      → record {
-        ok : IfOk r (λ phase'. StepWritten rules (λ at a. Behind told (Judged at) a) p q phase' env' writes);
-        err : OnErr r (StepOrNothing rules (λ at a. Behind told (Judged at) a) p q writes);
-      }
+      → AnsweredIfAny r env' writes (option_map (behind told) (fault_answer env client fault)) → Stepped r env' writes rules p q (Behind told Judged)
   not_made (change_faults.Refused why) r env' writes halts came said = stepped (refused why came) writes r env' said
   not_made change_faults.StoreFailed r env' writes halts (at, later, (going, accepted, fails)) said = absurd fails
   not_made change_faults.Halted r env' writes halts came said = stepped (halted halts came) writes r env' said
-  not_made change_faults.NoMemory (Ok x) env' writes halts came said = absurd said.ok
-  not_made change_faults.NoMemory (Err e) env' writes halts came said = record { ok = tt; err = not_asked came said.err }
+  not_made change_faults.NoMemory (Ok x) env' writes halts came said = absurd said
+  not_made change_faults.NoMemory (Err e) env' writes halts came said = not_asked came said
 
 -- ---- a step that is another's too
 
-module _ (rules : AccessRules) (told : List Reply) (step step' : Point → Answer → Type 0) (p q : Point)
-    (is : (at : Point) (a : Answer) → step at a → step' at a) where
-  abbrev Own : Point → Answer → Type 0
-  Own at a = Behind told (step at) a
-
-  abbrev Other : Point → Answer → Type 0
-  Other at a = Behind told (step' at) a
-
-  behind_is : (at : Point) (a : Answer) → Own at a → Other at a
+module _ (rules : AccessRules) (told : List Reply) (step step' : Step) (p q : Point)
+    (is : (at : Point) (a : Answer) → step at.halted (content_of at) a → step' at.halted (content_of at) a) where
+  behind_is : (at : Point) (a : Answer) → Behind told step at.halted (content_of at) a → Behind told step' at.halted (content_of at) a
   behind_is at a (b, own, same) = (b, is at b own, same)
 
-  at_is : (a : Answer) → StepAt rules Own p a q → StepAt rules Other p a q
+  at_is : (a : Answer) → StepAt rules (Behind told step) p a q → StepAt rules (Behind told step') p a q
   at_is a s = record { at = s.at; later = s.later; step_is = behind_is s.at a s.step_is; moves = s.moves }
 
-  nothing_is : (writes : List ℕ → Type 0) → StepOrNothing rules Own p q writes → StepOrNothing rules Other p q writes
-  nothing_is writes (inl nothing) = inl nothing
-  nothing_is writes (inr (a, s, part)) = inr (a, at_is a s, part)
-
   pub stepped_is : {E : Type 0} (r : Result Stage E) (env' : Env) (writes : List ℕ → Type 0)
-      → record { ok : IfOk r (λ phase'. StepWritten rules Own p q phase' env' writes); err : OnErr r (StepOrNothing rules Own p q writes) }
-      → record { ok : IfOk r (λ phase'. StepWritten rules Other p q phase' env' writes); err : OnErr r (StepOrNothing rules Other p q writes) }
+      → Stepped r env' writes rules p q (Behind told step) → Stepped r env' writes rules p q (Behind told step')
   stepped_is (Ok phase') env' writes s = record {
-    ok = record {
-      answer = s.ok.answer;
-      happens = at_is s.ok.answer s.ok.happens;
-      phase_after = s.ok.phase_after;
-      env_after = s.ok.env_after;
-      written = s.ok.written;
-    };
-    err = tt;
+    answer = s.answer;
+    happens = at_is s.answer s.happens;
+    phase_after = s.phase_after;
+    env_after = s.env_after;
+    written = s.written;
   }
-  stepped_is (Err e) env' writes s = record { ok = tt; err = nothing_is writes s.err }
+  stepped_is (Err e) env' writes (inl nothing) = inl nothing
+  stepped_is (Err e) env' writes (inr (a, s, part)) = inr (a, at_is a s, part)

@@ -1,18 +1,18 @@
 -- A step of a session, and what becomes of its answer.
 use Rattle.std.proofs.Common.{◌≡◌, ℕ, List, [], ◌++◌, refl, sym, subst, ◌∙◌, inl, inr}
-use Rattle.std.specs.Prelude.{Result, Ok, Err, IfOk, OnErr}
+use Rattle.std.specs.Prelude.{Result, Ok, Err}
 use Rattle.wire_replies.specs.declared.reply.Reply.{Reply}
 use Rattle.wire_replies.specs.Replies.{print}
 use Rattle.wire_replies.specs.Sinks.{WritesPart}
 use Rattle.wire_replies.proofs.Parts.{both_written, part_behind}
-use Rattle.access.specs.Points.{Point, AccessRules}
+use Rattle.access.specs.Points.{Point, AccessRules, content_of}
 use Rattle.machine.specs.Stages.{Stage}
-use Rattle.machine.specs.Answers.{Effect, no_effect, Answer, says, behind, Behind}
-use Rattle.machine.specs.Steps.{EffectAt, StepAt, StepWritten, StepOrNothing, StepOrPart, AnswerWritten}
+use Rattle.machine.specs.Answers.{Effect, no_effect, Answer, Step, says, behind, Behind}
+use Rattle.machine.specs.Steps.{EffectAt, StepAt, StepWritten, StepOrNothing, StepOrPart, AnswerWritten, Answered, Stepped, SteppedInPart}
 use Rattle.machine.specs.declared.env.Env.{Env}
 
 -- a step leads from a point to another, where the session stands there, and is to tell this
-pub record Leads (rules : AccessRules) (step : Point → Answer → Type 0) (p q : Point) (env : Env) (phase : Stage) (told : List Reply) : Type 0 where
+pub record Leads (rules : AccessRules) (step : Step) (p q : Point) (env : Env) (phase : Stage) (told : List Reply) : Type 0 where
   pub answer : Answer
   pub happens : StepAt rules step p answer q
   pub phase_is : phase ≡ answer.phase
@@ -20,8 +20,8 @@ pub record Leads (rules : AccessRules) (step : Point → Answer → Type 0) (p q
   pub told_is : told ≡ answer.replies
 
 -- a step that is answered so
-pub leads_by : {rules : AccessRules} {step : Point → Answer → Type 0} {p q : Point} (a : Answer) (at : Point)
-    → rules.between p at → step at a → EffectAt rules at a.effect q → Leads rules step p q a.env a.phase a.replies
+pub leads_by : {rules : AccessRules} {step : Step} {p q : Point} (a : Answer) (at : Point)
+    → rules.between p at → step at.halted (content_of at) a → EffectAt rules at a.effect q → Leads rules step p q a.env a.phase a.replies
 leads_by a at later step_is moves = record {
   answer = a;
   happens = record { at = at; later = later; step_is = step_is; moves = moves };
@@ -31,14 +31,14 @@ leads_by a at later step_is moves = record {
 }
 
 -- one that changes nothing, at the point that was looked at
-pub leads_to : {rules : AccessRules} {step : Point → Answer → Type 0} {p q : Point} (a : Answer)
-    → rules.between p q → step q a → a.effect ≡ no_effect → Leads rules step p q a.env a.phase a.replies
+pub leads_to : {rules : AccessRules} {step : Step} {p q : Point} (a : Answer)
+    → rules.between p q → step q.halted (content_of q) a → a.effect ≡ no_effect → Leads rules step p q a.env a.phase a.replies
 leads_to {rules = rules} {q = q} a later step_is nothing =
     leads_by a q later step_is (subst (λ (e : Effect). EffectAt rules q e q) (sym nothing) (q, refl, refl))
 
 -- and behind other replies
-pub leads_behind : {rules : AccessRules} {step : Point → Answer → Type 0} {p q : Point} (told : List Reply) {env : Env} {phase : Stage} {own : List Reply}
-    → Leads rules step p q env phase own → Leads rules (λ at a. Behind told (step at) a) p q env phase (told ++ own)
+pub leads_behind : {rules : AccessRules} {step : Step} {p q : Point} (told : List Reply) {env : Env} {phase : Stage} {own : List Reply}
+    → Leads rules step p q env phase own → Leads rules (Behind told step) p q env phase (told ++ own)
 leads_behind told leads = record {
   answer = behind told leads.answer;
   happens = record {
@@ -52,9 +52,9 @@ leads_behind told leads = record {
   told_is = λ i. told ++ leads.told_is i;
 }
 
-module _ {rules : AccessRules} {step : Point → Answer → Type 0} {p q : Point} {env : Env} {phase : Stage} {told : List Reply} where
+module _ {rules : AccessRules} {step : Step} {p q : Point} {env : Env} {phase : Stage} {told : List Reply} where
   -- a step that changes nothing, at the point that was looked at
-  pub only_says : rules.between p q → step q (says env phase told) → Leads rules step p q env phase told
+  pub only_says : rules.between p q → step q.halted (content_of q) (says env phase told) → Leads rules step p q env phase told
   only_says later step_is = leads_to (says env phase told) later step_is refl
 
   module _ (leads : Leads rules step p q env phase told) (writes : List ℕ → Type 0) where
@@ -70,81 +70,53 @@ module _ {rules : AccessRules} {step : Point → Answer → Type 0} {p q : Point
     pub told_part : WritesPart writes (print told) → StepOrNothing rules step p q writes
     told_part part = inr (leads.answer, leads.happens, subst (λ (rs : List Reply). WritesPart writes (print rs)) leads.told_is part)
 
-    -- the step has happened, and its answer was written
-    pub stepped_all : {E : Type 0} (r : Result Stage E) (env' : Env)
-        → IfOk r (λ phase'. AnswerWritten (says env phase told) phase' env' writes)
-        → IfOk r (λ phase'. StepWritten rules step p q phase' env' writes)
-    stepped_all (Ok phase') env' written = told_all phase' env' written
-    stepped_all (Err e) env' written = tt
-
-    -- or a part of it
-    pub stepped_part : {T E : Type 0} (r : Result T E) → OnErr r (WritesPart writes (print told)) → OnErr r (StepOrNothing rules step p q writes)
-    stepped_part (Ok x) part = tt
-    stepped_part (Err e) part = told_part part
-
     -- the step has happened as far as its answer was written
-    pub stepped : {E : Type 0} (r : Result Stage E) (env' : Env)
-        → record { ok : IfOk r (λ phase'. AnswerWritten (says env phase told) phase' env' writes); err : OnErr r (WritesPart writes (print told)) }
-        → record { ok : IfOk r (λ phase'. StepWritten rules step p q phase' env' writes); err : OnErr r (StepOrNothing rules step p q writes) }
-    stepped r env' said = record { ok = stepped_all r env' said.ok; err = stepped_part r said.err }
+    pub stepped : {E : Type 0} (r : Result Stage E) (env' : Env) → Answered r env' writes (says env phase told) → Stepped r env' writes rules p q step
+    stepped (Ok phase') env' written = told_all phase' env' written
+    stepped (Err e) env' part = told_part part
 
 -- an answer that changes nothing, at the point that was looked at
-module _ (rules : AccessRules) (step : Point → Answer → Type 0) (p q : Point) (a : Answer)
-    (later : rules.between p q) (is : step q a) (nothing : a.effect ≡ no_effect) (writes : List ℕ → Type 0) where
+module _ (rules : AccessRules) (step : Step) (p q : Point) (a : Answer)
+    (later : rules.between p q) (is : step q.halted (content_of q) a) (nothing : a.effect ≡ no_effect) (writes : List ℕ → Type 0) where
   leads : Leads rules step p q a.env a.phase a.replies
   leads = leads_to a later is nothing
 
-  pub said : {E : Type 0} (r : Result Stage E) (env' : Env) → IfOk r (λ after. AnswerWritten a after env' writes)
-      → IfOk r (λ after. StepWritten rules step p q after env' writes)
+  pub said : {E : Type 0} (r : Result Stage E) (env' : Env) → Answered r env' writes a → Stepped r env' writes rules p q step
   said (Ok after) env' answered = told_all leads writes after env'
       (record { phase_after = answered.phase_after; env_after = answered.env_after; written = answered.written })
-  said (Err e) env' answered = tt
-
-  pub said_part : {T E : Type 0} (r : Result T E) → OnErr r (WritesPart writes (print a.replies)) → OnErr r (StepOrNothing rules step p q writes)
-  said_part r part = stepped_part leads writes r part
+  said (Err e) env' part = told_part leads writes part
 
 -- memory was refused: nothing was asked for, and nothing was written
-pub not_asked : {rules : AccessRules} {step : Point → Answer → Type 0} {writes : List ℕ → Type 0} {p q : Point}
+pub not_asked : {rules : AccessRules} {step : Step} {writes : List ℕ → Type 0} {p q : Point}
     → ((at : Point) × rules.between p at × (q ≡ at)) → writes [] → StepOrNothing rules step p q writes
 not_asked {rules = rules} {p = p} (at, later, stays) unwritten = inl (subst (λ (x : Point). rules.between p x) (sym stays) later, unwritten)
 
 -- ---- a step of which a part may happen alone
 
-module _ (rules : AccessRules) (step part : Point → Answer → Type 0) (p q : Point) (writes : List ℕ → Type 0) where
+module _ (rules : AccessRules) (step part : Step) (p q : Point) (writes : List ℕ → Type 0) where
   -- it has happened as far as its answer was written, or it has not
-  pub unparted : {E : Type 0} (r : Result Stage E) (env' : Env)
-      → record { ok : IfOk r (λ phase'. StepWritten rules step p q phase' env' writes); err : OnErr r (StepOrNothing rules step p q writes) }
-      → record { ok : IfOk r (λ phase'. StepWritten rules step p q phase' env' writes); err : OnErr r (StepOrPart rules step part p q writes) }
-  unparted (Ok phase') env' s = record { ok = s.ok; err = tt }
-  unparted (Err e) env' s = record { ok = tt; err = inl s.err }
+  pub unparted : {E : Type 0} (r : Result Stage E) (env' : Env) → Stepped r env' writes rules p q step → SteppedInPart r env' writes rules p q step part
+  unparted (Ok phase') env' s = s
+  unparted (Err e) env' s = inl s
 
   -- a part of it is a part of another
-  module _ (part' : Point → Answer → Type 0) (is : (at : Point) (a : Answer) → part at a → part' at a) where
+  module _ (part' : Step) (is : (at : Point) (a : Answer) → part at.halted (content_of at) a → part' at.halted (content_of at) a) where
     part_is : StepOrPart rules step part p q writes → StepOrPart rules step part' p q writes
     part_is (inl whole) = inl whole
     part_is (inr (a, s, unwritten)) = inr (a, record { at = s.at; later = s.later; step_is = is s.at a s.step_is; moves = s.moves }, unwritten)
 
-    pub parted : {E : Type 0} (r : Result Stage E) (env' : Env)
-        → record { ok : IfOk r (λ phase'. StepWritten rules step p q phase' env' writes); err : OnErr r (StepOrPart rules step part p q writes) }
-        → record { ok : IfOk r (λ phase'. StepWritten rules step p q phase' env' writes); err : OnErr r (StepOrPart rules step part' p q writes) }
-    parted (Ok phase') env' s = record { ok = s.ok; err = tt }
-    parted (Err e) env' s = record { ok = tt; err = part_is s.err }
+    pub parted : {E : Type 0} (r : Result Stage E) (env' : Env) → SteppedInPart r env' writes rules p q step part → SteppedInPart r env' writes rules p q step part'
+    parted (Ok phase') env' s = s
+    parted (Err e) env' s = part_is s
 
 module _ {S : Type 0} (writes : S → S → List ℕ → Type 0)
     (further : (s t u : S) (first second : List ℕ) → writes s t first → writes t u second → writes s u (first ++ second)) where
   -- an answer behind replies that were written
   pub behind_answered : {E : Type 0} (r : Result Stage E) (told : List Reply) (a : Answer) (env' : Env) (out mid out' : S)
-      → writes out mid (print told) → IfOk r (λ phase. AnswerWritten a phase env' (writes mid out'))
-      → IfOk r (λ phase. AnswerWritten (behind told a) phase env' (writes out out'))
+      → writes out mid (print told) → Answered r env' (writes mid out') a → Answered r env' (writes out out') (behind told a)
   behind_answered (Ok phase) told a env' out mid out' before answered = record {
     phase_after = answered.phase_after;
     env_after = answered.env_after;
     written = both_written writes further out mid out' told a.replies before answered.written;
   }
-  behind_answered (Err e) told a env' out mid out' before answered = tt
-
-  pub behind_part : {T E : Type 0} (r : Result T E) (told : List Reply) (a : Answer) (out mid out' : S)
-      → writes out mid (print told) → OnErr r (WritesPart (writes mid out') (print a.replies))
-      → OnErr r (WritesPart (writes out out') (print (behind told a).replies))
-  behind_part (Ok x) told a out mid out' before part = tt
-  behind_part (Err e) told a out mid out' before part = part_behind writes further out mid out' told a.replies before part
+  behind_answered (Err e) told a env' out mid out' before part = part_behind writes further out mid out' told a.replies before part

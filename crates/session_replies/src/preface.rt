@@ -1,8 +1,7 @@
 //! What a client is told before the answer to its command.
-ghost use Rattle.std.specs.Prelude.{◌∷◌, ◌++◌, [], OnOk, OnErr};
-ghost use Rattle.wire_replies.specs.Replies.{print};
-ghost use Rattle.wire_replies.specs.Sinks.{WritesPart};
+ghost use Rattle.std.specs.Prelude.{◌∷◌, ◌++◌, []};
 ghost use Rattle.session_replies.specs.Telling.{told_before};
+ghost use Rattle.wire_replies.specs.Sinks.{Says};
 
 use std::alloc::AllocError;
 use std::mem::drop;
@@ -21,9 +20,7 @@ pub enum Preface {
 
 /// Writes what comes before an answer.
 pub fn say_preface<S: ReplySink>(preface: Preface, out: &mut S) -> Result<(), AllocError>
-    ensures ok { OnOk result (S.writes out.old out.new (print (told_before preface))) }
-    ensures err { OnErr result (WritesPart (S.writes out.old out.new)
-        (print (told_before preface))) }
+    ensures { Says result (S.writes out.old out.new) (told_before preface) }
 {
     match preface {
         Preface::Nothing => Ok(()),
@@ -38,10 +35,7 @@ pub fn say_behind<S: ReplySink>(
     reply: &Reply,
     out: &mut S,
 ) -> Result<(), AllocError>
-    ensures ok { OnOk result (S.writes out.old out.new
-        (print (told_before preface ++ reply.now ∷ []))) }
-    ensures err { OnErr result (WritesPart (S.writes out.old out.new)
-        (print (told_before preface ++ reply.now ∷ []))) }
+    ensures { Says result (S.writes out.old out.new) (told_before preface ++ reply.now ∷ []) }
 {
     say_preface(preface, out)?;
     out.say(reply)
@@ -53,10 +47,7 @@ pub fn say_new_behind<S: ReplySink>(
     reply: Reply,
     out: &mut S,
 ) -> Result<(), AllocError>
-    ensures ok { OnOk result (S.writes out.old out.new
-        (print (told_before preface ++ reply ∷ []))) }
-    ensures err { OnErr result (WritesPart (S.writes out.old out.new)
-        (print (told_before preface ++ reply ∷ []))) }
+    ensures { Says result (S.writes out.old out.new) (told_before preface ++ reply ∷ []) }
 {
     let said = say_behind(preface, &reply, out);
     drop(reply);

@@ -1,13 +1,12 @@
 //! The answer to a command, behind what comes before it. Where one of these fails, a part of what it says
 //! was written.
-ghost use Rattle.std.specs.Prelude.{◌≡◌, ◌∷◌, ◌++◌, [], IfOk, OnOk, OnErr, IsSomeAnd, MatchOption};
+ghost use Rattle.std.specs.Prelude.{◌≡◌, ◌∷◌, ◌++◌, [], IfOk, option_map};
 ghost use Rattle.wire_replies.specs.declared.reply.Reply.{Reply};
-ghost use Rattle.wire_replies.specs.Replies.{print};
-ghost use Rattle.wire_replies.specs.Sinks.{WritesPart};
 ghost use Rattle.machine.specs.Answers.{says, serves, behind};
-ghost use Rattle.machine.specs.Steps.{AnswerWritten};
 ghost use Rattle.machine.specs.declared.phase.Phase.TheVariants.{Ended};
 ghost use Rattle.session_replies.specs.Telling.{told_before, fault_answer};
+ghost use Rattle.wire_replies.specs.Sinks.{Says};
+ghost use Rattle.machine.specs.Steps.{Answered, AnsweredIfAny};
 
 use crate::preface::{Preface, say_new_behind};
 use crate::turn::SessionPhase;
@@ -19,16 +18,13 @@ use std::mem::drop;
 use wire_replies::{Reply, ReplySink};
 
 /// Writes a reply behind what comes before it, if the reply could be made. If not, nothing is written.
-fn say_made<S: ReplySink>(
+fn say_made_behind<S: ReplySink>(
     preface: Preface,
     reply: Result<Reply, AllocError>,
     out: &mut S,
 ) -> Result<(), AllocError>
-    ensures ok { (told : Reply) → IfOk reply (λ made. made ≡ told)
-        → OnOk result (S.writes out.old out.new (print (told_before preface ++ told ∷ []))) }
-    ensures err { (told : Reply) → IfOk reply (λ made. made ≡ told)
-        → OnErr result (WritesPart (S.writes out.old out.new)
-        (print (told_before preface ++ told ∷ []))) }
+    ensures { (told : Reply) → IfOk reply (λ made. made ≡ told) → Says result
+        (S.writes out.old out.new) (told_before preface ++ told ∷ []) }
 {
     match reply {
         Ok(reply) => say_new_behind(preface, reply, out),
@@ -43,15 +39,11 @@ pub fn tell<R: Repository, S: ReplySink>(
     reply: Result<Reply, AllocError>,
     turn: &mut Turn<S>,
 ) -> Result<SessionPhase<R>, AllocError>
-    ensures ok { (told : Reply) → IfOk reply (λ made. made ≡ told)
-        → IfOk result (λ phase. AnswerWritten
-        (behind (told_before preface) (serves turn.old.env client told))
-        phase turn.new.env (S.writes turn.old.out turn.new.out)) }
-    ensures err { (told : Reply) → IfOk reply (λ made. made ≡ told)
-        → OnErr result (WritesPart (S.writes turn.old.out turn.new.out)
-        (print (told_before preface ++ told ∷ []))) }
+    ensures { (told : Reply) → IfOk reply (λ made. made ≡ told) → Answered result turn.new.env
+        (S.writes turn.old.out turn.new.out)
+        (behind (told_before preface) (serves turn.old.env client told)) }
 {
-    match say_made(preface, reply, &mut turn.out) {
+    match say_made_behind(preface, reply, &mut turn.out) {
         Ok(()) => Ok(Phase::Serving(client)),
         Err(error) => {
             drop(client);
@@ -67,11 +59,8 @@ pub fn refuse<R: Repository, S: ReplySink>(
     refusal: Refusal,
     turn: &mut Turn<S>,
 ) -> Result<SessionPhase<R>, AllocError>
-    ensures ok { IfOk result (λ phase. AnswerWritten
-        (behind (told_before preface) (serves turn.old.env client (Reply.Failure refusal)))
-        phase turn.new.env (S.writes turn.old.out turn.new.out)) }
-    ensures err { OnErr result (WritesPart (S.writes turn.old.out turn.new.out)
-        (print (told_before preface ++ Reply.Failure refusal ∷ []))) }
+    ensures { Answered result turn.new.env (S.writes turn.old.out turn.new.out)
+        (behind (told_before preface) (serves turn.old.env client (Reply.Failure refusal))) }
 {
     tell(client, preface, Ok(Reply::Failure(refusal)), turn)
 }
@@ -82,12 +71,9 @@ pub fn end_halted<R: Repository, S: ReplySink>(
     preface: Preface,
     turn: &mut Turn<S>,
 ) -> Result<SessionPhase<R>, AllocError>
-    ensures ok { IfOk result (λ phase. AnswerWritten
+    ensures { Answered result turn.new.env (S.writes turn.old.out turn.new.out)
         (behind (told_before preface)
-        (says turn.old.env Ended (Reply.Failure Refusal.StoreFailed ∷ [])))
-        phase turn.new.env (S.writes turn.old.out turn.new.out)) }
-    ensures err { OnErr result (WritesPart (S.writes turn.old.out turn.new.out)
-        (print (told_before preface ++ Reply.Failure Refusal.StoreFailed ∷ []))) }
+        (says turn.old.env Ended (Reply.Failure Refusal.StoreFailed ∷ []))) }
 {
     drop(unserved);
     say_new_behind(preface, Reply::Failure(Refusal::StoreFailed), &mut turn.out)?;
@@ -102,13 +88,8 @@ pub fn tell_fault<R: Repository, S: ReplySink>(
     fault: ChangeFault,
     turn: &mut Turn<S>,
 ) -> Result<SessionPhase<R>, AllocError>
-    ensures ok { IfOk result (λ phase. IsSomeAnd (fault_answer turn.old.env client fault)
-        (λ told. AnswerWritten (behind (told_before preface) told)
-        phase turn.new.env (S.writes turn.old.out turn.new.out))) }
-    ensures err { OnErr result (MatchOption (fault_answer turn.old.env client fault)
-        (S.writes turn.old.out turn.new.out [])
-        (λ told. WritesPart (S.writes turn.old.out turn.new.out)
-        (print (told_before preface ++ told.replies)))) }
+    ensures { AnsweredIfAny result turn.new.env (S.writes turn.old.out turn.new.out)
+        (option_map (behind (told_before preface)) (fault_answer turn.old.env client fault)) }
 {
     match fault {
         ChangeFault::Refused(refusal) => refuse(client, preface, refusal, turn),

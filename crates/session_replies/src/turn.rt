@@ -1,9 +1,6 @@
 //! Where a session at a repository stands, and its end over what is no command.
-ghost use Rattle.std.specs.Prelude.{◌≡◌, IfOk, OnErr};
-ghost use Rattle.wire_replies.specs.Replies.{print};
-ghost use Rattle.wire_replies.specs.Sinks.{WritesPart};
 ghost use Rattle.machine.specs.Answers.{malformed};
-ghost use Rattle.machine.specs.Steps.{AnswerWritten};
+ghost use Rattle.machine.specs.Steps.{Answered};
 
 use crate::saying::tell_refusal;
 use drive_reports::Grafts;
@@ -27,10 +24,8 @@ pub type SessionPhase<R> = Phase<CommitEditor<R>, Grafts>;
 pub fn end_malformed<R: Repository, S: ReplySink>(
     turn: &mut Turn<S>,
 ) -> Result<SessionPhase<R>, AllocError>
-    ensures ok { IfOk result (λ phase. AnswerWritten (malformed turn.old.env)
-        phase turn.new.env (S.writes turn.old.out turn.new.out)) }
-    ensures err { OnErr result (WritesPart (S.writes turn.old.out turn.new.out)
-        (print (malformed turn.old.env).replies)) }
+    ensures { Answered result turn.new.env (S.writes turn.old.out turn.new.out)
+        (malformed turn.old.env) }
 {
     tell_refusal(Refusal::MalformedData, &mut turn.out)?;
     Ok(Phase::Ended)

@@ -1,6 +1,6 @@
 -- Where the commands of a report lead.
 use Rattle.std.proofs.Common.{◌≡◌, ℕ, List, [], refl, sym, subst, inl, inr}
-use Rattle.std.specs.Prelude.{Result, Ok, Err, IfOk, OnErr}
+use Rattle.std.specs.Prelude.{Result, Ok, Err, IfOk}
 use Rattle.refusals.specs.declared.Refusal.{Refusal}
 use Rattle.repo_api.specs.Soundness.{AreTrees}
 use Rattle.repo_api.specs.States.{RepoState}
@@ -11,14 +11,14 @@ use Rattle.drive_reports.specs.declared.fault.ReportFault.{ReportFault}
 use Rattle.drive_reports.specs.declared.fault.ReportFault.TheVariants as faults
 use Rattle.drive_reports.specs.declared.report.Report.TheVariants.{Open}
 use Rattle.drive_reports.specs.declared.report.ReportRoot.{ReportRoot}
-use Rattle.drive_wire.specs.Reporting.{Drawn, Finishes}
+use Rattle.drive_wire.specs.Reporting.{Drawn, Finishes, EndStep}
 use Rattle.drive_wire.specs.Reporting.Drawn.{GoesOn, GivenUp, Fails, Drives, Malformed}
 use Rattle.drive_wire.specs.Sent.{IsDrive}
 use Rattle.access.specs.Points.{Point, AccessRules, content_of}
 use Rattle.machine.specs.Stages.{Stage}
-use Rattle.machine.specs.Answers.{Answer, no_effect, says}
-use Rattle.machine.specs.Reports.{drawn_answer}
-use Rattle.machine.specs.Steps.{StepWritten, StepOrNothing}
+use Rattle.machine.specs.Answers.{Step, no_effect, says}
+use Rattle.machine.specs.Reports.{drawn_answer, Draws}
+use Rattle.machine.specs.Steps.{StepOrNothing, Stepped}
 use Rattle.machine.specs.declared.env.Env.{Env}
 use Rattle.machine.specs.declared.phase.Client.{Client}
 use Rattle.machine.specs.declared.phase.Phase.TheVariants.{Driven}
@@ -36,40 +36,33 @@ drawn_nothing env client (Drives drive) = refl
 drawn_nothing env client Malformed = refl
 
 -- a step that tells nothing
-pub untold : (rules : AccessRules) (step : Point → Answer → Type 0) (p q : Point) (env : Env) (phase : Stage) (writes : List ℕ → Type 0)
-    → rules.between p q → step q (says env phase []) → writes [] → {E : Type 0} (r : Result Stage E) → IfOk r (λ after. after ≡ phase)
-    → record { ok : IfOk r (λ after. StepWritten rules step p q after env writes); err : OnErr r (StepOrNothing rules step p q writes) }
-untold rules step p q env phase writes later is nothing (Ok after) same = record {
-  ok = told_all (only_says later is) writes after env (record { phase_after = same; env_after = refl; written = nothing });
-  err = tt;
-}
-untold rules step p q env phase writes later is nothing (Err e) same = record { ok = tt; err = inl (later, nothing) }
+pub untold : (rules : AccessRules) (step : Step) (p q : Point) (env : Env) (phase : Stage) (writes : List ℕ → Type 0)
+    → rules.between p q → step q.halted (content_of q) (says env phase []) → writes [] → {E : Type 0} (r : Result Stage E) → IfOk r (λ after. after ≡ phase)
+    → Stepped r env writes rules p q step
+untold rules step p q env phase writes later is nothing (Ok after) same =
+    told_all (only_says later is) writes after env (record { phase_after = same; env_after = refl; written = nothing })
+untold rules step p q env phase writes later is nothing (Err e) same = inl (later, nothing)
 
 -- ---- the end
 
--- the end of a report
-abbrev pub EndStep : Env → Client → OpenState → Point → Answer → Type 0
-EndStep env client report at a =
-    (d : Drawn) × Finishes (content_of at) (finish_answer (content_of at) (Open report)) d × (a ≡ drawn_answer env client d)
-
 -- what is drawn at the end, from what the report comes to
 finishes : (c : RepoState) (report : OpenState) (r : Result ReportRoot Refusal) (d : Drawn) → finish_root c report ≡ r
-    → Finishes c (r >>= (λ root. Ok (whole report root))) d → Finishes c (finish_answer c (Open report)) d
+    → Finishes c (r >>= (λ root. Ok (whole report root))) d → EndStep report c d
 finishes c report r d is drawn = subst (λ (x : Result ReportRoot Refusal). Finishes c (x >>= (λ root. Ok (whole report root))) d) (sym is) drawn
 
 module _ (rules : AccessRules) (env : Env) (client : Client) (report : OpenState) {p q : Point} (later : rules.between p q) (trees : AreTrees (content_of q).revisions) where
   -- a drive
   pub drives : (root : ReportRoot) (drive : List EditorCommand) → finish_root (content_of q) report ≡ Ok root → IsDrive (content_of q) (whole report root) drive
-      → Leads rules (EndStep env client report) p q env (Driven client) (drive_replies drive)
+      → Leads rules (Draws env client (EndStep report)) p q env (Driven client) (drive_replies drive)
   drives root drive is is_drive =
       only_says later (Drives drive, finishes (content_of q) report (Ok root) (Drives drive) is (drive, refl, trees, is_drive), refl)
 
   -- or why there is none
-  pub fails : (r : Refusal) → finish_root (content_of q) report ≡ Err r → EndStep env client report q (drawn_answer env client (Fails r))
+  pub fails : (r : Refusal) → finish_root (content_of q) report ≡ Err r → Draws env client (EndStep report) q.halted (content_of q) (drawn_answer env client (Fails r))
   fails r is = (Fails r, finishes (content_of q) report (Err r) (Fails r) is refl, refl)
 
   -- or memory or the sink failed
-  pub lost : (writes : List ℕ → Type 0) → IsUnanswered (content_of q) report writes faults.NoMemory → StepOrNothing rules (EndStep env client report) p q writes
+  pub lost : (writes : List ℕ → Type 0) → IsUnanswered (content_of q) report writes faults.NoMemory → StepOrNothing rules (Draws env client (EndStep report)) p q writes
   lost writes (inl nothing) = inl (later, nothing)
   lost writes (inr (root, is, inl nothing)) = inl (later, nothing)
   lost writes (inr (root, is, inr (drive, is_drive, part))) = told_part (drives root drive is is_drive) writes part

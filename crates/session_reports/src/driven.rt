@@ -1,15 +1,14 @@
 //! The client's answer to a drive.
-ghost use Rattle.std.specs.Prelude.{◌≡◌, ◌∷◌, [], IfOk, OnOk, OnErr};
+ghost use Rattle.std.specs.Prelude.{◌≡◌, ◌∷◌, []};
 ghost use Rattle.items.specs.View.{value_of};
 ghost use Rattle.wire_edits.specs.declared.editing.EditorCommand.{EditorCommand};
 ghost use Rattle.wire_replies.specs.declared.reply.Reply.{Reply};
-ghost use Rattle.wire_replies.specs.Replies.{print};
-ghost use Rattle.wire_replies.specs.Sinks.{WritesPart};
 ghost use Rattle.drive_wire.specs.Reporting.{client_answer, is_success};
 ghost use Rattle.machine.specs.Answers.{serves, says};
 ghost use Rattle.machine.specs.Reports.{driven_answer};
-ghost use Rattle.machine.specs.Steps.{AnswerWritten};
 ghost use Rattle.machine.specs.declared.phase.Phase.TheVariants.{Serving};
+ghost use Rattle.wire_replies.specs.Sinks.{Says};
+ghost use Rattle.machine.specs.Steps.{Answered};
 
 use items::Item;
 use machine::{Client, Phase, Turn};
@@ -45,10 +44,8 @@ fn client_answer(item: &Item) -> Option<bool>
 
 /// Writes that a drive is given up, and then that it has failed.
 fn say_given_up<S: ReplySink>(out: &mut S) -> Result<(), AllocError>
-    ensures ok { OnOk result (S.writes out.old out.new
-        (print (Reply.Edit EditorCommand.AbortEdit ∷ Reply.Failure Refusal.EditAborted ∷ []))) }
-    ensures err { OnErr result (WritesPart (S.writes out.old out.new)
-        (print (Reply.Edit EditorCommand.AbortEdit ∷ Reply.Failure Refusal.EditAborted ∷ []))) }
+    ensures { Says result (S.writes out.old out.new)
+        (Reply.Edit EditorCommand.AbortEdit ∷ Reply.Failure Refusal.EditAborted ∷ []) }
 {
     say_new(Reply::Edit(EditorCommand::AbortEdit), out)?;
     tell_refusal(Refusal::EditAborted, out)
@@ -59,12 +56,9 @@ fn give_up<R: Repository, S: ReplySink>(
     client: Client,
     turn: &mut Turn<S>,
 ) -> Result<SessionPhase<R>, AllocError>
-    ensures ok { IfOk result (λ phase. AnswerWritten
+    ensures { Answered result turn.new.env (S.writes turn.old.out turn.new.out)
         (says turn.old.env (Serving client)
-        (Reply.Edit EditorCommand.AbortEdit ∷ Reply.Failure Refusal.EditAborted ∷ []))
-        phase turn.new.env (S.writes turn.old.out turn.new.out)) }
-    ensures err { OnErr result (WritesPart (S.writes turn.old.out turn.new.out)
-        (print (Reply.Edit EditorCommand.AbortEdit ∷ Reply.Failure Refusal.EditAborted ∷ []))) }
+        (Reply.Edit EditorCommand.AbortEdit ∷ Reply.Failure Refusal.EditAborted ∷ [])) }
 {
     match say_given_up(&mut turn.out) {
         Ok(()) => Ok(Phase::Serving(client)),
@@ -80,10 +74,8 @@ fn take_over<R: Repository, S: ReplySink>(
     client: Client,
     turn: &mut Turn<S>,
 ) -> Result<SessionPhase<R>, AllocError>
-    ensures ok { IfOk result (λ phase. AnswerWritten (serves turn.old.env client Reply.Success)
-        phase turn.new.env (S.writes turn.old.out turn.new.out)) }
-    ensures err { OnErr result (WritesPart (S.writes turn.old.out turn.new.out)
-        (print (Reply.Success ∷ []))) }
+    ensures { Answered result turn.new.env (S.writes turn.old.out turn.new.out)
+        (serves turn.old.env client Reply.Success) }
 {
     tell(client, Preface::Nothing, Ok(Reply::Success), turn)
 }
@@ -94,11 +86,8 @@ pub fn serve_driven<R: Repository, S: ReplySink>(
     item: &Item,
     turn: &mut Turn<S>,
 ) -> Result<SessionPhase<R>, AllocError>
-    ensures ok { IfOk result (λ phase. AnswerWritten
-        (driven_answer turn.old.env client (client_answer (value_of item.now)))
-        phase turn.new.env (S.writes turn.old.out turn.new.out)) }
-    ensures err { OnErr result (WritesPart (S.writes turn.old.out turn.new.out)
-        (print (driven_answer turn.old.env client (client_answer (value_of item.now))).replies)) }
+    ensures { Answered result turn.new.env (S.writes turn.old.out turn.new.out)
+        (driven_answer turn.old.env client (client_answer (value_of item.now))) }
 {
     match client_answer(item) {
         Some(true) => take_over(client, turn),

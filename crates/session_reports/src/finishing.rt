@@ -1,13 +1,11 @@
 //! The end of a report: a drive, or why there is none.
-ghost use Rattle.std.specs.Prelude.{◌≡◌, IfOk, OnErr, MatchResult};
+ghost use Rattle.std.specs.Prelude.{MatchResult};
 ghost use Rattle.repo_api.specs.Soundness.{AreSound, AreTrees};
-ghost use Rattle.drive_reports.specs.Refusing.{finish_answer};
-ghost use Rattle.drive_reports.specs.declared.report.Report.TheVariants.{Open};
-ghost use Rattle.drive_wire.specs.Reporting.{Drawn, Finishes};
 ghost use Rattle.access.specs.Points.{content_of};
-ghost use Rattle.machine.specs.Reports.{drawn_answer};
-ghost use Rattle.machine.specs.Steps.{StepWritten, StepOrNothing};
 ghost use Rattle.session_reports.specs.Finishing.{IsAnswered, IsUnanswered};
+ghost use Rattle.machine.specs.Steps.{Stepped};
+ghost use Rattle.machine.specs.Reports.{Draws};
+ghost use Rattle.drive_wire.specs.Reporting.{EndStep};
 
 use crate::refused::fail;
 use access::RepoAccess;
@@ -76,17 +74,9 @@ pub(crate) fn finish<R: Repository, A: RepoAccess<View = R>, S: ReplySink>(
     turn: &mut Turn<S>,
 ) -> Result<SessionPhase<R>, AllocError>
     requires trees { AreSound (content_of (A.point access.old)).revisions }
-    ensures ok { IfOk result (λ phase. StepWritten A.rules
-        (λ at a. (d : Drawn) × Finishes (content_of at)
-        (finish_answer (content_of at) (Open errand.report)) d
-        × (a ≡ drawn_answer turn.old.env errand.client d))
+    ensures { Stepped result turn.new.env (S.writes turn.old.out turn.new.out) A.rules
         (A.point access.old) (A.point access.new)
-        phase turn.new.env (S.writes turn.old.out turn.new.out)) }
-    ensures err { OnErr result (StepOrNothing A.rules
-        (λ at a. (d : Drawn) × Finishes (content_of at)
-        (finish_answer (content_of at) (Open errand.report)) d
-        × (a ≡ drawn_answer turn.old.env errand.client d))
-        (A.point access.old) (A.point access.new) (S.writes turn.old.out turn.new.out)) }
+        (Draws turn.old.env errand.client (EndStep errand.report)) }
 {
     let OpenErrand { client, report } = errand;
     match drive_now(turn.alloc, &report, access, &mut turn.out) {

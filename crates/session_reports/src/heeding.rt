@@ -1,12 +1,12 @@
 //! The commands of a report that goes on.
-ghost use Rattle.std.specs.Prelude.{◌≡◌, Ok, IfOk, OnErr, option_copied};
+ghost use Rattle.std.specs.Prelude.{◌≡◌, Ok, IfOk, option_copied};
 ghost use Rattle.repo_api.specs.Soundness.{AreSound};
 ghost use Rattle.drive_reports.specs.Refusing.{delete_path_answer, kept_report, set_path_answer};
-ghost use Rattle.drive_wire.specs.Reporting.{Drawn, OpenStep};
+ghost use Rattle.drive_wire.specs.Reporting.{OpenStep};
 ghost use Rattle.access.specs.Points.{content_of};
-ghost use Rattle.machine.specs.Reports.{drawn_answer};
-ghost use Rattle.machine.specs.Steps.{StepWritten, StepOrNothing};
 ghost use Rattle.machine.specs.declared.phase.Phase.TheVariants.{Reporting};
+ghost use Rattle.machine.specs.Steps.{Stepped};
+ghost use Rattle.machine.specs.Reports.{Draws};
 
 use crate::finishing::{OpenErrand, finish};
 use access::RepoAccess;
@@ -108,15 +108,10 @@ pub(crate) fn heed<R: Repository, A: RepoAccess<View = R>, S: ReplySink>(
     turn: &mut Turn<S>,
 ) -> Result<SessionPhase<R>, AllocError>
     requires trees { AreSound (content_of (A.point access.old)).revisions }
-    ensures ok { IfOk result (λ phase. StepWritten A.rules
-        (λ at a. (d : Drawn) × OpenStep (content_of at) options.now.name errand.report
-        (Ok command.now) d × (a ≡ drawn_answer turn.old.env errand.client d))
+    ensures { Stepped result turn.new.env (S.writes turn.old.out turn.new.out) A.rules
         (A.point access.old) (A.point access.new)
-        phase turn.new.env (S.writes turn.old.out turn.new.out)) }
-    ensures err { OnErr result (StepOrNothing A.rules
-        (λ at a. (d : Drawn) × OpenStep (content_of at) options.now.name errand.report
-        (Ok command.now) d × (a ≡ drawn_answer turn.old.env errand.client d))
-        (A.point access.old) (A.point access.new) (S.writes turn.old.out turn.new.out)) }
+        (Draws turn.old.env errand.client
+        (OpenStep options.now.name errand.report (Ok command.now))) }
 {
     match command {
         ReportCommand::SetPath(reported) => {

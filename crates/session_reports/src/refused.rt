@@ -1,16 +1,14 @@
 //! A report that is refused: its commands are read by their names alone.
-ghost use Rattle.std.specs.Prelude.{◌≡◌, ◌∷◌, [], IfOk, OnErr};
+ghost use Rattle.std.specs.Prelude.{◌≡◌};
 ghost use Rattle.items.specs.View.{value_of};
 ghost use Rattle.wire_replies.specs.declared.reply.Reply.{Reply};
-ghost use Rattle.wire_replies.specs.Replies.{print};
-ghost use Rattle.wire_replies.specs.Sinks.{WritesPart};
 ghost use Rattle.wire_reports.specs.Reporting.{name_of};
 ghost use Rattle.drive_wire.specs.Reporting.{refused_drawn};
 ghost use Rattle.drive_wire.specs.Reporting.Drawn.{Fails};
 ghost use Rattle.machine.specs.Reports.{drawn_answer};
-ghost use Rattle.machine.specs.Steps.{AnswerWritten};
 ghost use Rattle.machine.specs.declared.phase.Phase.TheVariants.{Reporting};
 ghost use Rattle.drive_reports.specs.declared.report.Report.TheVariants.{Refused};
+ghost use Rattle.machine.specs.Steps.{Answered};
 
 use drive_reports::Report;
 use items::Item;
@@ -29,11 +27,8 @@ pub(crate) fn fail<R: Repository, S: ReplySink>(
     refusal: Refusal,
     turn: &mut Turn<S>,
 ) -> Result<SessionPhase<R>, AllocError>
-    ensures ok { IfOk result (λ phase. AnswerWritten
-        (drawn_answer turn.old.env client (Fails refusal))
-        phase turn.new.env (S.writes turn.old.out turn.new.out)) }
-    ensures err { OnErr result (WritesPart (S.writes turn.old.out turn.new.out)
-        (print (drawn_answer turn.old.env client (Fails refusal)).replies)) }
+    ensures { Answered result turn.new.env (S.writes turn.old.out turn.new.out)
+        (drawn_answer turn.old.env client (Fails refusal)) }
 {
     refuse(client, Preface::NoLogin, refusal, turn)
 }
@@ -53,12 +48,8 @@ pub(crate) fn pass_over<R: Repository, S: ReplySink>(
     item: &Item,
     turn: &mut Turn<S>,
 ) -> Result<SessionPhase<R>, AllocError>
-    ensures ok { IfOk result (λ phase. AnswerWritten
-        (drawn_answer turn.old.env client (refused_drawn refusal (name_of (value_of item.now))))
-        phase turn.new.env (S.writes turn.old.out turn.new.out)) }
-    ensures err { OnErr result (WritesPart (S.writes turn.old.out turn.new.out)
-        (print (drawn_answer turn.old.env client
-        (refused_drawn refusal (name_of (value_of item.now)))).replies)) }
+    ensures { Answered result turn.new.env (S.writes turn.old.out turn.new.out)
+        (drawn_answer turn.old.env client (refused_drawn refusal (name_of (value_of item.now)))) }
 {
     match read_name(item) {
         None => {

@@ -1,14 +1,14 @@
 //! One item within a report.
-ghost use Rattle.std.specs.Prelude.{◌≡◌, IfOk, OnErr};
+ghost use Rattle.std.specs.Prelude.{◌≡◌};
 ghost use Rattle.items.specs.View.{value_of};
 ghost use Rattle.repo_api.specs.Soundness.{AreSound};
 ghost use Rattle.wire_reports.specs.Reporting.{report_command};
-ghost use Rattle.drive_wire.specs.Reporting.{Drawn, OpenStep};
+ghost use Rattle.drive_wire.specs.Reporting.{OpenStep};
 ghost use Rattle.access.specs.Points.{content_of};
-ghost use Rattle.machine.specs.Reports.{ReportingStep, drawn_answer};
-ghost use Rattle.machine.specs.Steps.{StepWritten, StepOrNothing};
+ghost use Rattle.machine.specs.Reports.{ReportingStep, Draws};
 ghost use Rattle.machine.specs.declared.phase.Phase.TheVariants.{Reporting};
 ghost use Rattle.drive_reports.specs.declared.report.Report.TheVariants.{Refused};
+ghost use Rattle.machine.specs.Steps.{Stepped};
 
 use crate::finishing::OpenErrand;
 use crate::heeding::heed;
@@ -44,15 +44,10 @@ fn heed_item<R: Repository, A: RepoAccess<View = R>, S: ReplySink>(
     turn: &mut Turn<S>,
 ) -> Result<SessionPhase<R>, AllocError>
     requires trees { AreSound (content_of (A.point access.old)).revisions }
-    ensures ok { IfOk result (λ phase. StepWritten A.rules
-        (λ at a. (d : Drawn) × OpenStep (content_of at) options.now.name errand.report
-        (report_command (value_of item.now)) d × (a ≡ drawn_answer turn.old.env errand.client d))
+    ensures { Stepped result turn.new.env (S.writes turn.old.out turn.new.out) A.rules
         (A.point access.old) (A.point access.new)
-        phase turn.new.env (S.writes turn.old.out turn.new.out)) }
-    ensures err { OnErr result (StepOrNothing A.rules
-        (λ at a. (d : Drawn) × OpenStep (content_of at) options.now.name errand.report
-        (report_command (value_of item.now)) d × (a ≡ drawn_answer turn.old.env errand.client d))
-        (A.point access.old) (A.point access.new) (S.writes turn.old.out turn.new.out)) }
+        (Draws turn.old.env errand.client
+        (OpenStep options.now.name errand.report (report_command (value_of item.now)))) }
 {
     match ReportCommand::from_item(item) {
         Ok(command) => {
@@ -81,15 +76,9 @@ pub fn serve_report<R: Repository, A: RepoAccess<View = R>, S: ReplySink>(
     turn: &mut Turn<S>,
 ) -> Result<SessionPhase<R>, AllocError>
     requires trees { AreSound (content_of (A.point access.old)).revisions }
-    ensures ok { IfOk result (λ phase. StepWritten A.rules
-        (λ at a. ReportingStep options.now turn.old.env (content_of at) reporting
-        (value_of item.now) a)
+    ensures { Stepped result turn.new.env (S.writes turn.old.out turn.new.out) A.rules
         (A.point access.old) (A.point access.new)
-        phase turn.new.env (S.writes turn.old.out turn.new.out)) }
-    ensures err { OnErr result (StepOrNothing A.rules
-        (λ at a. ReportingStep options.now turn.old.env (content_of at) reporting
-        (value_of item.now) a)
-        (A.point access.old) (A.point access.new) (S.writes turn.old.out turn.new.out)) }
+        (ReportingStep options.now turn.old.env reporting (value_of item.now)) }
 {
     let OpenReporting { client, report } = reporting;
     match report {

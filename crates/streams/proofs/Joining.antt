@@ -77,7 +77,7 @@ no_piece_happens n (piece ∷ pieces) old new told none (events, first, mid, aft
 -- ---- a session that stays open
 
 -- a wrong byte ends the session
-broken_ends : (halted : Bool) (s : Settings) (env : Env) (c : RepoState) (phase : Stage) (a : Answer) → InputStep halted s env c phase Broken a → a.phase ≡ Ended
+broken_ends : (halted : Bool) (s : Settings) (env : Env) (c : RepoState) (phase : Stage) (a : Answer) → InputStep s env phase Broken halted c a → a.phase ≡ Ended
 broken_ends halted s env c Greeted a step = ap (λ (x : Answer). x.phase) step
 broken_ends halted s env c (LoggingIn login) a step = ap (λ (x : Answer). x.phase) step
 broken_ends halted s env c (Challenged pending) a step = ap (λ (x : Answer). x.phase) step
@@ -104,7 +104,7 @@ record Stays (n : ℕ) (old : HubState) (s : SessionState) (env : Env) (inputs :
   anyway : (rest : List ℕ) → HubRun (with_rest old n s rest) env (inputs_heard n inputs) told (with_rest new n t rest) after
 
 unbroken_more : (halted : Bool) (s : Settings) (env : Env) (c : RepoState) (phase : Stage) (input : Input) (inputs : List Input) (a : Answer)
-    → InputStep halted s env c phase input a → is_open a.phase ≡ true → IsUnbroken inputs → IsUnbroken (input ∷ inputs)
+    → InputStep s env phase input halted c a → is_open a.phase ≡ true → IsUnbroken inputs → IsUnbroken (input ∷ inputs)
 unbroken_more halted s env c phase (Whole t) inputs a step goes u = u
 unbroken_more halted s env c phase Broken inputs a step goes u =
     let ended = broken_ends halted s env c phase a step in

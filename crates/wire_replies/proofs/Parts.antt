@@ -1,24 +1,19 @@
 -- Parts of replies that were written.
 use Rattle.std.proofs.Common.{◌≡◌, ℕ, List, [], ◌∷◌, ◌++◌, refl, sym, ap, subst, ◌∙◌, append-nil, append_assoc}
 use Rattle.items.specs.Print.{printed}
-use Rattle.std.specs.Prelude.{Result, Ok, Err, OnOk, OnErr}
+use Rattle.std.specs.Prelude.{Result, Ok, Err, MatchResult}
 use Rattle.wire_replies.specs.Replies.{reply_item, print}
-use Rattle.wire_replies.specs.Sinks.{WritesPart}
+use Rattle.wire_replies.specs.Sinks.{WritesPart, Says}
 use Rattle.wire_replies.specs.declared.reply.Reply.{Reply}
 
 pub print-append : (xs ys : List Reply) → print (xs ++ ys) ≡ print xs ++ print ys
 print-append [] ys = refl
 print-append (x ∷ xs) ys = ap (λ t. printed (reply_item x) ++ t) (print-append xs ys) ∙ sym (append_assoc (printed (reply_item x)) (print xs) (print ys))
 
--- what is known of a failure
-pub if_failed : {T E : Type 0} (r : Result T E) (P Q : Type 0) → (P → Q) → OnErr r P → OnErr r Q
-if_failed (Ok x) P Q f p = tt
-if_failed (Err e) P Q f p = f p
-
--- what is known of what was done
-pub if_done : {T E : Type 0} (r : Result T E) (P Q : Type 0) → (P → Q) → OnOk r P → OnOk r Q
-if_done (Ok x) P Q f p = f p
-if_done (Err e) P Q f p = tt
+-- what is known of what was done, and of a failure
+pub if_either : {T E : Type 0} (r : Result T E) (P P' Q Q' : Type 0) → (P → P') → (Q → Q') → MatchResult r (λ _. P) (λ _. Q) → MatchResult r (λ _. P') (λ _. Q')
+if_either (Ok x) P P' Q Q' f g p = f p
+if_either (Err e) P P' Q Q' f g q = g q
 
 -- nothing is a part of anything
 pub part_none : (writes : List ℕ → Type 0) (bytes : List ℕ) → writes [] → WritesPart writes bytes
@@ -51,3 +46,8 @@ module _ {S : Type 0} (writes : S → S → List ℕ → Type 0) (more : (s t u 
     whole = print-append first second ∙ ap (λ (y : List ℕ). print first ++ y) p.whole ∙ sym (append_assoc (print first) p.part p.rest);
     wrote = more s t u (print first) p.part x p.wrote;
   }
+
+  -- replies, and then others, as far as they are written
+  pub said_behind : {T E : Type 0} (r : Result T E) (s t u : S) (first second : List Reply) → writes s t (print first) → Says r (writes t u) second → Says r (writes s u) (first ++ second)
+  said_behind (Ok x) s t u first second before said = both_written s t u first second before said
+  said_behind (Err e) s t u first second before part = part_behind s t u first second before part

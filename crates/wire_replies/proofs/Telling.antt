@@ -1,16 +1,17 @@
 -- A text in pieces, as far as it is sent.
 use Rattle.std.proofs.Common.{arith, ◌≡◌, ℕ, ◌+◌, ◌*◌, ◌≤◌, List, [], ◌∷◌, ◌++◌, ◌∙◌, length, map, drop, take, sym, ap, subst, append_assoc}
+use Rattle.std.specs.Prelude.{Result}
 use Rattle.std.proofs.lemmas.List.{map-append, take-append-drop}
 use Rattle.std.proofs.lemmas.List.FromFn.{take-map-range_with_len, map-range_with_len_more}
 use Rattle.std.specs.Int.{div_ceil}
 use Rattle.std.specs.List.{range_with_len}
 use Rattle.wire_replies.specs.Pieces.{piece_from, pieces}
 use Rattle.wire_replies.specs.Replies.{contents, print}
-use Rattle.wire_replies.specs.Sinks.{WritesPart}
+use Rattle.wire_replies.specs.Sinks.{WritesPart, Says}
 use Rattle.wire_replies.specs.declared.contents.TheConstants.{PIECE}
 use Rattle.wire_replies.specs.declared.reply.Reply.{Reply}
 use Rattle.wire_replies.specs.declared.reply.Reply.TheVariants.{Piece}
-use Rattle.wire_replies.proofs.Parts.{both_written, part_behind, part_first}
+use Rattle.wire_replies.proofs.Parts.{both_written, part_behind, part_first, said_behind}
 
 -- a piece by its number
 abbrev pub numbered : List ℕ → ℕ → List ℕ
@@ -60,8 +61,8 @@ module _ {S : Type 0} (writes : S → S → List ℕ → Type 0) (more : (s t u 
       (part_behind writes more s t u (told text n) (told_at text n ++ told_behind text (n + 1)) before
       (part_first (writes t u) (told_at text n) (told_behind text (n + 1)) part))
 
-  -- a part of the end is written
-  pub end_failed : (s t u : S) (text : List ℕ) (n : ℕ) → n ≡ piece_count text → writes s t (print (told text n)) → WritesPart (writes t u) (print (Piece [] ∷ [])) → WritesPart (writes s u) (print (contents text))
-  end_failed s t u text n all before part =
-      subst (λ (m : ℕ). WritesPart (writes s u) (print (told text m ++ Piece [] ∷ []))) all
-      (part_behind writes more s t u (told text n) (Piece [] ∷ []) before part)
+  -- the end, as far as it is written
+  pub end_said : {T E : Type 0} (r : Result T E) (s t u : S) (text : List ℕ) (n : ℕ) → n ≡ piece_count text → writes s t (print (told text n))
+      → Says r (writes t u) (Piece [] ∷ []) → Says r (writes s u) (contents text)
+  end_said r s t u text n all before said =
+      subst (λ (m : ℕ). Says r (writes s u) (told text m ++ Piece [] ∷ [])) all (said_behind writes more r s t u (told text n) (Piece [] ∷ []) before said)

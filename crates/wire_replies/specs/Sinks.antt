@@ -1,6 +1,8 @@
 -- What is written to a sink.
-use Rattle.std.specs.Prelude.{◌≡◌, ℕ, List, [], ◌++◌}
+use Rattle.std.specs.Prelude.{◌≡◌, ℕ, List, [], ◌++◌, Result, MatchResult}
 use Rattle.std.proofs.Common.{sym, ap, ◌∙◌, append-nil, append_assoc}
+use Rattle.wire_replies.specs.Replies.{print}
+use Rattle.wire_replies.specs.declared.reply.Reply.{Reply}
 
 -- a part from the front of these bytes was written
 pub record WritesPart (writes : List ℕ → Type 0) (bytes : List ℕ) : Type 0 where
@@ -8,6 +10,14 @@ pub record WritesPart (writes : List ℕ → Type 0) (bytes : List ℕ) : Type 0
   pub rest : List ℕ
   pub whole : bytes ≡ part ++ rest
   pub wrote : writes part
+
+-- these bytes were written; or, where there is an error, a part of them from the front
+abbrev pub Writes : {T E : Type 0} → Result T E → (List ℕ → Type 0) → List ℕ → Type 0
+Writes r writes bytes = MatchResult r (λ _. writes bytes) (λ _. WritesPart writes bytes)
+
+-- so are these replies
+abbrev pub Says : {T E : Type 0} → Result T E → (List ℕ → Type 0) → List Reply → Type 0
+Says r writes told = Writes r writes (print told)
 
 -- ---- bytes at the end of others
 

@@ -1,8 +1,8 @@
 //! The text of a file, in pieces.
-ghost use Rattle.std.specs.Prelude.{◌≡◌, ◌∷◌, [], IfOk, OnOk, OnErr, drop, take};
+ghost use Rattle.std.specs.Prelude.{◌≡◌, ◌∷◌, [], IfOk, drop, take};
 ghost use Rattle.wire_replies.specs.Pieces.{piece_from};
-ghost use Rattle.wire_replies.specs.Replies.{contents, print};
-ghost use Rattle.wire_replies.specs.Sinks.{WritesPart};
+ghost use Rattle.wire_replies.specs.Replies.{contents};
+ghost use Rattle.wire_replies.specs.Sinks.{Says};
 
 use crate::reply::Reply;
 use crate::sink::ReplySink;
@@ -81,9 +81,7 @@ fn at_most(count: usize, bytes: &[u8]) -> &[u8]
 
 /// Writes a text: its pieces, and an empty string behind them.
 pub fn say_contents<S: ReplySink>(text: &FileText, out: &mut S) -> Result<(), AllocError>
-    ensures ok { OnOk result (S.writes out.old out.new (print (contents text.now))) }
-    ensures err { OnErr result (WritesPart (S.writes out.old out.new)
-        (print (contents text.now))) }
+    ensures { Says result (S.writes out.old out.new) (contents text.now) }
 {
     let count = text.as_slice().len().div_ceil(PIECE);
     for n in 0..count {
@@ -94,10 +92,8 @@ pub fn say_contents<S: ReplySink>(text: &FileText, out: &mut S) -> Result<(), Al
 
 /// Writes the piece that begins at this place of the text.
 fn say_piece<S: ReplySink>(text: &FileText, start: usize, out: &mut S) -> Result<(), AllocError>
-    ensures ok { OnOk result (S.writes out.old out.new
-        (print (Reply.Piece (piece_from text.now start) ∷ []))) }
-    ensures err { OnErr result (WritesPart (S.writes out.old out.new)
-        (print (Reply.Piece (piece_from text.now start) ∷ []))) }
+    ensures { Says result (S.writes out.old out.new)
+        (Reply.Piece (piece_from text.now start) ∷ []) }
 {
     let reply = Reply::Piece(TextPiece::from_text(text, start)?);
     let said = out.say(&reply);
@@ -107,9 +103,7 @@ fn say_piece<S: ReplySink>(text: &FileText, start: usize, out: &mut S) -> Result
 
 /// Writes the piece that ends a text.
 fn say_last<S: ReplySink>(out: &mut S) -> Result<(), AllocError>
-    ensures ok { OnOk result (S.writes out.old out.new (print (Reply.Piece [] ∷ []))) }
-    ensures err { OnErr result (WritesPart (S.writes out.old out.new)
-        (print (Reply.Piece [] ∷ []))) }
+    ensures { Says result (S.writes out.old out.new) (Reply.Piece [] ∷ []) }
 {
     let reply = Reply::Piece(TextPiece::last());
     let said = out.say(&reply);

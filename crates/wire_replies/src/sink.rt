@@ -1,7 +1,6 @@
 //! Where replies go.
-ghost use Rattle.std.specs.Prelude.{◌≡◌, ◌∷◌, ◌++◌, [], List, ℕ, OnOk, OnErr};
-ghost use Rattle.wire_replies.specs.Replies.{print};
-ghost use Rattle.wire_replies.specs.Sinks.{WritesPart};
+ghost use Rattle.std.specs.Prelude.{◌≡◌, ◌∷◌, ◌++◌, [], List, ℕ};
+ghost use Rattle.wire_replies.specs.Sinks.{Says};
 
 use crate::reply::Reply;
 use std::alloc::{AllocError, Global};
@@ -15,8 +14,7 @@ pub trait ReplySink {
     /// Writes a reply. Where memory is refused or the sink fails, a beginning of it was written; a sink that
     /// fails for another reason than want of memory keeps its fault itself.
     fn say(&mut self, reply: &Reply) -> Result<(), AllocError>
-        ensures ok { OnOk result (writes self.old self.new (print (reply.now ∷ []))) }
-        ensures err { OnErr result (WritesPart (writes self.old self.new) (print (reply.now ∷ []))) };
+        ensures { Says result (writes self.old self.new) (reply.now ∷ []) };
 
     ghost nothing: { (s : Self) → writes s s [] };
 

@@ -2,25 +2,24 @@ use Rattle.std.proofs.Common.{◌∷◌, []}
 use Rattle.std.proofs.lemmas.Result.{err_from_is_err_and}
 use Rattle.wire_edits.specs.declared.editing.EditorCommand.TheVariants.{CloseDirectory}
 use Rattle.drive_rules.specs.Steps.EntryKind.{DirectoryKind}
-use Rattle.wire_replies.proofs.Parts.{if_done, if_failed}
 use Rattle.drive_sides.specs.Plans.{whole}
 use Rattle.drive_sending.specs.Commands.{plan_commands}
 use Rattle.drive_sending.specs.Tokens.{token_of}
-use Rattle.drive_sending.proofs.Written.{first_part, both, behind_part}
+use Rattle.drive_sending.proofs.Written.{first_part, sent_behind}
 use Rattle.drive_sending.proofs.drive.say_below.Goals as goal
 
-pub returns-in_err-say_visits-clause-err : goal.returns-in_err-say_visits-clause-err
-returns-in_err-say_visits-clause-err g c =
+pub returns-in_err-say_visits : goal.returns-in_err-say_visits
+returns-in_err-say_visits g c =
     let p = err_from_is_err_and c.from_residual.result c.from_residual.ensures.1 in
-    let v = c.in_err-say_visits.ensures.err in
+    let v = c.in_err-say_visits.ensures in
     rw (p.1) (v.0, v.1, first_part _ (plan_commands (g.R.Repository.content c.args.trees.now.view.now) (whole c.args.trees.now.report.now c.args.trees.now.root) 0 v.0) (CloseDirectory (token_of DirectoryKind 0) ∷ []) v.2)
 
-pub returns-clause-ok : goal.returns-clause-ok
-returns-clause-ok g c =
-    let v = c.in_ok-say_visits.ensures.ok in
-    if_done c.say_close.result _ _ (λ said. (v.0, v.1, both _ g.met.S.ReplySink.more _ _ _ (plan_commands (g.R.Repository.content c.args.trees.now.view.now) (whole c.args.trees.now.report.now c.args.trees.now.root) 0 v.0) (CloseDirectory (token_of DirectoryKind 0) ∷ []) v.2 said)) (c.say_close.ensures.ok)
-
-pub returns-clause-err : goal.returns-clause-err
-returns-clause-err g c =
-    let v = c.in_ok-say_visits.ensures.ok in
-    if_failed c.say_close.result _ _ (λ part. (v.0, v.1, behind_part _ g.met.S.ReplySink.more _ _ _ (plan_commands (g.R.Repository.content c.args.trees.now.view.now) (whole c.args.trees.now.report.now c.args.trees.now.root) 0 v.0) (CloseDirectory (token_of DirectoryKind 0) ∷ []) v.2 part)) (c.say_close.ensures.err)
+pub returns : goal.returns
+returns g c =
+    let v = c.in_ok-say_visits.ensures in (
+      v.0,
+      v.1,
+      sent_behind _ g.met.S.ReplySink.more c.say_close.result _ _ _
+          (plan_commands (g.R.Repository.content c.args.trees.now.view.now) (whole c.args.trees.now.report.now c.args.trees.now.root) 0 v.0)
+          (CloseDirectory (token_of DirectoryKind 0) ∷ []) v.2 c.say_close.ensures,
+    )

@@ -1,30 +1,17 @@
-use Rattle.wire_replies.proofs.Parts.{if_done, if_failed}
-use Rattle.std.proofs.Common.{inr}
 use Rattle.drive_reports.proofs.Deciding.{all_trees_hold}
 use Rattle.drive_sides.specs.Plans.{whole}
 use Rattle.drive_sending.specs.Commands.{drive_of}
-use Rattle.drive_sending.proofs.Finished.{drive_may_be_sent}
+use Rattle.drive_sending.proofs.Finished.{drive_may_be_sent, drive_said}
 use Rattle.drive_sending.proofs.drive.say_drive.Goals as goal
 
 pub invariant_of-trees : goal.invariant_of-trees
 invariant_of-trees g c = record { together = all_trees_hold (g.R.Repository.content c.args.view.now).revisions c.requires.trees }
 
-pub returns-clause-ok : goal.returns-clause-ok
-returns-clause-ok g c =
-    if_done c.say_planned.result _ _
-    (λ v. (
-      drive_of (g.R.Repository.content c.args.view.now) (whole c.args.report.now c.args.root) v.0,
-      drive_may_be_sent (g.R.Repository.content c.args.view.now) c.args.report.now c.args.root v.0 c.requires.trees c.are_named.ensures.target c.are_named.ensures.grafts c.requires.finished (c.in_ok-visitor.ensures v.0 v.1),
-      v.2,
-    ))
-    c.say_planned.ensures.ok
-
-pub returns-clause-err : goal.returns-clause-err
-returns-clause-err g c =
-    if_failed c.say_planned.result _ _
-    (λ v. inr (
-      drive_of (g.R.Repository.content c.args.view.now) (whole c.args.report.now c.args.root) v.0,
-      drive_may_be_sent (g.R.Repository.content c.args.view.now) c.args.report.now c.args.root v.0 c.requires.trees c.are_named.ensures.target c.are_named.ensures.grafts c.requires.finished (c.in_ok-visitor.ensures v.0 v.1),
-      v.2,
-    ))
-    c.say_planned.ensures.err
+pub returns : goal.returns
+returns g c =
+    let v = c.say_planned.ensures in
+    drive_said c.say_planned.result (g.S.ReplySink.writes c.args.out.now c.say_planned.new.out) (g.R.Repository.content c.args.view.now) (whole c.args.report.now c.args.root)
+    (drive_of (g.R.Repository.content c.args.view.now) (whole c.args.report.now c.args.root) v.0)
+    (drive_may_be_sent (g.R.Repository.content c.args.view.now) c.args.report.now c.args.root v.0 c.requires.trees c.are_named.ensures.target c.are_named.ensures.grafts
+    c.requires.finished (c.in_ok-visitor.ensures v.0 v.1))
+    v.2

@@ -2,19 +2,15 @@ use Rattle.drive_rules.specs.Steps.EntryKind.{DirectoryKind}
 use Rattle.reporter.specs.Visits.{kind_if}
 use Rattle.drive_sending.specs.Commands.{news_commands}
 use Rattle.drive_sending.specs.Tokens.{token_of}
+use Rattle.wire_replies.specs.Sinks.{Writes}
 use Rattle.drive_sending.proofs.telling.say_news.Goals as goal
 use Rattle.std.proofs.Common.{◌+◌, subst}
-use Rattle.std.specs.Prelude.{OnOk, OnErr}
-use Rattle.wire_replies.specs.Sinks.{WritesPart}
 use Rattle.drive_sending.specs.Driving.{command_bytes}
 use Rattle.std.proofs.Common.{◌≡◌}
 
-pub returns-then-entrance-clause-ok : goal.returns-then-entrance-clause-ok
-returns-then-entrance-clause-ok g c =
-    rw (c.if-entrance.true) (subst (λ t. OnOk c.say_directory_news.result (g.S.ReplySink.writes c.args.out.now c.say_directory_news.new.out (command_bytes (news_commands c.args.purpose DirectoryKind t c.args.news.now))))
-    (subst (λ b. c.in_ok-token.token ≡ token_of (kind_if b) (c.args.entrance.around + 1)) c.if-entrance.true c.in_ok-token.ensures) (c.say_directory_news.ensures.ok c.args.purpose))
-
-pub returns-then-entrance-clause-err : goal.returns-then-entrance-clause-err
-returns-then-entrance-clause-err g c =
-    rw (c.if-entrance.true) (subst (λ t. OnErr c.say_directory_news.result (WritesPart (g.S.ReplySink.writes c.args.out.now c.say_directory_news.new.out) (command_bytes (news_commands c.args.purpose DirectoryKind t c.args.news.now))))
-    (subst (λ b. c.in_ok-token.token ≡ token_of (kind_if b) (c.args.entrance.around + 1)) c.if-entrance.true c.in_ok-token.ensures) (c.say_directory_news.ensures.err c.args.purpose))
+pub returns-then-entrance : goal.returns-then-entrance
+returns-then-entrance g c =
+    rw (c.if-entrance.true) (subst (λ t. Writes c.say_directory_news.result (g.S.ReplySink.writes c.args.out.now c.say_directory_news.new.out)
+    (command_bytes (news_commands c.args.purpose DirectoryKind t c.args.news.now)))
+    (subst (λ b. c.in_ok-token.token ≡ token_of (kind_if b) (c.args.entrance.around + 1)) c.if-entrance.true c.in_ok-token.ensures)
+    (c.say_directory_news.ensures c.args.purpose))

@@ -1,16 +1,12 @@
 use Rattle.std.proofs.Common.{map}
 use Rattle.reporter.specs.Visits.{kind_if}
 use Rattle.drive_sending.specs.Commands.{property_command}
+use Rattle.wire_replies.specs.Sinks.{Writes}
 use Rattle.drive_sending.proofs.telling.say_properties.Goals as goal
 use Rattle.std.proofs.Common.{subst}
-use Rattle.std.specs.Prelude.{OnOk, OnErr}
-use Rattle.wire_replies.specs.Sinks.{WritesPart}
 use Rattle.drive_sending.specs.Driving.{command_bytes}
 
-pub returns-clause-ok : goal.returns-clause-ok
-returns-clause-ok g c =
-    subst (λ xs. OnOk c.say_each.result (g.S.ReplySink.writes c.args.out.now c.say_each.new.out (command_bytes (map (property_command (kind_if c.args.is_directory) c.args.token.now) xs)))) c.as_slice.ensures c.say_each.ensures.ok
-
-pub returns-clause-err : goal.returns-clause-err
-returns-clause-err g c =
-    subst (λ xs. OnErr c.say_each.result (WritesPart (g.S.ReplySink.writes c.args.out.now c.say_each.new.out) (command_bytes (map (property_command (kind_if c.args.is_directory) c.args.token.now) xs)))) c.as_slice.ensures c.say_each.ensures.err
+pub returns : goal.returns
+returns g c =
+    subst (λ xs. Writes c.say_each.result (g.S.ReplySink.writes c.args.out.now c.say_each.new.out)
+    (command_bytes (map (property_command (kind_if c.args.is_directory) c.args.token.now) xs))) c.as_slice.ensures c.say_each.ensures

@@ -1,17 +1,11 @@
 use Rattle.drive_rules.specs.Steps.EntryKind.{DirectoryKind}
 use Rattle.drive_sending.specs.Commands.{news_commands}
+use Rattle.wire_replies.specs.Sinks.{Writes}
 use Rattle.drive_sending.proofs.telling.say_root_news.Goals as goal
 use Rattle.std.proofs.Common.{subst}
-use Rattle.std.specs.Prelude.{OnOk, OnErr}
-use Rattle.wire_replies.specs.Sinks.{WritesPart}
 use Rattle.drive_sending.specs.Driving.{command_bytes}
 
-pub returns-clause-ok : goal.returns-clause-ok
-returns-clause-ok g c = λ purpose.
-    subst (λ t. OnOk c.say_directory_news.result (g.S.ReplySink.writes c.args.out.now c.say_directory_news.new.out (command_bytes (news_commands purpose DirectoryKind t c.args.news.now))))
-    c.in_ok-token.ensures (c.say_directory_news.ensures.ok purpose)
-
-pub returns-clause-err : goal.returns-clause-err
-returns-clause-err g c = λ purpose.
-    subst (λ t. OnErr c.say_directory_news.result (WritesPart (g.S.ReplySink.writes c.args.out.now c.say_directory_news.new.out) (command_bytes (news_commands purpose DirectoryKind t c.args.news.now))))
-    c.in_ok-token.ensures (c.say_directory_news.ensures.err purpose)
+pub returns : goal.returns
+returns g c = λ purpose.
+    subst (λ t. Writes c.say_directory_news.result (g.S.ReplySink.writes c.args.out.now c.say_directory_news.new.out)
+    (command_bytes (news_commands purpose DirectoryKind t c.args.news.now))) c.in_ok-token.ensures (c.say_directory_news.ensures purpose)

@@ -1,7 +1,7 @@
 use Rattle.access.specs.Points.{content_of}
 use Rattle.machine.specs.Hearing.Input.{Broken}
-use Rattle.machine.specs.Steps.{input_step}
-use Rattle.session_replies.proofs.Steps.{said, said_part, unparted}
+use Rattle.machine.specs.Machine.{InputStep}
+use Rattle.session_replies.proofs.Steps.{said, unparted}
 use Rattle.session.proofs.Answered.{broken_answer, broken_nothing, step_broken}
 use Rattle.session.proofs.serve.serve.Goals as goal
 
@@ -13,12 +13,9 @@ returns-in-Broken g c =
     let s = c.args.options.now in
     let env = c.args.turn.now.env in
     let p = g.A.RepoAccess.point c.args.access.now in
-    let step = input_step s env c.args.phase Broken in
+    let step = InputStep s env c.args.phase Broken in
     let a = broken_answer env c.args.phase in
     let stays = g.met.A.RepoAccess.stays p in
     let is = step_broken p.halted s env (content_of p) c.args.phase in
     let nothing = broken_nothing env c.args.phase in
-    rw c.in-Broken.is (unparted _ _ _ _ _ _ _ _ (record {
-      ok = said g.A.RepoAccess.rules step p p a stays is nothing _ c.serve_broken.result _ c.serve_broken.ensures.ok;
-      err = said_part g.A.RepoAccess.rules step p p a stays is nothing _ c.serve_broken.result c.serve_broken.ensures.err;
-    }))
+    rw c.in-Broken.is (unparted _ _ _ _ _ _ _ _ (said g.A.RepoAccess.rules step p p a stays is nothing _ c.serve_broken.result _ c.serve_broken.ensures))

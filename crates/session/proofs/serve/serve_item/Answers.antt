@@ -5,11 +5,10 @@ use Rattle.wire_edits.specs.Editing.{ends_edit}
 use Rattle.machine.specs.Hearing.Input.{Whole}
 use Rattle.machine.specs.Logins.{greeting_answer}
 use Rattle.drive_wire.specs.Reporting.{client_answer}
-use Rattle.machine.specs.Machine.{skipping_answer}
+use Rattle.machine.specs.Machine.{InputStep, skipping_answer}
 use Rattle.machine.specs.Reports.{driven_answer}
-use Rattle.machine.specs.Steps.{input_step}
 use Rattle.machine.specs.declared.phase.Phase.TheVariants.{Greeted, Skipping, Driven}
-use Rattle.session_replies.proofs.Steps.{only_says, told_all, said, said_part, unparted}
+use Rattle.session_replies.proofs.Steps.{only_says, told_all, said, unparted}
 use Rattle.session.proofs.Answered.{greeting_nothing, skipping_nothing, driven_nothing}
 use Rattle.session.proofs.serve.serve_item.Goals as goal
 
@@ -22,10 +21,7 @@ returns-in-Greeted g c =
     let stays = g.met.A.RepoAccess.stays p in
     let a = greeting_answer s env (client_greeting item) in
     let nothing = greeting_nothing s env (client_greeting item) in
-    rw c.in-Greeted.is (unparted _ _ _ _ _ _ _ _ (record {
-      ok = said g.A.RepoAccess.rules (input_step s env Greeted (Whole item)) p p a stays refl nothing _ c.greet.result _ c.greet.ensures.ok;
-      err = said_part g.A.RepoAccess.rules (input_step s env Greeted (Whole item)) p p a stays refl nothing _ c.greet.result c.greet.ensures.err;
-    }))
+    rw c.in-Greeted.is (unparted _ _ _ _ _ _ _ _ (said g.A.RepoAccess.rules (InputStep s env Greeted (Whole item)) p p a stays refl nothing _ c.greet.result _ c.greet.ensures))
 
 pub returns-in-LoggingIn : goal.returns-in-LoggingIn
 returns-in-LoggingIn g c = rw c.in-LoggingIn.is (unparted _ _ _ _ _ _ c.log_in.result _ c.log_in.ensures)
@@ -49,10 +45,7 @@ returns-in-Skipping g c =
     let stays = g.met.A.RepoAccess.stays p in
     let a = skipping_answer env client (ends_edit item) in
     let nothing = skipping_nothing env client (ends_edit item) in
-    rw c.in-Skipping.is (unparted _ _ _ _ _ _ _ _ (record {
-      ok = said g.A.RepoAccess.rules (input_step s env (Skipping client) (Whole item)) p p a stays refl nothing _ c.skip.result _ c.skip.ensures.ok;
-      err = said_part g.A.RepoAccess.rules (input_step s env (Skipping client) (Whole item)) p p a stays refl nothing _ c.skip.result c.skip.ensures.err;
-    }))
+    rw c.in-Skipping.is (unparted _ _ _ _ _ _ _ _ (said g.A.RepoAccess.rules (InputStep s env (Skipping client) (Whole item)) p p a stays refl nothing _ c.skip.result _ c.skip.ensures))
 
 pub returns-in-Reporting : goal.returns-in-Reporting
 returns-in-Reporting g c = rw c.in-Reporting.is (unparted _ _ _ _ _ _ c.serve_report.result _ c.serve_report.ensures)
@@ -67,12 +60,9 @@ returns-in-Driven g c =
     let stays = g.met.A.RepoAccess.stays p in
     let a = driven_answer env client (client_answer item) in
     let nothing = driven_nothing env client (client_answer item) in
-    rw c.in-Driven.is (unparted _ _ _ _ _ _ _ _ (record {
-      ok = said g.A.RepoAccess.rules (input_step s env (Driven client) (Whole item)) p p a stays refl nothing _ c.serve_driven.result _ c.serve_driven.ensures.ok;
-      err = said_part g.A.RepoAccess.rules (input_step s env (Driven client) (Whole item)) p p a stays refl nothing _ c.serve_driven.result c.serve_driven.ensures.err;
-    }))
+    rw c.in-Driven.is (unparted _ _ _ _ _ _ _ _ (said g.A.RepoAccess.rules (InputStep s env (Driven client) (Whole item)) p p a stays refl nothing _ c.serve_driven.result _ c.serve_driven.ensures))
 
-pub returns-in-Ended-clause-ok : goal.returns-in-Ended-clause-ok
-returns-in-Ended-clause-ok g c =
+pub returns-in-Ended : goal.returns-in-Ended
+returns-in-Ended g c =
     rw c.in-Ended.is (told_all (only_says (g.met.A.RepoAccess.stays _) refl) _ _ _
     (record { phase_after = refl; env_after = refl; written = g.met.S.ReplySink.nothing c.args.turn.now.out }))

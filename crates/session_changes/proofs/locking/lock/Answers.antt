@@ -1,6 +1,5 @@
 use Rattle.svnpath.specs.Texts.{joined}
-use Rattle.access.specs.Points.{Point, content_of}
-use Rattle.machine.specs.Answers.{Answer}
+use Rattle.access.specs.Points.{content_of}
 use Rattle.machine.specs.Commands.{LockStep}
 use Rattle.session_replies.specs.Telling.{told_before}
 use Rattle.session_replies.proofs.Steps.{stepped, leads_behind, only_says}
@@ -16,8 +15,8 @@ returns-in-Ok g c =
     let command = c.args.command.now in
     let asked = c.in-Ok.ensures in
     stepped_is g.A.RepoAccess.rules (told_before c.args.preface)
-    (λ (at : Point) (a : Answer). LockAsked at.halted env (content_of at) client c.in-Ok.ask a)
-    (λ (at : Point) (a : Answer). LockStep at.halted env (content_of at) client command (joined client.path command.path) a)
+    (LockAsked env client c.in-Ok.ask)
+    (LockStep env client command (joined client.path command.path))
     _ _ (lock_is env client command c.in-Ok.ask (joined client.path command.path) asked.path asked.date asked.ask)
     c.ask_lock.result _ _ c.ask_lock.ensures
 
@@ -30,6 +29,6 @@ returns-in_default g c =
     let found = joined client.path command.path in
     let is = fault_is found c.in-Err.fault c.in-Err.ensures.path c.in_default.not-NoMemory in
     let refused = rw c.path_refusal.ensures at c.refuse.ensures in
-    let own = only_says {step = λ (at : Point) (a : Answer). LockStep at.halted env (content_of at) client command found a}
+    let own = only_says {step = LockStep env client command found}
     (g.met.A.RepoAccess.stays now) (lock_refused env client command found c.in-Err.fault is now.halted (content_of now)) in
     stepped (leads_behind (told_before c.args.preface) own) _ c.refuse.result _ refused

@@ -15,7 +15,7 @@ returns-in-Ok g c =
     let client = c.args.client in
     stepped (made (λ x. property_refusal x c.args.ask) change env client (told_before c.args.preface) (change_answer env client change (replies.Success ∷ [])) _ _ _
     env (replies.Success ∷ []) _ refl c.in-Ok.ensures)
-    _ c.tell.result _ (record { ok = c.tell.ensures.ok replies.Success refl; err = c.tell.ensures.err replies.Success refl })
+    _ c.tell.result _ (c.tell.ensures replies.Success refl)
 
 pub returns-in-Err : goal.returns-in-Err
 returns-in-Err g c =

@@ -3,8 +3,8 @@ use Rattle.session_replies.proofs.Steps.{stepped, told_all}
 use Rattle.session_commits.proofs.Edits.{goes_on, ends}
 use Rattle.session_commits.proofs.edit.edit.Goals as goal
 
-pub returns-in-Ok-clause-ok : goal.returns-in-Ok-clause-ok
-returns-in-Ok-clause-ok g c =
+pub returns-in-Ok : goal.returns-in-Ok
+returns-in-Ok g c =
     let applied = c.in-Ok.ensures.ok in
     told_all (goes_on _ _ c.args.edit c.args.command.now _ _ c.apply_now.ensures.later _ applied.0 applied.1) _ _ _
     (record { phase_after = refl; env_after = refl; written = g.met.S.ReplySink.nothing c.args.turn.now.out })

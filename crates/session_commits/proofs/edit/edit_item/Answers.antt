@@ -18,5 +18,6 @@ returns-in-Err-BadParameters g c =
     rw (bad (editor_command (value_of c.args.item.now)) (rw c.in-Err-BadParameters.field-0-is at c.in-Err-BadParameters.ensures))
     (unparted _ _ _ _ _ _ _ _ (stepped (only_says (g.met.A.RepoAccess.stays _) refl) _ c.end_malformed.result _ c.end_malformed.ensures))
 
-pub returns-in-Err-NoMemory-clause-err : goal.returns-in-Err-NoMemory-clause-err
-returns-in-Err-NoMemory-clause-err g c = inl (inl (g.met.A.RepoAccess.stays _, g.met.S.ReplySink.nothing c.args.turn.now.out))
+pub returns-in-Err-NoMemory : goal.returns-in-Err-NoMemory
+returns-in-Err-NoMemory g c =
+    inl (inl (g.met.A.RepoAccess.stays _, g.met.S.ReplySink.nothing c.args.turn.now.out))

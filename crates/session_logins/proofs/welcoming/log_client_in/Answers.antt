@@ -5,7 +5,7 @@ use Rattle.session_logins.proofs.welcoming.log_client_in.Goals as goal
 pub returns-in-None : goal.returns-in-None
 returns-in-None g c =
     rw c.in-None.is (stepped (only_says c.welcome.ensures.later refl) _ c.welcome.result _
-    (record { ok = c.welcome.ensures.ok; err = c.welcome.ensures.err }))
+    c.welcome.ensures.said)
 
 pub returns-in-Some : goal.returns-in-Some
 returns-in-Some g c = rw c.in-Some.is c.go_on.ensures

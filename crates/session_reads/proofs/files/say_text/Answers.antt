@@ -2,22 +2,14 @@ use Rattle.std.proofs.Common.{[], ◌∷◌}
 use Rattle.std.proofs.lemmas.Result.{err_from_is_err_and}
 use Rattle.wire_replies.specs.Replies.{contents}
 use Rattle.wire_replies.specs.declared.reply.Reply.TheVariants as replies
-use Rattle.wire_replies.proofs.Parts.{if_done, if_failed, both_written, part_first, part_behind}
+use Rattle.wire_replies.proofs.Parts.{part_first, said_behind}
 use Rattle.session_reads.proofs.files.say_text.Goals as goal
 
-pub returns-in_err-say_contents-clause-err : goal.returns-in_err-say_contents-clause-err
-returns-in_err-say_contents-clause-err g c =
+pub returns-in_err-say_contents : goal.returns-in_err-say_contents
+returns-in_err-say_contents g c =
     let p = err_from_is_err_and c.from_residual.result c.from_residual.ensures.1 in
-    rw (p.1) (part_first _ (contents c.args.text.now) (replies.Success ∷ []) c.in_err-say_contents.ensures.err)
+    rw (p.1) (part_first _ (contents c.args.text.now) (replies.Success ∷ []) c.in_err-say_contents.ensures)
 
-pub returns-clause-ok : goal.returns-clause-ok
-returns-clause-ok g c =
-    if_done c.say.result _ _
-    (λ said. both_written _ g.met.S.ReplySink.more _ _ _ (contents c.args.text.now) (replies.Success ∷ []) c.in_ok-say_contents.ensures.ok said)
-    c.say.ensures.ok
-
-pub returns-clause-err : goal.returns-clause-err
-returns-clause-err g c =
-    if_failed c.say.result _ _
-    (λ part. part_behind _ g.met.S.ReplySink.more _ _ _ (contents c.args.text.now) (replies.Success ∷ []) c.in_ok-say_contents.ensures.ok part)
-    c.say.ensures.err
+pub returns : goal.returns
+returns g c =
+    said_behind _ g.met.S.ReplySink.more c.say.result _ _ _ (contents c.args.text.now) (replies.Success ∷ []) c.in_ok-say_contents.ensures c.say.ensures

@@ -1,15 +1,16 @@
 use Rattle.std.proofs.Common.{[], refl}
 use Rattle.drive_wire.specs.Reporting.Drawn.{Fails}
-use Rattle.machine.specs.Reports.{drawn_answer}
-use Rattle.session_replies.proofs.Steps.{told_all, said, said_part, behind_answered, behind_part}
-use Rattle.session_reports.proofs.Drawing.{EndStep, drives, fails, lost}
+use Rattle.drive_wire.specs.Reporting.{EndStep}
+use Rattle.machine.specs.Reports.{drawn_answer, Draws}
+use Rattle.session_replies.proofs.Steps.{told_all, said, behind_answered}
+use Rattle.session_reports.proofs.Drawing.{drives, fails, lost}
 use Rattle.session_reports.proofs.finishing.finish.Goals as goal
 
-pub returns-in-Ok-clause-ok : goal.returns-in-Ok-clause-ok
-returns-in-Ok-clause-ok g c =
+pub returns-in-Ok : goal.returns-in-Ok
+returns-in-Ok g c =
     let d = c.in-Ok.ensures.drive in
-    told_all (drives _ _ _ c.args.errand.report c.drive_now.ensures.later (g.met.A.RepoAccess.sound _ _ c.drive_now.ensures.later c.requires.trees).0 d.0 d.2.0 d.1 d.2.1) _ _ _
-    (record { phase_after = refl; env_after = refl; written = d.2.2 })
+    told_all (drives _ _ _ c.args.errand.report c.drive_now.ensures.later (g.met.A.RepoAccess.sound _ _ c.drive_now.ensures.later c.requires.trees).0
+    d.0 d.2.0 d.1 d.2.1) _ _ _ (record { phase_after = refl; env_after = refl; written = d.2.2 })
 
 pub returns-in-Err-Refused : goal.returns-in-Err-Refused
 returns-in-Err-Refused g c =
@@ -22,15 +23,12 @@ returns-in-Err-Refused g c =
     let q = g.A.RepoAccess.point c.drive_now.new.access in
     let later = c.drive_now.ensures.later in
     let unanswered = rw c.in-Err-Refused.field-0-is at c.in-Err-Refused.ensures.drive in
-    let step = EndStep env client report in
+    let step = Draws env client (EndStep report) in
     let a = drawn_answer env client (Fails r) in
     let is = fails rules env client report later (g.met.A.RepoAccess.sound p q later c.requires.trees).0 r unanswered.0 in
     let further = g.met.S.ReplySink.more in
-    record {
-      ok = said rules step p q a later is refl _ c.fail.result _ (behind_answered _ further c.fail.result [] a _ _ _ _ unanswered.1 c.fail.ensures.ok);
-      err = said_part rules step p q a later is refl _ c.fail.result (behind_part _ further c.fail.result [] a _ _ _ unanswered.1 c.fail.ensures.err);
-    }
+    said rules step p q a later is refl _ c.fail.result _ (behind_answered _ further c.fail.result [] a _ _ _ _ unanswered.1 c.fail.ensures)
 
-pub returns-in-Err-NoMemory-clause-err : goal.returns-in-Err-NoMemory-clause-err
-returns-in-Err-NoMemory-clause-err g c =
+pub returns-in-Err-NoMemory : goal.returns-in-Err-NoMemory
+returns-in-Err-NoMemory g c =
     lost _ _ _ c.args.errand.report c.drive_now.ensures.later (g.met.A.RepoAccess.sound _ _ c.drive_now.ensures.later c.requires.trees).0 _ (rw c.in-Err-NoMemory.field-0-is at c.in-Err-NoMemory.ensures.drive)

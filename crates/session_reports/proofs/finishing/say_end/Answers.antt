@@ -3,10 +3,10 @@ use Rattle.session_reports.proofs.Drawing.{undriven}
 use Rattle.session_reports.proofs.finishing.say_end.Goals as goal
 
 pub returns-in-Ok-say_drive : goal.returns-in-Ok-say_drive
-returns-in-Ok-say_drive g c = (c.in-Ok.root, c.in-Ok.ensures, c.in-Ok-say_drive.ensures.ok)
+returns-in-Ok-say_drive g c = (c.in-Ok.root, c.in-Ok.ensures, c.in-Ok-say_drive.ensures)
 
 pub returns-in-Err-say_drive : goal.returns-in-Err-say_drive
-returns-in-Err-say_drive g c = inr (c.in-Ok.root, c.in-Ok.ensures, c.in-Err-say_drive.ensures.err)
+returns-in-Err-say_drive g c = inr (c.in-Ok.root, c.in-Ok.ensures, c.in-Err-say_drive.ensures)
 
 pub returns-in-Err : goal.returns-in-Err
 returns-in-Err g c =

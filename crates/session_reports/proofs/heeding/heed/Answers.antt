@@ -19,7 +19,7 @@ returns-in-DeletePath g c =
 pub returns-in-FinishReport : goal.returns-in-FinishReport
 returns-in-FinishReport g c = rw c.in-FinishReport.is c.finish.ensures
 
-pub returns-in-AbortReport-clause-ok : goal.returns-in-AbortReport-clause-ok
-returns-in-AbortReport-clause-ok g c =
+pub returns-in-AbortReport : goal.returns-in-AbortReport
+returns-in-AbortReport g c =
     rw c.in-AbortReport.is (told_all (only_says (g.met.A.RepoAccess.stays _) (GivenUp, refl, refl)) _ _ _
     (record { phase_after = c.abort.ensures; env_after = refl; written = g.met.S.ReplySink.nothing _ }))

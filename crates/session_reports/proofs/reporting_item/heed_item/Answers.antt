@@ -9,8 +9,8 @@ use Rattle.session_reports.proofs.reporting_item.heed_item.Goals as goal
 pub returns-in-Ok : goal.returns-in-Ok
 returns-in-Ok g c = rw c.in-Ok.ensures c.heed-phase.ensures
 
-pub returns-in-Err-UnknownName-clause-ok : goal.returns-in-Err-UnknownName-clause-ok
-returns-in-Err-UnknownName-clause-ok g c =
+pub returns-in-Err-UnknownName : goal.returns-in-Err-UnknownName
+returns-in-Err-UnknownName g c =
     rw (unknown (report_command (value_of c.args.item.now)) (rw c.in-Err-UnknownName.field-0-is at c.in-Err-UnknownName.ensures))
     (told_all (only_says (g.met.A.RepoAccess.stays _) (GoesOn _, refl, refl)) _ _ _
     (record { phase_after = c.refuse_from_now.ensures; env_after = refl; written = g.met.S.ReplySink.nothing _ }))
@@ -20,5 +20,6 @@ returns-in-Err-BadParameters g c =
     rw (bad (report_command (value_of c.args.item.now)) (rw c.in-Err-BadParameters.field-0-is at c.in-Err-BadParameters.ensures))
     (stepped (only_says (g.met.A.RepoAccess.stays _) (Malformed, refl, refl)) _ c.end_malformed.result _ c.end_malformed.ensures)
 
-pub returns-in-Err-NoMemory-clause-err : goal.returns-in-Err-NoMemory-clause-err
-returns-in-Err-NoMemory-clause-err g c = inl (g.met.A.RepoAccess.stays _, g.met.S.ReplySink.nothing c.args.turn.now.out)
+pub returns-in-Err-NoMemory : goal.returns-in-Err-NoMemory
+returns-in-Err-NoMemory g c =
+    inl (g.met.A.RepoAccess.stays _, g.met.S.ReplySink.nothing c.args.turn.now.out)

@@ -1,12 +1,11 @@
 use Rattle.std.proofs.Common.{refl, subst, sym}
 use Rattle.items.specs.View.{value_of}
-use Rattle.access.specs.Points.{Point, content_of}
+use Rattle.access.specs.Points.{content_of}
 use Rattle.drive_reports.specs.Refusing.{ReportState}
 use Rattle.wire_reports.specs.Reporting.{name_of}
 use Rattle.drive_wire.specs.Reporting.{ReportStep, refused_drawn}
-use Rattle.machine.specs.Answers.{Answer}
 use Rattle.machine.specs.Reports.{ReportingStep, drawn_answer}
-use Rattle.session_replies.proofs.Steps.{said, said_part}
+use Rattle.session_replies.proofs.Steps.{said}
 use Rattle.session_reports.proofs.Drawing.{drawn_nothing}
 use Rattle.session_reports.proofs.reporting_item.serve_report.Goals as goal
 
@@ -21,13 +20,10 @@ returns-in-Refused g c =
     let stays = g.met.A.RepoAccess.stays p in
     let d = refused_drawn c.in-Refused.refusal (name_of item) in
     let a = drawn_answer env reporting.client d in
-    let step = λ (at : Point) (x : Answer). ReportingStep s env (content_of at) reporting item x in
-    let drawn = subst (λ (x : ReportState). ReportStep (content_of p) s.name x item d) (sym c.in-Refused.is) refl in
+    let step = ReportingStep s env reporting item in
+    let drawn = subst (λ (x : ReportState). ReportStep s.name x item (content_of p) d) (sym c.in-Refused.is) refl in
     let nothing = drawn_nothing env reporting.client d in
-    record {
-      ok = said rules step p p a stays (d, drawn, refl) nothing _ c.pass_over.result _ c.pass_over.ensures.ok;
-      err = said_part rules step p p a stays (d, drawn, refl) nothing _ c.pass_over.result c.pass_over.ensures.err;
-    }
+    said rules step p p a stays (d, drawn, refl) nothing _ c.pass_over.result _ c.pass_over.ensures
 
 pub returns-in-Open : goal.returns-in-Open
 returns-in-Open g c = rw c.in-Open.is c.heed_item.ensures
