@@ -40,12 +40,12 @@ pub trait RepoAccess {
     /// What leads from one moment to another.
     ghost rules: { AccessRules };
 
-    /// The repository as it is now.
+    /// Gives the repository as it is now.
     fn look(&mut self) -> Result<Self::View, AllocError>
         ensures view { IfOk result (λ view. Self.View.content view ≡ content_of (point self.new)) }
         ensures later { rules.between (point self.old) (point self.new) };
 
-    /// Whether no change is made any more.
+    /// Says whether no change is made any more.
     fn is_halted(&self) -> bool
         ensures { result ≡ (point self.now).halted };
 

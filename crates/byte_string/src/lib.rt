@@ -28,14 +28,14 @@ impl Model for ByteString {
 }
 
 impl ByteString {
-    /// The byte string of these bytes, which are moved and not copied.
+    /// Makes the byte string of these bytes, which are moved and not copied.
     pub fn new(items: Vec<u8>) -> Self
         ensures { result ≡ items.items }
     {
         ByteString { items }
     }
 
-    /// A copy of these bytes.
+    /// Makes a copy of these bytes.
     ///
     /// # Errors
     ///
@@ -47,14 +47,14 @@ impl ByteString {
         Ok(ByteString { items })
     }
 
-    /// The bytes, lent out.
+    /// Gives the bytes, lent out.
     pub fn as_slice(&self) -> &[u8]
         ensures { result.now ≡ self.now }
     {
         self.items.as_slice()
     }
 
-    /// The bytes themselves, which are moved and not copied.
+    /// Gives the bytes themselves, which are moved and not copied.
     pub fn into_vec(self) -> Vec<u8>
         ensures { result.items ≡ self }
     {

@@ -33,7 +33,7 @@ pub(crate) const REVPROPS: &str = "revprops";
 /// The argument by which nothing is told on standard error but a fault.
 pub(crate) const QUIET: &str = "quiet";
 
-/// An argument with a value that has to be there.
+/// Makes an argument with a value that has to be there.
 fn required_argument<'a>(alloc: Global, name: &'a str, value: &'a str) -> Arg<'a> {
     Arg::new(alloc, name)
         .long(name)
@@ -41,7 +41,7 @@ fn required_argument<'a>(alloc: Global, name: &'a str, value: &'a str) -> Arg<'a
         .required(true)
 }
 
-/// An argument with a value that may be left out.
+/// Makes an argument with a value that may be left out.
 fn optional_argument<'a>(alloc: Global, name: &'a str, value: &'a str, help: &'a str) -> Arg<'a> {
     Arg::new(alloc, name)
         .long(name)
@@ -49,7 +49,7 @@ fn optional_argument<'a>(alloc: Global, name: &'a str, value: &'a str, help: &'a
         .help(help)
 }
 
-/// An argument without a value.
+/// Makes an argument without a value.
 fn flag_argument<'a>(alloc: Global, name: &'a str, help: &'a str) -> Arg<'a> {
     Arg::new(alloc, name)
         .long(name)
@@ -57,14 +57,14 @@ fn flag_argument<'a>(alloc: Global, name: &'a str, help: &'a str) -> Arg<'a> {
         .help(help)
 }
 
-/// The folder of the repository, or `-`.
+/// Makes the argument for the folder of the repository, or `-`.
 fn location_argument<'a>(alloc: Global) -> Arg<'a> {
     Arg::new(alloc, FOLDER).required(true).help(
         "The repository's folder; `-` is an empty repository in memory",
     )
 }
 
-/// Whether clients may change the properties of revisions.
+/// Makes the argument that says whether clients may change the properties of revisions.
 fn revprops_argument<'a>(alloc: Global) -> Arg<'a> {
     flag_argument(
         alloc,
@@ -73,7 +73,7 @@ fn revprops_argument<'a>(alloc: Global) -> Arg<'a> {
     )
 }
 
-/// `create DIR`.
+/// Makes the command `create DIR`.
 fn create_command<'a>(alloc: Global) -> Result<Command<'a>, AllocError> {
     let folder = Arg::new(alloc, FOLDER).required(true).help(
         "The repository's folder, which is made where it is missing",
@@ -83,7 +83,7 @@ fn create_command<'a>(alloc: Global) -> Result<Command<'a>, AllocError> {
         .arg(folder)
 }
 
-/// `stdio DIR --name N [--revprops]`.
+/// Makes the command `stdio DIR --name N [--revprops]`.
 fn stdio_command<'a>(alloc: Global) -> Result<Command<'a>, AllocError> {
     Command::new(alloc, STDIO)
         .about("Serves one session over the standard streams")
@@ -92,7 +92,7 @@ fn stdio_command<'a>(alloc: Global) -> Result<Command<'a>, AllocError> {
         .arg(revprops_argument(alloc))
 }
 
-/// `serve DIR --listen A:P --name N --users FILE [--per-address N] [--revprops] [--quiet]`.
+/// Makes the command `serve DIR --listen A:P --name N --users FILE [--per-address N] [--revprops] [--quiet]`.
 fn serve_command<'a>(alloc: Global) -> Result<Command<'a>, AllocError> {
     Command::new(alloc, SERVE)
         .about("Serves sessions over TCP")
@@ -110,7 +110,7 @@ fn serve_command<'a>(alloc: Global) -> Result<Command<'a>, AllocError> {
         .arg(flag_argument(alloc, QUIET, "Tells nothing on standard error but a fault"))
 }
 
-/// The program with its commands.
+/// Makes the program with its commands.
 pub(crate) fn program<'a>(alloc: Global) -> Result<Command<'a>, AllocError> {
     Command::new(alloc, "svnserved")
         .about("A Subversion server")

@@ -15,7 +15,7 @@ const SESSIONS: u64 = 16;
 /// The folder that stands for an empty repository in memory.
 const IN_MEMORY: &str = "-";
 
-/// A command line that cannot be served, told so.
+/// Makes the fault of a command line that cannot be served, with the text that says so.
 fn bad(alloc: Global, text: &str) -> CommandLineFault {
     match String::from_str(alloc, text) {
         Ok(text) => CommandLineFault::Bad(text),
@@ -23,7 +23,7 @@ fn bad(alloc: Global, text: &str) -> CommandLineFault {
     }
 }
 
-/// What a parse that failed comes to.
+/// Says what a parse that failed comes to.
 fn fault_of(alloc: Global, error: &Error) -> CommandLineFault {
     if error.kind() == ErrorKind::OutOfMemory {
         return CommandLineFault::NoMemory;
@@ -35,7 +35,7 @@ fn fault_of(alloc: Global, error: &Error) -> CommandLineFault {
     }
 }
 
-/// A copy of the value of an argument that has to be there.
+/// Makes a copy of the value of an argument that has to be there.
 fn value_of(
     alloc: Global,
     matches: &ArgMatches<'_>,
@@ -47,7 +47,7 @@ fn value_of(
     }
 }
 
-/// The folder of the repository.
+/// Gives the folder of the repository.
 fn folder_of(alloc: Global, matches: &ArgMatches<'_>) -> Result<String, CommandLineFault> {
     let folder = value_of(alloc, matches, FOLDER)?;
     if folder.is_empty() {
@@ -56,7 +56,7 @@ fn folder_of(alloc: Global, matches: &ArgMatches<'_>) -> Result<String, CommandL
     Ok(folder)
 }
 
-/// Where the repository is.
+/// Says where the repository is.
 fn location_of(alloc: Global, matches: &ArgMatches<'_>) -> Result<Location, CommandLineFault> {
     if matches.get_str(FOLDER) == Some(IN_MEMORY) {
         return Ok(Location::Memory);
@@ -64,7 +64,7 @@ fn location_of(alloc: Global, matches: &ArgMatches<'_>) -> Result<Location, Comm
     Ok(Location::Folder(folder_of(alloc, matches)?))
 }
 
-/// The order that the arguments of `create` give.
+/// Makes the order that the arguments of `create` give.
 fn create_order(alloc: Global, matches: &ArgMatches<'_>) -> Result<Order, CommandLineFault> {
     if matches.get_str(FOLDER) == Some(IN_MEMORY) {
         return Err(bad(alloc, "error: DIR of `create` is a folder\n"));
@@ -74,7 +74,7 @@ fn create_order(alloc: Global, matches: &ArgMatches<'_>) -> Result<Order, Comman
     })
 }
 
-/// The order that the arguments of `stdio` give.
+/// Makes the order that the arguments of `stdio` give.
 fn stdio_order(alloc: Global, matches: &ArgMatches<'_>) -> Result<Order, CommandLineFault> {
     let location = location_of(alloc, matches)?;
     let name = value_of(alloc, matches, NAME)?;
@@ -85,7 +85,7 @@ fn stdio_order(alloc: Global, matches: &ArgMatches<'_>) -> Result<Order, Command
     })
 }
 
-/// How many sessions one address may have at a time.
+/// Says how many sessions one address may have at a time.
 fn per_address_of(alloc: Global, matches: &ArgMatches<'_>) -> Result<u64, CommandLineFault> {
     let Some(text) = matches.get_str(PER_ADDRESS) else {
         return Ok(SESSIONS);
@@ -96,7 +96,7 @@ fn per_address_of(alloc: Global, matches: &ArgMatches<'_>) -> Result<u64, Comman
     }
 }
 
-/// The order that the arguments of `serve` give.
+/// Makes the order that the arguments of `serve` give.
 fn serve_order(alloc: Global, matches: &ArgMatches<'_>) -> Result<Order, CommandLineFault> {
     let location = location_of(alloc, matches)?;
     let listen = value_of(alloc, matches, LISTEN)?;

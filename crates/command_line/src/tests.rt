@@ -12,7 +12,7 @@ fn read(alloc: Global, line: &str) -> Result<Result<Order, CommandLineFault>, Al
     Ok(read_command_line(alloc, words.as_slice()))
 }
 
-/// A location as one text.
+/// Gives a location as one text.
 fn located(location: &Location) -> &str {
     match location {
         Location::Memory => "in memory",
@@ -20,7 +20,7 @@ fn located(location: &Location) -> &str {
     }
 }
 
-/// Sessions over TCP as one text.
+/// Gives sessions over TCP as one text.
 fn served(alloc: Global, service: &Service) -> Result<String, AllocError> {
     let Service {
         location,
@@ -37,7 +37,7 @@ fn served(alloc: Global, service: &Service) -> Result<String, AllocError> {
     )?)
 }
 
-/// An order as one text.
+/// Gives an order as one text.
 fn ordered(alloc: Global, order: &Order) -> Result<String, AllocError> {
     match order {
         Order::Create { folder } => Ok(format!(in alloc; "create {folder}")?),
@@ -53,7 +53,7 @@ fn ordered(alloc: Global, order: &Order) -> Result<String, AllocError> {
     }
 }
 
-/// What a line asks for, as one text.
+/// Says what a line asks for, as one text.
 fn asked(alloc: Global, line: &str) -> Result<String, AllocError> {
     match read(alloc, line)? {
         Ok(order) => ordered(alloc, &order),

@@ -176,7 +176,7 @@ pub enum MainCommand {
 }
 
 impl MainCommand {
-    /// The command that an item is.
+    /// Reads the command that an item is.
     pub fn from_item(alloc: Global, item: &Item) -> Result<MainCommand, CommandFault>
         ensures { Answers result (main_command (value_of item.now)) }
     {
@@ -239,14 +239,14 @@ const COMMAND_NAMES: [CommandName; 22] = [
     CommandName::Status,
 ];
 
-/// The command that has this name.
+/// Finds the command that has this name.
 fn main_command_name(name: &[u8]) -> Option<CommandName>
     ensures { result ≡ main_command_name name.now }
 {
     first_named(&COMMAND_NAMES, name).copied()
 }
 
-/// The first of these that has this name.
+/// Finds the first of these that has this name.
 fn first_named<'a>(names: &'a [CommandName], name: &[u8]) -> Option<&'a CommandName>
     ensures { option_copied result
         ≡ find (λ known. is_name name.now (name_text known)) names.now }
@@ -254,14 +254,14 @@ fn first_named<'a>(names: &'a [CommandName], name: &[u8]) -> Option<&'a CommandN
     names.iter().find(|known| has_name(name, **known))
 }
 
-/// Whether the command has this name.
+/// Says whether the command has this name.
 fn has_name(name: &[u8], known: CommandName) -> bool
     ensures { result ≡ is_name name.now (name_text known) }
 {
     name == name_text(known)
 }
 
-/// The name of a command, as it is sent.
+/// Gives the name of a command, as it is sent.
 fn name_text(known: CommandName) -> &'static [u8]
     ensures { result.now ≡ name_text known }
 {
@@ -291,7 +291,7 @@ fn name_text(known: CommandName) -> &'static [u8]
     }
 }
 
-/// The command of a name that is known.
+/// Reads the command of a name that is known.
 fn read_command(
     alloc: Global,
     name: CommandName,
@@ -328,7 +328,7 @@ fn read_command(
     }
 }
 
-/// `( path [ rev ] )`
+/// Reads `( path [ rev ] )`.
 fn read_check_path(params: &[Item]) -> Result<MainCommand, CommandFault>
     ensures { Reads result (check_path (values_of params.now)) }
 {
@@ -338,7 +338,7 @@ fn read_check_path(params: &[Item]) -> Result<MainCommand, CommandFault>
     Ok(MainCommand::Read(ReadCommand::CheckPath(path.clone()?, revision)))
 }
 
-/// `( rev )`
+/// Reads `( rev )`.
 fn read_rev_proplist(params: &[Item]) -> Result<MainCommand, CommandFault>
     ensures { Reads result (rev_proplist (values_of params.now)) }
 {
@@ -346,7 +346,7 @@ fn read_rev_proplist(params: &[Item]) -> Result<MainCommand, CommandFault>
     Ok(MainCommand::Read(ReadCommand::RevProplist(revision)))
 }
 
-/// `( message ? ( ( path token ) ... ) keep-locks ? ( ( name value ) ... ) )`
+/// Reads `( message ? ( ( path token ) ... ) keep-locks ? ( ( name value ) ... ) )`.
 fn read_commit(alloc: Global, params: &[Item]) -> Result<MainCommand, CommandFault>
     ensures { Reads result (commit (values_of params.now)) }
 {
@@ -360,8 +360,7 @@ fn read_commit(alloc: Global, params: &[Item]) -> Result<MainCommand, CommandFau
     }))
 }
 
-/// `? ( ( path token ) ... ) keep-locks`: what is in the list, whether the locks stay, and what
-/// stands behind them.
+/// Reads `? ( ( path token ) ... ) keep-locks`: what is in the list, whether the locks stay, and what comes after them.
 fn read_locks(items: &[Item]) -> Option<(&[Item], bool, &[Item])>
     ensures { option_map (λ p. (values_of p.0.now, p.1, values_of p.2.now)) result
         ≡ locks_first (values_of items.now) }
@@ -373,7 +372,7 @@ fn read_locks(items: &[Item]) -> Option<(&[Item], bool, &[Item])>
     Some((read_items(tokens)?, keep_locks, rest))
 }
 
-/// `? ( ( name value ) ... )`
+/// Reads `? ( ( name value ) ... )`.
 fn read_properties(alloc: Global, items: &[Item]) -> Result<Option<Pairs>, CommandFault>
     ensures { Reads result (properties_at_end (values_of items.now)) }
 {
@@ -384,7 +383,7 @@ fn read_properties(alloc: Global, items: &[Item]) -> Result<Option<Pairs>, Comma
     }
 }
 
-/// `( path [ comment ] steal [ current-rev ] )`
+/// Reads `( path [ comment ] steal [ current-rev ] )`.
 fn read_lock(params: &[Item]) -> Result<MainCommand, CommandFault>
     ensures { Reads result (lock (values_of params.now)) }
 {
@@ -402,7 +401,7 @@ fn read_lock(params: &[Item]) -> Result<MainCommand, CommandFault>
     }))
 }
 
-/// `( path [ token ] break )`
+/// Reads `( path [ token ] break )`.
 fn read_unlock(params: &[Item]) -> Result<MainCommand, CommandFault>
     ensures { Reads result (unlock (values_of params.now)) }
 {
@@ -417,7 +416,7 @@ fn read_unlock(params: &[Item]) -> Result<MainCommand, CommandFault>
     }))
 }
 
-/// `( path )`
+/// Reads `( path )`.
 fn read_get_lock(params: &[Item]) -> Result<MainCommand, CommandFault>
     ensures { Reads result (get_lock (values_of params.now)) }
 {
@@ -425,7 +424,7 @@ fn read_get_lock(params: &[Item]) -> Result<MainCommand, CommandFault>
     Ok(MainCommand::Read(ReadCommand::GetLock(path.clone()?)))
 }
 
-/// `( path )`
+/// Reads `( path )`.
 fn read_get_locks(params: &[Item]) -> Result<MainCommand, CommandFault>
     ensures { Reads result (get_locks (values_of params.now)) }
 {
@@ -433,7 +432,7 @@ fn read_get_locks(params: &[Item]) -> Result<MainCommand, CommandFault>
     Ok(MainCommand::Read(ReadCommand::GetLocks(path.clone()?)))
 }
 
-/// `path [ rev ]` in front, and what stands behind it.
+/// Reads `path [ rev ]` in front, and gives what comes after it too.
 fn read_path(items: &[Item]) -> Option<(&ByteString, Option<u64>, &[Item])>
     ensures { option_map (λ p. (p.0.now, p.1, values_of p.2.now)) result
         ≡ path_first (values_of items.now) }
@@ -443,7 +442,7 @@ fn read_path(items: &[Item]) -> Option<(&ByteString, Option<u64>, &[Item])>
     Some((path, read_optional_number(revision)?, rest))
 }
 
-/// `( path [ rev ] want-props want-contents )`
+/// Reads `( path [ rev ] want-props want-contents )`.
 fn read_get_file(params: &[Item]) -> Result<MainCommand, CommandFault>
     ensures { Reads result (get_file (values_of params.now)) }
 {
@@ -458,7 +457,7 @@ fn read_get_file(params: &[Item]) -> Result<MainCommand, CommandFault>
     })))
 }
 
-/// `( path [ rev ] want-props want-contents ? ( field ... ) )`
+/// Reads `( path [ rev ] want-props want-contents ? ( field ... ) )`.
 fn read_get_dir(params: &[Item]) -> Result<MainCommand, CommandFault>
     ensures { Reads result (get_dir (values_of params.now)) }
 {
@@ -476,7 +475,7 @@ fn read_get_dir(params: &[Item]) -> Result<MainCommand, CommandFault>
     })))
 }
 
-/// `? ( field ... )`: nothing, or a list of words.
+/// Says whether the items are `? ( field ... )`: nothing, or a list of words.
 fn has_fields(items: &[Item]) -> bool
     ensures { result ≡ has_fields (values_of items.now) }
 {
@@ -487,7 +486,7 @@ fn has_fields(items: &[Item]) -> bool
     }
 }
 
-/// `( path [ rev ] )`
+/// Reads `( path [ rev ] )`.
 fn read_stat(params: &[Item]) -> Result<MainCommand, CommandFault>
     ensures { Reads result (stat (values_of params.now)) }
 {
@@ -495,7 +494,7 @@ fn read_stat(params: &[Item]) -> Result<MainCommand, CommandFault>
     Ok(MainCommand::Read(ReadCommand::Stat(path.clone()?, revision)))
 }
 
-/// `( date )`
+/// Reads `( date )`.
 fn read_get_dated_rev(params: &[Item]) -> Result<MainCommand, CommandFault>
     ensures { Reads result (get_dated_rev (values_of params.now)) }
 {
@@ -503,7 +502,7 @@ fn read_get_dated_rev(params: &[Item]) -> Result<MainCommand, CommandFault>
     Ok(MainCommand::Read(ReadCommand::GetDatedRev(date.clone()?)))
 }
 
-/// `( rev name )`
+/// Reads `( rev name )`.
 fn read_rev_prop(params: &[Item]) -> Result<MainCommand, CommandFault>
     ensures { Reads result (rev_prop (values_of params.now)) }
 {
@@ -512,7 +511,7 @@ fn read_rev_prop(params: &[Item]) -> Result<MainCommand, CommandFault>
     Ok(MainCommand::Read(ReadCommand::RevProp(revision, name.clone()?)))
 }
 
-/// `( rev name ? value )`
+/// Reads `( rev name ? value )`.
 fn read_change_rev_prop(params: &[Item]) -> Result<MainCommand, CommandFault>
     ensures { Reads result (change_rev_prop (values_of params.now)) }
 {
@@ -527,7 +526,7 @@ fn read_change_rev_prop(params: &[Item]) -> Result<MainCommand, CommandFault>
     }))
 }
 
-/// `( rev name [ value ] ( dont-care ? previous ) )`
+/// Reads `( rev name [ value ] ( dont-care ? previous ) )`.
 fn read_change_rev_prop2(params: &[Item]) -> Result<MainCommand, CommandFault>
     ensures { Reads result (change_rev_prop2 (values_of params.now)) }
 {
@@ -544,7 +543,7 @@ fn read_change_rev_prop2(params: &[Item]) -> Result<MainCommand, CommandFault>
     }))
 }
 
-/// `dont-care ? previous`
+/// Reads `dont-care ? previous`.
 fn read_previous_value(items: &[Item]) -> Result<PreviousValue, CommandFault>
     ensures { Reads result (previous_value (values_of items.now)) }
 {
@@ -557,7 +556,7 @@ fn read_previous_value(items: &[Item]) -> Result<PreviousValue, CommandFault>
     }
 }
 
-/// `( url )`
+/// Reads `( url )`.
 fn read_reparent(params: &[Item]) -> Result<MainCommand, CommandFault>
     ensures { Reads result (reparent (values_of params.now)) }
 {
@@ -565,7 +564,7 @@ fn read_reparent(params: &[Item]) -> Result<MainCommand, CommandFault>
     Ok(MainCommand::Reparent(url.clone()?))
 }
 
-/// `? limit`: 0 where there is none.
+/// Reads `? limit`: 0 where there is none.
 fn read_limit(items: &[Item]) -> Option<u64>
     ensures { result ≡ limit_at_end (values_of items.now) }
 {
@@ -576,7 +575,7 @@ fn read_limit(items: &[Item]) -> Option<u64>
     }
 }
 
-/// `( ( path ... ) [ start ] [ end ] changed-paths strict-node ? limit )`
+/// Reads `( ( path ... ) [ start ] [ end ] changed-paths strict-node ? limit )`.
 fn read_log(alloc: Global, params: &[Item]) -> Result<MainCommand, CommandFault>
     ensures { Reads result (log_command (values_of params.now)) }
 {
@@ -596,7 +595,7 @@ fn read_log(alloc: Global, params: &[Item]) -> Result<MainCommand, CommandFault>
     })))
 }
 
-/// `( path peg-rev ( rev ... ) )`
+/// Reads `( path peg-rev ( rev ... ) )`.
 fn read_get_locations(alloc: Global, params: &[Item]) -> Result<MainCommand, CommandFault>
     ensures { Reads result (get_locations (values_of params.now)) }
 {

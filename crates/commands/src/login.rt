@@ -33,8 +33,7 @@ pub struct AuthResponse {
 }
 
 impl ClientGreeting {
-    /// The answer to the greeting that an item is:
-    /// `( version ( capability ... ) url ? ra-client ( ? client ) )`.
+    /// Reads the answer to the greeting that an item is: `( version ( capability ... ) url ? ra-client ( ? client ) )`.
     pub fn from_item(item: &Item) -> Result<ClientGreeting, CommandFault>
         ensures { Answers result (client_greeting (value_of item.now)) }
     {
@@ -54,7 +53,7 @@ impl ClientGreeting {
     }
 }
 
-/// `? ra-client ( ? client )`: the client, if the list has one.
+/// Reads `? ra-client ( ? client )`: the client, if the list has one.
 fn read_client(items: &[Item]) -> Option<Option<&ByteString>>
     ensures { option_map (option_map (λ text. text.now)) result
         ≡ optional_client (values_of items.now) }
@@ -66,7 +65,7 @@ fn read_client(items: &[Item]) -> Option<Option<&ByteString>>
     }
 }
 
-/// Whether each is a word.
+/// Says whether each is a word.
 pub(crate) fn are_words(items: &[Item]) -> bool
     ensures { result ≡ are_words (values_of items.now) }
 {
@@ -92,7 +91,7 @@ fn has_word(word: &[u8], items: &[Item]) -> bool
 }
 
 impl AuthResponse {
-    /// The choice of a mechanism that an item is: `( mechanism [ token ] )`.
+    /// Reads the choice of a mechanism that an item is: `( mechanism [ token ] )`.
     pub fn from_item(alloc: Global, item: &Item) -> Result<AuthResponse, CommandFault>
         ensures { Answers result (auth_response (value_of item.now)) }
     {
@@ -107,7 +106,7 @@ impl AuthResponse {
     }
 }
 
-/// The answer to a challenge that an item is: a string.
+/// Reads the answer to a challenge that an item is: a string.
 pub fn challenge_answer(item: &Item) -> Option<&ByteString>
     ensures { option_map (λ text. text.now) result ≡ challenge_answer (value_of item.now) }
 {

@@ -4,17 +4,17 @@ use crate::fault::TalkFault;
 
 /// Is told of logins, and how sessions end.
 pub trait Watch {
-    /// The client of the session of this number has logged in as this user.
+    /// Hears that the client of the session of this number has logged in as this user.
     fn logged_in(&self, session: u64, user: &[u8]);
 
-    /// So many logins of the session of this number were refused.
+    /// Hears that so many logins of the session of this number were refused.
     fn refused(&self, session: u64, logins: u64);
 
-    /// The session of this number is given up, for this fault.
+    /// Hears that the session of this number is given up, for this fault.
     fn given_up(&self, session: u64, fault: &TalkFault);
 
-    /// The session of this number has ended, in order or because its connection failed, and whether changes have come
-    /// to a halt by then.
+    /// Hears that the session of this number has ended, in order or because its connection failed, and whether
+    /// changes have come to a halt by then.
     fn ended(&self, session: u64, is_halted: bool);
 }
 

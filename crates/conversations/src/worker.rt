@@ -30,7 +30,7 @@ use wire_replies::Reply;
 /// How many bytes of an item that is not whole yet are held at most, but for a piece: 64 MiB.
 const MAX_UNREAD: usize = 67_108_864;
 
-/// The greeting.
+/// Makes the greeting.
 fn greeting(alloc: Global) -> Result<Vec<u8>, TalkFault>
     ensures ok { IfOk result (λ out. out.items ≡ print (Greeting ∷ [])) }
     ensures err { IfErr result (λ fault. fault ≡ TalkFault.NoMemory) }
@@ -42,7 +42,7 @@ fn greeting(alloc: Global) -> Result<Vec<u8>, TalkFault>
     }
 }
 
-/// The user that the client of a session has logged in as, unless it was told before.
+/// Gives the user that the client of a session has logged in as, unless it was told before.
 fn user_unless<R: Repository>(was_told: bool, session: &Session<R>) -> Option<&ByteString> {
     if was_told { None } else { session.user() }
 }

@@ -8,8 +8,8 @@ use crate::line::is_user_name;
 /// The digits of a digest.
 pub const DIGITS_LEN: usize = 32;
 
-/// The name and the digits of an answer, if it is a name, one space and as many lower-case hexadecimal
-/// digits as a digest has.
+/// Reads the name and the digits of an answer, if it is a name, one space and as many lower-case hexadecimal digits as
+/// a digest has.
 pub fn split_answer(answer: &[u8]) -> Option<(&[u8], &[u8])>
     ensures { MatchOption result
         ((name digits : List ℕ) → IsAnswer answer.now name digits → ⊥)
@@ -40,7 +40,7 @@ fn is_lower_digit(byte: u8) -> bool
     byte.is_ascii_digit() || (b'a'..=b'f').contains(&byte)
 }
 
-/// Whether the two texts are the same. Each pair of bytes is looked at, wherever the texts differ.
+/// Says whether the two texts are the same. Each pair of bytes is looked at, wherever the texts differ.
 pub fn are_equal(these: &[u8], those: &[u8]) -> bool
     requires { length these.now ≡ length those.now }
     ensures { IsTrue result ↔ (these.now ≡ those.now) }

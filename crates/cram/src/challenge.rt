@@ -24,8 +24,8 @@ impl Challenge {
     ghost use Rattle.std.specs.Prelude.{◌≡◌, List, ℕ, IfOk, IfErr, MatchResult};
     ghost use Rattle.cram.specs.Answer.{IsAnswerFault, IsRightAnswer, challenge_text, digits_under};
 
-    /// The challenge of a server of that name. The nonce and the moment, both in decimal, are to make
-    /// it one that was never sent before. The only fault is `NoMemory`.
+    /// Makes the challenge of a server of that name. The nonce and the moment, both in decimal, are to make it one that
+    /// was never sent before. The only fault is `NoMemory`.
     pub fn new(alloc: Global, nonce: u64, moment: u64, name: &str) -> Result<Challenge, CramFault>
         ensures text { IfOk result (λ challenge. challenge ≡ challenge_text nonce moment name.now) }
         ensures memory { IfErr result (λ fault. fault ≡ CramFault.NoMemory) }
@@ -34,16 +34,16 @@ impl Challenge {
         Ok(Challenge { text })
     }
 
-    /// What is sent to the client.
+    /// Gives what is sent to the client.
     pub fn text(&self) -> &str
         ensures { result.now ≡ self.now }
     {
         self.text.as_str()
     }
 
-    /// The user whose answer this is: the name, one space and the 32 lower-case hexadecimal digits of the
-    /// challenge's HMAC-MD5 under the user's password. All digits are compared, wherever they differ. Of
-    /// the faults the first of `CramFault` that holds is answered, but `BadUsers` never is.
+    /// Finds the user whose answer this is: the name, one space and the 32 lower-case hexadecimal digits of the
+    /// challenge's HMAC-MD5 under the user's password. All digits are compared, wherever they differ. Of the faults the
+    /// first of `CramFault` that holds is answered, but `BadUsers` never is.
     pub fn check(&self, alloc: Global, answer: &[u8], users: &Users) -> Result<User, CramFault>
         ensures right { IfOk result (λ user. IsRightAnswer self.now users.now answer.now user) }
         ensures accepts { (name : List ℕ) → IsRightAnswer self.now users.now answer.now name →

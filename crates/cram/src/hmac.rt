@@ -11,8 +11,8 @@ const INNER_PAD: u8 = 0x36;
 
 const OUTER_PAD: u8 = 0x5c;
 
-/// The 16 bytes of the HMAC of the message under the key, over MD5 (RFC 2104). A key of any length is
-/// right; one of more than 64 bytes is digested first. No memory is asked for.
+/// Gives the 16 bytes of the HMAC of the message under the key, over MD5 (RFC 2104). A key of any length is right; one
+/// of more than 64 bytes is digested first. No memory is asked for.
 #[tactic(auto, unfolding(crate::specs::Hmac::hmac_of))]
 pub fn hmac_md5(key: &[u8], message: &[u8]) -> [u8; 16]
     ensures { result ≡ hmac_of key.now message.now }

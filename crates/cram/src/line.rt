@@ -17,8 +17,8 @@ pub enum ParsedLine<'a> {
     Wrong,
 }
 
-/// The first line, without its end, and the bytes behind its end. A line ends with LF or CRLF, and the
-/// last one also with the bytes.
+/// Gives the first line, without its end, and the bytes after its end. A line ends with LF or CRLF, and the last one
+/// also with the bytes.
 pub fn split_line(bytes: &[u8]) -> (&[u8], &[u8])
     requires { 0 < length bytes.now }
     ensures lines { lines bytes.now ≡ result.0.now ∷ lines result.1.now }
@@ -79,7 +79,7 @@ fn parse_pair(line: &[u8]) -> ParsedLine<'_>
     }
 }
 
-/// Whether a user may have the name: 1 to 255 bytes, none of them a space or a tab.
+/// Says whether a user may have the name: 1 to 255 bytes, none of them a space or a tab.
 pub fn is_user_name(bytes: &[u8]) -> bool
     ensures { result ≡ is_user_name bytes.now }
 {

@@ -45,14 +45,14 @@ impl User {
         })
     }
 
-    /// The bytes of the name.
+    /// Gives the bytes of the name.
     pub fn name(&self) -> &[u8]
         ensures { result.now ≡ self.now }
     {
         self.name.as_slice()
     }
 
-    /// The bytes of the name, to keep.
+    /// Gives the bytes of the name, to keep.
     pub fn into_name(self) -> ByteString
         ensures { result ≡ self }
     {
@@ -105,7 +105,7 @@ impl Users {
         Ok(draft.users)
     }
 
-    /// The password of the user of that name.
+    /// Finds the password of the user of that name.
     pub(crate) fn password_of(&self, name: &[u8]) -> Option<&[u8]>
         ensures { option_copied result ≡ password_of name.now self.now }
     {

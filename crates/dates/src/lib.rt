@@ -12,7 +12,7 @@ use std::alloc::{AllocError, Global};
 /// The last moment that has a date here, in microseconds since the beginning of 1970.
 pub const LAST_MOMENT: u64 = 200_000_000_000_000_000;
 
-/// The date of a moment, a count of microseconds since the beginning of 1970: 27 bytes
+/// Writes the date of a moment, a count of microseconds since the beginning of 1970: 27 bytes
 /// `YYYY-MM-DDThh:mm:ss.uuuuuuZ`.
 pub fn date_text(alloc: Global, moment: u64) -> Result<String, AllocError>
     requires { moment ≤ LAST_MOMENT }

@@ -10,8 +10,8 @@ use crate::texts::are_same_texts;
 use repo_api::{Properties, Repository};
 use std::alloc::{AllocError, Global};
 
-/// Whether an entry differs from what a client has of it, by their last changes' revisions, their
-/// kinds, their texts and their properties. What does not differ may still be of two changes of one revision.
+/// Says whether an entry differs from what a client has of it, by their last changes' revisions, their kinds, their
+/// texts and their properties. What does not differ may still be of two changes of one revision.
 pub fn entries_differ<R: Repository>(
     alloc: Global,
     view: &R,
@@ -30,7 +30,7 @@ pub fn entries_differ<R: Repository>(
     Ok(!is_same_node(alloc, view, old, new)?)
 }
 
-/// Whether a client has what stands at the place, as it stands there.
+/// Says whether a client has what stands at the place, as it stands there.
 fn is_same_place(old: Had<'_>, new: Place<'_>) -> bool
     ensures { result ≡ true → (old.entry.starts_empty ≡ false)
         × (old.entry.place.revision ≡ new.entry.revision)
@@ -39,7 +39,7 @@ fn is_same_place(old: Had<'_>, new: Place<'_>) -> bool
     !old.starts_empty && old.place.revision == new.revision && old.place.path == new.path
 }
 
-/// Whether both are the same: kind, text and properties.
+/// Says whether both are the same: kind, text and properties.
 fn is_same_node<R: Repository>(
     alloc: Global,
     view: &R,
@@ -62,7 +62,7 @@ fn is_same_node<R: Repository>(
     }
 }
 
-/// Whether both are directories, or files of one text, or neither is there.
+/// Says whether both are directories, or files of one text, or neither exists.
 fn is_same_content<R: Repository>(view: &R, old: Had<'_>, new: Place<'_>) -> bool
     ensures { Decides result (entry_content (entry_had (R.content view.now) old.entry)
         ≡ entry_content (entry_at (R.content view.now) new.entry)) }

@@ -12,7 +12,7 @@ use std::alloc::{AllocError, Global};
 use uuid::Uuid;
 use wire_forms::copy_optional;
 
-/// What is told of the revision of an entry's last change, of the repository, and of a stale token.
+/// Makes what is told of the revision of an entry's last change, of the repository, and of a stale token.
 pub(crate) fn last_changes<R: Repository>(
     alloc: Global,
     view: &R,
@@ -34,7 +34,7 @@ pub(crate) fn last_changes<R: Repository>(
     with_stale(alloc, changes, is_stale)
 }
 
-/// The changes, and then this one, if its value was made.
+/// Gives the changes, and then this one, if its value was made.
 fn with_change(
     alloc: Global,
     changes: PropertyChanges,
@@ -49,7 +49,7 @@ fn with_change(
     Ok(changes)
 }
 
-/// The changes, and then that the client's token is taken out, if it is stale.
+/// Gives the changes, and then that the client's token is taken out, if it is stale.
 fn with_stale(
     alloc: Global,
     changes: PropertyChanges,
@@ -64,7 +64,7 @@ fn with_stale(
     }
 }
 
-/// The value of a property of a revision, if there is a revision.
+/// Gives the value of a property of a revision, if there is a revision.
 fn revision_property<R: Repository>(
     alloc: Global,
     view: &R,
@@ -80,7 +80,7 @@ fn revision_property<R: Repository>(
     }
 }
 
-/// The value of a property of a revision.
+/// Gives the value of a property of a revision.
 fn value_at<R: Repository>(
     alloc: Global,
     view: &R,
@@ -99,7 +99,7 @@ fn value_at<R: Repository>(
     }
 }
 
-/// A number in decimal, if there is one.
+/// Writes a number in decimal, if there is one.
 fn number_text(alloc: Global, number: Option<u64>) -> Result<Option<ByteString>, AllocError>
     ensures { IfOk result (λ text. text ≡ option_map decimal number) }
 {
@@ -113,7 +113,7 @@ fn number_text(alloc: Global, number: Option<u64>) -> Result<Option<ByteString>,
     }
 }
 
-/// The text of a repository's name among all repositories.
+/// Writes the text of a repository's name among all repositories.
 fn uuid_text(alloc: Global, uuid: u128) -> Result<Option<ByteString>, AllocError>
     ensures { IfOk result (λ text. text ≡ Some (uuid_text uuid)) }
 {

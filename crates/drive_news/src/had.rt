@@ -6,21 +6,21 @@ ghost use Rattle.drive_news.specs.Places.{entry_had};
 use crate::news::Had;
 use repo_api::{FileText, NodeKind, Properties, Repository};
 
-/// The kind of an entry.
+/// Gives the kind of an entry.
 pub(crate) fn had_kind<R: Repository>(view: &R, had: Had<'_>) -> NodeKind
     ensures { result ≡ kind_of (entry_had (R.content view.now) had.entry) }
 {
     view.kind(had.place.revision, had.place.path)
 }
 
-/// The revision of its last change.
+/// Gives the revision of its last change.
 pub(crate) fn had_created<R: Repository>(view: &R, had: Had<'_>) -> Option<u64>
     ensures { result ≡ created_of (entry_had (R.content view.now) had.entry) }
 {
     view.created(had.place.revision, had.place.path)
 }
 
-/// Its properties, if there is an entry: none yet of a directory that starts empty.
+/// Gives its properties, if there is an entry: none yet of a directory that starts empty.
 pub(crate) fn had_properties<'a, R: Repository>(
     view: &'a R,
     had: Had<'_>,
@@ -36,7 +36,7 @@ pub(crate) fn had_properties<'a, R: Repository>(
     view.properties(had.place.revision, had.place.path)
 }
 
-/// Its text, if it is a file.
+/// Gives its text, if it is a file.
 pub(crate) fn had_text<'a, R: Repository>(view: &'a R, had: Had<'_>) -> Option<&'a FileText>
     ensures { option_copied result ≡ text_of (entry_had (R.content view.now) had.entry) }
 {

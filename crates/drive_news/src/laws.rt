@@ -11,13 +11,13 @@ ghost use Rattle.drive_reports.specs.Targets.{WholeReport, old_tree, new_tree};
 ghost use Rattle.drive_wire.specs.Sent.{seen_by};
 ghost use Rattle.drive_news.specs.News.{news_of, news_steps, own_steps_of};
 
-/// What entries are told leads from what the client has of each to what it is to have.
+/// Shows that what entries are told leads from what the client has of each to what it is to have.
 pub fn news_lead()
     ensures { (c : RepoState) (report : WholeReport) → LeadsOver (seen_by report.ask.purpose)
         (old_tree c report) (new_tree c report) (own_steps_of c report) }
 {}
 
-/// What an entry is told by an entry property is what is due.
+/// Shows that what an entry is told by an entry property is what is due.
 pub fn entry_properties_are_told()
     ensures { (c : RepoState) (purpose : Purpose) (stale : Bool) (old : Option Entry)
         (e : Entry) (q : PathValue) (name : List ℕ) → is_entry_property name ≡ true

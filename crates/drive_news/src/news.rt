@@ -49,7 +49,7 @@ impl Model for PropertyChanges {
 }
 
 impl PropertyChanges {
-    /// No changes. It takes no memory.
+    /// Makes a list without changes. It takes no memory.
     pub fn new(alloc: Global) -> Self
         ensures { result ≡ [] }
     {
@@ -58,7 +58,7 @@ impl PropertyChanges {
         }
     }
 
-    /// One change more.
+    /// Adds one change more.
     pub fn push(&mut self, name: ByteString, value: Option<ByteString>) -> Result<(), AllocError>
         ensures ok { OnOk result (self.new ≡ self.old ++ (name, value) ∷ []) }
         ensures err { OnErr result (self.new ≡ self.old) }
@@ -67,7 +67,7 @@ impl PropertyChanges {
         Ok(())
     }
 
-    /// The changes, each after those before it.
+    /// Gives the changes, each after those before it.
     pub fn as_slice(&self) -> &[(ByteString, Option<ByteString>)]
         ensures { result.now ≡ self.now }
     {

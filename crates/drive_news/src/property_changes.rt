@@ -10,28 +10,28 @@ use repo_api::{Properties, is_same_value};
 use std::alloc::{AllocError, Global};
 use wire_forms::copy_optional;
 
-/// Whether the name is that of an entry property.
+/// Says whether the name is that of an entry property.
 fn is_entry_property(name: &[u8]) -> bool
     ensures { result ≡ is_entry_property name.now }
 {
     name.starts_with(b"svn:entry:".as_slice())
 }
 
-/// Whether a property is told: where it has another value now.
+/// Says whether a property is told: where it has another value now.
 fn is_told(old: &Properties, new: &Properties, name: &ByteString) -> bool
     ensures { result ≡ is_told old.now new.now name.now }
 {
     !is_entry_property(name.as_slice()) && !is_same_value(old.get(name), new.get(name))
 }
 
-/// Whether there are no properties.
+/// Says whether there are no properties.
 fn are_none(properties: &Properties) -> bool
     ensures { result ≡ (length properties.now == 0) }
 {
     properties.iter().next().is_none()
 }
 
-/// The properties that stand in one or the other.
+/// Makes the properties that stand in one or the other.
 fn in_both(old: &Properties, new: &Properties) -> Result<Properties, AllocError>
     ensures { IfOk result (λ both. map (λ p. p.0) both ≡ names_in_both old.now new.now) }
 {
@@ -42,7 +42,7 @@ fn in_both(old: &Properties, new: &Properties) -> Result<Properties, AllocError>
     Ok(both)
 }
 
-/// The changes, and then what becomes of the properties of these names.
+/// Gives the changes, and then what becomes of the properties of these names.
 fn with_named(
     changes: PropertyChanges,
     old: &Properties,
@@ -61,7 +61,7 @@ fn with_named(
     Ok(changes)
 }
 
-/// The changes, and then what becomes of the properties. Where there are none, it takes no memory.
+/// Gives the changes, and then what becomes of the properties. Where there are none, it takes no memory.
 pub(crate) fn with_property_changes(
     changes: PropertyChanges,
     old: &Properties,
@@ -76,7 +76,7 @@ pub(crate) fn with_property_changes(
     with_named(changes, old, new, &names)
 }
 
-/// Whether all properties have the same values, entry properties left out.
+/// Says whether all properties have the same values, entry properties left out.
 pub(crate) fn are_same_properties(
     alloc: Global,
     old: &Properties,

@@ -13,7 +13,7 @@ use crate::texts::{other_text, text_sent};
 use repo_api::{FileText, Properties, Repository};
 use std::alloc::{AllocError, Global};
 
-/// What an entry is told of itself, `None` where nothing stands at its place.
+/// Says what an entry is told of itself, `None` where nothing stands at its place.
 pub fn news_of<R: Repository>(
     alloc: Global,
     view: &R,
@@ -30,7 +30,7 @@ pub fn news_of<R: Repository>(
     }
 }
 
-/// The properties that an entry with these properties is told.
+/// Gives the properties that an entry with these properties is told.
 fn changes_seen<R: Repository>(
     alloc: Global,
     view: &R,
@@ -52,7 +52,7 @@ fn changes_seen<R: Repository>(
     }
 }
 
-/// The text that an entry is told, if it is told one.
+/// Gives the text that an entry is told, if it is told one.
 fn text_seen<R: Repository>(view: &R, sight: Sight<'_>) -> Result<Option<FileText>, AllocError>
     ensures { IfOk result (λ text. text ≡ option_map (text_sent sight.entry.purpose)
         (other_text (text_of (old_seen (R.content view.now) sight.entry))
@@ -65,7 +65,7 @@ fn text_seen<R: Repository>(view: &R, sight: Sight<'_>) -> Result<Option<FileTex
     }
 }
 
-/// The properties that a client has of an entry, if it has any of it.
+/// Gives the properties that a client has of an entry, if it has any of it.
 fn old_properties<'a, R: Repository>(
     view: &'a R,
     old: Option<Had<'_>>,
@@ -81,7 +81,7 @@ fn old_properties<'a, R: Repository>(
     }
 }
 
-/// The text that a client has of a file, if it has any of it.
+/// Gives the text that a client has of a file, if it has any of it.
 fn old_text<'a, R: Repository>(view: &'a R, old: Option<Had<'_>>) -> Option<&'a FileText>
     ensures { option_copied result
         ≡ text_of (option_and_then (entry_had (R.content view.now)) old.entry) }

@@ -8,14 +8,14 @@ use drive_reports::Purpose;
 use repo_api::FileText;
 use std::alloc::AllocError;
 
-/// Whether both texts have the same bytes.
+/// Says whether both texts have the same bytes.
 fn is_same_text(old: &FileText, new: &FileText) -> bool
     ensures { result ≡ is_name old.now new.now }
 {
     old.as_slice() == new.as_slice()
 }
 
-/// Whether both are the same text, or both none.
+/// Says whether both are the same text, or both none.
 pub(crate) fn are_same_texts(old: Option<&FileText>, new: Option<&FileText>) -> bool
     ensures { result ≡ is_same_value (option_copied old.entry) (option_copied new.entry) }
 {
@@ -26,7 +26,7 @@ pub(crate) fn are_same_texts(old: Option<&FileText>, new: Option<&FileText>) -> 
     }
 }
 
-/// The text of a file, unless it is the one that the client has.
+/// Gives the text of a file, unless it is the one that the client has.
 pub(crate) fn other_text<'a>(
     old: Option<&FileText>,
     new: Option<&'a FileText>,
@@ -47,7 +47,7 @@ pub(crate) fn other_text<'a>(
     }
 }
 
-/// The text as it is sent: a status sends no texts. It is shared, and not copied.
+/// Gives the text as it is sent: a status sends no texts. It is shared, and not copied.
 pub(crate) fn text_sent(purpose: Purpose, text: &FileText) -> Result<FileText, AllocError>
     ensures { IfOk result (λ sent. sent ≡ text_sent purpose text.now) }
 {

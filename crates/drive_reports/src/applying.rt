@@ -29,7 +29,7 @@ pub struct Link<'a> {
     pub url: Option<&'a ByteString>,
 }
 
-/// Whether a path may be set now, or linked to a URL: the first command must set the target.
+/// Says whether a path may be set now, or linked to a URL: the first command must set the target.
 fn may_come(alloc: Global, report: &OpenReport<Grafts>, link: Link<'_>) -> Result<bool, AllocError>
     ensures { IfOk result (λ answer. answer ≡ may_come report.now link.entry.reported.now.path
         (option_copied link.entry.url)) }
@@ -47,14 +47,14 @@ fn may_come(alloc: Global, report: &OpenReport<Grafts>, link: Link<'_>) -> Resul
     }
 }
 
-/// Whether nothing need stand where the target is reported first.
+/// Says whether nothing need exist where the target is reported first.
 fn may_lack(report: &OpenReport<Grafts>) -> bool
     ensures { result ≡ may_lack report.now }
 {
     report.root.is_none() && !report.ask.target.as_path().is_root()
 }
 
-/// The path that was reported first stays.
+/// Keeps the path that was reported first.
 fn root_after(root: Option<ReportRoot>, revision: u64, depth: Depth) -> ReportRoot
     ensures { result ≡ root_after root revision depth }
 {
@@ -64,7 +64,7 @@ fn root_after(root: Option<ReportRoot>, revision: u64, depth: Depth) -> ReportRo
     }
 }
 
-/// The graft of a path that is set.
+/// Makes the graft of a path that is set.
 fn graft_of(
     path: Path,
     from: Path,
@@ -87,8 +87,7 @@ fn graft_of(
     })
 }
 
-/// The root and the graft of a path that is set, or linked to a URL, over the repository as it is
-/// now.
+/// Makes the root and the graft of a path that is set, or linked to a URL, over the repository as it is now.
 fn set_path_graft<R: Repository>(
     alloc: Global,
     view: &R,
@@ -120,7 +119,7 @@ fn set_path_graft<R: Repository>(
     Ok((root, graft_of(path, from, revision, depth, link.reported)?))
 }
 
-/// The graft of a path at which nothing is.
+/// Makes the graft of a path at which nothing is.
 fn delete_path_graft(
     alloc: Global,
     report: &OpenReport<Grafts>,
@@ -140,7 +139,7 @@ fn delete_path_graft(
     })
 }
 
-/// The report with one graft more.
+/// Gives the report with one graft more.
 fn grafted(
     alloc: Global,
     mut report: OpenReport<Grafts>,
@@ -155,7 +154,7 @@ fn grafted(
     Ok(Report::Open(report))
 }
 
-/// What a path that is set, or linked to a URL, makes of a report. The first refusal is kept.
+/// Gives what a path that is set, or linked to a URL, makes of a report. The first refusal is kept.
 pub fn set_path<R: Repository>(
     alloc: Global,
     view: &R,
@@ -180,7 +179,7 @@ pub fn set_path<R: Repository>(
     }
 }
 
-/// What a path at which nothing is makes of a report. The first refusal is kept.
+/// Gives what a path at which nothing is makes of a report. The first refusal is kept.
 pub fn delete_path(
     alloc: Global,
     report: OpenReport<Grafts>,
@@ -204,7 +203,7 @@ pub fn delete_path(
     }
 }
 
-/// Whether something stands at the URL of a switch.
+/// Says whether something exists at the URL of a switch.
 fn has_goal<R: Repository>(view: &R, ask: &DriveAsk) -> bool
     ensures { result ≡ has_goal (R.content view.now) ask.now ask.now.purpose }
 {
@@ -215,8 +214,8 @@ fn has_goal<R: Repository>(view: &R, ask: &DriveAsk) -> bool
     }
 }
 
-/// Whether the anchor is a directory: with a target, in the repository; without one, in what the
-/// client has and in what it is to have.
+/// Says whether the anchor is a directory: with a target, in the repository; without one, in what the client has and in
+/// what it is to have.
 fn has_anchor<R: Repository>(
     alloc: Global,
     view: &R,
@@ -237,7 +236,7 @@ fn has_anchor<R: Repository>(
     has_directory(alloc, view, top, &report.grafts, top)
 }
 
-/// The path that was reported first, where there is to be a drive, or why there is none.
+/// Gives the path that was reported first, where there is to be a drive, or says why there is none.
 pub fn finish<R: Repository>(
     alloc: Global,
     view: &R,

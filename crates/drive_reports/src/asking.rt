@@ -30,7 +30,7 @@ pub struct Errand<'a> {
     pub url: Option<&'a ByteString>,
 }
 
-/// What is asked of a drive, over the repository as it is now.
+/// Finds what is asked of a drive, over the repository as it is now.
 pub fn ask_of<R: Repository>(
     alloc: Global,
     view: &R,
@@ -56,7 +56,7 @@ pub fn ask_of<R: Repository>(
     })
 }
 
-/// A report that begins, with its refusal if there is one.
+/// Begins a report, with its refusal if there is one.
 pub fn begin<R: Repository>(
     alloc: Global,
     view: &R,

@@ -27,7 +27,7 @@ pub struct Graft {
     pub subtree: Option<Subtree>,
 }
 
-/// Whether everything beneath a directory is reported, or asked for.
+/// Says whether everything beneath a directory is reported, or asked for.
 pub fn is_to_the_end(depth: Depth) -> bool
     ensures { result ≡ is_to_the_end depth }
 {
@@ -37,7 +37,7 @@ pub fn is_to_the_end(depth: Depth) -> bool
     }
 }
 
-/// Whether less than everything is reported of what a graft puts.
+/// Says whether less than everything is reported of what a graft puts.
 pub(crate) fn is_shallow(graft: &Graft) -> bool
     ensures { result ≡ is_shallow graft.now }
 {

@@ -41,14 +41,14 @@ impl Model for Grafts {
         × (g.has_shallow ≡ list_any is_shallow g.grafts.items) };
 }
 
-/// Whether less than everything is reported of what one graft more puts, or it was before.
+/// Says whether less than everything is reported of what one graft more puts, or it was before.
 fn has_shallow_too(before: bool, graft: &Graft) -> bool
     ensures { result ≡ (before || is_shallow graft.now) }
 {
     before || is_shallow(graft)
 }
 
-/// The later of two places, if there are any.
+/// Gives the later of two places, if there are any.
 fn later(place: Option<usize>, other: Option<usize>) -> Option<usize>
     ensures { result ≡ later place other }
 {
@@ -60,7 +60,7 @@ fn later(place: Option<usize>, other: Option<usize>) -> Option<usize>
 }
 
 impl Grafts {
-    /// No grafts.
+    /// Makes an empty list of grafts.
     pub fn new(alloc: Global) -> Self
         ensures { result ≡ [] }
     {
@@ -95,28 +95,28 @@ impl Grafts {
         }
     }
 
-    /// The grafts in their order.
+    /// Gives the grafts in their order.
     pub fn as_slice(&self) -> &[Graft]
         ensures { result.now ≡ self.now }
     {
         self.grafts.as_slice()
     }
 
-    /// Whether less than everything is reported of what some graft puts.
+    /// Says whether less than everything is reported of what some graft puts.
     pub fn has_shallow(&self) -> bool
         ensures { result ≡ list_any is_shallow self.now }
     {
         self.has_shallow
     }
 
-    /// Whether a graft stands beneath a path.
+    /// Says whether a graft stands beneath a path.
     pub fn has_beneath(&self, path: &Path) -> bool
         ensures { result ≡ list_any (λ g. below path.now g.path) self.now }
     {
         self.index.has_beneath(path)
     }
 
-    /// The last of the first so many grafts that stand at a path, by its place in the order.
+    /// Finds the last of the first so many grafts that stand at a path, by its place in the order.
     fn last_at(&self, path: &Path, count: usize) -> Option<usize>
         requires { count ≤ length self.now }
         ensures { IsLastAt path.now self.now count result }
@@ -131,7 +131,7 @@ impl Grafts {
         None
     }
 
-    /// The last of the first so many grafts that stand at or above a path, by its place in the order.
+    /// Finds the last of the first so many grafts that stand at or above a path, by its place in the order.
     pub(crate) fn last_above(
         &self,
         alloc: Global,

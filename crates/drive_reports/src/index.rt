@@ -54,8 +54,8 @@ impl GraftIndex {
         }
     }
 
-    /// Whether a graft stands beneath a path. If one does, the first that comes behind the path in the
-    /// order of components does.
+    /// Says whether a graft stands beneath a path. If one does, the first that comes after the path in the order of
+    /// components does.
     pub fn has_beneath(&self, path: &Path) -> bool
         ensures { result ≡ list_any (below path.now) (keys_of self.now.newest.entries) }
     {

@@ -19,7 +19,7 @@ use std::mem::drop;
 use svnpath::Path;
 use wire_reports::DepthWord;
 
-/// What does not hold is refused so.
+/// Refuses so what does not hold.
 pub(crate) fn judge(holds: bool, refusal: Refusal) -> Result<(), ReportFault>
     ensures { JudgesReport result (ok_if holds refusal) }
 {
@@ -30,7 +30,7 @@ pub(crate) fn judge(holds: bool, refusal: Refusal) -> Result<(), ReportFault>
     }
 }
 
-/// The path that a text names beneath another.
+/// Finds the path that a text names beneath another.
 pub(crate) fn path_named(alloc: Global, base: &Path, text: &ByteString) -> Result<Path, ReportFault>
     ensures judged { JudgesReport result (or_refusal (joined base.now text.now)) }
     ensures beneath { IfOk result (λ p. p ≡ base.now ++ drop (length base.now) p) }
@@ -39,7 +39,7 @@ pub(crate) fn path_named(alloc: Global, base: &Path, text: &ByteString) -> Resul
     Ok(base.join(alloc, text.as_slice())?)
 }
 
-/// The path of a URL, or another path where there is no URL.
+/// Gives the path of a URL, or another path where there is no URL.
 pub(crate) fn url_or(
     alloc: Global,
     name: &str,
@@ -57,7 +57,7 @@ pub(crate) fn url_or(
     }
 }
 
-/// The revision that is named, or the youngest; one above it is refused.
+/// Gives the revision that is named, or the youngest; one above it is refused.
 pub(crate) fn revision_read<R: Repository>(
     view: &R,
     revision: Option<u64>,
@@ -77,7 +77,7 @@ pub(crate) fn revision_read<R: Repository>(
     }
 }
 
-/// How much of what stands somewhere is reported: everything, where no depth is named.
+/// Says how much of what exists somewhere is reported: everything, where no depth is named.
 pub(crate) fn graft_depth(word: Option<DepthWord>) -> Result<Depth, ReportFault>
     ensures { JudgesReport result (graft_depth word) }
 {
@@ -90,7 +90,7 @@ pub(crate) fn graft_depth(word: Option<DepthWord>) -> Result<Depth, ReportFault>
     }
 }
 
-/// The depth of what is asked for without what is beneath directories.
+/// Gives the depth of what is asked for without what is beneath directories.
 fn shallow(purpose: Purpose) -> Depth
     ensures { result ≡ shallow purpose }
 {
@@ -100,7 +100,7 @@ fn shallow(purpose: Purpose) -> Depth
     }
 }
 
-/// How deep a drive is to go: by its word, or else by whether it is asked for what is beneath directories too.
+/// Says how deep a drive is to go: by its word, or else by whether it is asked for what is beneath directories too.
 pub(crate) fn depth_asked(
     purpose: Purpose,
     recurse: bool,
@@ -117,14 +117,14 @@ pub(crate) fn depth_asked(
     }
 }
 
-/// Whether something stands at a path of a revision.
+/// Says whether something exists at a path of a revision.
 pub(crate) fn is_there<R: Repository>(view: &R, revision: u64, path: &Path) -> bool
     ensures { result ≡ is_some (trees_in (R.content view.now).revisions revision path.now) }
 {
     view.kind(revision, path) != NodeKind::Absent
 }
 
-/// Whether a directory stands at a path of a revision.
+/// Says whether a directory exists at a path of a revision.
 pub(crate) fn is_directory_there<R: Repository>(view: &R, revision: u64, path: &Path) -> bool
     ensures { result
         ≡ is_directory_there (trees_in (R.content view.now).revisions revision path.now) }

@@ -12,27 +12,27 @@ ghost use Rattle.drive_reports.specs.Targets.{WholeReport, old_tree, new_tree};
 ghost use Rattle.drive_reports.specs.declared.graft.Graft.{Graft};
 ghost use Rattle.drive_reports.specs.declared.graft.Subtree.{Subtree};
 
-/// What stands in a revision stands in a directory of it, wherever each tree is a tree.
+/// Shows that what exists in a revision exists in a directory of it, wherever each tree is a tree.
 pub fn revisions_hold_together()
     ensures { (rs : List Revision) → AreTrees rs → AllHoldTogether rs }
 {}
 
-/// Whatever is reported, what stands in the reported tree stands in a directory of it, from the
-/// target on.
+/// Shows that, whatever is reported, what exists in the reported tree exists in a directory of it, from the target on.
 pub fn reported_trees_hold_together()
     ensures { (trees : ℕ → Tree) (top : PathValue) (grafts : List Graft)
         → ((n : ℕ) → HoldsTogether [] (trees n))
         → HoldsTogether top (reported_entries (reported trees top grafts)) }
 {}
 
-/// So it is in both trees of a drive, wherever each tree of the repository is a tree.
+/// Shows that what exists in one of the two trees of a drive exists in a directory of it, from the target on, wherever
+/// each tree of the repository is a tree.
 pub fn drive_trees_hold_together()
     ensures { (c : RepoState) (report : WholeReport) → AreTrees c.revisions
         → HoldsTogether report.ask.target (old_tree c report)
         × HoldsTogether report.ask.target (new_tree c report) }
 {}
 
-/// Of a report of the target alone, of all that is in it, the client has what its revision has.
+/// Shows that, of a report of the target alone, of all that is in it, the client has what its revision has.
 pub fn whole_reports_are_revisions()
     ensures { (trees : ℕ → Tree) (g : Graft) (s : Subtree) (q : PathValue)
         → g.subtree ≡ Some s → s.starts_empty ≡ false → s.depth ≡ Infinity

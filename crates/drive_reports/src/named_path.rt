@@ -23,7 +23,7 @@ impl Model for NamedPath {
 }
 
 impl NamedPath {
-    /// The path, which a client has named.
+    /// Takes a path, which a client has named.
     pub(crate) fn new(path: Path) -> Self
         requires { IsNamed path }
         ensures { result ≡ path }
@@ -31,7 +31,7 @@ impl NamedPath {
         NamedPath { path }
     }
 
-    /// The path itself.
+    /// Gives the path itself.
     pub fn as_path(&self) -> &Path
         ensures path { result.now ≡ self.now }
         ensures named { IsNamed self.now }

@@ -17,7 +17,7 @@ use repo_api::{NodeKind, Repository};
 use std::alloc::{AllocError, Global};
 use svnpath::Path;
 
-/// What a depth leaves of an entry so many names beneath the top.
+/// Says what a depth leaves of an entry so many names beneath the top.
 fn left_kind(depth: Depth, names: usize, kind: NodeKind) -> NodeKind
     ensures { (rest : List Component) (e : Option Entry) → names ≡ length rest + 1
         → kind ≡ kind_of e → result ≡ kind_of (left_by depth rest e) }
@@ -31,7 +31,7 @@ fn left_kind(depth: Depth, names: usize, kind: NodeKind) -> NodeKind
     if is_left { kind } else { NodeKind::Absent }
 }
 
-/// The kind of what a graft shows at a path.
+/// Gives the kind of what a graft shows at a path.
 pub(crate) fn shown_kind<R: Repository>(
     alloc: Global,
     view: &R,
@@ -59,7 +59,7 @@ pub(crate) fn shown_kind<R: Repository>(
     Ok(left_kind(subtree.depth, names, kind))
 }
 
-/// Whether a graft shows a directory at a path.
+/// Says whether a graft shows a directory at a path.
 fn shows_directory<R: Repository>(
     alloc: Global,
     view: &R,
@@ -75,7 +75,7 @@ fn shows_directory<R: Repository>(
     }
 }
 
-/// Whether a graft has its place whatever stands there. The top is the target.
+/// Says whether a graft has its place whatever exists there. The top is the target.
 fn is_surely_placed(top: &Path, graft: &Graft) -> bool
     ensures { result ≡ is_surely_placed top.now graft.now }
 {
@@ -89,7 +89,7 @@ struct FirstGrafts<'a> {
     count: usize,
 }
 
-/// The last of so many grafts that says what the client has at a path, if one does. The top is the target.
+/// Finds the last of so many grafts that says what the client has at a path, if one does. The top is the target.
 fn graft_among<'a, R: Repository>(
     alloc: Global,
     view: &R,
@@ -128,7 +128,7 @@ fn graft_among<'a, R: Repository>(
     Ok(None)
 }
 
-/// The last graft that says what the client has at a path, if one does. The top is the target.
+/// Finds the last graft that says what the client has at a path, if one does. The top is the target.
 fn graft_at<'a, R: Repository>(
     alloc: Global,
     view: &R,
@@ -160,7 +160,7 @@ pub struct ReportedPlace<'a> {
     pub token: Option<&'a ByteString>,
 }
 
-/// The depth of what is in a directory of a depth.
+/// Gives the depth of what is in a directory of a depth.
 fn depth_below(depth: Depth) -> Depth
     ensures { result ≡ depth_below depth }
 {
@@ -170,7 +170,7 @@ fn depth_below(depth: Depth) -> Depth
     }
 }
 
-/// What of a subtree stands so many names beneath its top, at this path of its revision.
+/// Gives what of a subtree is so many names beneath its top, at this path of its revision.
 fn place_in(subtree: &Subtree, names: usize, path: Path) -> ReportedPlace<'_>
     ensures path { result.path ≡ path }
     ensures part { (rest : List Component) → names ≡ length rest
@@ -196,7 +196,7 @@ fn place_in(subtree: &Subtree, names: usize, path: Path) -> ReportedPlace<'_>
     }
 }
 
-/// Where that comes from what a graft shows at a path, if it shows something.
+/// Says where what a graft shows at a path comes from, if it shows something.
 fn shown_at<'a, R: Repository>(
     alloc: Global,
     view: &R,
@@ -220,7 +220,7 @@ fn shown_at<'a, R: Repository>(
     Ok(Some(place_in(subtree, names, from)))
 }
 
-/// What a client has at a path, if it has something. The top is the target.
+/// Finds what a client has at a path, if it has something. The top is the target.
 pub fn reported_at<'a, R: Repository>(
     alloc: Global,
     view: &R,
@@ -246,7 +246,7 @@ pub fn reported_at<'a, R: Repository>(
     }
 }
 
-/// Whether a path has its place at the top of a report, or in a directory that is there.
+/// Says whether a path has its place at the top of a report, or in a directory that is there.
 pub(crate) fn has_place<R: Repository>(
     alloc: Global,
     view: &R,
@@ -266,7 +266,7 @@ pub(crate) fn has_place<R: Repository>(
     shows_directory(alloc, view, holder, &above)
 }
 
-/// Whether a client has a directory at a path.
+/// Says whether a client has a directory at a path.
 pub(crate) fn has_directory<R: Repository>(
     alloc: Global,
     view: &R,

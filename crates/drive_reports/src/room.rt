@@ -13,7 +13,7 @@ const GRAFT: usize = 256;
 /// What a name counts as beside its bytes.
 const NAME: usize = 64;
 
-/// About how many bytes of memory the names of a path take.
+/// Estimates how many bytes of memory the names of a path take.
 fn path_weight(path: &Path) -> usize {
     let mut weight: usize = 0;
     for name in path.components() {
@@ -22,7 +22,7 @@ fn path_weight(path: &Path) -> usize {
     weight
 }
 
-/// How many bytes a token has, if there is one.
+/// Says how many bytes a token has, if there is one.
 fn token_len(token: &Option<ByteString>) -> usize {
     match token {
         None => 0,
@@ -30,7 +30,7 @@ fn token_len(token: &Option<ByteString>) -> usize {
     }
 }
 
-/// About how many bytes of memory a graft takes, its place in the index too.
+/// Estimates how many bytes of memory a graft takes, its place in the index too.
 fn weight(graft: &Graft) -> usize {
     let token = match &graft.subtree {
         None => 0,
@@ -44,8 +44,8 @@ fn weight(graft: &Graft) -> usize {
         .saturating_add(token)
 }
 
-/// How many bytes grafts take that took so many before one more. An `Err` is that they are too many; no clause says
-/// when.
+/// Counts how many bytes grafts take that took so many before one more. An `Err` is that they are too many; no clause
+/// says when.
 pub(crate) fn taken_with(taken: usize, graft: &Graft) -> Result<usize, AllocError> {
     let taken = taken.saturating_add(weight(graft));
     if taken > REPORT_LIMIT {

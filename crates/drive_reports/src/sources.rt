@@ -13,14 +13,14 @@ use byte_string::ByteString;
 use std::alloc::{AllocError, Global};
 use svnpath::Path;
 
-/// A path of a report as a path of the repository: beneath the anchor.
+/// Gives a path of a report as a path of the repository: beneath the anchor.
 fn anchored(alloc: Global, anchor: &Path, path: &Path) -> Result<Path, AllocError>
     ensures { IfOk result (λ p. p ≡ anchor.now ++ path.now) }
 {
     path.rebased(alloc, &Path::root(alloc), anchor)
 }
 
-/// The path that a text names beneath the target, from the anchor on.
+/// Finds the path that a text names beneath the target, from the anchor on.
 pub(crate) fn report_path(
     alloc: Global,
     ask: &DriveAsk,
@@ -34,7 +34,7 @@ pub(crate) fn report_path(
     Ok(path.rebased(alloc, &ask.anchor, &Path::root(alloc))?)
 }
 
-/// The path above; of the root the root.
+/// Gives the path above; of the root the root.
 pub(crate) fn above(alloc: Global, path: &Path) -> Result<Path, AllocError>
     ensures { IfOk result (λ p. p ≡ path_above path.now) }
 {
@@ -44,7 +44,7 @@ pub(crate) fn above(alloc: Global, path: &Path) -> Result<Path, AllocError>
     }
 }
 
-/// What a path stands for: by the last graft at or above it, or else by the anchor.
+/// Says what a path stands for: by the last graft at or above it, or else by the anchor.
 fn origin(alloc: Global, anchor: &Path, grafts: &Grafts, path: &Path) -> Result<Path, AllocError>
     ensures { IfOk result (λ p. p ≡ origin anchor.now grafts.now path.now) }
 {
@@ -58,7 +58,7 @@ fn origin(alloc: Global, anchor: &Path, grafts: &Grafts, path: &Path) -> Result<
     }
 }
 
-/// What a path that is set stands for from then on.
+/// Says what a path that is set stands for from then on.
 pub(crate) fn own_source(
     alloc: Global,
     ask: &DriveAsk,

@@ -4,12 +4,13 @@ ghost use Rattle.svnpath.specs.Paths.{PathValue};
 ghost use Rattle.repo_api.specs.Trees.{Tree, IsTree};
 ghost use Rattle.drive_rules.specs.Scopes.{HoldsTogether, DepthLimit, scope_of, within};
 
-/// What stands in a tree stands in a directory of it.
+/// Shows that what exists in a tree exists in a directory of it.
 pub fn trees_hold_together()
     ensures { (t : Tree) → IsTree t → HoldsTogether [] t }
 {}
 
-/// So does what is in scope of it, from the drive's top on.
+/// Shows that what is in scope of a tree exists in a directory that is in scope of it, from the drive's top on, if the
+/// tree holds together so.
 pub fn scopes_hold_together()
     ensures { (limit : DepthLimit) (old new t : Tree) (top : PathValue) → HoldsTogether top t
         → HoldsTogether top (within (scope_of limit old new top) t) }

@@ -22,7 +22,7 @@ use std::alloc::{AllocError, Global};
 use wire_edits::EditorCommand;
 use wire_replies::{Reply, ReplySink};
 
-/// The command that opens the root.
+/// Makes the command that opens the root.
 fn open_root(alloc: Global, root: ReportRoot) -> Result<EditorCommand, AllocError>
     ensures { IfOk result (λ command. command
         ≡ OpenRoot (Some root.revision) (token_of DirectoryKind 0)) }

@@ -7,7 +7,7 @@ use byte_string::ByteString;
 use std::alloc::{AllocError, Global};
 use svnpath::Path;
 
-/// A letter and a number.
+/// Makes the text of a letter and a number.
 fn numbered(alloc: Global, letter: u8, count: u64) -> Result<ByteString, AllocError>
     ensures { IfOk result (λ token. token ≡ letter ∷ count_text count) }
 {
@@ -17,7 +17,7 @@ fn numbered(alloc: Global, letter: u8, count: u64) -> Result<ByteString, AllocEr
     Ok(ByteString::new(token))
 }
 
-/// The token of an entry that is opened or added while so many are open.
+/// Makes the token of an entry that is opened or added while so many are open.
 pub(crate) fn token(alloc: Global, is_directory: bool, count: u64) -> Result<ByteString, AllocError>
     ensures { IfOk result (λ token. token ≡ token_of (kind_if is_directory) count) }
 {
@@ -28,7 +28,7 @@ pub(crate) fn token(alloc: Global, is_directory: bool, count: u64) -> Result<Byt
     }
 }
 
-/// The text of a path from the root of a drive on.
+/// Makes the text of a path from the root of a drive on.
 pub(crate) fn relative_text(alloc: Global, path: &Path) -> Result<ByteString, AllocError>
     ensures { IfOk result (λ text. text ≡ relative_text path.now) }
 {

@@ -18,7 +18,7 @@ use std::alloc::{AllocError, Global};
 use wire_edits::{EditorCommand, PropertyChange};
 use wire_replies::ReplySink;
 
-/// A property of what is open under a token has a value now, or is taken out.
+/// Makes the command that a property of what is open under a token has a value now, or is taken out.
 fn property_command(
     is_directory: bool,
     token: &ByteString,
@@ -138,7 +138,7 @@ pub(crate) struct Entrance {
     pub is_directory: bool,
 }
 
-/// The news, or none.
+/// Gives the news, or none.
 pub(crate) fn or_no_news(alloc: Global, found: Option<News>) -> News
     ensures { result ≡ or_no_news found }
 {

@@ -20,7 +20,7 @@ use wire_replies::ReplySink;
 /// The longest part of a text that a window brings, in bytes.
 const WINDOW: usize = 65_536;
 
-/// The next bytes of a delta.
+/// Makes the command with the next bytes of a delta.
 fn chunk(token: &ByteString, bytes: Vec<u8>) -> Result<EditorCommand, AllocError>
     ensures { IfOk result (λ command. command ≡ TextDeltaChunk token.now bytes.items) }
 {
@@ -28,7 +28,7 @@ fn chunk(token: &ByteString, bytes: Vec<u8>) -> Result<EditorCommand, AllocError
     Ok(EditorCommand::TextDeltaChunk(token.clone()?, bytes))
 }
 
-/// The window of a part of a text.
+/// Makes the command with the window of a part of a text.
 fn window(alloc: Global, token: &ByteString, part: &[u8]) -> Result<EditorCommand, AllocError>
     requires { length part.now < 2 ^ 21 }
     ensures { IfOk result (λ command. command ≡ TextDeltaChunk token.now (full_window part.now)) }
@@ -38,21 +38,21 @@ fn window(alloc: Global, token: &ByteString, part: &[u8]) -> Result<EditorComman
     chunk(token, bytes)
 }
 
-/// The beginning of a delta.
+/// Makes the command that begins a delta.
 fn beginning(token: &ByteString) -> Result<EditorCommand, AllocError>
     ensures { IfOk result (λ command. command ≡ ApplyTextDelta token.now None) }
 {
     Ok(EditorCommand::ApplyTextDelta(token.clone()?, None))
 }
 
-/// The end of a delta.
+/// Makes the command that ends a delta.
 fn end(token: &ByteString) -> Result<EditorCommand, AllocError>
     ensures { IfOk result (λ command. command ≡ TextDeltaEnd token.now) }
 {
     Ok(EditorCommand::TextDeltaEnd(token.clone()?))
 }
 
-/// The header of a delta.
+/// Makes the command with the header of a delta.
 fn header(alloc: Global, token: &ByteString) -> Result<EditorCommand, AllocError>
     ensures { IfOk result (λ command. command ≡ TextDeltaChunk token.now header) }
 {
@@ -95,7 +95,7 @@ fn say_text<S: ReplySink>(
     say_made(end(token), out)
 }
 
-/// The digits with which a file is closed.
+/// Makes the digits with which a file is closed.
 fn checksum_sent(
     alloc: Global,
     purpose: Purpose,
@@ -112,7 +112,7 @@ fn checksum_sent(
     }
 }
 
-/// The MD5 of a text, as digits.
+/// Gives the MD5 of a text, as digits.
 fn digits_of(alloc: Global, text: &FileText) -> Result<ByteString, AllocError>
     ensures { IfOk result (λ digits. digits ≡ digits_of text.now) }
 {
@@ -120,7 +120,7 @@ fn digits_of(alloc: Global, text: &FileText) -> Result<ByteString, AllocError>
     Ok(ByteString::new(digits.into_bytes()))
 }
 
-/// The close of a file.
+/// Makes the command that closes a file.
 fn close(
     alloc: Global,
     purpose: Purpose,

@@ -26,7 +26,7 @@ use svnpath::Path;
 use wire_edits::{AddedEntry, DeletedEntry, EditorCommand, OpenedEntry};
 use wire_replies::ReplySink;
 
-/// The command that opens an entry.
+/// Makes the command that opens an entry.
 fn open_command<R: Repository>(
     alloc: Global,
     trees: &TwoTrees<R>,
@@ -52,7 +52,7 @@ fn open_command<R: Repository>(
     }
 }
 
-/// The command that adds an entry.
+/// Makes the command that adds an entry.
 fn add_command(alloc: Global, path: &Path, entrance: Entrance) -> Result<EditorCommand, AllocError>
     requires { entrance.around + 1 < 2 ^ 64 }
     ensures { IfOk result (λ command. command ≡ add_command (kind_if entrance.is_directory)
@@ -71,7 +71,7 @@ fn add_command(alloc: Global, path: &Path, entrance: Entrance) -> Result<EditorC
     }
 }
 
-/// The command that deletes an entry.
+/// Makes the command that deletes an entry.
 fn delete_command(alloc: Global, path: &Path, around: u64) -> Result<EditorCommand, AllocError>
     ensures { IfOk result (λ command. command ≡ DeleteEntry (deleted_entry around path.now)) }
 {
@@ -82,7 +82,7 @@ fn delete_command(alloc: Global, path: &Path, around: u64) -> Result<EditorComma
     }))
 }
 
-/// The command that closes a directory.
+/// Makes the command that closes a directory.
 fn close_command(alloc: Global, around: u64) -> Result<EditorCommand, AllocError>
     ensures { IfOk result (λ command. command
         ≡ CloseDirectory (token_of DirectoryKind around)) }
@@ -90,7 +90,7 @@ fn close_command(alloc: Global, around: u64) -> Result<EditorCommand, AllocError
     Ok(EditorCommand::CloseDirectory(token(alloc, true, around)?))
 }
 
-/// What is told of an entry.
+/// Finds what is sent about an entry.
 fn news_told<R: Repository>(
     alloc: Global,
     trees: &TwoTrees<R>,
@@ -104,7 +104,7 @@ fn news_told<R: Repository>(
     Ok(or_no_news(alloc, found))
 }
 
-/// What is told of the root.
+/// Finds what is sent about the root.
 pub(crate) fn root_news<R: Repository>(
     alloc: Global,
     trees: &TwoTrees<R>,
@@ -203,7 +203,7 @@ fn say_visit<R: Repository, S: ReplySink>(
     }
 }
 
-/// Whether a directory stands there.
+/// Says whether there is a directory.
 fn is_directory(kind: NodeKind) -> bool
     ensures { (e : Option Entry) → kind ≡ kind_of e → entry_kind e ≡ kind_if result }
 {
@@ -214,7 +214,7 @@ fn is_directory(kind: NodeKind) -> bool
     }
 }
 
-/// Whether a visit opens or adds a directory.
+/// Says whether a visit opens or adds a directory.
 fn enters_directory<R: Repository>(
     alloc: Global,
     trees: &TwoTrees<R>,
@@ -231,7 +231,7 @@ fn enters_directory<R: Repository>(
     }
 }
 
-/// How many directories are open around the innermost one after a visit.
+/// Says how many directories are open around the innermost one after a visit.
 fn around_after(visit: &Visit, entrance: Entrance) -> u64
     requires { entrance.around + 1 < 2 ^ 64 }
     ensures after { (new : Tree) → visited_kind new visit.now ≡ kind_if entrance.is_directory

@@ -8,7 +8,7 @@ use drive_rules::Depth;
 use repo_api::Repository;
 use svnpath::Path;
 
-/// Whether a client has all that stands at a place and beneath it.
+/// Says whether a client has all that exists at a place and beneath it.
 fn is_whole(place: &ReportedPlace<'_>) -> bool
     ensures { result ≡ true → (place.now.starts_empty ≡ false) × (place.now.depth ≡ Infinity) }
 {
@@ -23,7 +23,7 @@ fn is_whole(place: &ReportedPlace<'_>) -> bool
     }
 }
 
-/// Whether a client has all of what is, as the repository can tell, the same as at a path of a
+/// Says whether a client has all of what is, as the repository can tell, the same as at a path of a
 /// revision and beneath it.
 pub(crate) fn has_same<R: Repository>(
     view: &R,

@@ -11,7 +11,7 @@ use std::alloc::{AllocError, Global};
 use std::collections::BTreeSet;
 use svnpath::Path;
 
-/// The names of a directory of a revision, put among others.
+/// Puts the names of a directory of a revision among others.
 pub(crate) fn put_names<R: Repository>(
     view: &R,
     revision: u64,
@@ -29,7 +29,7 @@ pub(crate) fn put_names<R: Repository>(
     Ok(())
 }
 
-/// The name of a path that stands straight beneath another, if it does.
+/// Gives the name of a path that is straight beneath another, if it is.
 fn name_in<'a>(above: &Path, path: &'a Path) -> Option<&'a ByteString>
     ensures { option_copied result ≡ name_in above.now path.now }
 {
@@ -42,7 +42,7 @@ fn name_in<'a>(above: &Path, path: &'a Path) -> Option<&'a ByteString>
     }
 }
 
-/// The names of the grafts that stand straight beneath a path, put among others.
+/// Puts the names of the grafts that are straight beneath a path among others.
 pub(crate) fn put_graft_names(
     grafts: &[Graft],
     path: &Path,
@@ -60,7 +60,7 @@ pub(crate) fn put_graft_names(
     Ok(())
 }
 
-/// The paths of these names beneath a path.
+/// Makes the paths of these names beneath a path.
 pub(crate) fn children_of(
     alloc: Global,
     path: &Path,

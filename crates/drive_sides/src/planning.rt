@@ -11,7 +11,7 @@ use repo_api::Repository;
 use reporter::Visitor;
 use std::alloc::{AllocError, Global};
 
-/// The visits of the drive that a report has come to, made as they are asked for.
+/// Gives the visits of the drive that a report has come to, made as they are asked for.
 pub fn visitor<R: Repository>(alloc: Global, trees: &TwoTrees<R>) -> Result<Visitor, AllocError>
     requires trees { AreTrees (R.content trees.now.view.now).revisions }
     requires finished { finish_root (R.content trees.now.view.now) trees.now.report.now

@@ -18,7 +18,7 @@ use repo_api::{NodeKind, Repository};
 use std::alloc::{AllocError, Global};
 use svnpath::Path;
 
-/// Whether a directory of this depth brings in a child, by what it was and what it is to be.
+/// Says whether a directory of this depth brings in a child, by what it was and what it is to be.
 fn brings_in(depth: Depth, old: NodeKind, new: NodeKind) -> bool
     ensures { (e f : Option Entry) → old ≡ kind_of e → new ≡ kind_of f
         → result ≡ brings_in depth e f }
@@ -30,7 +30,7 @@ fn brings_in(depth: Depth, old: NodeKind, new: NodeKind) -> bool
     }
 }
 
-/// The depth that was said of a directory, or else what its parent's depth leaves it.
+/// Gives the depth that was said of a directory, or else what its parent's depth leaves it.
 fn said_or(said: Option<Depth>, above: Depth) -> Depth
     ensures { result ≡ said_or said above }
 {
@@ -45,7 +45,7 @@ fn said_or(said: Option<Depth>, above: Depth) -> Depth
     }
 }
 
-/// Whether everything is asked for.
+/// Says whether everything is asked for.
 fn asks_for_all(depth: DepthAsked) -> bool
     ensures { result ≡ true → depth ≡ Given Infinity }
 {
@@ -60,7 +60,7 @@ fn asks_for_all(depth: DepthAsked) -> bool
     }
 }
 
-/// Whether as much is asked for as was reported.
+/// Says whether as much is asked for as was reported.
 fn asks_as_reported(depth: DepthAsked) -> bool
     ensures { result ≡ true → depth ≡ AsReported }
 {
@@ -71,7 +71,7 @@ fn asks_as_reported(depth: DepthAsked) -> bool
 }
 
 impl<'a, R: Repository> TwoTrees<'a, R> {
-    /// The depth that was reported of a directory.
+    /// Finds the depth that was reported of a directory.
     fn reported_depth(&self, alloc: Global, path: &Path) -> Result<Option<Depth>, AllocError>
         ensures { IfOk result (λ depth. depth ≡ reported_depth (client_tree
             (R.content self.now.view.now) (whole self.now.report.now self.now.root)) path.now) }
@@ -88,7 +88,7 @@ impl<'a, R: Repository> TwoTrees<'a, R> {
         }
     }
 
-    /// The depth that was said of a directory.
+    /// Finds the depth that was said of a directory.
     fn said_by(&self, alloc: Global, path: &Path) -> Result<Option<Depth>, AllocError>
         ensures { IfOk result (λ depth. depth ≡ depth_said (limit_of (client_tree
             (R.content self.now.view.now) (whole self.now.report.now self.now.root)) self.now.root
@@ -100,7 +100,7 @@ impl<'a, R: Repository> TwoTrees<'a, R> {
         }
     }
 
-    /// The depth of the top.
+    /// Finds the depth of the top.
     fn top_limit(&self, alloc: Global) -> Result<Depth, AllocError>
         ensures { IfOk result (λ depth. depth ≡ top_limit (limit_of (client_tree
             (R.content self.now.view.now) (whole self.now.report.now self.now.root)) self.now.root
@@ -117,7 +117,7 @@ impl<'a, R: Repository> TwoTrees<'a, R> {
         }
     }
 
-    /// Whether a drive as deep as was reported is of a path because the client has it.
+    /// Says whether a drive as deep as was reported is of a path because the client has it.
     fn keeps_old(&self, old: NodeKind) -> bool
         ensures { (e : Option Entry) → old ≡ kind_of e → result ≡ keeps_old (limit_of (client_tree
             (R.content self.now.view.now) (whole self.now.report.now self.now.root)) self.now.root
@@ -129,7 +129,7 @@ impl<'a, R: Repository> TwoTrees<'a, R> {
         }
     }
 
-    /// Whether a directory of this depth lets its child of this path into the scope.
+    /// Says whether a directory of this depth lets its child of this path into the scope.
     fn lets_in(&self, alloc: Global, depth: Depth, child: &Path) -> Result<bool, AllocError>
         ensures { IfOk result (λ answer. answer ≡ lets_in (limit_of (client_tree
             (R.content self.now.view.now) (whole self.now.report.now self.now.root)) self.now.root
@@ -142,7 +142,7 @@ impl<'a, R: Repository> TwoTrees<'a, R> {
         Ok(brings_in(depth, old, new) || self.keeps_old(old))
     }
 
-    /// Whether the names from the target down to a path stay in scope.
+    /// Says whether the names from the target down to a path stay in scope.
     fn is_reached(&self, alloc: Global, path: &Path) -> Result<bool, AllocError>
         requires { is_at_or_under path.now self.now.report.now.ask.target ≡ true }
         ensures { IfOk result (λ answer. answer ≡ drive_scope (R.content self.now.view.now)
@@ -161,7 +161,7 @@ impl<'a, R: Repository> TwoTrees<'a, R> {
         Ok(true)
     }
 
-    /// Whether as much is asked for as was reported, and everything was reported.
+    /// Says whether as much is asked for as was reported, and everything was reported.
     fn follows_whole_report(&self) -> bool
         ensures { result ≡ true → FollowsWholeReport (whole self.now.report.now self.now.root) }
     {
@@ -170,7 +170,7 @@ impl<'a, R: Repository> TwoTrees<'a, R> {
             && !self.report.grafts.has_shallow()
     }
 
-    /// Whether a drive is of a path.
+    /// Says whether a drive is of a path.
     pub(crate) fn is_in_scope(&self, alloc: Global, path: &Path) -> Result<bool, AllocError>
         ensures { IfOk result (λ answer. answer ≡ drive_scope (R.content self.now.view.now)
             (whole self.now.report.now self.now.root) path.now) }

@@ -20,7 +20,7 @@ impl<'a, R: Repository> TwoTrees<'a, R> {
     ghost use Rattle.drive_news.specs.Places.{Compares};
     ghost use Rattle.drive_sides.specs.Plans.{whole};
 
-    /// The names of what is to stand straight beneath a path.
+    /// Finds the names of what is to exist straight beneath a path.
     fn target_names(&self, alloc: Global, path: &Path) -> Result<BTreeSet<ByteString>, AllocError>
         ensures { IfOk result (λ names. (c : Component)
             → is_at_or_under path.now self.now.report.now.ask.target ≡ true
@@ -37,8 +37,8 @@ impl<'a, R: Repository> TwoTrees<'a, R> {
         Ok(names)
     }
 
-    /// The names of what the client has straight beneath a path, but for those of grafts there, put
-    /// among others.
+    /// Puts the names of what the client has straight beneath a path, but for those of grafts
+    /// there, among others.
     fn put_client_names(
         &self,
         alloc: Global,
@@ -61,7 +61,7 @@ impl<'a, R: Repository> TwoTrees<'a, R> {
         }
     }
 
-    /// Whether an entry of the drive differs on both sides.
+    /// Says whether an entry of the drive differs on both sides.
     fn differs(&self, alloc: Global, path: &Path) -> Result<bool, AllocError>
         requires { drive_scope (R.content self.now.view.now)
             (whole self.now.report.now self.now.root) path.now ≡ true }

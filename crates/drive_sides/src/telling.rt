@@ -14,7 +14,7 @@ use std::alloc::{AllocError, Global};
 use svnpath::Path;
 
 impl<'a, R: Repository> TwoTrees<'a, R> {
-    /// The kind of what the client has, of the paths of the drive.
+    /// Finds the kind of what the client has, of the paths of the drive.
     pub(crate) fn old_kind(&self, alloc: Global, path: &Path) -> Result<NodeKind, AllocError>
         ensures { IfOk result (λ kind. kind ≡ kind_of (old_tree (R.content self.now.view.now)
             (whole self.now.report.now self.now.root) path.now)) }
@@ -25,7 +25,7 @@ impl<'a, R: Repository> TwoTrees<'a, R> {
         self.client_kind(alloc, path)
     }
 
-    /// The kind of what the client is to have, of the paths of the drive.
+    /// Finds the kind of what the client is to have, of the paths of the drive.
     pub fn new_kind(&self, alloc: Global, path: &Path) -> Result<NodeKind, AllocError>
         ensures { IfOk result (λ kind. kind ≡ kind_of (new_tree (R.content self.now.view.now)
             (whole self.now.report.now self.now.root) path.now)) }
@@ -36,7 +36,7 @@ impl<'a, R: Repository> TwoTrees<'a, R> {
         self.target_kind(alloc, path)
     }
 
-    /// Whether the client's token of a path is stale.
+    /// Says whether the client's token of a path is stale.
     pub(crate) fn is_stale(&self, alloc: Global, path: &Path) -> Result<bool, AllocError>
         ensures { IfOk result (λ answer. answer ≡ is_stale (R.content self.now.view.now)
             (whole self.now.report.now self.now.root) path.now) }
@@ -57,7 +57,7 @@ impl<'a, R: Repository> TwoTrees<'a, R> {
         }
     }
 
-    /// Whether the client's token of a path of the drive is stale.
+    /// Says whether the client's token of a path of the drive is stale.
     pub(crate) fn is_stale_in(&self, alloc: Global, path: &Path) -> Result<bool, AllocError>
         ensures { IfOk result (λ answer. answer ≡ stale_in (R.content self.now.view.now)
             (whole self.now.report.now self.now.root) path.now) }
@@ -68,7 +68,7 @@ impl<'a, R: Repository> TwoTrees<'a, R> {
         self.is_stale(alloc, path)
     }
 
-    /// The revision that the client reports of what it has at a path.
+    /// Finds the revision that the client reports of what it has at a path.
     pub fn reported_revision(&self, alloc: Global, path: &Path) -> Result<Option<u64>, AllocError>
         ensures { IfOk result (λ found. found ≡ option_map (λ h. h.revision) (client_tree
             (R.content self.now.view.now) (whole self.now.report.now self.now.root) path.now)) }
@@ -79,7 +79,7 @@ impl<'a, R: Repository> TwoTrees<'a, R> {
         }
     }
 
-    /// What an entry of the drive is told of itself, beside what is had of it, if any is.
+    /// Gives what an entry of the drive is told of itself, beside what is had of it, if any is.
     fn news_beside(
         &self,
         alloc: Global,
@@ -109,7 +109,7 @@ impl<'a, R: Repository> TwoTrees<'a, R> {
         news_of(alloc, self.view, sight)
     }
 
-    /// What an entry is told of itself, opened or anew.
+    /// Gives what an entry is told of itself, opened or anew.
     pub fn news(
         &self,
         alloc: Global,

@@ -18,7 +18,7 @@ pub struct TwoTrees<'a, R: Repository> {
 }
 
 impl<'a, R: Repository> TwoTrees<'a, R> {
-    /// The two trees of the drive of a report, over a repository each of whose trees is a tree.
+    /// Makes the two trees of the drive of a report, over a repository each of whose trees is a tree.
     pub fn new(view: &'a R, report: &'a OpenReport<Grafts>, root: ReportRoot) -> Self
         requires { AreTrees (R.content view.now).revisions }
         ensures view { result.view.now ≡ view.now }

@@ -15,7 +15,7 @@ use repo_api::{NodeKind, Repository};
 use std::alloc::{AllocError, Global};
 use svnpath::Path;
 
-/// What a client has at a place.
+/// Gives what a client has at a place.
 pub(crate) fn had_at<'a>(place: &'a ReportedPlace<'_>) -> Had<'a>
     ensures revision { result.place.revision ≡ place.now.revision }
     ensures path { result.place.path.now ≡ place.now.path }
@@ -31,7 +31,7 @@ pub(crate) fn had_at<'a>(place: &'a ReportedPlace<'_>) -> Had<'a>
 }
 
 impl<'a, R: Repository> TwoTrees<'a, R> {
-    /// Where what the client has at a path comes from, if it has something.
+    /// Finds where what the client has at a path comes from, if it has something.
     pub(crate) fn client_place(
         &self,
         alloc: Global,
@@ -61,7 +61,7 @@ impl<'a, R: Repository> TwoTrees<'a, R> {
         )
     }
 
-    /// The kind of what the client has at a path.
+    /// Finds the kind of what the client has at a path.
     pub(crate) fn client_kind(&self, alloc: Global, path: &Path) -> Result<NodeKind, AllocError>
         ensures { IfOk result (λ kind. kind ≡ kind_of (reported_entries (client_tree
             (R.content self.now.view.now) (whole self.now.report.now self.now.root)) path.now)) }
@@ -72,7 +72,7 @@ impl<'a, R: Repository> TwoTrees<'a, R> {
         }
     }
 
-    /// The path of the repository that a path at or under the target is to stand for.
+    /// Makes the path of the repository that a path at or under the target is to stand for.
     pub(crate) fn goal_path(&self, alloc: Global, path: &Path) -> Result<Path, AllocError>
         requires { is_at_or_under path.now self.now.report.now.ask.target ≡ true }
         ensures { IfOk result (λ goal. goal ≡ goal_path self.now.report.now.ask path.now) }
@@ -81,7 +81,7 @@ impl<'a, R: Repository> TwoTrees<'a, R> {
         path.rebased(alloc, ask.target.as_path(), &ask.goal)
     }
 
-    /// The kind of what is to stand at a path.
+    /// Finds the kind of what is to exist at a path.
     pub(crate) fn target_kind(&self, alloc: Global, path: &Path) -> Result<NodeKind, AllocError>
         ensures { IfOk result (λ kind. kind ≡ kind_of (target_tree
             (R.content self.now.view.now) self.now.report.now.ask path.now)) }

@@ -6,7 +6,7 @@ ghost use Rattle.drive_rules.specs.Steps.{Step};
 ghost use Rattle.drive_reports.specs.declared.ask.Purpose.{Purpose};
 ghost use Rattle.drive_wire.specs.Saying.{OpenEntry, Says};
 
-/// Commands one after the other say their steps one after the other.
+/// Shows that commands one after the other say their steps one after the other.
 pub fn drives_join()
     ensures { (purpose : Purpose) (top : PathValue) (base : PathValue → List ℕ)
         (open_first open_between open_last : List OpenEntry) (xs ys : List EditorCommand)

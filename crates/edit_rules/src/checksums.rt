@@ -12,7 +12,7 @@ use refusals::Refusal;
 use repo_api::FileText;
 use std::alloc::{AllocError, Global};
 
-/// The text has to have this checksum, if one is named. The digest that the text keeps is compared.
+/// Checks that the text has this checksum, if one is named. The digest that the text keeps is compared.
 pub fn judge_checksum(
     alloc: Global,
     checksum: &Option<ByteString>,
@@ -32,7 +32,7 @@ pub fn judge_checksum(
     }
 }
 
-/// Whether these are the digits of the digest.
+/// Says whether these are the digits of the digest.
 fn is_checksum(alloc: Global, digits: &[u8], digest: [u8; 16]) -> Result<bool, AllocError>
     ensures { IfOk result (λ same. same ≡ is_name digits.now (encode_lower digest)) }
 {

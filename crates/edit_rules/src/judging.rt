@@ -13,7 +13,7 @@ use repo_api::{NodeKind, Source, is_older, is_property_name};
 use std::alloc::Global;
 use svnpath::{Path, PathFault};
 
-/// What does not hold is refused so.
+/// Refuses what does not hold, with this refusal.
 pub fn judge(holds: bool, refusal: Refusal) -> Result<(), EditFault>
     ensures { Judges result (unless holds refusal) }
 {
@@ -24,7 +24,7 @@ pub fn judge(holds: bool, refusal: Refusal) -> Result<(), EditFault>
     }
 }
 
-/// A directory has to stand there.
+/// Checks that a directory exists there.
 pub fn judge_directory(kind: NodeKind) -> Result<(), EditFault>
     ensures { Judges result (directory_refusal kind) }
 {
@@ -35,7 +35,7 @@ pub fn judge_directory(kind: NodeKind) -> Result<(), EditFault>
     }
 }
 
-/// Nothing may stand there.
+/// Checks that nothing exists there.
 pub fn judge_absence(kind: NodeKind) -> Result<(), EditFault>
     ensures { Judges result (add_refusal kind) }
 {
@@ -46,14 +46,14 @@ pub fn judge_absence(kind: NodeKind) -> Result<(), EditFault>
     }
 }
 
-/// The entry may not have changed since the revision that the client has.
+/// Checks that the entry has not changed since the revision that the client has.
 pub fn judge_age(revision: Option<u64>, made: Option<u64>) -> Result<(), EditFault>
     ensures { Judges result (age_refusal revision made) }
 {
     judge(!is_older(revision, made), Refusal::OutOfDate)
 }
 
-/// A file has to stand there, unchanged since the revision that the client has.
+/// Checks that a file exists there, unchanged since the revision that the client has.
 pub fn judge_file(kind: NodeKind, revision: Option<u64>, made: Option<u64>) -> Result<(), EditFault>
     ensures { Judges result (file_refusal kind (age_refusal revision made)) }
 {
@@ -67,7 +67,7 @@ pub fn judge_file(kind: NodeKind, revision: Option<u64>, made: Option<u64>) -> R
     }
 }
 
-/// Something has to stand there, unchanged since the revision that the client has.
+/// Checks that something exists there, unchanged since the revision that the client has.
 pub fn judge_presence(
     kind: NodeKind,
     revision: Option<u64>,
@@ -82,35 +82,35 @@ pub fn judge_presence(
     }
 }
 
-/// A property may have to have another name.
+/// Checks that a property does not have to have another name.
 pub fn judge_name(name: &[u8]) -> Result<(), EditFault>
     ensures { Judges result (name_refusal name.now) }
 {
     judge(may_be_named(name), Refusal::NotSupported)
 }
 
-/// Whether a commit may change a property of this name.
+/// Says whether a commit may change a property of this name.
 fn may_be_named(name: &[u8]) -> bool
     ensures { result ≡ may_be_named name.now }
 {
     is_property_name(name) && !is_reserved(name)
 }
 
-/// Whether the name belongs to clients or to this protocol.
+/// Says whether the name belongs to clients or to this protocol.
 fn is_reserved(name: &[u8]) -> bool
     ensures { result ≡ is_reserved name.now }
 {
     name.starts_with(b"svn:entry:".as_slice()) || name.starts_with(b"svn:wc:".as_slice())
 }
 
-/// A copy goes where nothing stands, and within a copy over what stands there.
+/// Checks that a copy goes where nothing exists; within a copy it may go over what exists there.
 pub fn judge_room(in_copy: bool, kind: NodeKind) -> Result<(), EditFault>
     ensures { Judges result (room_refusal in_copy kind) }
 {
     judge(in_copy || is_absent(kind), Refusal::OutOfDate)
 }
 
-/// Whether nothing stands there.
+/// Says whether nothing exists there.
 fn is_absent(kind: NodeKind) -> bool
     ensures { result ≡ is_absent kind }
 {
@@ -121,7 +121,7 @@ fn is_absent(kind: NodeKind) -> bool
     }
 }
 
-/// What is copied has to be there, and of the kind that is added.
+/// Checks that what is copied exists, and is of the kind that is added.
 pub fn judge_source_kind(is_file: bool, kind: NodeKind) -> Result<(), EditFault>
     ensures { Judges result (source_kind_refusal is_file kind) }
 {
@@ -132,7 +132,7 @@ pub fn judge_source_kind(is_file: bool, kind: NodeKind) -> Result<(), EditFault>
     }
 }
 
-/// The source of a copy that a command names, if it names one: by a path, or by a URL of the repository of this
+/// Reads the source of a copy that a command names, if it names one: by a path, or by a URL of the repository of this
 /// name.
 pub fn source_named(
     alloc: Global,
@@ -153,7 +153,7 @@ pub fn source_named(
     }
 }
 
-/// The path of a copy's source.
+/// Reads the path of a copy's source.
 fn source_path(alloc: Global, name: &str, text: &[u8]) -> Result<Path, PathFault>
     ensures { AnswersPath result (source_path name.now text.now) }
 {
@@ -164,14 +164,14 @@ fn source_path(alloc: Global, name: &str, text: &[u8]) -> Result<Path, PathFault
     }
 }
 
-/// The path that a command names.
+/// Gives the path that a command names.
 pub fn path_named(alloc: Global, root: &Path, text: &ByteString) -> Result<Path, EditFault>
     ensures { Names result (joined root.now text.now) }
 {
     Ok(root.join(alloc, text.as_slice())?)
 }
 
-/// Whether the path is one name beneath the directory, if there is one.
+/// Says whether the path is one name beneath the directory, if there is one.
 pub fn is_within(directory: Option<&Path>, path: &Path) -> bool
     ensures { result ≡ is_within (option_copied directory.entry) path.now }
 {

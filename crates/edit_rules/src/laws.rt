@@ -18,7 +18,7 @@ ghost use Rattle.edit_rules.specs.Texts.{SetsText};
 ghost use Rattle.edit_rules.specs.Tokens.{path_of};
 ghost use Rattle.edit_rules.specs.declared.opened.Opened.{Opened};
 
-/// An edit that has heard nothing is sound, and so is an edit after each command that is not refused, where
+/// Shows that an edit that has heard nothing is sound, and so is an edit after each command that is not refused, where
 /// every tree of the repository is a tree.
 pub fn edits_keep_trees()
     ensures begins { (path : PathValue) (name : List ℕ) → IsSoundEdit (new_edit path name) }
@@ -33,8 +33,8 @@ pub fn edits_keep_trees()
     repo_laws::transactions_stay_marked();
 }
 
-/// What the commands of a sound edit make of its transaction may be made of it, where the command is not refused,
-/// or of what is open under its token.
+/// Shows that what the commands of a sound edit make of its transaction may be made of it, where the command is not
+/// refused, or of what is open under its token.
 pub fn edits_are_right()
     ensures deletes { (c : RepoState) (e : EditState) (entry : DeletedEntry) (p : PathValue) → IsSoundEdit e
         → delete_entry_refusal e entry (Ok p) ≡ None → IsRightIn c e.txn (Delete p) }

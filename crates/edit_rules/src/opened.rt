@@ -35,7 +35,7 @@ pub enum Opened {
 }
 
 impl DeltaState {
-    /// Whether the document has not ended.
+    /// Says whether the document has not ended.
     pub fn is_reading(&self) -> bool
         ensures { result ≡ is_reading_delta self.now }
     {
@@ -44,7 +44,7 @@ impl DeltaState {
 }
 
 impl Opened {
-    /// Where it is.
+    /// Says where it is.
     pub fn path(&self) -> &Path
         ensures { result.now ≡ path_of self.now }
     {
@@ -54,7 +54,7 @@ impl Opened {
         }
     }
 
-    /// Where it is, if it is a directory.
+    /// Says where it is, if it is a directory.
     pub fn directory(&self) -> Option<&Path>
         ensures { option_copied result ≡ directory_path self.now }
     {
@@ -64,7 +64,7 @@ impl Opened {
         }
     }
 
-    /// Whether it is a directory that was added with a copy, or opened beneath such a one.
+    /// Says whether it is a directory that was added with a copy, or opened beneath such a one.
     pub fn is_in_copy(&self) -> bool
         ensures { result ≡ is_in_copy self.now }
     {
@@ -74,7 +74,7 @@ impl Opened {
         }
     }
 
-    /// Whether it is a file whose text delta has not ended.
+    /// Says whether it is a file whose text delta has not ended.
     pub fn is_unfinished(&self) -> bool
         ensures { result ≡ is_unfinished self.now }
     {

@@ -18,8 +18,8 @@ use repo_api::{EditOp, FileText};
 use std::collections::BTreeMap;
 use svndiff0::DiffFault;
 
-/// The edit of a text by the delta of the file that is open under the token. The text is shared and not copied, and
-/// what is open stays as it is.
+/// Makes the edit of a text by the delta of the file that is open under the token. The text is shared and not copied,
+/// and what is open stays as it is.
 pub fn text_edit_under(
     tokens: &mut BTreeMap<ByteString, Opened>,
     token: &ByteString,
@@ -34,7 +34,7 @@ pub fn text_edit_under(
     }
 }
 
-/// The edit of a text by a file's text delta.
+/// Makes the edit of a text by a file's text delta.
 fn text_edit(opened: &mut Opened) -> Result<EditOp, EditFault>
     ensures judged { Judges result (end_delta_refusal (Some opened.old)) }
     ensures op { IfOk result (λ op. SetsText (Some opened.old) op) }
@@ -50,7 +50,7 @@ fn text_edit(opened: &mut Opened) -> Result<EditOp, EditFault>
     }
 }
 
-/// The text that a delta makes.
+/// Gives the text that a delta makes.
 fn shared_text(delta: &mut DeltaState) -> Result<FileText, EditFault>
     ensures judged { (p : PathValue) → Judges result (end_delta_refusal (Some (File p delta.old))) }
     ensures text { IfOk result (λ text. (a : Applying) × (delta.old ≡ Reading a)

@@ -16,7 +16,7 @@ use std::collections::BTreeMap;
 use svndiff0::DiffFault;
 use svnpath::Path;
 
-/// The directory that is open under the token.
+/// Gives the directory that is open under the token.
 pub fn directory_under<'a>(
     tokens: &'a BTreeMap<ByteString, Opened>,
     token: &ByteString,
@@ -26,7 +26,7 @@ pub fn directory_under<'a>(
     tokens.get(token)?.directory()
 }
 
-/// Whether the directory that is open under the token was added with a copy, or opened beneath such a one.
+/// Says whether the directory that is open under the token was added with a copy, or opened beneath such a one.
 pub fn copies_under(tokens: &BTreeMap<ByteString, Opened>, token: &ByteString) -> bool
     ensures { result ≡ copies_under tokens.now.entries token.now }
 {
@@ -36,7 +36,7 @@ pub fn copies_under(tokens: &BTreeMap<ByteString, Opened>, token: &ByteString) -
     }
 }
 
-/// Whether a text delta has not ended.
+/// Says whether a text delta has not ended.
 pub fn has_unfinished(tokens: &BTreeMap<ByteString, Opened>) -> bool
     ensures { result ≡ has_unfinished tokens.now.entries }
 {
@@ -61,7 +61,7 @@ pub fn close_others_beneath(
     tokens.retain(|key, opened| token == key || !opened.path().is_at_or_under(path));
 }
 
-/// Another delta of the file that is open under the token. It takes no memory.
+/// Sets another delta of the file that is open under the token. It takes no memory.
 pub fn set_delta(tokens: &mut BTreeMap<ByteString, Opened>, token: &ByteString, delta: DeltaState)
     ensures { (p : PathValue) (old : DeltaState)
         → opened_under tokens.old.entries token.now ≡ Some (File p old)
@@ -72,7 +72,7 @@ pub fn set_delta(tokens: &mut BTreeMap<ByteString, Opened>, token: &ByteString, 
     }
 }
 
-/// Another delta of a file.
+/// Sets another delta of a file.
 fn replace_delta(opened: &mut Opened, delta: DeltaState)
     ensures { (p : PathValue) (old : DeltaState) → opened.old ≡ File p old → opened.new ≡ File p delta }
 {

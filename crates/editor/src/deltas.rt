@@ -47,7 +47,7 @@ impl<R: Repository> CommitEditor<R> {
         Ok(())
     }
 
-    /// The text over which a delta may begin, which is not copied.
+    /// Gives the text over which a delta may begin, which is not copied.
     fn base_under(
         &self,
         token: &ByteString,
@@ -109,7 +109,7 @@ impl<R: Repository> CommitEditor<R> {
         Ok(())
     }
 
-    /// The edit of a text by the delta that is being read under the token. The text is not copied.
+    /// Makes the edit of a text by the delta that is being read under the token. The text is not copied.
     fn text_edit(&mut self, token: &ByteString) -> Result<EditOp, EditFault>
         ensures judged { Judges result (end_delta_refusal (open_under self.old token.now)) }
         ensures op { IfOk result (λ op. SetsText (open_under self.old token.now) op) }
@@ -176,7 +176,7 @@ impl<R: Repository> CommitEditor<R> {
         Ok(())
     }
 
-    /// The text of the file at a path has to have this checksum, if one is named.
+    /// Checks that the text of the file at a path has this checksum, if one is named.
     fn judge_text_at(
         &self,
         path: &Path,

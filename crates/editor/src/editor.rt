@@ -53,7 +53,7 @@ impl<R: Repository> Model for CommitEditor<R> {
 }
 
 impl<R: Repository> CommitEditor<R> {
-    /// An edit at this path of the repository of this name.
+    /// Makes an edit at this path of the repository of this name.
     pub fn new(alloc: Global, path: Path, name: String) -> Self
         ensures { result ≡ new_edit path (string_bytes name) }
     {
@@ -143,14 +143,14 @@ impl<R: Repository> CommitEditor<R> {
         }
     }
 
-    /// The root may not be open.
+    /// Checks that the root is not open.
     pub(crate) fn judge_no_root(&self) -> Result<(), EditFault>
         ensures { Judges result (before_root self.now) }
     {
         judge(self.txn.is_none(), Refusal::MalformedData)
     }
 
-    /// What stands at a path of the transaction, nothing where there is none.
+    /// Says what stands at a path of the transaction, nothing where there is none.
     pub(crate) fn standing(&self, path: &Path, repository: &R) -> NodeKind
         requires { RestsOn self.now (R.content repository.now) }
         ensures { result ≡ standing self.now.txn path.now }
@@ -161,7 +161,7 @@ impl<R: Repository> CommitEditor<R> {
         }
     }
 
-    /// The revision that last changed what stands at a path, unless the transaction has.
+    /// Gives the revision that last changed what stands at a path, unless the transaction has.
     pub(crate) fn created(&self, path: &Path, repository: &R) -> Option<u64>
         requires { RestsOn self.now (R.content repository.now) }
         ensures { result ≡ created self.now.txn path.now }
@@ -172,7 +172,7 @@ impl<R: Repository> CommitEditor<R> {
         }
     }
 
-    /// The text of the file at a path, which is not copied.
+    /// Gives the text of the file at a path, which is not copied.
     pub(crate) fn shared_text(
         &self,
         path: &Path,
@@ -191,7 +191,7 @@ impl<R: Repository> CommitEditor<R> {
         }
     }
 
-    /// The transaction that is to be committed.
+    /// Gives the transaction that is to be committed.
     pub fn finish(self) -> Result<R::Txn, Refusal>
         ensures { MatchResult result (λ txn. finished self ≡ Ok (R.txn_state txn))
             (λ r. finished self ≡ Err r) }

@@ -25,7 +25,7 @@ use std::alloc::AllocError;
 use svnpath::{DEPTH_LIMIT, Path};
 use wire_edits::{AbsentEntry, AddedEntry, DeletedEntry, OpenedEntry};
 
-/// A directory that is open.
+/// Makes a directory that is open.
 fn opened_directory(path: Path, revision: Option<u64>, in_copy: bool) -> Opened
     ensures { result ≡ Directory (opened_directory path revision in_copy) }
 {
@@ -36,7 +36,7 @@ fn opened_directory(path: Path, revision: Option<u64>, in_copy: bool) -> Opened
     })
 }
 
-/// What is open once it is added, new or a copy.
+/// Makes what is open once it is added, new or a copy.
 fn added_opened(is_file: bool, path: Path, in_copy: bool) -> Opened
     ensures { result ≡ (if is_file then File path NotBegun
         else Directory (opened_directory path None in_copy)) }
@@ -48,7 +48,7 @@ fn added_opened(is_file: bool, path: Path, in_copy: bool) -> Opened
     }
 }
 
-/// The edit that adds something new.
+/// Makes the edit that adds something new.
 fn new_edit(is_file: bool, path: Path) -> EditOp
     ensures { result ≡ (if is_file then edits.AddFile path else edits.AddDirectory path) }
 {
@@ -59,7 +59,7 @@ fn new_edit(is_file: bool, path: Path) -> EditOp
     }
 }
 
-/// The edit that copies, over what stands there if something does.
+/// Makes the edit that copies, over what stands there if something does.
 fn copy_edit(kind: NodeKind, path: &Path, source: &Source) -> Result<EditOp, AllocError>
     ensures { IfOk result (λ op. op ≡ copy_edit kind path.now source.now) }
 {
@@ -71,7 +71,7 @@ fn copy_edit(kind: NodeKind, path: &Path, source: &Source) -> Result<EditOp, All
     })
 }
 
-/// A copy of where a copy comes from.
+/// Makes a copy of where a copy comes from.
 fn source_of(source: &Source) -> Result<Source, AllocError>
     ensures { IfOk result (λ copy. copy ≡ source.now) }
 {
@@ -81,7 +81,7 @@ fn source_of(source: &Source) -> Result<Source, AllocError>
     })
 }
 
-/// What is copied has to be there, of the kind that is added, and not too deep for its new path.
+/// Checks that what is copied exists, is of the kind that is added, and is not too deep for its new path.
 fn judge_source<R: Repository>(
     is_file: bool,
     path: &Path,
@@ -213,7 +213,7 @@ impl<R: Repository> CommitEditor<R> {
         Ok(())
     }
 
-    /// Nothing may stand where something new is added.
+    /// Checks that nothing stands where something new is added.
     fn judge_new(&self, entry: &AddedEntry, path: &Path, repository: &R) -> Result<(), EditFault>
         requires { RestsOn self.now (R.content repository.now) }
         ensures { Judges result (first (place_refusal self.now entry.now.parent entry.now.token
@@ -254,7 +254,7 @@ impl<R: Repository> CommitEditor<R> {
         Ok(())
     }
 
-    /// A copy goes where nothing stands, or over what stands in a copy, and is of something of its kind.
+    /// Checks that a copy goes where nothing stands, or over what stands in a copy, and is of something of its kind.
     fn judge_copy(
         &self,
         is_file: bool,
@@ -496,7 +496,7 @@ impl<R: Repository> CommitEditor<R> {
         }
     }
 
-    /// What is open under the token, nothing before the root is.
+    /// Finds what is open under the token, nothing before the root is.
     pub(crate) fn open_under(&self, token: &ByteString) -> Option<&Opened>
         ensures { option_copied result ≡ open_under self.now token.now }
     {
@@ -525,7 +525,7 @@ impl<R: Repository> CommitEditor<R> {
         judge(placed, Refusal::MalformedData)
     }
 
-    /// Whether the token is new, and the path is one name beneath the directory open under the parent's token.
+    /// Says whether the token is new, and the path is one name beneath the directory open under the parent's token.
     fn is_placed(&self, parent: &ByteString, token: &ByteString, path: &Path) -> bool
         ensures { result ≡ is_placed self.now.tokens parent.now token.now path.now }
     {

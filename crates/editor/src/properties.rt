@@ -36,7 +36,7 @@ impl<R: Repository> CommitEditor<R> {
         Ok(())
     }
 
-    /// The edit of a property of the directory that is open under the token.
+    /// Makes the edit of a property of the directory that is open under the token.
     fn directory_property(
         &self,
         token: &ByteString,
@@ -83,7 +83,7 @@ impl<R: Repository> CommitEditor<R> {
         Ok(())
     }
 
-    /// The edit of a property of the file that is open under the token.
+    /// Makes the edit of a property of the file that is open under the token.
     fn file_property(
         &self,
         token: &ByteString,
@@ -104,7 +104,7 @@ impl<R: Repository> CommitEditor<R> {
         }
     }
 
-    /// The edit of a property at a path.
+    /// Makes the edit of a property at a path.
     fn property_edit(&self, path: &Path, change: &PropertyChange) -> Result<EditOp, AllocError>
         ensures { IfOk result (λ op. op ≡ property_edit path.now change.now.name change.now.value) }
     {

@@ -21,7 +21,7 @@ const COMMAND: u64 = 512;
 /// What a name of a path counts as beside its bytes: a path is kept in two places.
 const NAME: usize = 128;
 
-/// How many bytes the names of a relative path count as.
+/// Says how many bytes the names of a relative path count as.
 fn path_weight(path: &ByteString) -> usize {
     let mut weight = NAME.saturating_add(path.as_slice().len());
     for byte in path.as_slice() {
@@ -32,12 +32,12 @@ fn path_weight(path: &ByteString) -> usize {
     weight
 }
 
-/// What an entry counts as, in bytes.
+/// Says what an entry counts as, in bytes.
 fn entry_weight(path: &ByteString, token: &ByteString) -> usize {
     path_weight(path).saturating_add(token.as_slice().len())
 }
 
-/// What a change of a property counts as: the bytes of its name and its value.
+/// Says what a change of a property counts as: the bytes of its name and its value.
 fn change_weight(change: &PropertyChange) -> usize {
     let name = change.name.as_slice().len();
     match &change.value {
@@ -46,7 +46,7 @@ fn change_weight(change: &PropertyChange) -> usize {
     }
 }
 
-/// What an edit keeps of the strings of a command counts as, in bytes.
+/// Says what an edit keeps of the strings of a command counts as, in bytes.
 fn strings_weight(command: &EditorCommand) -> usize {
     match command {
         EditorCommand::OpenRoot(_, token) => token.as_slice().len(),
@@ -61,7 +61,7 @@ fn strings_weight(command: &EditorCommand) -> usize {
     }
 }
 
-/// What a command counts as, in bytes, in an edit whose root has so many names.
+/// Says what a command counts as, in bytes, in an edit whose root has so many names.
 fn weight(command: &EditorCommand, names: usize) -> u64 {
     let strings = strings_weight(command).saturating_add(names.saturating_mul(NAME));
     let weight = COMMAND.saturating_add(strings as u64);
@@ -71,7 +71,7 @@ fn weight(command: &EditorCommand, names: usize) -> u64 {
     }
 }
 
-/// What a text that is made counts for less than the delta that makes it, in bytes.
+/// Says what a text that is made counts for less than the delta that makes it, in bytes.
 fn spared(tokens: &BTreeMap<ByteString, Opened>, token: &ByteString) -> u64 {
     match tokens.get(token) {
         Some(Opened::File(_, DeltaState::Reading(delta))) => match delta.text() {

@@ -16,7 +16,7 @@ pub struct FiledArchive<F: Filed, S: Store> {
 }
 
 impl<F: Filed, S: Store> FiledArchive<F, S> {
-    /// The archive of a repository that was opened or made.
+    /// Makes the archive of a repository that was opened or made.
     pub fn new(stored: StoredRepository<F, S>) -> Self
         ensures repository { result.repository ≡ stored.repository }
         ensures saves { result.saves ≡ stored.saves }
@@ -25,15 +25,15 @@ impl<F: Filed, S: Store> FiledArchive<F, S> {
         FiledArchive { repository, saves }
     }
 
-    /// The repository for which the files stand while changes are saved.
+    /// Gives the repository for which the files stand while changes are saved.
     pub fn repository(&self) -> &F
         ensures { result.now ≡ self.now.repository }
     {
         &self.repository
     }
 
-    /// The store of the files. While changes are saved, what it reads stands for what the repository contains, and
-    /// so does what a stop leaves now.
+    /// Gives the store of the files. While changes are saved, what it reads stands for what the repository contains,
+    /// and so does what a stop leaves now.
     pub fn store(&self) -> &S
         ensures store { result.now ≡ self.now.saves.store }
         ensures holds { S.is_honest self.now.saves.store → self.now.saves.is_halted ≡ false

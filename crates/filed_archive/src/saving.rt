@@ -16,7 +16,7 @@ use std::mem::drop;
 use store_access::Filed;
 use store_files::{Store, StoreFault};
 
-/// How a save that failed is told, by whether saves have come to a halt.
+/// Says how a save that failed is answered, by whether saves have come to a halt.
 fn told(is_halted: bool, fault: StoreFault) -> SaveFault
     ensures memory { fault ≡ StoreFault.NoMemory → result ≡ SaveFault.NoMemory }
     ensures halted { (fault ≡ StoreFault.NoMemory → ⊥) → is_halted ≡ true

@@ -19,7 +19,7 @@ pub type ServedRepo<F, S, J> = SharedRepo<F, FiledArchive<F, S>, J>;
 /// A seat of it.
 pub type ServedSeat<F, J> = Seat<F, J, Shown<Published<F, J>>>;
 
-/// A repository in files, shared, with so many seats. The files stand for it, and each change is saved before it is
+/// Shares a repository in files, with so many seats. The files stand for it, and each change is saved before it is
 /// seen.
 ///
 /// # Errors

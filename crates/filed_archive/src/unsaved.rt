@@ -21,7 +21,7 @@ pub struct Unsaved<F: Drop> {
     pub files: ChangedFiles,
 }
 
-/// A change that is yet to be saved, with another hold of the repository behind it.
+/// Makes a change that is yet to be saved, with another hold of the repository after it.
 pub(crate) fn with_hold<F: Filed>(
     next: F,
     files: ChangedFiles,

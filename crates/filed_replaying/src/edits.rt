@@ -154,8 +154,7 @@ impl Replay<'_> {
     ///
     /// # Errors
     ///
-    /// `Dangling` where nothing stands at the source, `BadLine` where it may not be copied there, or
-    /// `NoMemory`.
+    /// `Dangling` where nothing exists at the source, `BadLine` where it may not be copied there, or `NoMemory`.
     pub fn copy(self, txn: &mut WorldTxn, path: &Path, source: &Source) -> Result<(), FileFault>
         requires rests { RestsOn self.world.now txn.old }
         requires right { IsRightPath path.now }

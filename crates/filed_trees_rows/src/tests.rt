@@ -70,7 +70,7 @@ fn committed(alloc: Global, nodes: &Nodes, tree: &TxnTree) -> Result<Nodes, Fail
     Ok(nodes.with_block(alloc, block)?)
 }
 
-/// The nodes of revisions 0 and 1, where `/a` has this text.
+/// Makes the nodes of revisions 0 and 1, where `/a` has this text.
 fn with_file(alloc: Global, bytes: &[u8]) -> Result<Nodes, Fail> {
     let nodes = Nodes::opened(alloc)?;
     let mut tree = begun(alloc, &nodes)?;
@@ -86,7 +86,7 @@ fn with_file(alloc: Global, bytes: &[u8]) -> Result<Nodes, Fail> {
     committed(alloc, &nodes, &tree)
 }
 
-/// The nodes with one revision more, in which a property of `/a` has this value.
+/// Makes the nodes with one revision more, in which a property of `/a` has this value.
 fn with_value(alloc: Global, nodes: &Nodes, value: &[u8]) -> Result<Nodes, Fail> {
     let mut tree = begun(alloc, nodes)?;
     let (name, value) = (
@@ -100,7 +100,7 @@ fn with_value(alloc: Global, nodes: &Nodes, value: &[u8]) -> Result<Nodes, Fail>
     committed(alloc, nodes, &tree)
 }
 
-/// A change of `/a`.
+/// Makes a change of `/a`.
 fn changed(
     alloc: Global,
     action: Action,
@@ -116,7 +116,7 @@ fn changed(
     Ok(vec![in alloc; (path(alloc, "/a")?, change)]?)
 }
 
-/// The tables with one more.
+/// Makes the tables with one more.
 fn with_table(alloc: Global, tables: &PVec<Table>, table: Table) -> Result<PVec<Table>, Fail> {
     if tables.len() >= 262_144 {
         return Err(AllocError)?;
@@ -124,14 +124,14 @@ fn with_table(alloc: Global, tables: &PVec<Table>, table: Table) -> Result<PVec<
     Ok(tables.with_one(alloc, Arc::new(alloc, table)?)?)
 }
 
-/// The table of revision 0.
+/// Makes the table of revision 0.
 fn first_table(alloc: Global) -> Result<PVec<Table>, Fail> {
     let none = PVec::new(alloc)?;
     let table = tabulated(alloc, &Nodes::opened(alloc)?, &none, &[], REVISION_0)?;
     with_table(alloc, &none, table)
 }
 
-/// The tables of revisions 0 and 1.
+/// Makes the tables of revisions 0 and 1.
 fn two_tables(alloc: Global) -> Result<PVec<Table>, Fail> {
     let tables = first_table(alloc)?;
     let nodes = with_file(alloc, b"hello\n")?;
@@ -163,7 +163,7 @@ fn the_bytes_of_revision_1_are_those_of_a_file_that_was_added(rt: HostRuntime) -
     Ok(())
 }
 
-/// What revision 1's file is told where `/a` has this text, and the revision these changes.
+/// Says why revision 1's file is refused, if it is, where `/a` has this text, and the revision these changes.
 fn told(
     alloc: Global,
     bytes: &[u8],

@@ -31,7 +31,7 @@ fn all_locks_file(alloc: Global, world: &World) -> Result<Vec<u8>, AllocError>
     locks_file(alloc, locks.as_slice())
 }
 
-/// The tables with one more, for which there is a place.
+/// Makes the tables with one more, for which there is a place.
 pub(crate) fn with_table(
     alloc: Global,
     tables: &PVec<Table>,

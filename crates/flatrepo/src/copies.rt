@@ -63,7 +63,7 @@ fn put_copy(
     }
 }
 
-/// A copy of the entry, opened if it is the top of what is copied.
+/// Makes a copy of the entry, opened if it is the top of what is copied.
 fn copied_entry(entry: &Entry, is_top: bool) -> Result<Entry, AllocError>
     ensures { IfOk result (λ e. e ≡ copied_entry is_top entry.now) }
 {

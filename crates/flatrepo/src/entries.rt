@@ -11,7 +11,7 @@ use std::alloc::{AllocError, Global};
 use std::collections::BTreeMap;
 use svnpath::Path;
 
-/// The root of revision 0.
+/// Makes the root of revision 0.
 pub(crate) fn opening_root(alloc: Global) -> Entry
     ensures { result ≡ opening_root }
 {
@@ -23,7 +23,7 @@ pub(crate) fn opening_root(alloc: Global) -> Entry
     }
 }
 
-/// An entry that is added, with this content.
+/// Makes an entry that is added, with this content.
 pub(crate) fn new_entry(alloc: Global, content: Content) -> Entry
     ensures { result ≡ new_entry content }
 {
@@ -35,7 +35,7 @@ pub(crate) fn new_entry(alloc: Global, content: Content) -> Entry
     }
 }
 
-/// A copy of the entry with these marks.
+/// Makes a copy of the entry with these marks.
 pub(crate) fn with_marks(entry: &Entry, own: Mark, last: Mark) -> Result<Entry, AllocError>
     ensures { IfOk result (λ e. e ≡ record entry.now { own = own; last = last }) }
 {
@@ -75,7 +75,7 @@ pub(crate) fn put_text(entries: &mut BTreeMap<Path, Entry>, path: &Path, text: F
     }
 }
 
-/// Whether the key lies more than so many names beneath the path.
+/// Says whether the key lies more than so many names beneath the path.
 pub(crate) fn is_deeper(key: &Path, path: &Path, names: usize) -> bool
     ensures { result ≡ is_at_or_under key.now path.now
         && nat_lt (length path.now + names) (length key.now) }

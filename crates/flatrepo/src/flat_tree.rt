@@ -48,7 +48,7 @@ impl Model for FlatTree {
 }
 
 impl FlatTree {
-    /// No entries.
+    /// Makes a tree without entries.
     pub(crate) fn new(alloc: Global) -> Self
         ensures { result ≡ empty }
     {
@@ -57,7 +57,7 @@ impl FlatTree {
         }
     }
 
-    /// The tree of revision 0: the root alone.
+    /// Makes the tree of revision 0: the root alone.
     pub(crate) fn opening(alloc: Global) -> Result<Self, AllocError>
         ensures { IfOk result (λ t. t ≡ opening_tree) }
     {
@@ -66,7 +66,7 @@ impl FlatTree {
         Ok(FlatTree { entries })
     }
 
-    /// The entry at the path.
+    /// Finds the entry at the path.
     #[tactic(auto, using(repo_api::specs::StateLaws::get_path))]
     pub(crate) fn get(&self, path: &Path) -> Option<&Entry>
         ensures { option_copied result ≡ get self.now path.now }
@@ -74,7 +74,7 @@ impl FlatTree {
         self.entries.get(path)
     }
 
-    /// A copy with the root's `last` open: a transaction that begins from this tree.
+    /// Makes a copy with the root's `last` open: a transaction that begins from this tree.
     pub(crate) fn begun(&self, alloc: Global) -> Result<Self, AllocError>
         ensures { IfOk result (λ t. (q : PathValue) → get t q ≡ begun (tree_of self.now) q) }
     {
@@ -146,14 +146,14 @@ impl FlatTree {
         cut_subtree(&mut self.entries, path);
     }
 
-    /// Whether something stands more than so many names beneath the path.
+    /// Says whether something exists more than so many names beneath the path.
     pub(crate) fn has_deeper(&self, path: &Path, names: usize) -> bool
         ensures { result ≡ has_deeper self.now path.now names }
     {
         self.entries.keys().any(|key| is_deeper(key, path, names))
     }
 
-    /// The names of what stands straight beneath the path, by their bytes.
+    /// Gives the names of what is straight beneath the path, by their bytes.
     pub(crate) fn names(&self, alloc: Global, path: &Path) -> Result<Vec<&ByteString>, AllocError>
         ensures { IfOk result (λ names. map deref names.items ≡ names_in self.now path.now) }
     {
@@ -163,7 +163,7 @@ impl FlatTree {
         }
     }
 
-    /// This tree after a copy of what stands at `from` of the source, and under it, to `to`.
+    /// Makes this tree as it is after a copy of what is at `from` of the source, and under it, to `to`.
     pub(crate) fn with_copy(
         &self,
         alloc: Global,
@@ -180,7 +180,7 @@ impl FlatTree {
         Ok(FlatTree { entries })
     }
 
-    /// Whether a path of the base or of this tree, the transaction's, is in conflict.
+    /// Says whether a path of the base or of this tree, the transaction's, is in conflict.
     pub(crate) fn has_conflict(&self, base: &FlatTree, youngest: &FlatTree) -> bool
         ensures { result ≡ has_conflict base.now self.now
             youngest.now }
@@ -188,7 +188,7 @@ impl FlatTree {
         self.conflicts_among(base, base, youngest) || self.conflicts_among(self, base, youngest)
     }
 
-    /// Whether one of the paths is in conflict.
+    /// Says whether one of the paths is in conflict.
     fn conflicts_among(&self, paths: &FlatTree, base: &FlatTree, youngest: &FlatTree) -> bool
         ensures { result ≡ list_any
             (conflict_at base.now self.now youngest.now)
@@ -200,7 +200,7 @@ impl FlatTree {
             .any(|path| self.conflicts_at(path, base, youngest))
     }
 
-    /// Whether the path is in conflict.
+    /// Says whether the path is in conflict.
     fn conflicts_at(&self, path: &Path, base: &FlatTree, youngest: &FlatTree) -> bool
         ensures { result ≡ conflict_at base.now self.now
             youngest.now path.now }
@@ -208,7 +208,7 @@ impl FlatTree {
         is_in_conflict(base.get(path), self.get(path), youngest.get(path))
     }
 
-    /// The merge of this tree, the transaction's, with the others, as revision of that number.
+    /// Makes the merge of this tree, the transaction's, with the others, as revision of that number.
     pub(crate) fn merged(
         &self,
         alloc: Global,
@@ -247,7 +247,7 @@ impl FlatTree {
         Ok(())
     }
 
-    /// What the merge has at the path.
+    /// Makes what the merge has at the path.
     fn merged_at(
         &self,
         path: &Path,

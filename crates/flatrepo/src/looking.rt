@@ -4,7 +4,7 @@ ghost use Rattle.repo_api.specs.Kinds.{kind_of, created_of, node_properties, tex
 
 use repo_api::{Content, Entry, FileText, Mark, NodeKind, Properties};
 
-/// What the entry is, nothing where there is none.
+/// Says what the entry is: nothing where there is none.
 pub(crate) fn kind(entry: Option<&Entry>) -> NodeKind
     ensures { result ≡ kind_of (option_copied entry.entry) }
 {
@@ -14,14 +14,14 @@ pub(crate) fn kind(entry: Option<&Entry>) -> NodeKind
     }
 }
 
-/// The properties of the entry.
+/// Gives the properties of the entry.
 pub(crate) fn properties(entry: Option<&Entry>) -> Option<&Properties>
     ensures { option_copied result ≡ node_properties (option_copied entry.entry) }
 {
     Some(&entry?.properties)
 }
 
-/// The revision that last changed the entry, at or under its path.
+/// Gives the revision that last changed the entry, at or under its path.
 pub(crate) fn created(entry: Option<&Entry>) -> Option<u64>
     ensures { result ≡ created_of (option_copied entry.entry) }
 {
@@ -31,7 +31,7 @@ pub(crate) fn created(entry: Option<&Entry>) -> Option<u64>
     }
 }
 
-/// The text of the entry, if it is a file.
+/// Gives the text of the entry, if it is a file.
 pub(crate) fn text(entry: Option<&Entry>) -> Option<&FileText>
     ensures { option_copied result ≡ text_of (option_copied entry.entry) }
 {

@@ -8,7 +8,7 @@ use repo_api::{Entry, Mark};
 use std::alloc::AllocError;
 use svnpath::Path;
 
-/// Whether the presence or the `last` differs.
+/// Says whether the presence or the `last` differs.
 fn is_changed(base: Option<&Entry>, entry: Option<&Entry>) -> bool
     ensures { result ≡ is_changed (option_copied base.entry) (option_copied entry.entry) }
 {
@@ -19,7 +19,7 @@ fn is_changed(base: Option<&Entry>, entry: Option<&Entry>) -> bool
     }
 }
 
-/// Whether all three are directories, with one `own`.
+/// Says whether all three are directories, with one `own`.
 fn is_one_directory(base: Option<&Entry>, txn: Option<&Entry>, youngest: Option<&Entry>) -> bool
     ensures { result ≡ is_one_directory (option_copied base.entry) (option_copied txn.entry)
         (option_copied youngest.entry) }
@@ -33,7 +33,7 @@ fn is_one_directory(base: Option<&Entry>, txn: Option<&Entry>, youngest: Option<
     }
 }
 
-/// Whether both sides changed it, unless only beneath.
+/// Says whether both sides changed it, unless only beneath.
 pub(crate) fn is_in_conflict(
     base: Option<&Entry>,
     txn: Option<&Entry>,
@@ -45,7 +45,7 @@ pub(crate) fn is_in_conflict(
     (is_changed(base, txn) && is_changed(base, youngest)) && !is_one_directory(base, txn, youngest)
 }
 
-/// Whether the transaction changed nothing of the entry itself, nor took it from elsewhere.
+/// Says whether the transaction changed nothing of the entry itself, nor took it from elsewhere.
 fn is_untouched(base: Option<&Entry>, txn: Option<&Entry>) -> bool
     ensures { result ≡ is_untouched (option_copied base.entry) (option_copied txn.entry) }
 {
@@ -58,7 +58,7 @@ fn is_untouched(base: Option<&Entry>, txn: Option<&Entry>) -> bool
     }
 }
 
-/// Whether the transaction changed it, or something beneath it.
+/// Says whether the transaction changed it, or something beneath it.
 fn has_open_last(txn: Option<&Entry>) -> bool
     ensures { result ≡ has_open_last (option_copied txn.entry) }
 {
@@ -68,7 +68,7 @@ fn has_open_last(txn: Option<&Entry>) -> bool
     }
 }
 
-/// The youngest entry where the transaction left it alone, else the transaction's.
+/// Gives the youngest entry where the transaction left it alone, else the transaction's.
 pub(crate) fn merged_entry(
     revision: u32,
     path: &Path,
@@ -92,7 +92,7 @@ pub(crate) fn merged_entry(
     }
 }
 
-/// The youngest entry, its `last` made by the revision where the transaction changed beneath it.
+/// Gives the youngest entry, its `last` made by the revision where the transaction changed beneath it.
 fn with_joined_last(
     revision: u32,
     path: &Path,
@@ -108,7 +108,7 @@ fn with_joined_last(
     youngest.clone()
 }
 
-/// The entry with its `last` made by the revision at the path.
+/// Gives the entry with its `last` made by the revision at the path.
 fn with_last(revision: u32, path: &Path, entry: &Entry) -> Result<Entry, AllocError>
     ensures { IfOk result (λ e. e ≡ record entry.now { last = Made revision path.now }) }
 {
@@ -116,7 +116,7 @@ fn with_last(revision: u32, path: &Path, entry: &Entry) -> Result<Entry, AllocEr
     with_marks(entry, own, Mark::Made(revision, path.clone()?))
 }
 
-/// The entry with its open marks made by the revision at the path.
+/// Gives the entry with its open marks made by the revision at the path.
 fn sealed(revision: u32, path: &Path, entry: &Entry) -> Result<Entry, AllocError>
     ensures { IfOk result (λ e. e ≡ sealed revision path.now entry.now) }
 {
@@ -124,7 +124,7 @@ fn sealed(revision: u32, path: &Path, entry: &Entry) -> Result<Entry, AllocError
     with_marks(entry, own, closed(revision, path, &entry.last)?)
 }
 
-/// The mark of the revision at the path in an open mark's place.
+/// Gives the mark of the revision at the path in an open mark's place.
 fn closed(revision: u32, path: &Path, mark: &Mark) -> Result<Mark, AllocError>
     ensures { IfOk result (λ m. m ≡ closed revision path.now mark.now) }
 {

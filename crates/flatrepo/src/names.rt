@@ -11,7 +11,7 @@ use std::alloc::{AllocError, Global};
 use std::collections::BTreeMap;
 use svnpath::Path;
 
-/// The names of what stands straight beneath the path, by their bytes.
+/// Finds the names of what is straight beneath the path, by their bytes.
 pub(crate) fn names_beneath<'a, V>(
     alloc: Global,
     entries: &'a BTreeMap<Path, V>,
@@ -31,7 +31,7 @@ pub(crate) fn names_beneath<'a, V>(
     Ok(names)
 }
 
-/// The name of the key in the directory at the path, if it stands straight beneath it.
+/// Gives the name of the key in the directory at the path, if it is straight beneath it.
 fn name_in<'a>(key: &'a Path, path: &Path) -> Option<&'a ByteString>
     ensures { option_copied result ≡ name_in path.now key.now }
 {

@@ -40,8 +40,8 @@ use std::sync::Arc;
 use svnpath::Path;
 
 impl FlatRepo {
-    /// An empty repository: revision 0, whose date is the moment's, a count of microseconds since the
-    /// beginning of 1970.
+    /// Makes an empty repository: revision 0, whose date is the moment's, a count of microseconds since the beginning
+    /// of 1970.
     pub fn new(alloc: Global, uuid: u128, moment: u64) -> Result<Self, AllocError>
         requires { moment ≤ LAST_MOMENT }
         ensures { IfOk result (λ r. (date : List ℕ) × IsDateText moment date
@@ -219,7 +219,7 @@ fn refusal_of(content: &FlatContent, ask: &PropertyAsk) -> Option<Refusal>
     property_refusal(content.youngest(), content.properties(ask.revision), ask)
 }
 
-/// What is held after a change of a property of a revision. What was shared before stays as it was.
+/// Makes what is held after a change of a property of a revision. What was shared before stays as it was.
 fn with_property(
     alloc: Global,
     content: &FlatContent,
@@ -238,7 +238,7 @@ fn with_property(
     Ok(Arc::new(alloc, changed)?)
 }
 
-/// What stands at the path in the youngest revision, and the revision of its last change.
+/// Finds what is at the path in the youngest revision, and the revision of its last change.
 fn kind_and_created(content: &FlatContent, path: &Path) -> (NodeKind, Option<u64>)
     ensures kind { result.0
         ≡ kind_at (flat_state content.now) (youngest (flat_state content.now)) path.now }
@@ -298,7 +298,7 @@ fn edit_parts(
     }
 }
 
-/// Whether the commit is accepted: there is no conflict, no lock in its way, and a number left.
+/// Checks whether the commit is accepted: there is no conflict, no lock in its way, and a number left.
 fn judge(
     alloc: Global,
     content: &FlatContent,
@@ -323,7 +323,7 @@ fn judge(
     Ok(())
 }
 
-/// Whether the locks in the way of the changes let the commit pass.
+/// Checks whether the locks in the way of the changes let the commit pass.
 fn check_locks(
     alloc: Global,
     locks: &Locks,
@@ -340,7 +340,7 @@ fn check_locks(
     locks.check(alloc, changes.as_map(), ask.author.as_ref(), tokens)
 }
 
-/// The tree of the revision that a commit of this tree, from this base, adds.
+/// Makes the tree of the revision that a commit of this tree, from this base, adds.
 fn next_tree(
     alloc: Global,
     content: &FlatContent,
@@ -357,7 +357,7 @@ fn next_tree(
     tree.merged(alloc, revision, content.tree(base), youngest)
 }
 
-/// What is held after the commit.
+/// Makes what is held after the commit.
 fn with_commit(
     alloc: Global,
     content: &FlatContent,
@@ -372,7 +372,7 @@ fn with_commit(
     with_revision(alloc, content, ask, tree, txn.changes)
 }
 
-/// What is held after a revision with this tree and these changes, and with the properties that are asked for.
+/// Makes what is held after a revision with this tree and these changes, and with the properties that are asked for.
 fn with_revision(
     alloc: Global,
     content: &FlatContent,

@@ -18,7 +18,7 @@ use std::sync::Arc;
 use svnpath::Path;
 
 impl FlatRevision {
-    /// Revision 0: the root alone, and no changes.
+    /// Makes revision 0: the root alone, and no changes.
     fn opening(alloc: Global) -> Result<Self, AllocError>
         ensures tree { IfOk result (λ r. r.tree ≡ opening_tree) }
         ensures changes { IfOk result (λ r. r.changes ≡ empty) }
@@ -31,7 +31,7 @@ impl FlatRevision {
 }
 
 impl FlatContent {
-    /// No revisions.
+    /// Makes a content without revisions.
     fn empty(alloc: Global, uuid: u128) -> Self
         ensures revisions { revisions_of result ≡ [] }
         ensures properties { properties_of result ≡ [] }
@@ -45,7 +45,7 @@ impl FlatContent {
         }
     }
 
-    /// Revision 0 alone, with its date.
+    /// Makes a content of revision 0 alone, with its date.
     pub(crate) fn opened(alloc: Global, uuid: u128, date: ByteString) -> Result<Self, AllocError>
         ensures { IfOk result (λ c. flat_state c ≡ new_repository uuid date) }
     {
@@ -57,21 +57,21 @@ impl FlatContent {
         )
     }
 
-    /// How many revisions there are.
+    /// Says how many revisions there are.
     pub(crate) fn count(&self) -> u64
         ensures { result ≡ length (revisions_of self.now) }
     {
         self.revisions.len() as u64
     }
 
-    /// The number of the youngest revision.
+    /// Gives the number of the youngest revision.
     pub(crate) fn youngest(&self) -> u64
         ensures { result ≡ length (revisions_of self.now) - 1 }
     {
         self.count().saturating_sub(1)
     }
 
-    /// The tree of the revision, one without entries for a number that is no revision.
+    /// Gives the tree of the revision, one without entries for a number that no revision has.
     pub(crate) fn tree(&self, revision: u64) -> &FlatTree
         ensures { result.now ≡ tree_at (flat_state self.now) revision }
     {
@@ -81,7 +81,7 @@ impl FlatContent {
         }
     }
 
-    /// The changes of the revision in the order of their paths, none for a number that is no revision.
+    /// Gives the changes of the revision in the order of their paths, none for a number that no revision has.
     pub(crate) fn changes(&self, revision: u64) -> &[(Path, Change)]
         ensures { result.now ≡ changes_in (slice_get (revisions_of self.now) revision) }
     {
@@ -91,14 +91,14 @@ impl FlatContent {
         }
     }
 
-    /// The properties of the revision, none for a number that is no revision.
+    /// Gives the properties of the revision, none for a number that no revision has.
     pub(crate) fn properties(&self, revision: u64) -> Option<&Properties>
         ensures { option_copied result ≡ slice_get (properties_of self.now) revision }
     {
         at(&self.properties, revision)
     }
 
-    /// The same with a property of a revision changed.
+    /// Makes the same with a property of a revision changed.
     pub(crate) fn with_property(
         &self,
         alloc: Global,
@@ -117,7 +117,7 @@ impl FlatContent {
         })
     }
 
-    /// The same with one revision more.
+    /// Makes the same with one revision more.
     pub(crate) fn with_revision(
         &self,
         alloc: Global,
@@ -139,7 +139,7 @@ impl FlatContent {
     }
 }
 
-/// The lists of properties, of which this one has a property changed, if it is there.
+/// Makes the lists of properties, of which this one has a property changed, if it exists.
 fn with_property(
     alloc: Global,
     lists: &[Arc<Properties>],
@@ -162,7 +162,7 @@ fn with_property(
     Ok(lists)
 }
 
-/// The value at the number, if there is one.
+/// Gives the value at the number, if there is one.
 fn at<T>(items: &[Arc<T>], number: u64) -> Option<&T>
     ensures { option_copied result ≡ slice_get (values items.now) number }
 {
@@ -172,7 +172,7 @@ fn at<T>(items: &[Arc<T>], number: u64) -> Option<&T>
     }
 }
 
-/// The values, which are shared, and one more.
+/// Makes a list of the values, which are shared, and one more.
 fn with_one_more<T: Drop>(
     alloc: Global,
     items: &[Arc<T>],
@@ -185,7 +185,7 @@ fn with_one_more<T: Drop>(
     Ok(list)
 }
 
-/// The same values, shared.
+/// Makes a list of the same values, shared.
 fn shared<T: Drop>(alloc: Global, items: &[Arc<T>]) -> Result<Vec<Arc<T>>, AllocError>
     ensures { IfOk result (λ v. values v.items ≡ values items.now) }
 {

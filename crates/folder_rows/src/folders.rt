@@ -24,7 +24,7 @@ const DANGLING: &[u8] =
 
 const DATE: &[u8] = b"K 8\nsvn:date\nV 27\n1970-01-01T00:00:01.000000Z\nEND\n";
 
-/// A folder of these two revisions.
+/// Makes a folder of these two revisions.
 fn folder(alloc: Global) -> Result<MemoryStore, Fail> {
     let mut store = MemoryStore::new(alloc);
     store.write_new(FileName::Format, b"2\n")?;
@@ -37,7 +37,7 @@ fn folder(alloc: Global) -> Result<MemoryStore, Fail> {
     Ok(store)
 }
 
-/// The youngest revision of a folder in which a file has these bytes, or its fault.
+/// Gives the youngest revision of a folder in which a file has these bytes, or its fault.
 fn opened(alloc: Global, name: FileName, bytes: &[u8]) -> Result<Result<u64, StoreFault>, Fail> {
     let mut store = folder(alloc)?;
     store.write_new(name, bytes)?;
@@ -47,7 +47,7 @@ fn opened(alloc: Global, name: FileName, bytes: &[u8]) -> Result<Result<u64, Sto
     }
 }
 
-/// The file of revision 1 with another byte at a place.
+/// Makes the file of revision 1 with another byte at a place.
 fn changed(alloc: Global, place: usize, byte: u8) -> Result<Vec<u8>, Fail> {
     let mut bytes = Vec::from_slice(alloc, FILE)?;
     if let Some(old) = bytes.get_mut(place) {
@@ -56,7 +56,7 @@ fn changed(alloc: Global, place: usize, byte: u8) -> Result<Vec<u8>, Fail> {
     Ok(bytes)
 }
 
-/// Whether a fault is one of a file's bytes.
+/// Says whether a fault is one of a file's bytes.
 fn is_of_bytes(fault: StoreFault) -> bool {
     match fault {
         StoreFault::File(FileFault::NoMemory | FileFault::WrongFormat) => false,
@@ -137,7 +137,7 @@ fn what_is_not_reached_does_not_count(rt: HostRuntime) -> Result<(), Fail> {
     Ok(())
 }
 
-/// What is found behind a `create` that failed at its call of this number, and a second one.
+/// Checks what is found after a `create` that failed at its call of this number, and a second one.
 fn made_again(alloc: Global, passes: u64, left: Left) -> Result<bool, Fail> {
     let mut store = FuseStore::new(MemoryStore::new(alloc), passes, left);
     let first = create(alloc, &mut store, 0, 0);

@@ -18,7 +18,7 @@ pub struct HeaderLine<'a> {
     pub value: &'a [u8],
 }
 
-/// Whether a name has no NUL.
+/// Says whether a name has no NUL.
 fn is_name(name: &[u8]) -> bool
     ensures { result ≡ is_free 0 name.now }
 {

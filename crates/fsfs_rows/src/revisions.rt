@@ -26,7 +26,7 @@ const REVISIONS: [&[u8]; 4] = [
     b"PLAIN\nK 4\ntags\nV 14\ndir 1.0.r2/132\nEND\nENDREP\nid: 0.0.r3/46\ntype: dir\npred: 0.0.r2/334\ncount: 3\ntext: 3 0 33 33 a9001df220ea641a3f5ff93279e78c34\ncpath: /\ncopyroot: 0 /\n\n2.0.r1/60 delete false false /trunk\n\n\n46 169\n",
 ];
 
-/// The bytes with another byte at a place.
+/// Makes the bytes with another byte at a place.
 fn changed(alloc: Global, place: usize, byte: u8) -> Result<Vec<u8>, Fail> {
     let mut bytes = Vec::from_slice(alloc, FILE)?;
     if let Some(old) = bytes.get_mut(place) {
@@ -35,7 +35,7 @@ fn changed(alloc: Global, place: usize, byte: u8) -> Result<Vec<u8>, Fail> {
     Ok(bytes)
 }
 
-/// The node revision that was made at a path.
+/// Finds the node revision that was made at a path.
 fn piece<'a>(file: &'a RevisionFile, path: &[u8]) -> Result<&'a FilePiece, Fail> {
     for piece in &file.pieces {
         if piece.node.path.as_slice() == path {
@@ -108,7 +108,7 @@ fn faults_are_named(rt: HostRuntime) -> Result<(), Fail> {
     Ok(())
 }
 
-/// Whether a change is of the folder's: what was done, at which path, and the word in front.
+/// Says whether a change is of the folder's: what was done, at which path, and the word in front.
 fn is_change(change: &FileChange, wanted: &(FileAction, &[u8], &[u8])) -> bool {
     let (action, path, id) = wanted;
     change.action == *action

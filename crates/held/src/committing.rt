@@ -33,7 +33,7 @@ impl From<AllocError> for CommitFault {
 }
 
 impl Held {
-    /// The tree of a transaction that began from this base, merged with the youngest revision.
+    /// Makes the tree of a transaction that began from this base, merged with the youngest revision.
     pub fn merged(&self, alloc: Global, base: u64, tree: &TxnTree) -> Result<TxnTree, CommitFault>
         requires told { IsTold (trees_of self.now.nodes base) (txn_tree self.now.nodes tree.now) }
         requires standing { IsSound (node_at self.now.nodes) (root_at self.now.nodes base)
@@ -55,7 +55,7 @@ impl Held {
     }
 }
 
-/// The fault of a merge as that of a commit.
+/// Gives the fault of a merge as that of a commit.
 fn fault_of(fault: MergeFault) -> CommitFault
     ensures { result ≡ commit_fault fault }
 {

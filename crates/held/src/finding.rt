@@ -18,21 +18,21 @@ use std::alloc::{AllocError, Global};
 use svnpath::{DEPTH_LIMIT, Path};
 
 impl Held {
-    /// The repository's name among all repositories, as a number of 128 bits.
+    /// Gives the repository's name among all repositories, as a number of 128 bits.
     pub fn uuid(&self) -> u128
         ensures { result ≡ (held_state self.now).uuid }
     {
         self.uuid
     }
 
-    /// How many revisions there are.
+    /// Says how many revisions there are.
     pub fn count(&self) -> u64
         ensures { result ≡ length (revisions_of self.now) }
     {
         self.changes.len() as u64
     }
 
-    /// The number of the youngest revision.
+    /// Gives the number of the youngest revision.
     pub fn youngest(&self) -> u64
         ensures is { result ≡ youngest (held_state self.now) }
         ensures within { result < length (revisions_of self.now) }
@@ -40,15 +40,15 @@ impl Held {
         self.count().saturating_sub(1)
     }
 
-    /// What stands at a path of a revision.
+    /// Says what is at a path of a revision.
     pub fn kind(&self, revision: u64, path: &Path) -> NodeKind
         ensures { result ≡ kind_of (tree_held self.now revision path.now) }
     {
         self.nodes.kind(self.nodes.root(revision), path)
     }
 
-    /// Whether something stands more than so many names beneath a path of a revision. No path is
-    /// deeper than the limit.
+    /// Says whether something exists more than so many names beneath a path of a revision. No path is deeper than the
+    /// limit.
     pub fn has_deeper(&self, revision: u64, path: &Path, names: usize) -> bool
         requires { ∥ IsSoundRepo (held_state self.now) ∥₁ }
         ensures { result ≡ has_deeper_at (held_state self.now) revision path.now names }
@@ -60,28 +60,28 @@ impl Held {
             .has_deeper(self.nodes.root(revision), path, names)
     }
 
-    /// The revision that last changed what stands at a path of a revision, at or under it.
+    /// Gives the revision that last changed what is at a path of a revision, at or under it.
     pub fn created(&self, revision: u64, path: &Path) -> Option<u64>
         ensures { result ≡ created_of (tree_held self.now revision path.now) }
     {
         self.nodes.created(self.nodes.root(revision), path)
     }
 
-    /// The properties of what stands at a path of a revision.
+    /// Gives the properties of what is at a path of a revision.
     pub fn node_properties(&self, revision: u64, path: &Path) -> Option<&Properties>
         ensures { option_copied result ≡ node_properties (tree_held self.now revision path.now) }
     {
         self.nodes.properties(self.nodes.root(revision), path)
     }
 
-    /// The text of the file at a path of a revision.
+    /// Gives the text of the file at a path of a revision.
     pub fn text(&self, revision: u64, path: &Path) -> Option<&FileText>
         ensures { option_copied result ≡ text_of (tree_held self.now revision path.now) }
     {
         self.nodes.text(self.nodes.root(revision), path)
     }
 
-    /// The id that a path of a revision leads to.
+    /// Finds the id that a path of a revision leads to.
     pub(crate) fn find(&self, revision: u64, path: &Path) -> Option<NodeId>
         ensures { result ≡ find_id (node_at self.now.nodes) path.now
             (root_at self.now.nodes revision) }
@@ -90,7 +90,7 @@ impl Held {
             .find_in(self.nodes.root(revision), path.components())
     }
 
-    /// Whether two places have one node: then all beneath them is the same.
+    /// Says whether two places have one node: then all beneath them is the same.
     pub fn is_same(&self, revision: u64, path: &Path, other: u64, other_path: &Path) -> bool
         ensures { result ≡ true
             → IsSameAt (held_state self.now) revision path.now other other_path.now }
@@ -98,7 +98,7 @@ impl Held {
         is_one(self.find(revision, path), self.find(other, other_path))
     }
 
-    /// The names of what stands straight beneath a path of a revision, by their bytes.
+    /// Gives the names of what is straight beneath a path of a revision, by their bytes.
     pub fn names(
         &self,
         alloc: Global,
@@ -114,8 +114,7 @@ impl Held {
         }
     }
 
-    /// The changes of the revision in the order of their paths, none for a number that is no
-    /// revision.
+    /// Gives the changes of the revision in the order of their paths, none for a number that no revision has.
     pub fn changes(&self, revision: u64) -> &[(Path, Change)]
         ensures { result.now ≡ changes_in (slice_get (revisions_of self.now) revision) }
     {
@@ -125,7 +124,7 @@ impl Held {
         }
     }
 
-    /// The properties of the revision, none for a number that is no revision.
+    /// Gives the properties of the revision, none for a number that no revision has.
     pub fn properties(&self, revision: u64) -> Option<&Properties>
         ensures { option_copied result ≡ slice_get self.now.properties revision }
     {
@@ -133,7 +132,7 @@ impl Held {
     }
 }
 
-/// Whether two ids are one.
+/// Says whether two ids are one.
 fn is_one(id: Option<NodeId>, other: Option<NodeId>) -> bool
     ensures { result ≡ true → id ≡ other }
 {

@@ -17,7 +17,7 @@ use std::alloc::{AllocError, Global};
 use std::sync::Arc;
 
 impl Held {
-    /// The same with a further revision: its nodes, its changes and its properties.
+    /// Makes the same with a further revision: its nodes, its changes and its properties.
     pub fn with_revision(
         &self,
         alloc: Global,
@@ -49,7 +49,7 @@ impl Held {
     }
 }
 
-/// The list with one item more, for which there is a place.
+/// Makes the list with one item more, for which there is a place.
 fn with_one_more<T: Drop>(alloc: Global, items: &PVec<T>, more: T) -> Result<PVec<T>, AllocError>
     requires { length items.now < 262144 }
     ensures { IfOk result (λ v. v ≡ items.now ++ more ∷ []) }

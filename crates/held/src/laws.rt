@@ -11,16 +11,16 @@ ghost use Rattle.noderevs.specs.declared.node_rev.NodeId.{NodeId};
 ghost use Rattle.held.specs.Contents.{held_state, revisions_of};
 ghost use Rattle.held.specs.declared.held.Held.{Held};
 
-/// Where the revisions of one begin those of another, the other shows the tree of each node's revision
-/// too, whatever ids it has.
+/// Shows that where the revisions of one begin those of another, the other shows the tree of each node's revision too,
+/// whatever ids it has.
 pub fn beginnings_show_the_same()
     ensures { (a b : Held) → IsBeginning (revisions_of a) (revisions_of b) → (id : NodeId)
         → IsSome (node_at a.nodes id) → (q : PathValue)
         → trees_of b.nodes id.rev q ≡ trees_of a.nodes id.rev q }
 {}
 
-/// Where a sound transaction left an entry, over sound revisions that go on from those last shown, it
-/// is that of its base but for `last`: what a merge by ids rests on.
+/// Shows that where a sound transaction left an entry, over sound revisions that go on from those last shown, it is
+/// that of its base but for `last`: what a merge by ids rests on.
 pub fn transactions_are_told()
     ensures { (h : Held) (t : TxnState) (s : Tree) → IsSoundRepo (held_state h)
         → IsBeginning t.shown (revisions_of h) → IsSoundTxn t

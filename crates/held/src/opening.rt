@@ -12,7 +12,7 @@ use std::alloc::{AllocError, Global};
 use std::sync::Arc;
 
 impl Held {
-    /// An empty repository: revision 0, with its date.
+    /// Makes an empty repository: revision 0, with its date.
     pub fn opened(alloc: Global, uuid: u128, date: ByteString) -> Result<Held, AllocError>
         ensures { IfOk result (λ h. held_state h ≡ new_repository uuid date) }
     {
@@ -29,7 +29,7 @@ impl Held {
     }
 }
 
-/// A list of one item.
+/// Makes a list of one item.
 fn one<T: Drop>(alloc: Global, item: T) -> Result<PVec<T>, AllocError>
     ensures { IfOk result (λ v. v ≡ item ∷ []) }
 {

@@ -14,7 +14,7 @@ use std::alloc::{AllocError, Global};
 use std::sync::Arc;
 
 impl Held {
-    /// The same with a property of a revision changed.
+    /// Makes the same with a property of a revision changed.
     pub fn with_property(
         &self,
         alloc: Global,
@@ -38,7 +38,7 @@ impl Held {
     }
 }
 
-/// The lists of properties, of which this one has a property changed, if it is there.
+/// Makes the lists of properties, of which this one has a property changed, if it exists.
 fn with_changed(
     alloc: Global,
     lists: &PVec<Properties>,

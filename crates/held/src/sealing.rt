@@ -13,8 +13,7 @@ use std::alloc::{AllocError, Global};
 use txntree::TxnTree;
 
 impl Held {
-    /// The same with the revision that the transaction's tree makes, with these changes and
-    /// properties.
+    /// Makes the same with the revision that the transaction's tree makes, with these changes and properties.
     pub fn with_tree(
         &self,
         alloc: Global,

@@ -13,8 +13,8 @@ use noderevs::{NodeId, Nodes};
 use svnpath::Path;
 
 impl Held {
-    /// The newest of the marks at the path and above it in the revision's tree, if that is before
-    /// the revision, else the revision. It takes no memory.
+    /// Gives the newest of the marks at the path and above it in the revision's tree, if that is before the revision,
+    /// else the revision. It takes no memory.
     pub fn settled(&self, revision: u64, path: &Path) -> u64
         requires { ∥ IsSoundRepo (held_state self.now) ∥₁ }
         ensures within { result ≤ revision }
@@ -27,8 +27,7 @@ impl Held {
     }
 }
 
-/// The newest revision of `last` at the path and of `own` there and above, `None` where nothing
-/// stands.
+/// Gives the newest revision of `last` at the path and of `own` there and above, `None` where nothing exists.
 fn newest_mark(nodes: &Nodes, root: Option<NodeId>, path: &[ByteString]) -> Option<u64>
     ensures { IfSome result (IsSettledFrom (shared_tree (node_at nodes.now) root) path.now) }
 {

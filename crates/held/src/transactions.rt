@@ -19,7 +19,7 @@ use txnmove::moved_tree;
 use txntree::TxnTree;
 
 impl Held {
-    /// The tree of a transaction that begins from the youngest revision.
+    /// Makes the tree of a transaction that begins from the youngest revision.
     pub fn begun(&self, alloc: Global) -> Result<TxnTree, AllocError>
         ensures tree { IfOk result (λ t. (q : PathValue) → txn_tree self.now.nodes t q
             ≡ begun (trees_of self.now.nodes (youngest (held_state self.now))) q) }
@@ -54,22 +54,22 @@ impl Held {
         Ok(tree)
     }
 
-    /// What stands at a path of a transaction.
+    /// Says what is at a path of a transaction.
     pub fn kind_in(&self, tree: &TxnTree, path: &Path) -> NodeKind
         ensures { result ≡ kind_of (txn_tree self.now.nodes tree.now path.now) }
     {
         tree.kind(&self.nodes, path)
     }
 
-    /// The revision that last changed what stands at a path of a transaction, at or under it: none
-    /// where the transaction has.
+    /// Gives the revision that last changed what is at a path of a transaction, at or under it: none where the
+    /// transaction has.
     pub fn created_in(&self, tree: &TxnTree, path: &Path) -> Option<u64>
         ensures { result ≡ created_of (txn_tree self.now.nodes tree.now path.now) }
     {
         tree.created(&self.nodes, path)
     }
 
-    /// The text of the file at a path of a transaction.
+    /// Gives the text of the file at a path of a transaction.
     pub fn text_in<'a>(&'a self, tree: &'a TxnTree, path: &Path) -> Option<&'a FileText>
         ensures { option_copied result ≡ text_of (txn_tree self.now.nodes tree.now path.now) }
     {

@@ -10,14 +10,14 @@ use repo_api::{Action, Change, Source};
 use std::alloc::{AllocError, Global};
 use svnpath::Path;
 
-/// Whether the change made what stands at the path, or a directory above it.
+/// Says whether the change made what is at the path, or a directory above it.
 fn decides(path: &Path, at: &Path, change: &Change) -> bool
     ensures { result ≡ decides path.now (at.now, change.now) }
 {
     matches!(change.action, Action::Add | Action::Replace) && path.is_at_or_under(at)
 }
 
-/// The change at the longest path, at or above this one, that was added or replaced.
+/// Finds the change at the longest path, at or above this one, that was added or replaced.
 fn decider<'a>(changes: &'a [(Path, Change)], path: &Path) -> Option<&'a (Path, Change)>
     ensures value { option_copied result ≡ decider changes.now path.now }
     ensures above { (e : Changed) → option_copied result ≡ Some e
@@ -29,7 +29,7 @@ fn decider<'a>(changes: &'a [(Path, Change)], path: &Path) -> Option<&'a (Path, 
         .find(|entry| decides(path, &entry.0, &entry.1))
 }
 
-/// Whether the revision lists a change at or under the path, or a copy at or above it.
+/// Says whether the revision lists a change at or under the path, or a copy at or above it.
 pub fn is_touched(changes: &[(Path, Change)], path: &Path) -> bool
     ensures { result ≡ is_touched changes.now path.now }
 {
@@ -39,7 +39,7 @@ pub fn is_touched(changes: &[(Path, Change)], path: &Path) -> bool
     is_any_touching(changes, path)
 }
 
-/// Whether any of the changes is at or under the path, or a copy at or above it.
+/// Says whether any of the changes is at or under the path, or a copy at or above it.
 fn is_any_touching(changes: &[(Path, Change)], path: &Path) -> bool
     ensures { result ≡ list_any (touches path.now) changes.now }
 {
@@ -54,8 +54,8 @@ fn touches(path: &Path, at: &Path, change: &Change) -> bool
     at.is_at_or_under(path) || change.source.is_some() && path.is_at_or_under(at)
 }
 
-/// The place before: the same path in the revision before, or beneath a copy the place in its source.
-/// What was made by the revision without a source was nowhere.
+/// Gives the place before: the same path in the revision before, or beneath a copy the place in its source. What was
+/// made by the revision without a source was nowhere.
 pub fn place_before(
     alloc: Global,
     changes: &[(Path, Change)],
@@ -69,7 +69,7 @@ pub fn place_before(
     }
 }
 
-/// The same path in the revision before.
+/// Gives the same path in the revision before.
 fn earlier(at: &Place) -> Result<Option<Place>, AllocError>
     ensures { IfOk result (λ place. place ≡ earlier at.now.path at.now.revision) }
 {
@@ -83,7 +83,7 @@ fn earlier(at: &Place) -> Result<Option<Place>, AllocError>
     }))
 }
 
-/// The path, which lies at or under `top`, beneath the source of a copy to `top`.
+/// Gives the path, which lies at or under `top`, beneath the source of a copy to `top`.
 fn source_place(
     alloc: Global,
     top: &Path,
@@ -105,7 +105,7 @@ fn source_place(
     }
 }
 
-/// Whether a copy brought what stands at the path.
+/// Says whether a copy brought what is at the path.
 fn is_copied(changes: &[(Path, Change)], path: &Path) -> bool
     ensures { result ≡ is_copied changes.now path.now }
 {
@@ -115,7 +115,7 @@ fn is_copied(changes: &[(Path, Change)], path: &Path) -> bool
     }
 }
 
-/// The place before, where a strict trace ends at a copy.
+/// Gives the place before, where a strict trace ends at a copy.
 pub fn next_place(
     alloc: Global,
     changes: &[(Path, Change)],

@@ -16,7 +16,7 @@ pub enum Coming {
 }
 
 impl Coming {
-    /// The next revision, if there is one. After an `Err` none comes any more.
+    /// Gives the next revision, if there is one. After an `Err` none comes any more.
     pub fn next<R: Repository>(
         &mut self,
         alloc: Global,

@@ -9,14 +9,14 @@ use repo_api::{Properties, Repository};
 /// The form of a date: a `0` stands for any digit.
 const DATE_FORM: &[u8] = b"0000-00-00T00:00:00.000000Z";
 
-/// Whether the text is in the form of a date, `YYYY-MM-DDThh:mm:ss.uuuuuuZ` with any digits.
+/// Says whether the text is in the form of a date, `YYYY-MM-DDThh:mm:ss.uuuuuuZ` with any digits.
 pub fn is_date_text(text: &[u8]) -> bool
     ensures { result ≡ is_date_text text.now }
 {
     text.len() == 27 && are_fitting(text)
 }
 
-/// Whether each byte may stand where the form has the one at its place.
+/// Says whether each byte may stand where the form has the one at its place.
 fn are_fitting(text: &[u8]) -> bool
     requires { length text.now ≡ 27 }
     ensures { result ≡ list_all (λ e. fits e.1 e.0) (zip text.now date_form) }
@@ -26,7 +26,7 @@ fn are_fitting(text: &[u8]) -> bool
         .all(|(byte, form)| fits(*form, *byte))
 }
 
-/// Whether the byte may stand where the form has this one.
+/// Says whether the byte may stand where the form has this one.
 fn fits(form: u8, byte: u8) -> bool
     ensures { result ≡ fits form byte }
 {
@@ -37,7 +37,7 @@ fn fits(form: u8, byte: u8) -> bool
     }
 }
 
-/// The value of `svn:date`.
+/// Finds the value of `svn:date`.
 fn date_of(properties: &Properties) -> Option<&[u8]>
     ensures { option_copied result ≡ date_of properties.now }
 {
@@ -55,7 +55,7 @@ fn is_date_name(name: &[u8]) -> bool
     name == b"svn:date".as_slice()
 }
 
-/// Whether there is a date text, and it is not after the date.
+/// Says whether there is a date text, and it is not after the date.
 fn is_up_to(date: &[u8], text: Option<&[u8]>) -> bool
     ensures { result ≡ is_up_to date.now (option_copied text.entry) }
 {
@@ -65,7 +65,7 @@ fn is_up_to(date: &[u8], text: Option<&[u8]>) -> bool
     }
 }
 
-/// Whether the revision's own date is not after the date.
+/// Says whether the revision's own date is not after the date.
 fn is_dated<R: Repository>(repository: &R, date: &[u8], revision: u64) -> bool
     ensures { result ≡ is_dated (R.content repository.now) date.now revision }
 {
@@ -75,8 +75,8 @@ fn is_dated<R: Repository>(repository: &R, date: &[u8], revision: u64) -> bool
     }
 }
 
-/// The greatest revision whose `svn:date` is in the form of a date and is not after the given date,
-/// which is in that form; 0 where there is none.
+/// Gives the greatest revision whose `svn:date` is in the form of a date and is not after the given date, which is in
+/// that form; 0 where there is none.
 pub fn dated_rev<R: Repository>(repository: &R, date: &[u8]) -> u64
     ensures { result ≡ dated_rev (R.content repository.now) date.now }
 {

@@ -8,8 +8,7 @@ use repo_api::{Action, Change, NodeKind, Repository};
 use std::alloc::{AllocError, Global};
 use svnpath::Path;
 
-/// The kind that a log shows for a change: of what is there now, or of what was deleted, at its place
-/// before.
+/// Gives the kind that a log shows for a change: of what is there now, or of what was deleted, at its place before.
 pub fn kind_shown<R: Repository>(
     alloc: Global,
     repository: &R,
@@ -28,7 +27,7 @@ pub fn kind_shown<R: Repository>(
     }
 }
 
-/// The kind of what stood at the path's place before the revision.
+/// Gives the kind of what was at the path's place before the revision.
 fn kind_before<R: Repository>(
     alloc: Global,
     repository: &R,

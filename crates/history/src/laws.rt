@@ -5,22 +5,22 @@ ghost use Rattle.repo_api.specs.States.{RepoState};
 ghost use Rattle.history.specs.Dates.{dated_rev};
 ghost use Rattle.history.specs.Laws.{TracesFall, LogsAreRight, AreOnTraces, IsGreatestDated};
 
-/// Along a trace the revisions fall.
+/// Shows that along a trace the revisions fall.
 pub fn traces_fall()
     ensures { (h : History) → TracesFall h }
 {}
 
-/// What a log lists is between the two revisions, each once and in order, and on one of the traces.
+/// Shows that what a log lists is between the two revisions, each once and in order, and on one of the traces.
 pub fn logs_are_right()
     ensures { (h : History) → LogsAreRight h }
 {}
 
-/// A location is on the trace of the place, or the place is on that of the location.
+/// Shows that a location is on the trace of the place, or the place is on that of the location.
 pub fn locations_are_on_traces()
     ensures { (c : RepoState) → AreOnTraces c }
 {}
 
-/// The dated revision is the greatest that is not dated after the date.
+/// Shows that the dated revision is the greatest that is not dated after the date.
 pub fn dated_revisions_are_greatest()
     ensures { (c : RepoState) (date : List ℕ) → IsGreatestDated c date (dated_rev c date) }
 {}

@@ -11,8 +11,8 @@ use std::alloc::{AllocError, Global};
 use std::collections::BTreeSet;
 use svnpath::Path;
 
-/// The path of the place in a revision: at or below its own by its trace, above it the same path,
-/// where something stands there whose trace passes through the place.
+/// Finds the path of the place in a revision: at or below its own by its trace, above it the same path, where something
+/// exists there whose trace passes through the place.
 pub fn location<R: Repository>(
     alloc: Global,
     repository: &R,
@@ -32,7 +32,7 @@ pub fn location<R: Repository>(
     }
 }
 
-/// The place's paths in the revisions: those that have one, in the order asked, each once.
+/// Finds the place's paths in the revisions: those that have one, in the order asked, each once.
 pub fn locations<R: Repository>(
     alloc: Global,
     repository: &R,
@@ -46,7 +46,7 @@ pub fn locations<R: Repository>(
     located(alloc, repository, place, once.as_slice())
 }
 
-/// The place's paths in the revisions that have one.
+/// Finds the place's paths in the revisions that have one.
 fn located<R: Repository>(
     alloc: Global,
     repository: &R,
@@ -65,7 +65,7 @@ fn located<R: Repository>(
     Ok(found)
 }
 
-/// Each of the revisions once, where it stands first.
+/// Gives each of the revisions once, where it comes first.
 pub fn each_once(alloc: Global, revisions: &[u64]) -> Result<Vec<u64>, AllocError>
     ensures { IfOk result (λ once. once.items ≡ each_once revisions.now) }
 {
@@ -96,7 +96,7 @@ fn location_on<R: Repository>(
     Ok(only_same(later.path, &back))
 }
 
-/// The path, if it is the other.
+/// Gives the path, if it is the other.
 fn only_same(path: Path, other: &Option<Path>) -> Option<Path>
     ensures { result ≡ only_same path other.now }
 {
@@ -106,7 +106,7 @@ fn only_same(path: Path, other: &Option<Path>) -> Option<Path>
     }
 }
 
-/// The path of the place's trace in the revision.
+/// Finds the path of the place's trace in the revision.
 #[tactic(auto, using(crate::proofs::Steps::goes_on_to, crate::proofs::Steps::ends_at, crate::proofs::Steps::is_at, crate::proofs::Steps::is_past))]
 fn location_back<R: Repository>(
     alloc: Global,
@@ -138,7 +138,7 @@ fn location_back<R: Repository>(
     }
 }
 
-/// The place in the revision that it has settled in, or in this one where that is greater.
+/// Gives the place in the revision that it has settled in, or in this one where that is greater.
 fn settled_above<R: Repository>(repository: &R, at: Place, revision: u64) -> Place
     requires { revision ≤ at.revision }
     ensures within { result.revision ≤ at.revision }

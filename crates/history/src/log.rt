@@ -19,8 +19,7 @@ pub struct Log {
 }
 
 impl Log {
-    /// The log of these paths, each of which stands in the greater of the two revisions; no path means
-    /// the root.
+    /// Opens the log of these paths, each of which exists in the greater of the two revisions; no path means the root.
     pub fn open<R: Repository>(
         alloc: Global,
         repository: &R,
@@ -36,8 +35,8 @@ impl Log {
         })
     }
 
-    /// The next revision of the log, if there is one, over the repository that it was opened over.
-    /// After an `Err` none comes any more.
+    /// Gives the next revision of the log, if there is one, over the repository that it was opened over. After an `Err`
+    /// none comes any more.
     pub fn next<R: Repository>(
         &mut self,
         alloc: Global,
@@ -56,7 +55,7 @@ impl Log {
     }
 }
 
-/// The log without its limit.
+/// Opens the log without its limit.
 fn open_coming<R: Repository>(
     alloc: Global,
     repository: &R,
@@ -74,14 +73,14 @@ fn open_coming<R: Repository>(
     Ok(Coming::Rising(walks.all(alloc, repository)?))
 }
 
-/// As many as told, or all where that is 0.
+/// Gives the limit: as many as asked for, or all where that is 0.
 fn limit_of(limit: u64) -> Option<u64>
     ensures { (ns : List ℕ) → up_to result ns ≡ limited limit ns }
 {
     if limit == 0 { None } else { Some(limit) }
 }
 
-/// Whether none may come any more.
+/// Says whether none may come any more.
 fn is_spent(left: Option<u64>) -> bool
     ensures { result ≡ is_spent left }
 {

@@ -10,7 +10,7 @@ use crate::place::Place;
 use repo_api::Repository;
 use std::alloc::{AllocError, Global};
 
-/// The place, if it is below the revision.
+/// Gives the place, if it is below the revision.
 fn only_below(place: Option<Place>, revision: u64) -> Option<Place>
     ensures below { IsBelow revision result }
     ensures trace { (h : History) (strict : Bool) → trace_below h strict revision place
@@ -28,7 +28,7 @@ fn only_below(place: Option<Place>, revision: u64) -> Option<Place>
     }
 }
 
-/// One step back along the trace of a place.
+/// Takes one step back along the trace of a place.
 pub fn step<R: Repository>(
     alloc: Global,
     repository: &R,
@@ -43,7 +43,7 @@ pub fn step<R: Repository>(
     Ok(only_below(next, at.revision))
 }
 
-/// The place in the revision that it has settled in: from there to the place nothing is listed.
+/// Gives the place in the revision that it has settled in: from there to the place nothing is listed.
 fn settled_place<R: Repository>(repository: &R, at: Place) -> Place
     ensures within { result.revision ≤ at.revision }
     ensures listed { let h = history_of (R.content repository.now) in (strict : Bool) (low : ℕ)
@@ -59,8 +59,8 @@ fn settled_place<R: Repository>(repository: &R, at: Place) -> Place
     }
 }
 
-/// The first revision, from `low` on, that the log lists along the trace from the place back, and the
-/// place from which the log goes on: so a log goes out revision by revision.
+/// Finds the first revision, from `low` on, that the log lists along the trace from the place back, and the place from
+/// which the log goes on: so a log goes out revision by revision.
 #[tactic(auto, using(crate::proofs::Steps::walked_on, crate::proofs::Steps::walked_to, crate::proofs::Steps::nothing_listed_below))]
 pub fn next_listed<R: Repository>(
     alloc: Global,

@@ -21,7 +21,7 @@ pub struct Walks {
     pub heads: Vec<Option<Listed>>,
 }
 
-/// The newest revision that the walks have found.
+/// Gives the newest revision that the walks have found.
 fn newest(heads: &[Option<Listed>]) -> Option<u64>
     ensures { one_above result ≡ above_heads heads.now }
 {
@@ -43,7 +43,7 @@ fn newer(newest: Option<u64>, head: &Option<Listed>) -> Option<u64>
 }
 
 impl Walks {
-    /// The walks of a log of these paths, each with the first revision that it finds.
+    /// Begins the walks of a log of these paths, each with the first revision that it finds.
     pub fn begin<R: Repository>(
         alloc: Global,
         repository: &R,
@@ -62,7 +62,7 @@ impl Walks {
         })
     }
 
-    /// The next revision, if there is one. After an `Err` none comes any more.
+    /// Gives the next revision, if there is one. After an `Err` none comes any more.
     pub fn next<R: Repository>(
         &mut self,
         alloc: Global,
@@ -81,7 +81,7 @@ impl Walks {
         Ok(Some(newest))
     }
 
-    /// All revisions that are to come.
+    /// Gives all revisions that are to come.
     pub fn all<R: Repository>(self, alloc: Global, repository: &R) -> Result<Vec<u64>, AllocError>
         ensures { let h = history_of (R.content repository.now) in
             IfOk result (λ found. found.items ≡ of_walks h self) }
@@ -94,7 +94,7 @@ impl Walks {
         Ok(found)
     }
 
-    /// The walks gone on past the newest revision that they have found.
+    /// Moves the walks on past the newest revision that they have found.
     fn advanced<R: Repository>(
         &self,
         alloc: Global,
@@ -115,7 +115,7 @@ impl Walks {
         Ok(next)
     }
 
-    /// The walk gone on, where it has found this revision.
+    /// Moves the walk on, where it has found this revision.
     fn past<R: Repository>(
         &self,
         alloc: Global,
@@ -140,7 +140,7 @@ impl Walks {
     }
 }
 
-/// What the walks of a log find first: those of the paths, or that of the root.
+/// Finds what the walks of a log find first: those of the paths, or that of the root.
 fn all_heads<R: Repository>(
     alloc: Global,
     repository: &R,
@@ -159,7 +159,7 @@ fn all_heads<R: Repository>(
     }
 }
 
-/// What the walks of these paths find first.
+/// Finds what the walks of these paths find first.
 fn first_heads<R: Repository>(
     alloc: Global,
     repository: &R,

@@ -20,19 +20,19 @@ ghost use Rattle.history_marks.specs.Settling.{HasNoLaterMark, or_zero};
 ghost use Rattle.history_marks.specs.Sound.{IsMarkedRepo, IsSoundRepo, IsSoundTxn, IsSoundChange};
 ghost use Rattle.history_marks.specs.Transactions.{IsToldTxn};
 
-/// From the newest revision of the marks at and above a place up to the place's own revision nothing
-/// is listed at, under or above it: a walk may go there at once.
+/// Shows that from the newest revision of the marks at and above a place up to the place's own revision nothing is
+/// listed at, under or above it: a walk may go there at once.
 pub fn marks_lead_back()
     ensures { (trees : ℕ → Tree) (h : History) → IsMarkedBy trees h → MarksLeadBack trees h }
 {}
 
-/// The marks of a new repository tell of its lists of changes.
+/// Shows that the marks of a new repository tell of its lists of changes.
 pub fn new_repositories_are_marked()
     ensures { (uuid : ℕ) (date : List ℕ) → IsMarkedRepo (new_repository uuid date) }
 {}
 
-/// The marks of a transaction tell of its changes when it begins, and after each edit that may be
-/// made of it, over revisions that go on from those last shown.
+/// Shows that the marks of a transaction tell of its changes when it begins, and after each edit that may be made of
+/// it, over revisions that go on from those last shown.
 pub fn transactions_tell_changes()
     ensures begins { (c : RepoState) (t : TxnState) → IsBegun c t → IsToldTxn t }
     ensures edits { (shown : List Revision) (old : TxnState) (op : EditOp) (new : TxnState)
@@ -41,8 +41,8 @@ pub fn transactions_tell_changes()
         → IsEdited shown old op new → IsToldTxn old → IsToldTxn new }
 {}
 
-/// Where the marks of a repository tell of its lists of changes, and those of a transaction of its
-/// changes, they tell of that of the revision too that a commit adds, whatever it was merged with.
+/// Shows that where the marks of a repository tell of its lists of changes, and those of a transaction of its changes,
+/// they tell of that of the revision too that a commit adds, whatever it was merged with.
 pub fn commits_mark_changes()
     ensures { (c : RepoState) (ask : CommitAsk) (t : TxnState) → AreMarked (trees_in c.revisions)
         → IsTree (trees_in c.revisions (youngest c)) → IsBeginning t.shown c.revisions
@@ -50,8 +50,8 @@ pub fn commits_mark_changes()
         → IsMarkedRepo c → IsMarkedRepo (committed c ask t) }
 {}
 
-/// A transaction is sound when it begins in a sound repository, and after each edit that may be
-/// made of it, over sound revisions that go on from those last shown.
+/// Shows that a transaction is sound when it begins in a sound repository, and after each edit that may be made of it,
+/// over sound revisions that go on from those last shown.
 pub fn transactions_stay_sound()
     ensures begins { (c : RepoState) (t : TxnState) → IsSoundRepo c → IsBegun c t → IsSoundTxn t }
     ensures edits { (shown : List Revision) (old : TxnState) (op : EditOp) (new : TxnState)
@@ -62,8 +62,8 @@ pub fn transactions_stay_sound()
     repo_laws::beginnings_are_trees();
 }
 
-/// A repository is sound when it is new, and after each change that is accepted, where a commit is
-/// of a sound transaction.
+/// Shows that a repository is sound when it is new, and after each change that is accepted, where a commit is of a
+/// sound transaction.
 pub fn repositories_stay_sound()
     ensures opens { (uuid : ℕ) (date : List ℕ) → IsSoundRepo (new_repository uuid date) }
     ensures changes { (c : RepoState) (e : Accepted) → IsSoundRepo c → IsAccepted c e
@@ -72,8 +72,8 @@ pub fn repositories_stay_sound()
     repo_laws::opening_is_a_tree();
 }
 
-/// In a sound repository nothing was changed at, under or above what stands at a path after the
-/// newest of the marks there and above. The marks above are those at the path's first names.
+/// Shows that in a sound repository nothing was changed at, under or above what exists at a path after the newest of
+/// the marks there and above. The marks above are those at the path's first names.
 pub fn marks_settle()
     ensures quiet { (c : RepoState) (n : ℕ) (p : PathValue) (k : ℕ) → IsSoundRepo c
         → IsSome (get (tree_at c n) p) → HasNoLaterMark (tree_of (tree_at c n)) p k

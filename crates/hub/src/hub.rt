@@ -46,7 +46,7 @@ pub enum HubFault {
     Full,
 }
 
-/// The place of a session.
+/// Finds the place of a session.
 fn place<R: Repository>(sessions: &[(SessionId, Session<R>)], number: SessionId) -> Option<usize>
     ensures { MatchOption result (session_of sessions.now number ≡ None)
         (λ i. Finds sessions.now number i) }
@@ -94,7 +94,7 @@ fn add_session<R: Repository>(
     Ok(())
 }
 
-/// The greeting.
+/// Makes the greeting.
 fn greeting(alloc: Global) -> Result<Vec<u8>, AllocError>
     ensures { IfOk result (λ out. out.items ≡ print (Greeting ∷ [])) }
 {
@@ -129,7 +129,7 @@ impl<A: SoleAccess> Model for Hub<A> {
 }
 
 impl<R: Repository> Hub<SoleRepository<R>> {
-    /// A hub without sessions over a repository in memory that nobody else has, whose trees are sound.
+    /// Makes a hub without sessions over a repository in memory that nobody else has, whose trees are sound.
     pub fn over(alloc: Global, repository: R, options: Options) -> Result<Self, HubFault>
         requires { AreSound (R.content repository).revisions }
         ensures ok { IfOk result (λ hub. hub
@@ -139,7 +139,7 @@ impl<R: Repository> Hub<SoleRepository<R>> {
         Ok(Hub::with_access(alloc, SoleRepository::new(repository), options))
     }
 
-    /// A hub without sessions over a new repository in memory that nobody else has.
+    /// Makes a hub without sessions over a new repository in memory that nobody else has.
     pub fn over_new(alloc: Global, repository: R, options: Options) -> Result<Self, HubFault>
         requires { (uuid : ℕ) × (date : List ℕ)
             × (R.content repository ≡ new_repository uuid date) }
@@ -153,7 +153,7 @@ impl<R: Repository> Hub<SoleRepository<R>> {
 }
 
 impl<A: SoleAccess> Hub<A> {
-    /// A hub without sessions over what an access reaches, whose trees are sound.
+    /// Makes a hub without sessions over what an access reaches, whose trees are sound.
     pub fn with_access(alloc: Global, access: A, options: Options) -> Self
         requires { AreSound (content_of (A.point access)).revisions }
         ensures { result ≡ hub_at options (A.point access) [] 0 }
@@ -167,7 +167,7 @@ impl<A: SoleAccess> Hub<A> {
         }
     }
 
-    /// How the repository is reached.
+    /// Says how the repository is reached.
     pub fn access(&self) -> &A
         ensures content { content_of (A.point result.now) ≡ self.now.content }
         ensures halted { (A.point result.now).halted ≡ self.now.halted }
@@ -196,7 +196,7 @@ impl<A: SoleAccess> Hub<A> {
         (access, options)
     }
 
-    /// The number of the next session: none where as many are open as may be, or all numbers are used.
+    /// Gives the number of the next session: none where as many are open as may be, or all numbers are used.
     fn next_number(&self) -> Option<SessionId>
         ensures { MatchOption result (IsFull self.now)
             (λ n. (n ≡ self.now.used + 1) × (length self.now.sessions < MAX_SESSIONS)) }
@@ -207,7 +207,7 @@ impl<A: SoleAccess> Hub<A> {
         Some(self.used + 1)
     }
 
-    /// A new session: its number and the greeting that is written to its client.
+    /// Opens a new session, and gives its number and the greeting that is written to its client.
     pub fn connect(&mut self) -> Result<(SessionId, Vec<u8>), HubFault>
         ensures ok { IfOk result (λ r. ConnectsAs self.old r.0 r.1.items self.new) }
         ensures err { IfErr result (λ e. ConnectFails self.old e self.new) }
@@ -297,12 +297,12 @@ impl<A: SoleAccess> Hub<A> {
         }
     }
 
-    /// Where a hub has its memory from.
+    /// Says where a hub has its memory from.
     pub fn alloc(&self) -> Global {
         self.alloc
     }
 
-    /// Whether a session of this number is open.
+    /// Says whether a session of this number is open.
     pub fn is_open(&self, number: SessionId) -> bool
         ensures { result ≡ (is_some (session_of self.now.sessions number) && not self.now.halted) }
     {

@@ -37,29 +37,29 @@ ghost use Rattle.hub.specs.Calls.{CallRun};
 ghost use Rattle.hub.specs.declared.calls.Call.{Call};
 ghost use Rattle.hub.specs.declared.calls.Outcome.{Outcome};
 
-/// The trees and changes of revisions that are there stay the same, whatever happens.
+/// Shows that the trees and changes of revisions that exist stay the same, whatever happens.
 pub fn revisions_stay()
     ensures { (old new : HubState) (env after : Env) (events : List Event) (told : List Reply)
         → HubRun old env events told new after → IsBeginning old.content.revisions new.content.revisions }
 {}
 
-/// An event adds at most one revision.
+/// Shows that an event adds at most one revision.
 pub fn one_revision_an_event()
     ensures { (old new : HubState) (env after : Env) (event : Event) (told : List Reply)
         → HubStep old env event told new after → length new.content.revisions ≤ length old.content.revisions + 1 }
 {}
 
-/// An event that is answered by a failure leaves the repository as it was.
+/// Shows that an event that is answered by a failure leaves the repository as it was.
 pub fn refused_changes_nothing()
     ensures { (old new : HubState) (env after : Env) (event : Event) (told : List Reply)
         → HubStep old env event told new after → TellsFailure told → new.content ≡ old.content }
 {}
 
-/// What an event does to the repository is what its own session has asked for, and is told: a commit is of the
-/// transaction that this session has open, by its user, with the tokens that it handed in, and where every tree is a
-/// tree, it overwrites nothing that was changed since its base; a change of a property is the one of its command; and a
-/// lock has the token of the word that was handed in, which is used up. Where changes come to a halt, the one that was
-/// being saved is known: the event's own session asked for it, and the rules accept it.
+/// Shows that what an event does to the repository is what its own session has asked for, and is told: a commit is of
+/// the transaction that this session has open, by its user, with the tokens that it handed in, and where every tree is
+/// a tree, it overwrites nothing that was changed since its base; a change of a property is the one of its command; and
+/// a lock has the token of the word that was handed in, which is used up. Where changes come to a halt, the one that
+/// was being saved is known: the event's own session asked for it, and the rules accept it.
 pub fn changes_are_asked_for()
     ensures event { (old new : HubState) (env after : Env) (event : Event) (told : List Reply)
         → HubStep old env event told new after
@@ -75,10 +75,10 @@ pub fn changes_are_asked_for()
     repo_laws::commits_keep_both_sides();
 }
 
-/// What is not the session's own is not asked for: a commit of another transaction than that of its edit, at another
-/// command than the edit's end, by another user, or with other tokens than were handed in; a release of other locks;
-/// and a change of a property by another command than a `change-rev-prop` or `change-rev-prop2` that names it so, with
-/// the value before that it is to have.
+/// Shows that what is not the session's own is not asked for: a commit of another transaction than that of its edit, at
+/// another command than the edit's end, by another user, or with other tokens than were handed in; a release of other
+/// locks; and a change of a property by another command than a `change-rev-prop` or `change-rev-prop2` that names it
+/// so, with the value before that it is to have.
 pub fn nothing_else_is_asked_for()
     ensures commit { (env : Env) (edit : MachineEdit) (t : ItemValue) (ask : CommitAsk) (txn : TxnState)
         → IsAsked env (Editing edit) (Whole t) (Commits ask txn)
@@ -94,8 +94,8 @@ pub fn nothing_else_is_asked_for()
         → IsAsked env (Editing edit) (Whole t) (ChangesProperty ask) → ⊥ }
 {}
 
-/// Whatever happens, and whatever calls come, the repository has gone on by the changes that were asked for, each
-/// accepted in the state that those before it make, and by nothing else.
+/// Shows that, whatever happens, and whatever calls come, the repository has gone on by the changes that were asked
+/// for, each accepted in the state that those before it make, and by nothing else.
 pub fn only_accepted_changes()
     ensures events { (old new : HubState) (env after : Env) (events : List Event) (told : List Reply)
         (run : HubRun old env events told new after) (changes : List Accepted)
@@ -105,10 +105,10 @@ pub fn only_accepted_changes()
         → CallsHaveDone old calls outcomes new run changes → GoesOnBy old.content changes new.content }
 {}
 
-/// Changes that were asked for respect locks, at an event, whatever happens, and whatever calls come: each lock in the
-/// way of a commit among them is its user's, and its token was handed in; at a path that no change names the lock stays
-/// as it was; and where no two locks have one token, and each new lock has a token that none has then, no two come to
-/// have one.
+/// Shows that changes that were asked for respect locks, at an event, whatever happens, and whatever calls come: each
+/// lock in the way of a commit among them is its user's, and its token was handed in; at a path that no change names
+/// the lock stays as it was; and where no two locks have one token, and each new lock has a token that none has then,
+/// no two come to have one.
 pub fn locks_are_respected()
     ensures event { (old new : HubState) (env after : Env) (event : Event) (changes : List Accepted) (told : List Reply)
         → HasDone old env event changes told new after → RespectLocks old.content changes new.content }
@@ -125,8 +125,8 @@ pub fn locks_are_respected()
     pathlocks::tokens_stay_distinct();
 }
 
-/// Where no two locks have one token, as in a new hub, and each word that is used up by a lock has a token that none has
-/// which stands then, no two locks come to have one, whatever happens, and whatever calls come.
+/// Shows that, where no two locks have one token, as in a new hub, and each word that is used up by a lock has a token
+/// that none has which exists then, no two locks come to have one, whatever happens, and whatever calls come.
 pub fn no_two_locks_have_one_token()
     ensures at_first { (settings : Settings) (uuid : ℕ) (date : List ℕ)
         → HaveOwnTokens (new_hub settings uuid date).content.locks }
@@ -144,13 +144,13 @@ pub fn no_two_locks_have_one_token()
     pathlocks::tokens_stay_distinct();
 }
 
-/// Whatever calls come, the trees and changes of revisions that are there stay the same.
+/// Shows that, whatever calls come, the trees and changes of revisions that exist stay the same.
 pub fn calls_keep_history()
     ensures { (old new : HubState) (calls : List Call) (outcomes : List Outcome)
         → CallRun old calls outcomes new → IsBeginning old.content.revisions new.content.revisions }
 {}
 
-/// The settings and the repository's name among all repositories never change.
+/// Shows that the settings and the repository's name among all repositories never change.
 pub fn constants_stay()
     ensures events { (old new : HubState) (env after : Env) (events : List Event) (told : List Reply)
         → HubRun old env events told new after → KeepsConstants old new }
@@ -158,8 +158,8 @@ pub fn constants_stay()
         → CallRun old calls outcomes new → KeepsConstants old new }
 {}
 
-/// Properties of revisions that are there stay the same, but for those that were asked to be changed: at an event,
-/// whatever happens, and whatever calls come. Where clients may not change them, all stay the same.
+/// Shows that properties of revisions that exist stay the same, but for those that were asked to be changed: at an
+/// event, whatever happens, and whatever calls come. Where clients may not change them, all stay the same.
 pub fn revision_properties_stay()
     ensures event { (old new : HubState) (env after : Env) (event : Event) (changes : List Accepted) (told : List Reply)
         → HasDone old env event changes told new after → KeepsOtherProperties old.content changes new.content }
@@ -182,7 +182,7 @@ pub fn revision_properties_stay()
     repo_laws::changes_of_properties_keep_revisions();
 }
 
-/// The count of the store's failures never falls.
+/// Shows that the count of the store's failures never falls.
 pub fn failures_never_fall()
     ensures events { (old new : HubState) (env after : Env) (events : List Event) (told : List Reply)
         → HubRun old env events told new after → old.failures ≤ last_count → old.failures ≤ new.failures }
@@ -190,7 +190,8 @@ pub fn failures_never_fall()
         → CallRun old calls outcomes new → old.failures ≤ last_count → old.failures ≤ new.failures }
 {}
 
-/// Where the store has not failed, changes have not come to a halt. (By its count, which stays at its greatest value.)
+/// Shows that, where the store has not failed, changes have not come to a halt. (By its count, which stays at its
+/// greatest value.)
 pub fn halts_are_counted()
     ensures events { (old new : HubState) (env after : Env) (events : List Event) (told : List Reply)
         → HubRun old env events told new after
@@ -200,7 +201,8 @@ pub fn halts_are_counted()
         → old.failures < last_count → new.failures ≡ old.failures → new.halted ≡ old.halted }
 {}
 
-/// After a halt nothing changes the repository any more, it stays so, and what was being saved then stays known.
+/// Shows that after a halt nothing changes the repository any more, it stays so, and what was being saved then stays
+/// known.
 pub fn a_halt_stays()
     ensures events { (old new : HubState) (env after : Env) (events : List Event) (told : List Reply)
         → HubRun old env events told new after
@@ -212,7 +214,7 @@ pub fn a_halt_stays()
         × (new.pending ≡ old.pending) }
 {}
 
-/// What a stream brings does not depend on how it is cut: what the first part brings comes first, and then
+/// Shows that what a stream brings does not depend on how it is cut: what the first part brings comes first, and then
 /// what its rest and the second part bring.
 pub fn cut_anywhere()
     ensures { (first second : List ℕ) (inputs more : List Input) (rest end : List ℕ)
@@ -220,8 +222,8 @@ pub fn cut_anywhere()
         → Yields (first ++ second) (inputs ++ more) end }
 {}
 
-/// Every tree is a tree, those of the revisions and those of the open edits: where it is so, it stays so, whatever
-/// happens, whatever has come of a stream, and whatever calls come.
+/// Shows that every tree is a tree, those of the revisions and those of the open edits: where it is so, it stays so,
+/// whatever happens, whatever has come of a stream, and whatever calls come.
 pub fn trees_stay_trees()
     ensures events { (old new : HubState) (env after : Env) (events : List Event) (told : List Reply)
         → HasTrees old → HubRun old env events told new after → HasTrees new }
@@ -233,8 +235,8 @@ pub fn trees_stay_trees()
     machine::steps_keep_trees();
 }
 
-/// A commit never overwrites what was changed since its base, by others or by its transaction, whatever happens to a
-/// hub in which every tree is a tree, and whatever it is called for.
+/// Shows that a commit never overwrites what was changed since its base, by others or by its transaction, whatever
+/// happens to a hub in which every tree is a tree, and whatever it is called for.
 pub fn commits_overwrite_nothing()
     ensures events { (old new : HubState) (env after : Env) (events : List Event) (told : List Reply)
         (run : HubRun old env events told new after) (changes : List Accepted)
@@ -248,7 +250,7 @@ pub fn commits_overwrite_nothing()
     machine::steps_keep_trees();
 }
 
-/// The trees of a new repository are sound: a hub may be made over it.
+/// Shows that the trees of a new repository are sound: a hub may be made over it.
 pub fn new_repositories_are_sound()
     ensures { (c : RepoState) (uuid : ℕ) (date : List ℕ) → c ≡ new_repository uuid date
         → AreSound c.revisions }
@@ -257,8 +259,8 @@ pub fn new_repositories_are_sound()
     repo_laws::opening_is_marked();
 }
 
-/// Every tree is a tree in a hub to which nobody has connected yet, over a new repository, or over one whose trees are
-/// sound.
+/// Shows that every tree is a tree in a hub to which nobody has connected yet, over a new repository, or over one whose
+/// trees are sound.
 pub fn new_trees_are_trees()
     ensures of_new { (settings : Settings) (uuid : ℕ) (date : List ℕ)
         → HasTrees (new_hub settings uuid date) }
@@ -268,8 +270,8 @@ pub fn new_trees_are_trees()
     new_repositories_are_sound();
 }
 
-/// The tree of each revision is a tree, whatever happens to a hub in which every tree is one, and whatever it is called
-/// for.
+/// Shows that the tree of each revision is a tree, whatever happens to a hub in which every tree is one, and whatever
+/// it is called for.
 pub fn revisions_are_trees()
     ensures events { (old new : HubState) (env after : Env) (events : List Event) (told : List Reply)
         → HasTrees old → HubRun old env events told new after → AreTrees new.content.revisions }

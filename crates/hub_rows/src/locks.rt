@@ -20,7 +20,7 @@ const ENV: Env = Env {
     nonce: 0,
 };
 
-/// A lock of a user that no hub here has.
+/// Makes a lock of a user that no hub here has.
 fn lock_of_another(alloc: Global) -> Result<Lock, AllocError> {
     Ok(Lock {
         token: ByteString::from_slice(alloc, b"opaquelocktoken:x")?,
@@ -51,7 +51,7 @@ fn put_locks<R: InMemory>(alloc: Global, repository: &mut R, count: usize) -> Re
     Ok(())
 }
 
-/// A new repository.
+/// Makes a new repository.
 fn new_repository<R: InMemory>(alloc: Global) -> Result<R, Fail>
     ensures { IfOk result (λ repository. AreSound (R.content repository).revisions) }
 {
@@ -78,7 +78,7 @@ const LOCK_OF_A: &[u8] = b"( success ( ( ) 0: ) ) ( success ( ( 2:/a \
       52:opaquelocktoken:00000000-0000-0000-0000-000000000000 5:alice ( ) \
       27:1970-01-01T00:00:00.000000Z ( ) ) ) ) ";
 
-/// What a client is told for these pieces.
+/// Gives what a client is sent for these pieces.
 fn told<R: InMemory>(
     alloc: Global,
     hub: &mut Hub<SoleRepository<R>>,
@@ -93,7 +93,7 @@ fn told<R: InMemory>(
     Ok(out)
 }
 
-/// What alice is told, where as many locks stand as may, but for one.
+/// Gives what alice is sent, where as many locks exist as may, but for one.
 fn told_of_the_last_lock<R: InMemory>(alloc: Global, pieces: &[&[u8]]) -> Result<Vec<u8>, Fail> {
     let mut repository: R = new_repository(alloc)?;
     put_locks(alloc, &mut repository, LOCK_LIMIT - 1)?;
@@ -115,7 +115,7 @@ const LOCKS_OF_ALICE: [&[u8]; 8] = [
     b"( unlock ( 1:a ( ) true ) ) ( lock ( 1:b ( ) false ( ) ) ) ",
 ];
 
-/// What she is told.
+/// Gives what she is sent.
 fn wanted_of_alice(alloc: Global) -> Result<Vec<u8>, AllocError> {
     let mut wanted = Vec::from_slice(alloc, LOGIN_OF_ALICE)?;
     wanted.extend_from_slice(
@@ -154,7 +154,7 @@ fn as_many_locks_as_may_stand_in_flat(rt: HostRuntime) -> Result<(), Fail> {
     Ok(())
 }
 
-/// What a client without a name is told where another's lock stands at `/a`.
+/// Gives what a client without a name is sent where another's lock exists at `/a`.
 fn told_beside_a_lock<R: InMemory>(alloc: Global, pieces: &[&[u8]]) -> Result<Vec<u8>, Fail> {
     let mut repository: R = new_repository(alloc)?;
     put_lock(alloc, &mut repository, "/a")?;

@@ -13,7 +13,7 @@ const DIRECTORIES: u32 = 10;
 
 const FILES: u32 = 100;
 
-/// What an edit is answered, where nothing lacks.
+/// Gives what an edit is answered, where nothing is missing.
 fn made(edited: Result<(), EditFault>) -> Result<(), Fail> {
     match edited {
         Ok(()) => Ok(()),
@@ -30,7 +30,7 @@ fn text(alloc: Global, bytes: &[u8]) -> Result<FileText, Fail> {
     Ok(FileText::from_shared(bytes))
 }
 
-/// The root of the youngest revision.
+/// Finds the root of the youngest revision.
 fn youngest_root(nodes: &Nodes) -> Result<NodeId, Fail> {
     match nodes.root((nodes.count() as u64).saturating_sub(1)) {
         Some(root) => Ok(root),
@@ -38,7 +38,7 @@ fn youngest_root(nodes: &Nodes) -> Result<NodeId, Fail> {
     }
 }
 
-/// A transaction over the youngest revision.
+/// Begins a transaction over the youngest revision.
 fn begun(alloc: Global, nodes: &Nodes) -> Result<TxnTree, Fail> {
     match OpenNode::over(alloc, nodes, youngest_root(nodes)?) {
         Ok(root) => Ok(TxnTree { root }),
@@ -46,7 +46,7 @@ fn begun(alloc: Global, nodes: &Nodes) -> Result<TxnTree, Fail> {
     }
 }
 
-/// The transaction as the next revision.
+/// Commits the transaction as the next revision.
 fn committed(alloc: Global, nodes: &Nodes, tree: &TxnTree) -> Result<Nodes, Fail> {
     let count = nodes.count();
     if count >= 262_144 {
@@ -56,7 +56,7 @@ fn committed(alloc: Global, nodes: &Nodes, tree: &TxnTree) -> Result<Nodes, Fail
     Ok(nodes.with_block(alloc, block)?)
 }
 
-/// How many nodes the youngest revision has added.
+/// Counts the nodes that the youngest revision has added.
 fn added(nodes: &Nodes) -> u64 {
     let count = nodes.count();
     if count == 0 || count > 262_144 {
@@ -68,7 +68,7 @@ fn added(nodes: &Nodes) -> u64 {
     last.unwrap_or(10_000)
 }
 
-/// A revision with ten directories of a hundred files each.
+/// Makes a revision with ten directories of a hundred files each.
 fn planted(alloc: Global) -> Result<Nodes, Fail> {
     let nodes = Nodes::opened(alloc)?;
     let mut tree = begun(alloc, &nodes)?;

@@ -125,7 +125,7 @@ fn drip(bytes: &'static [u8], fails: bool) -> Dripping {
     }
 }
 
-/// A hub of the repository `r`, where clients may change the properties of revisions or not.
+/// Makes a hub of the repository `r`, where clients may change the properties of revisions or not.
 fn hub_of_r<R: InMemory>(alloc: Global, revprops: bool) -> Result<Hub<SoleRepository<R>>, Fail> {
     let repository = R::empty(alloc, UUID, 0)?;
     let options = Options::new(alloc, "r")?;
@@ -137,7 +137,7 @@ fn hub_of_r<R: InMemory>(alloc: Global, revprops: bool) -> Result<Hub<SoleReposi
     Ok(Hub::over_new(alloc, repository, options)?)
 }
 
-/// What is written for these bytes, where clients may change the properties of revisions or not.
+/// Gives what is written for these bytes, where clients may change the properties of revisions or not.
 fn written<R: InMemory>(
     alloc: Global,
     bytes: &'static [u8],
@@ -156,7 +156,7 @@ fn answers_byte_by_byte(rt: HostRuntime) -> Result<(), Fail> {
     Ok(())
 }
 
-/// What is written where the reader fails behind these bytes, if it is told so.
+/// Gives what is written where the reader fails after these bytes, if that failure is answered.
 fn written_before<R: InMemory>(
     alloc: Global,
     bytes: &'static [u8],
@@ -188,7 +188,7 @@ fn answers_what_was_read_before_the_reader_fails(rt: HostRuntime) -> Result<(), 
     Ok(())
 }
 
-/// Whether the loop ends where the writer fails.
+/// Says whether the loop ends where the writer fails.
 fn stops_at_the_writer<R: InMemory>(alloc: Global) -> Result<bool, Fail> {
     let mut hub: Hub<SoleRepository<R>> = hub_of_r(alloc, false)?;
     let mut output = Closing { is_greeted: false };

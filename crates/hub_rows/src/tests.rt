@@ -50,7 +50,7 @@ fn wrote(outcome: &Outcome) -> &[u8] {
     }
 }
 
-/// Where a hub's session stands.
+/// Says where a hub's session stands.
 fn standing<R: InMemory>(hub: &Hub<SoleRepository<R>>, number: u64) -> &'static [u8] {
     if hub.access().is_halted() {
         b"halted "
@@ -61,7 +61,7 @@ fn standing<R: InMemory>(hub: &Hub<SoleRepository<R>>, number: u64) -> &'static 
     }
 }
 
-/// What two sessions are told, and where the second stands before it goes and then.
+/// Gives what two sessions are sent, and where the second stands before it goes and then.
 fn told_one_by_one<R: InMemory>(alloc: Global) -> Result<Vec<u8>, Fail> {
     let mut hub: Hub<SoleRepository<R>> = new_hub(alloc)?;
     let mut out = Vec::new(alloc);
@@ -88,7 +88,7 @@ fn one_call_after_another(rt: HostRuntime) -> Result<(), Fail> {
     Ok(())
 }
 
-/// What a list of calls writes, call by call.
+/// Gives what a list of calls writes, call by call.
 fn told_at_once<R: InMemory>(alloc: Global) -> Result<Vec<u8>, Fail> {
     let mut hub: Hub<SoleRepository<R>> = new_hub(alloc)?;
     let calls = vec![in alloc;
@@ -173,7 +173,7 @@ fn feed_through<R: InMemory>(
     Ok(())
 }
 
-/// What is noted where many commands come in one piece.
+/// Gives what is noted where many commands come in one piece.
 fn noted<R: InMemory>(alloc: Global) -> Result<Noting, Fail> {
     let mut hub: Hub<SoleRepository<R>> = new_hub(alloc)?;
     let (number, _) = hub.connect()?;

@@ -11,8 +11,8 @@ use svnpath::Path;
 
 /// A repository that lives in memory, and so begins empty.
 pub trait InMemory: Repository {
-    /// An empty repository: revision 0, whose date is the moment's, a count of microseconds since the
-    /// beginning of 1970.
+    /// Makes an empty repository: revision 0, whose date is the moment's, a count of microseconds since the beginning
+    /// of 1970.
     fn empty(alloc: Global, uuid: u128, moment: u64) -> Result<Self, AllocError>
         requires { moment ≤ LAST_MOMENT }
         ensures { IfOk result (λ r. (date : List ℕ) × IsDateText moment date

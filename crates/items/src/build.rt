@@ -10,7 +10,7 @@ use crate::scan::{MAX_DEPTH, is_space, is_word_byte};
 use byte_string::ByteString;
 use std::alloc::{AllocError, Global};
 
-/// The item that the bytes spell.
+/// Makes the item that the bytes spell.
 pub fn build(alloc: Global, bytes: &[u8]) -> Result<Item, AllocError>
     requires { (t : ItemValue) × IsItem limits t bytes.now }
     ensures { IfOk result (λ item. IsItem limits (value_of item) bytes.now) }

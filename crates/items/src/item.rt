@@ -23,7 +23,7 @@ impl Model for Name {
 }
 
 impl Name {
-    /// The word of these bytes, which the caller knows to be one.
+    /// Makes the word of these bytes, which the caller knows to be one.
     pub fn from_vec(bytes: Vec<u8>) -> Name
         requires { IsWord bytes.items }
         ensures { result ≡ bytes.items }
@@ -31,7 +31,7 @@ impl Name {
         Name { bytes }
     }
 
-    /// The bytes of the word, one of them at least.
+    /// Gives the bytes of the word, one of them at least.
     pub fn as_bytes(&self) -> &[u8]
         ensures value { result.now ≡ self.now }
         ensures is_word { IsWord self.now }

@@ -10,18 +10,18 @@ ghost use Rattle.items.specs.declared.scan.Defect.{Defect};
 ghost use Rattle.items.specs.declared.reader.ItemFault.{ItemFault};
 ghost use Rattle.items.specs.declared.reader.ItemFault.TheVariants.{NoMemory};
 
-/// No spelling begins another, and none spells two items.
+/// Shows that no spelling begins another, and none spells two items.
 pub fn one_reading()
     ensures { (t u : ItemValue) (a b x y : List ℕ) → IsItem limits t a → IsItem limits u b
         → a ++ x ≡ b ++ y → (t ≡ u) × (x ≡ y) }
 {}
 
-/// What is written for an item within the limits is its spelling.
+/// Shows that what is written for an item within the limits is its spelling.
 pub fn written_is_spelled()
     ensures { (t : ItemValue) → HasWords t → IsWithin limits 0 t → IsItem limits t (printed t) }
 {}
 
-/// A stream is faulty at one place at most, and wrong in one way there.
+/// Shows that a stream is faulty at one place at most, and wrong in one way there.
 pub fn one_fault()
     ensures place { (n k : ℕ) (stream : List ℕ) → IsFaulty n stream → IsFaulty k stream → n ≡ k }
     ensures some_kind { (n : ℕ) (stream : List ℕ) → IsFaulty n stream
@@ -30,14 +30,14 @@ pub fn one_fault()
         → IsDefect d n stream → IsDefect e n stream → d ≡ e }
 {}
 
-/// Whatever follows, a faulty stream stays faulty there and in that way.
+/// Shows that, whatever follows, a faulty stream stays faulty there and in that way.
 pub fn fault_stays()
     ensures { (n : ℕ) (stream added : List ℕ) (d : Defect) → IsFaulty n stream
         → IsDefect d n stream → IsFaulty n (stream ++ added) × IsDefect d n (stream ++ added) }
 {}
 
-/// A reader at a fault answers that fault and nothing else, but for want of memory, whatever it is
-/// fed from then on.
+/// Shows that a reader at a fault answers that fault and nothing else, except when out of memory,
+/// whatever it is fed from then on.
 pub fn fault_is_answered_again()
     ensures again { (old : Unread) (added : List ℕ) (e : ItemFault) → IsFaultOf old e
         → IsFaultOf (record old { rest = old.rest ++ added }) e }

@@ -87,7 +87,7 @@ impl ItemReader {
     ghost use Rattle.items.specs.Reading.{Takes, IsFaultOf, HasNone};
     ghost use Rattle.items.specs.View.{value_of};
 
-    /// A reader of a stream from its beginning.
+    /// Makes a reader of a stream from its beginning.
     pub fn new(alloc: Global) -> ItemReader
         ensures { result ≡ record { place = 0; rest = [] } }
     {
@@ -99,7 +99,7 @@ impl ItemReader {
         }
     }
 
-    /// How many bytes it holds that belong to no item yet.
+    /// Says how many bytes it holds that belong to no item yet.
     pub fn unread_len(&self) -> usize
         ensures { result ≡ length self.now.rest }
     {
@@ -118,9 +118,10 @@ impl ItemReader {
         Ok(())
     }
 
-    /// The next item, or `None` where the bytes so far are too few. Items come out in the order of
-    /// the stream, each as soon as the whitespace behind it is there. Without an item nothing
-    /// changes, so a fault is answered again, and after want of memory the same call may succeed.
+    /// Gives the next item, or `None` where the bytes so far are too few. Items come out in the
+    /// order of the stream, each as soon as the whitespace after it is there. Without an item
+    /// nothing changes, so a fault is answered again, and after running out of memory the same call
+    /// may succeed.
     pub fn next(&mut self) -> Result<Option<Item>, ItemFault>
         ensures item { IfOk result (λ found. IfSome found
             (λ i. Takes self.old (value_of i) self.new)) }

@@ -23,8 +23,8 @@ fn take_all(reader: &mut ItemReader, items: &mut Vec<Item>) -> Result<(), ItemFa
     }
 }
 
-/// The items of a stream that comes in these pieces: the items that are whole, or the fault behind
-/// them.
+/// Reads the items of a stream that comes in these pieces: the items that are whole, or the fault
+/// after them.
 pub fn decode(alloc: Global, pieces: &[Vec<u8>]) -> Result<Vec<Item>, ItemFault>
     // Up to a rest that no item begins, the stream is these items.
     ensures split { IfOk result (λ out. (rest : List ℕ)

@@ -13,7 +13,7 @@ pub enum Ending {
     GivesUp,
 }
 
-/// Whether a command ends an edit, and how.
+/// Says whether a command ends an edit, and how.
 pub fn ending_of(command: &EditorCommand) -> Option<Ending>
     ensures { result ≡ ending_of command.now }
 {

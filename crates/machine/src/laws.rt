@@ -9,8 +9,9 @@ ghost use Rattle.machine.specs.Machine.{InputStep, UnreleasedStep};
 ghost use Rattle.machine.specs.declared.env.Env.{Env};
 ghost use Rattle.machine.specs.Hearing.{Input, Yields, HasNoMore, EndsBroken};
 
-/// A stream that has brought all that it does so far has brought these inputs and no others, and this is left
-/// of it; and so up to the byte that goes on to no item, where it has one. A stream that has one never comes to rest.
+/// Shows that a stream that has brought all that it does so far has brought these inputs and no others, and this is
+/// left of it; and so up to the byte that goes on to no item, where it has one. A stream that has one never comes to
+/// rest.
 pub fn one_hearing()
     ensures settled { (stream : List ℕ) (xs ys : List Input) (rest end : List ℕ) → Yields stream xs rest
         → Yields stream ys end → HasNoMore rest → HasNoMore end → (xs ≡ ys) × (rest ≡ end) }
@@ -24,15 +25,15 @@ pub fn one_hearing()
     items::fault_is_answered_again();
 }
 
-/// A session's edit goes on to rest on what the repository contains.
+/// Shows that a session's edit goes on to rest on what the repository contains.
 pub fn steps_rest()
     ensures { (halted : Bool) (s : Settings) (env : Env) (c : RepoState) (phase : Stage) (input : Input) (a : Answer)
         → EditRests phase c → InputStep s env phase input halted c a → EditRests a.phase (content_after c a.effect) }
 {}
 
-/// Where every tree of the repository is a tree whose marks name what they mark, and so is the tree of the session's
-/// edit, which has seen revisions that are there, so it is after an input, and a commit that is accepted meets the
-/// youngest revision well; and so too where memory is refused for the release behind it.
+/// Shows that where every tree of the repository is a tree whose marks name what they mark, and so is the tree of the
+/// session's edit, which has seen revisions that exist, so it is after an input, and a commit that is accepted meets
+/// the youngest revision well; and so too where memory is refused for the release after it.
 pub fn steps_keep_trees()
     ensures step { (halted : Bool) (s : Settings) (env : Env) (c : RepoState) (phase : Stage) (input : Input) (a : Answer)
         → StandsOn phase c → InputStep s env phase input halted c a

@@ -33,7 +33,7 @@ pub struct OpenChallenge {
     pub challenge: Challenge,
 }
 
-/// What is offered to a client, for which a command may wait.
+/// Says what is offered to a client, for which a command may wait.
 pub fn offer(options: &Options, waiting: &Option<MainCommand>) -> Offer
     ensures { result ≡ offer options.now.users waiting.now }
 {
@@ -44,7 +44,7 @@ pub fn offer(options: &Options, waiting: &Option<MainCommand>) -> Offer
     }
 }
 
-/// The mechanism of this name, if it is offered.
+/// Finds the mechanism of this name, if it is offered.
 pub fn chosen(offered: Offer, name: &[u8]) -> Option<Mechanism>
     ensures { result ≡ chosen offered name.now }
 {
@@ -70,7 +70,7 @@ fn offers_user(offered: Offer) -> bool
 }
 
 impl Env {
-    /// The words that are left once the nonce is used.
+    /// Gives the words that are left once the nonce is used.
     pub fn without_nonce(self) -> Env
         ensures { result ≡ without_nonce self }
     {
@@ -81,7 +81,7 @@ impl Env {
         }
     }
 
-    /// The words that are left once the token is used.
+    /// Gives the words that are left once the token is used.
     pub fn without_token(self) -> Env
         ensures { result ≡ env_without_token self }
     {

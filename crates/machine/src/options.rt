@@ -31,7 +31,7 @@ impl Model for Options {
 }
 
 impl Options {
-    /// The options of a repository of this name, which `is_repository_name` accepts.
+    /// Makes the options of a repository of this name, which `is_repository_name` accepts.
     pub fn new(alloc: Global, name: &str) -> Result<Options, AllocError>
         requires { IsTrue (is_repository_name name.now) }
         ensures { IfOk result (λ o. o
@@ -44,8 +44,8 @@ impl Options {
         })
     }
 
-    /// The same, with these users in the place of those before. Then a client may log in as one of them, and one that
-    /// writes must.
+    /// Gives the same, with these users in the place of those before. Then a client may log in as one of them, and one
+    /// that writes must.
     pub fn with_users(self, users: Users) -> Options
         ensures { result ≡ record self { users = Some users } }
     {
@@ -62,7 +62,7 @@ impl Options {
         }
     }
 
-    /// The same, where clients may change the properties of revisions.
+    /// Gives the same, where clients may change the properties of revisions.
     pub fn with_revprops(self) -> Options
         ensures { result ≡ record self { revprops = true } }
     {
@@ -78,21 +78,21 @@ impl Options {
         }
     }
 
-    /// Whether clients may change the properties of revisions.
+    /// Says whether clients may change the properties of revisions.
     pub fn has_revprops(&self) -> bool
         ensures { result ≡ self.now.revprops }
     {
         self.revprops
     }
 
-    /// The users that may log in, if there is a file of them.
+    /// Gives the users that may log in, if there is a file of them.
     pub fn users(&self) -> Option<&Users>
         ensures { option_copied result ≡ self.now.users }
     {
         self.users.as_ref()
     }
 
-    /// The repository's name.
+    /// Gives the repository's name.
     pub fn name(&self) -> &str
         ensures { result.now ≡ self.now.name }
     {
@@ -100,8 +100,8 @@ impl Options {
     }
 }
 
-/// Whether a repository may have this name: 1 to 64 of ASCII letters, digits, `-`, `_` and `.`, and not `.`
-/// or `..`.
+/// Says whether a repository may have this name: 1 to 64 of ASCII letters, digits, `-`, `_` and `.`, and not `.` or
+/// `..`.
 pub fn is_repository_name(name: &str) -> bool
     ensures { result ≡ is_repository_name name.now }
 {

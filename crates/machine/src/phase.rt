@@ -56,14 +56,14 @@ pub enum Phase<E, G> {
 }
 
 impl<E, G> Phase<E, G> {
-    /// Whether the session hears what comes.
+    /// Says whether the session hears what comes.
     pub fn is_open(&self) -> bool
         ensures { result ≡ is_open self.now }
     {
         !matches!(self, Phase::Ended)
     }
 
-    /// The user that the client has logged in as, if it has.
+    /// Gives the user that the client has logged in as, if it has.
     pub fn user(&self) -> Option<&ByteString>
         ensures { option_copied result ≡ user_in self.now }
     {

@@ -14,7 +14,7 @@ use std::alloc::{AllocError, Global};
 use std::sync::Arc;
 
 impl Nodes {
-    /// No revisions.
+    /// Makes the nodes of no revisions.
     pub fn new(alloc: Global) -> Result<Self, AllocError>
         ensures { IfOk result (λ nodes. blocks_of nodes ≡ []) }
     {
@@ -30,7 +30,7 @@ impl Nodes {
         Ok(Nodes { blocks })
     }
 
-    /// These nodes with those of a further revision.
+    /// Makes these nodes with those of a further revision.
     pub fn with_block(&self, alloc: Global, block: Block) -> Result<Self, AllocError>
         requires next { IsNext (node_at self.now) (count self.now) block }
         requires room { count self.now < 262144 }

@@ -13,8 +13,8 @@ use std::alloc::{AllocError, Global};
 use svnpath::Path;
 
 impl Nodes {
-    /// The height of a node with these entries, which are there or in the block of a revision that is
-    /// being made.
+    /// Computes the height of a node with these entries, which are there or in the block of a revision that is being
+    /// made.
     pub fn height_over(
         &self,
         alloc: Global,
@@ -32,7 +32,7 @@ impl Nodes {
         Ok(height)
     }
 
-    /// The node of an id, which is there or in the block of a revision that is being made.
+    /// Finds the node of an id, which is there or in the block of a revision that is being made.
     fn node_beside<'a>(&'a self, rev: u32, block: &'a [NodeRev], id: NodeId) -> Option<&'a NodeRev>
         ensures { option_copied result ≡ with_block (node_at self.now) rev block.now id }
     {
@@ -43,7 +43,7 @@ impl Nodes {
         }
     }
 
-    /// Whether something stands more than so many names beneath a path of a root's tree.
+    /// Says whether something exists more than so many names beneath a path of a root's tree.
     pub fn has_deeper(&self, root: Option<NodeId>, path: &Path, names: usize) -> bool
         requires { names < 4294967295 }
         ensures no { result ≡ false → IsShallow (shared_tree (node_at self.now) root) path.now names }
@@ -56,7 +56,7 @@ impl Nodes {
     }
 }
 
-/// The greater of a height and that over an entry.
+/// Gives the greater of a height and that over an entry.
 fn raised(height: u32, kid: Option<&NodeRev>) -> u32
     ensures least { height ≤ result }
     ensures over { IfSome (option_copied kid.entry) (λ node. higher node.height ≤ result) }

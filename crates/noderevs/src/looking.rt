@@ -15,42 +15,42 @@ use std::alloc::{AllocError, Global};
 use svnpath::Path;
 
 impl Nodes {
-    /// How many revisions there are.
+    /// Says how many revisions there are.
     pub fn count(&self) -> usize
         ensures { result ≡ count self.now }
     {
         self.blocks.len()
     }
 
-    /// The block of a revision.
+    /// Finds the block of a revision.
     fn block(&self, revision: u64) -> Option<&Block>
         ensures { option_copied result ≡ slice_get (blocks_of self.now) revision }
     {
         self.blocks.get(revision as usize)
     }
 
-    /// The root of a revision, `None` for a number that is no revision.
+    /// Finds the root of a revision, `None` for a number that no revision has.
     pub fn root(&self, revision: u64) -> Option<NodeId>
         ensures { result ≡ root_at self.now revision }
     {
         Some(self.block(revision)?.root)
     }
 
-    /// The node of an id.
+    /// Finds the node of an id.
     pub fn node(&self, id: NodeId) -> Option<&NodeRev>
         ensures { option_copied result ≡ node_at self.now id }
     {
         self.block(id.rev as u64)?.nodes.get(id.place as usize)
     }
 
-    /// The node of an id, if there is one.
+    /// Finds the node of an id, if there is one.
     pub fn held(&self, id: Option<NodeId>) -> Option<&NodeRev>
         ensures { option_copied result ≡ option_and_then (node_at self.now) id }
     {
         self.node(id?)
     }
 
-    /// A copy of the entries of a directory, which shares what does not change.
+    /// Makes a copy of the entries of a directory, which shares what does not change.
     pub fn kids(
         &self,
         alloc: Global,
@@ -68,7 +68,7 @@ impl Nodes {
         }
     }
 
-    /// The id of an entry of a directory.
+    /// Finds the id of an entry of a directory.
     pub fn kid(&self, directory: Option<NodeId>, name: &ByteString) -> Option<NodeId>
         ensures { result ≡ kid_at (node_at self.now) directory name.now }
     {
@@ -78,7 +78,7 @@ impl Nodes {
         }
     }
 
-    /// The id that a path leads to.
+    /// Finds the id that a path leads to.
     pub fn find(&self, root: NodeId, path: &[ByteString]) -> Option<NodeId>
         ensures { result ≡ find_id (node_at self.now) path.now (Some root) }
     {
@@ -89,7 +89,7 @@ impl Nodes {
         Some(at)
     }
 
-    /// The id that a path leads to from a root, of which there may be none.
+    /// Finds the id that a path leads to from a root, of which there may be none.
     pub fn find_in(&self, root: Option<NodeId>, path: &[ByteString]) -> Option<NodeId>
         ensures { result ≡ find_id (node_at self.now) path.now root }
     {
@@ -99,7 +99,7 @@ impl Nodes {
         }
     }
 
-    /// What stands at a path of a root's tree: that it is a directory, or a file's text.
+    /// Finds what exists at a path of a root's tree: that it is a directory, or a file's text.
     pub fn content(&self, root: Option<NodeId>, path: &[ByteString]) -> Option<&Content>
         ensures { option_copied result ≡ option_map (λ e. e.content)
             (shared_tree (node_at self.now) root path.now) }
@@ -110,7 +110,7 @@ impl Nodes {
         }
     }
 
-    /// The revision that last changed what stands at a path of a root's tree, at or under it.
+    /// Finds the revision that last changed what exists at a path of a root's tree, at or under it.
     pub fn made(&self, root: Option<NodeId>, path: &[ByteString]) -> Option<u64>
         ensures { result ≡ created_of (shared_tree (node_at self.now) root path.now) }
     {
@@ -121,7 +121,7 @@ impl Nodes {
         }
     }
 
-    /// What stands at a path of a root's tree.
+    /// Says what exists at a path of a root's tree.
     pub fn kind(&self, root: Option<NodeId>, path: &Path) -> NodeKind
         ensures { result ≡ kind_of (shared_tree (node_at self.now) root path.now) }
     {
@@ -131,14 +131,14 @@ impl Nodes {
         }
     }
 
-    /// The revision that last changed what stands at a path of a root's tree, at or under it.
+    /// Finds the revision that last changed what exists at a path of a root's tree, at or under it.
     pub fn created(&self, root: Option<NodeId>, path: &Path) -> Option<u64>
         ensures { result ≡ created_of (shared_tree (node_at self.now) root path.now) }
     {
         self.made(root, path.components())
     }
 
-    /// The properties of what stands at a path of a root's tree.
+    /// Finds the properties of what exists at a path of a root's tree.
     pub fn properties(&self, root: Option<NodeId>, path: &Path) -> Option<&Properties>
         ensures { option_copied result
             ≡ node_properties (shared_tree (node_at self.now) root path.now) }
@@ -149,7 +149,7 @@ impl Nodes {
         }
     }
 
-    /// The text of the file at a path of a root's tree.
+    /// Finds the text of the file at a path of a root's tree.
     pub fn text(&self, root: Option<NodeId>, path: &Path) -> Option<&FileText>
         ensures { option_copied result ≡ text_of (shared_tree (node_at self.now) root path.now) }
     {
@@ -159,7 +159,7 @@ impl Nodes {
         }
     }
 
-    /// Whether two paths of roots' trees lead to one node: then all beneath them is the same.
+    /// Says whether two paths of roots' trees lead to one node: then all beneath them is the same.
     pub fn is_same(
         &self,
         root: Option<NodeId>,
@@ -180,7 +180,7 @@ impl Nodes {
     }
 }
 
-/// What a node is, seen from outside.
+/// Says what a node is, seen from outside.
 pub fn content_kind(content: &Content) -> NodeKind
     ensures { result ≡ content_kind content.now }
 {
@@ -190,7 +190,7 @@ pub fn content_kind(content: &Content) -> NodeKind
     }
 }
 
-/// The text of a file.
+/// Gives the text of a file.
 pub fn content_text(content: &Content) -> Option<&FileText>
     ensures { option_copied result ≡ content_text content.now }
 {

@@ -15,7 +15,7 @@ use std::sync::Arc;
 use svnpath::Path;
 
 impl Nodes {
-    /// The nodes of a new repository: revision 0, whose root is a directory without entries.
+    /// Makes the nodes of a new repository: revision 0, whose root is a directory without entries.
     pub fn opened(alloc: Global) -> Result<Self, AllocError>
         ensures count { IfOk result (λ nodes. count nodes ≡ 1) }
         ensures tree { IfOk result (λ nodes. (q : PathValue) → trees_of nodes 0 q
@@ -28,7 +28,7 @@ impl Nodes {
     }
 }
 
-/// The block of revision 0.
+/// Makes the block of revision 0.
 fn opening_block(alloc: Global) -> Result<Block, AllocError>
     ensures { IfOk result IsOpeningBlock }
 {
@@ -40,7 +40,7 @@ fn opening_block(alloc: Global) -> Result<Block, AllocError>
     })
 }
 
-/// The root of revision 0.
+/// Makes the root of revision 0.
 fn opening_node(alloc: Global) -> Result<NodeRev, AllocError>
     ensures { IfOk result IsOpeningNode }
 {

@@ -13,7 +13,7 @@ use std::alloc::{AllocError, Global};
 use std::collections::BTreeMap;
 use svnpath::Path;
 
-/// Whether a change of this kind changes all that lies beneath its path.
+/// Says whether a change of this kind changes all that lies beneath its path.
 fn is_of_whole_tree(action: Action) -> bool
     ensures { result ≡ is_of_whole_tree action }
 {
@@ -75,7 +75,7 @@ fn append_reached<'a>(
     }
 }
 
-/// Whether the path is at the other, if there is one, or under it.
+/// Says whether the path is at the other, if there is one, or under it.
 fn is_below(above: Option<&Path>, path: &Path) -> bool
     ensures { result ≡ is_below (option_copied above.entry) path.now }
 {
@@ -85,8 +85,8 @@ fn is_below(above: Option<&Path>, path: &Path) -> bool
     }
 }
 
-/// The locks that the changes reach, in the map's order. What lies under a changed tree was found with
-/// it, so a change there finds nothing more.
+/// Appends the locks that the changes reach, in the map's order. What lies under a changed tree was found with it, so a
+/// change there finds nothing more.
 pub(crate) fn append_in_the_way<'a>(
     locks: &'a BTreeMap<Path, Lock>,
     changes: &BTreeMap<Path, Change>,
@@ -109,7 +109,7 @@ pub(crate) fn append_in_the_way<'a>(
     Ok(())
 }
 
-/// The path of the last tree that changed whole, after this change.
+/// Gives the path of the last tree that changed whole, after this change.
 fn new_top<'a>(top: Option<&'a Path>, path: &'a Path, action: Action) -> Option<&'a Path>
     ensures { option_copied result ≡ top_after (option_copied top.entry) path.now action }
 {
@@ -120,7 +120,7 @@ fn new_top<'a>(top: Option<&'a Path>, path: &'a Path, action: Action) -> Option<
     }
 }
 
-/// A map's entries are in the order of their paths.
+/// Shows that a map's entries are in the order of their paths.
 fn note_order<V>(map: &BTreeMap<Path, V>)
     ensures { IsStrictlySortedBy path_cmp (keys_of map.now.entries) }
 {

@@ -11,7 +11,7 @@ ghost use Rattle.repo_api.specs.Commits.{commit_refusal};
 ghost use Rattle.repo_api.specs.LockRuns.{names_lock, HaveOwnTokens, HaveNewTokens};
 ghost use Rattle.repo_api.specs.declared.ask.CommitAsk.{CommitAsk};
 
-/// Where no lock refuses a commit, each lock in its way is its user's, and its token was handed in.
+/// Shows that, where no lock refuses a commit, each lock in its way is its user's, and its token was handed in.
 pub fn locks_in_the_way_are_held()
     ensures { (locks : LockMap) (changes : ChangeMap) (user : Option (List ℕ))
         (tokens : HandedTokens)
@@ -20,7 +20,7 @@ pub fn locks_in_the_way_are_held()
         → (user ≡ Some l.owner) × IsTrue (is_handed_in tokens l.token) }
 {}
 
-/// A lock, an unlock and a release leave the locks at paths that they do not name as they were.
+/// Shows that a lock, an unlock and a release leave the locks at paths that they do not name as they were.
 pub fn other_locks_stay()
     ensures locks { (locks : LockMap) (p q : PathValue) (l : Lock) → same_path p q ≡ false
         → get (insert locks p l) q ≡ get locks q }
@@ -32,7 +32,7 @@ pub fn other_locks_stay()
         → get (after_release user tokens locks) q ≡ get locks q }
 {}
 
-/// A release that takes no lock changes nothing.
+/// Shows that a release that takes no lock changes nothing.
 pub fn a_release_of_none_changes_nothing()
     ensures asked { (locks : LockMap) (user : Option (List ℕ)) (tokens : HandedTokens)
         → releases user tokens locks ≡ false → after_release user tokens locks ≡ locks }
@@ -40,22 +40,22 @@ pub fn a_release_of_none_changes_nothing()
         → released user tokens locks ≡ empty → after_release user tokens locks ≡ locks }
 {}
 
-/// Each lock in the way of an accepted commit is its user's, and its token was handed in.
+/// Shows that each lock in the way of an accepted commit is its user's, and its token was handed in.
 pub fn accepted_commits_hold_locks()
     ensures { (c : RepoState) (ask : CommitAsk) (t : TxnState) → commit_refusal c ask t ≡ None
         → (p : PathValue) (l : Lock) → get c.locks p ≡ Some l → is_in_the_way t.changes p ≡ true
         → (ask.author ≡ Some l.owner) × IsTrue (is_handed_in ask.tokens l.token) }
 {}
 
-/// What stands at a path that no change names as its lock's stays through changes, whatever they are.
+/// Shows that what stands at a path that no change names as its lock's stays through changes, whatever they are.
 pub fn unnamed_locks_stay()
     ensures { (c : RepoState) (changes : List Accepted) (p : PathValue)
         → list_any (λ e. names_lock e p) changes ≡ false
         → get (changed_all c changes).locks p ≡ get c.locks p }
 {}
 
-/// Where no two locks have one token, and each new lock has a token that none has then, no two locks
-/// come to have one.
+/// Shows that, where no two locks have one token, and each new lock has a token that none has then, no two locks come
+/// to have one.
 pub fn tokens_stay_distinct()
     ensures { (c : RepoState) (changes : List Accepted) → HaveOwnTokens c.locks
         → HaveNewTokens c changes → HaveOwnTokens (changed_all c changes).locks }

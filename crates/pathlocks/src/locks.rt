@@ -39,7 +39,7 @@ impl Model for Locks {
 }
 
 impl Locks {
-    /// No locks.
+    /// Makes an empty map of locks.
     pub fn new(alloc: Global) -> Self
         ensures { result ≡ empty }
     {
@@ -48,7 +48,7 @@ impl Locks {
         }
     }
 
-    /// The lock at the path.
+    /// Finds the lock at the path.
     #[tactic(auto, using(repo_api::specs::StateLaws::get_path))]
     pub fn get(&self, path: &Path) -> Option<&Lock>
         ensures { option_copied result ≡ get self.now path.now }
@@ -56,7 +56,7 @@ impl Locks {
         self.locks.get(path)
     }
 
-    /// The locks at the path and under it, by the bytes of their paths.
+    /// Finds the locks at the path and under it, by the bytes of their paths.
     pub fn at_or_under(&self, alloc: Global, path: &Path) -> Result<Vec<(&Path, &Lock)>, AllocError>
         ensures { IfOk result (λ found. map deref_pair found.items
             ≡ at_or_under self.now path.now) }
@@ -66,9 +66,9 @@ impl Locks {
         listed(found)
     }
 
-    /// The locks in the way of the changes, by the bytes of their paths: each that stands at a changed
-    /// path, or beneath one that was added, deleted or replaced. It takes the longer the more changes
-    /// there are and the more locks are found, whatever other locks stand.
+    /// Finds the locks in the way of the changes, by the bytes of their paths: each that stands at a changed path, or
+    /// beneath one that was added, deleted or replaced. It takes the longer the more changes there are and the more
+    /// locks are found, whatever other locks exist.
     pub fn in_the_way(
         &self,
         alloc: Global,
@@ -82,8 +82,8 @@ impl Locks {
         listed(found)
     }
 
-    /// Whether the locks let a commit of the changes pass, by this user and with these paths and tokens
-    /// handed in. Each lock in the way has to be the user's, and its token handed in, under any path.
+    /// Checks that the locks let a commit of the changes pass, by this user and with these paths and tokens handed in.
+    /// Each lock in the way has to be the user's, and its token handed in, under any path.
     ///
     /// # Errors
     ///
@@ -159,15 +159,15 @@ impl Locks {
         Ok(())
     }
 
-    /// Whether a release by the user, with these paths and tokens handed in, takes some lock. It costs
-    /// one look for each pair, whatever other locks stand.
+    /// Says whether a release by the user, with these paths and tokens handed in, takes some lock. It costs one look
+    /// for each pair, whatever other locks exist.
     pub fn releases(&self, user: Option<&ByteString>, tokens: &[(Path, ByteString)]) -> bool
         ensures { result ≡ releases (option_copied user.entry) tokens.now self.now }
     {
         tokens.iter().any(|pair| self.holds(user, pair))
     }
 
-    /// Whether the lock at the path is the user's and has the token.
+    /// Says whether the lock at the path is the user's and has the token.
     fn holds(&self, user: Option<&ByteString>, pair: &(Path, ByteString)) -> bool
         ensures { result ≡ is_held (option_copied user.entry) pair.now.1 (get self.now pair.now.0) }
     {
@@ -201,7 +201,7 @@ impl Locks {
         Ok(taken)
     }
 
-    /// Why a lock is refused where an entry of this kind stands, last changed at this revision.
+    /// Says why a lock is refused where there is an entry of this kind, last changed at this revision.
     fn lock_refusal(&self, kind: NodeKind, created: Option<u64>, ask: &LockAsk) -> Option<Refusal>
         ensures { result ≡ lock_refusal_at kind created self.now ask.now }
     {
@@ -210,7 +210,7 @@ impl Locks {
         user_refusal(ask.user.as_ref()).or(entry.or(place))
     }
 
-    /// How many locks stand.
+    /// Counts the locks.
     fn count(&self) -> usize
         ensures { result ≡ len self.now }
     {
@@ -245,7 +245,7 @@ impl Clone for Locks {
     }
 }
 
-/// The locks by the bytes of their paths.
+/// Sorts the locks by the bytes of their paths.
 fn listed<'a>(mut found: Vec<(&'a Path, &'a Lock)>) -> Result<Vec<(&'a Path, &'a Lock)>, AllocError>
     ensures { IfOk result (λ locks. map deref_pair locks.items
         ≡ listing (map deref_pair found.entry.items)) }

@@ -11,7 +11,7 @@ use std::alloc::{AllocError, Global};
 use std::collections::BTreeSet;
 use svnpath::Path;
 
-/// What keeps the user from using the lock, where the right token was given or was not.
+/// Says what keeps the user from using the lock, where the right token was given or was not.
 fn holder_refusal(user: Option<&ByteString>, is_right: bool, lock: &Lock) -> Option<Refusal>
     ensures { result ≡ holder_refusal (option_copied user.entry) is_right lock.now }
 {
@@ -27,7 +27,7 @@ fn holder_refusal(user: Option<&ByteString>, is_right: bool, lock: &Lock) -> Opt
     }
 }
 
-/// The tokens that were handed in, under whatever paths.
+/// Collects the tokens that were handed in, under whatever paths.
 pub(crate) fn handed_in<'a>(
     alloc: Global,
     tokens: &'a [(Path, ByteString)],
@@ -42,21 +42,21 @@ pub(crate) fn handed_in<'a>(
     Ok(set)
 }
 
-/// Whether the token is in the set.
+/// Says whether the token is in the set.
 fn has_token(set: &BTreeSet<&[u8]>, token: &ByteString) -> bool
     ensures { result ≡ is_lent set.now.keys token.now }
 {
     set.contains(token.as_slice())
 }
 
-/// Why a lock in the way refuses a commit with these tokens.
+/// Says why a lock in the way refuses a commit with these tokens.
 fn way_refusal(user: Option<&ByteString>, tokens: &BTreeSet<&[u8]>, lock: &Lock) -> Option<Refusal>
     ensures { result ≡ way_refusal (option_copied user.entry) (is_lent tokens.now.keys) lock.now }
 {
     holder_refusal(user, has_token(tokens, &lock.token), lock)
 }
 
-/// Why the first of the locks that refuses a commit with these tokens does so.
+/// Says why the first of the locks that refuses a commit with these tokens does so.
 pub(crate) fn first_refusal(
     locks: &[(&Path, &Lock)],
     user: Option<&ByteString>,
@@ -83,7 +83,7 @@ fn is_token(token: Option<&ByteString>, lock: &Lock) -> bool
     }
 }
 
-/// Why the lock, if there is one, is not taken away.
+/// Says why the lock, if there is one, is not taken away.
 pub(crate) fn taking_refusal(ask: &UnlockAsk, lock: Option<&Lock>) -> Option<Refusal>
     ensures { result ≡ taking_refusal ask.now (option_copied lock.entry) }
 {
@@ -97,7 +97,7 @@ pub(crate) fn taking_refusal(ask: &UnlockAsk, lock: Option<&Lock>) -> Option<Ref
     }
 }
 
-/// Only a user locks.
+/// Refuses a lock without a user: only a user locks.
 pub(crate) fn user_refusal(user: Option<&ByteString>) -> Option<Refusal>
     ensures { result ≡ user_refusal (option_copied user.entry) }
 {
@@ -107,8 +107,7 @@ pub(crate) fn user_refusal(user: Option<&ByteString>) -> Option<Refusal>
     }
 }
 
-/// Why what stands at a path, last changed at this revision, is not locked by a client that has seen it
-/// at that one.
+/// Says why what is at a path, last changed at this revision, is not locked by a client that has seen it at that one.
 pub(crate) fn entry_refusal(
     current: Option<u64>,
     kind: NodeKind,
@@ -129,7 +128,7 @@ pub(crate) fn entry_refusal(
     }
 }
 
-/// Why no lock is put where this one stands or none does, and so many stand in all.
+/// Says why no lock is put where there is this one or none, and there are so many in all.
 pub(crate) fn place_refusal(steals: bool, lock: Option<&Lock>, count: usize) -> Option<Refusal>
     ensures { result ≡ lock_place_refusal steals (option_copied lock.entry) count }
 {
@@ -160,7 +159,7 @@ fn owner_of(alloc: Global, user: Option<ByteString>) -> ByteString
     }
 }
 
-/// The lock that is asked for, with its path.
+/// Makes the lock that is asked for, with its path.
 pub(crate) fn lock_of(alloc: Global, ask: LockAsk) -> (Path, Lock)
     ensures path { result.0 ≡ ask.path }
     ensures lock { result.1 ≡ lock_of ask }
@@ -182,7 +181,7 @@ pub(crate) fn lock_of(alloc: Global, ask: LockAsk) -> (Path, Lock)
     (path, lock)
 }
 
-/// Whether the lock, if there is one, is the user's and has the token.
+/// Says whether the lock, if there is one, is the user's and has the token.
 pub(crate) fn is_held(user: Option<&ByteString>, token: &ByteString, lock: Option<&Lock>) -> bool
     ensures { result ≡ is_held (option_copied user.entry) token.now (option_copied lock.entry) }
 {

@@ -5,7 +5,7 @@ use hub::{Call, HubFault, Outcome};
 use std::alloc::{AllocError, Global};
 use store_files::StoreFault;
 
-/// The line that says how a repository was opened again.
+/// Makes the line that says how a repository was opened again.
 pub fn reopening_line(alloc: Global, fault: Option<StoreFault>) -> Result<String, AllocError> {
     match fault {
         None => String::from_str(alloc, "reopen"),
@@ -16,7 +16,7 @@ pub fn reopening_line(alloc: Global, fault: Option<StoreFault>) -> Result<String
     }
 }
 
-/// The line that says what a file has.
+/// Makes the line that says what a file has.
 pub fn file_line(alloc: Global, name: &str, bytes: Option<&[u8]>) -> Result<String, AllocError> {
     match bytes {
         None => format!(in alloc; "file {name} none"),
@@ -27,7 +27,7 @@ pub fn file_line(alloc: Global, name: &str, bytes: Option<&[u8]>) -> Result<Stri
     }
 }
 
-/// The number of a fault of a store.
+/// Gives the number of a fault of a store.
 fn store_fault_text(fault: StoreFault) -> &'static str {
     match fault {
         StoreFault::Device => "O1",
@@ -38,7 +38,7 @@ fn store_fault_text(fault: StoreFault) -> &'static str {
     }
 }
 
-/// The number of a fault of a file.
+/// Gives the number of a fault of a file.
 fn file_fault_text(fault: FileFault) -> &'static str {
     match fault {
         FileFault::Truncated => "X1",
@@ -51,14 +51,14 @@ fn file_fault_text(fault: FileFault) -> &'static str {
     }
 }
 
-/// The line that a call is answered by.
+/// Makes the line that a call is answered by.
 pub fn answer_line(alloc: Global, call: &Call, outcome: &Outcome) -> Result<String, AllocError> {
     let call = call_text(alloc, call)?;
     let outcome = outcome_text(alloc, outcome)?;
     format!(in alloc; "{call}{outcome}")
 }
 
-/// How the answer to a call begins.
+/// Says how the answer to a call begins.
 fn call_text(alloc: Global, call: &Call) -> Result<String, AllocError> {
     match call {
         Call::Connect => String::from_str(alloc, "connect"),
@@ -67,7 +67,7 @@ fn call_text(alloc: Global, call: &Call) -> Result<String, AllocError> {
     }
 }
 
-/// How the answer goes on.
+/// Says how the answer goes on.
 fn outcome_text(alloc: Global, outcome: &Outcome) -> Result<String, AllocError> {
     match outcome {
         Outcome::Connected(session, bytes) => {
@@ -86,7 +86,7 @@ fn outcome_text(alloc: Global, outcome: &Outcome) -> Result<String, AllocError> 
     }
 }
 
-/// Bytes by their digits, or `-` for none.
+/// Writes bytes by their digits, or `-` for none.
 fn bytes_text(alloc: Global, bytes: &[u8]) -> Result<String, AllocError> {
     if bytes.is_empty() {
         return String::from_str(alloc, "-");
@@ -94,7 +94,7 @@ fn bytes_text(alloc: Global, bytes: &[u8]) -> Result<String, AllocError> {
     hex::encode(alloc, bytes)
 }
 
-/// The number of a fault.
+/// Gives the number of a fault.
 fn fault_text(fault: HubFault) -> &'static str {
     match fault {
         HubFault::NoSession => "H1",

@@ -83,7 +83,7 @@ pub enum ScriptFault {
 }
 
 impl ScriptFault {
-    /// What the program ends with.
+    /// Says what the program ends with.
     pub fn exit_code(&self) -> ExitCode {
         match self {
             ScriptFault::Line(_, LineFault::NoMemory) => ExitCode::FAILURE,

@@ -46,7 +46,7 @@ fn answer_call<A: SoleAccess>(
     answer_line(alloc, call, &outcome)
 }
 
-/// The folder of a repository's files.
+/// Gives the folder of a repository's files.
 fn files_folder(alloc: Global, folder: &str) -> Result<String, AllocError> {
     format!(in alloc; "{folder}/db")
 }
@@ -86,7 +86,7 @@ fn open_folder(
     }
 }
 
-/// A hub over a new repository in memory.
+/// Makes a hub over a new repository in memory.
 pub fn new_memory_hub(
     alloc: Global,
     asked: NewHub,
@@ -106,7 +106,7 @@ fn create_in_folder(rt: &HostRuntime, folder: &str, asked: &NewHub) -> Result<()
     }
 }
 
-/// A hub over the repository in a folder, which is made where it is missing.
+/// Makes a hub over the repository in a folder, which is made where it is missing.
 pub fn new_folder_hub(
     rt: &HostRuntime,
     folder: &str,
@@ -130,7 +130,7 @@ fn into_options<S: Store>(hub: FailingHub<S>) -> Options {
     options
 }
 
-/// The bytes of a file in a folder, if it is there.
+/// Reads the bytes of a file in a folder, if it exists.
 fn read_file(rt: &HostRuntime, folder: &str, name: &str) -> Result<Option<Vec<u8>>, LineFault> {
     let path = format!(in rt.alloc(); "{folder}/db/{name}")?;
     match fs::read(rt, path.as_str()) {
@@ -140,7 +140,7 @@ fn read_file(rt: &HostRuntime, folder: &str, name: &str) -> Result<Option<Vec<u8
     }
 }
 
-/// A copy of bytes, if they are there.
+/// Makes a copy of bytes, if they are there.
 fn copied(alloc: Global, bytes: Option<&[u8]>) -> Result<Option<Vec<u8>>, AllocError> {
     match bytes {
         Some(bytes) => Ok(Some(bytes.to_vec(alloc)?)),
@@ -158,7 +158,7 @@ impl<R: InMemory> PlayedHub<R> {
         }
     }
 
-    /// Whether a session is open.
+    /// Says whether a session is open.
     pub fn is_open(&self, session: SessionId) -> bool {
         match self {
             PlayedHub::Plain(hub) => hub.is_open(session),
@@ -167,7 +167,7 @@ impl<R: InMemory> PlayedHub<R> {
         }
     }
 
-    /// The bytes of a file of its repository, if it is there.
+    /// Gives the bytes of a file of its repository, if it exists.
     pub fn file(&self, rt: &HostRuntime, file: &NamedFile) -> Result<Option<Vec<u8>>, LineFault> {
         match self {
             PlayedHub::Plain(_) => Err(LineFault::NoFiles),
@@ -179,7 +179,7 @@ impl<R: InMemory> PlayedHub<R> {
         }
     }
 
-    /// A hub over its repository, which is opened again from its files.
+    /// Makes a hub over its repository, which is opened again from its files.
     pub fn reopened(self, rt: &HostRuntime, failing: Failing) -> Result<Self, LineFault> {
         match self {
             PlayedHub::Plain(_) => Err(LineFault::NoFiles),

@@ -92,7 +92,7 @@ pub enum Line {
 }
 
 impl Line {
-    /// The line that a text is.
+    /// Reads the line that a text is.
     pub fn parse(alloc: Global, text: &[u8]) -> Result<Line, LineFault> {
         let text = str::from_utf8(text).ok().ok_or(LineFault::Unknown)?;
         if text.starts_with('#') {
@@ -135,12 +135,12 @@ impl Line {
     }
 }
 
-/// The number of a session.
+/// Reads the number of a session.
 fn parse_session(word: &str) -> Result<SessionId, LineFault> {
     parse_number(word).ok_or(LineFault::Unknown)
 }
 
-/// How a store fails at its call of this number, which counts from 1 on.
+/// Reads how a store fails at its call of this number, which counts from 1 on.
 fn parse_failing(call: &str, left: &str) -> Result<Failing, LineFault> {
     let call = parse_number(call).ok_or(LineFault::Unknown)?;
     let passes = call.checked_sub(1).ok_or(LineFault::Unknown)?;
@@ -148,7 +148,7 @@ fn parse_failing(call: &str, left: &str) -> Result<Failing, LineFault> {
     Ok(Failing { passes, left })
 }
 
-/// The file of this name.
+/// Gives the file of this name.
 fn parse_named(alloc: Global, text: &str) -> Result<NamedFile, LineFault> {
     let name = parse_file(text).ok_or(LineFault::Unknown)?;
     Ok(NamedFile {
@@ -157,7 +157,7 @@ fn parse_named(alloc: Global, text: &str) -> Result<NamedFile, LineFault> {
     })
 }
 
-/// What a call hands in from outside.
+/// Reads what a call hands in from outside.
 fn parse_env(moment: &str, token: &str, nonce: &str) -> Result<Env, LineFault> {
     let moment = parse_moment(moment).ok_or(LineFault::Unknown)?;
     let token = parse_wide_number(token).ok_or(LineFault::Unknown)?;
@@ -169,7 +169,7 @@ fn parse_env(moment: &str, token: &str, nonce: &str) -> Result<Env, LineFault> {
     })
 }
 
-/// A hub of this name.
+/// Reads a hub of this name.
 fn parse_hub(alloc: Global, name: &str, uuid: &str, moment: &str) -> Result<NewHub, LineFault> {
     if !is_repository_name(name) {
         return Err(LineFault::Unknown);

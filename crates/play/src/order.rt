@@ -15,7 +15,7 @@ pub enum Order {
 }
 
 impl Order {
-    /// What the words of the command line ask for.
+    /// Reads what the words of the command line ask for.
     pub fn read(rt: &HostRuntime) -> Result<Order, ScriptFault> {
         let mut order = Order::Shared;
         for word in env::args(rt)?.skip(1) {

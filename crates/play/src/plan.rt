@@ -15,7 +15,7 @@ use std::alloc::{AllocError, Global};
 /// A hub over a repository in memory.
 pub type MemoryHub<R> = Hub<SoleRepository<R>>;
 
-/// A hub without sessions over an empty repository.
+/// Makes a hub without sessions over an empty repository.
 fn make_hub<R: InMemory>(alloc: Global, asked: NewHub) -> Result<MemoryHub<R>, LineFault>
     ensures { IfOk result (λ hub. (date : List ℕ) × IsDateText asked.moment date
         × (hub ≡ new_hub asked.options asked.uuid date)) }
@@ -38,7 +38,7 @@ pub struct Plan {
 }
 
 impl Plan {
-    /// A hub without a users file, over a repository without files, whose clients may not change the
+    /// Makes the plan of a hub without a users file, over a repository without files, whose clients may not change the
     /// properties of revisions.
     pub fn new(hub: NewHub) -> Self {
         Plan {
@@ -59,13 +59,13 @@ impl Plan {
         self.place = place;
     }
 
-    /// A users file without users, in place of the one before.
+    /// Begins a users file without users, in place of the one before.
     pub fn begin_users(&mut self, alloc: Global) -> Result<(), AllocError> {
         self.users = Some(Vec::from_slice(alloc, b"[users]\n")?);
         Ok(())
     }
 
-    /// One more user at the end of the file.
+    /// Adds one more user at the end of the file.
     pub fn add_user(&mut self, alloc: Global, user: &NewUser) -> Result<(), AllocError> {
         if self.users.is_none() {
             self.begin_users(alloc)?;
@@ -79,7 +79,7 @@ impl Plan {
         Ok(())
     }
 
-    /// The hub that is to be made, with all its options, and where its repository is.
+    /// Gives the hub that is to be made, with all its options, and where its repository is.
     fn settled(self, alloc: Global) -> Result<(NewHub, Place), LineFault> {
         let Plan {
             mut hub,
@@ -97,7 +97,7 @@ impl Plan {
         Ok((hub, place))
     }
 
-    /// The hub. Its store, if it has one, fails so.
+    /// Makes the hub. Its store, if it has one, fails so.
     pub fn into_hub<R: InMemory>(
         self,
         rt: &HostRuntime,

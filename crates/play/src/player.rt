@@ -37,7 +37,7 @@ pub struct Player<R: InMemory> {
 }
 
 impl<R: InMemory> Player<R> {
-    /// A player that has no hub yet.
+    /// Makes a player that has no hub yet.
     pub fn new(rt: HostRuntime) -> Self {
         Player {
             rt,
@@ -100,14 +100,14 @@ impl<R: InMemory> Player<R> {
         Ok(Some(answer))
     }
 
-    /// Whether a session is open.
+    /// Answers whether a session is open.
     fn ask_open(&mut self, session: SessionId) -> Result<Option<String>, LineFault> {
         let alloc = self.rt.alloc();
         let is_open = self.hub()?.is_open(session);
         Ok(Some(format!(in alloc; "open {session} {is_open}")?))
     }
 
-    /// What a file of the repository has.
+    /// Answers what a file of the repository has.
     fn ask_file(&mut self, file: &NamedFile) -> Result<Option<String>, LineFault> {
         let rt = self.rt;
         let bytes = self.hub()?.file(&rt, file)?;
@@ -137,7 +137,7 @@ impl<R: InMemory> Player<R> {
         }
     }
 
-    /// The hub that is asked for, before its first call.
+    /// Gives the hub that is asked for, before its first call.
     fn plan(&mut self) -> Result<&mut Plan, LineFault> {
         match &mut self.stage {
             Stage::Asked(plan) => Ok(plan),
@@ -146,7 +146,7 @@ impl<R: InMemory> Player<R> {
         }
     }
 
-    /// The hub, which is made at its first call.
+    /// Gives the hub, which is made at its first call.
     fn hub(&mut self) -> Result<&mut PlayedHub<R>, LineFault> {
         self.make_hub()?;
         match &mut self.stage {

@@ -18,7 +18,7 @@ fn is_lower_hex(word: &str) -> bool {
         .all(|b| b.is_ascii_digit() || (b'a' <= b && b <= b'f'))
 }
 
-/// A decimal number.
+/// Reads a decimal number.
 pub fn parse_number(word: &str) -> Option<u64> {
     if !is_decimal(word) {
         return None;
@@ -26,7 +26,7 @@ pub fn parse_number(word: &str) -> Option<u64> {
     word.parse::<u64>().ok()
 }
 
-/// A decimal number of up to 128 bits.
+/// Reads a decimal number of up to 128 bits.
 pub fn parse_wide_number(word: &str) -> Option<u128> {
     if !is_decimal(word) {
         return None;
@@ -34,7 +34,7 @@ pub fn parse_wide_number(word: &str) -> Option<u128> {
     word.parse::<u128>().ok()
 }
 
-/// A moment that has a date.
+/// Reads a moment that has a date.
 pub fn parse_moment(word: &str) -> Option<u64>
     ensures { IfSome result (λ moment. moment ≤ LAST_MOMENT) }
 {
@@ -45,7 +45,7 @@ pub fn parse_moment(word: &str) -> Option<u64>
     Some(moment)
 }
 
-/// A UUID with its hyphens.
+/// Reads a UUID with its hyphens.
 pub fn parse_uuid(word: &str) -> Option<u128> {
     if word.len() != 36 {
         return None;
@@ -56,7 +56,7 @@ pub fn parse_uuid(word: &str) -> Option<u128> {
     }
 }
 
-/// Bytes by their digits, or `-` for none.
+/// Reads bytes by their digits, or `-` for none.
 pub fn parse_bytes(alloc: Global, word: &str) -> Result<Vec<u8>, LineFault> {
     if word == "-" {
         return Ok(Vec::new(alloc));
@@ -71,7 +71,7 @@ pub fn parse_bytes(alloc: Global, word: &str) -> Result<Vec<u8>, LineFault> {
     }
 }
 
-/// What a call that fails leaves.
+/// Reads what a call that fails leaves.
 pub fn parse_fuse(word: &str) -> Option<Left> {
     match word {
         "old" => Some(Left::Old),
@@ -81,12 +81,12 @@ pub fn parse_fuse(word: &str) -> Option<Left> {
     }
 }
 
-/// The number of a revision.
+/// Reads the number of a revision.
 fn parse_revision(word: &str) -> Option<u32> {
     u32::try_from(parse_number(word)?).ok()
 }
 
-/// The file of a repository that has this name in its folder.
+/// Gives the file of a repository that has this name in its folder.
 pub fn parse_file(word: &str) -> Option<FileName> {
     if let Some(number) = word.strip_prefix("revs/") {
         return Some(FileName::Revision(parse_revision(number)?));

@@ -33,7 +33,7 @@ enum Clients {
 }
 
 impl Clients {
-    /// How many there are.
+    /// Says how many there are.
     fn count(self) -> usize {
         match self {
             Clients::Commit => 2,
@@ -42,7 +42,7 @@ impl Clients {
         }
     }
 
-    /// How many sessions one address may have.
+    /// Says how many sessions one address may have.
     fn per_address(self) -> u64 {
         match self {
             Clients::Commit | Clients::Fill => MAX_SESSIONS,
@@ -83,14 +83,14 @@ const CLOSE: &[u8] = b"( add-dir ( 8:branches 2:d0 2:d1 ( ) ) ) ( close-dir ( 2:
 /// What it is told up to the date of its revision.
 const SECOND: &[u8] = b"( success ( ) ) ( success ( ( ) 0: ) ) ( 2 ( 27:";
 
-/// A client that comes. It waits for 20 seconds at most.
+/// Connects a client. It waits for 20 seconds at most.
 fn come<R: Net<Stream = TcpStream>>(rt: &R, address: SocketAddr) -> io::Result<TcpStream> {
     let stream = TcpStream::connect(rt, address)?;
     stream.set_read_timeout(Some(Duration::from_secs(20)))?;
     Ok(stream)
 }
 
-/// Whether a client is told this next.
+/// Says whether a client is sent this next.
 fn is_told(stream: &mut TcpStream, words: &[u8]) -> io::Result<bool> {
     let mut told = [0; 256];
     let told = &mut told[..words.len().min(256)];
@@ -98,7 +98,7 @@ fn is_told(stream: &mut TcpStream, words: &[u8]) -> io::Result<bool> {
     Ok(&*told == words)
 }
 
-/// Whether a client is told this next, a date, and the end of a commit without an author.
+/// Says whether a client is sent this next, a date, and the end of a commit without an author.
 fn is_told_of_commit(stream: &mut TcpStream, words: &[u8]) -> io::Result<bool> {
     let is_front = is_told(stream, words)?;
     let mut date = [0; 27];
@@ -106,7 +106,7 @@ fn is_told_of_commit(stream: &mut TcpStream, words: &[u8]) -> io::Result<bool> {
     Ok(is_front && is_told(stream, b" ) ( ) ( ) ) ")?)
 }
 
-/// Whether a client commits and reads while another is inside its commit, which is made afterwards.
+/// Says whether a client commits and reads while another is inside its commit, which is made afterwards.
 fn commit_two<R: Net<Stream = TcpStream>>(rt: &R, address: SocketAddr) -> io::Result<bool> {
     let mut first = come(rt, address)?;
     first.write_all(LOGIN)?;
@@ -122,8 +122,8 @@ fn commit_two<R: Net<Stream = TcpStream>>(rt: &R, address: SocketAddr) -> io::Re
     Ok(is_inside && is_made && is_read && is_told_of_commit(&mut first, SECOND)?)
 }
 
-/// Whether so many clients are greeted, the next one is refused and meets the end, and once one of the others has gone
-/// another one is greeted.
+/// Says whether so many clients are greeted, the next one is refused and meets the end, and once one of the others has
+/// gone another one is greeted.
 fn fill<R: Net<Stream = TcpStream>>(
     rt: &R,
     alloc: Global,
@@ -146,8 +146,8 @@ fn fill<R: Net<Stream = TcpStream>>(
     Ok(are_greeted && is_refused && is_told(&mut last, GREETING)?)
 }
 
-/// Whether the clients are told what they are to be told. Where they are not, clients that say nothing come, so that
-/// the server ends.
+/// Says whether the clients are sent what they are to be sent. Where they are not, clients that say nothing come, so
+/// that the server ends.
 fn are_told<R: Net<Stream = TcpStream>>(
     rt: &R,
     alloc: Global,
@@ -197,7 +197,7 @@ where
     Ok(())
 }
 
-/// Whether clients are told what they are to be told by a server of their own.
+/// Says whether clients are sent what they are to be sent by a server of their own.
 fn serve_clients<J, R>(
     rt: &R,
     alloc: Global,

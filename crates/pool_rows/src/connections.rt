@@ -79,7 +79,7 @@ pub(crate) struct Client {
 }
 
 impl Client {
-    /// It has been told nothing.
+    /// Makes a client that has been sent nothing.
     pub(crate) fn new(alloc: Global, awaited: &[u8]) -> Result<Self, AllocError> {
         Ok(Client {
             bytes: Mutex::new(Vec::new(alloc)),
@@ -118,7 +118,7 @@ impl<'a, R: Wait> Write for Told<'a, R> {
     }
 }
 
-/// Whether one text stands in another.
+/// Says whether one text stands in another.
 fn stands_in(text: &[u8], part: &[u8]) -> bool {
     for i in 0..text.len() {
         if text[i..].starts_with(part) {

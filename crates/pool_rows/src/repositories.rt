@@ -11,7 +11,7 @@ use store_files::MemoryStore;
 /// The number that names the repository.
 const UUID: u128 = 0x0000_0000_0000_4000_8000_0000_0000_0000;
 
-/// An empty repository, in files in memory.
+/// Makes an empty repository, in files in memory.
 pub(crate) fn empty_repository(alloc: Global) -> Result<FolderRepository<MemoryStore>, Fail>
     ensures { IfOk result (λ stored. AreSound (filed_content stored.repository).revisions) }
 {

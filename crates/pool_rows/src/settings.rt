@@ -7,7 +7,7 @@ use std::fs;
 use std::rt::Runtime;
 use std::test::Fail;
 
-/// An order to serve, with this name, address and file of users.
+/// Makes an order to serve, with this name, address and file of users.
 fn service(alloc: Global, name: &str, listen: &str, users: &str) -> Result<Service, AllocError> {
     let name = String::from_str(alloc, name)?;
     let listen = String::from_str(alloc, listen)?;
@@ -22,7 +22,7 @@ fn service(alloc: Global, name: &str, listen: &str, users: &str) -> Result<Servi
     })
 }
 
-/// What is told of a service's fault, if there is one.
+/// Gives a service's fault, if there is one.
 fn fault_of<R: Runtime>(
     rt: &R,
     alloc: Global,

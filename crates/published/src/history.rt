@@ -70,7 +70,7 @@ pub struct NewHistory {
 }
 
 impl NewHistory {
-    /// An empty history.
+    /// Makes an empty history.
     pub fn new() -> NewHistory {
         let (seen, mut first, _second) = Seen::open(Start::alone(), 0, 0);
         NewHistory {
@@ -79,7 +79,7 @@ impl NewHistory {
         }
     }
 
-    /// The history under a name, and the front that has seen nothing of it.
+    /// Gives the history under a name, and the front that has seen nothing of it.
     pub fn named<J: Naming>(self) -> (Book<J>, Front<J>)
         requires { self.seen.book ≡ J.book }
         ensures { result.1 ≡ [] }
@@ -131,7 +131,7 @@ impl<J: Naming> Model for Front<J> {
 }
 
 impl<J: Naming> Front<J> {
-    /// How many events it has.
+    /// Says how many events it has.
     pub fn len(&self) -> u64
         ensures length { result ≡ length self.now }
         ensures history { IsHistory self.now }
@@ -139,7 +139,7 @@ impl<J: Naming> Front<J> {
         self.events
     }
 
-    /// A copy.
+    /// Makes a copy.
     pub fn again(&self) -> Front<J>
         ensures { result ≡ self.now }
     {
@@ -150,8 +150,7 @@ impl<J: Naming> Front<J> {
         }
     }
 
-    /// Whether it has fewer events than the other. Then the other begins with it, and otherwise it with
-    /// the other.
+    /// Says whether it has fewer events than the other. Then the other begins with it, and otherwise it with the other.
     fn is_shorter(&self, other: &Front<J>) -> bool
         ensures order { MatchBool result (IsLonger self.now other.now)
             (IsPrefix other.now self.now) }
@@ -163,7 +162,7 @@ impl<J: Naming> Front<J> {
         self.events < other.events
     }
 
-    /// Whether the two are equal.
+    /// Says whether the two are equal.
     pub fn is_same(&self, other: &Front<J>) -> bool
         ensures { MatchBool result (self.now ≡ other.now) (Unit {0}) }
     {
@@ -219,7 +218,7 @@ pub fn wait_forever<W: Wait>(rt: &W)
     unreachable!()
 }
 
-/// The front with an event more, which nobody else can have added.
+/// Makes the front with an event more, which nobody else can have added.
 pub fn next_front<X, M: Plain<X, Happened, u64>, J: Naming, W: Wait>(
     rt: &W,
     book: &Book<J>,

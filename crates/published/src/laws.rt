@@ -9,7 +9,7 @@ ghost use Rattle.repo_api.specs.Trees.{IsTree};
 ghost use Rattle.repo_api.specs.declared.ask.CommitAsk.{CommitAsk};
 ghost use Rattle.published.specs.Changes.{IsRight};
 
-/// An accepted commit of a sound transaction is right.
+/// Shows that an accepted commit of a sound transaction is right.
 pub fn commits_are_right()
     ensures { (c : RepoState) (ask : CommitAsk) (t : TxnState) → AreSound c.revisions
         → IsBeginning t.shown c.revisions → IsTree (tree_of t.tree) → IsMarkedTxn t

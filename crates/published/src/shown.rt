@@ -38,7 +38,7 @@ impl<R: Repository, J: Naming> Model for Published<R, J> {
 }
 
 impl<R: Repository, J: Naming> Published<R, J> {
-    /// A repository with its front.
+    /// Puts a repository together with its front.
     pub fn new(repository: R, front: Front<J>) -> Published<R, J>
         requires { R.content repository ≡ state_of front }
         ensures { (result.list ≡ front) × (result.content ≡ R.content repository) }
@@ -46,14 +46,14 @@ impl<R: Repository, J: Naming> Published<R, J> {
         Published { repository, front }
     }
 
-    /// Another hold of the repository.
+    /// Gives another hold of the repository.
     pub fn share(&self) -> Result<R, AllocError>
         ensures { IfOk result (λ r. R.content r ≡ self.now.content) }
     {
         self.repository.share()
     }
 
-    /// Its front.
+    /// Gives its front.
     pub fn front(&self) -> &Front<J>
         ensures list { result.now ≡ self.now.list }
         ensures content { self.now.content ≡ state_of self.now.list }
@@ -76,7 +76,7 @@ pub struct Places<P: Drop> {
 }
 
 impl<P: Drop> Places<P> {
-    /// Two empty places.
+    /// Makes two empty places.
     pub fn new() -> Places<P> {
         Places {
             first: Mutex::new(None),
@@ -153,7 +153,7 @@ impl<T: Absorb<O> + Drop, O: Drop> Drop for Desk<T, O> {
 }
 
 impl<T: Absorb<O> + Drop, O: Drop> Desk<T, O> {
-    /// A writer over two copies.
+    /// Makes a writer over two copies.
     pub fn new(alloc: Global, first: T, second: T, readers: usize) -> Result<Desk<T, O>, AllocError>
         requires readers { (0 < readers) × (readers < 2 ^ 32) }
         requires alike { T.state first ≡ T.state second }
@@ -163,12 +163,12 @@ impl<T: Absorb<O> + Drop, O: Drop> Desk<T, O> {
         Ok(Desk { writer })
     }
 
-    /// A reader.
+    /// Makes a reader.
     pub fn reader(&self) -> Result<Reader<T, (), Unruled>, AllocError> {
         self.writer.factory().reader()
     }
 
-    /// What is published.
+    /// Gives what is published.
     pub fn published(&self) -> &T
         ensures { result.now ≡ self.now.writer.desk.shown.value }
     {

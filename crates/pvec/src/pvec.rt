@@ -51,7 +51,7 @@ impl<T: Drop> Model for PVec<T> {
 }
 
 impl<T: Drop> PVec<T> {
-    /// No items.
+    /// Makes a list without items.
     pub fn new(alloc: Global) -> Result<Self, AllocError>
         ensures { IfOk result (λ v. v ≡ []) }
     {
@@ -62,7 +62,7 @@ impl<T: Drop> PVec<T> {
         })
     }
 
-    /// The same list, shared. No memory is asked for.
+    /// Gives the same list, shared. No memory is asked for.
     pub fn share(&self) -> Result<Self, AllocError>
         ensures { IfOk result (λ v. v ≡ self.now) }
     {
@@ -73,7 +73,7 @@ impl<T: Drop> PVec<T> {
         })
     }
 
-    /// How many items there are.
+    /// Counts the items.
     pub fn len(&self) -> usize
         ensures length { result ≡ length self.now }
         ensures limit { result ≤ 262144 }
@@ -81,14 +81,14 @@ impl<T: Drop> PVec<T> {
         count(&self.branches, &self.leaves, &self.tail)
     }
 
-    /// The item at the place, if there is one.
+    /// Gives the item at the place, if there is one.
     pub fn get(&self, place: usize) -> Option<&T>
         ensures { option_copied result ≡ slice_get self.now place }
     {
         item(&self.branches, &self.leaves, &self.tail, place)
     }
 
-    /// The list with one item more. This one stays as it is.
+    /// Makes the list with one item more. This one stays as it is.
     pub fn pushed(&self, alloc: Global, item: Arc<T>) -> Result<Self, PushFault>
         ensures ok { IfOk result (λ v. v ≡ self.now ++ item.value ∷ []) }
         ensures limit { length self.now ≡ 262144 → result ≡ Err PushFault.Full }
@@ -101,7 +101,7 @@ impl<T: Drop> PVec<T> {
         Ok(self.with_one(alloc, item)?)
     }
 
-    /// The list with one item more, for which there is a place. This one stays as it is.
+    /// Makes the list with one item more, for which there is a place. This one stays as it is.
     pub fn with_one(&self, alloc: Global, item: Arc<T>) -> Result<Self, AllocError>
         requires { length self.now < 262144 }
         ensures { IfOk result (λ v. v ≡ self.now ++ item.value ∷ []) }
@@ -130,7 +130,7 @@ impl<T: Drop> PVec<T> {
         })
     }
 
-    /// The list with another item at the place. This one stays as it is.
+    /// Makes the list with another item at the place. This one stays as it is.
     pub fn replaced(&self, alloc: Global, place: usize, item: Arc<T>) -> Result<Self, AllocError>
         requires { place < length self.now }
         ensures { IfOk result (λ v. v ≡ slice_set self.now place item.value) }

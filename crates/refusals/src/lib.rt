@@ -64,7 +64,7 @@ pub enum Refusal {
 }
 
 impl Refusal {
-    /// The number that the client is told, as Subversion numbers its errors.
+    /// Gives the number that the client is sent, as Subversion numbers its errors.
     pub fn number(self) -> u64
         ensures { result ≡ refusal_number self }
     {
@@ -97,7 +97,7 @@ impl Refusal {
         }
     }
 
-    /// The text that the client is told, in ASCII.
+    /// Gives the text that the client is sent, in ASCII.
     pub fn text(self) -> &'static [u8]
         ensures { result.now ≡ refusal_text self }
     {

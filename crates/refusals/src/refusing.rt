@@ -5,7 +5,7 @@ ghost use Rattle.refusals.specs.Refusing.{path_refusal};
 use crate::Refusal;
 use svnpath::PathFault;
 
-/// How a client is told that a path or a URL is none.
+/// Says how a client is told that a path or a URL is invalid.
 pub fn path_refusal(fault: PathFault) -> Refusal
     ensures { result ≡ path_refusal fault }
 {

@@ -60,14 +60,14 @@ impl Mark {
 }
 
 impl Entry {
-    /// Whether a directory stands there.
+    /// Says whether the entry is a directory.
     pub fn is_directory(&self) -> bool
         ensures { result ≡ is_directory self.now }
     {
         matches!(self.content, Content::Directory)
     }
 
-    /// What stands there.
+    /// Says what the entry is.
     pub fn kind(&self) -> NodeKind
         ensures { result ≡ content_kind self.now.content }
     {

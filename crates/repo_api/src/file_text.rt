@@ -34,7 +34,7 @@ impl Model for FileText {
 }
 
 impl FileText {
-    /// No bytes. It takes no memory, and no digest is computed.
+    /// Makes the text of no bytes. It takes no memory, and no digest is computed.
     pub fn empty() -> Self
         ensures { result ≡ [] }
     {
@@ -44,7 +44,7 @@ impl FileText {
         }
     }
 
-    /// The text that these bytes are. None is copied, and it takes no memory. Their MD5 is computed here.
+    /// Makes the text that these bytes are. None is copied, and it takes no memory. Their MD5 is computed here.
     pub fn from_shared(bytes: Arc<Vec<u8>>) -> Self
         ensures { result ≡ (arc_value bytes).items }
     {
@@ -55,14 +55,14 @@ impl FileText {
         }
     }
 
-    /// The MD5 of the bytes, which is kept and not computed.
+    /// Gives the MD5 of the bytes, which is kept and not computed.
     pub fn digest(&self) -> [u8; 16]
         ensures { result ≡ md5 self.now }
     {
         self.digest
     }
 
-    /// The bytes of the text, which are shared and not copied.
+    /// Gives the bytes of the text, which are shared and not copied.
     pub fn share(&self, alloc: Global) -> Result<Arc<Vec<u8>>, AllocError>
         ensures { IfOk result (λ bytes. (arc_value bytes).items ≡ self.now) }
     {

@@ -4,7 +4,7 @@ ghost use Rattle.repo_api.specs.Judging.{is_older, is_property_name};
 
 use crate::limits::PROPERTY_NAME_LIMIT;
 
-/// Whether the revision that a client has seen is below the one of the last change.
+/// Says whether the revision that a client has seen is below the one of the last change.
 pub fn is_older(seen: Option<u64>, changed: Option<u64>) -> bool
     ensures { result ≡ is_older seen changed }
 {
@@ -14,7 +14,7 @@ pub fn is_older(seen: Option<u64>, changed: Option<u64>) -> bool
     }
 }
 
-/// Whether a property may have this name: it has 1 to 255 bytes.
+/// Says whether a property may have this name: it has 1 to 255 bytes.
 pub fn is_property_name(name: &[u8]) -> bool
     ensures { result ≡ is_property_name name.now }
 {

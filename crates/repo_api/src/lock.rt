@@ -31,7 +31,7 @@ impl Model for LockTokens {
 }
 
 impl LockTokens {
-    /// No tokens.
+    /// Makes a list of no tokens.
     pub fn new(alloc: Global) -> Self
         ensures { result ≡ [] }
     {
@@ -48,7 +48,7 @@ impl LockTokens {
         self.tokens.push((path, token)).map_err(AllocError::from)
     }
 
-    /// The paths with their tokens, in the order in which they were put.
+    /// Gives the paths with their tokens, in the order in which they were put.
     pub fn as_slice(&self) -> &[(Path, ByteString)]
         ensures { result.now ≡ self.now }
     {

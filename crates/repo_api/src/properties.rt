@@ -28,14 +28,14 @@ impl Properties {
         }
     }
 
-    /// The names with their values, by the names' bytes.
+    /// Gives the names with their values, by the names' bytes.
     pub fn iter(&self) -> Iter<'_, ByteString, ByteString>
         ensures { result ≡ self.now }
     {
         self.values.iter()
     }
 
-    /// The value of the property of this name, if there is one.
+    /// Finds the value of the property of this name, if there is one.
     pub fn get(&self, name: &ByteString) -> Option<&ByteString>
         ensures { option_copied result ≡ property_value self.now name.now }
     {
@@ -67,7 +67,7 @@ impl Clone for Properties {
     }
 }
 
-/// Whether both are the same value, or both none.
+/// Says whether both are the same value, or both none.
 pub fn is_same_value(one: Option<&ByteString>, other: Option<&ByteString>) -> bool
     ensures { result ≡ is_same_value (option_copied one.entry) (option_copied other.entry) }
 {

@@ -38,46 +38,46 @@ pub trait Repository: Drop {
     /// What a transaction is.
     ghost txn_state: { Self.Txn → TxnState };
 
-    /// Another hold of the same content.
+    /// Makes another hold of the same content.
     fn share(&self) -> Result<Self, AllocError>
         ensures { IfOk result (λ other. content other ≡ content self.now) };
 
-    /// The repository's name among all repositories, as a number of 128 bits.
+    /// Gives the repository's name among all repositories, as a number of 128 bits.
     fn uuid(&self) -> u128
         ensures { result ≡ (content self.now).uuid };
 
-    /// The number of the youngest revision.
+    /// Gives the number of the youngest revision.
     fn youngest(&self) -> u64
         ensures { result ≡ youngest (content self.now) };
 
-    /// What stands at a path of a revision.
+    /// Says what exists at a path of a revision.
     fn kind(&self, revision: u64, path: &Path) -> NodeKind
         ensures { result ≡ kind_at (content self.now) revision path.now };
 
-    /// Whether something stands more than so many names beneath a path of a revision.
+    /// Says whether something exists more than so many names beneath a path of a revision.
     fn has_deeper(&self, revision: u64, path: &Path, names: usize) -> bool
         ensures { result ≡ has_deeper_at (content self.now) revision path.now names };
 
-    /// The revision that last changed what stands at a path of a revision, at or under it.
+    /// Finds the revision that last changed what exists at a path of a revision, at or under it.
     fn created(&self, revision: u64, path: &Path) -> Option<u64>
         ensures { result ≡ created_at (content self.now) revision path.now };
 
-    /// The properties of what stands at a path of a revision, `None` where nothing stands.
+    /// Finds the properties of what exists at a path of a revision, `None` where nothing exists.
     fn properties(&self, revision: u64, path: &Path) -> Option<&Properties>
         ensures { option_copied result ≡ node_properties_at (content self.now) revision path.now };
 
-    /// The text of the file at a path of a revision, `None` where no file stands.
+    /// Finds the text of the file at a path of a revision, `None` where no file exists.
     fn text(&self, revision: u64, path: &Path) -> Option<&FileText>
         ensures { option_copied result ≡ text_at (content self.now) revision path.now };
 
-    /// The names of what stands straight beneath a path of a revision, by their bytes.
+    /// Gives the names of what exists directly beneath a path of a revision, by their bytes.
     fn names(&self, revision: u64, path: &Path) -> Result<Vec<&ByteString>, AllocError>
         ensures { IfOk result (λ names. map deref names.items
             ≡ names_at (content self.now) revision path.now) };
 
-    /// Whether what stands at and under a path of a revision is what stands at and under another path
-    /// of another revision. A `false` answer is always right; a repository that can tell answers it
-    /// without looking at what lies beneath.
+    /// Says whether what exists at and under a path of a revision is what exists at and under another path of another
+    /// revision. A `false` answer is always right; a repository that can tell answers it without looking at what lies
+    /// beneath.
     fn is_same(&self, revision: u64, path: &Path, other: u64, other_path: &Path) -> bool
         ensures { result ≡ true
             → IsSameAt (content self.now) revision path.now other other_path.now }
@@ -85,12 +85,12 @@ pub trait Repository: Drop {
         false
     }
 
-    /// The changes of a revision in the order of their paths, none for a number that is no revision.
+    /// Gives the changes of a revision in the order of their paths, none for a number that no revision has.
     fn changes(&self, revision: u64) -> &[(Path, Change)]
         ensures { result.now ≡ history_of (content self.now) revision };
 
-    /// A revision, at most this one, after which and up to this one nothing was changed at, under or
-    /// above the path. The less it is, the fewer revisions are gone through.
+    /// Gives a revision, at most this one, after which and up to this one nothing was changed at, under or above the
+    /// path. The less it is, the fewer revisions are gone through.
     fn settled(&self, revision: u64, path: &Path) -> u64
         ensures within { result ≤ revision }
         ensures quiet { IsQuietSince (history_of (content self.now)) path.now result revision }
@@ -98,39 +98,39 @@ pub trait Repository: Drop {
         revision
     }
 
-    /// The properties of a revision, none for a number that is no revision.
+    /// Gives the properties of a revision, none for a number that no revision has.
     fn revision_properties(&self, revision: u64) -> Option<&Properties>
         ensures { option_copied result ≡ slice_get (content self.now).properties revision };
 
-    /// The lock at a path.
+    /// Finds the lock at a path.
     fn lock_at(&self, path: &Path) -> Option<&Lock>
         ensures { option_copied result ≡ get (content self.now).locks path.now };
 
-    /// The locks at a path and under it, by the bytes of their paths.
+    /// Finds the locks at a path and under it, by the bytes of their paths.
     fn locks_under(&self, path: &Path) -> Result<Vec<(&Path, &Lock)>, AllocError>
         ensures { IfOk result (λ found. map deref_pair found.items
             ≡ at_or_under (content self.now).locks path.now) };
 
-    /// Whether a release by the user, with these tokens handed in, takes some lock.
+    /// Says whether a release by the user, with these tokens handed in, takes some lock.
     fn releases(&self, user: Option<&ByteString>, tokens: &LockTokens) -> bool
         ensures { result ≡ releases (option_copied user.entry) tokens.now (content self.now).locks };
 
-    /// A transaction that begins from the youngest revision.
+    /// Makes a transaction that begins from the youngest revision.
     fn begin(&self) -> Result<Self::Txn, AllocError>
         ensures { IfOk result (λ txn. IsBegun (content self.now) (txn_state txn)) };
 
-    /// What stands at a path of a transaction, which was last shown a repository whose revisions begin this one's.
+    /// Says what exists at a path of a transaction, which was last shown a repository whose revisions begin this one's.
     fn kind_in(&self, txn: &Self::Txn, path: &Path) -> NodeKind
         requires { IsBeginning (txn_state txn.now).shown (content self.now).revisions }
         ensures { result ≡ kind_in (txn_state txn.now) path.now };
 
-    /// The revision that last changed what stands at a path of a transaction, at or under it: `None` where
-    /// nothing stands, and where the transaction itself has changed it.
+    /// Finds the revision that last changed what exists at a path of a transaction, at or under it: `None` where
+    /// nothing exists, and where the transaction itself has changed it.
     fn created_in(&self, txn: &Self::Txn, path: &Path) -> Option<u64>
         requires { IsBeginning (txn_state txn.now).shown (content self.now).revisions }
         ensures { result ≡ created_in (txn_state txn.now) path.now };
 
-    /// The text of the file at a path of a transaction, `None` where no file stands.
+    /// Finds the text of the file at a path of a transaction, `None` where no file exists.
     fn text_in<'a>(&'a self, txn: &'a Self::Txn, path: &Path) -> Option<&'a FileText>
         requires { IsBeginning (txn_state txn.now).shown (content self.now).revisions }
         ensures { option_copied result ≡ text_in (txn_state txn.now) path.now };

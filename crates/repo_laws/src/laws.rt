@@ -24,67 +24,67 @@ ghost use Rattle.repo_api.specs.declared.entry.Mark.TheVariants.{Made};
 ghost use Rattle.repo_api.specs.declared.edit.EditOp.{EditOp};
 ghost use Rattle.repo_api.specs.Opening.{opening_tree};
 
-/// The tree of a new repository is a tree.
+/// Shows that the tree of a new repository is a tree.
 pub fn opening_is_a_tree()
     ensures { IsTree (tree_of opening_tree) }
 {}
 
-/// A transaction begins from a tree.
+/// Shows that a transaction begins from a tree.
 pub fn beginnings_are_trees()
     ensures { (t : Tree) → IsTree t → IsTree (begun t) }
 {}
 
-/// An edit that may be made of a tree makes a tree, over revisions whose trees are trees.
+/// Shows that an edit that may be made of a tree makes a tree, over revisions whose trees are trees.
 pub fn edits_keep_trees()
     ensures { (revisions : List Revision) (t : Tree) (op : EditOp) → AreTrees revisions → IsTree t
         → IsRightEdit (trees_in revisions) t op → IsTree (edited (trees_in revisions) t op) }
 {}
 
-/// What has the same entries is the same tree.
+/// Shows that what has the same entries is the same tree.
 pub fn same_entries_make_a_tree()
     ensures { (t u : Tree) → ((p : PathValue) → t p ≡ u p) → IsTree t → IsTree u }
 {}
 
-/// The marks of a new repository name what they mark.
+/// Shows that the marks of a new repository name what they mark.
 pub fn opening_is_marked()
     ensures { (changes : ChangeMap)
         → AreMarked (trees_in (record { tree = opening_tree; changes = changes } ∷ [])) }
 {}
 
-/// In a transaction that begins at a revision, marks name what they mark.
+/// Shows that in a transaction that begins at a revision, marks name what they mark.
 pub fn beginnings_are_marked()
     ensures { (trees : ℕ → Tree) (n : ℕ) → AreMarked trees
         → IsTransactionOf trees (trees n) (begun (trees n)) }
 {}
 
-/// Whatever edit is made, what is copied being there, marks name what they mark.
+/// Shows that whatever edit is made, where what is copied exists, marks name what they mark.
 pub fn edits_keep_marks()
     ensures { (trees : ℕ → Tree) (base t : Tree) (op : EditOp) → AreMarked trees
         → HasSource trees op → IsTransactionOf trees base t
         → IsTransactionOf trees base (edited trees t op) }
 {}
 
-/// An open transaction goes on where revisions are added.
+/// Shows that an open transaction goes on where revisions are added.
 pub fn new_revisions_keep_transactions()
     ensures { (old new : ℕ → Tree) (base : ℕ) (txn : Tree) → KeepsTrees old new → IsTree (old base)
         → IsTransactionOf old (old base) txn → IsTransactionOf new (new base) txn }
 {}
 
-/// With the revision that a merge adds, marks name what they mark.
+/// Shows that with the revision that a merge adds, marks name what they mark.
 pub fn merges_keep_marks()
     ensures { (trees : ℕ → Tree) (n base youngest : ℕ) (txn : Tree) → IsFree trees n
         → MeetWell trees base txn youngest
         → AreMarked (with_tree trees n (merged n (trees base) txn (trees youngest))) }
 {}
 
-/// A merge makes a tree.
+/// Shows that a merge makes a tree.
 pub fn merges_are_trees()
     ensures { (trees : ℕ → Tree) (n base youngest : ℕ) (txn : Tree)
         → MeetWell trees base txn youngest → IsTree (merged n (trees base) txn (trees youngest)) }
 {}
 
-/// A commit never overwrites what was changed since its base: each path that others changed stays as they left
-/// it, and each path that the transaction changed is as the transaction left it.
+/// Shows that a commit never overwrites what was changed since its base: each path that others changed stays as they
+/// left it, and each path that the transaction changed is as the transaction left it.
 pub fn merges_keep_both_sides()
     ensures theirs { (trees : ℕ → Tree) (n base youngest : ℕ) (txn : Tree)
         → MeetWell trees base txn youngest → (p : PathValue)
@@ -97,7 +97,7 @@ pub fn merges_keep_both_sides()
         → shown (merged n (trees base) txn (trees youngest) p) ≡ shown (txn p) }
 {}
 
-/// A commit at whose time nobody else has committed since its base meets no conflict, and makes the
+/// Shows that a commit at whose time nobody else has committed since its base meets no conflict, and makes the
 /// transaction's tree with its marks closed.
 pub fn merges_with_the_base()
     ensures clean { (base txn : Tree) → HasNoConflict base txn base }
@@ -106,7 +106,8 @@ pub fn merges_with_the_base()
         → merged n (trees base) txn (trees base) p ≡ option_map (sealed n p) (txn p) }
 {}
 
-/// A closed mark names one thing wherever it stands: a `last` one subtree, an `own` one kind, properties and text.
+/// Shows that a closed mark names one thing wherever it stands: a `last` one subtree, an `own` one kind, properties and
+/// text.
 pub fn marks_name_one_thing()
     ensures lasts { (trees : ℕ → Tree) (x y : Tree) (p q : PathValue) (n : ℕ) (at : PathValue)
         → MarksName trees x → MarksName trees y → last_of (x p) ≡ Some (Made n at)
@@ -116,20 +117,20 @@ pub fn marks_name_one_thing()
         → own_of (y q) ≡ Some (Made n at) → shown (x p) ≡ shown (y q) }
 {}
 
-/// A transaction begins among the revisions with its marks in order.
+/// Shows that a transaction begins among the revisions with its marks in order.
 pub fn transactions_begin_marked()
     ensures { (c : RepoState) (t : TxnState) → AreMarked (trees_in c.revisions)
         → IsTree (trees_in c.revisions (youngest c)) → IsBegun c t → IsMarkedTxn t }
 {}
 
-/// An edit over revisions that go on from those last shown keeps a transaction's marks in order.
+/// Shows that an edit over revisions that go on from those last shown keeps a transaction's marks in order.
 pub fn transactions_stay_marked()
     ensures { (shown : List Revision) (old : TxnState) (op : EditOp) (new : TxnState)
         → AreMarked (trees_in shown) → IsBeginning old.shown shown → HasSource (trees_in shown) op
         → IsMarkedTxn old → IsEdited shown old op new → IsMarkedTxn new }
 {}
 
-/// A commit that is accepted meets the youngest revision well.
+/// Shows that a commit that is accepted meets the youngest revision well.
 pub fn accepted_commits_meet_well()
     ensures { (c : RepoState) (ask : CommitAsk) (t : TxnState) → AreMarked (trees_in c.revisions)
         → IsTree (trees_in c.revisions (youngest c)) → IsBeginning t.shown c.revisions
@@ -137,8 +138,8 @@ pub fn accepted_commits_meet_well()
         → MeetWell (trees_in c.revisions) t.base (tree_of t.tree) (youngest c) }
 {}
 
-/// What an accepted commit adds is a tree, marks go on naming what they mark, and nothing that was changed on
-/// either side since the base is lost.
+/// Shows that what an accepted commit adds is a tree, marks go on naming what they mark, and nothing that was changed
+/// on either side since the base is lost.
 pub fn commits_keep_both_sides()
     ensures tree { (c : RepoState) (t : TxnState)
         → MeetWell (trees_in c.revisions) t.base (tree_of t.tree) (youngest c)
@@ -157,21 +158,21 @@ pub fn commits_keep_both_sides()
         → shown (get (next_tree c t) p) ≡ shown (get t.tree p) }
 {}
 
-/// A lock, an unlock and a release change the locks alone: no revision, no property of one, and not the
+/// Shows that a lock, an unlock and a release change the locks alone: no revision, no property of one, and not the
 /// repository's name. So what is sound stays sound.
 pub fn changes_of_locks_keep_revisions()
     ensures { (c : RepoState) (e : Accepted) → is_of_locks e ≡ true
         → HasSameRevisions c (changed c e) }
 {}
 
-/// A change of a property of a revision changes the properties of that revision alone: no tree, no
-/// list of changes, no property of another revision, no lock, and not the repository's name.
+/// Shows that a change of a property of a revision changes the properties of that revision alone: no tree, no list of
+/// changes, no property of another revision, no lock, and not the repository's name.
 pub fn changes_of_properties_keep_revisions()
     ensures { (c : RepoState) (ask : PropertyAsk)
         → HasSameOtherwise ask.revision c (changed c (ChangesProperty ask)) }
 {}
 
-/// Once a property of a revision was given a value, a change of it that asks for another value before is
+/// Shows that once a property of a revision was given a value, a change of it that asks for another value before is
 /// refused. So of two clients that have seen one value, and ask for it, one alone changes it.
 pub fn changes_from_one_value_exclude_each_other()
     ensures { (c : RepoState) (first second : PropertyAsk) (value : List ℕ)

@@ -15,7 +15,7 @@ pub struct Kinds {
     pub new: NodeKind,
 }
 
-/// Whether something stands there.
+/// Says whether something exists there.
 pub(crate) fn is_there(kind: NodeKind) -> bool
     ensures { (e : Option Entry) → kind ≡ kind_of e → result ≡ is_some e }
 {
@@ -26,7 +26,7 @@ pub(crate) fn is_there(kind: NodeKind) -> bool
     }
 }
 
-/// Whether a directory stands there.
+/// Says whether a directory exists there.
 pub(crate) fn is_directory(kind: NodeKind) -> bool
     ensures { (e : Option Entry) → kind ≡ kind_of e → result ≡ is_directory_there e }
 {
@@ -37,7 +37,7 @@ pub(crate) fn is_directory(kind: NodeKind) -> bool
     }
 }
 
-/// Whether a file stands there.
+/// Says whether a file exists there.
 fn is_file(kind: NodeKind) -> bool
     ensures { (e : Option Entry) → kind ≡ kind_of e → result ≡ is_file e }
 {
@@ -48,7 +48,7 @@ fn is_file(kind: NodeKind) -> bool
     }
 }
 
-/// Whether the entry goes, or comes anew as another kind.
+/// Says whether the entry goes, or comes anew as another kind.
 pub(crate) fn goes(kinds: Kinds) -> bool
     ensures { (e f : Option Entry) → kinds.old ≡ kind_of e → kinds.new ≡ kind_of f
         → result ≡ goes e f }
@@ -60,7 +60,7 @@ pub(crate) fn goes(kinds: Kinds) -> bool
     }
 }
 
-/// Whether an entry that is to stand there is added: nothing stood there, or another kind.
+/// Says whether an entry that is to exist there is added: nothing existed there, or another kind.
 pub(crate) fn is_added(kinds: Kinds) -> bool
     ensures { (e f : Option Entry) → kinds.old ≡ kind_of e → kinds.new ≡ kind_of f
         → result ≡ (not (is_some e) || goes e f) }

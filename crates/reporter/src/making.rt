@@ -16,7 +16,7 @@ use std::alloc::{AllocError, Global};
 use std::collections::VecDeque;
 use svnpath::Path;
 
-/// The visits of what goes among these paths.
+/// Makes the visits of what goes among these paths.
 fn deletes_of<S: Sides>(
     alloc: Global,
     sides: &S,
@@ -38,7 +38,7 @@ fn deletes_of<S: Sides>(
     Ok(visits)
 }
 
-/// What is to be visited of these paths: what goes, and then each entry.
+/// Finds what is to be visited of these paths: what goes, and then each entry.
 fn unvisited_among<S: Sides>(
     alloc: Global,
     sides: &S,
@@ -58,7 +58,7 @@ fn unvisited_among<S: Sides>(
     })
 }
 
-/// What is to be visited of the top of a drive alone.
+/// Finds what is to be visited of the top of a drive alone.
 pub(crate) fn unvisited_top<S: Sides>(
     alloc: Global,
     sides: &S,
@@ -74,7 +74,7 @@ pub(crate) fn unvisited_top<S: Sides>(
     unvisited_among(alloc, sides, paths, false)
 }
 
-/// What is to be visited below a directory: what goes, and then each entry.
+/// Finds what is to be visited below a directory: what goes, and then each entry.
 pub(crate) fn unvisited_below<S: Sides>(
     alloc: Global,
     sides: &S,
@@ -88,7 +88,7 @@ pub(crate) fn unvisited_below<S: Sides>(
     unvisited_among(alloc, sides, children, is_anew)
 }
 
-/// The visit that enters an entry: it is opened, or comes anew.
+/// Makes the visit that enters an entry: it is opened, or comes anew.
 fn entry_visit(path: Path, is_anew: bool) -> Visit
     ensures { result ≡ entry_visit is_anew path }
 {
@@ -99,7 +99,7 @@ fn entry_visit(path: Path, is_anew: bool) -> Visit
     }
 }
 
-/// The visit that enters an entry, and what is to be visited below it.
+/// Makes the visit that enters an entry, and what is to be visited below it.
 fn entered<S: Sides>(
     alloc: Global,
     sides: &S,
@@ -121,7 +121,7 @@ fn entered<S: Sides>(
     Ok(Found::Entered(entry_visit(path, is_anew), below))
 }
 
-/// What is to be visited at a path and under it.
+/// Finds what is to be visited at a path and under it.
 fn found_at<S: Sides>(
     alloc: Global,
     sides: &S,
@@ -143,7 +143,7 @@ fn found_at<S: Sides>(
     entered(alloc, sides, path, comes, is_directory)
 }
 
-/// What is visited next in a directory.
+/// Finds what is visited next in a directory.
 pub(crate) fn next_found<S: Sides>(
     alloc: Global,
     sides: &S,
@@ -161,7 +161,7 @@ pub(crate) fn next_found<S: Sides>(
     next_entry(alloc, sides, here)
 }
 
-/// What is visited next of the entries of a directory, where nothing is left that goes.
+/// Finds what is visited next of the entries of a directory, where nothing is left that goes.
 fn next_entry<S: Sides>(alloc: Global, sides: &S, here: &mut Unvisited) -> Result<Found, AllocError>
     requires { here.old.deletes.items ≡ [] }
     ensures next { IfOk result (λ found. (vs more : List Visit) → IsFound (S.trees sides.now) found vs

@@ -10,8 +10,8 @@ use crate::sides::Sides;
 use std::alloc::{AllocError, Global};
 use svnpath::Path;
 
-/// Whether something is to be said of the entry at a path, which goes, comes or stays, or of what
-/// is under it.
+/// Says whether something is to be said of the entry at a path, which goes, comes or stays, or of
+/// what is under it.
 #[cycle(searching)]
 fn is_named<S: Sides>(alloc: Global, sides: &S, path: &Path) -> Result<bool, AllocError>
     ensures named { IfOk result (λ named. named ≡ true → HasReason (S.trees sides.now).stale
@@ -31,7 +31,7 @@ fn is_named<S: Sides>(alloc: Global, sides: &S, path: &Path) -> Result<bool, All
     has_news(alloc, sides, path, is_directory(kinds.new))
 }
 
-/// Whether something is to be said of an entry that stays, or of what is under it.
+/// Says whether something is to be said of an entry that stays, or of what is under it.
 #[cycle(searching)]
 pub(crate) fn has_news<S: Sides>(
     alloc: Global,
@@ -61,7 +61,7 @@ pub(crate) fn has_news<S: Sides>(
     has_news_below(alloc, sides, path)
 }
 
-/// Whether something is to be said of what is below a directory that stays.
+/// Says whether something is to be said of what is below a directory that stays.
 #[cycle(searching)]
 fn has_news_below<S: Sides>(alloc: Global, sides: &S, path: &Path) -> Result<bool, AllocError>
     requires stands { is_some ((S.trees sides.now).new path.now) ≡ true }

@@ -22,12 +22,12 @@ pub trait Sides {
     /// What an entry is told leads from what it was to what it is to be.
     ghost leads: { (s : Self) → LeadsOver (trees s).seen (trees s).old (trees s).new (trees s).own };
 
-    /// What stands at the path on both sides.
+    /// Says what exists at the path on both sides.
     fn kinds(&self, alloc: Global, path: &Path) -> Result<Kinds, AllocError>
         ensures old { IfOk result (λ kinds. kinds.old ≡ kind_of ((trees self.now).old path.now)) }
         ensures new { IfOk result (λ kinds. kinds.new ≡ kind_of ((trees self.now).new path.now)) };
 
-    /// The paths of what a directory has on either side.
+    /// Gives the paths of what a directory has on either side.
     fn children(&self, alloc: Global, path: &Path) -> Result<Vec<Path>, AllocError>
         ensures children { IfOk result (λ v. AreChildren path.now v.items) }
         ensures all_old { IfOk result (λ v. HoldsTogether path.now (trees self.now).old
@@ -35,13 +35,13 @@ pub trait Sides {
         ensures all_new { IfOk result (λ v. HoldsTogether path.now (trees self.now).new
             → AreAll (trees self.now).new path.now v.items) };
 
-    /// Whether all is the same at the path and under it, with no stale token. A false answer is
-    /// always right, and makes the walk longer.
+    /// Says whether all is the same at the path and under it, with no stale token. A false answer
+    /// is always right, and makes the walk longer.
     fn is_alike(&self, alloc: Global, path: &Path) -> Result<bool, AllocError>
         ensures { IfOk result (λ alike. alike ≡ true → AreAlike (trees self.now).old
             (trees self.now).new (trees self.now).stale path.now) };
 
-    /// Whether something is to be said of the entry itself.
+    /// Says whether something is to be said of the entry itself.
     fn is_due(&self, alloc: Global, path: &Path) -> Result<bool, AllocError>
         ensures due { IfOk result (λ due. due ≡ true
             → Differs (trees self.now).old (trees self.now).new path.now

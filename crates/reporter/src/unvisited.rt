@@ -26,7 +26,7 @@ pub(crate) enum Found {
 impl Found {
     ghost use Rattle.reporter.specs.declared.unvisited.Found.TheVariants.{Nothing};
 
-    /// Whether nothing more was found.
+    /// Says whether nothing more was found.
     pub(crate) fn is_nothing(&self) -> bool
         ensures { Decides result (self.now ≡ Nothing) }
     {

@@ -29,7 +29,7 @@ impl Visitor {
     ghost use Rattle.reporter.specs.declared.visit.Visit.{Visit};
     ghost use Rattle.reporter.specs.declared.visit.Visit.TheVariants.{Open};
 
-    /// The visits of a drive of the whole tree: what it does below the root, which is opened
+    /// Makes the visits of a drive of the whole tree: what it does below the root, which is opened
     /// before.
     pub fn of_root<S: Sides>(alloc: Global, sides: &S) -> Result<Self, AllocError>
         requires old { HasDirectory (S.trees sides.now).old [] }
@@ -46,7 +46,7 @@ impl Visitor {
         Visitor::of(alloc, below)
     }
 
-    /// The visits of a drive from its top on.
+    /// Makes the visits of a drive from its top on.
     pub fn of_top<S: Sides>(alloc: Global, sides: &S, top: &Path) -> Result<Self, AllocError>
         ensures right { IfOk result (λ v. (vs : List Visit) → MayVisit (S.trees sides.now) v vs
             → BothHold (S.trees sides.now).old (S.trees sides.now).new top.now
@@ -60,7 +60,7 @@ impl Visitor {
         Visitor::of(alloc, here)
     }
 
-    /// The visits of one directory.
+    /// Makes the visits of one directory.
     fn of(alloc: Global, here: Unvisited) -> Result<Self, AllocError>
         ensures { IfOk result (λ v. v.open.items ≡ here ∷ []) }
     {
@@ -69,11 +69,12 @@ impl Visitor {
         Ok(Visitor { open })
     }
 
-    /// The next visit. After the last there is none, and after an error none is to be asked for.
+    /// Gives the next visit. After the last there is none, and after an error none is to be asked
+    /// for.
     ///
     /// # Errors
     ///
-    /// `AllocError` for want of memory.
+    /// `AllocError` when out of memory.
     pub fn next<S: Sides>(&mut self, alloc: Global, sides: &S) -> Result<Option<Visit>, AllocError>
         ensures next { IfOk result (λ found. IfSome found (λ visit. (vs : List Visit)
             → MayVisit (S.trees sides.now) self.new vs
@@ -98,7 +99,7 @@ impl Visitor {
         }
     }
 
-    /// The visit that closes a directory, unless it was the last.
+    /// Gives the visit that closes a directory, unless it was the last.
     fn closed(&self) -> Option<Visit>
         ensures some { IfSome result (λ visit. (vs : List Visit)
             → behind self.now.open.items vs ≡ visit ∷ vs) }

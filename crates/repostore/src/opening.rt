@@ -152,7 +152,7 @@ fn read_rest<S: Store, R: Reader>(
     read_locks(alloc, store, reader)
 }
 
-/// The bytes of a file; one that is missing has none.
+/// Reads the bytes of a file; one that is missing has none.
 fn read_text<S: Store>(alloc: Global, store: &mut S, name: FileName) -> Result<Vec<u8>, StoreFault>
     ensures reads { OnlyReads S.is_honest S.holds S.may_leave S.moment S.left_since S.in_doubt
         S.failed store.old store.new }

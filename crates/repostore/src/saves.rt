@@ -115,7 +115,7 @@ impl<S: Store> Saves<S> {
         }
     }
 
-    /// A replacement has failed by this.
+    /// Notes that a replacement has failed by this.
     fn after_failure(&mut self, fault: StoreFault) -> StoreFault
         ensures same { result ≡ fault }
         ensures store { self.new.store ≡ self.old.store }
@@ -201,14 +201,14 @@ impl<S: Store> Saves<S> {
         self.publish(FileName::Properties(revision), properties)
     }
 
-    /// Whether a replacement has failed, so that nothing is written any more.
+    /// Says whether a replacement has failed, so that nothing is written any more.
     pub fn is_halted(&self) -> bool
         ensures { result ≡ self.now.is_halted }
     {
         self.is_halted
     }
 
-    /// The store as it is now.
+    /// Gives the store as it is now.
     pub fn store(&self) -> &S
         ensures { result.now ≡ self.now.store }
     {

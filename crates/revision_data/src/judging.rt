@@ -40,7 +40,7 @@ pub fn property_refusal(
     previous_refusal(&ask.previous, value_in(properties, &ask.name))
 }
 
-/// The value of the property of this name, if there are properties and it is among them.
+/// Gives the value of the property of this name, if there are properties and it is among them.
 fn value_in<'a>(properties: Option<&'a Properties>, name: &ByteString) -> Option<&'a ByteString>
     ensures { option_copied result
         ≡ property_value (or_empty (option_copied properties.entry)) name.now }

@@ -68,7 +68,7 @@ fn turn_away(alloc: Global, stream: &TcpStream, refusal: Refusal) -> Result<(), 
 
 /// What may come to a halt.
 pub(crate) trait Halts {
-    /// Whether changes are known to have come to a halt. It waits for nobody.
+    /// Says whether changes are known to have come to a halt. It waits for nobody.
     fn takes_no_changes(&self) -> bool;
 }
 
@@ -94,13 +94,13 @@ struct Acceptor<'a, R, H: Drop> {
 }
 
 impl<'a, R: Wait + Clock + Eprint, H: Halts + Drop> Acceptor<'a, R, H> {
-    /// Whether an address has as many sessions as it may have, where it may not have all.
+    /// Says whether an address has as many sessions as it may have, where it may not have all.
     fn is_full(&self, address: IpAddr) -> bool {
         let limit = self.entrance.per_address;
         limit < MAX_SESSIONS && self.entrance.journal.sessions_of(address) >= limit
     }
 
-    /// Whether a connection from an address becomes a session now.
+    /// Says whether a connection from an address becomes a session now.
     fn admit_now(&self, address: IpAddr) -> Admission {
         if self.is_full(address) {
             return Admission::Full;
@@ -108,7 +108,7 @@ impl<'a, R: Wait + Clock + Eprint, H: Halts + Drop> Acceptor<'a, R, H> {
         self.pool.admit(self.entrance.rt)
     }
 
-    /// Whether a connection becomes a session; where all places are taken it waits for a moment. None does once
+    /// Says whether a connection becomes a session; where all places are taken it waits for a moment. None does once
     /// changes have come to a halt, also while the session that met it is open.
     fn admit(&self, address: IpAddr) -> Admission {
         if self.entrance.repository.takes_no_changes() {
@@ -124,7 +124,7 @@ impl<'a, R: Wait + Clock + Eprint, H: Halts + Drop> Acceptor<'a, R, H> {
         self.admit_now(address)
     }
 
-    /// Whether a connection is on its way to a worker.
+    /// Says whether a connection is on its way to a worker.
     fn hand_over(&self, stream: TcpStream, number: u64) -> bool {
         let Ok(output) = stream.try_clone() else {
             return false;
@@ -137,7 +137,7 @@ impl<'a, R: Wait + Clock + Eprint, H: Halts + Drop> Acceptor<'a, R, H> {
         self.callers.send(self.entrance.rt, caller).is_ok()
     }
 
-    /// A connection becomes a session of this number. Where there is no memory for it, it is closed.
+    /// Makes a connection a session of this number. Where there is no memory for it, it is closed.
     fn begin(&self, stream: TcpStream, peer: SocketAddr, number: u64) {
         if self.entrance.journal.begins(number, peer).is_err() {
             self.pool.leave(self.entrance.rt);

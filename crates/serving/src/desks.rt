@@ -41,7 +41,7 @@ pub struct Desk<'r, R: Clock, F: Filed, S: Store, J: Naming> {
 }
 
 impl<'r, R: Clock + Wait, F: Filed, S: Store, J: Naming> Desk<'r, R, F, S, J> {
-    /// The seat as a session reaches it, and what hands moments and words in.
+    /// Gives the seat as a session reaches it, and what hands moments and words in.
     pub fn into_parts(self) -> (Access<'r, R, F, S, J>, SystemEnvs<'r, R>)
         ensures { result.0.seat ≡ self.entry.seat }
     {
@@ -93,7 +93,7 @@ impl<F: Filed, S: Store, J: Naming> Halts for SharedFiles<F, S, J> {
 /// A repository in files that sessions share, with a desk for each of its seats.
 pub type Desks<'r, R, F, S, J> = (SharedFiles<F, S, J>, Vec<Desk<'r, R, F, S, J>>);
 
-/// The desk of a seat.
+/// Makes the desk of a seat.
 fn desk_of<'r, R, F, S, J>(
     rt: &'r R,
     shared: &SharedFiles<F, S, J>,
@@ -117,7 +117,7 @@ where
     })
 }
 
-/// A desk for each seat.
+/// Makes a desk for each seat.
 fn desks_at<'r, R, F, S, J>(
     rt: &'r R,
     alloc: Global,

@@ -10,8 +10,8 @@ use std::io;
 use std::random::RandomSource;
 use std::time::{Clock, SystemTime, UNIX_EPOCH};
 
-/// The moment in microseconds since the beginning of 1970: 0 where the clock fails or shows an earlier time,
-/// and the last moment where it shows a later one.
+/// Gives the moment in microseconds since the beginning of 1970: 0 where the clock fails or shows an earlier time, and
+/// the last moment where it shows a later one.
 pub fn moment_now<C: Clock>(clock: &C) -> u64
     ensures { result ≤ LAST_MOMENT }
 {

@@ -30,7 +30,7 @@ pub enum ServingFault {
 }
 
 impl ServingFault {
-    /// Whether what was asked for is faulty, and not what was found.
+    /// Says whether what was asked for is faulty, and not what was found.
     pub fn is_of_command_line(&self) -> bool {
         matches!(self, ServingFault::Name | ServingFault::Address)
     }

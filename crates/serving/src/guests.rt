@@ -50,7 +50,7 @@ fn count_of(present: &[Guest], address: u32) -> u64 {
 }
 
 impl Guests {
-    /// Nobody is there.
+    /// Makes a list of no guests.
     pub(crate) fn new(alloc: Global) -> Self {
         Guests {
             present: Mutex::new(Vec::new(alloc)),

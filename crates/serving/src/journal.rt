@@ -46,7 +46,7 @@ pub struct Journal<'a, R> {
 }
 
 impl<'a, R: Eprint + Clock> Journal<'a, R> {
-    /// A journal that has told nothing.
+    /// Makes a journal that has told nothing.
     pub(crate) fn new(rt: &'a R, alloc: Global, is_quiet: bool) -> Self {
         Journal {
             rt,

@@ -24,7 +24,7 @@ pub struct Settings {
     pub is_quiet: bool,
 }
 
-/// Where to listen: a dotted IPv4 address and a port.
+/// Reads where to listen: a dotted IPv4 address and a port.
 fn address_of(service: &Service) -> Result<SocketAddrV4, ServingFault> {
     match service.listen.as_str().parse::<SocketAddrV4>() {
         Ok(address) => Ok(address),
@@ -32,7 +32,7 @@ fn address_of(service: &Service) -> Result<SocketAddrV4, ServingFault> {
     }
 }
 
-/// The options of the repository, with the users of a file.
+/// Makes the options of the repository, with the users of a file.
 fn options_of(alloc: Global, service: &Service, users: Users) -> Result<Options, ServingFault>
     ensures { IfOk result (λ o. o ≡ record {
       name = string_bytes service.now.name;
@@ -54,7 +54,7 @@ fn options_of(alloc: Global, service: &Service, users: Users) -> Result<Options,
     }
 }
 
-/// Whether a file can be read by others than its owner and its group.
+/// Says whether a file can be read by others than its owner and its group.
 fn is_exposed<R: Files>(rt: &R, file: &str) -> bool {
     match fs::metadata(rt, file) {
         Ok(metadata) => metadata.permissions().mode() & 0o004 != 0,

@@ -28,7 +28,7 @@ pub fn take_incoming(reader: &mut ItemReader) -> Result<Option<Incoming>, AllocE
     }
 }
 
-/// A fault of the stream, or want of memory.
+/// Tells a fault of the stream from being out of memory.
 fn broken_unless_memory(fault: ItemFault) -> Result<Option<Incoming>, AllocError>
     ensures { IfOk result (λ found. IsBrokenFault fault × (found ≡ Some Incoming.Broken)) }
 {

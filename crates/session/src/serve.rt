@@ -24,7 +24,7 @@ use std::alloc::AllocError;
 use std::mem::drop;
 use wire_replies::ReplySink;
 
-/// An item.
+/// Serves an item.
 fn serve_item<R: Repository, A: RepoAccess<View = R>, S: ReplySink>(
     options: &Options,
     phase: SessionPhase<R>,
@@ -51,7 +51,7 @@ fn serve_item<R: Repository, A: RepoAccess<View = R>, S: ReplySink>(
     }
 }
 
-/// A byte that goes on to no item ends the session.
+/// Ends the session at a byte that goes on to no item.
 fn serve_broken<R: Repository, S: ReplySink>(
     phase: SessionPhase<R>,
     turn: &mut Turn<S>,
@@ -68,7 +68,7 @@ fn serve_broken<R: Repository, S: ReplySink>(
     }
 }
 
-/// One input: an `Err` is want of memory, or of the sink.
+/// Serves one input: an `Err` means that memory has run out, or comes from the sink.
 pub fn serve<R: Repository, A: RepoAccess<View = R>, S: ReplySink>(
     options: &Options,
     phase: SessionPhase<R>,

@@ -88,7 +88,7 @@ impl<R: Repository> Model for Session<R> {
 }
 
 impl<R: Repository> Session<R> {
-    /// A session that has heard nothing.
+    /// Makes a session that has heard nothing.
     pub fn new(alloc: Global) -> Self
         ensures { result ≡ record { rest = []; phase = Greeted } }
     {
@@ -98,21 +98,21 @@ impl<R: Repository> Session<R> {
         }
     }
 
-    /// Whether the session hears what comes.
+    /// Says whether the session hears what comes.
     pub fn is_open(&self) -> bool
         ensures { result ≡ is_open self.now.phase }
     {
         self.phase.is_open()
     }
 
-    /// How many bytes it holds of an item that is not whole yet.
+    /// Says how many bytes it holds of an item that is not whole yet.
     pub fn unread_len(&self) -> usize
         ensures { result ≡ length self.now.rest }
     {
         self.reader.unread_len()
     }
 
-    /// The user that the client has logged in as, if it has.
+    /// Gives the user that the client has logged in as, if it has.
     pub fn user(&self) -> Option<&ByteString>
         ensures { option_copied result ≡ user_in self.now.phase }
     {

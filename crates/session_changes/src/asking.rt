@@ -16,7 +16,7 @@ use session_replies::date_of;
 use std::alloc::{AllocError, Global};
 use svnpath::{Path, PathFault};
 
-/// What is asked of a path by a lock of this moment.
+/// Makes what is asked of a path by a lock of this moment.
 fn lock_ask(
     alloc: Global,
     env: Env,
@@ -39,7 +39,7 @@ fn lock_ask(
     })
 }
 
-/// What a lock asks for.
+/// Makes what a lock asks for.
 pub(crate) fn lock_asked_for(
     alloc: Global,
     env: Env,
@@ -57,7 +57,7 @@ pub(crate) fn lock_asked_for(
     Ok(lock_ask(alloc, env, client, command, path)?)
 }
 
-/// What an unlock asks of a path.
+/// Makes what an unlock asks of a path.
 fn unlock_ask(client: &Client, command: &UnlockCommand, path: Path) -> Result<UnlockAsk, AllocError>
     ensures { IfOk result (λ ask. ask ≡ unlock_ask client.now command.now path) }
 {
@@ -69,7 +69,7 @@ fn unlock_ask(client: &Client, command: &UnlockCommand, path: Path) -> Result<Un
     })
 }
 
-/// What an unlock asks for.
+/// Makes what an unlock asks for.
 pub(crate) fn unlock_asked_for(
     alloc: Global,
     client: &Client,
@@ -91,7 +91,7 @@ pub(crate) struct MadeLock {
     pub(crate) lock: Lock,
 }
 
-/// The owner of a lock of this user's.
+/// Gives the owner of a lock of this user's.
 fn owner_of(alloc: Global, user: &Option<ByteString>) -> Result<ByteString, AllocError>
     ensures { IfOk result (λ owner. owner ≡ owner_of user.now) }
 {
@@ -101,7 +101,7 @@ fn owner_of(alloc: Global, user: &Option<ByteString>) -> Result<ByteString, Allo
     }
 }
 
-/// The lock that is asked for.
+/// Makes the lock that is asked for.
 fn lock_of(alloc: Global, ask: &LockAsk) -> Result<Lock, AllocError>
     ensures { IfOk result (λ lock. lock ≡ lock_of ask.now) }
 {
@@ -113,7 +113,7 @@ fn lock_of(alloc: Global, ask: &LockAsk) -> Result<Lock, AllocError>
     })
 }
 
-/// The lock that is asked for, and where it is to stand.
+/// Makes the lock that is asked for, and says where it is to be.
 pub(crate) fn made_lock(alloc: Global, ask: &LockAsk) -> Result<MadeLock, AllocError>
     ensures { IfOk result (λ made.
         made ≡ record { path = ask.now.path; lock = lock_of ask.now }) }

@@ -63,7 +63,7 @@ fn ask_lock<R: Repository, A: RepoAccess<View = R>, S: ReplySink>(
     }
 }
 
-/// Locks a path, behind what the client is told before.
+/// Locks a path, after what the client is sent before.
 pub fn lock<R: Repository, A: RepoAccess<View = R>, S: ReplySink>(
     client: Client,
     command: &LockCommand,

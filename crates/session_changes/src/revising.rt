@@ -30,7 +30,7 @@ fn ask_change<R: Repository, A: RepoAccess<View = R>, S: ReplySink>(
     }
 }
 
-/// Changes a property of a revision, behind what the client is told before.
+/// Changes a property of a revision, after what the client is sent before.
 pub fn change_property<R: Repository, A: RepoAccess<View = R>, S: ReplySink>(
     client: Client,
     ask: &PropertyAsk,

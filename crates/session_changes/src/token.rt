@@ -6,7 +6,7 @@ use byte_string::ByteString;
 use std::alloc::{AllocError, Global};
 use uuid::Uuid;
 
-/// The token that a word makes.
+/// Makes the token from a word.
 pub(crate) fn token_of(alloc: Global, word: u128) -> Result<ByteString, AllocError>
     ensures { IfOk result (λ token. token ≡ token_text word) }
 {

@@ -33,7 +33,7 @@ fn refuse_unknown<R: Repository, S: ReplySink>(
     refuse(client, Preface::Nothing, Refusal::UnknownCommand, turn)
 }
 
-/// A command that is known, and waits for nothing: the login request, and then its own answer.
+/// Answers a command that is known, and waits for nothing: with the login request, and then its own answer.
 fn answer_command<R: Repository, A: RepoAccess<View = R>, S: ReplySink>(
     options: &Options,
     client: Client,
@@ -55,7 +55,7 @@ fn answer_command<R: Repository, A: RepoAccess<View = R>, S: ReplySink>(
     answered
 }
 
-/// A command: it waits for a login, or is answered.
+/// Takes a command: it waits for a login, or is answered.
 fn take_command<R: Repository, A: RepoAccess<View = R>, S: ReplySink>(
     options: &Options,
     client: Client,
@@ -75,7 +75,7 @@ fn take_command<R: Repository, A: RepoAccess<View = R>, S: ReplySink>(
     }
 }
 
-/// An item that is to be a command.
+/// Answers an item that is to be a command.
 pub fn answer_item<R: Repository, A: RepoAccess<View = R>, S: ReplySink>(
     options: &Options,
     client: Client,

@@ -33,7 +33,7 @@ pub fn await_choice<R: Repository, S: ReplySink>(
     }
 }
 
-/// The request of a login to the repository of this name.
+/// Makes the request of a login to the repository of this name.
 fn login_reply(alloc: Global, options: &Options, offered: Offer) -> Result<Reply, AllocError>
     ensures { IfOk result (λ reply. reply ≡ Reply.Login offered options.now.name) }
 {

@@ -20,7 +20,7 @@ use std::alloc::{AllocError, Global};
 use std::mem::drop;
 use wire_replies::ReplySink;
 
-/// What a command asks a report for.
+/// Says what a command asks a report for.
 fn errand_of(command: &DriveCommand) -> Errand<'_>
     ensures { (c : RepoState) (name : List ℕ) (path : PathValue)
         → ask_of c name path result.purpose result.request.now (option_copied result.url)
@@ -45,7 +45,7 @@ fn errand_of(command: &DriveCommand) -> Errand<'_>
     }
 }
 
-/// A report that begins at the repository as it is now, with its refusal if there is one.
+/// Begins a report at the repository as it is now, with its refusal if there is one.
 pub(crate) fn begun_report<R: Repository, A: RepoAccess<View = R>>(
     alloc: Global,
     options: &Options,
@@ -65,7 +65,7 @@ pub(crate) fn begun_report<R: Repository, A: RepoAccess<View = R>>(
     begin(alloc, &view, anchor, errand_of(command))
 }
 
-/// A report is open, behind what its client is told before.
+/// Leaves a report open, after what its client is sent before.
 fn await_report<R: Repository, S: ReplySink>(
     reporting: OpenReporting<Grafts>,
     preface: Preface,
@@ -83,8 +83,7 @@ fn await_report<R: Repository, S: ReplySink>(
     }
 }
 
-/// A report is open, behind what its client is told before, if the report could be made. If not,
-/// nothing is written.
+/// Opens a report, after what its client is sent before, if the report could be made. If not, nothing is written.
 pub(crate) fn open_report<R: Repository, S: ReplySink>(
     client: Client,
     preface: Preface,

@@ -22,7 +22,7 @@ use std::alloc::AllocError;
 use std::mem::drop;
 use wire_replies::ReplySink;
 
-/// The beginning of a commit.
+/// Begins a commit.
 fn begin<R: Repository, S: ReplySink>(
     options: &Options,
     client: Client,
@@ -62,7 +62,7 @@ fn tell_nothing<R: Repository, S: ReplySink>(
     }
 }
 
-/// A command's own answer, behind what its client is told before.
+/// Gives a command's own answer, after what its client is sent before.
 pub fn own_answer<R: Repository, A: RepoAccess<View = R>, S: ReplySink>(
     options: &Options,
     client: Client,

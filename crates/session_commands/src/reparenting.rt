@@ -16,7 +16,7 @@ use std::mem::drop;
 use svnpath::{Path, PathFault};
 use wire_replies::{Reply, ReplySink};
 
-/// The client at another path; its root stays as it was told.
+/// Moves the client to another path; its root stays as it was told.
 fn at_path(client: Client, path: Path) -> Client
     ensures { result ≡ at_path client path }
 {
@@ -29,7 +29,7 @@ fn at_path(client: Client, path: Path) -> Client
     Client { path, root, user }
 }
 
-/// A client goes on at another URL; one that is refused leaves it where it is.
+/// Lets a client go on at another URL; one that is refused leaves it where it is.
 pub(crate) fn reparent<R: Repository, S: ReplySink>(
     options: &Options,
     client: Client,

@@ -16,7 +16,7 @@ pub struct Request<'a> {
     pub preface: Preface,
 }
 
-/// What the client of a command is told before the command's own answer.
+/// Says what the client of a command is sent before the command's own answer.
 pub(crate) fn preface_of(command: &MainCommand) -> Preface
     ensures { told_before result ≡ login_request command.now }
 {
@@ -32,7 +32,7 @@ pub(crate) fn preface_of(command: &MainCommand) -> Preface
     }
 }
 
-/// Whether a command writes.
+/// Says whether a command writes.
 fn is_write(command: &MainCommand) -> bool
     ensures { result ≡ is_write command.now }
 {
@@ -48,8 +48,7 @@ fn is_write(command: &MainCommand) -> bool
     }
 }
 
-/// Whether a command waits for the login of a user: it writes, its client has no user, and there
-/// are users.
+/// Says whether a command waits for the login of a user: it writes, its client has no user, and there are users.
 pub(crate) fn wants_user(options: &Options, client: &Client, command: &MainCommand) -> bool
     ensures { result ≡ wants_user options.now client.now command.now }
 {

@@ -16,7 +16,7 @@ use std::alloc::{AllocError, Global};
 use svnpath::{Path, PathFault};
 use wire_forms::Pairs;
 
-/// The lock tokens that are handed in, with the paths that they name.
+/// Reads the lock tokens that are handed in, with the paths that they name.
 fn lock_tokens(
     alloc: Global,
     base: &Path,
@@ -33,14 +33,14 @@ fn lock_tokens(
     Ok(tokens)
 }
 
-/// Whether each property may have its name.
+/// Says whether each property may have its name.
 fn are_names(pairs: &[(ByteString, ByteString)]) -> bool
     ensures { result ≡ list_all (λ pair. is_property_name pair.0) pairs.now }
 {
     pairs.iter().all(|pair| is_property_name(pair.0.as_slice()))
 }
 
-/// Whether each revision property that is handed in may have its name.
+/// Says whether each revision property that is handed in may have its name.
 fn are_named(properties: &Option<Pairs>) -> bool
     ensures { result ≡ are_named properties.now }
 {
@@ -50,7 +50,7 @@ fn are_named(properties: &Option<Pairs>) -> bool
     }
 }
 
-/// The pairs as properties.
+/// Makes properties of the pairs.
 fn properties_of(
     alloc: Global,
     pairs: &[(ByteString, ByteString)],
@@ -66,7 +66,7 @@ fn properties_of(
     Ok(properties)
 }
 
-/// The list of revision properties, if there is one.
+/// Makes the list of revision properties, if there is one.
 fn optional_properties(
     alloc: Global,
     pairs: &Option<Pairs>,
@@ -79,7 +79,7 @@ fn optional_properties(
     }
 }
 
-/// What a commit asks for, with its lock tokens read.
+/// Makes what a commit asks for, with its lock tokens read.
 fn asked(
     alloc: Global,
     command: &CommitCommand,
@@ -100,8 +100,7 @@ fn asked(
     })
 }
 
-/// What a commit asks for, with its lock tokens read, if its revision properties may have their
-/// names.
+/// Makes what a commit asks for, with its lock tokens read, if its revision properties may have their names.
 fn asked_with(
     alloc: Global,
     command: &CommitCommand,
@@ -119,7 +118,7 @@ fn asked_with(
     }
 }
 
-/// What a commit asks for.
+/// Reads what a commit asks for.
 pub fn asked_by(
     alloc: Global,
     base: &Path,

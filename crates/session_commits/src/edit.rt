@@ -47,7 +47,7 @@ fn tell_begun<S: ReplySink>(out: &mut S) -> Result<(), AllocError>
     out.say(&Reply::Success)
 }
 
-/// An edit that nothing has been made of.
+/// Makes an edit of which nothing has been made.
 fn new_editor<R: Repository>(
     alloc: Global,
     options: &Options,
@@ -59,7 +59,7 @@ fn new_editor<R: Repository>(
     Ok(CommitEditor::new(alloc, path.clone()?, name))
 }
 
-/// An edit is open, once its client is told that it may begin.
+/// Opens an edit, once its client is answered that it may begin.
 fn open_edit<R: Repository, S: ReplySink>(
     edit: SessionEdit<R>,
     turn: &mut Turn<S>,
@@ -76,7 +76,7 @@ fn open_edit<R: Repository, S: ReplySink>(
     }
 }
 
-/// The beginning of an edit.
+/// Begins an edit.
 pub fn begin_edit<R: Repository, S: ReplySink>(
     options: &Options,
     client: Client,
@@ -130,7 +130,7 @@ fn apply_now<R: Repository, A: RepoAccess<View = R>>(
     editor.apply(command, &view)
 }
 
-/// A command that edits. One that is refused gives the edit up.
+/// Carries out a command that edits. One that is refused gives the edit up.
 fn edit<R: Repository, A: RepoAccess<View = R>, S: ReplySink>(
     edit: SessionEdit<R>,
     command: &EditorCommand,
@@ -153,7 +153,7 @@ fn edit<R: Repository, A: RepoAccess<View = R>, S: ReplySink>(
     }
 }
 
-/// What a commit is asked to record.
+/// Makes what a commit is asked to record.
 fn commit_ask(
     alloc: Global,
     client: &Client,
@@ -185,7 +185,7 @@ struct Told {
     author: Option<ByteString>,
 }
 
-/// What a client is told of a commit of this moment.
+/// Makes what a client is answered about a commit of this moment.
 fn told_of(alloc: Global, moment: u64, user: &Option<ByteString>) -> Result<Told, AllocError>
     requires { moment ≤ LAST_MOMENT }
     ensures date { IfOk result (λ told. IsDateText moment told.date) }
@@ -222,7 +222,7 @@ fn report<S: ReplySink>(
     said
 }
 
-/// Where a session stands after a commit: at its end, where changes have come to a halt.
+/// Says where a session stands after a commit: at its end, where changes have come to a halt.
 fn phase_after<R: Repository>(client: Client, is_over: bool) -> SessionPhase<R>
     ensures { result ≡ (if is_over then Phase.Ended else Phase.Serving client) }
 {
@@ -318,7 +318,7 @@ fn commit<R: Repository, A: RepoAccess<View = R>, S: ReplySink>(
     }
 }
 
-/// The end of an edit: its transaction is committed, if it has one.
+/// Ends an edit: its transaction is committed, if it has one.
 fn close<R: Repository, A: RepoAccess<View = R>, S: ReplySink>(
     edit: SessionEdit<R>,
     access: &mut A,
@@ -345,7 +345,7 @@ fn close<R: Repository, A: RepoAccess<View = R>, S: ReplySink>(
     }
 }
 
-/// An edit that its client gives up.
+/// Ends an edit that its client gives up.
 fn abort<R: Repository, S: ReplySink>(
     edit: SessionEdit<R>,
     turn: &mut Turn<S>,
@@ -369,7 +369,7 @@ fn abort<R: Repository, S: ReplySink>(
     }
 }
 
-/// A command of an edit.
+/// Obeys a command of an edit.
 fn obey<R: Repository, A: RepoAccess<View = R>, S: ReplySink>(
     edit: SessionEdit<R>,
     command: &EditorCommand,
@@ -390,7 +390,7 @@ fn obey<R: Repository, A: RepoAccess<View = R>, S: ReplySink>(
     }
 }
 
-/// An item within an edit.
+/// Takes an item within an edit.
 pub fn edit_item<R: Repository, A: RepoAccess<View = R>, S: ReplySink>(
     edit: SessionEdit<R>,
     item: &Item,
@@ -422,7 +422,7 @@ pub fn edit_item<R: Repository, A: RepoAccess<View = R>, S: ReplySink>(
     }
 }
 
-/// An item of an edit that was given up.
+/// Skips an item of an edit that was given up.
 pub fn skip<R: Repository, S: ReplySink>(
     client: Client,
     item: &Item,

@@ -30,7 +30,7 @@ pub fn give_up<R: Repository, S: ReplySink>(
     }
 }
 
-/// Where a session stands whose edit was given up.
+/// Says where a session stands whose edit was given up.
 fn skipping<R: Repository>(edit: SessionEdit<R>) -> SessionPhase<R>
     ensures { result ≡ Skipping edit.client }
 {

@@ -17,7 +17,7 @@ use std::alloc::{AllocError, Global};
 use std::mem::drop;
 use wire_replies::{Reply, ReplySink};
 
-/// A challenge of this moment.
+/// Makes a challenge of this moment.
 fn new_challenge(alloc: Global, options: &Options, env: Env) -> Result<Challenge, AllocError>
     ensures { IfOk result (λ challenge. challenge ≡ challenge_of options.now env) }
 {
@@ -78,7 +78,7 @@ pub fn challenge<R: Repository, S: ReplySink>(
     }
 }
 
-/// Nobody, unless memory was refused.
+/// Gives nobody, unless memory was refused.
 fn nobody_unless_memory(fault: CramFault) -> Result<Option<ByteString>, AllocError>
     ensures { IfOk result (λ user. (fault ≢ CramFault.NoMemory) × (user ≡ None)) }
 {
@@ -88,7 +88,7 @@ fn nobody_unless_memory(fault: CramFault) -> Result<Option<ByteString>, AllocErr
     }
 }
 
-/// The user whose right answer to the challenge a text is, if it is any user's.
+/// Finds the user whose right answer to the challenge a text is, if it is any user's.
 pub fn user_of(
     alloc: Global,
     options: &Options,

@@ -21,14 +21,14 @@ use svnpath::{Path, PathFault, RepositoryUrl};
 use wire_forms::CommandFault;
 use wire_replies::{Reply, ReplySink};
 
-/// Whether a client speaks this protocol.
+/// Says whether a client speaks this protocol.
 fn speaks(greeting: &ClientGreeting) -> bool
     ensures { result ≡ speaks greeting.now }
 {
     greeting.version == 2 && greeting.edit_pipeline
 }
 
-/// The login of a client at this path of the repository, for which nothing waits.
+/// Makes the login of a client at this path of the repository, for which nothing waits.
 fn new_login(path: Path, root: ByteString) -> OpenLogin
     ensures { result ≡ record {
       client = record { path = path; root = root; user = None };
@@ -76,7 +76,7 @@ fn answer_greeting<R: Repository, S: ReplySink>(
     }
 }
 
-/// The answer to the greeting.
+/// Answers the greeting.
 pub fn greet<R: Repository, S: ReplySink>(
     options: &Options,
     item: &Item,

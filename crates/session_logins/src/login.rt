@@ -21,7 +21,7 @@ use std::mem::drop;
 use wire_forms::CommandFault;
 use wire_replies::{Reply, ReplySink};
 
-/// A mechanism that was chosen.
+/// Goes on with a mechanism that was chosen.
 fn choose<R: Repository, A: RepoAccess<View = R>, S: ReplySink>(
     options: &Options,
     login: OpenLogin,
@@ -53,7 +53,7 @@ fn end_login<R: Repository, S: ReplySink>(
     end_malformed(turn)
 }
 
-/// The choice of a mechanism.
+/// Answers the choice of a mechanism.
 pub fn log_in<R: Repository, A: RepoAccess<View = R>, S: ReplySink>(
     options: &Options,
     login: OpenLogin,
@@ -76,7 +76,7 @@ pub fn log_in<R: Repository, A: RepoAccess<View = R>, S: ReplySink>(
     }
 }
 
-/// The same login, of this user.
+/// Gives the same login, of this user.
 fn of_user(login: OpenLogin, name: ByteString) -> OpenLogin
     ensures { result ≡ record login { client = with_user login.client name } }
 {
@@ -93,7 +93,7 @@ fn of_user(login: OpenLogin, name: ByteString) -> OpenLogin
     }
 }
 
-/// The outcome of a challenge: the answer was this user's, or nobody's.
+/// Concludes a challenge: the answer was this user's, or nobody's.
 fn conclude<R: Repository, A: RepoAccess<View = R>, S: ReplySink>(
     options: &Options,
     login: OpenLogin,
@@ -111,7 +111,7 @@ fn conclude<R: Repository, A: RepoAccess<View = R>, S: ReplySink>(
     }
 }
 
-/// The answer to a challenge.
+/// Judges the answer to a challenge.
 fn judge<R: Repository, A: RepoAccess<View = R>, S: ReplySink>(
     options: &Options,
     pending: OpenChallenge,
@@ -135,7 +135,7 @@ fn judge<R: Repository, A: RepoAccess<View = R>, S: ReplySink>(
     }
 }
 
-/// An item that is to be the answer to a challenge.
+/// Takes an item that is to be the answer to a challenge.
 pub fn answer_challenge<R: Repository, A: RepoAccess<View = R>, S: ReplySink>(
     options: &Options,
     pending: OpenChallenge,

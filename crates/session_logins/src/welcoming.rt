@@ -19,7 +19,7 @@ use std::alloc::AllocError;
 use std::mem::drop;
 use wire_replies::{Reply, ReplySink};
 
-/// What a client is told of the repository that it has logged in to.
+/// Makes what is sent to a client about the repository that it has logged in to.
 fn repos_info<R: Repository, A: RepoAccess<View = R>>(
     root: &ByteString,
     access: &mut A,
@@ -67,7 +67,7 @@ fn welcome<R: Repository, A: RepoAccess<View = R>, S: ReplySink>(
     }
 }
 
-/// The command that has waited for a login goes on.
+/// Goes on with the command that has waited for a login.
 fn go_on<R: Repository, A: RepoAccess<View = R>, S: ReplySink>(
     options: &Options,
     client: Client,
@@ -88,7 +88,7 @@ fn go_on<R: Repository, A: RepoAccess<View = R>, S: ReplySink>(
     phase
 }
 
-/// A client has logged in: it is told of the repository, or the command that has waited goes on.
+/// Logs a client in: it is told of the repository, or the command that has waited goes on.
 pub fn log_client_in<R: Repository, A: RepoAccess<View = R>, S: ReplySink>(
     options: &Options,
     login: OpenLogin,

@@ -6,7 +6,7 @@ use crate::admission::Admission;
 use crate::places::{MAX_SESSIONS, Places};
 
 impl Places {
-    /// All places are free, and there was no session yet.
+    /// Makes the places: all are free, and there was no session yet.
     pub(crate) fn new() -> Places
         ensures taken { result.taken ≡ 0 }
         ensures begun { result.begun ≡ 0 }
@@ -19,7 +19,7 @@ impl Places {
         }
     }
 
-    /// Whether one more connection becomes a session, which has a place then.
+    /// Says whether one more connection becomes a session, which has a place then.
     pub(crate) fn admit(&mut self) -> Admission
         ensures { IsAdmitted self.old result self.new }
     {
@@ -43,7 +43,7 @@ impl Places {
         self.taken = self.taken.saturating_sub(1);
     }
 
-    /// No session begins any more.
+    /// Lets no session begin any more.
     pub(crate) fn halt(&mut self)
         ensures taken { self.new.taken ≡ self.old.taken }
         ensures begun { self.new.begun ≡ self.old.begun }

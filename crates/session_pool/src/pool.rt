@@ -59,7 +59,7 @@ fn serve_caller<
 }
 
 impl<'p, G: Gate, W: Watch> SessionPool<'p, G, W> {
-    /// No session is open.
+    /// Makes a pool in which no session is open.
     pub fn new(options: &'p Options, gate: &'p G, watch: &'p W) -> Self {
         SessionPool {
             options,
@@ -69,8 +69,8 @@ impl<'p, G: Gate, W: Watch> SessionPool<'p, G, W> {
         }
     }
 
-    /// Whether one more connection becomes a session. What is answered by a number is handed to a worker, or `leave`
-    /// is called.
+    /// Says whether one more connection becomes a session. What is answered by a number is handed to a worker, or
+    /// `leave` is called.
     pub fn admit<R: Wait>(&self, rt: &R) -> Admission {
         self.places.lock(rt).admit()
     }

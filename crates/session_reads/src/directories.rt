@@ -15,7 +15,7 @@ use std::alloc::{AllocError, Global};
 use svnpath::Path;
 use wire_replies::{DirectoryInfo, EntryList, NodeInfo, Reply};
 
-/// The directory at a path, seen from the path of the client's URL.
+/// Gives the directory at a path, seen from the path of the client's URL.
 pub(crate) fn get_dir<R: Repository>(
     alloc: Global,
     view: &R,
@@ -32,7 +32,7 @@ pub(crate) fn get_dir<R: Repository>(
     }
 }
 
-/// The directory at a place, if one stands there.
+/// Gives the directory at a place, if one exists there.
 fn directory_at<R: Repository>(
     alloc: Global,
     view: &R,
@@ -54,7 +54,7 @@ fn directory_at<R: Repository>(
     }
 }
 
-/// The entries of a directory by the bytes of their names, where they are wanted.
+/// Gives the entries of a directory by the bytes of their names, where they are wanted.
 fn entries_told<R: Repository>(
     alloc: Global,
     view: &R,
@@ -71,7 +71,7 @@ fn entries_told<R: Repository>(
     }
 }
 
-/// The entries of a directory by the bytes of their names.
+/// Gives the entries of a directory by the bytes of their names.
 fn all_entries<R: Repository>(
     alloc: Global,
     view: &R,
@@ -89,7 +89,7 @@ fn all_entries<R: Repository>(
     Ok(entries)
 }
 
-/// An entry of a directory, with its name.
+/// Gives an entry of a directory, with its name.
 fn entry_told<R: Repository>(
     alloc: Global,
     view: &R,

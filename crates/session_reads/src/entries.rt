@@ -16,7 +16,7 @@ use svnpath::Path;
 use uuid::Uuid;
 use wire_replies::{NodeInfo, Reply};
 
-/// What is known of what stands at a path, seen from the path of the client's URL.
+/// Gives what is known of what exists at a path, seen from the path of the client's URL.
 pub(crate) fn stat<R: Repository>(
     alloc: Global,
     view: &R,
@@ -33,7 +33,7 @@ pub(crate) fn stat<R: Repository>(
     }
 }
 
-/// What is known of what stands at a place, if anything does.
+/// Gives what is known of what exists at a place, if anything does.
 fn node_found<R: Repository>(view: &R, place: &Place) -> Result<Option<NodeInfo>, AllocError>
     ensures { IfOk result (λ node. node ≡ node_found
         (node_info (R.content view.now) place.now.revision place.now.path)
@@ -47,7 +47,7 @@ fn node_found<R: Repository>(view: &R, place: &Place) -> Result<Option<NodeInfo>
     }
 }
 
-/// What is known of an entry.
+/// Gives what is known of an entry.
 pub(crate) fn node_info<R: Repository>(
     view: &R,
     revision: u64,
@@ -66,14 +66,14 @@ pub(crate) fn node_info<R: Repository>(
     })
 }
 
-/// The revision that last changed an entry, at or under it.
+/// Gives the revision that last changed an entry, at or under it.
 fn changed_at<R: Repository>(view: &R, revision: u64, path: &Path) -> u64
     ensures { result ≡ changed_at (R.content view.now) revision path.now }
 {
     view.created(revision, path).unwrap_or(0)
 }
 
-/// How many bytes the text of a file has, 0 for a directory.
+/// Says how many bytes the text of a file has, 0 for a directory.
 fn size_at<R: Repository>(view: &R, revision: u64, path: &Path) -> u64
     ensures { result ≡ size_at (R.content view.now) revision path.now }
 {
@@ -83,7 +83,7 @@ fn size_at<R: Repository>(view: &R, revision: u64, path: &Path) -> u64
     }
 }
 
-/// Whether an entry has properties.
+/// Says whether an entry has properties.
 fn has_properties<R: Repository>(view: &R, revision: u64, path: &Path) -> bool
     ensures { result ≡ are_any (entry_properties (R.content view.now) revision path.now) }
 {
@@ -99,8 +99,8 @@ fn are_any(properties: &Properties) -> bool
     properties.iter().next().is_some()
 }
 
-/// The properties that are told of an entry, where they are wanted: its own, and those of the
-/// revision of its last change.
+/// Gives the properties that are shown of an entry, where they are wanted: its own, and those of the revision of its
+/// last change.
 pub(crate) fn shown_properties<R: Repository>(
     alloc: Global,
     view: &R,
@@ -119,7 +119,7 @@ pub(crate) fn shown_properties<R: Repository>(
     }
 }
 
-/// The properties of an entry itself.
+/// Gives the properties of an entry itself.
 fn entry_properties<R: Repository>(
     alloc: Global,
     view: &R,
@@ -134,8 +134,8 @@ fn entry_properties<R: Repository>(
     }
 }
 
-/// The properties, and four more that tell of a revision: its number, the repository, and its date
-/// and its author, if it has them.
+/// Gives the properties, and four more that tell of a revision: its number, the repository, and its date and its
+/// author, if it has them.
 fn with_revision<R: Repository>(
     alloc: Global,
     view: &R,
@@ -159,7 +159,7 @@ fn with_revision<R: Repository>(
     )
 }
 
-/// The properties with this one, if its value was made.
+/// Gives the properties with this one, if its value was made.
 fn with_made(
     alloc: Global,
     properties: Properties,
@@ -174,7 +174,7 @@ fn with_made(
     Ok(properties)
 }
 
-/// The properties with this one, if it has a value.
+/// Gives the properties with this one, if it has a value.
 fn with_optional(
     alloc: Global,
     properties: Properties,
@@ -190,7 +190,7 @@ fn with_optional(
     }
 }
 
-/// A number in decimal.
+/// Writes a number in decimal.
 fn number_text(alloc: Global, number: u64) -> Result<ByteString, AllocError>
     ensures { IfOk result (λ text. text ≡ decimal number) }
 {
@@ -198,7 +198,7 @@ fn number_text(alloc: Global, number: u64) -> Result<ByteString, AllocError>
     ByteString::from_slice(alloc, buffer.format(number).as_bytes())
 }
 
-/// The text of a repository's name among all repositories.
+/// Gives the text of a repository's name among all repositories.
 fn uuid_text(alloc: Global, uuid: u128) -> Result<ByteString, AllocError>
     ensures { IfOk result (λ text. text ≡ uuid_text uuid) }
 {

@@ -77,7 +77,7 @@ fn say_text<S: ReplySink>(text: &FileText, out: &mut S) -> Result<(), AllocError
     out.say(&Reply::Success)
 }
 
-/// What is told of a file before its text.
+/// Gives what is sent of a file before its text.
 fn file_told<R: Repository>(
     alloc: Global,
     view: &R,
@@ -95,7 +95,7 @@ fn file_told<R: Repository>(
     }))
 }
 
-/// The digest of a text, as hexadecimal digits.
+/// Gives the digest of a text, as hexadecimal digits.
 fn digest_text(alloc: Global, text: &FileText) -> Result<ByteString, AllocError>
     ensures { IfOk result (λ digits. digits ≡ encode_lower (md5 text.now)) }
 {
@@ -103,7 +103,7 @@ fn digest_text(alloc: Global, text: &FileText) -> Result<ByteString, AllocError>
     ByteString::from_slice(alloc, digits.as_bytes())
 }
 
-/// Why there is no file: nothing stands there, or a directory.
+/// Says why there is no file: nothing exists there, or a directory.
 fn no_file(kind: NodeKind) -> Refusal
     ensures { result ≡ no_file kind }
 {

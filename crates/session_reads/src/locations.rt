@@ -18,15 +18,15 @@ use std::alloc::{AllocError, Global};
 use svnpath::{Path, PathFault};
 use wire_replies::{Reply, ReplySink};
 
-/// Whether one of the revisions is above the youngest.
+/// Says whether one of the revisions is above the youngest.
 fn are_any_to_come<R: Repository>(view: &R, revisions: &[u64]) -> bool
     ensures { result ≡ list_any (is_to_come (R.content view.now)) revisions.now }
 {
     revisions.iter().any(|n| is_to_come(view, *n))
 }
 
-/// Why locations are refused, if they are: a revision is above the youngest, or the path is not in
-/// the peg revision.
+/// Says why locations are refused, if they are: a revision is above the youngest, or the path is not in the peg
+/// revision.
 fn locations_refusal<R: Repository>(view: &R, place: &Place, revisions: &[u64]) -> Option<Refusal>
     ensures { result ≡ locations_refusal (R.content view.now) place.now revisions.now }
 {

@@ -11,7 +11,7 @@ use std::alloc::{AllocError, Global};
 use svnpath::{Path, PathFault};
 use wire_replies::{LockList, Reply};
 
-/// The lock at a path, seen from the path of the client's URL.
+/// Gives the lock at a path, seen from the path of the client's URL.
 pub(crate) fn get_lock<R: Repository>(
     alloc: Global,
     view: &R,
@@ -28,7 +28,7 @@ pub(crate) fn get_lock<R: Repository>(
     }
 }
 
-/// The locks at a path and under it, seen from the path of the client's URL.
+/// Gives the locks at a path and under it, seen from the path of the client's URL.
 pub(crate) fn get_locks<R: Repository>(
     alloc: Global,
     view: &R,
@@ -45,7 +45,7 @@ pub(crate) fn get_locks<R: Repository>(
     }
 }
 
-/// The lock that stands at a path, if there is one.
+/// Finds the lock that exists at a path, if there is one.
 fn lock_found<R: Repository>(alloc: Global, view: &R, path: &Path) -> Result<LockList, AllocError>
     ensures { IfOk result (λ locks. locks ≡ lock_at (R.content view.now) path.now) }
 {
@@ -55,7 +55,7 @@ fn lock_found<R: Repository>(alloc: Global, view: &R, path: &Path) -> Result<Loc
     }
 }
 
-/// The locks that stand at a path and under it.
+/// Finds the locks that exist at a path and under it.
 fn locks_found<R: Repository>(alloc: Global, view: &R, path: &Path) -> Result<LockList, AllocError>
     ensures { IfOk result (λ locks. locks ≡ at_or_under (R.content view.now).locks path.now) }
 {

@@ -10,7 +10,7 @@ use std::alloc::{AllocError, Global};
 use svnpath::{Path, pairs_by_text};
 use wire_replies::{ChangeList, LogEntry, LoggedChange, Reply};
 
-/// A change, with the kind of what it made, or of what it deleted.
+/// Gives a change, with the kind of what it made, or of what it deleted.
 fn change_told<R: Repository>(
     alloc: Global,
     view: &R,
@@ -25,7 +25,7 @@ fn change_told<R: Repository>(
     LoggedChange::copied(path, change, kind)
 }
 
-/// The changes of a revision by the bytes of their paths.
+/// Gives the changes of a revision by the bytes of their paths.
 fn all_changes<R: Repository>(
     alloc: Global,
     view: &R,
@@ -41,7 +41,7 @@ fn all_changes<R: Repository>(
     Ok(told)
 }
 
-/// The changes of a revision by the bytes of their paths, where they are wanted.
+/// Gives the changes of a revision by the bytes of their paths, where they are wanted.
 fn changes_told<R: Repository>(
     alloc: Global,
     view: &R,
@@ -57,14 +57,14 @@ fn changes_told<R: Repository>(
     }
 }
 
-/// The message of a revision.
+/// Gives the message of a revision.
 fn message_of<R: Repository>(view: &R, revision: u64) -> Result<Option<ByteString>, AllocError>
     ensures { IfOk result (λ message. message ≡ message_of (R.content view.now) revision) }
 {
     revision_value(view, b"svn:log", revision)
 }
 
-/// A revision, as a log tells it.
+/// Gives a revision, as a log tells it.
 pub(crate) fn revision_told<R: Repository>(
     alloc: Global,
     view: &R,

@@ -19,7 +19,7 @@ use std::mem::drop;
 use svnpath::{Path, PathFault};
 use wire_replies::{Reply, ReplySink};
 
-/// The revision that is named, or the youngest.
+/// Gives the revision that is named, or the youngest.
 fn or_youngest<R: Repository>(view: &R, revision: Option<u64>) -> u64
     ensures { result ≡ or_youngest (R.content view.now) revision }
 {
@@ -29,7 +29,7 @@ fn or_youngest<R: Repository>(view: &R, revision: Option<u64>) -> u64
     }
 }
 
-/// What a log is asked for.
+/// Makes what a log is asked for.
 fn log_ask<R: Repository>(view: &R, command: &LogCommand) -> LogAsk
     ensures { result ≡ log_ask (R.content view.now) command.now }
 {
@@ -41,8 +41,7 @@ fn log_ask<R: Repository>(view: &R, command: &LogCommand) -> LogAsk
     }
 }
 
-/// Why a log is refused, if it is: a revision is above the youngest, or a path is not in the
-/// greater of the two.
+/// Says why a log is refused, if it is: a revision is above the youngest, or a path is not in the greater of the two.
 fn log_refusal<R: Repository>(view: &R, ask: LogAsk, paths: &[Path]) -> Option<Refusal>
     ensures { result ≡ log_refusal (R.content view.now) ask paths.now }
 {
@@ -106,7 +105,7 @@ fn say_listed<R: Repository, S: ReplySink>(
     say_end(Reply::Success, out)
 }
 
-/// The same of a log that was opened, if it was.
+/// Writes the same of a log that was opened, if it was.
 fn say_opened<R: Repository, S: ReplySink>(
     alloc: Global,
     view: &R,

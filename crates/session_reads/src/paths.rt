@@ -9,7 +9,7 @@ use repo_api::{NodeKind, Repository};
 use std::alloc::Global;
 use svnpath::{Path, PathFault};
 
-/// The paths as they are seen from the path of the client's URL.
+/// Gives the paths as they are seen from the path of the client's URL.
 pub(crate) fn all_joined(
     alloc: Global,
     base: &Path,
@@ -26,7 +26,7 @@ pub(crate) fn all_joined(
     Ok(joined)
 }
 
-/// Whether a revision is above the youngest.
+/// Says whether a revision is above the youngest.
 pub(crate) fn is_to_come<R: Repository>(view: &R, revision: u64) -> bool
     ensures { result ≡ is_to_come (R.content view.now) revision }
 {
@@ -43,14 +43,14 @@ fn is_present(kind: NodeKind) -> bool
     }
 }
 
-/// Whether something stands at the path of a revision.
+/// Says whether something exists at the path of a revision.
 pub(crate) fn is_there<R: Repository>(view: &R, revision: u64, path: &Path) -> bool
     ensures { result ≡ is_there (R.content view.now) revision path.now }
 {
     is_present(view.kind(revision, path))
 }
 
-/// Whether something stands at each of the paths of a revision.
+/// Says whether something exists at each of the paths of a revision.
 pub(crate) fn are_there<R: Repository>(view: &R, revision: u64, paths: &[Path]) -> bool
     ensures { result ≡ list_all (is_there (R.content view.now) revision) paths.now }
 {

@@ -11,7 +11,7 @@ use repo_api::Repository;
 use std::alloc::{AllocError, Global};
 use svnpath::{Path, PathFault};
 
-/// The revision that is named, or the youngest; one above it is refused.
+/// Gives the revision that is named, or the youngest; one above it is refused.
 pub(crate) fn revision_read<R: Repository>(view: &R, revision: Option<u64>) -> Result<u64, Refusal>
     ensures { result ≡ revision_read (R.content view.now) revision }
 {
@@ -28,7 +28,7 @@ pub(crate) fn revision_read<R: Repository>(view: &R, revision: Option<u64>) -> R
     }
 }
 
-/// The path in the revision, if there is one.
+/// Gives the path in the revision, if there is one.
 fn in_revision(path: Path, revision: Result<u64, Refusal>) -> Result<Place, Refusal>
     ensures { result ≡ in_revision path revision }
 {
@@ -38,7 +38,7 @@ fn in_revision(path: Path, revision: Result<u64, Refusal>) -> Result<Place, Refu
     }
 }
 
-/// What is read, seen from the path of the client's URL, or why it is refused.
+/// Says what is read, seen from the path of the client's URL, or why it is refused.
 pub(crate) fn place_read<R: Repository>(
     alloc: Global,
     view: &R,

@@ -14,7 +14,7 @@ use std::alloc::{AllocError, Global};
 use svnpath::{Path, PathFault};
 use wire_replies::Reply;
 
-/// The revision that is named, or the youngest; `None` above the youngest.
+/// Gives the revision that is named, or the youngest; `None` above the youngest.
 fn known_revision<R: Repository>(view: &R, revision: Option<u64>) -> Option<u64>
     ensures { MatchOption result
         ((f : ℕ → Reply) →
@@ -28,14 +28,14 @@ fn known_revision<R: Repository>(view: &R, revision: Option<u64>) -> Option<u64>
     }
 }
 
-/// What stands at a path of a revision that is there.
+/// Says what exists at a path of a revision that is there.
 fn kind_at<R: Repository>(view: &R, revision: u64, path: &Path) -> Reply
     ensures { result ≡ replies.Kind (kind_at (R.content view.now) revision path.now) }
 {
     Reply::Kind(view.kind(revision, path))
 }
 
-/// What stands at a path, seen from the path of the client's URL.
+/// Says what exists at a path, seen from the path of the client's URL.
 pub(crate) fn check_path<R: Repository>(
     alloc: Global,
     view: &R,
@@ -56,7 +56,7 @@ pub(crate) fn check_path<R: Repository>(
     }
 }
 
-/// The properties of a revision, if it is there.
+/// Gives the properties of a revision, if it is there.
 pub(crate) fn rev_proplist<R: Repository>(
     alloc: Global,
     view: &R,

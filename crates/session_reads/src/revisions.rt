@@ -12,7 +12,7 @@ use std::alloc::AllocError;
 use wire_forms::copy_optional;
 use wire_replies::Reply;
 
-/// The youngest revision up to a date, if the text is a date.
+/// Finds the youngest revision up to a date, if the text is a date.
 pub(crate) fn get_dated_rev<R: Repository>(view: &R, date: &[u8]) -> Reply
     ensures { result ≡ dated_reply (R.content view.now) date.now }
 {
@@ -23,7 +23,7 @@ pub(crate) fn get_dated_rev<R: Repository>(view: &R, date: &[u8]) -> Reply
     }
 }
 
-/// A property of a revision, if the revision is there.
+/// Gives a property of a revision, if the revision is there.
 pub(crate) fn rev_prop<R: Repository>(
     view: &R,
     revision: u64,
@@ -38,21 +38,21 @@ pub(crate) fn rev_prop<R: Repository>(
     }
 }
 
-/// The date of a revision.
+/// Gives the date of a revision.
 pub fn date_of<R: Repository>(view: &R, revision: u64) -> Result<Option<ByteString>, AllocError>
     ensures { IfOk result (λ date. date ≡ revision_date (R.content view.now) revision) }
 {
     revision_value(view, b"svn:date", revision)
 }
 
-/// The author of a revision.
+/// Gives the author of a revision.
 pub fn author_of<R: Repository>(view: &R, revision: u64) -> Result<Option<ByteString>, AllocError>
     ensures { IfOk result (λ author. author ≡ author_of (R.content view.now) revision) }
 {
     revision_value(view, b"svn:author", revision)
 }
 
-/// The value of a property of a revision.
+/// Gives the value of a property of a revision.
 pub fn revision_value<R: Repository>(
     view: &R,
     name: &[u8],
@@ -67,7 +67,7 @@ pub fn revision_value<R: Repository>(
     }
 }
 
-/// The value of a property.
+/// Finds the value of a property.
 fn value_of_property<'a>(name: &[u8], properties: &'a Properties) -> Option<&'a ByteString>
     ensures { option_copied result ≡ value_of_property name.now properties.now }
 {

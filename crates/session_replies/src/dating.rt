@@ -7,7 +7,7 @@ use byte_string::ByteString;
 use dates::date_text;
 use std::alloc::{AllocError, Global};
 
-/// The date of a moment.
+/// Gives the date of a moment.
 pub fn date_of(alloc: Global, moment: u64) -> Result<ByteString, AllocError>
     requires { moment ≤ LAST_MOMENT }
     ensures { IfOk result (λ date. IsDateText moment date) }

@@ -21,7 +21,7 @@ use wire_edits::EditorCommand;
 use wire_forms::read_form;
 use wire_replies::{Reply, ReplySink};
 
-/// Whether an answer of this name tells a success; `None` for what is no answer.
+/// Says whether an answer of this name tells a success; `None` for what is not an answer.
 fn is_success(name: &[u8]) -> Option<bool>
     ensures { result ≡ is_success name.now }
 {
@@ -34,7 +34,7 @@ fn is_success(name: &[u8]) -> Option<bool>
     }
 }
 
-/// Whether the client's answer is a success; `None` for an item that is no answer.
+/// Says whether the client's answer is a success; `None` for an item that is not an answer.
 fn client_answer(item: &Item) -> Option<bool>
     ensures { result ≡ client_answer (value_of item.now) }
 {
@@ -80,7 +80,7 @@ fn take_over<R: Repository, S: ReplySink>(
     tell(client, Preface::Nothing, Ok(Reply::Success), turn)
 }
 
-/// An item behind a drive: the client's answer to it.
+/// Takes an item after a drive: the client's answer to it.
 pub fn serve_driven<R: Repository, S: ReplySink>(
     client: Client,
     item: &Item,

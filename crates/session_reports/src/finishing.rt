@@ -67,7 +67,7 @@ fn drive_now<R: Repository, A: RepoAccess<View = R>, S: ReplySink>(
     }
 }
 
-/// The end of a report.
+/// Ends a report.
 pub(crate) fn finish<R: Repository, A: RepoAccess<View = R>, S: ReplySink>(
     errand: OpenErrand,
     access: &mut A,

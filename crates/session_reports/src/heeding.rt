@@ -20,7 +20,7 @@ use std::mem::drop;
 use wire_replies::ReplySink;
 use wire_reports::ReportCommand;
 
-/// What a path that is set, or linked to a URL, makes of a report at the repository as it is now.
+/// Gives what a path that is set, or linked to a URL, makes of a report at the repository as it is now.
 fn set_path_now<R: Repository, A: RepoAccess<View = R>>(
     alloc: Global,
     name: &str,
@@ -43,7 +43,7 @@ fn set_path_now<R: Repository, A: RepoAccess<View = R>>(
     }
 }
 
-/// A path that is set, or linked to a URL. The report goes on.
+/// Takes a path that is set, or linked to a URL. The report goes on.
 fn set_path<R: Repository, A: RepoAccess<View = R>>(
     alloc: Global,
     options: &Options,
@@ -69,7 +69,7 @@ fn set_path<R: Repository, A: RepoAccess<View = R>>(
     }
 }
 
-/// A path at which nothing is. The report goes on.
+/// Takes a path at which nothing is. The report goes on.
 fn delete_path<R: Repository>(
     alloc: Global,
     errand: OpenErrand,
@@ -90,7 +90,7 @@ fn delete_path<R: Repository>(
     }
 }
 
-/// A report that is given up. The next command is awaited.
+/// Gives up a report. The next command is awaited.
 fn abort<R: Repository>(errand: OpenErrand) -> SessionPhase<R>
     ensures { result ≡ Phase.Serving errand.client }
 {
@@ -99,7 +99,7 @@ fn abort<R: Repository>(errand: OpenErrand) -> SessionPhase<R>
     Phase::Serving(client)
 }
 
-/// A command of a report.
+/// Takes a command of a report.
 pub(crate) fn heed<R: Repository, A: RepoAccess<View = R>, S: ReplySink>(
     options: &Options,
     errand: OpenErrand,

@@ -33,7 +33,7 @@ pub(crate) fn fail<R: Repository, S: ReplySink>(
     refuse(client, Preface::NoLogin, refusal, turn)
 }
 
-/// A report that is refused goes on.
+/// Goes on with a report that is refused.
 pub(crate) fn stay_refused<R: Repository>(client: Client, refusal: Refusal) -> SessionPhase<R>
     ensures { result ≡ Reporting (record { client = client; report = Refused refusal }) }
 {
@@ -41,7 +41,7 @@ pub(crate) fn stay_refused<R: Repository>(client: Client, refusal: Refusal) -> S
     Phase::Reporting(OpenReporting { client, report })
 }
 
-/// A command of a report that is refused.
+/// Takes a command of a report that is refused.
 pub(crate) fn pass_over<R: Repository, S: ReplySink>(
     client: Client,
     refusal: Refusal,

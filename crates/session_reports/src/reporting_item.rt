@@ -26,7 +26,7 @@ use wire_forms::CommandFault;
 use wire_replies::ReplySink;
 use wire_reports::ReportCommand;
 
-/// A report that is refused from now on.
+/// Refuses a report from now on.
 fn refuse_from_now<R: Repository>(errand: OpenErrand, refusal: Refusal) -> SessionPhase<R>
     ensures { result ≡ Reporting (record { client = errand.client; report = Refused refusal }) }
 {
@@ -35,7 +35,7 @@ fn refuse_from_now<R: Repository>(errand: OpenErrand, refusal: Refusal) -> Sessi
     stay_refused(client, refusal)
 }
 
-/// An item within a report that goes on.
+/// Takes an item within a report that goes on.
 fn heed_item<R: Repository, A: RepoAccess<View = R>, S: ReplySink>(
     options: &Options,
     errand: OpenErrand,
@@ -67,7 +67,7 @@ fn heed_item<R: Repository, A: RepoAccess<View = R>, S: ReplySink>(
     }
 }
 
-/// An item within a report.
+/// Takes an item within a report.
 pub fn serve_report<R: Repository, A: RepoAccess<View = R>, S: ReplySink>(
     options: &Options,
     reporting: SessionReport,

@@ -36,7 +36,7 @@ fn append_names<'a, V>(
     Ok(())
 }
 
-/// The entries of all parts.
+/// Gives the entries of all parts.
 pub(crate) fn entries_of<V>(
     alloc: Global,
     parts: &[Arc<Part<V>>],
@@ -50,7 +50,7 @@ pub(crate) fn entries_of<V>(
     Ok(list)
 }
 
-/// The names of all parts.
+/// Gives the names of all parts.
 pub(crate) fn names_of<V>(
     alloc: Global,
     parts: &[Arc<Part<V>>],

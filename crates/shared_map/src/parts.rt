@@ -16,7 +16,7 @@ pub(crate) type Entry<V> = (ByteString, V);
 /// Entries in the order of their names. The same entry may stand in many parts.
 pub(crate) type Part<V> = Vec<Arc<Entry<V>>>;
 
-/// The same pointers, shared.
+/// Gives the same pointers, shared.
 pub(crate) fn shared<T: Drop>(alloc: Global, parts: &[Arc<T>]) -> Result<Vec<Arc<T>>, AllocError>
     ensures { IfOk result (λ v. values v.items ≡ values parts.now) }
 {

@@ -53,7 +53,7 @@ fn put_with_room<V: Drop>(
     put_in_part(&mut parts[place], entry)
 }
 
-/// The part as two, with one more entry.
+/// Splits the part in two, with one more entry.
 fn halves<V: Drop>(
     alloc: Global,
     part: &[Arc<Entry<V>>],

@@ -10,7 +10,7 @@ use byte_string::ByteString;
 use std::cmp::Ordering;
 use std::sync::Arc;
 
-/// Whether the name comes before the first entry of a part.
+/// Says whether the name comes before the first entry of a part.
 fn is_before<V>(name: &ByteString, part: &[Arc<Entry<V>>]) -> bool
     ensures { result ≡ is_before name.now (values part.now) }
 {
@@ -20,8 +20,7 @@ fn is_before<V>(name: &ByteString, part: &[Arc<Entry<V>>]) -> bool
     }
 }
 
-/// The place of the one part where the name can stand: the last that begins at it or before it, or the
-/// first.
+/// Finds the place of the one part where the name can stand: the last that begins at it or before it, or the first.
 pub(crate) fn home<V>(parts: &[Arc<Part<V>>], name: &ByteString) -> usize
     requires { AreParts parts.now }
     ensures there { 0 < length parts.now → result < length parts.now }
@@ -41,7 +40,7 @@ pub(crate) fn home<V>(parts: &[Arc<Part<V>>], name: &ByteString) -> usize
     low
 }
 
-/// The place of the name in a part, or else the place where it would go.
+/// Finds the place of the name in a part, or else the place where it would go.
 pub(crate) fn search<V>(part: &[Arc<Entry<V>>], name: &ByteString) -> Result<usize, usize>
     requires { T (is_sorted by_bytes (values part.now)) }
     ensures found { IfOk result (λ place. IsSomeAnd (slice_get (values part.now) place)
@@ -65,7 +64,7 @@ pub(crate) fn search<V>(part: &[Arc<Entry<V>>], name: &ByteString) -> Result<usi
     Err(low)
 }
 
-/// The value at the name.
+/// Finds the value at the name.
 pub(crate) fn find<'a, V>(parts: &'a [Arc<Part<V>>], name: &ByteString) -> Option<&'a V>
     requires { AreParts parts.now }
     ensures { option_copied result ≡ find by_bytes name.now (all_entries parts.now) }

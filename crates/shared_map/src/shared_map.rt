@@ -37,7 +37,7 @@ impl<V: Drop> Model for SharedMap<V> {
 }
 
 impl<V: Drop> SharedMap<V> {
-    /// No entries.
+    /// Makes a map without entries.
     pub fn new(alloc: Global) -> Self
         ensures { result ≡ empty }
     {
@@ -46,7 +46,7 @@ impl<V: Drop> SharedMap<V> {
         }
     }
 
-    /// The value at the name.
+    /// Finds the value at the name.
     pub fn get(&self, name: &ByteString) -> Option<&V>
         ensures { option_copied result ≡ get self.now name.now }
     {
@@ -70,7 +70,7 @@ impl<V: Drop> SharedMap<V> {
         remove_entry(&mut self.parts, name)
     }
 
-    /// A copy, which shares the parts.
+    /// Makes a copy, which shares the parts.
     pub fn share(&self, alloc: Global) -> Result<Self, AllocError>
         ensures { IfOk result (λ copy. copy ≡ self.now) }
     {
@@ -79,7 +79,7 @@ impl<V: Drop> SharedMap<V> {
         })
     }
 
-    /// The entries, in the order of their names.
+    /// Gives the entries, in the order of their names.
     pub fn entries(&self, alloc: Global) -> Result<Vec<&(ByteString, V)>, AllocError>
         ensures entries { IfOk result (λ list. map deref list.items ≡ entries self.now) }
         ensures ordered { IsStrictlySortedBy by_bytes (keys self.now) }
@@ -87,7 +87,7 @@ impl<V: Drop> SharedMap<V> {
         entries_of(alloc, &self.parts)
     }
 
-    /// The names, by their bytes.
+    /// Gives the names, by their bytes.
     pub fn names(&self, alloc: Global) -> Result<Vec<&ByteString>, AllocError>
         ensures names { IfOk result (λ list. map deref list.items ≡ keys self.now) }
         ensures ordered { IsStrictlySortedBy by_bytes (keys self.now) }

@@ -23,7 +23,7 @@ use svnpath::Path;
 /// How many commits the two seats make.
 const COMMITS: u64 = 100;
 
-/// A transaction that begins at the repository that is seen.
+/// Makes a transaction that begins at the repository that is seen.
 fn begin<R: Repository>(alloc: Global, view: R) -> Result<R::Txn, AllocError>
     requires { AreSound (R.content view).revisions }
     ensures rests { IfOk result (λ txn. IsBeginning (R.txn_state txn).shown
@@ -40,7 +40,7 @@ fn begin<R: Repository>(alloc: Global, view: R) -> Result<R::Txn, AllocError>
     }
 }
 
-/// What an empty commit asks for.
+/// Makes what an empty commit asks for.
 pub(crate) fn empty_ask(alloc: Global) -> Result<CommitAsk, AllocError> {
     let date = ByteString::from_slice(alloc, b"1970-01-01T00:00:00.000000Z")?;
     Ok(CommitAsk {
@@ -65,7 +65,7 @@ fn commit_seen<A: RepoAccess<View = V>, V: SoundTrees>(
     access.commit(ask, txn)
 }
 
-/// The youngest revision that a look has.
+/// Gives the youngest revision that a look has.
 fn youngest_seen<A: RepoAccess>(access: &mut A) -> Result<u64, AllocError> {
     Ok(access.look()?.youngest())
 }
@@ -87,14 +87,14 @@ pub(crate) fn commit<F: SoundTrees, S: Store, J: Naming, R: Wait>(
     Ok(commit_of(alloc, seat, empty_ask(alloc)?)?.revision)
 }
 
-/// The youngest revision that a seat's look has.
+/// Gives the youngest revision that a seat's look has.
 pub(crate) fn youngest<F: Filed, S: Store, J: Naming, R: Wait>(
     seat: &mut Access<'_, F, S, J, R>,
 ) -> Result<u64, AllocError> {
     youngest_seen(seat)
 }
 
-/// Whether each commit is in the other seat's next look. The seats commit in turn.
+/// Says whether each commit is in the other seat's next look. The seats commit in turn.
 fn are_seen<'r, F: SoundTrees, S: Store, J: Naming, R: Wait>(
     alloc: Global,
     seats: (Access<'r, F, S, J, R>, Access<'r, F, S, J, R>),
@@ -109,7 +109,7 @@ fn are_seen<'r, F: SoundTrees, S: Store, J: Naming, R: Wait>(
     Ok(true)
 }
 
-/// The same over files in memory.
+/// Says the same over files in memory.
 fn are_seen_in_memory<J: Naming, R: Wait>(
     rt: &R,
     alloc: Global,

@@ -23,7 +23,7 @@ struct Outcome {
     second: Result<u64, ChangeFault>,
 }
 
-/// What two seats are told that commit one after another.
+/// Says what two seats are told that commit one after another.
 fn commit_both<'r, F: SoundTrees, S: Store, J: Naming, R: Wait>(
     alloc: Global,
     seats: (Access<'r, F, S, J, R>, Access<'r, F, S, J, R>),
@@ -37,7 +37,7 @@ fn commit_both<'r, F: SoundTrees, S: Store, J: Naming, R: Wait>(
     })
 }
 
-/// What they are told where the write fails that comes behind so many.
+/// Says what they are told where the write fails that comes after so many.
 fn outcome_behind<J: Naming, R: Wait>(
     rt: &R,
     alloc: Global,

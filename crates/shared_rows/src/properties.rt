@@ -15,7 +15,7 @@ use std::test::Fail;
 use store_access::Filed;
 use store_files::{MemoryStore, Store};
 
-/// A value of a property, or none.
+/// Makes a value of a property, or none.
 fn value_of(alloc: Global, value: &[u8]) -> Result<Option<ByteString>, AllocError> {
     match value {
         [] => Ok(None),
@@ -43,7 +43,7 @@ fn change<A: RepoAccess>(
     access.change_property(ask_for(alloc, value, seen)?)
 }
 
-/// What two seats are told that have both seen no message, and what they are told then.
+/// Says what two seats are told that have both seen no message, and what they are told then.
 fn change_both<'r, F: Filed, S: Store, J: Naming, R: Wait>(
     alloc: Global,
     seats: (Access<'r, F, S, J, R>, Access<'r, F, S, J, R>),
@@ -57,7 +57,7 @@ fn change_both<'r, F: Filed, S: Store, J: Naming, R: Wait>(
     ]
 }
 
-/// The same over files in memory.
+/// Says the same over files in memory.
 fn change_both_in_memory<J: Naming, R: Wait>(
     rt: &R,
     alloc: Global,

@@ -21,7 +21,7 @@ const DATE: &[u8] = b"1970-01-01T00:00:00.000000Z";
 /// The token of the lock.
 const TOKEN: &[u8] = b"opaquelocktoken:00000000-0000-4000-8000-000000000001";
 
-/// The user that locks and commits.
+/// Gives the user that locks and commits.
 fn alice(alloc: Global) -> Result<Option<ByteString>, AllocError> {
     Ok(Some(ByteString::from_slice(alloc, b"alice")?))
 }
@@ -78,14 +78,14 @@ fn hand_in<F: SoundTrees, S: Store, J: Naming, R: Wait>(
     ))
 }
 
-/// The youngest revision that a look has, and whether it has the lock.
+/// Gives the youngest revision that a look has, and whether it has the lock.
 fn seen<A: RepoAccess>(alloc: Global, access: &mut A) -> Result<(u64, bool), AllocError> {
     let view = access.look()?;
     let is_locked = view.lock_at(&path_a(alloc)?).is_some();
     Ok((view.youngest(), is_locked))
 }
 
-/// What two seats are told of whom one hands its lock in.
+/// Says what two seats are told of whom one hands its lock in.
 fn tell_both<'r, F: SoundTrees, S: Store, J: Naming, R: Wait>(
     alloc: Global,
     seats: (Access<'r, F, S, J, R>, Access<'r, F, S, J, R>),
@@ -104,7 +104,7 @@ fn tell_both<'r, F: SoundTrees, S: Store, J: Naming, R: Wait>(
     })
 }
 
-/// What they are told where the write fails that comes behind so many.
+/// Says what they are told where the write fails that comes after so many.
 fn outcome_behind<J: Naming, R: Wait>(
     rt: &R,
     alloc: Global,

@@ -83,7 +83,7 @@ impl<S: Store> Store for WaitingStore<S> {
     }
 }
 
-/// The youngest revision that a look has while a commit is being saved; none where no save begins.
+/// Gives the youngest revision that a look has while a commit is being saved; none where no save begins.
 fn youngest_in_save<F: Filed, S: Store, J: Naming, R: Wait>(
     seat: &mut Access<'_, F, S, J, R>,
     marks: &Marks,
@@ -97,7 +97,7 @@ fn youngest_in_save<F: Filed, S: Store, J: Naming, R: Wait>(
 /// A seat at a repository in files whose replacements wait for a look.
 type SavedAccess<'r, J, R> = Access<'r, FiledWorld, WaitingStore<MemoryStore>, J, R>;
 
-/// The youngest revisions that one seat sees while and after the other commits.
+/// Gives the youngest revisions that one seat sees while and after the other commits.
 fn seen_beside<'r, J, R>(
     rt: &'r R,
     alloc: Global,

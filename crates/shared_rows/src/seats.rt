@@ -38,14 +38,14 @@ impl SoundTrees for FiledWorld {
     }
 }
 
-/// The files of a new repository.
+/// Makes the files of a new repository.
 pub(crate) fn new_files(alloc: Global) -> Result<MemoryStore, Fail> {
     let mut store = MemoryStore::new(alloc);
     create(alloc, &mut store, 1, 0)?;
     Ok(store)
 }
 
-/// The repository in these files.
+/// Opens the repository in these files.
 pub(crate) fn opened<S: Store>(alloc: Global, store: S) -> Result<FolderRepository<S>, Fail>
     requires { S.is_honest store → (f : Folder) → S.may_leave store f → IsSame (S.holds store) f }
     ensures { IfOk result (λ stored. AreSound (filed_content stored.repository).revisions) }
@@ -59,7 +59,7 @@ pub(crate) fn opened<S: Store>(alloc: Global, store: S) -> Result<FolderReposito
     }
 }
 
-/// The repository as each of two seats reaches it.
+/// Gives the repository as each of two seats reaches it.
 pub(crate) fn two_seats<'r, F: Filed, S: Store, J: Naming, R: Wait>(
     rt: &'r R,
     alloc: Global,
@@ -97,7 +97,7 @@ pub(crate) struct Place<'r, F: Filed, S: Store, J: Naming, R: Wait> {
 }
 
 impl<'r, F: Filed, S: Store, J: Naming, R: Wait> Place<'r, F, S, J, R> {
-    /// The seat as a session reaches it.
+    /// Gives the seat as a session reaches it.
     pub(crate) fn into_access(self) -> Access<'r, F, S, J, R> {
         let Place {
             repository,
@@ -112,7 +112,7 @@ impl<'r, F: Filed, S: Store, J: Naming, R: Wait> Place<'r, F, S, J, R> {
     }
 }
 
-/// So many seats of a repository, each for a thread of its own.
+/// Makes so many seats of a repository, each for a thread of its own.
 pub(crate) fn places<'r, F: Filed, S: Store, J: Naming, R: Wait>(
     rt: &'r R,
     alloc: Global,

@@ -41,12 +41,12 @@ struct Marks {
     is_wrong: AtomicBool,
 }
 
-/// The text of a letter. Each seat has one, which is its message, its user and its token.
+/// Makes the text of a letter. Each seat has one, which is its message, its user and its token.
 fn text_of(alloc: Global, letter: u8) -> Result<ByteString, AllocError> {
     ByteString::from_slice(alloc, &[letter])
 }
 
-/// The value of a property of a revision, if there is one.
+/// Gives the value of a property of a revision, if there is one.
 fn property<V: Repository>(
     alloc: Global,
     view: &V,
@@ -63,7 +63,7 @@ fn property<V: Repository>(
     }
 }
 
-/// Whether a look has this message at a revision.
+/// Says whether a look has this message at a revision.
 fn has_message<A: RepoAccess>(
     alloc: Global,
     access: &mut A,
@@ -75,7 +75,7 @@ fn has_message<A: RepoAccess>(
     Ok(message.is_some_and(|message| message.as_slice() == [letter].as_slice()))
 }
 
-/// Whether a seat's commit stands at the revision that it was told.
+/// Says whether a seat's commit stands at the revision that it was told.
 fn commits<F: SoundTrees, S: Store, J: Naming, R: Wait>(
     alloc: Global,
     seat: &mut Access<'_, F, S, J, R>,
@@ -87,7 +87,7 @@ fn commits<F: SoundTrees, S: Store, J: Naming, R: Wait>(
     Ok(has_message(alloc, seat, revision, letter)?)
 }
 
-/// The count that a value is, in eight bytes; none is 0.
+/// Reads the count that a value is, in eight bytes; none is 0.
 fn count_of(value: Option<&ByteString>) -> u64 {
     let mut count = 0u64;
     if let Some(bytes) = value {
@@ -111,7 +111,7 @@ fn count_once<A: RepoAccess>(alloc: Global, access: &mut A) -> Result<(), Change
     })
 }
 
-/// Whether one is counted up, after as many tries as others make in vain meanwhile.
+/// Says whether one is counted up, after as many tries as others make in vain meanwhile.
 fn counts<A: RepoAccess>(alloc: Global, access: &mut A) -> Result<bool, ChangeFault> {
     for _ in 0..MOST_TRIES {
         match count_once(alloc, access) {
@@ -146,7 +146,7 @@ fn unlock_ask(alloc: Global, letter: u8) -> Result<UnlockAsk, AllocError> {
     })
 }
 
-/// Whether a look has the lock of this seat.
+/// Says whether a look has the lock of this seat.
 fn has_lock<A: RepoAccess>(alloc: Global, access: &mut A, letter: u8) -> Result<bool, AllocError> {
     let view = access.look()?;
     let path = path_a(alloc)?;
@@ -156,7 +156,7 @@ fn has_lock<A: RepoAccess>(alloc: Global, access: &mut A, letter: u8) -> Result<
     )
 }
 
-/// Whether the lock is this seat's alone where it is had.
+/// Says whether the lock is this seat's alone where it is had.
 fn locks<A: RepoAccess>(
     alloc: Global,
     access: &mut A,
@@ -176,7 +176,7 @@ fn locks<A: RepoAccess>(
     }
 }
 
-/// Whether all that a seat is told in one turn can be.
+/// Says whether all that a seat is told in one turn can be.
 fn turn<F: SoundTrees, S: Store, J: Naming, R: Wait>(
     alloc: Global,
     seat: &mut Access<'_, F, S, J, R>,
@@ -244,7 +244,7 @@ struct Standing {
     is_locked: bool,
 }
 
-/// How many revisions have this message.
+/// Counts the revisions that have this message.
 fn revisions_of<V: Repository>(alloc: Global, view: &V, letter: u8) -> Result<u64, AllocError> {
     let mut count = 0u64;
     for revision in 0..=view.youngest() {
@@ -256,7 +256,7 @@ fn revisions_of<V: Repository>(alloc: Global, view: &V, letter: u8) -> Result<u6
     Ok(count)
 }
 
-/// What a look has.
+/// Says what a look has.
 fn shown<A: RepoAccess>(alloc: Global, access: &mut A) -> Result<Standing, AllocError> {
     let view = access.look()?;
     let mut messages = Vec::new(alloc);
@@ -271,7 +271,7 @@ fn shown<A: RepoAccess>(alloc: Global, access: &mut A) -> Result<Standing, Alloc
     })
 }
 
-/// What a seat's look has.
+/// Says what a seat's look has.
 fn what_stands<F: Filed, S: Store, J: Naming, R: Wait>(
     alloc: Global,
     place: Place<'_, F, S, J, R>,
@@ -279,8 +279,8 @@ fn what_stands<F: Filed, S: Store, J: Naming, R: Wait>(
     shown(alloc, &mut place.into_access())
 }
 
-/// What stands behind the turns of all seats at a new repository, as one more seat sees it, and whether each was told
-/// what can be.
+/// Says what stands after the turns of all seats at a new repository, as one more seat sees it, and whether each was
+/// told what can be.
 fn standing_behind_all<J, R>(
     rt: &R,
     alloc: Global,

@@ -39,11 +39,11 @@ pub trait Archive<R: Repository>: Drop {
     /// What is to be written is what this change makes of the files.
     ghost writes: { Self → Self.Unsaved → Accepted → Type 0 };
 
-    /// Whether changes have come to a halt.
+    /// Says whether changes have come to a halt.
     fn is_halted(&self) -> bool
         ensures { result ≡ (kept self.now).halted };
 
-    /// How often a save has failed.
+    /// Says how often a save has failed.
     fn failures(&self) -> u64
         ensures { result ≡ (kept self.now).failures };
 

@@ -26,7 +26,7 @@ impl<
     T: Absorb<O> + Carries<Published<R, J>> + Drop,
     O: Sets<Published<R, J>> + Drop,
 > Keeper<R, S, J, T, O> {
-    /// Whether a seat knows of a halt.
+    /// Says whether a seat knows of a halt.
     fn turns_away(&self, seat: &Seat<R, J, T>) -> bool
         ensures knows { result ≡ seat.now.halted }
         ensures steady { IsSteady S.kept self.now }

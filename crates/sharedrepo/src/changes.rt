@@ -27,7 +27,7 @@ use std::sync::Wait;
 /// How many events there are at most.
 const MAX_EVENTS: u64 = 1 << 60;
 
-/// What a release is told as.
+/// Says what a release is reported as.
 fn released(answer: Result<(), ChangeFault>) -> Released
     ensures { result ≡ released_as answer }
 {
@@ -45,7 +45,7 @@ impl<
     T: Absorb<O> + Carries<Published<R, J>> + Drop,
     O: Sets<Published<R, J>> + Drop,
 > Keeper<R, S, J, T, O> {
-    /// Whether a change can begin, or why none can.
+    /// Says whether a change can begin, or why none can.
     fn readiness(&self) -> Result<(), ChangeFault>
         ensures running { OnOk result ((S.kept self.now.archive).halted ≡ false) }
         ensures room { OnOk result (length self.now.list < 2 ^ 60) }

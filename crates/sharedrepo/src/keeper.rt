@@ -67,7 +67,7 @@ impl<
         (pending_in R.txn_state k.pending)) };
 }
 
-/// So many seats at this front.
+/// Makes so many seats at this front.
 fn seat_all<
     R: Repository,
     J: Naming,
@@ -111,7 +111,7 @@ fn seat_at<
     })
 }
 
-/// The two copies, and the writer over them.
+/// Makes the two copies, and the writer over them.
 fn desk_at<
     R: Repository,
     J: Naming,
@@ -136,7 +136,7 @@ impl<
     T: Absorb<O> + Carries<Published<R, J>> + Drop,
     O: Sets<Published<R, J>> + Drop,
 > Keeper<R, S, J, T, O> {
-    /// A keeper of a repository, whose files the archive has, and so many seats.
+    /// Makes a keeper of a repository, whose files the archive has, and so many seats.
     pub fn open(
         alloc: Global,
         repository: R,

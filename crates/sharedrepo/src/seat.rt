@@ -41,7 +41,7 @@ impl<R: Repository, J: Naming, T: Carries<Published<R, J>> + Drop> Model for Sea
 }
 
 impl<R: Repository, J: Naming, T: Carries<Published<R, J>> + Drop> Seat<R, J, T> {
-    /// The repository as it is now, without a wait.
+    /// Gives the repository as it is now, without a wait.
     pub fn look(&mut self) -> Result<R, AllocError>
         ensures later { GoesOn self.old self.new }
         ensures view { IfOk result (λ view. R.content view ≡ content_of self.new) }
@@ -74,7 +74,7 @@ impl<R: Repository, J: Naming, T: Carries<Published<R, J>> + Drop> Seat<R, J, T>
         self.halted = self.halted || has_halted;
     }
 
-    /// Whether changes are known to have come to a halt.
+    /// Says whether changes are known to have come to a halt.
     pub fn is_halted(&self) -> bool
         ensures { result ≡ self.now.halted }
     {

@@ -25,7 +25,7 @@ pub(crate) struct Ready<R: Repository, J: Naming> {
     pub(crate) places: Arc<Places<Published<R, J>>>,
 }
 
-/// All that a change needs of memory.
+/// Takes all that a change needs of memory.
 pub(crate) fn make_ready<
     R: Repository,
     J: Naming,
@@ -134,7 +134,7 @@ pub(crate) fn publish<
     unreachable!()
 }
 
-/// The change of which nobody knows whether it was saved is kept.
+/// Keeps the change of which nobody knows whether it was saved.
 fn keep_pending<T: Drop>(
     pending: &mut Option<AskedChange<T>>,
     fault: ChangeFault,

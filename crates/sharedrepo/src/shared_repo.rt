@@ -44,7 +44,7 @@ impl<
     T: Absorb<O> + Carries<Published<R, J>> + Drop,
     O: Sets<Published<R, J>> + Drop,
 > Locked<R, S, J, T, O> {
-    /// A shared repository, whose files the archive has, and so many seats.
+    /// Makes a shared repository, whose files the archive has, and so many seats.
     pub fn open(
         alloc: Global,
         repository: R,
@@ -77,7 +77,7 @@ impl<
         self.keeper.lock(rt).end(rt)
     }
 
-    /// Whether some call has found that changes have come to a halt. It waits for nobody.
+    /// Says whether some call has found that changes have come to a halt. It waits for nobody.
     pub fn has_halted(&self) -> bool {
         self.has_halted.load(Ordering::SeqCst)
     }

@@ -19,7 +19,7 @@ pub enum SavedChange<T: Drop> {
 /// Lets go of a change that needs no more to be known.
 pub(crate) fn forget<T: Drop>(_change: SavedChange<T>) {}
 
-/// A copy of what is asked of an unlock.
+/// Makes a copy of what is asked of an unlock.
 pub(crate) fn copied(ask: &UnlockAsk) -> Result<UnlockAsk, AllocError>
     ensures { IfOk result (λ copy. copy ≡ ask.now) }
 {

@@ -38,7 +38,7 @@ pub trait Filed: Repository {
     /// The repository is that of these files.
     ghost is_of: { Self → Files → Type 0 };
 
-    /// The repository with the next revision.
+    /// Makes the repository with the next revision.
     fn committed(
         &self,
         ask: &CommitAsk,
@@ -62,7 +62,7 @@ pub trait Filed: Repository {
             (Self.txn_state txn.now) ≡ Some r) }
         ensures memory { IsOfMemory result };
 
-    /// The repository with the lock, and the file of its locks.
+    /// Makes the repository with the lock, and the file of its locks.
     fn locked(&self, ask: &LockAsk) -> Result<(Self, Vec<u8>), ChangeFault>
         ensures accepted { OnOk result (lock_refusal (Self.content self.now) ask.now ≡ None) }
         ensures ok { IfOk result (λ made. Self.content made.0
@@ -73,7 +73,7 @@ pub trait Filed: Repository {
             ≡ Some r) }
         ensures memory { IsOfMemory result };
 
-    /// The repository without the lock, and the file of its locks.
+    /// Makes the repository without the lock, and the file of its locks.
     fn unlocked(&self, ask: &UnlockAsk) -> Result<(Self, Vec<u8>), ChangeFault>
         ensures accepted { OnOk result (unlock_refusal (Self.content self.now) ask.now ≡ None) }
         ensures ok { IfOk result (λ made. Self.content made.0
@@ -84,7 +84,7 @@ pub trait Filed: Repository {
             ≡ Some r) }
         ensures memory { IsOfMemory result };
 
-    /// The repository without the locks that are the user's and were handed in, and the file of its locks.
+    /// Makes the repository without the locks that are the user's and were handed in, and the file of its locks.
     fn released(
         &self,
         user: Option<&ByteString>,
@@ -95,7 +95,7 @@ pub trait Filed: Repository {
         ensures files { IfOk result (λ made. (files : Files) → is_of self.now files
             → is_of made.0 (with_locks files made.1.items)) };
 
-    /// The repository with a property of a revision changed, and the file of the revision's properties.
+    /// Makes the repository with a property of a revision changed, and the file of the revision's properties.
     fn property_changed(&self, ask: &PropertyAsk) -> Result<(Self, NewProperties), ChangeFault>
         ensures accepted { OnOk result (property_refusal (Self.content self.now) ask.now ≡ None) }
         ensures ok { IfOk result (λ made. Self.content made.0

@@ -14,8 +14,8 @@ use access::{Handed, Released};
 use repo_api::ChangeFault;
 use store_files::{Store, StoreFault};
 
-/// How a save that failed is told, by whether saves have come to a halt: the change of which nobody knows whether
-/// it was saved is kept.
+/// Says how a save that failed is answered, by whether saves have come to a halt: the change of which nobody knows
+/// whether it was saved is kept.
 fn failed<T: Drop>(
     pending: &mut Option<SavedChange<T>>,
     is_halted: bool,
@@ -41,7 +41,7 @@ fn failed<T: Drop>(
     ChangeFault::Halted
 }
 
-/// What a release is told as.
+/// Says what a release is answered as.
 fn released(answer: Result<(), ChangeFault>) -> Released
     ensures { result ≡ released_as answer }
 {

@@ -20,7 +20,7 @@ pub struct StoredRepository<F: Filed, S: Store> {
 }
 
 impl<F: Filed, S: Store> StoredRepository<F, S> {
-    /// The access to a repository and its files.
+    /// Makes the access to a repository and its files.
     pub fn new(repository: F, saves: Saves<S>) -> Self
         requires { ∥ Keeps S.is_honest S.holds S.may_leave F.is_of saves repository ∥₁ }
         ensures repository { result.repository ≡ repository }
@@ -33,14 +33,14 @@ impl<F: Filed, S: Store> StoredRepository<F, S> {
         }
     }
 
-    /// The repository that the files stand for.
+    /// Gives the repository that the files stand for.
     pub fn repository(&self) -> &F
         ensures { result.now ≡ self.now.repository }
     {
         &self.repository
     }
 
-    /// The repository and its saves. While changes are made, its files are those of the repository.
+    /// Gives the repository and its saves. While changes are made, its files are those of the repository.
     pub fn into_parts(self) -> (F, Saves<S>)
         ensures repository { result.0 ≡ self.repository }
         ensures saves { result.1 ≡ self.saves }
@@ -55,7 +55,7 @@ impl<F: Filed, S: Store> StoredRepository<F, S> {
         (repository, saves)
     }
 
-    /// The store of the files. While changes are made, what it reads stands for what the repository contains, and
+    /// Gives the store of the files. While changes are made, what it reads stands for what the repository contains, and
     /// so does what a stop leaves now.
     pub fn store(&self) -> &S
         ensures store { result.now ≡ self.now.saves.store }

@@ -32,7 +32,7 @@ enum Fuse {
 }
 
 impl Fuse {
-    /// Whether a call fails, and what becomes of those behind it.
+    /// Says whether a call fails, and sets what becomes of those after it.
     fn burn(&mut self, replaces: bool) -> bool
         ensures { Burns replaces self.old result self.new }
     {
@@ -73,7 +73,7 @@ pub struct FuseStore<S: Store> {
 }
 
 impl<S: Store> FuseStore<S> {
-    /// A store that passes so many calls on before the one that fails.
+    /// Makes a store that passes so many calls on before the one that fails.
     pub fn new(inner: S, passes: u64, left: Left) -> Self
         ensures { result.inner ≡ inner }
     {
@@ -91,7 +91,7 @@ impl<S: Store> FuseStore<S> {
         &self.inner
     }
 
-    /// The store behind it.
+    /// Gives the store behind it.
     pub fn into_inner(self) -> S
         ensures { result ≡ self.inner }
     {

@@ -19,7 +19,7 @@ pub struct MemoryStore {
 }
 
 impl MemoryStore {
-    /// No files.
+    /// Makes a store of no files.
     pub fn new(alloc: Global) -> Self
         ensures { IsSame nothing (files_of result.files) }
     {

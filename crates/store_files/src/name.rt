@@ -22,7 +22,7 @@ pub enum FileName {
 }
 
 impl FileName {
-    /// Which kind of file it is, as a number.
+    /// Says which kind of file it is, as a number.
     pub fn kind(self) -> u8
         ensures { result ≡ kind_of self }
     {
@@ -38,7 +38,7 @@ impl FileName {
         }
     }
 
-    /// Of which revision it is, 0 where it is of none.
+    /// Says of which revision it is, 0 where it is of none.
     pub fn number(self) -> u32
         ensures { result ≡ number_of self }
     {

@@ -32,7 +32,7 @@ pub trait Store: Drop {
     /// How often it has failed in a replacement, so that nobody knows which bytes stand.
     ghost in_doubt: { Self → ℕ };
 
-    /// The bytes of a file, if it is there.
+    /// Reads the bytes of a file, if it exists.
     fn read(&mut self, alloc: Global, name: FileName) -> Result<Option<Vec<u8>>, StoreFault>
         ensures honest { is_honest self.new → is_honest self.old }
         ensures found { is_honest self.new → IfOk result (λ found. bytes_of found
@@ -78,7 +78,7 @@ pub trait Store: Drop {
             ↔ in_doubt self.old < in_doubt self.new) × (in_doubt self.old ≤ in_doubt self.new) }
         ensures cause { HasCause (failed self.old) (failed self.new) result };
 
-    /// How often the device has failed, up to the greatest number.
+    /// Says how often the device has failed, up to the greatest number.
     fn failures(&self) -> u64
         ensures { result ≡ failed self.now };
 

@@ -96,7 +96,7 @@ pub struct FolderStore<R: Files + AllocGlobal + LockFolder + Drop, H: Held> {
 }
 
 impl<R: Files + AllocGlobal + LockFolder + Drop, H: Held> FolderStore<R, H> {
-    /// The files in a folder that is there. A stop that comes at once leaves them as they are.
+    /// Opens the files in a folder that exists. A stop that comes at once leaves them as they are.
     pub fn open(rt: R, folder: String) -> Result<Self, FolderFault>
         ensures rests { IfOk result (λ store. (f : Folder)
             → Leaves H.held store.log.events f → IsSame (held H.held store.log.events) f) }
@@ -112,7 +112,8 @@ impl<R: Files + AllocGlobal + LockFolder + Drop, H: Held> FolderStore<R, H> {
         })
     }
 
-    /// The files in a folder, which is made where it is missing. A stop that comes at once leaves them as they are.
+    /// Opens the files in a folder, which is made where it is missing. A stop that comes at once leaves them as they
+    /// are.
     pub fn make(rt: R, folder: String) -> Result<Self, FolderFault>
         ensures rests { IfOk result (λ store. (f : Folder)
             → Leaves H.held store.log.events f → IsSame (held H.held store.log.events) f) }
@@ -176,7 +177,7 @@ fn store_fault(trouble: Trouble) -> StoreFault
     }
 }
 
-/// The folder in which a file stands, from that of the store.
+/// Gives the folder in which a file stands, from that of the store.
 fn folder_of(name: FileName) -> &'static str {
     match name {
         FileName::Revision(_) => "/revs",
@@ -186,7 +187,7 @@ fn folder_of(name: FileName) -> &'static str {
     }
 }
 
-/// The path of the folder in which a file stands.
+/// Makes the path of the folder in which a file stands.
 fn folder_path(alloc: Global, root: &str, name: FileName) -> Result<String, AllocError> {
     let mut path = String::new(alloc);
     path.push_str(root)?;
@@ -194,7 +195,7 @@ fn folder_path(alloc: Global, root: &str, name: FileName) -> Result<String, Allo
     Ok(path)
 }
 
-/// The path of a file.
+/// Makes the path of a file.
 fn file_path(alloc: Global, folder: &str, name: FileName) -> Result<String, AllocError> {
     match name {
         FileName::Format => format!(in alloc; "{folder}/format"),
@@ -208,7 +209,7 @@ fn file_path(alloc: Global, folder: &str, name: FileName) -> Result<String, Allo
     }
 }
 
-/// The bytes of a file, if it is there.
+/// Reads the bytes of a file, if it exists.
 fn read_file<R: Files + AllocGlobal>(rt: &R, path: &str) -> Result<Option<Vec<u8>>, Trouble> {
     match fs::read(rt, path) {
         Ok(bytes) => Ok(Some(bytes)),
@@ -229,7 +230,7 @@ fn sync_folder<R: Files>(rt: &R, folder: &str) -> Result<(), Trouble> {
     Ok(File::open(rt, folder)?.sync_all()?)
 }
 
-/// The lock of a folder, unless another store has it.
+/// Takes the lock of a folder, unless another store has it.
 fn locked<R: LockFolder>(rt: &R, folder: &str) -> Result<R::Lock, FolderFault> {
     match rt.lock_folder(folder) {
         Ok(Some(lock)) => Ok(lock),
@@ -344,7 +345,7 @@ impl<R: Files + AllocGlobal + LockFolder + Drop, H: Held> Store for FolderStore<
     }
 }
 
-/// The bytes of a file of this name, if it is there.
+/// Reads the bytes of a file of this name, if it exists.
 fn read_named<R: Files + AllocGlobal>(
     rt: &R,
     root: &str,

@@ -25,7 +25,7 @@ impl Record {
         }
     }
 
-    /// The numbers are those of an `Event`.
+    /// Notes an event. The numbers are those of an `Event`.
     pub(crate) fn note(&mut self, _numbers: &[u64], _bytes: &[u8])
         ensures { self.new.events ≡ event_of _numbers.now _bytes.now ∷ self.old.events }
     {}

@@ -41,7 +41,7 @@ impl Applier {
     ghost use Rattle.svndiff0.specs.Applying.{HasRead, fed, FeedsApplier};
     ghost use Rattle.svndiff0.specs.declared.fault.DiffFault.TheVariants.{NoMemory};
 
-    /// An applier over this base, of which no byte is copied, that was fed nothing.
+    /// Makes an applier over this base, of which no byte is copied, that was fed nothing.
     pub fn new(alloc: Global, base: Arc<Vec<u8>>) -> Applier
         ensures base { result.base ≡ (arc_value base).items }
         ensures reading { HasRead result [] }
@@ -94,7 +94,7 @@ impl Applier {
         }
     }
 
-    /// The text of the document that was fed, where it ends here. More may be fed afterwards.
+    /// Gives the text of the document that was fed, where it ends here. More may be fed afterwards.
     ///
     /// # Errors
     ///
@@ -113,7 +113,7 @@ impl Applier {
         }
     }
 
-    /// What `text` answers, as a hold of the text, of which no byte is copied. More may be fed afterwards.
+    /// Gives what `text` answers, as a hold of the text, of which no byte is copied. More may be fed afterwards.
     ///
     /// # Errors
     ///

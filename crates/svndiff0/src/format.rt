@@ -5,8 +5,8 @@ ghost use Rattle.svndiff0.specs.Window.{limit};
 ghost use Rattle.svndiff0.specs.Document.{document_text};
 ghost use Rattle.svndiff0.specs.Format.{IsDocument};
 
-/// A law: the text that a document is read to have is the one that the format gives it, and a document that has a text
-/// by the format is read to have it. So it has no other.
+/// Shows that the text that a document is read to have is the one that the format gives it, and a document that has a
+/// text by the format is read to have it. So it has no other.
 pub fn has_the_text_of_the_format()
     ensures found { (base document text : List ℕ) → document_text base document ≡ Ok text
         → IsDocument base document text }
@@ -14,7 +14,7 @@ pub fn has_the_text_of_the_format()
         → document_text base document ≡ Ok text }
 {}
 
-/// A law: a document's text keeps the limit.
+/// Shows that a document's text keeps the limit.
 pub fn texts_keep_the_limit()
     ensures { (base document text : List ℕ) → document_text base document ≡ Ok text
         → length text ≤ limit }

@@ -30,7 +30,7 @@ fn put_integer(document: &mut Vec<u8>, n: usize) -> Result<(), AllocError>
     }
 }
 
-/// How many bytes the instruction has that takes `n` bytes of new data.
+/// Says how many bytes the instruction has that takes `n` bytes of new data.
 #[tactic(auto, unfolding(crate::specs::Full::new_data_of, crate::specs::Full::integer_of))]
 fn new_data_len(n: usize) -> usize
     ensures len { result ≡ length (new_data_of n) }
@@ -73,8 +73,8 @@ pub fn put_window(document: &mut Vec<u8>, text: &[u8]) -> Result<(), AllocError>
     document.extend_from_slice(text)
 }
 
-/// A document whose text, over any base, is `text`: the header, and a window of new data for each 65,536 bytes, the
-/// last shorter. A text of more than 16,777,216 bytes gives one that no applier takes.
+/// Makes a document whose text, over any base, is `text`: the header, and a window of new data for each 65,536 bytes,
+/// the last shorter. A text of more than 16,777,216 bytes gives one that no applier takes.
 pub fn encode_full(alloc: Global, text: &[u8]) -> Result<Vec<u8>, AllocError>
     ensures spelled { IfOk result (λ v. v.items ≡ full_document text.now) }
     ensures text { length text.now ≤ limit → IfOk result (λ v. (base : List ℕ)

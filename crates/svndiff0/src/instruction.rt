@@ -18,7 +18,7 @@ pub enum Instruction {
 }
 
 impl Instruction {
-    /// How many bytes it gives.
+    /// Says how many bytes it gives.
     pub fn size(self) -> usize
         ensures { result ≡ size self }
     {
@@ -27,7 +27,7 @@ impl Instruction {
         }
     }
 
-    /// How many bytes of new data it takes.
+    /// Says how many bytes of new data it takes.
     pub fn new_size(self) -> usize
         ensures { result ≡ new_size self }
     {
@@ -38,7 +38,7 @@ impl Instruction {
     }
 }
 
-/// The length that an instruction's low six bits give, or the integer behind them.
+/// Reads the length that an instruction's low six bits give, or the integer after them.
 #[tactic(auto, unfolding(crate::specs::Instruction::length_at))]
 fn read_length(low: u8, bytes: &[u8]) -> Result<Option<(usize, &[u8])>, DiffFault>
     ensures value { Gives (λ x. (x.0, x.1.now)) result (length_at low bytes.now) }
@@ -53,7 +53,7 @@ fn read_length(low: u8, bytes: &[u8]) -> Result<Option<(usize, &[u8])>, DiffFaul
     }
 }
 
-/// The rest of a source copy, whose length and offset must lie in a view of this length.
+/// Reads the rest of a source copy, whose length and offset must lie in a view of this length.
 #[tactic(auto, unfolding(crate::specs::Instruction::copy_at))]
 fn read_copy(view: usize, low: u8, bytes: &[u8]) -> Result<Option<(Instruction, &[u8])>, DiffFault>
     ensures value { Gives (λ x. (x.0, x.1.now)) result (copy_at view low bytes.now) }
@@ -71,7 +71,7 @@ fn read_copy(view: usize, low: u8, bytes: &[u8]) -> Result<Option<(Instruction, 
     Ok(Some((Instruction::SourceCopy(offset, length), rest)))
 }
 
-/// The rest of an instruction that takes new data.
+/// Reads the rest of an instruction that takes new data.
 #[tactic(auto, unfolding(crate::specs::Instruction::new_data_at))]
 fn read_new_data(low: u8, bytes: &[u8]) -> Result<Option<(Instruction, &[u8])>, DiffFault>
     ensures value { Gives (λ x. (x.0, x.1.now)) result (new_data_at low bytes.now) }
@@ -83,7 +83,8 @@ fn read_new_data(low: u8, bytes: &[u8]) -> Result<Option<(Instruction, &[u8])>, 
     Ok(Some((Instruction::NewData(length), rest)))
 }
 
-/// The instruction at the front, over a view of this length, and the bytes behind it; `None` where it isn't whole.
+/// Reads the instruction at the front, over a view of this length, and gives the bytes after it too; `None` where it
+/// isn't whole.
 #[tactic(auto, unfolding(crate::specs::Instruction::instruction_at))]
 pub fn read_instruction(
     view: usize,

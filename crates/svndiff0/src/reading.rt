@@ -13,7 +13,7 @@ use crate::window::apply_windows;
 /// `SVN` and the version.
 pub const HEADER: [u8; 4] = [b'S', b'V', b'N', 0];
 
-/// The bytes behind the header; `None` where it isn't whole.
+/// Gives the bytes after the header; `None` where it isn't whole.
 #[tactic(auto, unfolding(crate::specs::Document::header_at))]
 fn skip_header(bytes: &[u8]) -> Result<Option<&[u8]>, DiffFault>
     ensures { Gives (λ x. x.now) result (header_at bytes.now) }

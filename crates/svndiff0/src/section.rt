@@ -17,7 +17,7 @@ pub struct Sums {
     pub new_data: usize,
 }
 
-/// The first instruction of a section over a view of this length, and the bytes behind it.
+/// Reads the first instruction of a section over a view of this length, and gives the bytes after it too.
 fn first_instruction(view: usize, section: &[u8]) -> Result<(Instruction, &[u8]), DiffFault>
     requires { 0 < length section.now }
     ensures { MatchResult result (λ x. Starts view section.now x.0 x.1.now)
@@ -29,7 +29,7 @@ fn first_instruction(view: usize, section: &[u8]) -> Result<(Instruction, &[u8])
     }
 }
 
-/// The sums of the section's lengths, over a view of this length, or the rule that an instruction breaks.
+/// Gives the sums of the section's lengths, over a view of this length, or the rule that an instruction breaks.
 pub fn sum_lengths(view: usize, section: &[u8]) -> Result<Sums, DiffFault>
     ensures { SumsUp result (instructions_of view section.now) }
 {

@@ -57,7 +57,7 @@ impl Target {
         }
     }
 
-    /// Another hold of the text, of which no byte is copied. The text stays as it is, also where memory runs out.
+    /// Gives another hold of the text, of which no byte is copied. The text stays as it is, also where memory runs out.
     pub fn share(&mut self, alloc: Global) -> Result<Arc<Vec<u8>>, AllocError>
         ensures shared { IfOk result (λ shared. (arc_value shared).items ≡ target_bytes self.old) }
         ensures same { target_bytes self.new ≡ target_bytes self.old }
@@ -68,7 +68,7 @@ impl Target {
         shared
     }
 
-    /// The text as one that others may hold, and another hold of it.
+    /// Makes the text one that others may hold, and gives another hold of it.
     fn shared(self, alloc: Global) -> (Self, Result<Arc<Vec<u8>>, AllocError>)
         ensures same { target_bytes result.0 ≡ target_bytes self }
         ensures shared { IfOk result.1 (λ shared. (arc_value shared).items ≡ target_bytes self) }
@@ -83,7 +83,7 @@ impl Target {
     }
 }
 
-/// A text that others may hold, and another hold of it.
+/// Gives a text that others may hold, and another hold of it.
 fn held_twice(text: Arc<Vec<u8>>) -> (Target, Result<Arc<Vec<u8>>, AllocError>)
     ensures same { target_bytes result.0 ≡ (arc_value text).items }
     ensures shared { IfOk result.1 (λ shared. (arc_value shared).items ≡ (arc_value text).items) }

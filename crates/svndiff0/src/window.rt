@@ -59,7 +59,7 @@ fn read_head(before: usize, bytes: &[u8]) -> Result<Option<(Head, &[u8])>, DiffF
     Ok(Some((head, rest)))
 }
 
-/// AppliesWindow the window at the front to the end of the text, and gives the bytes behind it; `None` where it isn't whole.
+/// Applies the window at the front to the end of the text, and gives the bytes after it; `None` where it isn't whole.
 /// An `Err` may leave more text.
 fn apply_window<'a>(
     base: &[u8],
@@ -92,7 +92,8 @@ fn apply_window<'a>(
     Ok(Some(behind))
 }
 
-/// AppliesWindow the windows at the front, as many as are whole, and gives the bytes behind them. An `Err` may leave more text.
+/// Applies the windows at the front, as many as are whole, and gives the bytes after them. An `Err` may leave more
+/// text.
 pub fn apply_windows<'a>(
     base: &[u8],
     text: &mut Vec<u8>,

@@ -82,7 +82,7 @@ fn push_component(components: &mut Vec<ByteString>, component: Vec<u8>) -> Resul
     Ok(())
 }
 
-/// The bytes that a part of a text spells.
+/// Reads the bytes that a part of a text spells.
 pub(crate) fn read_part(
     alloc: Global,
     spelling: Spelling,
@@ -100,7 +100,7 @@ pub(crate) fn read_part(
     }
 }
 
-/// The components above, and beneath them those between the slashes of the text.
+/// Gives the components above, and beneath them those between the slashes of the text.
 pub(crate) fn append_parts(
     alloc: Global,
     above: Vec<ByteString>,

@@ -27,7 +27,7 @@ impl Path {
         compare_texts(mine, my_others, theirs, their_others)
     }
 
-    /// What the path's text begins with, and the components whose texts follow.
+    /// Gives what the path's text begins with, and the components whose texts follow.
     fn text_front(&self) -> (&[u8], &[ByteString])
         ensures { path_text self.now ≡ text_from result.0.now result.1.now }
     {
@@ -39,8 +39,8 @@ impl Path {
     }
 }
 
-/// The first byte of a text that begins with this and goes on with the texts of these components;
-/// and how it goes on.
+/// Gives the first byte of a text that begins with this and goes on with the texts of these components; and how it goes
+/// on.
 fn split_text<'a>(
     front: &'a [u8],
     others: &'a [ByteString],
@@ -95,7 +95,7 @@ pub fn sort_by_text<'a, V>(entries: &mut Vec<(&'a Path, &'a V)>) -> Result<(), A
     entries.sort_by(|a, b| a.0.text_cmp(b.0))
 }
 
-/// The entries of a map by the bytes of their paths' texts.
+/// Gives the entries of a map, sorted by the bytes of their paths' texts.
 pub fn by_text<'a, V>(
     alloc: Global,
     entries: &'a BTreeMap<Path, V>,
@@ -107,7 +107,7 @@ pub fn by_text<'a, V>(
     Ok(listed)
 }
 
-/// A list of entries by the bytes of their paths' texts; those of one text stay as they stood.
+/// Gives the entries of a list, sorted by the bytes of their paths' texts; those of one text stay as they stood.
 pub fn pairs_by_text<'a, V>(
     alloc: Global,
     entries: &'a [(Path, V)],

@@ -33,7 +33,7 @@ impl Model for Path {
 }
 
 impl Path {
-    /// The root, `/`.
+    /// Makes the root, `/`.
     pub fn root(alloc: Global) -> Self
         ensures { result ≡ [] }
     {
@@ -67,8 +67,8 @@ impl Path {
         }
     }
 
-    /// The path that a text names relative to this one. One leading and one trailing `/` of the text
-    /// are dropped, and the empty text names this path itself.
+    /// Makes the path that a text names relative to this one. One leading and one trailing `/` of the text are dropped,
+    /// and the empty text names this path itself.
     ///
     /// # Errors
     ///
@@ -80,7 +80,7 @@ impl Path {
         self.extended(alloc, without_last_slash(without_first_slash(relative)))
     }
 
-    /// The path that a URL of the repository of this name names in it.
+    /// Reads the path that a URL of the repository of this name names in it.
     ///
     /// The schemes are `svn` and `svn+ssh`. The URL's path is split at `/`, of which one at its end is
     /// dropped, and then percent-decoded: the first segment is the name, and the others are the
@@ -98,7 +98,7 @@ impl Path {
         path_of_url(alloc, &read_url(alloc, url)?, name)
     }
 
-    /// This path, and beneath it the components of a text without outer slashes.
+    /// Makes a path of this one and, beneath it, the components of a text without outer slashes.
     fn extended(&self, alloc: Global, text: &[u8]) -> Result<Self, PathFault>
         ensures value { AnswersPath result (beneath self.now (components_of text.now)) }
         ensures right { IsRightPath self.now → IfOk result IsRightPath }
@@ -117,7 +117,7 @@ impl Path {
         self.components.clone()
     }
 
-    /// The path of an entry of this directory.
+    /// Makes the path of an entry of this directory.
     pub fn child(&self, alloc: Global, name: ByteString) -> Result<Self, AllocError>
         ensures { IfOk result (λ p. p ≡ self.now ++ name ∷ []) }
     {
@@ -127,7 +127,7 @@ impl Path {
         Ok(Path { components })
     }
 
-    /// The directory that this path is an entry of, or `None` for the root.
+    /// Gives the directory that this path is an entry of, or `None` for the root.
     pub fn parent(&self, alloc: Global) -> Result<Option<Self>, AllocError>
         ensures { IfOk result (λ above. above ≡ parent self.now) }
     {
@@ -139,7 +139,7 @@ impl Path {
         Ok(Some(Path { components }))
     }
 
-    /// How many components the path has.
+    /// Counts the components of the path.
     pub fn len(&self) -> usize
         ensures { result ≡ length self.now }
     {
@@ -152,14 +152,14 @@ impl Path {
         self.components.is_empty()
     }
 
-    /// The components, from the root down.
+    /// Gives the components, from the root down.
     pub fn components(&self) -> &[ByteString]
         ensures { result.now ≡ self.now }
     {
         self.components.as_slice()
     }
 
-    /// Whether this path is `above`, or lies under it.
+    /// Says whether this path is `above`, or lies under it.
     pub fn is_at_or_under(&self, above: &Path) -> bool
         ensures value { result ≡ is_at_or_under self.now above.now }
         ensures bound { IsTrue result → length above.now ≤ length self.now }
@@ -167,7 +167,7 @@ impl Path {
         self.components.starts_with(above.components.as_slice())
     }
 
-    /// This path with its first `from.len()` components replaced by `to`.
+    /// Gives this path with its first `from.len()` components replaced by `to`.
     pub fn rebased(&self, alloc: Global, from: &Path, to: &Path) -> Result<Self, AllocError>
         requires { length from.now ≤ length self.now }
         ensures { IfOk result (λ p. p ≡ to.now ++ drop (length from.now) self.now) }

@@ -41,10 +41,9 @@ impl RepositoryUrl {
     }
 }
 
-/// The root URL of the repository of this name, by the URL of something in it. A client wants it in
-/// the bytes that it sent: it is the text up to its fourth `/`, or all of it, where that names the
-/// root by itself, as in `svn://host:03690/r/x`. Otherwise it is the URL up to its path, as `url`
-/// spells it, then `/` and the name.
+/// Makes the root URL of the repository of this name, by the URL of something in it. A client wants it in the bytes
+/// that it sent: it is the text up to its fourth `/`, or all of it, where that names the root by itself, as in
+/// `svn://host:03690/r/x`. Otherwise it is the URL up to its path, as `url` spells it, then `/` and the name.
 ///
 /// # Errors
 ///
@@ -57,7 +56,7 @@ pub fn root_url(alloc: Global, url: &[u8], name: &str) -> Result<ByteString, Pat
     Ok(root_of(alloc, url, &parsed, name)?)
 }
 
-/// The root URL, by the text of a URL and what it was read as.
+/// Makes the root URL, by the text of a URL and what it was read as.
 fn root_of(alloc: Global, text: &[u8], url: &Url, name: &str) -> Result<ByteString, AllocError>
     ensures { IfOk result (λ root. root ≡ root_of text.now name.now url.now) }
 {
@@ -69,7 +68,7 @@ fn root_of(alloc: Global, text: &[u8], url: &Url, name: &str) -> Result<ByteStri
     }
 }
 
-/// The text up to the slash that so many others stand before, or all of it.
+/// Gives the text up to the slash that so many others stand before, or all of it.
 fn until_slash(text: &[u8], others: u64) -> &[u8]
     ensures { result.now ≡ until_slash others text.now }
 {
@@ -85,7 +84,7 @@ fn until_slash(text: &[u8], others: u64) -> &[u8]
     text
 }
 
-/// Whether the text is a URL of the repository's root, without a query and a fragment.
+/// Says whether the text is a URL of the repository's root, without a query and a fragment.
 fn names_root(alloc: Global, text: &[u8], name: &str) -> Result<bool, AllocError>
     ensures { IfOk result (λ answer. answer ≡ names_root text.now name.now) }
 {
@@ -96,7 +95,7 @@ fn names_root(alloc: Global, text: &[u8], name: &str) -> Result<bool, AllocError
     }
 }
 
-/// Whether the text is a URL of the repository's root.
+/// Says whether the text is a URL of the repository's root.
 fn is_root(alloc: Global, text: &[u8], name: &str) -> Result<bool, AllocError>
     ensures { IfOk result (λ answer. answer ≡ is_root (path_of_text text.now name.now)) }
 {
@@ -145,7 +144,7 @@ pub(crate) fn path_of_url(alloc: Global, url: &Url, name: &str) -> Result<Path, 
     }
 }
 
-/// The path whose components follow the repository's name.
+/// Reads the path whose components follow the repository's name.
 fn path_of_segments(alloc: Global, text: &[u8], name: &str) -> Result<Path, PathFault>
     ensures value { AnswersPath result (path_of_segments name.now
         (map percent_decode (slice_split is_slash text.now))) }
@@ -171,7 +170,7 @@ fn first_slash(text: &[u8]) -> Option<usize>
     text.iter().position(|byte| *byte == b'/')
 }
 
-/// The text up to its first slash, and what stands behind that slash.
+/// Gives the text up to its first slash, and what comes after that slash.
 fn split_first_part(text: &[u8]) -> (&[u8], Option<&[u8]>)
     ensures { MatchOption result.1 (slice_split is_slash text.now ≡ result.0.now ∷ [])
         (λ others. slice_split is_slash text.now ≡ result.0.now ∷ slice_split is_slash others.now) }

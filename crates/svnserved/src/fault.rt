@@ -31,7 +31,7 @@ pub enum ProgramFault {
 }
 
 impl ProgramFault {
-    /// The status to end with.
+    /// Gives the status to end with.
     pub fn status(&self) -> u8 {
         match self {
             ProgramFault::CommandLine(_) | ProgramFault::Name => 2,
@@ -41,7 +41,7 @@ impl ProgramFault {
     }
 }
 
-/// The number of a fault of a file, and what it means.
+/// Gives the number of a fault of a file, and what it means.
 fn file_text(fault: FileFault) -> &'static str {
     match fault {
         FileFault::Truncated => "X1: a file of the repository is cut off",
@@ -54,7 +54,7 @@ fn file_text(fault: FileFault) -> &'static str {
     }
 }
 
-/// What is said where the files of a repository are not read, or not made.
+/// Gives what is said where the files of a repository are not read, or not made.
 fn store_text(fault: StoreFault) -> &'static str {
     match fault {
         StoreFault::Exists => "exists",
@@ -65,7 +65,7 @@ fn store_text(fault: StoreFault) -> &'static str {
     }
 }
 
-/// What is said where a folder is not opened.
+/// Gives what is said where a folder is not opened.
 fn folder_text(fault: FolderFault) -> &'static str {
     match fault {
         FolderFault::InUse => "the folder is in use",

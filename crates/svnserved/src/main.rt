@@ -22,7 +22,7 @@ use std::process::ExitCode;
 use store_files::Store;
 use streams::run_stdio;
 
-/// The words of the command line.
+/// Reads the words of the command line.
 fn words(rt: &HostRuntime) -> Result<Vec<String>, ProgramFault> {
     match env::args(rt) {
         Ok(arguments) => Ok(arguments.collect(rt.alloc())?),
@@ -36,7 +36,7 @@ fn words(rt: &HostRuntime) -> Result<Vec<String>, ProgramFault> {
     }
 }
 
-/// What the command line asks for; none where it asked for the help, which is printed.
+/// Reads what the command line asks for; none where it asked for the help, which is printed.
 fn order(rt: &HostRuntime) -> Result<Option<Order>, ProgramFault> {
     match read_command_line(rt.alloc(), words(rt)?.as_slice()) {
         Ok(order) => Ok(Some(order)),
@@ -49,8 +49,7 @@ fn order(rt: &HostRuntime) -> Result<Option<Order>, ProgramFault> {
     }
 }
 
-/// The options of a repository of this name, whose clients may change the properties of revisions
-/// or not.
+/// Makes the options of a repository of this name, whose clients may change the properties of revisions or not.
 fn options(alloc: Global, name: &str, revprops: bool) -> Result<Options, ProgramFault> {
     if !is_repository_name(name) {
         return Err(ProgramFault::Name);
@@ -82,7 +81,7 @@ fn serve_stdio(
     }
 }
 
-/// The fault of an order that cannot be served, with its text.
+/// Makes the fault of an order that cannot be served, with its text.
 fn not_served(alloc: Global, text: &str) -> ProgramFault {
     match String::from_str(alloc, text) {
         Ok(text) => ProgramFault::CommandLine(text),
@@ -101,7 +100,7 @@ fn serve_one(
     serve_stdio(rt, location, options)
 }
 
-/// What sessions over TCP are served by, and the repository in a folder that they are served at.
+/// Reads what sessions over TCP are served by, and opens the repository in a folder that they are served at.
 fn prepare(
     rt: &HostRuntime,
     service: &Service,
@@ -113,7 +112,7 @@ fn prepare(
     }
 }
 
-/// The status to end with; a fault is told before.
+/// Gives the status to end with; a fault is printed before.
 fn status_of(rt: &HostRuntime, done: Result<(), ProgramFault>) -> ExitCode {
     match done {
         Ok(()) => ExitCode::SUCCESS,

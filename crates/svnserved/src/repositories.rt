@@ -20,12 +20,12 @@ pub type DiskStore = FolderStore<HostRuntime, Unknown>;
 /// The UUID of an empty repository in memory.
 const EMPTY_UUID: u128 = 0x0000_0000_0000_4000_8000_0000_0000_0000;
 
-/// The folder of the files of a repository.
+/// Gives the folder of the files of a repository.
 fn files_folder(alloc: Global, folder: &str) -> Result<String, AllocError> {
     format!(in alloc; "{folder}/db")
 }
 
-/// A UUID of the system's random bytes.
+/// Makes a UUID of the system's random bytes.
 fn new_uuid(rt: &HostRuntime) -> Result<u128, ProgramFault> {
     let mut words: StdRng = rand::make_rng(rt)?;
     Ok(Uuid::new_v4(&mut words).as_u128())
@@ -49,7 +49,7 @@ fn opened<S: Store>(alloc: Global, store: S, options: Options) -> Result<FolderH
     }
 }
 
-/// Whether a folder is there.
+/// Says whether a folder exists.
 fn is_there(rt: &HostRuntime, folder: &str) -> Result<bool, ProgramFault> {
     match fs::exists(rt, folder) {
         Ok(is_there) => Ok(is_there),
@@ -60,7 +60,7 @@ fn is_there(rt: &HostRuntime, folder: &str) -> Result<bool, ProgramFault> {
     }
 }
 
-/// A hub over the repository in a folder.
+/// Makes a hub over the repository in a folder.
 pub fn folder_hub(
     rt: &HostRuntime,
     folder: &str,
@@ -73,7 +73,7 @@ pub fn folder_hub(
     opened(rt.alloc(), FolderStore::open(*rt, files)?, options)
 }
 
-/// A hub over an empty repository in memory.
+/// Makes a hub over an empty repository in memory.
 pub fn empty_hub(alloc: Global, options: Options) -> Result<FolderHub<MemoryStore>, ProgramFault> {
     let mut store = MemoryStore::new(alloc);
     create(alloc, &mut store, EMPTY_UUID, 0)?;
@@ -90,7 +90,7 @@ fn opened_alone<S: Store>(alloc: Global, store: S) -> Result<FolderRepository<S>
     }
 }
 
-/// The repository in a folder.
+/// Opens the repository in a folder.
 pub fn open_folder(
     rt: &HostRuntime,
     folder: &str,

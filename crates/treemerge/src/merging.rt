@@ -46,8 +46,8 @@ impl From<AllocError> for MergeFault {
     }
 }
 
-/// The changes of a transaction that began from a revision, merged with the youngest revision. Whether
-/// nodes are the same is told by their ids, and what is the same is passed over.
+/// Merges the changes of a transaction, which began from a revision, with the youngest revision. Whether nodes are the
+/// same is told by their ids, and what is the same is passed over.
 pub fn merge(
     alloc: Global,
     nodes: &Nodes,
@@ -73,7 +73,7 @@ pub fn merge(
     Ok(TxnTree { root })
 }
 
-/// What a transaction changed at a node, over the node that stands at this path now. `base` is what stood
+/// Makes what a transaction changed at a node into changes over the node that is at this path now. `base` is what was
 /// there when the transaction began.
 #[cycle(merge)]
 pub(crate) fn merged(
@@ -123,7 +123,7 @@ pub(crate) fn merged(
     })
 }
 
-/// The younger node, where the transaction has changed a directory only beneath, and it has stayed the same
+/// Gives the younger node, where the transaction has changed a directory only beneath, and it has stayed the same
 /// itself.
 fn younger<'a>(node: &OpenNode, nodes: &'a Nodes, places: Places) -> Option<&'a NodeRev>
     ensures kept { IfSome (option_copied result) (IsKept (node_at nodes.now) node.now places) }
@@ -146,7 +146,7 @@ fn younger<'a>(node: &OpenNode, nodes: &'a Nodes, places: Places) -> Option<&'a 
     Some(theirs)
 }
 
-/// What a transaction changed at an entry, over the entry that stands at this path now.
+/// Makes what a transaction changed at an entry into a change over the entry that is at this path now.
 #[cycle(merge)]
 fn merged_change(
     change: &Change,
@@ -184,7 +184,7 @@ fn merged_change(
     }
 }
 
-/// Whether a transaction's node, the old and the younger one are one directory.
+/// Says whether a transaction's node, the old and the younger one are one directory.
 fn is_one(node: &OpenNode, was: &NodeRev, theirs: &NodeRev) -> bool
     ensures { result ≡ is_one node.now was.now theirs.now }
 {
@@ -192,7 +192,7 @@ fn is_one(node: &OpenNode, was: &NodeRev, theirs: &NodeRev) -> bool
         && (is_own(&was.own, &node.own) && same_own(&was.own, &theirs.own))
 }
 
-/// A copy of a node and those under it.
+/// Makes a copy of a node and those under it.
 #[cycle(copied)]
 fn copied(node: &OpenNode, alloc: Global) -> Result<OpenNode, AllocError>
     ensures { IfOk result (λ n. (look : Look) (q : PathValue) → flat look (Opened n) q

@@ -88,7 +88,7 @@ fn moved_change(
     }
 }
 
-/// What stands in the other repository where this node does in its own revision.
+/// Finds what exists in the other repository where this node exists in its own revision.
 fn twin(base: Option<NodeId>, from: &Nodes, to: &Nodes) -> Option<NodeId>
     ensures { result ≡ twin from.now to.now base }
 {

@@ -11,7 +11,7 @@ use noderevs::Nodes;
 use repo_api::Content;
 
 impl OpenNode {
-    /// What stands at a path: that it is a directory, or a file's text.
+    /// Gives what exists at a path: that it is a directory, or a file's text.
     #[cycle(content)]
     pub fn content_at<'a>(&'a self, nodes: &'a Nodes, path: &[ByteString]) -> Option<&'a Content>
         ensures { option_copied result ≡ option_map (λ e. e.content)
@@ -26,7 +26,7 @@ impl OpenNode {
         nodes.content(nodes.kid(self.base, name), rest)
     }
 
-    /// The revision that last changed what stands at a path, at or under it: none where the transaction has.
+    /// Gives the revision that last changed what exists at a path, at or under it: none where the transaction has.
     #[cycle(made)]
     pub fn made_at(&self, nodes: &Nodes, path: &[ByteString]) -> Option<u64>
         ensures { result ≡ created_of (flat (node_at nodes.now) (Opened self.now) path.now) }

@@ -69,7 +69,7 @@ pub enum Local {
 }
 
 impl OpenNode {
-    /// A new node, with nothing beneath it.
+    /// Makes a new node, with nothing beneath it.
     pub fn fresh(alloc: Global, content: Content) -> Result<Self, AllocError>
         ensures ok { IfOk result (λ n. (look : Look) (q : PathValue) → flat look (Opened n) q
             ≡ leaf content q) }
@@ -85,7 +85,7 @@ impl OpenNode {
         })
     }
 
-    /// The shared node as a transaction's own, which is changed beneath.
+    /// Takes the shared node as a transaction's own, which is changed beneath.
     pub fn over(alloc: Global, nodes: &Nodes, id: NodeId) -> Result<Self, EditFault>
         ensures missing { IsErrOf result EditFault.Missing → node_at nodes.now id ≡ None }
         ensures ok { IfOk result (λ n. (q : PathValue) → flat (node_at nodes.now) (Opened n) q
@@ -206,7 +206,7 @@ impl Change {
     }
 }
 
-/// The properties with one set.
+/// Gives the properties with one set.
 fn with_one(
     alloc: Global,
     properties: &Properties,
@@ -220,7 +220,7 @@ fn with_one(
     Ok(Arc::new(alloc, properties)?)
 }
 
-/// The properties with one taken out.
+/// Gives the properties with one taken out.
 fn without_one(
     alloc: Global,
     properties: &Properties,

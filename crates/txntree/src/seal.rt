@@ -20,7 +20,7 @@ use std::sync::Arc;
 use svnpath::Path;
 
 impl OpenNode {
-    /// The transaction's tree as the nodes of the revision: one for each path that it changed, and no other.
+    /// Gives the transaction's tree as the nodes of the revision: one for each path that it changed, and no other.
     pub fn block(&self, alloc: Global, nodes: &Nodes, rev: u32) -> Result<Block, AllocError>
         ensures closed { IsClosed (node_at nodes.now) → IsBefore (node_at nodes.now) rev
             → IfOk result (λ b. IsClosed (with_block (node_at nodes.now) rev b.nodes.items)) }
@@ -142,7 +142,7 @@ impl Change {
     }
 }
 
-/// The mark of the revision at the path in an open mark's place.
+/// Gives the mark of the revision at the path in an open mark's place.
 fn closed(rev: u32, path: &Path, mark: &Mark) -> Result<Made, AllocError>
     ensures { IfOk result (λ m. mark_of m ≡ closed rev path.now mark.now) }
 {

@@ -71,7 +71,7 @@ fn checks_answers(rt: HostRuntime) -> Result<(), Fail> {
     Ok(())
 }
 
-/// What refuses an answer to the example's challenge, if anything does.
+/// Says what refuses an answer to the example's challenge, if anything does.
 fn fault_of(alloc: Global, answer: &[u8]) -> Option<CramFault> {
     let users = Users::read(alloc, USERS).ok()?;
     let challenge = Challenge::new(alloc, 1896, 697170952, NAME).ok()?;

@@ -6,7 +6,7 @@ use svnpath::{
     DEPTH_LIMIT, Path, PathFault, RepositoryUrl, by_text, pairs_by_text, root_url, sort_by_text,
 };
 
-/// Whether the answer is the path of this text, or this fault.
+/// Says whether the answer is the path of this text, or this fault.
 fn is_answer(
     alloc: Global,
     answer: Result<Path, PathFault>,
@@ -22,7 +22,7 @@ fn is_answer(
     }
 }
 
-/// A slash and this letter, so many times over.
+/// Writes a slash and this letter, so many times over.
 fn letters(alloc: Global, letter: u8, count: usize) -> Result<Vec<u8>, AllocError> {
     let mut text = Vec::new(alloc);
     for _ in 0..count {
@@ -135,13 +135,13 @@ fn joins_relative_texts(rt: HostRuntime) -> Result<(), PathFault> {
     Ok(())
 }
 
-/// How many components the path of this text has, or why there is no such path.
+/// Says how many components the path of this text has, or why there is no such path.
 fn depth_of(alloc: Global, text: &[u8]) -> Result<usize, PathFault> {
     let path = Path::parse(alloc, text)?;
     Ok(path.len())
 }
 
-/// What joining this text to the path of so many names is, by the depth of the answer.
+/// Says what joining this text to the path of so many names is, by the depth of the answer.
 fn depth_joined(alloc: Global, count: usize, text: &[u8]) -> Result<usize, PathFault> {
     let deep = letters(alloc, b'd', count)?;
     let path = Path::parse(alloc, deep.as_slice())?;
@@ -165,13 +165,13 @@ fn keeps_the_limits(rt: HostRuntime) {
     assert_eq!(rt; depth_joined(alloc, 65, b""), Err(PathFault::TooDeep));
 }
 
-/// Whether the child's parent is the root, which has none.
+/// Says whether the child's parent is the root, which has none.
 fn has_parent(alloc: Global, root: &Path, a: &Path) -> Result<bool, PathFault> {
     let above = a.parent(alloc)?;
     Ok(above.is_some_and(|above| above == *root) && root.parent(alloc)?.is_none())
 }
 
-/// Whether the grandchild is moved to the root's child by taking the child out.
+/// Says whether the grandchild is moved to the root's child by taking the child out.
 fn is_moved(alloc: Global, root: &Path, a: &Path, below: &Path) -> Result<bool, PathFault> {
     if !below.is_at_or_under(a) {
         return Ok(false);
@@ -180,7 +180,7 @@ fn is_moved(alloc: Global, root: &Path, a: &Path, below: &Path) -> Result<bool, 
     Ok(is_answer(alloc, Ok(moved), Ok("/b"))?)
 }
 
-/// Whether a path and its copy are the same.
+/// Says whether a path and its copy are the same.
 fn is_copied(path: &Path) -> Result<bool, PathFault> {
     let copy = path.clone()?;
     Ok(copy == *path)
@@ -212,7 +212,7 @@ fn names_children(rt: HostRuntime) -> Result<(), PathFault> {
     Ok(())
 }
 
-/// Whether the entries are the paths of these texts in turn, each with its text.
+/// Says whether the entries are the paths of these texts in turn, each with its text.
 fn is_listed(alloc: Global, listed: &[(&Path, &&str)], texts: &[&str]) -> Result<bool, AllocError> {
     for ((path, value), wanted) in listed.iter().zip(texts) {
         let mut text = Vec::new(alloc);

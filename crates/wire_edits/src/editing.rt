@@ -102,7 +102,7 @@ pub enum EditorCommand {
 }
 
 impl EditorCommand {
-    /// The command that an item is: `( name ( params ) )`. Items behind the parameters that a
+    /// Reads the command that an item is: `( name ( params ) )`. Items after the parameters that a
     /// command knows are ignored.
     pub fn from_item(item: &Item) -> Result<EditorCommand, CommandFault>
         ensures { Answers result (editor_command (value_of item.now)) }
@@ -158,14 +158,14 @@ const COMMAND_NAMES: [CommandName; 18] = [
     CommandName::AbortEdit,
 ];
 
-/// The command of an edit that has this name.
+/// Finds the command of an edit that has this name.
 fn editor_command_name(name: &[u8]) -> Option<CommandName>
     ensures { result ≡ editor_command_name name.now }
 {
     first_named(&COMMAND_NAMES, name).copied()
 }
 
-/// The first of these that has this name.
+/// Finds the first of these that has this name.
 fn first_named<'a>(names: &'a [CommandName], name: &[u8]) -> Option<&'a CommandName>
     ensures { option_copied result
         ≡ find (λ known. is_name name.now (editor_name_text known)) names.now }
@@ -173,14 +173,14 @@ fn first_named<'a>(names: &'a [CommandName], name: &[u8]) -> Option<&'a CommandN
     names.iter().find(|known| has_name(name, **known))
 }
 
-/// Whether the command has this name.
+/// Says whether the command has this name.
 fn has_name(name: &[u8], known: CommandName) -> bool
     ensures { result ≡ is_name name.now (editor_name_text known) }
 {
     name == editor_name_text(known)
 }
 
-/// The name of a command, as it is sent.
+/// Gives the name of a command, as it is sent.
 fn editor_name_text(known: CommandName) -> &'static [u8]
     ensures { result.now ≡ editor_name_text known }
 {
@@ -206,7 +206,7 @@ fn editor_name_text(known: CommandName) -> &'static [u8]
     }
 }
 
-/// The command of a name that is known.
+/// Reads the command of a name that is known.
 fn read_command(name: CommandName, params: &[Item]) -> Result<EditorCommand, CommandFault>
     ensures { Reads result (editor_command_with name (values_of params.now)) }
 {
@@ -253,7 +253,7 @@ fn read_command(name: CommandName, params: &[Item]) -> Result<EditorCommand, Com
     }
 }
 
-/// `( rev )`
+/// Reads `( rev )`.
 fn read_target_revision(params: &[Item]) -> Result<EditorCommand, CommandFault>
     ensures { Reads result (target_revision (values_of params.now)) }
 {
@@ -261,7 +261,7 @@ fn read_target_revision(params: &[Item]) -> Result<EditorCommand, CommandFault>
     Ok(EditorCommand::TargetRevision(revision))
 }
 
-/// `( [ rev ] token )`
+/// Reads `( [ rev ] token )`.
 fn read_open_root(params: &[Item]) -> Result<EditorCommand, CommandFault>
     ensures { Reads result (open_root (values_of params.now)) }
 {
@@ -271,8 +271,8 @@ fn read_open_root(params: &[Item]) -> Result<EditorCommand, CommandFault>
     Ok(EditorCommand::OpenRoot(revision, token.clone()?))
 }
 
-/// Whether a command that is read by its name alone ends an edit; `None` for an item that is no
-/// command.
+/// Says whether a command that is read by its name alone ends an edit; `None` for an item that is
+/// not a command.
 pub fn ends_edit(item: &Item) -> Option<bool>
     ensures { result ≡ ends_edit (value_of item.now) }
 {
@@ -280,7 +280,7 @@ pub fn ends_edit(item: &Item) -> Option<bool>
     Some(is_last(name))
 }
 
-/// Whether the command ends an edit.
+/// Says whether the command ends an edit.
 fn is_last(name: &[u8]) -> bool
     ensures { result ≡ is_last name.now }
 {

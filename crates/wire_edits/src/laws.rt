@@ -4,7 +4,7 @@ ghost use Rattle.wire_edits.specs.Editing.{editor_command};
 ghost use Rattle.wire_edits.specs.Printing.{command_item};
 ghost use Rattle.wire_edits.specs.declared.editing.EditorCommand.{EditorCommand};
 
-/// A command that is sent is read as itself.
+/// Shows that a command that is sent is read as itself.
 pub fn commands_are_read()
     ensures { (command : EditorCommand) → editor_command (command_item command) ≡ Ok command }
 {}

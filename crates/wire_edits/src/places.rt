@@ -35,7 +35,7 @@ fn read_place(items: &[Item]) -> Option<Place<'_>>
     })
 }
 
-/// `( path parent token [ copy-path copy-rev ] )`
+/// Reads `( path parent token [ copy-path copy-rev ] )`.
 pub fn read_added(params: &[Item]) -> Result<AddedEntry, CommandFault>
     ensures { Reads result (added_entry_of (values_of params.now)) }
 {
@@ -50,7 +50,7 @@ pub fn read_added(params: &[Item]) -> Result<AddedEntry, CommandFault>
     })
 }
 
-/// `[ copy-path copy-rev ]`
+/// Reads `[ copy-path copy-rev ]`.
 fn read_optional_source(items: &[Item]) -> Option<Option<(&ByteString, u64)>>
     ensures { option_map (option_map (λ s. (s.0.now, s.1))) result
         ≡ optional_source (values_of items.now) }
@@ -71,7 +71,7 @@ fn copy_source(source: Option<(&ByteString, u64)>) -> Result<Option<(ByteString,
     }
 }
 
-/// `( path parent token [ rev ] )`
+/// Reads `( path parent token [ rev ] )`.
 pub fn read_opened(params: &[Item]) -> Result<OpenedEntry, CommandFault>
     ensures { Reads result (opened_entry_of (values_of params.now)) }
 {
@@ -85,7 +85,7 @@ pub fn read_opened(params: &[Item]) -> Result<OpenedEntry, CommandFault>
     })
 }
 
-/// `[ rev ]`, or a bare number.
+/// Reads `[ rev ]`, or a bare number.
 fn read_revision(items: &[Item]) -> Option<Option<u64>>
     ensures { result ≡ any_revision_first (values_of items.now) }
 {
@@ -96,7 +96,7 @@ fn read_revision(items: &[Item]) -> Option<Option<u64>>
     }
 }
 
-/// `( path [ rev ] parent )`
+/// Reads `( path [ rev ] parent )`.
 pub fn read_deleted(params: &[Item]) -> Result<DeletedEntry, CommandFault>
     ensures { Reads result (deleted_entry_of (values_of params.now)) }
 {
@@ -111,7 +111,7 @@ pub fn read_deleted(params: &[Item]) -> Result<DeletedEntry, CommandFault>
     })
 }
 
-/// `( path parent )`
+/// Reads `( path parent )`.
 pub fn read_absent(params: &[Item]) -> Result<AbsentEntry, CommandFault>
     ensures { Reads result (absent (values_of params.now)) }
 {

@@ -72,7 +72,7 @@ fn append_command(command: &EditorCommand, out: &mut Vec<u8>) -> Result<(), Allo
     }
 }
 
-/// `( name ( `
+/// Appends `( name ( `.
 fn append_name(name: &[u8], out: &mut Vec<u8>) -> Result<(), AllocError>
     ensures ok { OnOk result (out.new.items
         ≡ out.old.items ++ (40 ∷ 32 ∷ (printed (word name.now) ++ (40 ∷ 32 ∷ [])))) }
@@ -83,7 +83,7 @@ fn append_name(name: &[u8], out: &mut Vec<u8>) -> Result<(), AllocError>
     out.extend_from_slice(b"( ")
 }
 
-/// `) ) `
+/// Appends `) ) `.
 fn append_end(out: &mut Vec<u8>) -> Result<(), AllocError>
     ensures ok { OnOk result (out.new.items ≡ out.old.items ++ (41 ∷ 32 ∷ 41 ∷ 32 ∷ [])) }
     ensures grows { Grows out.old.items out.new.items }
@@ -91,7 +91,7 @@ fn append_end(out: &mut Vec<u8>) -> Result<(), AllocError>
     out.extend_from_slice(b") ) ")
 }
 
-/// `[ rev ]`
+/// Appends `[ rev ]`.
 fn append_revision(revision: Option<u64>, out: &mut Vec<u8>) -> Result<(), AllocError>
     ensures ok { OnOk result (out.new.items
         ≡ out.old.items ++ printed (revision_item revision)) }
@@ -104,7 +104,7 @@ fn append_revision(revision: Option<u64>, out: &mut Vec<u8>) -> Result<(), Alloc
     out.extend_from_slice(b") ")
 }
 
-/// `[ string ]`
+/// Appends `[ string ]`.
 fn append_optional(text: &Option<ByteString>, out: &mut Vec<u8>) -> Result<(), AllocError>
     ensures ok { OnOk result (out.new.items ≡ out.old.items ++ printed (string_item text.now)) }
     ensures grows { Grows out.old.items out.new.items }
@@ -116,7 +116,7 @@ fn append_optional(text: &Option<ByteString>, out: &mut Vec<u8>) -> Result<(), A
     out.extend_from_slice(b") ")
 }
 
-/// `[ copy-path copy-rev ]`
+/// Appends `[ copy-path copy-rev ]`.
 fn append_source(source: &Option<(ByteString, u64)>, out: &mut Vec<u8>) -> Result<(), AllocError>
     ensures ok { OnOk result (out.new.items
         ≡ out.old.items ++ printed (source_item source.now)) }
@@ -130,7 +130,7 @@ fn append_source(source: &Option<(ByteString, u64)>, out: &mut Vec<u8>) -> Resul
     out.extend_from_slice(b") ")
 }
 
-/// `string string`
+/// Appends `string string`.
 fn append_two(first: &ByteString, second: &ByteString, out: &mut Vec<u8>) -> Result<(), AllocError>
     ensures ok { OnOk result (out.new.items ≡ out.old.items
         ++ row_printed (both (string first.now) (string second.now))) }
@@ -140,7 +140,7 @@ fn append_two(first: &ByteString, second: &ByteString, out: &mut Vec<u8>) -> Res
     append_string(second.as_slice(), out)
 }
 
-/// `( name ( ) )`
+/// Appends `( name ( ) )`.
 fn append_alone(name: &[u8], out: &mut Vec<u8>) -> Result<(), AllocError>
     ensures ok { OnOk result (out.new.items
         ≡ out.old.items ++ printed (command name.now none)) }
@@ -150,7 +150,7 @@ fn append_alone(name: &[u8], out: &mut Vec<u8>) -> Result<(), AllocError>
     append_end(out)
 }
 
-/// `( name ( rev ) )`
+/// Appends `( name ( rev ) )`.
 fn append_revision_alone(name: &[u8], revision: u64, out: &mut Vec<u8>) -> Result<(), AllocError>
     ensures ok { OnOk result (out.new.items ≡ out.old.items
         ++ printed (command name.now (only (number revision)))) }
@@ -161,7 +161,7 @@ fn append_revision_alone(name: &[u8], revision: u64, out: &mut Vec<u8>) -> Resul
     append_end(out)
 }
 
-/// `[ rev ] token`
+/// Appends `[ rev ] token`.
 fn append_root_params(
     revision: Option<u64>,
     token: &ByteString,
@@ -175,7 +175,7 @@ fn append_root_params(
     append_string(token.as_slice(), out)
 }
 
-/// `( name ( [ rev ] token ) )`
+/// Appends `( name ( [ rev ] token ) )`.
 fn append_root(
     name: &[u8],
     revision: Option<u64>,
@@ -191,7 +191,7 @@ fn append_root(
     append_end(out)
 }
 
-/// `path [ rev ] parent`
+/// Appends `path [ rev ] parent`.
 fn append_deleted_params(entry: &DeletedEntry, out: &mut Vec<u8>) -> Result<(), AllocError>
     ensures ok { OnOk result (out.new.items ≡ out.old.items
         ++ row_printed (more (string entry.now.path)
@@ -202,7 +202,7 @@ fn append_deleted_params(entry: &DeletedEntry, out: &mut Vec<u8>) -> Result<(), 
     append_root_params(entry.revision, &entry.parent, out)
 }
 
-/// `( name ( path [ rev ] parent ) )`
+/// Appends `( name ( path [ rev ] parent ) )`.
 fn append_deleted(name: &[u8], entry: &DeletedEntry, out: &mut Vec<u8>) -> Result<(), AllocError>
     ensures ok { OnOk result (out.new.items ≡ out.old.items
         ++ printed (command name.now (more (string entry.now.path)
@@ -214,7 +214,7 @@ fn append_deleted(name: &[u8], entry: &DeletedEntry, out: &mut Vec<u8>) -> Resul
     append_end(out)
 }
 
-/// `path parent token [ copy-path copy-rev ]`
+/// Appends `path parent token [ copy-path copy-rev ]`.
 fn append_added_params(entry: &AddedEntry, out: &mut Vec<u8>) -> Result<(), AllocError>
     ensures ok { OnOk result (out.new.items ≡ out.old.items
         ++ row_printed (added_items entry.now)) }
@@ -225,7 +225,7 @@ fn append_added_params(entry: &AddedEntry, out: &mut Vec<u8>) -> Result<(), Allo
     append_source(&entry.source, out)
 }
 
-/// `( name ( path parent token [ copy-path copy-rev ] ) )`
+/// Appends `( name ( path parent token [ copy-path copy-rev ] ) )`.
 fn append_added(name: &[u8], entry: &AddedEntry, out: &mut Vec<u8>) -> Result<(), AllocError>
     ensures ok { OnOk result (out.new.items ≡ out.old.items
         ++ printed (command name.now (added_items entry.now))) }
@@ -236,7 +236,7 @@ fn append_added(name: &[u8], entry: &AddedEntry, out: &mut Vec<u8>) -> Result<()
     append_end(out)
 }
 
-/// `path parent token [ rev ]`
+/// Appends `path parent token [ rev ]`.
 fn append_opened_params(entry: &OpenedEntry, out: &mut Vec<u8>) -> Result<(), AllocError>
     ensures ok { OnOk result (out.new.items ≡ out.old.items
         ++ row_printed (opened_items entry.now)) }
@@ -247,7 +247,7 @@ fn append_opened_params(entry: &OpenedEntry, out: &mut Vec<u8>) -> Result<(), Al
     append_revision(entry.revision, out)
 }
 
-/// `( name ( path parent token [ rev ] ) )`
+/// Appends `( name ( path parent token [ rev ] ) )`.
 fn append_opened(name: &[u8], entry: &OpenedEntry, out: &mut Vec<u8>) -> Result<(), AllocError>
     ensures ok { OnOk result (out.new.items ≡ out.old.items
         ++ printed (command name.now (opened_items entry.now))) }
@@ -258,7 +258,7 @@ fn append_opened(name: &[u8], entry: &OpenedEntry, out: &mut Vec<u8>) -> Result<
     append_end(out)
 }
 
-/// `( name ( path parent ) )`
+/// Appends `( name ( path parent ) )`.
 fn append_absent(name: &[u8], entry: &AbsentEntry, out: &mut Vec<u8>) -> Result<(), AllocError>
     ensures ok { OnOk result (out.new.items ≡ out.old.items
         ++ printed (command name.now (absent_items entry.now))) }
@@ -269,7 +269,7 @@ fn append_absent(name: &[u8], entry: &AbsentEntry, out: &mut Vec<u8>) -> Result<
     append_end(out)
 }
 
-/// `token name [ value ]`
+/// Appends `token name [ value ]`.
 fn append_property_params(change: &PropertyChange, out: &mut Vec<u8>) -> Result<(), AllocError>
     ensures ok { OnOk result (out.new.items ≡ out.old.items
         ++ row_printed (property_items change.now)) }
@@ -279,7 +279,7 @@ fn append_property_params(change: &PropertyChange, out: &mut Vec<u8>) -> Result<
     append_optional(&change.value, out)
 }
 
-/// `( name ( token name [ value ] ) )`
+/// Appends `( name ( token name [ value ] ) )`.
 fn append_property(
     name: &[u8],
     change: &PropertyChange,
@@ -294,7 +294,7 @@ fn append_property(
     append_end(out)
 }
 
-/// `token [ checksum ]`
+/// Appends `token [ checksum ]`.
 fn append_checksum_params(
     token: &ByteString,
     checksum: &Option<ByteString>,
@@ -308,7 +308,7 @@ fn append_checksum_params(
     append_optional(checksum, out)
 }
 
-/// `( name ( token [ checksum ] ) )`
+/// Appends `( name ( token [ checksum ] ) )`.
 fn append_checksum(
     name: &[u8],
     token: &ByteString,
@@ -324,7 +324,7 @@ fn append_checksum(
     append_end(out)
 }
 
-/// `( name ( token bytes ) )`
+/// Appends `( name ( token bytes ) )`.
 fn append_chunk(
     name: &[u8],
     token: &ByteString,
@@ -340,7 +340,7 @@ fn append_chunk(
     append_end(out)
 }
 
-/// `( name ( token ) )`
+/// Appends `( name ( token ) )`.
 fn append_token(name: &[u8], token: &ByteString, out: &mut Vec<u8>) -> Result<(), AllocError>
     ensures ok { OnOk result (out.new.items ≡ out.old.items
         ++ printed (command name.now (only (string token.now)))) }

@@ -9,7 +9,7 @@ use items::Item;
 use wire_forms::CommandFault::{self, BadParameters};
 use wire_forms::{copy_optional, read_list, read_optional_string, read_string};
 
-/// `( token name [ value ] )`
+/// Reads `( token name [ value ] )`.
 pub fn read_property(params: &[Item]) -> Result<PropertyChange, CommandFault>
     ensures { Reads result (property (values_of params.now)) }
 {
@@ -24,7 +24,7 @@ pub fn read_property(params: &[Item]) -> Result<PropertyChange, CommandFault>
     })
 }
 
-/// `( token [ checksum ] )`
+/// Reads `( token [ checksum ] )`.
 pub fn read_with_checksum(params: &[Item]) -> Result<(ByteString, Option<ByteString>), CommandFault>
     ensures { Reads result (with_checksum (values_of params.now)) }
 {
@@ -34,7 +34,7 @@ pub fn read_with_checksum(params: &[Item]) -> Result<(ByteString, Option<ByteStr
     Ok((token.clone()?, copy_optional(checksum)?))
 }
 
-/// `( token bytes )`
+/// Reads `( token bytes )`.
 pub fn read_chunk(params: &[Item]) -> Result<(ByteString, ByteString), CommandFault>
     ensures { Reads result (chunk (values_of params.now)) }
 {
@@ -43,7 +43,7 @@ pub fn read_chunk(params: &[Item]) -> Result<(ByteString, ByteString), CommandFa
     Ok((token.clone()?, bytes.clone()?))
 }
 
-/// `( token )`
+/// Reads `( token )`.
 pub fn read_token_alone(params: &[Item]) -> Result<ByteString, CommandFault>
     ensures { Reads result (token_alone (values_of params.now)) }
 {

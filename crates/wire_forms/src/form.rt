@@ -8,7 +8,7 @@ use byte_string::ByteString;
 use items::Item;
 use std::alloc::AllocError;
 
-/// A word in front: its name, and what stands behind it.
+/// Reads a word in front: its name, and what comes after it.
 pub fn read_word(items: &[Item]) -> Option<(&[u8], &[Item])>
     ensures { option_map (λ p. (p.0.now, values_of p.1.now)) result
         ≡ word_first (values_of items.now) }
@@ -19,7 +19,7 @@ pub fn read_word(items: &[Item]) -> Option<(&[u8], &[Item])>
     }
 }
 
-/// A number in front, and what stands behind it.
+/// Reads a number in front, and what comes after it.
 pub fn read_number(items: &[Item]) -> Option<(u64, &[Item])>
     ensures { option_map (λ p. (p.0, values_of p.1.now)) result
         ≡ number_first (values_of items.now) }
@@ -30,7 +30,7 @@ pub fn read_number(items: &[Item]) -> Option<(u64, &[Item])>
     }
 }
 
-/// A string in front, and what stands behind it.
+/// Reads a string in front, and what comes after it.
 pub fn read_string(items: &[Item]) -> Option<(&ByteString, &[Item])>
     ensures { option_map (λ p. (p.0.now, values_of p.1.now)) result
         ≡ string_first (values_of items.now) }
@@ -41,7 +41,7 @@ pub fn read_string(items: &[Item]) -> Option<(&ByteString, &[Item])>
     }
 }
 
-/// A list in front: what is in it, and what stands behind it.
+/// Reads a list in front: what is in it, and what comes after it.
 pub fn read_list(items: &[Item]) -> Option<(&[Item], &[Item])>
     ensures { option_map (λ p. (values_of p.0.now, values_of p.1.now)) result
         ≡ list_first (values_of items.now) }
@@ -52,7 +52,7 @@ pub fn read_list(items: &[Item]) -> Option<(&[Item], &[Item])>
     }
 }
 
-/// `( ... )`: what is in the list.
+/// Reads `( ... )`: what is in the list.
 pub fn read_items(item: &Item) -> Option<&[Item]>
     ensures { option_map (λ items. values_of items.now) result ≡ items_in (value_of item.now) }
 {
@@ -62,7 +62,7 @@ pub fn read_items(item: &Item) -> Option<&[Item]>
     }
 }
 
-/// `( name ( params ) )`: the name and the parameters. Items behind them are ignored.
+/// Reads `( name ( params ) )`: the name and the parameters. Items after them are ignored.
 pub fn read_form(item: &Item) -> Option<(&[u8], &[Item])>
     ensures { option_map (λ form. (form.0.now, values_of form.1.now)) result
         ≡ command_form (value_of item.now) }
@@ -72,7 +72,7 @@ pub fn read_form(item: &Item) -> Option<(&[u8], &[Item])>
     Some((name, params))
 }
 
-/// `[ number ]`: the number, if there is one; `None` where the list is of another form.
+/// Reads `[ number ]`: the number, if there is one; `None` where the list is of another form.
 pub fn read_optional_number(items: &[Item]) -> Option<Option<u64>>
     ensures { result ≡ optional_number (values_of items.now) }
 {
@@ -83,7 +83,7 @@ pub fn read_optional_number(items: &[Item]) -> Option<Option<u64>>
     }
 }
 
-/// `[ string ]`: the string, if there is one; `None` where the list is of another form.
+/// Reads `[ string ]`: the string, if there is one; `None` where the list is of another form.
 pub fn read_optional_string(items: &[Item]) -> Option<Option<&ByteString>>
     ensures { option_map (option_map (λ text. text.now)) result
         ≡ optional_string (values_of items.now) }
@@ -95,7 +95,7 @@ pub fn read_optional_string(items: &[Item]) -> Option<Option<&ByteString>>
     }
 }
 
-/// The word `true` or `false`.
+/// Reads the word `true` or `false`.
 pub fn read_boolean(item: &Item) -> Option<bool>
     ensures { result ≡ boolean (value_of item.now) }
 {
@@ -117,7 +117,7 @@ fn boolean_named(name: &[u8]) -> Option<bool>
     }
 }
 
-/// The word `true` or `false` in front, and what stands behind it.
+/// Reads the word `true` or `false` in front, and what comes after it.
 pub fn read_flag(items: &[Item]) -> Option<(bool, &[Item])>
     ensures { option_map (λ p. (p.0, values_of p.1.now)) result
         ≡ flag_first (values_of items.now) }
@@ -126,7 +126,7 @@ pub fn read_flag(items: &[Item]) -> Option<(bool, &[Item])>
     Some((read_boolean(item)?, rest))
 }
 
-/// `[ rev ]` in front, and what stands behind it.
+/// Reads `[ rev ]` in front, and what comes after it.
 pub fn read_revision(items: &[Item]) -> Option<(Option<u64>, &[Item])>
     ensures { option_map (λ p. (p.0, values_of p.1.now)) result
         ≡ revision_first (values_of items.now) }
@@ -135,7 +135,7 @@ pub fn read_revision(items: &[Item]) -> Option<(Option<u64>, &[Item])>
     Some((read_optional_number(revision)?, rest))
 }
 
-/// A copy of a string, if there is one.
+/// Makes a copy of a string, if there is one.
 pub fn copy_optional(text: Option<&ByteString>) -> Result<Option<ByteString>, AllocError>
     ensures { IfOk result (λ copy. copy ≡ option_map (λ t. t.now) text.entry) }
 {

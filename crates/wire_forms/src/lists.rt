@@ -25,7 +25,7 @@ impl Model for Strings {
 }
 
 impl Strings {
-    /// No strings.
+    /// Makes an empty list of strings.
     pub fn new(alloc: Global) -> Self
         ensures { result ≡ [] }
     {
@@ -42,7 +42,7 @@ impl Strings {
         self.strings.push(text).map_err(AllocError::from)
     }
 
-    /// The strings in their order.
+    /// Gives the strings in their order.
     pub fn as_slice(&self) -> &[ByteString]
         ensures { result.now ≡ self.now }
     {
@@ -65,7 +65,7 @@ impl Model for Numbers {
 }
 
 impl Numbers {
-    /// No numbers.
+    /// Makes an empty list of numbers.
     pub fn new(alloc: Global) -> Self
         ensures { result ≡ [] }
     {
@@ -82,7 +82,7 @@ impl Numbers {
         self.numbers.push(number).map_err(AllocError::from)
     }
 
-    /// The numbers in their order.
+    /// Gives the numbers in their order.
     pub fn as_slice(&self) -> &[u64]
         ensures { result.now ≡ self.now }
     {
@@ -90,7 +90,7 @@ impl Numbers {
     }
 }
 
-/// `string ...`
+/// Reads `string ...`.
 pub fn read_strings(alloc: Global, items: &[Item]) -> Result<Strings, CommandFault>
     ensures { Reads result (strings (values_of items.now)) }
 {
@@ -102,7 +102,7 @@ pub fn read_strings(alloc: Global, items: &[Item]) -> Result<Strings, CommandFau
     Ok(strings)
 }
 
-/// `number ...`
+/// Reads `number ...`.
 pub fn read_numbers(alloc: Global, items: &[Item]) -> Result<Numbers, CommandFault>
     ensures { Reads result (numbers (values_of items.now)) }
 {
@@ -113,7 +113,7 @@ pub fn read_numbers(alloc: Global, items: &[Item]) -> Result<Numbers, CommandFau
     Ok(numbers)
 }
 
-/// The string that an item is.
+/// Gives the string that an item is.
 fn string_in(item: &Item) -> Option<&ByteString>
     ensures { option_map (λ text. text.now) result ≡ string_in (value_of item.now) }
 {
@@ -123,7 +123,7 @@ fn string_in(item: &Item) -> Option<&ByteString>
     }
 }
 
-/// The number that an item is.
+/// Gives the number that an item is.
 fn number_in(item: &Item) -> Option<u64>
     ensures { result ≡ number_in (value_of item.now) }
 {

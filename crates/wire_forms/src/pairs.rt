@@ -26,7 +26,7 @@ impl Model for Pairs {
 }
 
 impl Pairs {
-    /// No pairs.
+    /// Makes an empty list of pairs.
     pub fn new(alloc: Global) -> Self
         ensures { result ≡ [] }
     {
@@ -43,7 +43,7 @@ impl Pairs {
         self.pairs.push((first, second)).map_err(AllocError::from)
     }
 
-    /// The pairs in their order.
+    /// Gives the pairs in their order.
     pub fn as_slice(&self) -> &[(ByteString, ByteString)]
         ensures { result.now ≡ self.now }
     {
@@ -51,7 +51,7 @@ impl Pairs {
     }
 }
 
-/// `( string string ) ...`
+/// Reads `( string string ) ...`.
 pub fn read_pairs(alloc: Global, items: &[Item]) -> Result<Pairs, CommandFault>
     ensures { Reads result (pairs (values_of items.now)) }
 {
@@ -63,7 +63,7 @@ pub fn read_pairs(alloc: Global, items: &[Item]) -> Result<Pairs, CommandFault>
     Ok(pairs)
 }
 
-/// `( string string )`
+/// Reads `( string string )`.
 fn read_pair(item: &Item) -> Option<(&ByteString, &ByteString)>
     ensures { option_map (λ p. (p.0.now, p.1.now)) result ≡ pair (value_of item.now) }
 {

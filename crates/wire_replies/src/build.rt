@@ -12,7 +12,7 @@ use repo_api::NodeKind;
 use std::alloc::{AllocError, Global};
 use svnpath::Path;
 
-/// A word. The bytes are a letter, then letters, digits and dashes.
+/// Makes a word. The bytes are a letter, then letters, digits and dashes.
 pub fn word_item(alloc: Global, bytes: &[u8]) -> Result<Item, AllocError>
     requires { IsWord bytes.now }
     ensures { IfOk result (λ item. value_of item ≡ word bytes.now) }
@@ -21,21 +21,21 @@ pub fn word_item(alloc: Global, bytes: &[u8]) -> Result<Item, AllocError>
     Ok(Item::Word(Name::from_vec(bytes)))
 }
 
-/// A number.
+/// Makes a number.
 pub fn number_item(n: u64) -> Item
     ensures { value_of result ≡ number n }
 {
     Item::Number(n)
 }
 
-/// A string.
+/// Makes a string.
 pub fn string_item(alloc: Global, bytes: &[u8]) -> Result<Item, AllocError>
     ensures { IfOk result (λ item. value_of item ≡ string bytes.now) }
 {
     Ok(Item::Str(ByteString::from_slice(alloc, bytes)?))
 }
 
-/// A list of these items.
+/// Makes a list of these items.
 pub fn list_item<const N: usize>(alloc: Global, items: [Item; N]) -> Result<Item, AllocError>
     ensures { IfOk result (λ item. value_of item ≡ list (values_of items.entry)) }
 {
@@ -43,7 +43,7 @@ pub fn list_item<const N: usize>(alloc: Global, items: [Item; N]) -> Result<Item
     Ok(Item::List(items))
 }
 
-/// `[ string ]`
+/// Makes `[ string ]`.
 pub fn optional_string_item(alloc: Global, text: &Option<ByteString>) -> Result<Item, AllocError>
     ensures { IfOk result (λ item. value_of item ≡ list (optional_string_trees text.now)) }
 {
@@ -53,7 +53,7 @@ pub fn optional_string_item(alloc: Global, text: &Option<ByteString>) -> Result<
     }
 }
 
-/// The items, and behind them one that was to be made.
+/// Gives the items, and after them one that was to be made.
 pub fn with_made(items: Vec<Item>, made: Result<Item, AllocError>) -> Result<Vec<Item>, AllocError>
     ensures { IfOk result (λ longer. IsOkAnd made (λ item.
         longer.items ≡ items.items ++ item ∷ [])) }
@@ -63,7 +63,7 @@ pub fn with_made(items: Vec<Item>, made: Result<Item, AllocError>) -> Result<Vec
     Ok(items)
 }
 
-/// `( success ( params ) )`
+/// Makes `( success ( params ) )`.
 pub fn success_row(alloc: Global, params: Vec<Item>) -> Result<Item, AllocError>
     ensures { IfOk result (λ item. value_of item ≡ success (values_of params.items)) }
 {
@@ -71,7 +71,7 @@ pub fn success_row(alloc: Global, params: Vec<Item>) -> Result<Item, AllocError>
     list_item(alloc, [word, Item::List(params)])
 }
 
-/// The word `true` or `false`.
+/// Makes the word `true` or `false`.
 pub fn boolean_item(alloc: Global, value: bool) -> Result<Item, AllocError>
     ensures { IfOk result (λ item. value_of item ≡ word (boolean_name value)) }
 {
@@ -82,7 +82,7 @@ pub fn boolean_item(alloc: Global, value: bool) -> Result<Item, AllocError>
     }
 }
 
-/// The name of a kind.
+/// Gives the name of a kind.
 pub fn kind_name(kind: NodeKind) -> &'static [u8]
     ensures value { result.now ≡ kind_word kind }
     ensures is_word { IsWord (kind_word kind) }
@@ -94,7 +94,7 @@ pub fn kind_name(kind: NodeKind) -> &'static [u8]
     }
 }
 
-/// The text of a path, as a string.
+/// Gives the text of a path, as a string.
 pub fn path_item(alloc: Global, path: &Path) -> Result<Item, AllocError>
     ensures { IfOk result (λ item. value_of item ≡ string (path_text path.now)) }
 {

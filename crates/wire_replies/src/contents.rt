@@ -31,7 +31,7 @@ impl Model for TextPiece {
 }
 
 impl TextPiece {
-    /// The piece that begins at this place of the text.
+    /// Makes the piece that begins at this place of the text.
     pub fn from_text(text: &FileText, start: usize) -> Result<TextPiece, AllocError>
         ensures { IfOk result (λ piece. piece ≡ piece_from text.now start) }
     {
@@ -39,7 +39,7 @@ impl TextPiece {
         Ok(TextPiece { text, start })
     }
 
-    /// A piece without bytes, which ends a text.
+    /// Makes a piece without bytes, which ends a text.
     pub fn last() -> TextPiece
         ensures { result ≡ [] }
     {
@@ -49,7 +49,7 @@ impl TextPiece {
         }
     }
 
-    /// The bytes of the piece.
+    /// Gives the bytes of the piece.
     pub fn as_slice(&self) -> &[u8]
         ensures { result.now ≡ self.now }
     {
@@ -57,7 +57,7 @@ impl TextPiece {
     }
 }
 
-/// The bytes from a place on.
+/// Gives the bytes from a place on.
 fn from_place(bytes: &[u8], start: usize) -> &[u8]
     ensures { result.now ≡ drop start bytes.now }
 {
@@ -68,7 +68,7 @@ fn from_place(bytes: &[u8], start: usize) -> &[u8]
     }
 }
 
-/// So many bytes from the front, or all where there are less.
+/// Gives so many bytes from the front, or all where there are fewer.
 fn at_most(count: usize, bytes: &[u8]) -> &[u8]
     ensures { result.now ≡ take count bytes.now }
 {

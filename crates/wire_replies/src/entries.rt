@@ -63,7 +63,7 @@ impl Model for EntryList {
 }
 
 impl EntryList {
-    /// No entries.
+    /// Makes a list without entries.
     pub fn new(alloc: Global) -> Self
         ensures { result ≡ [] }
     {
@@ -80,7 +80,7 @@ impl EntryList {
         self.entries.push((name, node)).map_err(AllocError::from)
     }
 
-    /// The entries in the order in which they were put.
+    /// Gives the entries in the order in which they were put.
     pub fn as_slice(&self) -> &[(ByteString, NodeInfo)]
         ensures { result.now ≡ self.now }
     {
@@ -88,7 +88,7 @@ impl EntryList {
     }
 }
 
-/// `( success ( [ md5 ] rev ( property ... ) ) )`
+/// Makes `( success ( [ md5 ] rev ( property ... ) ) )`.
 pub(crate) fn file_info_item(alloc: Global, info: &FileInfo) -> Result<Item, AllocError>
     ensures { IfOk result (λ item. value_of item ≡ file_info info.now) }
 {
@@ -98,7 +98,7 @@ pub(crate) fn file_info_item(alloc: Global, info: &FileInfo) -> Result<Item, All
     success_row(alloc, items)
 }
 
-/// `( success ( rev ( property ... ) ( entry ... ) ) )`
+/// Makes `( success ( rev ( property ... ) ( entry ... ) ) )`.
 pub(crate) fn directory_info_item(alloc: Global, info: &DirectoryInfo) -> Result<Item, AllocError>
     ensures { IfOk result (λ item. value_of item ≡ directory_info info.now) }
 {
@@ -108,7 +108,7 @@ pub(crate) fn directory_info_item(alloc: Global, info: &DirectoryInfo) -> Result
     success_row(alloc, items)
 }
 
-/// `( entry ... )`
+/// Makes `( entry ... )`.
 fn entries_item(alloc: Global, entries: &EntryList) -> Result<Item, AllocError>
     ensures { IfOk result (λ item. value_of item ≡ list (entry_trees entries.now)) }
 {
@@ -119,7 +119,7 @@ fn entries_item(alloc: Global, entries: &EntryList) -> Result<Item, AllocError>
     Ok(Item::List(items))
 }
 
-/// `( name kind size has-props created-rev [ date ] [ author ] )`
+/// Makes `( name kind size has-props created-rev [ date ] [ author ] )`.
 fn entry_item(alloc: Global, name: &[u8], node: &NodeInfo) -> Result<Item, AllocError>
     ensures { IfOk result (λ item. value_of item ≡ entry_tree name.now node.now) }
 {
@@ -128,7 +128,7 @@ fn entry_item(alloc: Global, name: &[u8], node: &NodeInfo) -> Result<Item, Alloc
     Ok(Item::List(items))
 }
 
-/// `[ ( kind size has-props created-rev [ date ] [ author ] ) ]`
+/// Makes `[ ( kind size has-props created-rev [ date ] [ author ] ) ]`.
 pub(crate) fn stat_item(alloc: Global, node: &Option<NodeInfo>) -> Result<Item, AllocError>
     ensures { IfOk result (λ item. value_of item ≡ list (stat_trees node.now)) }
 {
@@ -138,14 +138,14 @@ pub(crate) fn stat_item(alloc: Global, node: &Option<NodeInfo>) -> Result<Item, 
     }
 }
 
-/// `( kind size has-props created-rev [ date ] [ author ] )`
+/// Makes `( kind size has-props created-rev [ date ] [ author ] )`.
 fn node_item(alloc: Global, node: &NodeInfo) -> Result<Item, AllocError>
     ensures { IfOk result (λ item. value_of item ≡ list (row_of (node_trees node.now))) }
 {
     Ok(Item::List(with_node(alloc, Vec::new(alloc), node)?))
 }
 
-/// The items, and behind them `kind size has-props created-rev [ date ] [ author ]`.
+/// Gives the items, and after them `kind size has-props created-rev [ date ] [ author ]`.
 fn with_node(alloc: Global, items: Vec<Item>, node: &NodeInfo) -> Result<Vec<Item>, AllocError>
     ensures { IfOk result (λ longer. map value_of longer.items
         ≡ map value_of items.items ++ node_trees node.now) }

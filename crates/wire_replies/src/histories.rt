@@ -51,7 +51,7 @@ impl Model for ChangeList {
 }
 
 impl ChangeList {
-    /// No changes.
+    /// Makes a list without changes.
     pub fn new(alloc: Global) -> Self
         ensures { result ≡ [] }
     {
@@ -68,7 +68,7 @@ impl ChangeList {
         self.changes.push(change).map_err(AllocError::from)
     }
 
-    /// The changes in the order in which they were put.
+    /// Gives the changes in the order in which they were put.
     pub fn as_slice(&self) -> &[LoggedChange]
         ensures { result.now ≡ self.now }
     {
@@ -77,7 +77,7 @@ impl ChangeList {
 }
 
 impl LoggedChange {
-    /// A copy of this change at this path, where something of this kind stands or stood.
+    /// Makes a copy of this change at this path, where something of this kind stands or stood.
     pub fn copied(path: &Path, change: &Change, kind: NodeKind) -> Result<Self, AllocError>
         ensures { IfOk result (λ logged. logged ≡ logged_change path.now change.now kind) }
     {
@@ -114,7 +114,7 @@ fn copied_source(source: &Option<Source>) -> Result<Option<Source>, AllocError>
     }
 }
 
-/// `( ( change ... ) rev [ author ] [ date ] [ message ] )`
+/// Makes `( ( change ... ) rev [ author ] [ date ] [ message ] )`.
 pub(crate) fn log_entry_item(alloc: Global, entry: &LogEntry) -> Result<Item, AllocError>
     ensures { IfOk result (λ item. value_of item ≡ log_entry entry.now) }
 {
@@ -126,7 +126,7 @@ pub(crate) fn log_entry_item(alloc: Global, entry: &LogEntry) -> Result<Item, Al
     Ok(Item::List(items))
 }
 
-/// `( change ... )`
+/// Makes `( change ... )`.
 fn changes_item(alloc: Global, changes: &ChangeList) -> Result<Item, AllocError>
     ensures { IfOk result (λ item. value_of item ≡ list (change_trees changes.now)) }
 {
@@ -138,7 +138,7 @@ fn changes_item(alloc: Global, changes: &ChangeList) -> Result<Item, AllocError>
     Ok(Item::List(items))
 }
 
-/// `( path action [ copy-path copy-rev ] ( kind text-mods prop-mods ) )`
+/// Makes `( path action [ copy-path copy-rev ] ( kind text-mods prop-mods ) )`.
 fn change_item(alloc: Global, logged: &LoggedChange) -> Result<Item, AllocError>
     ensures { IfOk result (λ item. value_of item ≡ change_tree logged.now) }
 {
@@ -149,7 +149,7 @@ fn change_item(alloc: Global, logged: &LoggedChange) -> Result<Item, AllocError>
     Ok(Item::List(items))
 }
 
-/// `( kind text-mods prop-mods )`
+/// Makes `( kind text-mods prop-mods )`.
 fn facts_item(alloc: Global, kind: NodeKind, change: &Change) -> Result<Item, AllocError>
     ensures { IfOk result (λ item. value_of item ≡ list (more (string (kind_word kind))
         (both (word (boolean_name change.now.text)) (word (boolean_name change.now.properties))))) }
@@ -160,7 +160,7 @@ fn facts_item(alloc: Global, kind: NodeKind, change: &Change) -> Result<Item, Al
     Ok(Item::List(items))
 }
 
-/// `[ copy-path copy-rev ]`
+/// Makes `[ copy-path copy-rev ]`.
 fn source_item(alloc: Global, source: &Option<Source>) -> Result<Item, AllocError>
     ensures { IfOk result (λ item. value_of item ≡ list (source_trees source.now)) }
 {
@@ -173,7 +173,7 @@ fn source_item(alloc: Global, source: &Option<Source>) -> Result<Item, AllocErro
     }
 }
 
-/// `( rev path )`
+/// Makes `( rev path )`.
 pub(crate) fn location_item(alloc: Global, revision: u64, path: &Path) -> Result<Item, AllocError>
     ensures { IfOk result (λ item. value_of item ≡ location_item revision path.now) }
 {
@@ -181,7 +181,7 @@ pub(crate) fn location_item(alloc: Global, revision: u64, path: &Path) -> Result
     list_item(alloc, [number_item(revision), path])
 }
 
-/// The letter of an action.
+/// Gives the letter of an action.
 fn action_name(action: Action) -> &'static [u8]
     ensures value { result.now ≡ action_word action }
     ensures is_word { IsWord (action_word action) }

@@ -4,8 +4,8 @@ ghost use Rattle.std.specs.List.{All, concat};
 ghost use Rattle.wire_replies.specs.Pieces.{pieces};
 ghost use Rattle.wire_replies.specs.declared.contents.TheConstants.{PIECE};
 
-/// The pieces of a text, one after another, are the text. None is empty, so that the empty string
-/// behind them is the only one.
+/// Shows that the pieces of a text, one after another, are the text. None is empty, so that the empty string after them
+/// is the only one.
 pub fn pieces_make_the_text()
     ensures whole { (text : List ℕ) → concat (pieces text) ≡ text }
     ensures sizes { (text : List ℕ) → All (λ piece. (0 < length piece) × (length piece ≤ PIECE))

@@ -30,7 +30,7 @@ impl Model for LockList {
 }
 
 impl LockList {
-    /// No locks.
+    /// Makes a list without locks.
     pub fn new(alloc: Global) -> Self
         ensures { result ≡ [] }
     {
@@ -39,7 +39,7 @@ impl LockList {
         }
     }
 
-    /// Copies of these paths and of the locks that stand there.
+    /// Makes copies of these paths and of the locks that stand there.
     pub fn copied(alloc: Global, found: &[(&Path, &Lock)]) -> Result<Self, AllocError>
         ensures { IfOk result (λ locks. locks ≡ map deref_pair found.now) }
     {
@@ -58,7 +58,7 @@ impl LockList {
         self.locks.push((path, lock)).map_err(AllocError::from)
     }
 
-    /// The paths with their locks, in the order in which they were put.
+    /// Gives the paths with their locks, in the order in which they were put.
     pub fn as_slice(&self) -> &[(Path, Lock)]
         ensures { result.now ≡ self.now }
     {
@@ -66,7 +66,7 @@ impl LockList {
     }
 }
 
-/// `( lock ... )`
+/// Makes `( lock ... )`.
 pub(crate) fn locks_item(alloc: Global, locks: &LockList) -> Result<Item, AllocError>
     ensures { IfOk result (λ item. value_of item ≡ list (lock_trees locks.now)) }
 {
@@ -77,7 +77,7 @@ pub(crate) fn locks_item(alloc: Global, locks: &LockList) -> Result<Item, AllocE
     Ok(Item::List(items))
 }
 
-/// `( path token owner [ comment ] created ( ) )`
+/// Makes `( path token owner [ comment ] created ( ) )`.
 pub(crate) fn lock_item(alloc: Global, path: &Path, lock: &Lock) -> Result<Item, AllocError>
     ensures { IfOk result (λ item. value_of item ≡ lock_tree path.now lock.now) }
 {

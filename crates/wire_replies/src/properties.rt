@@ -9,7 +9,7 @@ use items::Item;
 use repo_api::Properties;
 use std::alloc::{AllocError, Global};
 
-/// `( ( name value ) ... )`
+/// Makes `( ( name value ) ... )`.
 pub(crate) fn properties_item(alloc: Global, properties: &Properties) -> Result<Item, AllocError>
     ensures { IfOk result (λ item. value_of item ≡ list (property_trees properties.now)) }
 {

@@ -209,7 +209,7 @@ fn write_kind(kind: NodeKind, out: &mut Vec<u8>) -> Result<(), AllocError>
     }
 }
 
-/// `( success ( params ) )`
+/// Makes `( success ( params ) )`.
 fn success_item<const N: usize>(alloc: Global, params: [Item; N]) -> Result<Item, AllocError>
     ensures { IfOk result (λ item. value_of item ≡ success (values_of params.entry)) }
 {
@@ -218,7 +218,7 @@ fn success_item<const N: usize>(alloc: Global, params: [Item; N]) -> Result<Item
     list_item(alloc, [word, params])
 }
 
-/// `( success ( param ) )`, if the parameter was made.
+/// Makes `( success ( param ) )`, if the parameter was made.
 fn success_of(alloc: Global, param: Result<Item, AllocError>) -> Result<Item, AllocError>
     ensures { IfOk result (λ item. IsOkAnd param (λ made.
         value_of item ≡ success (only (value_of made)))) }
@@ -226,7 +226,7 @@ fn success_of(alloc: Global, param: Result<Item, AllocError>) -> Result<Item, Al
     success_item(alloc, [param?])
 }
 
-/// `( failure ( param ) )`
+/// Makes `( failure ( param ) )`.
 fn failure_item(alloc: Global, param: Item) -> Result<Item, AllocError>
     ensures { IfOk result (λ item. value_of item ≡ failure (only (value_of param))) }
 {
@@ -235,7 +235,7 @@ fn failure_item(alloc: Global, param: Item) -> Result<Item, AllocError>
     list_item(alloc, [word, params])
 }
 
-/// `( success ( ( mechanism ... ) realm ) )`
+/// Makes `( success ( ( mechanism ... ) realm ) )`.
 fn login_item(alloc: Global, offer: Offer, realm: &[u8]) -> Result<Item, AllocError>
     ensures { IfOk result (λ item. value_of item
         ≡ success (both (list (mechanism_trees offer)) (string realm.now))) }
@@ -245,7 +245,7 @@ fn login_item(alloc: Global, offer: Offer, realm: &[u8]) -> Result<Item, AllocEr
     success_item(alloc, [mechanisms, realm])
 }
 
-/// `( mechanism ... )`
+/// Makes `( mechanism ... )`.
 fn mechanisms_item(alloc: Global, offer: Offer) -> Result<Item, AllocError>
     ensures { IfOk result (λ item. value_of item ≡ list (mechanism_trees offer)) }
 {
@@ -260,7 +260,7 @@ fn mechanisms_item(alloc: Global, offer: Offer) -> Result<Item, AllocError>
     }
 }
 
-/// `( step ( challenge ) )`
+/// Makes `( step ( challenge ) )`.
 fn challenge_item(alloc: Global, text: &[u8]) -> Result<Item, AllocError>
     ensures { IfOk result (λ item. value_of item
         ≡ list (both (word (codes "step")) (list (only (string text.now))))) }
@@ -289,7 +289,7 @@ fn uuid_item(alloc: Global, uuid: u128) -> Result<Item, AllocError>
     string_item(alloc, text.as_bytes())
 }
 
-/// `( rev [ date ] [ author ] [ post-commit-err ] )`
+/// Makes `( rev [ date ] [ author ] [ post-commit-err ] )`.
 fn commit_info_item(
     alloc: Global,
     revision: u64,
@@ -307,7 +307,7 @@ fn commit_info_item(
     list_item(alloc, [number_item(revision), date, author, fault])
 }
 
-/// `[ post-commit-err ]`
+/// Makes `[ post-commit-err ]`.
 fn release_fault_item(alloc: Global, release_fails: bool) -> Result<Item, AllocError>
     ensures { IfOk result (λ item. value_of item ≡ list (release_fault release_fails)) }
 {

@@ -37,7 +37,7 @@ impl Model for MemorySink {
 }
 
 impl MemorySink {
-    /// Nothing is written yet.
+    /// Makes a sink to which nothing is written yet.
     pub fn new(alloc: Global) -> Self
         ensures { result ≡ [] }
     {
@@ -47,7 +47,7 @@ impl MemorySink {
         }
     }
 
-    /// What was written.
+    /// Gives what was written.
     pub fn into_bytes(self) -> Vec<u8>
         ensures { result.items ≡ self }
     {

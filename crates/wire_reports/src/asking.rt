@@ -23,7 +23,7 @@ pub struct DriveRequest {
     pub depth: Option<DepthWord>,
 }
 
-/// `( [ rev ] target recurse ? depth send-copyfrom )`
+/// Reads `( [ rev ] target recurse ? depth send-copyfrom )`.
 pub fn read_update(params: &[Item]) -> Result<DriveRequest, CommandFault>
     ensures { Reads result (update (values_of params.now)) }
 {
@@ -39,7 +39,7 @@ pub fn read_update(params: &[Item]) -> Result<DriveRequest, CommandFault>
     })
 }
 
-/// `? depth send-copyfrom`: the depth, if there is one.
+/// Reads `? depth send-copyfrom`: the depth, if there is one.
 fn read_depth_and_copies(items: &[Item]) -> Option<Option<DepthWord>>
     ensures { result ≡ copies_at_end (values_of items.now) }
 {
@@ -54,7 +54,7 @@ fn read_depth_and_copies(items: &[Item]) -> Option<Option<DepthWord>>
     }
 }
 
-/// `( [ rev ] target recurse url ? depth )`: what is asked for, and the URL.
+/// Reads `( [ rev ] target recurse url ? depth )`: what is asked for, and the URL.
 pub fn read_switch(params: &[Item]) -> Result<(DriveRequest, ByteString), CommandFault>
     ensures { Reads result (switch (values_of params.now)) }
 {
@@ -75,7 +75,7 @@ pub fn read_switch(params: &[Item]) -> Result<(DriveRequest, ByteString), Comman
     ))
 }
 
-/// `( target recurse ? [ rev ] ? depth )`
+/// Reads `( target recurse ? [ rev ] ? depth )`.
 pub fn read_status(params: &[Item]) -> Result<DriveRequest, CommandFault>
     ensures { Reads result (status (values_of params.now)) }
 {
@@ -91,7 +91,7 @@ pub fn read_status(params: &[Item]) -> Result<DriveRequest, CommandFault>
     })
 }
 
-/// `? [ rev ]`: the revision, if there is one, and what stands behind it.
+/// Reads `? [ rev ]`: the revision, if there is one, and what comes after it.
 fn read_revision_behind(items: &[Item]) -> Option<(Option<u64>, &[Item])>
     ensures { option_map (λ p. (p.0, values_of p.1.now)) result
         ≡ revision_behind (values_of items.now) }

@@ -15,7 +15,7 @@ pub enum DepthWord {
     Exclude,
 }
 
-/// What a word says of a depth.
+/// Reads what a word says of a depth.
 pub fn depth_word(word: &[u8]) -> Option<DepthWord>
     ensures { result ≡ depth_word word.now }
 {

@@ -9,7 +9,7 @@ use byte_string::ByteString;
 use items::Item;
 use wire_forms::read_optional_string;
 
-/// `? [ token ]`: the token, if there is one, and what stands behind it.
+/// Reads `? [ token ]`: the token, if there is one, and what comes after it.
 pub fn read_token(items: &[Item]) -> Option<(Option<&ByteString>, &[Item])>
     ensures { option_map (λ p. (option_map (λ token. token.now) p.0, values_of p.1.now)) result
         ≡ token_first (values_of items.now) }
@@ -21,7 +21,7 @@ pub fn read_token(items: &[Item]) -> Option<(Option<&ByteString>, &[Item])>
     }
 }
 
-/// `? depth`: the depth, if there is one.
+/// Reads `? depth`: the depth, if there is one.
 pub fn read_last_depth(items: &[Item]) -> Option<Option<DepthWord>>
     ensures { result ≡ depth_at_end (values_of items.now) }
 {

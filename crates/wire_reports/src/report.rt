@@ -42,8 +42,8 @@ pub enum ReportCommand {
 }
 
 impl ReportCommand {
-    /// The command that an item is: `( name ( params ) )`. Items behind the parameters that a
-    /// command knows are ignored.
+    /// Reads the command that an item is: `( name ( params ) )`. Items after the parameters that a command knows are
+    /// ignored.
     pub fn from_item(item: &Item) -> Result<ReportCommand, CommandFault>
         ensures { Answers result (report_command (value_of item.now)) }
     {
@@ -63,7 +63,7 @@ pub enum ReportName {
     AbortReport,
 }
 
-/// The command of a report that has this name.
+/// Finds the command of a report that has this name.
 fn report_name(name: &[u8]) -> Option<ReportName>
     ensures { result ≡ report_name name.now }
 {
@@ -82,7 +82,7 @@ fn report_name(name: &[u8]) -> Option<ReportName>
     }
 }
 
-/// The name of a command, if it is one of a report's; `None` for an item that is no command.
+/// Reads the name of a command, if it is one of a report's; `None` for an item that is not a command.
 pub fn read_name(item: &Item) -> Option<Option<ReportName>>
     ensures { result ≡ name_of (value_of item.now) }
 {
@@ -90,7 +90,7 @@ pub fn read_name(item: &Item) -> Option<Option<ReportName>>
     Some(report_name(name))
 }
 
-/// The command of a name that is known.
+/// Reads the command of a name that is known.
 fn read_command(name: ReportName, params: &[Item]) -> Result<ReportCommand, CommandFault>
     ensures { Reads result (report_command_with name (values_of params.now)) }
 {
@@ -103,7 +103,7 @@ fn read_command(name: ReportName, params: &[Item]) -> Result<ReportCommand, Comm
     }
 }
 
-/// `( path rev start-empty ? [ token ] ? depth )`
+/// Reads `( path rev start-empty ? [ token ] ? depth )`.
 fn read_set_path(params: &[Item]) -> Result<ReportCommand, CommandFault>
     ensures { Reads result (set_path (values_of params.now)) }
 {
@@ -111,7 +111,7 @@ fn read_set_path(params: &[Item]) -> Result<ReportCommand, CommandFault>
     Ok(ReportCommand::SetPath(read_reported_path(path, rest)?))
 }
 
-/// `( path url rev start-empty ? [ token ] ? depth )`
+/// Reads `( path url rev start-empty ? [ token ] ? depth )`.
 fn read_link_path(params: &[Item]) -> Result<ReportCommand, CommandFault>
     ensures { Reads result (link_path (values_of params.now)) }
 {
@@ -121,7 +121,7 @@ fn read_link_path(params: &[Item]) -> Result<ReportCommand, CommandFault>
     Ok(ReportCommand::LinkPath(reported, url.clone()?))
 }
 
-/// `( path )`
+/// Reads `( path )`.
 fn read_delete_path(params: &[Item]) -> Result<ReportCommand, CommandFault>
     ensures { Reads result (delete_path (values_of params.now)) }
 {
@@ -129,7 +129,7 @@ fn read_delete_path(params: &[Item]) -> Result<ReportCommand, CommandFault>
     Ok(ReportCommand::DeletePath(path.clone()?))
 }
 
-/// `rev start-empty ? [ token ] ? depth`
+/// Reads `rev start-empty ? [ token ] ? depth`.
 fn read_reported_path(path: &ByteString, items: &[Item]) -> Result<ReportedPath, CommandFault>
     ensures { Reads result (reported_path path.now (values_of items.now)) }
 {

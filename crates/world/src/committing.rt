@@ -24,7 +24,7 @@ use std::alloc::{AllocError, Global};
 use std::sync::Arc;
 use txntree::TxnTree;
 
-/// What is held after the commit, if it is accepted.
+/// Makes what is held after the commit, if it is accepted.
 pub(crate) fn with_commit(
     alloc: Global,
     held: &Held,
@@ -48,8 +48,8 @@ pub(crate) fn with_commit(
     Ok(next)
 }
 
-/// The tree of the next revision, if the commit is accepted: there is no conflict, no lock in its way, and
-/// a number left.
+/// Makes the tree of the next revision, if the commit is accepted: there is no conflict, no lock in its way, and a
+/// number left.
 fn judge(
     alloc: Global,
     held: &Held,
@@ -75,7 +75,7 @@ fn judge(
     Ok(tree)
 }
 
-/// The transaction's tree merged with the youngest revision, if they are in no conflict.
+/// Gives the transaction's tree merged with the youngest revision, if they are in no conflict.
 fn merged(alloc: Global, held: &Held, txn: &WorldTxn) -> Result<TxnTree, ChangeFault>
     requires sound { ∥ IsSoundRepo (held_state held.now) ∥₁ }
     requires rests { IsBeginning (txn_state_of txn.now).shown (revisions_of held.now) }
@@ -96,7 +96,7 @@ fn merged(alloc: Global, held: &Held, txn: &WorldTxn) -> Result<TxnTree, ChangeF
     }
 }
 
-/// Whether the locks in the way of the changes let the commit pass.
+/// Checks whether the locks in the way of the changes let the commit pass.
 fn check_locks(
     alloc: Global,
     locks: &Locks,
@@ -113,7 +113,7 @@ fn check_locks(
     locks.check(alloc, changes.as_map(), ask.author.as_ref(), tokens)
 }
 
-/// What is held after a revision with this tree and these changes, and with the properties that are asked for.
+/// Makes what is held after a revision with this tree and these changes, and with the properties that are asked for.
 fn with_tree(
     alloc: Global,
     held: &Held,

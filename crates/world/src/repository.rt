@@ -30,8 +30,8 @@ use std::sync::Arc;
 use svnpath::Path;
 
 impl World {
-    /// An empty repository: revision 0, whose date is the moment's, a count of microseconds since the
-    /// beginning of 1970.
+    /// Makes an empty repository: revision 0, whose date is the moment's, a count of microseconds since the beginning
+    /// of 1970.
     pub fn new(alloc: Global, uuid: u128, moment: u64) -> Result<Self, AllocError>
         requires { moment ≤ LAST_MOMENT }
         ensures { IfOk result (λ w. (date : List ℕ) × IsDateText moment date
@@ -203,7 +203,7 @@ impl Repository for World {
     }
 }
 
-/// What stands at the path in the youngest revision, and the revision of its last change.
+/// Says what exists at the path in the youngest revision, and the revision of its last change.
 pub(crate) fn standing(held: &Held, path: &Path) -> (NodeKind, Option<u64>)
     ensures kind { result.0
         ≡ kind_at (held_state held.now) (youngest (held_state held.now)) path.now }
@@ -221,7 +221,7 @@ pub(crate) fn refusal_of(held: &Held, ask: &PropertyAsk) -> Option<Refusal>
     property_refusal(held.youngest(), held.properties(ask.revision), ask)
 }
 
-/// What is held after a change of a property of a revision. What was shared before stays as it was.
+/// Makes what is held after a change of a property of a revision. What was shared before stays as it was.
 pub(crate) fn with_property(
     alloc: Global,
     held: &Held,
