@@ -11,6 +11,7 @@ use svndiff0::{Applier, encode_full};
 
 const SIZE: usize = 10_485_760;
 
+/// Appends a number as four bytes of seven bits, the highest first, also where fewer would do: 2^28 does not fit.
 fn put(document: &mut Vec<u8>, n: usize) -> Result<(), AllocError> {
     document.extend_from_slice(&[
         128 + (n / 2_097_152 % 128) as u8,
@@ -38,6 +39,7 @@ fn copies(alloc: Global) -> Result<Vec<u8>, AllocError> {
     Ok(document)
 }
 
+/// Applies a document to the base, fed in pieces of at most so many bytes, and gives the text. The first fault ends it.
 fn apply(alloc: Global, base: Arc<Vec<u8>>, document: &[u8], size: usize) -> Result<Arc<Vec<u8>>> {
     let mut applier = Applier::new(alloc, base);
     let mut rest = document;

@@ -4,6 +4,7 @@ use crate::{CommandLineFault, Location, Order, Service, read_command_line};
 use std::alloc::{AllocError, Global};
 use std::test::Fail;
 
+/// Reads a line, split at each space, as a command line. The outer `Err` is that memory ran out for the words.
 fn read(alloc: Global, line: &str) -> Result<Result<Order, CommandLineFault>, AllocError> {
     let mut words = Vec::new(alloc);
     for word in line.split(' ') {

@@ -77,6 +77,7 @@ pub(crate) fn are_words(items: &[Item]) -> bool
     true
 }
 
+/// Says whether one of the items is this word: a string of the same bytes is not.
 fn has_word(word: &[u8], items: &[Item]) -> bool
     ensures { result ≡ has_word word.now (values_of items.now) }
 {

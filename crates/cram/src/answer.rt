@@ -28,12 +28,14 @@ pub fn split_answer(answer: &[u8]) -> Option<(&[u8], &[u8])>
     }
 }
 
+/// Says whether each of the bytes is a lower-case hexadecimal digit.
 fn are_lower_digits(text: &[u8]) -> bool
     ensures { result ≡ list_all is_lower_digit text.now }
 {
     text.iter().all(|b| is_lower_digit(*b))
 }
 
+/// Says whether the byte is one of `0` to `9` or `a` to `f`.
 fn is_lower_digit(byte: u8) -> bool
     ensures { result ≡ is_lower_digit byte }
 {

@@ -62,6 +62,7 @@ impl Challenge {
         Ok(User::new(alloc, name)?)
     }
 
+    /// Gives the lower-case hexadecimal digits of the HMAC-MD5 of the challenge's text under this password.
     fn digits_under(&self, password: &[u8]) -> [u8; DIGITS_LEN]
         ensures { result ≡ digits_under password.now self.now }
     {

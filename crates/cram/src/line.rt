@@ -41,6 +41,7 @@ fn split_once(bytes: &[u8], separator: u8) -> Option<(&[u8], &[u8])>
     }
 }
 
+/// Gives the line without the CR at its end, if it has one. Only one is dropped.
 fn without_return(line: &[u8]) -> &[u8]
     ensures { result.now ≡ strip_carriage_return line.now }
 {
@@ -63,6 +64,8 @@ pub fn parse_line(line: &[u8]) -> ParsedLine<'_>
     }
 }
 
+/// Reads `name = password`, and drops the blanks before and after the first `=`. Without a `=`, or with a name or a
+/// password that no user may have, the line is `Wrong`.
 #[tactic(auto, unfolding(crate::specs::Line::pair_of))]
 fn parse_pair(line: &[u8]) -> ParsedLine<'_>
     ensures { said_by result ≡ pair_or_wrong (pair_of line.now) }
@@ -93,6 +96,7 @@ fn has_right_length(bytes: &[u8]) -> bool
     !bytes.is_empty() && bytes.len() <= MAX_LEN
 }
 
+/// Gives the bytes from the first one on that is no space and no tab, and none where there is no such byte.
 fn without_first_blanks(bytes: &[u8]) -> &[u8]
     ensures { result.now ≡ without_first_blanks bytes.now }
 {
@@ -100,6 +104,7 @@ fn without_first_blanks(bytes: &[u8]) -> &[u8]
     &bytes[count..]
 }
 
+/// Gives the bytes up to the last one that is no space and no tab, and none where there is no such byte.
 fn without_last_blanks(bytes: &[u8]) -> &[u8]
     ensures { result.now ≡ without_last_blanks bytes.now }
 {
@@ -107,6 +112,7 @@ fn without_last_blanks(bytes: &[u8]) -> &[u8]
     &bytes[..bytes.len() - count]
 }
 
+/// Says whether the byte is a space or a tab.
 fn is_blank(byte: u8) -> bool
     ensures { result ≡ is_blank byte }
 {

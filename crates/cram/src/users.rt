@@ -37,6 +37,7 @@ impl Model for User {
 impl User {
     ghost use Rattle.std.specs.Prelude.{◌≡◌, IfOk};
 
+    /// Makes the user of this name, with a copy of it. The name is not checked.
     pub(crate) fn new(alloc: Global, name: &[u8]) -> Result<User, AllocError>
         ensures { IfOk result (λ user. user ≡ name.now) }
     {
@@ -117,6 +118,8 @@ impl Users {
         None
     }
 
+    /// Adds a user at the end, with copies of its name and its password. Whether the name is there already is not
+    /// checked.
     fn add(&mut self, alloc: Global, name: &[u8], password: &[u8]) -> Result<(), AllocError>
         ensures { OnOk result (self.new ≡ self.old
             ++ record { name = name.now; password = password.now } ∷ []) }
@@ -143,6 +146,7 @@ impl Draft {
     ghost use Rattle.cram.specs.ParsedLine.{said_by};
     ghost use Rattle.cram.specs.UsersFile.{IsSaidBy, TakesLine};
 
+    /// Makes what a file says before its first line: no users, and no header.
     fn new(alloc: Global) -> Draft
         ensures { IsSaidBy [] result.has_header result.users }
     {
@@ -171,6 +175,8 @@ impl Draft {
         }
     }
 
+    /// Adds a user with its password. Before the header, or where a user of that name is there already, the answer is
+    /// `false`, and nothing is added.
     fn take_pair(&mut self, alloc: Global, name: &[u8], password: &[u8]) -> Result<bool, AllocError>
         ensures { (before : List Line) → IsSaidBy before self.old.has_header self.old.users →
             let line = pair (record { name = name.now; password = password.now }) in

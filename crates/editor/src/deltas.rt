@@ -139,6 +139,8 @@ impl<R: Repository> CommitEditor<R> {
         Ok(())
     }
 
+    /// Checks that a file is open under the token (otherwise `MalformedData`), and that it may be closed with this
+    /// checksum.
     fn judge_file_token(
         &self,
         token: &ByteString,
@@ -159,6 +161,8 @@ impl<R: Repository> CommitEditor<R> {
         }
     }
 
+    /// Checks that no delta is being read for the file (otherwise `MalformedData`), and that its text has this
+    /// checksum, if one is named (otherwise `ChecksumMismatch`).
     fn judge_text(
         &self,
         path: &Path,

@@ -126,6 +126,8 @@ impl<R: Repository> CommitEditor<R> {
         Ok(())
     }
 
+    /// Checks that the root is not open yet (otherwise `MalformedData`), and that the youngest revision has a directory
+    /// at the edit's path.
     fn judge_root(&self, repository: &R) -> Result<(), EditFault>
         ensures { Judges result (open_root_refusal (R.content repository.now) self.now) }
     {
@@ -156,6 +158,8 @@ impl<R: Repository> CommitEditor<R> {
         Ok(())
     }
 
+    /// Adds an entry at the path that it names: a copy if there is a source, something new if not. After an `Err` the
+    /// edit is as it was before.
     fn add_at(
         &mut self,
         is_file: bool,
@@ -354,6 +358,8 @@ impl<R: Repository> CommitEditor<R> {
         Ok(())
     }
 
+    /// Deletes an entry at the path that it names, and closes what is open at or under it. After an `Err` the edit is
+    /// as it was before.
     fn delete_at(
         &mut self,
         entry: &DeletedEntry,
@@ -375,6 +381,8 @@ impl<R: Repository> CommitEditor<R> {
         Ok(())
     }
 
+    /// Checks that the path is one name beneath its parent's directory (otherwise `MalformedData`), and that something
+    /// exists there, unchanged since the revision that the client has (otherwise `OutOfDate`).
     fn judge_delete(
         &self,
         entry: &DeletedEntry,
@@ -416,6 +424,8 @@ impl<R: Repository> CommitEditor<R> {
         Ok(())
     }
 
+    /// Checks that the token is new, that the path is beneath its parent's directory, and that a directory exists there
+    /// in the transaction.
     fn judge_open_directory(
         &self,
         entry: &OpenedEntry,
@@ -447,6 +457,8 @@ impl<R: Repository> CommitEditor<R> {
         Ok(())
     }
 
+    /// Checks that the token is new, that the path is beneath its parent's directory, and that a file exists there in
+    /// the transaction, unchanged since the revision that the client has.
     fn judge_open_file(
         &self,
         entry: &OpenedEntry,
@@ -486,6 +498,7 @@ impl<R: Repository> CommitEditor<R> {
         Ok(())
     }
 
+    /// Checks that a directory is open under the token. A file or nothing there is refused with `MalformedData`.
     fn judge_directory_token(&self, token: &ByteString) -> Result<(), EditFault>
         ensures { Judges result (close_directory_refusal (open_under self.now token.now)) }
     {
@@ -506,6 +519,8 @@ impl<R: Repository> CommitEditor<R> {
         }
     }
 
+    /// Checks that the root is open, that the token is new, and that the path is one name beneath the directory open
+    /// under the parent's token. Anything else is refused with `MalformedData`.
     fn judge_place(
         &self,
         parent: &ByteString,
@@ -518,6 +533,8 @@ impl<R: Repository> CommitEditor<R> {
         judge(placed, Refusal::MalformedData)
     }
 
+    /// Checks that the root is open, and that the path is one name beneath the directory open under the parent's token.
+    /// Anything else is refused with `MalformedData`.
     fn judge_parent(&self, parent: &ByteString, path: &Path) -> Result<(), EditFault>
         ensures { Judges result (parent_refusal self.now parent.now path.now) }
     {

@@ -40,10 +40,12 @@ fn made(edited: Result<(), EditFault>) -> Result<(), Fail> {
     }
 }
 
+/// Reads a path from its text: an invalid one fails the test.
 fn path(alloc: Global, text: &str) -> Result<Path, Fail> {
     Ok(Path::parse(alloc, text.as_bytes())?)
 }
 
+/// Makes the text of a file from a copy of the bytes.
 fn text(alloc: Global, bytes: &[u8]) -> Result<FileText, Fail> {
     let bytes = Arc::new(alloc, Vec::from_slice(alloc, bytes)?)?;
     Ok(FileText::from_shared(bytes))

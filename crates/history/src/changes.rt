@@ -48,6 +48,7 @@ fn is_any_touching(changes: &[(Path, Change)], path: &Path) -> bool
         .any(|entry| touches(path, &entry.0, &entry.1))
 }
 
+/// Says whether the change, which is at `at`, is at or under the path, or is a copy at or above it.
 fn touches(path: &Path, at: &Path, change: &Change) -> bool
     ensures { result ≡ touches path.now (at.now, change.now) }
 {

@@ -49,6 +49,7 @@ fn date_of(properties: &Properties) -> Option<&[u8]>
     None
 }
 
+/// Says whether the name is `svn:date`.
 fn is_date_name(name: &[u8]) -> bool
     ensures { result ≡ is_date_name name.now }
 {

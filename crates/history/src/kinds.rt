@@ -45,6 +45,7 @@ fn kind_before<R: Repository>(
     Ok(kind_in_place(repository, &before))
 }
 
+/// Gives the kind of what is at the place in its revision, and `Absent` where there is no place.
 fn kind_in_place<R: Repository>(repository: &R, place: &Option<Place>) -> NodeKind
     ensures { result ≡ kind_in_place (R.content repository.now) place.now }
 {

@@ -79,6 +79,8 @@ pub fn each_once(alloc: Global, revisions: &[u64]) -> Result<Vec<u64>, AllocErro
     Ok(once)
 }
 
+/// Gives the place's own path, if the trace that begins at it in the later revision passes through the place; otherwise
+/// `None`.
 fn location_on<R: Repository>(
     alloc: Global,
     repository: &R,

@@ -90,6 +90,7 @@ fn is_spent(left: Option<u64>) -> bool
     }
 }
 
+/// Takes one from how many revisions may still come: 0 stays 0, and `None`, which is no limit, stays `None`.
 fn one_less(left: Option<u64>) -> Option<u64>
     ensures { result ≡ one_less left }
 {

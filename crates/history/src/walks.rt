@@ -32,6 +32,8 @@ fn newest(heads: &[Option<Listed>]) -> Option<u64>
     newest
 }
 
+/// Gives the greater of the newest revision so far and the one that a walk has found, and `None` where there is
+/// neither.
 fn newer(newest: Option<u64>, head: &Option<Listed>) -> Option<u64>
     ensures { one_above result ≡ max (one_above newest) (above_head head.now) }
 {
@@ -177,6 +179,8 @@ fn first_heads<R: Repository>(
     Ok(heads)
 }
 
+/// Finds what the walk of this path finds first, from the greater of the two revisions back to the lesser, and `None`
+/// where it finds nothing.
 fn first_head<R: Repository>(
     alloc: Global,
     repository: &R,

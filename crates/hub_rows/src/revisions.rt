@@ -21,10 +21,12 @@ fn made(edited: Result<(), EditFault>) -> Result<(), Fail> {
     }
 }
 
+/// Reads a path from its text, which begins with `/`; a text that is refused gives a `Fail`.
 fn path(alloc: Global, text: &str) -> Result<Path, Fail> {
     Ok(Path::parse(alloc, text.as_bytes())?)
 }
 
+/// Makes a file's text of a copy of these bytes.
 fn text(alloc: Global, bytes: &[u8]) -> Result<FileText, Fail> {
     let bytes = Arc::new(alloc, Vec::from_slice(alloc, bytes)?)?;
     Ok(FileText::from_shared(bytes))

@@ -117,6 +117,8 @@ impl Write for Closing {
     }
 }
 
+/// Makes a reader that gives these bytes one by one, and after them the end, or a failure if `fails`. The first read
+/// is interrupted.
 fn drip(bytes: &'static [u8], fails: bool) -> Dripping {
     Dripping {
         bytes,

@@ -31,16 +31,19 @@ const ANSWER: &[u8] = b"( success ( ( ANONYMOUS ) 1:r ) ) ( success ( ) ) \
       ( success ( 36:00000000-0000-4000-8000-000000000000 9:svn://h/r ( ) ) ) \
       ( success ( ( ) 0: ) ) ( success ( 0 ) ) ";
 
+/// Makes a hub of the empty repository `r`, without further options.
 fn new_hub<R: InMemory>(alloc: Global) -> Result<Hub<SoleRepository<R>>, Fail> {
     let repository = R::empty(alloc, UUID, 0)?;
     let options = Options::new(alloc, "r")?;
     Ok(Hub::over_new(alloc, repository, options)?)
 }
 
+/// Makes the call that feeds all of `CLIENT` to session 1.
 fn feed_call(alloc: Global) -> Result<Call, AllocError> {
     Ok(Call::Feed(1, Vec::from_slice(alloc, CLIENT)?, ENV))
 }
 
+/// Gives the bytes that a call wrote, or `dropped` or `failed` for an outcome without any.
 fn wrote(outcome: &Outcome) -> &[u8] {
     match outcome {
         Outcome::Connected(_, out) => out.as_slice(),
@@ -144,6 +147,7 @@ impl Write for Noting {
     }
 }
 
+/// Makes the bytes that are these, so many times over.
 fn repeated(alloc: Global, bytes: &[u8], times: usize) -> Result<Vec<u8>, AllocError> {
     let mut all = Vec::new(alloc);
     for _ in 0..times {

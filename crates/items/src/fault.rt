@@ -5,6 +5,7 @@ ghost use Rattle.items.specs.Faults.{fault_of};
 use crate::reader::ItemFault;
 use crate::scan::Defect;
 
+/// Makes the reader's fault of a defect, which carries the place of the wrong byte.
 pub fn fault_at(defect: Defect, place: u64) -> ItemFault
     ensures { result ≡ fault_of defect place }
 {

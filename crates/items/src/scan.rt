@@ -104,6 +104,7 @@ fn skip_string(scan: Scan, room: usize) -> Option<(Scan, usize)>
     Some((behind, len as usize))
 }
 
+/// Says what a byte does, by where in an item it comes. If the item goes on, no more than `MAX_DEPTH` lists are open.
 #[tactic(auto, unfolding(crate::specs::Scan::step_in))]
 pub fn take_byte(scan: Scan, byte: u8) -> Step
     requires { scan.depth ≤ MAX_DEPTH }
@@ -120,24 +121,29 @@ pub fn take_byte(scan: Scan, byte: u8) -> Step
     }
 }
 
+/// Says whether a byte is a space or a line feed, the only whitespace of the stream.
 pub fn is_space(byte: u8) -> bool
     ensures { result ≡ is_space byte }
 {
     byte == b' ' || byte == b'\n'
 }
 
+/// Says whether a byte may follow the first of a word: an ASCII letter, a digit or a dash.
 pub fn is_word_byte(byte: u8) -> bool
     ensures { result ≡ is_word_byte byte }
 {
     byte.is_ascii_alphanumeric() || byte == b'-'
 }
 
+/// Makes the step by which the item goes on, with `depth` lists open and the next byte where `lex` says.
 fn on(depth: u64, lex: Lex) -> Step
     ensures { result ≡ Step.On (record { depth = depth; lex = lex }) }
 {
     Step::On(Scan { depth, lex })
 }
 
+/// Takes the byte after the last one of a word, a number, a string or a list, which has to be whitespace. It makes
+/// the item whole if no list is open; else the next byte comes between items.
 #[tactic(auto, unfolding(crate::specs::Scan::behind_body))]
 fn behind_body(depth: u64, byte: u8) -> Step
     requires { depth ≤ MAX_DEPTH }
@@ -154,6 +160,8 @@ fn behind_body(depth: u64, byte: u8) -> Step
     }
 }
 
+/// Takes a byte between items: whitespace, or one that begins an item or closes the innermost list. Any other byte is
+/// malformed, as is a `)` where no list is open; a `(` where `MAX_DEPTH` lists are open is too deep.
 #[tactic(auto, unfolding(crate::specs::Scan::gap_step))]
 fn in_gap(depth: u64, byte: u8) -> Step
     requires { depth ≤ MAX_DEPTH }
@@ -183,6 +191,7 @@ fn in_gap(depth: u64, byte: u8) -> Step
     }
 }
 
+/// Takes the byte after a `(`, which has to be whitespace.
 #[tactic(auto, unfolding(crate::specs::Scan::step_in))]
 fn behind_opening(depth: u64, byte: u8) -> Step
     requires { depth ≤ MAX_DEPTH }
@@ -196,6 +205,7 @@ fn behind_opening(depth: u64, byte: u8) -> Step
     }
 }
 
+/// Takes the byte after a word's first ones: it belongs to the word too, or has to be the whitespace that ends it.
 #[tactic(auto, unfolding(crate::specs::Scan::step_in))]
 fn in_word(depth: u64, byte: u8) -> Step
     requires { depth ≤ MAX_DEPTH }
@@ -209,6 +219,8 @@ fn in_word(depth: u64, byte: u8) -> Step
     }
 }
 
+/// Takes the byte after digits of the value `n`: a further digit, the `:` that makes `n` the length of a string, or
+/// whitespace. The value has to fit in 64 bits, and a string has `MAX_STRING` bytes at most.
 #[tactic(auto, unfolding(crate::specs::Scan::number_step))]
 fn in_number(depth: u64, n: u64, byte: u8) -> Step
     requires { depth ≤ MAX_DEPTH }
@@ -233,6 +245,7 @@ fn in_number(depth: u64, n: u64, byte: u8) -> Step
     }
 }
 
+/// Takes a byte of a string that lacks `left` bytes, whichever it is. If none are lacking, it has to be whitespace.
 #[tactic(auto, unfolding(crate::specs::Scan::step_in))]
 fn in_tail(depth: u64, left: u64, byte: u8) -> Step
     requires { depth ≤ MAX_DEPTH }

@@ -42,6 +42,7 @@ fn append_item(item: &Item, out: &mut Vec<u8>) -> Result<(), AllocError>
     }
 }
 
+/// Appends a list: its items between `( ` and `) `. An `Err` may leave a part of the bytes after the old ones.
 #[cycle(write)]
 fn append_list(items: &[Item], out: &mut Vec<u8>) -> Result<(), AllocError>
     ensures ok { OnOk result (out.new.items ≡ out.old.items ++ list_printed (values_of items.now)) }
@@ -73,6 +74,7 @@ pub fn append_number(n: u64, out: &mut Vec<u8>) -> Result<(), AllocError>
     out.push(b' ').map_err(AllocError::from)
 }
 
+/// Appends a number in decimal, without the space that ends an item. An `Err` leaves the old bytes at the front.
 fn append_digits(n: u64, out: &mut Vec<u8>) -> Result<(), AllocError>
     ensures ok { OnOk result (out.new.items ≡ out.old.items ++ decimal n) }
     ensures grows { Grows out.old.items out.new.items }

@@ -57,12 +57,14 @@ pub fn chosen(offered: Offer, name: &[u8]) -> Option<Mechanism>
     }
 }
 
+/// Says whether a login without a name is offered, alone or beside one as a user.
 fn offers_anonymous(offered: Offer) -> bool
     ensures { result ≡ offers_anonymous offered }
 {
     matches!(offered, Offer::Anonymous | Offer::AnonymousOrUser)
 }
 
+/// Says whether a login as a user is offered, alone or beside one without a name.
 fn offers_user(offered: Offer) -> bool
     ensures { result ≡ offers_user offered }
 {

@@ -109,24 +109,28 @@ pub fn is_repository_name(name: &str) -> bool
     has_name_length(bytes) && are_name_bytes(bytes) && !is_dots(bytes)
 }
 
+/// Says whether the name has 1 to 64 bytes.
 fn has_name_length(name: &[u8]) -> bool
     ensures { result ≡ has_name_length name.now }
 {
     0 < name.len() && name.len() <= NAME_LIMIT
 }
 
+/// Says whether a repository's name may have each of these bytes.
 fn are_name_bytes(name: &[u8]) -> bool
     ensures { result ≡ list_all is_name_byte name.now }
 {
     name.iter().all(|b| is_name_byte(*b))
 }
 
+/// Says whether the name is `.` or `..`.
 fn is_dots(name: &[u8]) -> bool
     ensures { result ≡ is_dots name.now }
 {
     name == b".".as_slice() || name == b"..".as_slice()
 }
 
+/// Says whether the byte is an ASCII letter or digit, `-`, `_` or `.`.
 fn is_name_byte(b: u8) -> bool
     ensures { result ≡ is_name_byte b }
 {

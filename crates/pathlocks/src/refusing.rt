@@ -74,6 +74,7 @@ pub(crate) fn first_refusal(
     None
 }
 
+/// Says whether the token is the lock's: it is not where there is none.
 fn is_token(token: Option<&ByteString>, lock: &Lock) -> bool
     ensures { result ≡ is_token (option_copied token.entry) lock.now }
 {
@@ -150,6 +151,7 @@ pub(crate) fn place_refusal(steals: bool, lock: Option<&Lock>, count: usize) -> 
     }
 }
 
+/// Gives the name of the user who is to own a lock: the empty one where there is no user.
 fn owner_of(alloc: Global, user: Option<ByteString>) -> ByteString
     ensures { result ≡ owner_of user }
 {

@@ -102,6 +102,7 @@ impl Line {
         Line::from_words(alloc, &words)
     }
 
+    /// Reads the line that these words make up. The fault is `Unknown` where they make up none.
     fn from_words(alloc: Global, words: &[&str]) -> Result<Line, LineFault> {
         match *words {
             ["hub", name, uuid, moment] => Ok(Line::Hub(parse_hub(alloc, name, uuid, moment)?)),

@@ -9,10 +9,12 @@ use std::alloc::Global;
 use store_files::{FileName, Left};
 use uuid::Uuid;
 
+/// Says whether a word has nothing but decimal digits, which is so of the empty word too.
 fn is_decimal(word: &str) -> bool {
     word.bytes().all(|b| b.is_ascii_digit())
 }
 
+/// Says whether a word has nothing but hexadecimal digits in lowercase, which is so of the empty word too.
 fn is_lower_hex(word: &str) -> bool {
     word.bytes()
         .all(|b| b.is_ascii_digit() || (b'a' <= b && b <= b'f'))

@@ -91,12 +91,14 @@ impl<P: Drop> Places<P> {
     }
 }
 
+/// Puts a value in a place, over what was there. Where another has the place's lock, nothing is put in.
 fn put<P: Drop>(place: &Mutex<Option<P>>, value: P) {
     if let Some(mut guard) = place.try_lock() {
         *guard = Some(value);
     }
 }
 
+/// Takes the value out of a place: `None` where the place is empty, or another has its lock.
 fn taken<P: Drop>(place: &Mutex<Option<P>>) -> Option<P> {
     let mut guard = place.try_lock()?;
     guard.take()
@@ -202,9 +204,11 @@ impl<T: Absorb<O> + Drop, O: Drop> Desk<T, O> {
 pub trait Carries<P>: Sized {
     ghost carried_value: { Self → P };
 
+    /// Makes what carries this value.
     fn carry(value: P) -> Self
         ensures { carried_value result ≡ value };
 
+    /// Gives the value that is carried.
     fn carried(&self) -> &P
         ensures { result.now ≡ carried_value self.now };
 }
@@ -223,6 +227,7 @@ impl<P: Drop> Carries<P> for Shown<P> {
 
 /// What sets a value to publish.
 pub trait Sets<P: Drop>: Sized {
+    /// Makes an operation that sets the value to what is put in these places.
     fn set(next: Arc<Places<P>>) -> Self;
 }
 

@@ -40,6 +40,7 @@ pub struct Entry {
 }
 
 impl Mark {
+    /// Says whether both are open, or both name the same revision and path.
     pub fn is_same(&self, other: &Mark) -> bool
         ensures { result ≡ same_mark self.now other.now }
     {
@@ -52,6 +53,7 @@ impl Mark {
         }
     }
 
+    /// Says whether the mark is open: it then names no revision and no path.
     pub fn is_open(&self) -> bool
         ensures { result ≡ is_open_mark self.now }
     {

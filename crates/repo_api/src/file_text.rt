@@ -72,6 +72,7 @@ impl FileText {
         }
     }
 
+    /// Gives the bytes of the text, lent out.
     pub fn as_slice(&self) -> &[u8]
         ensures { result.now ≡ self.now }
     {

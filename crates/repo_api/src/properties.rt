@@ -20,6 +20,7 @@ impl Model for Properties {
 }
 
 impl Properties {
+    /// Makes an empty list of properties.
     pub fn new(alloc: Global) -> Self
         ensures { result ≡ [] }
     {
@@ -42,6 +43,7 @@ impl Properties {
         self.values.get(name)
     }
 
+    /// Adds a property, or replaces its value where the name has one. An `Err` changes nothing.
     pub fn set(&mut self, name: ByteString, value: ByteString) -> Result<(), AllocError>
         ensures ok { OnOk result (self.new ≡ with_property self.old name value) }
         ensures err { OnErr result (self.new ≡ self.old) }
@@ -50,6 +52,7 @@ impl Properties {
         Ok(())
     }
 
+    /// Takes out the property of this name. Where there is none, nothing changes.
     pub fn remove(&mut self, name: &ByteString)
         ensures { self.new ≡ without_property self.old name.now }
     {

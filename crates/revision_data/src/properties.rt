@@ -84,6 +84,7 @@ fn set_author(
     }
 }
 
+/// Sets the property of this name in the list: a value that it had is replaced.
 fn set(
     alloc: Global,
     list: &mut Properties,

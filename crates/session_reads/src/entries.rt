@@ -93,6 +93,7 @@ fn has_properties<R: Repository>(view: &R, revision: u64, path: &Path) -> bool
     }
 }
 
+/// Says whether there is at least one property.
 fn are_any(properties: &Properties) -> bool
     ensures { result ≡ are_any properties.now }
 {

@@ -33,6 +33,7 @@ pub(crate) fn is_to_come<R: Repository>(view: &R, revision: u64) -> bool
     view.youngest() < revision
 }
 
+/// Says whether the kind is that of something that exists: a file or a directory.
 fn is_present(kind: NodeKind) -> bool
     ensures { result ≡ is_present kind }
 {

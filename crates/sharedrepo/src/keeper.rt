@@ -91,6 +91,7 @@ fn seat_all<
     Ok(all)
 }
 
+/// Makes a seat at this front, with this count of failures: it knows of no halt, and of no pending change.
 fn seat_at<
     R: Repository,
     J: Naming,

@@ -104,6 +104,8 @@ pub(crate) fn fill<R: Repository, J: Naming>(ready: Ready<R, J>, front: &Front<J
     places.fill(first, second);
 }
 
+/// Gives the fault of a change that could not be saved: `StoreFailed` where the device failed, else the fault of the
+/// same name.
 pub(crate) fn change_fault(fault: SaveFault) -> ChangeFault
     ensures { result ≡ fault_of fault }
 {

@@ -53,6 +53,7 @@ impl Fuse {
         }
     }
 
+    /// Says whether the one call that fails is over, so that all to come are passed on.
     fn is_blown(self) -> bool
         ensures { result ≡ is_blown self }
     {

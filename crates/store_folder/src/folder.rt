@@ -159,6 +159,7 @@ impl<R: Files + AllocGlobal + LockFolder + Drop, H: Held> FolderStore<R, H> {
     }
 }
 
+/// Gives the number by which a trouble is noted: 1 where the device failed, 2 where memory was refused.
 fn trouble_number(trouble: Trouble) -> u64
     ensures { result ≡ trouble_number trouble }
 {
@@ -168,6 +169,7 @@ fn trouble_number(trouble: Trouble) -> u64
     }
 }
 
+/// Gives the fault as which the store reports a trouble: it has the same name.
 fn store_fault(trouble: Trouble) -> StoreFault
     ensures { result ≡ fault_of trouble }
 {

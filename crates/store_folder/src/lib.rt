@@ -65,6 +65,7 @@ mod tests {
         Ok(())
     }
 
+    /// Makes `repo/db`, the name of the folder that the tests open.
     fn name(alloc: Global) -> Result<String, AllocError> {
         let mut name = String::new(alloc);
         name.push_str("repo/db")?;

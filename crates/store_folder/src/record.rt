@@ -17,6 +17,7 @@ impl Model for Record {
 }
 
 impl Record {
+    /// Makes a record of no calls.
     pub(crate) fn new() -> Record
         ensures { result.events ≡ [] }
     {

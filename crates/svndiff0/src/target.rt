@@ -22,6 +22,7 @@ pub enum Target {
 }
 
 impl Target {
+    /// Gives the bytes of the text so far, lent out, whoever holds it.
     pub fn as_slice(&self) -> &[u8]
         ensures { result.now ≡ target_bytes self.now }
     {

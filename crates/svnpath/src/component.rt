@@ -26,6 +26,7 @@ pub(crate) enum Spelling {
     PercentEncoded,
 }
 
+/// Says whether a component holds NUL, a line feed or `/`.
 fn holds_forbidden_byte(component: &[u8]) -> bool
     ensures { result ≡ list_any is_forbidden_byte component.now }
 {
@@ -34,12 +35,14 @@ fn holds_forbidden_byte(component: &[u8]) -> bool
         .any(|byte| *byte == 0 || *byte == b'\n' || *byte == b'/')
 }
 
+/// Says whether the bytes of a component are UTF-8.
 fn is_text(component: &[u8]) -> bool
     ensures { result ≡ is_utf8 component.now }
 {
     str::from_utf8(component).is_ok()
 }
 
+/// Says whether a component holds a forbidden byte, is `.` or `..`, or is not UTF-8. The empty one is not forbidden.
 fn is_forbidden(component: &[u8]) -> bool
     ensures { result ≡ is_forbidden component.now }
 {
@@ -49,6 +52,8 @@ fn is_forbidden(component: &[u8]) -> bool
         || !is_text(component)
 }
 
+/// Checks that a component is not empty, not forbidden and not too long; the first of these that fails is the
+/// fault.
 fn judge(component: &[u8]) -> Result<(), PathFault>
     ensures { MatchResult result (λ _. component_fault component.now ≡ None)
         (λ fault. component_fault component.now ≡ Some fault) }

@@ -42,6 +42,7 @@ impl Path {
         }
     }
 
+    /// Makes the path of these components, which are not checked here.
     pub(crate) fn from_components(components: Vec<ByteString>) -> Self
         ensures { result ≡ components.items }
     {
@@ -111,6 +112,7 @@ impl Path {
         Ok(Path { components })
     }
 
+    /// Copies the components of the path. It fails only if there is no memory.
     fn copied(&self) -> Result<Vec<ByteString>, AllocError>
         ensures { IfOk result (λ components. components.items ≡ self.now) }
     {
@@ -146,6 +148,7 @@ impl Path {
         self.components.len()
     }
 
+    /// Says whether this path is `/`, that is, has no components.
     pub fn is_root(&self) -> bool
         ensures { IsTrue result ↔ (self.now ≡ []) }
     {
@@ -197,18 +200,21 @@ impl Path {
     }
 }
 
+/// Gives the text without one leading `/`, or all of it where it has none.
 fn without_first_slash(text: &[u8]) -> &[u8]
     ensures { result.now ≡ without_first_slash text.now }
 {
     text.strip_prefix(b"/".as_slice()).unwrap_or(text)
 }
 
+/// Gives the text without one trailing `/`, or all of it where it has none.
 pub(crate) fn without_last_slash(text: &[u8]) -> &[u8]
     ensures { result.now ≡ without_last_slash text.now }
 {
     text.strip_suffix(b"/".as_slice()).unwrap_or(text)
 }
 
+/// Appends copies of the components, in their order. An `Err` may leave some of them appended.
 fn append_all(to: &mut Vec<ByteString>, items: &[ByteString]) -> Result<(), AllocError>
     ensures { IfOk result (λ _. to.new.items ≡ to.old.items ++ items.now) }
 {

@@ -106,18 +106,22 @@ fn is_root(alloc: Global, text: &[u8], name: &str) -> Result<bool, AllocError>
     }
 }
 
+/// Says whether none of the text's bytes begins a query or a fragment.
 fn are_before_query(text: &[u8]) -> bool
     ensures { result ≡ list_all is_before_query text.now }
 {
     text.iter().all(|b| is_before_query(*b))
 }
 
+/// Says whether a byte is neither `?` nor `#`.
 fn is_before_query(b: u8) -> bool
     ensures { result ≡ is_before_query b }
 {
     !(b == b'?' || b == b'#')
 }
 
+/// Reads a URL of any scheme. A text that is not UTF-8 or not a URL is `NotThisRepository`; an `Overflow` of `url`
+/// counts as `NoMemory`.
 pub(crate) fn read_url(alloc: Global, text: &[u8]) -> Result<Url, PathFault>
     ensures { AnswersPath result (read_url text.now) }
 {
@@ -131,6 +135,8 @@ pub(crate) fn read_url(alloc: Global, text: &[u8]) -> Result<Url, PathFault>
     }
 }
 
+/// Finds the path that a URL names in the repository of this name. It is `NotThisRepository` for another scheme, a
+/// path of the URL that does not begin with `/`, or another name; else the fault is as for `Path::parse`.
 pub(crate) fn path_of_url(alloc: Global, url: &Url, name: &str) -> Result<Path, PathFault>
     ensures value { AnswersPath result (path_of_url name.now url.now) }
     ensures right { IfOk result IsRightPath }
@@ -164,6 +170,7 @@ fn path_of_segments(alloc: Global, text: &[u8], name: &str) -> Result<Path, Path
     }
 }
 
+/// Finds the index of the first `/` in the text, or `None` if it has none.
 fn first_slash(text: &[u8]) -> Option<usize>
     ensures { result ≡ position is_slash text.now }
 {
@@ -181,6 +188,7 @@ fn split_first_part(text: &[u8]) -> (&[u8], Option<&[u8]>)
     }
 }
 
+/// Makes the root URL from what comes before the URL's path, then `/` and the name.
 fn root_of_url(alloc: Global, url: &Url, name: &str) -> Result<ByteString, AllocError>
     ensures { IfOk result (λ root. root ≡ root_of_url name.now url.now) }
 {

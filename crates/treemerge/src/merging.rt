@@ -211,6 +211,7 @@ fn copied(node: &OpenNode, alloc: Global) -> Result<OpenNode, AllocError>
     })
 }
 
+/// Makes a copy of a change, with the nodes under it.
 #[cycle(copied)]
 fn copied_change(change: &Change, alloc: Global) -> Result<Change, AllocError>
     ensures { IfOk result (λ c. (look : Look) (q : PathValue) → flat look (change_spot c) q
@@ -225,12 +226,14 @@ fn copied_change(change: &Change, alloc: Global) -> Result<Change, AllocError>
     }
 }
 
+/// Says whether the content is a directory's, and not a file's.
 fn is_directory(content: &Content) -> bool
     ensures { result ≡ is_directory_content content.now }
 {
     matches!(content, Content::Directory)
 }
 
+/// Says whether both are the same node, or both none.
 fn is_same(one: Option<NodeId>, other: Option<NodeId>) -> bool
     ensures same { IsTrue result → one ≡ other }
     ensures apart { result ≡ false → one ≡ other → ⊥ }
@@ -242,12 +245,14 @@ fn is_same(one: Option<NodeId>, other: Option<NodeId>) -> bool
     }
 }
 
+/// Says whether two changes were made in the same revision at the same path.
 fn same_own(one: &Made, other: &Made) -> bool
     ensures { result ≡ same_mark (mark_of one.now) (mark_of other.now) }
 {
     one.rev == other.rev && one.path == other.path
 }
 
+/// Says whether a mark names this revision and this path. One that is open never does.
 fn is_own(one: &Made, mark: &Mark) -> bool
     ensures { result ≡ same_mark (mark_of one.now) mark.now }
 {

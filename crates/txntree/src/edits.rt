@@ -180,6 +180,7 @@ impl OpenNode {
     }
 }
 
+/// Puts what a node holds behind a count, so that it can be shared.
 fn shared(alloc: Global, content: Content) -> Result<Arc<Content>, AllocError>
     ensures { IfOk result (λ c. arc_value c ≡ content) }
 {

@@ -42,6 +42,7 @@ impl OpenNode {
 }
 
 impl Change {
+    /// Gives what exists at a path from the changed entry on: `None` where nothing does, or the entry is gone.
     #[cycle(content)]
     fn content_at<'a>(&'a self, nodes: &'a Nodes, path: &[ByteString]) -> Option<&'a Content>
         ensures { option_copied result ≡ option_map (λ e. e.content)
@@ -53,6 +54,8 @@ impl Change {
         }
     }
 
+    /// Gives the revision that last changed what exists at a path from the changed entry on, at or under it: `None`
+    /// where the transaction has, and where nothing exists.
     #[cycle(made)]
     fn made_at(&self, nodes: &Nodes, path: &[ByteString]) -> Option<u64>
         ensures { result ≡ created_of (flat (node_at nodes.now) (change_spot self.now) path.now) }

@@ -249,6 +249,7 @@ fn refuses_lines(rt: HostRuntime) {
     }
 }
 
+/// Makes a users file of one user: the section's line, and `name = password` with no line feed after it.
 fn file_of(alloc: Global, name: &[u8], password: &[u8]) -> Result<Vec<u8>, AllocError> {
     let mut file = Vec::from_slice(alloc, b"[users]\n")?;
     file.extend_from_slice(name)?;

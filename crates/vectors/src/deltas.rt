@@ -46,6 +46,8 @@ fn apply(
     Ok((first.map(|(at, _)| at), shared))
 }
 
+/// Checks that the document gives the row's text without a fault, or the row's fault, at whatever byte it is cut. Fed
+/// byte by byte from its start, a document that breaks a rule shows its first fault at the row's byte, or at its end.
 fn check_row(rt: &impl Abort, alloc: Global, row: Row) -> Result<(), Fail> {
     let (base, document, want) = row;
     for cut in 0..=document.len() {

@@ -230,6 +230,7 @@ const BY_TEXT: [&str; 6] = ["/", "/a", "/a-b", "/a.b", "/a/b", "/ab"];
 
 const BY_COMPONENTS: [&str; 6] = ["/", "/a", "/a/b", "/a-b", "/a.b", "/ab"];
 
+/// Makes a map from the path of each of `TEXTS` to that text.
 fn new_map(alloc: Global) -> Result<BTreeMap<Path, &'static str>, PathFault> {
     let mut map = BTreeMap::new(alloc);
     for text in TEXTS {
@@ -238,6 +239,7 @@ fn new_map(alloc: Global) -> Result<BTreeMap<Path, &'static str>, PathFault> {
     Ok(map)
 }
 
+/// Makes a list of the paths of `TEXTS`, in the order they have there, each with its text.
 fn new_pairs(alloc: Global) -> Result<Vec<(Path, &'static str)>, PathFault> {
     let mut pairs = Vec::new(alloc);
     for text in TEXTS {

@@ -20,6 +20,7 @@ struct Place<'a> {
     rest: &'a [Item],
 }
 
+/// Reads `path parent token` in front, and what comes after: `None` where one of the three is missing or no string.
 fn read_place(items: &[Item]) -> Option<Place<'_>>
     ensures { option_map (λ p. (p.path.now, p.parent.now, p.token.now, values_of p.rest.now)) result
         ≡ place (values_of items.now) }
@@ -62,6 +63,7 @@ fn read_optional_source(items: &[Item]) -> Option<Option<(&ByteString, u64)>>
     }
 }
 
+/// Makes a copy of the path and revision that an entry is copied from, if there are any.
 fn copy_source(source: Option<(&ByteString, u64)>) -> Result<Option<(ByteString, u64)>, AllocError>
     ensures { IfOk result (λ copy. copy ≡ option_map (λ s. (s.0.now, s.1)) source.entry) }
 {

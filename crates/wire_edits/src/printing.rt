@@ -27,6 +27,7 @@ pub fn write_command(command: &EditorCommand, out: &mut Vec<u8>) -> Result<(), A
 
 // What follows appends bytes: an `Err` leaves a part of them behind the old ones.
 
+/// Appends the bytes of a command's item.
 fn append_command(command: &EditorCommand, out: &mut Vec<u8>) -> Result<(), AllocError>
     ensures ok { OnOk result (out.new.items
         ≡ out.old.items ++ printed (command_item command.now)) }

@@ -105,6 +105,7 @@ pub fn read_boolean(item: &Item) -> Option<bool>
     }
 }
 
+/// Gives the boolean that a word of these bytes stands for: `None` for any but `true` and `false`.
 fn boolean_named(name: &[u8]) -> Option<bool>
     ensures { result ≡ boolean (word name.now) }
 {

@@ -89,6 +89,7 @@ impl LoggedChange {
     }
 }
 
+/// Makes a copy of a change, with its source where it has one.
 fn copied_change(change: &Change) -> Result<Change, AllocError>
     ensures { IfOk result (λ copy. copy ≡ change.now) }
 {
@@ -100,6 +101,7 @@ fn copied_change(change: &Change) -> Result<Change, AllocError>
     })
 }
 
+/// Makes a copy of the source of a change, `None` where it has none.
 fn copied_source(source: &Option<Source>) -> Result<Option<Source>, AllocError>
     ensures { IfOk result (λ copy. copy ≡ source.now) }
 {

@@ -271,6 +271,7 @@ fn challenge_item(alloc: Global, text: &[u8]) -> Result<Item, AllocError>
     list_item(alloc, [word, params])
 }
 
+/// Makes `( success ( uuid root ( ) ) )`, whose list of capabilities is empty.
 fn repos_info_item(alloc: Global, uuid: u128, root: &[u8]) -> Result<Item, AllocError>
     ensures { IfOk result (λ item. value_of item
         ≡ success (more (string (uuid_text uuid)) (both (string root.now) (list none)))) }
@@ -281,6 +282,7 @@ fn repos_info_item(alloc: Global, uuid: u128, root: &[u8]) -> Result<Item, Alloc
     success_item(alloc, [uuid, root, capabilities])
 }
 
+/// Makes a string item of a UUID, in lowercase and with its hyphens.
 fn uuid_item(alloc: Global, uuid: u128) -> Result<Item, AllocError>
     ensures { IfOk result (λ item. value_of item ≡ string (uuid_text uuid)) }
 {
@@ -318,6 +320,7 @@ fn release_fault_item(alloc: Global, release_fails: bool) -> Result<Item, AllocE
     }
 }
 
+/// Makes `( failure ( ( number text file line ) ) )`, with an empty file and the line 0.
 fn refusal_item(alloc: Global, refusal: Refusal) -> Result<Item, AllocError>
     ensures { IfOk result (λ item. value_of item ≡ reply_item (Reply.Failure refusal)) }
 {
