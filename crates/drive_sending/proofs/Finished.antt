@@ -88,7 +88,8 @@ module _ (c : RepoState) (report : OpenState) (root : ReportRoot) where
   drive_may_be_sent vs trees target grafts finished plan = is_drive c Whole vs (plan_sendable c Whole trees target grafts vs plan) (root_stands finished) plan
 
 -- a drive that may be sent, as far as it is written
-pub drive_said : {T E : Type 0} (r : Result T E) (writes : List ℕ → Type 0) (c : RepoState) (report : WholeReport) (drive : List EditorCommand) → IsDrive c report drive
+pub drive_said : {T E : Type 0} (r : Result T E) (writes : List ℕ → Type 0) (c : RepoState) (report : WholeReport) (drive : List EditorCommand) → IsDrive c
+    report drive
     → Says r writes (drive_replies drive) → SaysDrive r writes c report
 drive_said (Ok x) writes c report drive is said = (drive, is, said)
 drive_said (Err e) writes c report drive is part = inr (drive, is, part)

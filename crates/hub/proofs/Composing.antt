@@ -144,7 +144,8 @@ module _ (rules : AccessRules) (s : Settings) (alone : StandsAlone rules) (count
       (subst (λ (b : Bool). InputStep s env phase input b (content_of serves.at) a) (sym same.1) serves.step_is)
 
   -- only an open session is gone so
-  leaves_open : (halted : Bool) (env : Env) (c : RepoState) (phase : Stage) (input : Input) (a : Answer) → UnreleasedStep env phase input halted c a → is_open phase ≡ true
+  leaves_open : (halted : Bool) (env : Env) (c : RepoState) (phase : Stage) (input : Input) (a : Answer) → UnreleasedStep env phase input halted c a
+      → is_open phase ≡ true
   leaves_open halted env c (Editing edit) input a step = refl
   leaves_open halted env c Greeted input a step = absurd step
   leaves_open halted env c (LoggingIn login) input a step = absurd step
@@ -240,7 +241,8 @@ module _ (rules : AccessRules) (s : Settings) (alone : StandsAlone rules) (count
       λ i. record { settings = s; content = w i; halted = e i; failures = k i; pending = o i; sessions = sessions i; used = used }
 
   one_more : (xs : List (ℕ × SessionState)) (used n : ℕ) (r : List ℕ) (env : Env) (p : Point) (phase : Stage) (input : Input) (inputs : List Input) (told : List Reply) (env' : Env) (p' : Point) (phase' : Stage)
-      (a : Answer) (q : Point) (more : List Reply) (serves : StepAt rules (InputStep s env phase input) p a q) (run : SessionRun rules s a.env q a.phase inputs more env' p' phase')
+      (a : Answer) (q : Point) (more : List Reply) (serves : StepAt rules (InputStep s env phase input) p a q)
+      (run : SessionRun rules s a.env q a.phase inputs more env' p' phase')
       → told ≡ a.replies ++ more → session_of xs n ≡ Some (record { rest = r; phase = phase })
       → HubRun (hub_at s q (kept xs n (record { rest = r; phase = a.phase })) used) a.env (events_of n inputs) more
       (hub_at s p' (kept (kept xs n (record { rest = r; phase = a.phase })) n (record { rest = r; phase = phase' })) used) env'

@@ -289,7 +289,8 @@ unlocks may env c client command path named accepted (Unknown x) of =
     halts_at (IsAskedBy env client (UnlockPath command)) may env c client (Unlocks (unlock_ask client command path)) x (Success ∷ []) (command, refl, path, named, refl) accepted of
 
 does_unlock : (may halted : Bool) (env : Env) (c : RepoState) (client : Client) (command : UnlockCommand) (path : Result PathValue PathFault) (a : Answer)
-    → joined client.path command.path ≡ path → UnlockStep env client command path halted c a → Does (IsAskedBy env client (UnlockPath command)) may halted env c a
+    → joined client.path command.path ≡ path → UnlockStep env client command path halted c a → Does (IsAskedBy env client (UnlockPath command)) may halted
+    env c a
 does_unlock may halted env c client command (Ok path) a named step =
     let ask = unlock_ask client command path in
     does_change (IsAskedBy env client (UnlockPath command)) may halted env c client (unlock_refusal c ask) (unlock_refusal c ask) (Unlocks ask)
@@ -357,7 +358,8 @@ does_logged_in : (halted : Bool) (s : Settings) (env : Env) (c : RepoState) (cli
 does_logged_in halted s env c client None a is = quiet a _ is (refl, refl, refl)
 does_logged_in halted s env c client (Some command) a step =
     does_as (IsAskedBy env client command) (IsWaiting env client (Some command)) a (λ e one. (command, refl, one))
-    (does_behind (IsAskedBy env client command) s.revprops halted env c (Success ∷ []) (OwnStep s env client command) a (λ r e. cc, tt) (own halted s env c client command) step)
+    (does_behind (IsAskedBy env client command) s.revprops halted env c (Success ∷ []) (OwnStep s env client command) a (λ r e. cc, tt)
+    (own halted s env c client command) step)
 
 does_choice : (halted : Bool) (s : Settings) (env : Env) (c : RepoState) (login : OpenLogin) (mechanism : Option Mechanism) (a : Answer)
     → ChoiceStep s env login mechanism halted c a → Does (IsWaiting env login.client login.waiting) s.revprops halted env c a

@@ -166,7 +166,8 @@ rests_editing halted env c edit (Err NoMemory) a rests is = rests_is c a _ is tt
 rests_quiet : (s : Settings) (c : RepoState) (a : Answer) → IsQuiet s a → EditRests a.phase c
 rests_quiet s c a quiet = rests_new s a.phase c quiet.new
 
-rests_step : (halted : Bool) (s : Settings) (env : Env) (c : RepoState) (phase : Stage) (input : Input) (a : Answer) → EditRests phase c → InputStep s env phase input halted c a → EditRests a.phase c
+rests_step : (halted : Bool) (s : Settings) (env : Env) (c : RepoState) (phase : Stage) (input : Input) (a : Answer) → EditRests phase c → InputStep s env
+    phase input halted c a → EditRests a.phase c
 rests_step halted s env c Greeted (Whole t) a rests step = rests_quiet s c a (quiet_input s halted env c Greeted (Whole t) a (λ h. h) step)
 rests_step halted s env c (LoggingIn login) (Whole t) a rests step = rests_quiet s c a (quiet_input s halted env c (LoggingIn login) (Whole t) a (λ h. h) step)
 rests_step halted s env c (Challenged pending) (Whole t) a rests step = rests_quiet s c a (quiet_input s halted env c (Challenged pending) (Whole t) a (λ h. h) step)
@@ -196,7 +197,8 @@ changes_keep : (c : RepoState) (es : List Accepted) → IsBeginning c.revisions 
 changes_keep c [] = begins c.revisions
 changes_keep c (e ∷ es) = beginning_trans c.revisions (changed c e).revisions (changed_all (changed c e) es).revisions (change_keeps c e) (changes_keep (changed c e) es)
 
-pub rests_on : (halted : Bool) (s : Settings) (env : Env) (c : RepoState) (phase : Stage) (input : Input) (a : Answer) → EditRests phase c → InputStep s env phase input halted c a → EditRests a.phase (content_after c a.effect)
+pub rests_on : (halted : Bool) (s : Settings) (env : Env) (c : RepoState) (phase : Stage) (input : Input) (a : Answer) → EditRests phase c → InputStep s env
+    phase input halted c a → EditRests a.phase (content_after c a.effect)
 rests_on halted s env c phase input a rests step = rests_trans a.phase c (content_after c a.effect) (rests_step halted s env c phase input a rests step) (changes_keep c a.effect.changes)
 
 module _ (rules : AccessRules)

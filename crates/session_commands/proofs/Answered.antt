@@ -30,12 +30,14 @@ moves env client (Err fault) = refl
 
 module _ (rules : AccessRules) (step : Step) {p q : Point} (before : List Reply) (later : rules.between p q) where
   -- an answer that changes nothing
-  pub answered : (a : Answer) → step q.halted (content_of q) a → a.effect ≡ no_effect → (writes : List ℕ → Type 0) → {E : Type 0} (r : Result Stage E) (env' : Env)
+  pub answered : (a : Answer) → step q.halted (content_of q) a → a.effect ≡ no_effect → (writes : List ℕ → Type 0) → {E : Type 0} (r : Result Stage E)
+      (env' : Env)
       → Answered r env' writes (behind before a) → Stepped r env' writes rules p q (Behind before step)
   answered a is nothing writes r env' told = said rules (Behind before step) p q (behind before a) later (a, is, refl) nothing writes r env' told
 
   -- a report that begins, if it could be made
-  pub opened : (env : Env) (client : Client) (told : ReportState) → step q.halted (content_of q) (says env (Reporting (record { client = client; report = told })) [])
+  pub opened : (env : Env) (client : Client) (told : ReportState) → step q.halted (content_of q)
+      (says env (Reporting (record { client = client; report = told })) [])
       → (writes : List ℕ → Type 0) → {E F : Type 0} (report : Result ReportState F) (r : Result Stage E) (env' : Env) → IfOk report (λ made. made ≡ told)
       → ((x : ReportState) → IfOk report (λ made. made ≡ x)
       → Answered r env' writes (behind before (says env (Reporting (record { client = client; report = x })) [])))

@@ -162,7 +162,8 @@ module _ {env : Env} {client : Client} {asked : CommitParameters} {date : List �
         )
 
   -- one that is refused, or not written, or lacks memory
-  led : (at : Point) (a : Answer) → rules.between p at → Closes at.halted (content_of at) a → EffectAt rules at a.effect q → Leads rules Closes p q a.env a.phase a.replies
+  led : (at : Point) (a : Answer) → rules.between p at → Closes at.halted (content_of at) a → EffectAt rules at a.effect q → Leads rules Closes p q a.env
+      a.phase a.replies
   led at a later step_is moves = leads_by a at later step_is moves
 
   pub not_committed : (fault : ChangeFault) → Came (Err fault) → {E : Type 0} (r : Result Stage E) (env' : Env) (writes : List ℕ → Type 0)
@@ -205,5 +206,6 @@ close_edit CloseEdit is = refl
 close_edit AbortEdit is = cc
 
 pub ends_so : (env : Env) (edit : MachineEdit) (command : EditorCommand) → ending_of command ≡ Some ToCommit → (at : Point) (a : Answer)
-    → UnreleasedClose env edit.client edit.asked (finished edit.editor) at.halted (content_of at) a → UnreleasedEnd env edit (Ok command) at.halted (content_of at) a
+    → UnreleasedClose env edit.client edit.asked (finished edit.editor) at.halted (content_of at) a → UnreleasedEnd env edit (Ok command) at.halted
+    (content_of at) a
 ends_so env edit command is at a closed = (ap Ok (close_edit command is), closed)

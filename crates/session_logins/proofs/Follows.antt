@@ -17,7 +17,8 @@ module _ (rules : AccessRules) (first step : Step)
     moves = happens.moves;
   }
 
-  pub follows : (writes : List ℕ → Type 0) {E : Type 0} (r : Result Stage E) (env' : Env) → Stepped r env' writes rules p q first → Stepped r env' writes rules p q step
+  pub follows : (writes : List ℕ → Type 0) {E : Type 0} (r : Result Stage E) (env' : Env) → Stepped r env' writes rules p q first → Stepped r env' writes
+      rules p q step
   follows writes (Ok phase') env' done = record {
     answer = done.answer;
     happens = step_at done.answer done.happens;

@@ -105,7 +105,8 @@ module _ (rules : AccessRules) (step part : Step) (p q : Point) (writes : List �
     part_is (inl whole) = inl whole
     part_is (inr (a, s, unwritten)) = inr (a, record { at = s.at; later = s.later; step_is = is s.at a s.step_is; moves = s.moves }, unwritten)
 
-    pub parted : {E : Type 0} (r : Result Stage E) (env' : Env) → SteppedInPart r env' writes rules p q step part → SteppedInPart r env' writes rules p q step part'
+    pub parted : {E : Type 0} (r : Result Stage E) (env' : Env) → SteppedInPart r env' writes rules p q step part → SteppedInPart r env' writes rules p q
+        step part'
     parted (Ok phase') env' s = s
     parted (Err e) env' s = part_is s
 

@@ -58,11 +58,13 @@ module _ (rules : AccessRules) (env : Env) (client : Client) (report : OpenState
       only_says later (Drives drive, finishes (content_of q) report (Ok root) (Drives drive) is (drive, refl, trees, is_drive), refl)
 
   -- or why there is none
-  pub fails : (r : Refusal) → finish_root (content_of q) report ≡ Err r → Draws env client (EndStep report) q.halted (content_of q) (drawn_answer env client (Fails r))
+  pub fails : (r : Refusal) → finish_root (content_of q) report ≡ Err r → Draws env client (EndStep report) q.halted (content_of q)
+      (drawn_answer env client (Fails r))
   fails r is = (Fails r, finishes (content_of q) report (Err r) (Fails r) is refl, refl)
 
   -- or memory or the sink failed
-  pub lost : (writes : List ℕ → Type 0) → IsUnanswered (content_of q) report writes faults.NoMemory → StepOrNothing rules (Draws env client (EndStep report)) p q writes
+  pub lost : (writes : List ℕ → Type 0) → IsUnanswered (content_of q) report writes faults.NoMemory → StepOrNothing rules
+      (Draws env client (EndStep report)) p q writes
   lost writes (inl nothing) = inl (later, nothing)
   lost writes (inr (root, is, inl nothing)) = inl (later, nothing)
   lost writes (inr (root, is, inr (drive, is_drive, part))) = told_part (drives root drive is is_drive) writes part

@@ -48,6 +48,7 @@ module _ {S : Type 0} (writes : S → S → List ℕ → Type 0) (more : (s t u 
   }
 
   -- replies, and then others, as far as they are written
-  pub said_behind : {T E : Type 0} (r : Result T E) (s t u : S) (first second : List Reply) → writes s t (print first) → Says r (writes t u) second → Says r (writes s u) (first ++ second)
+  pub said_behind : {T E : Type 0} (r : Result T E) (s t u : S) (first second : List Reply) → writes s t (print first) → Says r (writes t u) second → Says r
+      (writes s u) (first ++ second)
   said_behind (Ok x) s t u first second before said = both_written s t u first second before said
   said_behind (Err e) s t u first second before part = part_behind s t u first second before part

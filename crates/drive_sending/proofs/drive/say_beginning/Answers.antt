@@ -10,7 +10,8 @@ use Rattle.drive_sending.proofs.drive.say_beginning.Goals as goal
 pub returns-in_err-say_made : goal.returns-in_err-say_made
 returns-in_err-say_made g c =
     let p = err_from_is_err_and c.from_residual.result c.from_residual.ensures.1 in
-    rw (p.1) (first_part _ (TargetRevision c.args.revision ∷ []) (OpenRoot (Some c.args.root.revision) (token_of DirectoryKind 0) ∷ []) (c.in_err-say_made.ensures (TargetRevision c.args.revision) refl))
+    rw (p.1) (first_part _ (TargetRevision c.args.revision ∷ []) (OpenRoot (Some c.args.root.revision) (token_of DirectoryKind 0) ∷ [])
+    (c.in_err-say_made.ensures (TargetRevision c.args.revision) refl))
 
 pub returns : goal.returns
 returns g c =

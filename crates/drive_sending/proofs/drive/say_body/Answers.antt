@@ -13,7 +13,13 @@ pub returns-in_err-say_root : goal.returns-in_err-say_root
 returns-in_err-say_root g c =
     let p = err_from_is_err_and c.from_residual.result c.from_residual.ensures.1 in
     let v = some_visits (g.R.Repository.content c.args.trees.now.view.now) (whole c.args.trees.now.report.now c.args.trees.now.root) c.args.visitor.now.open.items in
-    rw (p.1) (v.0, v.1, first_part _ (root_commands (g.R.Repository.content c.args.trees.now.view.now) (whole c.args.trees.now.report.now c.args.trees.now.root)) (plan_commands (g.R.Repository.content c.args.trees.now.view.now) (whole c.args.trees.now.report.now c.args.trees.now.root) 0 v.0 ++ CloseDirectory (token_of DirectoryKind 0) ∷ []) (c.in_err-say_root.ensures))
+    rw (p.1) (
+      v.0,
+      v.1,
+      first_part _ (root_commands (g.R.Repository.content c.args.trees.now.view.now)
+          (whole c.args.trees.now.report.now c.args.trees.now.root)) (plan_commands (g.R.Repository.content c.args.trees.now.view.now)
+          (whole c.args.trees.now.report.now c.args.trees.now.root) 0 v.0 ++ CloseDirectory (token_of DirectoryKind 0) ∷ []) (c.in_err-say_root.ensures),
+    )
 
 pub returns : goal.returns
 returns g c =

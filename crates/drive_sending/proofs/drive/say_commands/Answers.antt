@@ -14,7 +14,13 @@ pub returns-in_err-say_beginning : goal.returns-in_err-say_beginning
 returns-in_err-say_beginning g c =
     let p = err_from_is_err_and c.from_residual.result c.from_residual.ensures.1 in
     let v = some_visits (g.R.Repository.content c.args.trees.now.view.now) (whole c.args.trees.now.report.now c.args.trees.now.root) c.args.visitor.now.open.items in
-    rw (p.1) (v.0, v.1, first_part _ (TargetRevision c.args.trees.now.report.now.ask.revision ∷ OpenRoot (Some c.args.trees.now.root.revision) (token_of DirectoryKind 0) ∷ []) (body_commands (g.R.Repository.content c.args.trees.now.view.now) (whole c.args.trees.now.report.now c.args.trees.now.root) v.0 ++ CloseEdit ∷ []) (c.in_err-say_beginning.ensures))
+    rw (p.1) (
+      v.0,
+      v.1,
+      first_part _ (TargetRevision c.args.trees.now.report.now.ask.revision ∷ OpenRoot (Some c.args.trees.now.root.revision)
+          (token_of DirectoryKind 0) ∷ []) (body_commands (g.R.Repository.content c.args.trees.now.view.now)
+          (whole c.args.trees.now.report.now c.args.trees.now.root) v.0 ++ CloseEdit ∷ []) (c.in_err-say_beginning.ensures),
+    )
 
 pub returns : goal.returns
 returns g c =

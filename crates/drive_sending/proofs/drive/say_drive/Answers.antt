@@ -10,8 +10,10 @@ invariant_of-trees g c = record { together = all_trees_hold (g.R.Repository.cont
 pub returns : goal.returns
 returns g c =
     let v = c.say_planned.ensures in
-    drive_said c.say_planned.result (g.S.ReplySink.writes c.args.out.now c.say_planned.new.out) (g.R.Repository.content c.args.view.now) (whole c.args.report.now c.args.root)
+    drive_said c.say_planned.result (g.S.ReplySink.writes c.args.out.now c.say_planned.new.out) (g.R.Repository.content c.args.view.now)
+    (whole c.args.report.now c.args.root)
     (drive_of (g.R.Repository.content c.args.view.now) (whole c.args.report.now c.args.root) v.0)
-    (drive_may_be_sent (g.R.Repository.content c.args.view.now) c.args.report.now c.args.root v.0 c.requires.trees c.are_named.ensures.target c.are_named.ensures.grafts
+    (drive_may_be_sent (g.R.Repository.content c.args.view.now) c.args.report.now c.args.root v.0 c.requires.trees c.are_named.ensures.target
+    c.are_named.ensures.grafts
     c.requires.finished (c.in_ok-visitor.ensures v.0 v.1))
     v.2

@@ -9,7 +9,9 @@ use Rattle.drive_sending.proofs.telling.say_file_news.Goals as goal
 pub returns-in_err-say_properties : goal.returns-in_err-say_properties
 returns-in_err-say_properties g c =
     let p = err_from_is_err_and c.from_residual.result c.from_residual.ensures.1 in
-    rw (p.1) (first_part _ (map (property_command FileKind c.args.token.now) c.args.news.now.changes) (text_commands c.args.token.now c.args.news.now.text ++ CloseFile c.args.token.now (checksum_sent c.args.purpose c.args.news.now.text) ∷ []) (c.in_err-say_properties.ensures))
+    rw (p.1) (first_part _ (map (property_command FileKind c.args.token.now) c.args.news.now.changes)
+    (text_commands c.args.token.now c.args.news.now.text ++ CloseFile c.args.token.now (checksum_sent c.args.purpose c.args.news.now.text) ∷ [])
+    (c.in_err-say_properties.ensures))
 
 pub returns : goal.returns
 returns g c =

@@ -8,7 +8,8 @@ use Rattle.drive_sending.proofs.texts.say_file_end.Goals as goal
 pub returns-in_err-say_sent : goal.returns-in_err-say_sent
 returns-in_err-say_sent g c =
     let p = err_from_is_err_and c.from_residual.result c.from_residual.ensures.1 in
-    rw (p.1) (first_part _ (text_commands c.args.token.now c.args.text.now) (CloseFile c.args.token.now (checksum_sent c.args.purpose c.args.text.now) ∷ []) (c.in_err-say_sent.ensures))
+    rw (p.1) (first_part _ (text_commands c.args.token.now c.args.text.now) (CloseFile c.args.token.now (checksum_sent c.args.purpose c.args.text.now) ∷ [])
+    (c.in_err-say_sent.ensures))
 
 pub returns : goal.returns
 returns g c =

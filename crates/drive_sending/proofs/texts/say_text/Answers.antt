@@ -11,20 +11,31 @@ use Rattle.drive_sending.proofs.texts.say_text.Goals as goal
 pub returns-in_err-say_made : goal.returns-in_err-say_made
 returns-in_err-say_made g c =
     let p = err_from_is_err_and c.from_residual.result c.from_residual.ensures.1 in
-    rw (p.1) (first_part _ (ApplyTextDelta c.args.token.now None ∷ []) (TextDeltaChunk c.args.token.now header ∷ (map (TextDeltaChunk c.args.token.now) (windows (div_ceil (length c.args.text.now) 65536) c.args.text.now) ++ TextDeltaEnd c.args.token.now ∷ [])) (c.in_err-say_made.ensures (ApplyTextDelta c.args.token.now None) c.beginning.ensures))
+    rw (p.1) (first_part _ (ApplyTextDelta c.args.token.now None ∷ []) (TextDeltaChunk c.args.token.now header
+    ∷ (map (TextDeltaChunk c.args.token.now) (windows (div_ceil (length c.args.text.now) 65536) c.args.text.now) ++ TextDeltaEnd c.args.token.now ∷ []))
+    (c.in_err-say_made.ensures (ApplyTextDelta c.args.token.now None) c.beginning.ensures))
 
 pub returns-in_err-say_made-2 : goal.returns-in_err-say_made-2
 returns-in_err-say_made-2 g c =
     let p = err_from_is_err_and c.from_residual-in_err-say_made-2.result c.from_residual-in_err-say_made-2.ensures.1 in
-    rw (p.1) (behind_part _ g.met.S.ReplySink.more _ _ _ (ApplyTextDelta c.args.token.now None ∷ []) (TextDeltaChunk c.args.token.now header ∷ (map (TextDeltaChunk c.args.token.now) (windows (div_ceil (length c.args.text.now) 65536) c.args.text.now) ++ TextDeltaEnd c.args.token.now ∷ [])) (c.in_ok-say_made.ensures (ApplyTextDelta c.args.token.now None) c.beginning.ensures)
-    (first_part _ (TextDeltaChunk c.args.token.now header ∷ []) (map (TextDeltaChunk c.args.token.now) (windows (div_ceil (length c.args.text.now) 65536) c.args.text.now) ++ TextDeltaEnd c.args.token.now ∷ []) (c.in_err-say_made-2.ensures (TextDeltaChunk c.args.token.now header) c.header.ensures)))
+    rw (p.1) (behind_part _ g.met.S.ReplySink.more _ _ _ (ApplyTextDelta c.args.token.now None ∷ [])
+    (TextDeltaChunk c.args.token.now header ∷ (map (TextDeltaChunk c.args.token.now) (windows (div_ceil (length c.args.text.now) 65536) c.args.text.now)
+    ++ TextDeltaEnd c.args.token.now ∷ [])) (c.in_ok-say_made.ensures (ApplyTextDelta c.args.token.now None) c.beginning.ensures)
+    (first_part _ (TextDeltaChunk c.args.token.now header ∷ []) (map (TextDeltaChunk c.args.token.now)
+    (windows (div_ceil (length c.args.text.now) 65536) c.args.text.now) ++ TextDeltaEnd c.args.token.now ∷ [])
+    (c.in_err-say_made-2.ensures (TextDeltaChunk c.args.token.now header) c.header.ensures)))
 
 pub returns-in_err-say_windows : goal.returns-in_err-say_windows
 returns-in_err-say_windows g c =
     let p = err_from_is_err_and c.from_residual-in_err-say_windows.result c.from_residual-in_err-say_windows.ensures.1 in
-    rw (p.1) (behind_part _ g.met.S.ReplySink.more _ _ _ (ApplyTextDelta c.args.token.now None ∷ []) (TextDeltaChunk c.args.token.now header ∷ (map (TextDeltaChunk c.args.token.now) (windows (div_ceil (length c.args.text.now) 65536) c.args.text.now) ++ TextDeltaEnd c.args.token.now ∷ [])) (c.in_ok-say_made.ensures (ApplyTextDelta c.args.token.now None) c.beginning.ensures)
-    (behind_part _ g.met.S.ReplySink.more _ _ _ (TextDeltaChunk c.args.token.now header ∷ []) (map (TextDeltaChunk c.args.token.now) (windows (div_ceil (length c.args.text.now) 65536) c.args.text.now) ++ TextDeltaEnd c.args.token.now ∷ []) (c.in_ok-say_made-2.ensures (TextDeltaChunk c.args.token.now header) c.header.ensures)
-    (first_part _ (map (TextDeltaChunk c.args.token.now) (windows (div_ceil (length c.args.text.now) 65536) c.args.text.now)) (TextDeltaEnd c.args.token.now ∷ []) c.in_err-say_windows.ensures)))
+    rw (p.1) (behind_part _ g.met.S.ReplySink.more _ _ _ (ApplyTextDelta c.args.token.now None ∷ [])
+    (TextDeltaChunk c.args.token.now header ∷ (map (TextDeltaChunk c.args.token.now) (windows (div_ceil (length c.args.text.now) 65536) c.args.text.now)
+    ++ TextDeltaEnd c.args.token.now ∷ [])) (c.in_ok-say_made.ensures (ApplyTextDelta c.args.token.now None) c.beginning.ensures)
+    (behind_part _ g.met.S.ReplySink.more _ _ _ (TextDeltaChunk c.args.token.now header ∷ [])
+    (map (TextDeltaChunk c.args.token.now) (windows (div_ceil (length c.args.text.now) 65536) c.args.text.now) ++ TextDeltaEnd c.args.token.now ∷ [])
+    (c.in_ok-say_made-2.ensures (TextDeltaChunk c.args.token.now header) c.header.ensures)
+    (first_part _ (map (TextDeltaChunk c.args.token.now) (windows (div_ceil (length c.args.text.now) 65536) c.args.text.now))
+    (TextDeltaEnd c.args.token.now ∷ []) c.in_err-say_windows.ensures)))
 
 pub returns : goal.returns
 returns g c =
@@ -35,5 +46,6 @@ returns g c =
     (sent_behind _ g.met.S.ReplySink.more c.say_made-3.result _ _ _ (TextDeltaChunk c.args.token.now header ∷ [])
     (map (TextDeltaChunk c.args.token.now) (windows (div_ceil (length c.args.text.now) 65536) c.args.text.now) ++ TextDeltaEnd c.args.token.now ∷ [])
     (c.in_ok-say_made-2.ensures (TextDeltaChunk c.args.token.now header) c.header.ensures)
-    (sent_behind _ g.met.S.ReplySink.more c.say_made-3.result _ _ _ (map (TextDeltaChunk c.args.token.now) (windows (div_ceil (length c.args.text.now) 65536) c.args.text.now))
+    (sent_behind _ g.met.S.ReplySink.more c.say_made-3.result _ _ _ (map (TextDeltaChunk c.args.token.now)
+    (windows (div_ceil (length c.args.text.now) 65536) c.args.text.now))
     (TextDeltaEnd c.args.token.now ∷ []) c.in_ok-say_windows.ensures (c.say_made-3.ensures (TextDeltaEnd c.args.token.now) c.end.ensures)))

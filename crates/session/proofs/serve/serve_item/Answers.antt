@@ -21,7 +21,8 @@ returns-in-Greeted g c =
     let stays = g.met.A.RepoAccess.stays p in
     let a = greeting_answer s env (client_greeting item) in
     let nothing = greeting_nothing s env (client_greeting item) in
-    rw c.in-Greeted.is (unparted _ _ _ _ _ _ _ _ (said g.A.RepoAccess.rules (InputStep s env Greeted (Whole item)) p p a stays refl nothing _ c.greet.result _ c.greet.ensures))
+    rw c.in-Greeted.is (unparted _ _ _ _ _ _ _ _ (said g.A.RepoAccess.rules (InputStep s env Greeted (Whole item)) p p a stays refl nothing _ c.greet.result
+    _ c.greet.ensures))
 
 pub returns-in-LoggingIn : goal.returns-in-LoggingIn
 returns-in-LoggingIn g c = rw c.in-LoggingIn.is (unparted _ _ _ _ _ _ c.log_in.result _ c.log_in.ensures)
@@ -45,7 +46,8 @@ returns-in-Skipping g c =
     let stays = g.met.A.RepoAccess.stays p in
     let a = skipping_answer env client (ends_edit item) in
     let nothing = skipping_nothing env client (ends_edit item) in
-    rw c.in-Skipping.is (unparted _ _ _ _ _ _ _ _ (said g.A.RepoAccess.rules (InputStep s env (Skipping client) (Whole item)) p p a stays refl nothing _ c.skip.result _ c.skip.ensures))
+    rw c.in-Skipping.is (unparted _ _ _ _ _ _ _ _ (said g.A.RepoAccess.rules (InputStep s env (Skipping client) (Whole item)) p p a stays refl nothing _
+    c.skip.result _ c.skip.ensures))
 
 pub returns-in-Reporting : goal.returns-in-Reporting
 returns-in-Reporting g c = rw c.in-Reporting.is (unparted _ _ _ _ _ _ c.serve_report.result _ c.serve_report.ensures)
@@ -60,7 +62,8 @@ returns-in-Driven g c =
     let stays = g.met.A.RepoAccess.stays p in
     let a = driven_answer env client (client_answer item) in
     let nothing = driven_nothing env client (client_answer item) in
-    rw c.in-Driven.is (unparted _ _ _ _ _ _ _ _ (said g.A.RepoAccess.rules (InputStep s env (Driven client) (Whole item)) p p a stays refl nothing _ c.serve_driven.result _ c.serve_driven.ensures))
+    rw c.in-Driven.is (unparted _ _ _ _ _ _ _ _ (said g.A.RepoAccess.rules (InputStep s env (Driven client) (Whole item)) p p a stays refl nothing _
+    c.serve_driven.result _ c.serve_driven.ensures))
 
 pub returns-in-Ended : goal.returns-in-Ended
 returns-in-Ended g c =

@@ -33,7 +33,8 @@ returns-in_err-phase-in-Ok-Some-clause-err g c =
     rw (p.1) (stop g.S.ReplySink.writes g.met.S.ReplySink.nothing g.met.S.ReplySink.more g.A.RepoAccess.rules c.args.options.now g.met.A.RepoAccess.stays
     c.args.turn.now.env (g.A.RepoAccess.point c.args.access.now) c.args.phase c.args.reader.now.rest c.args.turn.now.out
     c.inputs.turn.env (g.A.RepoAccess.point c.inputs.access) (g.A.RepoAccess.point c.serve.new.access) c.inputs.phase
-    c.inputs.reader.rest c.take_incoming.new.reader.rest c.inputs.turn.out c.serve.new.turn.out (input_of c.in-Ok-Some.incoming) c.inputs.invariant.1 t.0 c.in_err-phase-in-Ok-Some.ensures)
+    c.inputs.reader.rest c.take_incoming.new.reader.rest c.inputs.turn.out c.serve.new.turn.out (input_of c.in-Ok-Some.incoming) c.inputs.invariant.1 t.0
+    c.in_err-phase-in-Ok-Some.ensures)
 
 pub returns-in_err-phase-in-Ok-Some-clause-trees : goal.returns-in_err-phase-in-Ok-Some-clause-trees
 returns-in_err-phase-in-Ok-Some-clause-trees g c =
@@ -51,7 +52,8 @@ returns-then-not-is_open-clause-ok g c =
     (more g.S.ReplySink.writes g.met.S.ReplySink.nothing g.met.S.ReplySink.more g.A.RepoAccess.rules c.args.options.now g.met.A.RepoAccess.stays
     c.args.turn.now.env (g.A.RepoAccess.point c.args.access.now) c.args.phase c.args.reader.now.rest c.args.turn.now.out
     c.inputs.turn.env c.serve.new.turn.env (g.A.RepoAccess.point c.inputs.access) (g.A.RepoAccess.point c.serve.new.access) c.inputs.phase c.in_ok-phase-in-Ok-Some.phase
-    c.inputs.reader.rest c.take_incoming.new.reader.rest c.inputs.turn.out c.serve.new.turn.out (input_of c.in-Ok-Some.incoming) c.inputs.invariant.1 t.0 c.in_ok-phase-in-Ok-Some.ensures)
+    c.inputs.reader.rest c.take_incoming.new.reader.rest c.inputs.turn.out c.serve.new.turn.out (input_of c.in-Ok-Some.incoming) c.inputs.invariant.1 t.0
+    c.in_ok-phase-in-Ok-Some.ensures)
     (λ o. absurd (false≢true (sym c.if-not-is_open.true ∙ c.is_open.ensures ∙ o)))
 
 pub returns-then-not-is_open-clause-rests : goal.returns-then-not-is_open-clause-rests
@@ -69,5 +71,6 @@ inputs-preserved g c =
       more g.S.ReplySink.writes g.met.S.ReplySink.nothing g.met.S.ReplySink.more g.A.RepoAccess.rules c.args.options.now g.met.A.RepoAccess.stays
           c.args.turn.now.env (g.A.RepoAccess.point c.args.access.now) c.args.phase c.args.reader.now.rest c.args.turn.now.out
           c.inputs.turn.env c.serve.new.turn.env (g.A.RepoAccess.point c.inputs.access) (g.A.RepoAccess.point c.serve.new.access) c.inputs.phase c.in_ok-phase-in-Ok-Some.phase
-          c.inputs.reader.rest c.take_incoming.new.reader.rest c.inputs.turn.out c.serve.new.turn.out (input_of c.in-Ok-Some.incoming) c.inputs.invariant.1 t.0 c.in_ok-phase-in-Ok-Some.ensures,
+          c.inputs.reader.rest c.take_incoming.new.reader.rest c.inputs.turn.out c.serve.new.turn.out (input_of c.in-Ok-Some.incoming) c.inputs.invariant.1
+          t.0 c.in_ok-phase-in-Ok-Some.ensures,
     )

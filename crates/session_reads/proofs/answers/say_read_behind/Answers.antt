@@ -22,6 +22,7 @@ returns-in_err-say_preface-clause-said g c =
 pub returns-clause-said : goal.returns-clause-said
 returns-clause-said g c =
     let told = read_replies c.args.base.now c.args.command.now in
-    subst (λ (x : RepoState). Says c.say_read.result (g.S.ReplySink.writes c.args.turn.now.out c.say_read.new.out) (told_before c.args.preface ++ told x)) c.in_ok-view.ensures.view
+    subst (λ (x : RepoState). Says c.say_read.result (g.S.ReplySink.writes c.args.turn.now.out c.say_read.new.out) (told_before c.args.preface ++ told x))
+    c.in_ok-view.ensures.view
     (said_behind _ g.met.S.ReplySink.more c.say_read.result _ _ _ (told_before c.args.preface) (told (g.R.Repository.content c.in_ok-view.view))
     c.in_ok-say_preface.ensures c.say_read.ensures)

@@ -14,5 +14,6 @@ returns-in_err-say_made-in-Some g c =
 pub returns-in_ok-say_made-in-Some : goal.returns-in_ok-say_made-in-Some
 returns-in_ok-say_made-in-Some g c =
     let told = file_told (g.R.Repository.content c.args.view.now) c.args.command.now.wants_properties c.args.place.now c.in-Some.text.now in
-    rw (sym c.in-Some.ensures) (said_behind _ g.met.S.ReplySink.more c.say_wanted.result _ _ _ (told ∷ []) (text_told c.args.command.now.wants_contents c.in-Some.text.now)
+    rw (sym c.in-Some.ensures) (said_behind _ g.met.S.ReplySink.more c.say_wanted.result _ _ _ (told ∷ [])
+    (text_told c.args.command.now.wants_contents c.in-Some.text.now)
     (c.in_ok-say_made-in-Some.ensures told c.file_told-told.ensures) c.say_wanted.ensures)
