@@ -15,7 +15,7 @@ use crate::envs::EnvSource;
 use crate::fault::TalkFault;
 use crate::gate::Gate;
 use crate::pieces::read_piece;
-use crate::sink::{OutputSink, PIECE, write_now};
+use crate::sink::{OutputSink, PIECE, write_and_flush};
 use crate::watch::Watch;
 use access::RepoAccess;
 use byte_string::ByteString;
@@ -202,7 +202,7 @@ impl<'w, A: RepoAccess + Drop, E: EnvSource + Drop, G: Gate, W: Watch> Worker<'w
             self.new.envs)) }
     {
         let out = greeting(self.alloc)?;
-        write_now(output, out.as_slice()).map_err(TalkFault::Write)?;
+        write_and_flush(output, out.as_slice()).map_err(TalkFault::Write)?;
         self.converse(number, input, output)
     }
 }

@@ -5,6 +5,7 @@ ghost use Rattle.std.specs.Prelude.{◌≤◌, IfOk, string_bytes};
 ghost use Rattle.dates.specs.Dates.{IsDateText};
 ghost use Rattle.dates.specs.declared.TheConstants.{LAST_MOMENT};
 
+use byte_string::ByteString;
 use jiff::Timestamp;
 use jiff::fmt::temporal::DateTimePrinter;
 use std::alloc::{AllocError, Global};
@@ -24,6 +25,14 @@ pub fn date_text(alloc: Global, moment: u64) -> Result<String, AllocError>
     let printer = DateTimePrinter::new().precision(Some(6));
     let text = printer.timestamp_text(instant.to_plain());
     String::from_str(alloc, text.as_str())
+}
+
+/// Gives the date of a moment, as `date_text` writes it.
+pub fn date_bytes(alloc: Global, moment: u64) -> Result<ByteString, AllocError>
+    requires { moment ≤ LAST_MOMENT }
+    ensures { IfOk result (λ date. IsDateText moment date) }
+{
+    Ok(ByteString::new(date_text(alloc, moment)?.into_bytes()))
 }
 
 #[cfg(test)]

@@ -9,8 +9,8 @@ use crate::news::PropertyChanges;
 use byte_string::ByteString;
 use repo_api::Repository;
 use std::alloc::{AllocError, Global};
-use uuid::Uuid;
 use wire_forms::copy_optional;
+use wire_replies::{decimal_text, uuid_text};
 
 /// Makes what is told of the revision of an entry's last change, of the repository, and of a stale token.
 pub(crate) fn last_changes<R: Repository>(
@@ -29,7 +29,7 @@ pub(crate) fn last_changes<R: Repository>(
     let changes = with_change(alloc, changes, b"svn:entry:committed-date", date)?;
     let author = revision_property(alloc, view, b"svn:author", created);
     let changes = with_change(alloc, changes, b"svn:entry:last-author", author)?;
-    let uuid = uuid_text(alloc, view.uuid());
+    let uuid = uuid_told(alloc, view.uuid());
     let changes = with_change(alloc, changes, b"svn:entry:uuid", uuid)?;
     with_stale(alloc, changes, is_stale)
 }
@@ -105,20 +105,13 @@ fn number_text(alloc: Global, number: Option<u64>) -> Result<Option<ByteString>,
 {
     match number {
         None => Ok(None),
-        Some(number) => {
-            let mut buffer = itoa::Buffer::new();
-            let text = ByteString::from_slice(alloc, buffer.format(number).as_bytes())?;
-            Ok(Some(text))
-        }
+        Some(number) => Ok(Some(decimal_text(alloc, number)?)),
     }
 }
 
-/// Writes the text of a repository's name among all repositories.
-fn uuid_text(alloc: Global, uuid: u128) -> Result<Option<ByteString>, AllocError>
+/// Writes the UUID of a repository, as what is told of it.
+fn uuid_told(alloc: Global, uuid: u128) -> Result<Option<ByteString>, AllocError>
     ensures { IfOk result (λ text. text ≡ Some (uuid_text uuid)) }
 {
-    let mut buffer = Uuid::encode_buffer();
-    let text = Uuid::from_u128(uuid).hyphenated().encode_lower(&mut buffer);
-    let text = ByteString::from_slice(alloc, text.as_bytes())?;
-    Ok(Some(text))
+    Ok(Some(uuid_text(alloc, uuid)?))
 }

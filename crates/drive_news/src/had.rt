@@ -30,7 +30,7 @@ pub(crate) fn had_properties<'a, R: Repository>(
     ensures { option_copied result
         ≡ node_properties (entry_had (R.content view.now) had.entry) }
 {
-    if had.starts_empty && had_kind(view, had) == NodeKind::Directory {
+    if had.starts_empty && had_kind(view, had).is_directory() {
         return Some(none);
     }
     view.properties(had.place.revision, had.place.path)

@@ -1,9 +1,9 @@
 -- The tree that a report says the client has.
 use Rattle.std.specs.Prelude.{ℕ, ◌-◌, Bool, false, not, is_some, ◌&&◌, ◌||◌, List, [], ◌∷◌, ◌++◌, length, take, drop, Option, Some, None, option_map, option_and_then, fold, if◌then◌else◌}
 use Rattle.svnpath.specs.Paths.{PathValue, Component, is_at_or_under, same_path}
-use Rattle.repo_api.specs.Trees.{Tree, is_directory}
+use Rattle.repo_api.specs.Trees.{Tree, is_directory, is_file_there}
 use Rattle.repo_api.specs.declared.entry.Entry.{Entry}
-use Rattle.drive_rules.specs.Scopes.{is_file, depth_below}
+use Rattle.drive_rules.specs.Scopes.{depth_below}
 use Rattle.drive_rules.specs.declared.depth.Depth.{Depth}
 use Rattle.drive_rules.specs.declared.depth.Depth.TheVariants.{Empty, Files, Immediates, Infinity}
 use Rattle.drive_reports.specs.declared.graft.Graft.{Graft}
@@ -29,7 +29,7 @@ reported_entries had q = option_map (λ h. h.entry) (had q)
 
 -- the entry, if it is a file
 abbrev pub if_file : Option Entry → Option Entry
-if_file e = if is_file e then e else None
+if_file e = if is_file_there e then e else None
 
 -- what a depth leaves of an entry that stands in the top, so many names further down: nothing, the
 -- files in the top, what stands in the top, everything

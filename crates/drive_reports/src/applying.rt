@@ -6,7 +6,6 @@ ghost use Rattle.drive_reports.specs.Named.{IsNamed};
 ghost use Rattle.drive_reports.specs.Refusing.{may_come, may_lack, root_after, graft_of, set_path_graft, set_path_answer, delete_path_graft, delete_path_answer, report_with_graft, kept_report, has_goal, has_anchor, finish_root};
 
 use crate::ask::{DriveAsk, Purpose};
-use crate::fault::ReportFault;
 use crate::graft::{Graft, Subtree};
 use crate::grafts::Grafts;
 use crate::judging::{graft_depth, is_directory_there, is_there, judge, revision_read, url_or};
@@ -15,7 +14,7 @@ use crate::reported::{has_directory, has_place};
 use crate::sources::{own_source, report_path};
 use byte_string::ByteString;
 use drive_rules::Depth;
-use refusals::Refusal;
+use refusals::{NotDone, Refusal};
 use repo_api::Repository;
 use std::alloc::{AllocError, Global};
 use std::mem::drop;
@@ -42,8 +41,8 @@ fn may_come(alloc: Global, report: &OpenReport<Grafts>, link: Link<'_>) -> Resul
     }
     match report_path(alloc, &report.ask, &link.reported.path) {
         Ok(path) => Ok(&path == report.ask.target.as_path()),
-        Err(ReportFault::Refused(_)) => Ok(false),
-        Err(ReportFault::NoMemory) => Err(AllocError),
+        Err(NotDone::Refused(_)) => Ok(false),
+        Err(NotDone::NoMemory) => Err(AllocError),
     }
 }
 
@@ -94,7 +93,7 @@ fn set_path_graft<R: Repository>(
     name: &str,
     report: &OpenReport<Grafts>,
     link: Link<'_>,
-) -> Result<(ReportRoot, Graft), ReportFault>
+) -> Result<(ReportRoot, Graft), NotDone>
     requires { AreTrees (R.content view.now).revisions }
     ensures judged { JudgesReport result (set_path_graft (R.content view.now) name.now report.now
         link.entry.reported.now (option_copied link.entry.url)) }
@@ -124,7 +123,7 @@ fn delete_path_graft(
     alloc: Global,
     report: &OpenReport<Grafts>,
     text: &ByteString,
-) -> Result<Graft, ReportFault>
+) -> Result<Graft, NotDone>
     ensures judged { JudgesReport result (delete_path_graft report.now text.now) }
     ensures named { IfOk result (λ graft. IsNamed graft.path) }
 {
@@ -168,11 +167,11 @@ pub fn set_path<R: Repository>(
 {
     match set_path_graft(alloc, view, name, &report, link) {
         Ok((root, graft)) => grafted(alloc, report, Some(root), graft),
-        Err(ReportFault::Refused(refusal)) => {
+        Err(NotDone::Refused(refusal)) => {
             drop(report);
             Ok(Report::Refused(refusal))
         }
-        Err(ReportFault::NoMemory) => {
+        Err(NotDone::NoMemory) => {
             drop(report);
             Err(AllocError)
         }
@@ -192,11 +191,11 @@ pub fn delete_path(
             let root = report.root;
             grafted(alloc, report, root, graft)
         }
-        Err(ReportFault::Refused(refusal)) => {
+        Err(NotDone::Refused(refusal)) => {
             drop(report);
             Ok(Report::Refused(refusal))
         }
-        Err(ReportFault::NoMemory) => {
+        Err(NotDone::NoMemory) => {
             drop(report);
             Err(AllocError)
         }
@@ -241,13 +240,11 @@ pub fn finish<R: Repository>(
     alloc: Global,
     view: &R,
     report: &OpenReport<Grafts>,
-) -> Result<ReportRoot, ReportFault>
+) -> Result<ReportRoot, NotDone>
     requires { AreTrees (R.content view.now).revisions }
     ensures { JudgesReport result (finish_root (R.content view.now) report.now) }
 {
-    let root = report
-        .root
-        .ok_or(ReportFault::Refused(Refusal::MalformedData))?;
+    let root = report.root.ok_or(NotDone::Refused(Refusal::MalformedData))?;
     judge(has_goal(view, &report.ask), Refusal::NotFound)?;
     judge(has_anchor(alloc, view, report)?, Refusal::NotFound)?;
     Ok(root)

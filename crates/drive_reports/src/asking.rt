@@ -4,12 +4,12 @@ ghost use Rattle.drive_reports.specs.Judging.{JudgesReport};
 ghost use Rattle.drive_reports.specs.Refusing.{ask_of, begun_report};
 
 use crate::ask::{DriveAsk, Purpose};
-use crate::fault::ReportFault;
 use crate::grafts::Grafts;
 use crate::judging::{depth_asked, path_named, revision_read, url_or};
 use crate::named_path::NamedPath;
 use crate::report::{OpenReport, Report};
 use byte_string::ByteString;
+use refusals::NotDone;
 use repo_api::Repository;
 use std::alloc::{AllocError, Global};
 use svnpath::Path;
@@ -36,7 +36,7 @@ pub fn ask_of<R: Repository>(
     view: &R,
     anchor: Anchor<'_>,
     errand: Errand<'_>,
-) -> Result<DriveAsk, ReportFault>
+) -> Result<DriveAsk, NotDone>
     ensures { JudgesReport result (ask_of (R.content view.now) anchor.entry.name.now
         anchor.entry.path.now errand.entry.purpose errand.entry.request.now
         (option_copied errand.entry.url)) }
@@ -73,7 +73,7 @@ pub fn begin<R: Repository>(
             root: None,
             grafts: Grafts::new(alloc),
         })),
-        Err(ReportFault::Refused(refusal)) => Ok(Report::Refused(refusal)),
-        Err(ReportFault::NoMemory) => Err(AllocError),
+        Err(NotDone::Refused(refusal)) => Ok(Report::Refused(refusal)),
+        Err(NotDone::NoMemory) => Err(AllocError),
     }
 }

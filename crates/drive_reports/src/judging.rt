@@ -9,29 +9,28 @@ ghost use Rattle.drive_reports.specs.Named.{IsNamed};
 ghost use Rattle.drive_reports.specs.Refusing.{ok_if, or_refusal, url_or, revision_read};
 
 use crate::ask::{DepthAsked, Purpose};
-use crate::fault::ReportFault;
 use byte_string::ByteString;
 use drive_rules::Depth;
-use refusals::Refusal;
-use repo_api::{NodeKind, Repository};
+use refusals::{NotDone, Refusal};
+use repo_api::Repository;
 use std::alloc::Global;
 use std::mem::drop;
 use svnpath::Path;
 use wire_reports::DepthWord;
 
 /// Refuses so what does not hold.
-pub(crate) fn judge(holds: bool, refusal: Refusal) -> Result<(), ReportFault>
+pub(crate) fn judge(holds: bool, refusal: Refusal) -> Result<(), NotDone>
     ensures { JudgesReport result (ok_if holds refusal) }
 {
     if holds {
         Ok(())
     } else {
-        Err(ReportFault::Refused(refusal))
+        Err(NotDone::Refused(refusal))
     }
 }
 
 /// Finds the path that a text names beneath another.
-pub(crate) fn path_named(alloc: Global, base: &Path, text: &ByteString) -> Result<Path, ReportFault>
+pub(crate) fn path_named(alloc: Global, base: &Path, text: &ByteString) -> Result<Path, NotDone>
     ensures judged { JudgesReport result (or_refusal (joined base.now text.now)) }
     ensures beneath { IfOk result (λ p. p ≡ base.now ++ drop (length base.now) p) }
     ensures named { IfOk result (λ p. IsNamed (drop (length base.now) p)) }
@@ -45,7 +44,7 @@ pub(crate) fn url_or(
     name: &str,
     own: Path,
     url: Option<&ByteString>,
-) -> Result<Path, ReportFault>
+) -> Result<Path, NotDone>
     ensures { JudgesReport result (url_or name.now own (option_copied url.entry)) }
 {
     match url {
@@ -58,10 +57,7 @@ pub(crate) fn url_or(
 }
 
 /// Gives the revision that is named, or the youngest; one above it is refused.
-pub(crate) fn revision_read<R: Repository>(
-    view: &R,
-    revision: Option<u64>,
-) -> Result<u64, ReportFault>
+pub(crate) fn revision_read<R: Repository>(view: &R, revision: Option<u64>) -> Result<u64, NotDone>
     ensures { JudgesReport result (revision_read (R.content view.now) revision) }
 {
     let youngest = view.youngest();
@@ -69,7 +65,7 @@ pub(crate) fn revision_read<R: Repository>(
         None => Ok(youngest),
         Some(n) => {
             if youngest < n {
-                Err(ReportFault::Refused(Refusal::NoSuchRevision))
+                Err(NotDone::Refused(Refusal::NoSuchRevision))
             } else {
                 Ok(n)
             }
@@ -78,14 +74,14 @@ pub(crate) fn revision_read<R: Repository>(
 }
 
 /// Says how much of what exists somewhere is reported: everything, where no depth is named.
-pub(crate) fn graft_depth(word: Option<DepthWord>) -> Result<Depth, ReportFault>
+pub(crate) fn graft_depth(word: Option<DepthWord>) -> Result<Depth, NotDone>
     ensures { JudgesReport result (graft_depth word) }
 {
     match word {
         None => Ok(Depth::Infinity),
         Some(DepthWord::Known(depth)) => Ok(depth),
         Some(DepthWord::Unknown | DepthWord::Exclude) => {
-            Err(ReportFault::Refused(Refusal::NotSupported))
+            Err(NotDone::Refused(Refusal::NotSupported))
         }
     }
 }
@@ -105,13 +101,13 @@ pub(crate) fn depth_asked(
     purpose: Purpose,
     recurse: bool,
     word: Option<DepthWord>,
-) -> Result<DepthAsked, ReportFault>
+) -> Result<DepthAsked, NotDone>
     ensures { JudgesReport result (depth_asked purpose recurse word) }
 {
     match word {
         Some(DepthWord::Known(depth)) => Ok(DepthAsked::Given(depth)),
         Some(DepthWord::Unknown) => Ok(DepthAsked::AsReported),
-        Some(DepthWord::Exclude) => Err(ReportFault::Refused(Refusal::NotSupported)),
+        Some(DepthWord::Exclude) => Err(NotDone::Refused(Refusal::NotSupported)),
         None if recurse => Ok(DepthAsked::Given(Depth::Infinity)),
         None => Ok(DepthAsked::Given(shallow(purpose))),
     }
@@ -121,7 +117,7 @@ pub(crate) fn depth_asked(
 pub(crate) fn is_there<R: Repository>(view: &R, revision: u64, path: &Path) -> bool
     ensures { result ≡ is_some (trees_in (R.content view.now).revisions revision path.now) }
 {
-    view.kind(revision, path) != NodeKind::Absent
+    view.kind(revision, path).is_present()
 }
 
 /// Says whether a directory exists at a path of a revision.
@@ -129,5 +125,5 @@ pub(crate) fn is_directory_there<R: Repository>(view: &R, revision: u64, path: &
     ensures { result
         ≡ is_directory_there (trees_in (R.content view.now).revisions revision path.now) }
 {
-    view.kind(revision, path) == NodeKind::Directory
+    view.kind(revision, path).is_directory()
 }

@@ -4,7 +4,6 @@
 mod applying;
 mod ask;
 mod asking;
-mod fault;
 mod graft;
 mod grafts;
 mod index;
@@ -19,7 +18,6 @@ mod sources;
 pub use applying::{Link, delete_path, finish, set_path};
 pub use ask::{DepthAsked, DriveAsk, Purpose};
 pub use asking::{Anchor, Errand, ask_of, begin};
-pub use fault::ReportFault;
 pub use graft::{Graft, Subtree, is_to_the_end};
 pub use grafts::Grafts;
 pub use laws::{

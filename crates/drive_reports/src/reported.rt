@@ -24,7 +24,7 @@ fn left_kind(depth: Depth, names: usize, kind: NodeKind) -> NodeKind
 {
     let is_left = match depth {
         Depth::Empty => false,
-        Depth::Files => names == 1 && kind == NodeKind::File,
+        Depth::Files => names == 1 && kind.is_file(),
         Depth::Immediates => names == 1,
         Depth::Infinity => true,
     };
@@ -71,7 +71,7 @@ fn shows_directory<R: Repository>(
 {
     match graft {
         None => Ok(false),
-        Some(graft) => Ok(shown_kind(alloc, view, graft, path)? == NodeKind::Directory),
+        Some(graft) => Ok(shown_kind(alloc, view, graft, path)?.is_directory()),
     }
 }
 
@@ -212,7 +212,7 @@ fn shown_at<'a, R: Repository>(
     let Some(subtree) = &graft.subtree else {
         return Ok(None);
     };
-    if shown_kind(alloc, view, graft, path)? == NodeKind::Absent {
+    if !shown_kind(alloc, view, graft, path)?.is_present() {
         return Ok(None);
     }
     let names = path.len() - graft.path.len();

@@ -6,10 +6,10 @@ ghost use Rattle.drive_reports.specs.Refusing.{report_path};
 ghost use Rattle.drive_reports.specs.Reported.{path_above, origin, own_source};
 
 use crate::ask::DriveAsk;
-use crate::fault::ReportFault;
 use crate::grafts::Grafts;
 use crate::judging::path_named;
 use byte_string::ByteString;
+use refusals::NotDone;
 use std::alloc::{AllocError, Global};
 use svnpath::Path;
 
@@ -21,11 +21,7 @@ fn anchored(alloc: Global, anchor: &Path, path: &Path) -> Result<Path, AllocErro
 }
 
 /// Finds the path that a text names beneath the target, from the anchor on.
-pub(crate) fn report_path(
-    alloc: Global,
-    ask: &DriveAsk,
-    text: &ByteString,
-) -> Result<Path, ReportFault>
+pub(crate) fn report_path(alloc: Global, ask: &DriveAsk, text: &ByteString) -> Result<Path, NotDone>
     ensures judged { JudgesReport result (report_path ask.now text.now) }
     ensures named { IfOk result IsNamed }
 {

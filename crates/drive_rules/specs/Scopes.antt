@@ -1,7 +1,7 @@
 -- The paths that a drive is of.
 use Rattle.std.specs.Prelude.{◌≡◌, IsSome, Bool, true, false, not, ◌&&◌, ◌||◌, List, [], ◌∷◌, ◌++◌, Option, Some, None, is_some, if◌then◌else◌, drop, length}
 use Rattle.svnpath.specs.Paths.{PathValue, Component, same_path, is_at_or_under}
-use Rattle.repo_api.specs.Trees.{Tree, HasDirectory, is_directory}
+use Rattle.repo_api.specs.Trees.{Tree, HasDirectory, is_file_there}
 use Rattle.repo_api.specs.declared.entry.Entry.{Entry}
 use Rattle.drive_rules.specs.declared.depth.Depth.{Depth}
 use Rattle.drive_rules.specs.declared.depth.Depth.TheVariants.{Empty, Files, Immediates, Infinity}
@@ -22,17 +22,12 @@ within scope t q = if scope q then t q else None
 abbrev pub tree_without : PathValue → Tree → Tree
 tree_without p t q = if is_at_or_under q p then None else t q
 
--- a file stands there
-abbrev pub is_file : Option Entry → Bool
-is_file None = false
-is_file (Some e) = not (is_directory e)
-
 -- ---- depths
 
 -- whether a directory of this depth brings in a child, by what the child was and what it is to be
 abbrev pub brings_in : Depth → Option Entry → Option Entry → Bool
 brings_in Empty old new = false
-brings_in Files old new = is_file old || is_file new
+brings_in Files old new = is_file_there old || is_file_there new
 brings_in Immediates old new = true
 brings_in Infinity old new = true
 

@@ -19,7 +19,7 @@ use Rattle.drive_rules.specs.Steps.Step.{OpenAt, AddAt}
 use Rattle.drive_rules.proofs.Joined.{and_front, named_append}
 use Rattle.drive_rules.proofs.Trees.{in_scope}
 use Rattle.reporter.specs.Own.{Change, property_steps, text_steps}
-use Rattle.reporter.specs.Visits.{entry_kind, plan_steps, visit_steps}
+use Rattle.reporter.specs.Visits.{entry_kind, kind_if, plan_steps, visit_steps}
 use Rattle.reporter.specs.declared.visit.Visit.{Visit}
 use Rattle.reporter.specs.declared.visit.Visit.TheVariants.{Open, Add, Delete, Close}
 use Rattle.drive_reports.specs.Reported.{reported_entries}
@@ -44,8 +44,8 @@ use Rattle.drive_sending.proofs.Told.{own_news, other_news}
 
 -- the visit opens or adds the path
 abbrev is_of : PathValue → Visit → Bool
-is_of q (Open p) = same_path p q
-is_of q (Add p) = same_path p q
+is_of q (Open p directory) = same_path p q
+is_of q (Add p directory) = same_path p q
 is_of q (Delete p) = false
 is_of q Close = false
 
@@ -107,20 +107,20 @@ module _ (c : RepoState) (report : WholeReport) where
   New = new_tree c report
 
   abbrev Steps : List Visit → List Step
-  Steps visits = plan_steps New (own_steps_of c report) visits
+  Steps visits = plan_steps (own_steps_of c report) visits
 
   abbrev VisitSteps : Visit → List Step
-  VisitSteps v = visit_steps New (own_steps_of c report) v
+  VisitSteps v = visit_steps (own_steps_of c report) v
 
   visit_enters : (q : PathValue) (v : Visit) → enters q (VisitSteps v) ≡ is_of q v
-  visit_enters q (Open p) =
-      enters_append q (OpenAt p (entry_kind (New p)) ∷ []) (own_steps_of c report p false)
-      ∙ ap (λ b. enters q (OpenAt p (entry_kind (New p)) ∷ []) || b) (if_enter_none q p (option_map (news_at c report p false) (New p)))
-      ∙ or_none (enters q (OpenAt p (entry_kind (New p)) ∷ [])) ∙ one_opens (same_path p q)
-  visit_enters q (Add p) =
-      enters_append q (AddAt p (entry_kind (New p)) ∷ []) (own_steps_of c report p true)
-      ∙ ap (λ b. enters q (AddAt p (entry_kind (New p)) ∷ []) || b) (if_enter_none q p (option_map (news_at c report p true) (New p)))
-      ∙ or_none (enters q (AddAt p (entry_kind (New p)) ∷ [])) ∙ one_adds (same_path p q)
+  visit_enters q (Open p directory) =
+      enters_append q (OpenAt p (kind_if directory) ∷ []) (own_steps_of c report p false)
+      ∙ ap (λ b. enters q (OpenAt p (kind_if directory) ∷ []) || b) (if_enter_none q p (option_map (news_at c report p false) (New p)))
+      ∙ or_none (enters q (OpenAt p (kind_if directory) ∷ [])) ∙ one_opens (same_path p q)
+  visit_enters q (Add p directory) =
+      enters_append q (AddAt p (kind_if directory) ∷ []) (own_steps_of c report p true)
+      ∙ ap (λ b. enters q (AddAt p (kind_if directory) ∷ []) || b) (if_enter_none q p (option_map (news_at c report p true) (New p)))
+      ∙ or_none (enters q (AddAt p (kind_if directory) ∷ [])) ∙ one_adds (same_path p q)
   visit_enters q (Delete p) = ap (λ b. (b || false) || ((same_path p q && false) || false)) (never (same_path p q)) ∙ ap (λ b. b || false) (never (same_path p q))
   visit_enters q Close = refl
 
@@ -132,14 +132,14 @@ module _ (c : RepoState) (report : WholeReport) where
   -- ---- what stands there
 
   abbrev pub Stands : Visit → Type 0
-  Stands (Open p) = is_some (New p) ≡ true
-  Stands (Add p) = is_some (New p) ≡ true
+  Stands (Open p directory) = is_some (New p) ≡ true
+  Stands (Add p directory) = is_some (New p) ≡ true
   Stands (Delete p) = Unit {0}
   Stands Close = Unit {0}
 
   visit_stands : (v : Visit) → IsSendable New v → Stands v
-  visit_stands (Open p) s = s.stands
-  visit_stands (Add p) s = s.stands
+  visit_stands (Open p directory) s = s.stands
+  visit_stands (Add p directory) s = s.stands
   visit_stands (Delete p) s = tt
   visit_stands Close s = tt
 
@@ -148,8 +148,8 @@ module _ (c : RepoState) (report : WholeReport) where
   all_stand (v ∷ vs) s = All-cons Stands v vs (visit_stands v (All-head (IsSendable New) v vs s)) (all_stand vs (All-tail (IsSendable New) v vs s))
 
   one_stands : (q : PathValue) (v : Visit) → Stands v → is_of q v ≡ true → is_some (New q) ≡ true
-  one_stands q (Open p) s e = subst (λ x. is_some (New x) ≡ true) (same_path_is p q e) s
-  one_stands q (Add p) s e = subst (λ x. is_some (New x) ≡ true) (same_path_is p q e) s
+  one_stands q (Open p directory) s e = subst (λ x. is_some (New x) ≡ true) (same_path_is p q e) s
+  one_stands q (Add p directory) s e = subst (λ x. is_some (New x) ≡ true) (same_path_is p q e) s
   one_stands q (Delete p) s e = absurd (false≢true e)
   one_stands q Close s e = absurd (false≢true e)
 
@@ -185,8 +185,8 @@ module _ (c : RepoState) (report : WholeReport) where
         by false h = other_steps p h (option_map (news_at c report p anew) (New p)) before
 
     visit_told : (v : Visit) (before : Option (Option (List ℕ))) → Last before (VisitSteps v) ≡ (if is_of q v then option_or Due before else before)
-    visit_told (Open p) before = own_told p false before
-    visit_told (Add p) before = own_told p true before
+    visit_told (Open p directory) before = own_told p false before
+    visit_told (Add p directory) before = own_told p true before
     visit_told (Delete p) before = refl
     visit_told Close before = refl
 
@@ -248,19 +248,19 @@ module _ (c : RepoState) (report : WholeReport) where
           (subst (λ t. length (or_no_text t) ≤ limit) (sym silent) nothing_short) (λ _. ap or_no_text silent))
       by false h = (refl, refl)
 
-  steps_from : (vs : List Visit) → RootStands → plan_steps New (own_steps_of c report) (from_top report.ask vs) ≡ from_root report.ask (Body vs)
-  steps_from vs root = by (same_path report.ask.target []) refl
+  steps_from : (vs : List Visit) → plan_steps (own_steps_of c report) (from_top report.ask vs) ≡ from_root report.ask (Body vs)
+  steps_from vs = by (same_path report.ask.target []) refl
     where
-      by : (b : Bool) → same_path report.ask.target [] ≡ b → Steps (if b then Open [] ∷ vs else vs)
+      by : (b : Bool) → same_path report.ask.target [] ≡ b → Steps (if b then Open [] true ∷ vs else vs)
           ≡ (if b then OpenAt [] DirectoryKind ∷ ((if b then own_steps_of c report [] false else []) ++ Steps vs) else ((if b then own_steps_of c report [] false else []) ++ Steps vs))
-      by true h = ap (λ k. OpenAt [] k ∷ (own_steps_of c report [] false ++ Steps vs)) (root h).1
+      by true h = refl
       by false h = refl
 
   top_stands : (vs : List Visit) → RootStands → All Stands vs → All Stands (from_top report.ask vs)
   top_stands vs root all = by (same_path report.ask.target []) refl
     where
-      by : (b : Bool) → same_path report.ask.target [] ≡ b → All Stands (if b then Open [] ∷ vs else vs)
-      by true h = All-cons Stands (Open []) vs (root h).0 all
+      by : (b : Bool) → same_path report.ask.target [] ≡ b → All Stands (if b then Open [] true ∷ vs else vs)
+      by true h = All-cons Stands (Open [] true) vs (root h).0 all
       by false h = all
 
   pub is_drive : (vs : List Visit) → All (IsSendable New) vs → RootStands → IsPlan c report vs → IsDrive c report (drive_of c report vs)
@@ -270,8 +270,8 @@ module _ (c : RepoState) (report : WholeReport) where
     is = refl;
     body = Body vs;
     says = says;
-    right = subst (LeadsToTarget c report) (steps_from vs root) right;
-    tells = subst (TellsEach c report) (steps_from vs root) (tells_plan (from_top report.ask vs) (top_stands vs root (all_stand vs sendable)));
+    right = subst (LeadsToTarget c report) (steps_from vs) right;
+    tells = subst (TellsEach c report) (steps_from vs) (tells_plan (from_top report.ask vs) (top_stands vs root (all_stand vs sendable)));
   }
     where
       closed : Says report.ask.purpose Top Base (open_directories ([] ∷ [])) (CloseDirectory (token_of DirectoryKind 0) ∷ []) [] []

@@ -3,13 +3,13 @@ use Rattle.std.proofs.Common.{arith, ◌≡◌, ◌≤◌, ◌+◌, ◌-◌, ℕ
 use Rattle.std.proofs.lemmas.Bool.{false≢true}
 use Rattle.std.proofs.lemmas.List.Elements.{All-head, All-tail}
 use Rattle.std.proofs.lemmas.Option.{none-some, same_Some}
-use Rattle.std.specs.Prelude.{All, is_some, option_and_then}
+use Rattle.std.specs.Prelude.{All, option_and_then}
 use Rattle.svnpath.specs.Paths.{PathValue}
 use Rattle.svnpath.specs.PathLaws.{same_component_refl}
 use Rattle.svndiff0.specs.Window.{limit}
 use Rattle.repo_api.specs.Kinds.{text_of, content_text}
 use Rattle.repo_api.specs.States.{RepoState}
-use Rattle.repo_api.specs.Trees.{Tree, is_directory, is_directory_content, is_directory_there}
+use Rattle.repo_api.specs.Trees.{Tree, is_directory_content}
 use Rattle.repo_api.specs.declared.entry.Content.{Content}
 use Rattle.repo_api.specs.declared.entry.Content.TheVariants.{Directory, File}
 use Rattle.repo_api.specs.declared.entry.Entry.{Entry}
@@ -20,7 +20,7 @@ use Rattle.drive_rules.proofs.Joined.{and_front}
 use Rattle.drive_rules.specs.Steps.{EntryKind, Step}
 use Rattle.drive_rules.specs.Steps.EntryKind.{DirectoryKind, FileKind}
 use Rattle.drive_rules.specs.Steps.Step.{OpenAt, AddAt, DeleteAt}
-use Rattle.reporter.specs.Nesting.{walk}
+use Rattle.reporter.specs.Nesting.{stands_as, walk}
 use Rattle.reporter.specs.Visits.{entry_kind, kind_if, plan_steps}
 use Rattle.reporter.specs.declared.visit.Visit.{Visit}
 use Rattle.reporter.specs.declared.visit.Visit.TheVariants.{Open, Add, Delete, Close}
@@ -52,10 +52,6 @@ goes_on false mid rest end e = absurd (none-some end e)
 by_kind : (b : Bool) (p : PathValue) (ds : List PathValue) → (if b then p ∷ ds else ds) ≡ after_entry (kind_if b) p ds
 by_kind true p ds = refl
 by_kind false p ds = refl
-
-walked_kind : (e : Option Entry) (p : PathValue) (ds : List PathValue) → (if is_directory_there e then p ∷ ds else ds) ≡ after_entry (entry_kind e) p ds
-walked_kind None p ds = refl
-walked_kind (Some e) p ds = by_kind (is_directory e) p ds
 
 shrunk : (l n : ℕ) → l ≡ n + 1 → n ≡ l - 1
 shrunk l n e = omega (arith, e)
@@ -165,7 +161,7 @@ module _ (c : RepoState) (report : WholeReport) where
 
   -- the visits say their steps, from what is open before to what is open after them
   abbrev SaysPlan : List PathValue → ℕ → List Visit → List PathValue → Type 0
-  SaysPlan ds around vs end = Says report.ask.purpose Top Base (open_directories ds) (plan_commands c report around vs) (plan_steps New (own_steps_of c report) vs) (open_directories end)
+  SaysPlan ds around vs end = Says report.ask.purpose Top Base (open_directories ds) (plan_commands c report around vs) (plan_steps (own_steps_of c report) vs) (open_directories end)
 
   -- an entry, and what comes behind it
   with_entry : (kind : EntryKind) (first : EditorCommand) (step : Step) (own : List ℕ) (news : News) (d : PathValue) (ds : List PathValue) (p : PathValue) (vs : List Visit) (end : List PathValue)
@@ -174,11 +170,11 @@ module _ (c : RepoState) (report : WholeReport) where
       → SaysPlan (after_entry kind p (d ∷ ds)) (deeper_by kind (length ds)) vs end
       → Says report.ask.purpose Top Base (open_directories (d ∷ ds))
       ((first ∷ news_commands report.ask.purpose kind (token_of kind (length ds + 1)) news) ++ plan_commands c report (deeper_by kind (length ds)) vs)
-      ((step ∷ news_steps p news) ++ plan_steps New (own_steps_of c report) vs) (open_directories end)
+      ((step ∷ news_steps p news) ++ plan_steps (own_steps_of c report) vs) (open_directories end)
   with_entry kind first step own news d ds p vs end said bare quiet short sent rest =
       says_append report.ask.purpose Top Base (open_directories (d ∷ ds)) (open_directories (after_entry kind p (d ∷ ds))) (open_directories end)
       (first ∷ news_commands report.ask.purpose kind (token_of kind (length ds + 1)) news) (plan_commands c report (deeper_by kind (length ds)) vs)
-      (step ∷ news_steps p news) (plan_steps New (own_steps_of c report) vs)
+      (step ∷ news_steps p news) (plan_steps (own_steps_of c report) vs)
       (step ∷ [], entry_at kind (length ds + 1) p own ∷ open_directories (d ∷ ds), news_steps p news, said, inner, refl) rest
     where
       inner : Says report.ask.purpose Top Base (entry_at kind (length ds + 1) p own ∷ open_directories (d ∷ ds)) (news_commands report.ask.purpose kind (token_of kind (length ds + 1)) news) (news_steps p news) (open_directories (after_entry kind p (d ∷ ds)))
@@ -198,38 +194,38 @@ module _ (c : RepoState) (report : WholeReport) where
   pub says_plan : (vs : List Visit) (d : PathValue) (ds end : List PathValue) → All (IsSendable New) vs
       → walk New Top (d ∷ ds) vs ≡ Some end → SaysPlan (d ∷ ds) (length ds) vs end
   says_plan [] d ds end sendable walked = (refl, ap open_directories (sym (same_Some (d ∷ ds) end walked)))
-  says_plan (Open p ∷ vs) d ds end sendable walked =
-      let kind = entry_kind (New p) in
-      let tellable : IsTellable New p = All-head (IsSendable New) (Open p) vs sendable in
-      let on = goes_on (is_in_directory Top d p && is_some (New p)) (if is_directory_there (New p) then p ∷ d ∷ ds else d ∷ ds) (λ mid. walk New Top mid vs) end walked in
-      subst (λ s. Says report.ask.purpose Top Base (open_directories (d ∷ ds)) (plan_commands c report (length ds) (Open p ∷ vs)) ((OpenAt p kind ∷ s) ++ plan_steps New (own_steps_of c report) vs) (open_directories end))
+  says_plan (Open p directory ∷ vs) d ds end sendable walked =
+      let kind = kind_if directory in
+      let tellable : IsTellable New p directory = All-head (IsSendable New) (Open p directory) vs sendable in
+      let on = goes_on (is_in_directory Top d p && stands_as directory (New p)) (if directory then p ∷ d ∷ ds else d ∷ ds) (λ mid. walk New Top mid vs) end walked in
+      subst (λ s. Says report.ask.purpose Top Base (open_directories (d ∷ ds)) (plan_commands c report (length ds) (Open p directory ∷ vs)) ((OpenAt p kind ∷ s) ++ plan_steps (own_steps_of c report) vs) (open_directories end))
       (sym (steps_told p (option_map (news_at c report p false) (New p))))
       (with_entry kind (open_command kind (opened_entry c report (length ds) p kind)) (OpenAt p kind) (base_at kind p) (news_told c report p false) d ds p vs end
-      (reads_open kind d ds p (and_front (is_in_directory Top d p) (is_some (New p)) on.0) tellable.spelled)
-      (bare kind p) (news_silent p false (New p)) (news_short p false (New p) tellable.short) (news_sent p false (New p))
+      (reads_open kind d ds p (and_front (is_in_directory Top d p) (stands_as directory (New p)) on.0) tellable.spelled)
+      (bare kind p) (λ is. news_silent p false (New p) (tellable.kind ∙ is)) (news_short p false (New p) tellable.short) (news_sent p false (New p))
       (goes_below kind d ds p vs end
-      (λ w. says_plan vs p (d ∷ ds) end (All-tail (IsSendable New) (Open p) vs sendable) w)
-      (λ w. says_plan vs d ds end (All-tail (IsSendable New) (Open p) vs sendable) w)
-      (ap (λ mid. walk New Top mid vs) (sym (walked_kind (New p) p (d ∷ ds))) ∙ on.1)))
-  says_plan (Add p ∷ vs) d ds end sendable walked =
-      let kind = entry_kind (New p) in
-      let tellable : IsTellable New p = All-head (IsSendable New) (Add p) vs sendable in
-      let on = goes_on (is_in_directory Top d p && is_some (New p)) (if is_directory_there (New p) then p ∷ d ∷ ds else d ∷ ds) (λ mid. walk New Top mid vs) end walked in
-      subst (λ s. Says report.ask.purpose Top Base (open_directories (d ∷ ds)) (plan_commands c report (length ds) (Add p ∷ vs)) ((AddAt p kind ∷ s) ++ plan_steps New (own_steps_of c report) vs) (open_directories end))
+      (λ w. says_plan vs p (d ∷ ds) end (All-tail (IsSendable New) (Open p directory) vs sendable) w)
+      (λ w. says_plan vs d ds end (All-tail (IsSendable New) (Open p directory) vs sendable) w)
+      (ap (λ mid. walk New Top mid vs) (sym (by_kind directory p (d ∷ ds))) ∙ on.1)))
+  says_plan (Add p directory ∷ vs) d ds end sendable walked =
+      let kind = kind_if directory in
+      let tellable : IsTellable New p directory = All-head (IsSendable New) (Add p directory) vs sendable in
+      let on = goes_on (is_in_directory Top d p && stands_as directory (New p)) (if directory then p ∷ d ∷ ds else d ∷ ds) (λ mid. walk New Top mid vs) end walked in
+      subst (λ s. Says report.ask.purpose Top Base (open_directories (d ∷ ds)) (plan_commands c report (length ds) (Add p directory ∷ vs)) ((AddAt p kind ∷ s) ++ plan_steps (own_steps_of c report) vs) (open_directories end))
       (sym (steps_told p (option_map (news_at c report p true) (New p))))
       (with_entry kind (add_command kind (added_entry (length ds) p kind)) (AddAt p kind) [] (news_told c report p true) d ds p vs end
-      (reads_add kind d ds p (and_front (is_in_directory Top d p) (is_some (New p)) on.0) tellable.spelled)
-      (λ _. refl) (news_silent p true (New p)) (news_short p true (New p) tellable.short) (news_sent p true (New p))
+      (reads_add kind d ds p (and_front (is_in_directory Top d p) (stands_as directory (New p)) on.0) tellable.spelled)
+      (λ _. refl) (λ is. news_silent p true (New p) (tellable.kind ∙ is)) (news_short p true (New p) tellable.short) (news_sent p true (New p))
       (goes_below kind d ds p vs end
-      (λ w. says_plan vs p (d ∷ ds) end (All-tail (IsSendable New) (Add p) vs sendable) w)
-      (λ w. says_plan vs d ds end (All-tail (IsSendable New) (Add p) vs sendable) w)
-      (ap (λ mid. walk New Top mid vs) (sym (walked_kind (New p) p (d ∷ ds))) ∙ on.1)))
+      (λ w. says_plan vs p (d ∷ ds) end (All-tail (IsSendable New) (Add p directory) vs sendable) w)
+      (λ w. says_plan vs d ds end (All-tail (IsSendable New) (Add p directory) vs sendable) w)
+      (ap (λ mid. walk New Top mid vs) (sym (by_kind directory p (d ∷ ds))) ∙ on.1)))
   says_plan (Delete p ∷ vs) d ds end sendable walked =
       let spelled : IsSpelledPath p = All-head (IsSendable New) (Delete p) vs sendable in
       let on = goes_on (is_in_directory Top d p) (d ∷ ds) (λ mid. walk New Top mid vs) end walked in (
         DeleteAt p ∷ [],
         open_directories (d ∷ ds),
-        plan_steps New (own_steps_of c report) vs,
+        plan_steps (own_steps_of c report) vs,
         ap (λ q. when (is_in_place Top (open_directories (d ∷ ds)) q (token_of DirectoryKind (length ds))) (DeleteAt q ∷ []) (open_directories (d ∷ ds))) spelled
             ∙ ap (λ b. when b (DeleteAt p ∷ []) (open_directories (d ∷ ds))) (placed d ds p on.0),
         says_plan vs d ds end (All-tail (IsSendable New) (Delete p) vs sendable) on.1,
@@ -239,7 +235,7 @@ module _ (c : RepoState) (report : WholeReport) where
   says_plan (Close ∷ vs) d (e ∷ ds) end sendable walked = (
     [],
     open_directories (e ∷ ds),
-    plan_steps New (own_steps_of c report) vs,
+    plan_steps (own_steps_of c report) vs,
     reads_close report.ask.purpose Top Base (entry_at DirectoryKind (length (e ∷ ds)) d []) (open_directories (e ∷ ds)) refl,
     subst (λ n. SaysPlan (e ∷ ds) n vs end) (shrunk (length (e ∷ ds)) (length ds) (grown e ds))
         (says_plan vs e ds end (All-tail (IsSendable New) Close vs sendable) walked),

@@ -1,5 +1,5 @@
 -- Every visit of a plan can be sent: its path is one that a client can name, what it enters is to stand, and texts keep the limit.
-use Rattle.std.proofs.Common.{◌≡◌, ◌≤◌, ℕ, Bool, true, false, cond, ◌&&◌, ◌||◌, List, [], ◌∷◌, ◌++◌, length, drop, Option, Some, None, option_map, refl, sym, ap, ◌∙◌, subst, arith, append-nil, ⊎_elim, if◌then◌else◌}
+use Rattle.std.proofs.Common.{◌≡◌, ◌≤◌, ℕ, Bool, true, false, not, cond, ◌&&◌, ◌||◌, List, [], ◌∷◌, ◌++◌, length, drop, Option, Some, None, option_map, refl, sym, ap, ◌∙◌, subst, arith, append-nil, ⊎_elim, if◌then◌else◌}
 use Rattle.std.proofs.lemmas.Bool.{false≢true}
 use Rattle.std.proofs.lemmas.List.Elements.{All-nil, All-cons, All-head, All-tail, All-append}
 use Rattle.std.proofs.lemmas.Option.{none-some}
@@ -10,7 +10,7 @@ use Rattle.svnpath.specs.PathLaws.{under_is, same_path_refl}
 use Rattle.svndiff0.specs.Window.{limit}
 use Rattle.repo_api.specs.Soundness.{AreTrees}
 use Rattle.repo_api.specs.States.{RepoState, trees_in}
-use Rattle.repo_api.specs.Trees.{Tree, text_of, is_directory_there}
+use Rattle.repo_api.specs.Trees.{Tree, text_of, is_directory}
 use Rattle.repo_api.specs.declared.entry.Entry.{Entry}
 use Rattle.repo_api.specs.declared.limits.TheConstants.{TEXT_LIMIT}
 use Rattle.repo_laws.proofs.Standing.{right_where, short_where}
@@ -21,8 +21,8 @@ use Rattle.drive_rules.specs.Steps.{Step, node_of, is_named}
 use Rattle.drive_rules.specs.declared.depth.Depth.{Depth}
 use Rattle.drive_rules.specs.declared.depth.Depth.TheVariants.{Empty, Files, Immediates, Infinity}
 use Rattle.drive_rules.proofs.Joined.{and_front, named_append, or_right}
-use Rattle.reporter.specs.Nesting.{walk}
-use Rattle.reporter.specs.Visits.{OwnSteps, plan_steps, visit_steps}
+use Rattle.reporter.specs.Nesting.{stands_as, walk}
+use Rattle.reporter.specs.Visits.{OwnSteps, entry_kind, kind_if, plan_steps, visit_steps}
 use Rattle.reporter.specs.declared.visit.Visit.{Visit}
 use Rattle.reporter.specs.declared.visit.Visit.TheVariants.{Open, Add, Delete, Close}
 use Rattle.drive_reports.specs.Named.{IsNamed, AreNamed}
@@ -36,18 +36,29 @@ use Rattle.drive_sides.proofs.Listing.{in_old, in_new, under_target}
 use Rattle.drive_news.specs.News.{own_steps_of}
 use Rattle.drive_sending.proofs.Spelled.{IsSpelledPath, spelled}
 
--- something is to stand there, its path is spelled by a text, and its text is short enough for a delta
-pub record IsTellable (new : Tree) (p : PathValue) : Type 0 where
+-- something is to stand there, a directory or a file, its path is spelled by a text, and its text is short enough for a delta
+pub record IsTellable (new : Tree) (p : PathValue) (directory : Bool) : Type 0 where
   pub stands : is_some (new p) ≡ true
+  pub kind : entry_kind (new p) ≡ kind_if directory
   pub spelled : IsSpelledPath p
   pub short : length (or_no_text (text_of (new p))) ≤ limit
 
 -- the commands of the visit say what they are to say
 abbrev pub IsSendable : Tree → Visit → Type 0
-IsSendable new (Open p) = IsTellable new p
-IsSendable new (Add p) = IsTellable new p
+IsSendable new (Open p directory) = IsTellable new p directory
+IsSendable new (Add p directory) = IsTellable new p directory
 IsSendable new (Delete p) = IsSpelledPath p
 IsSendable new Close = Unit {0}
+
+is_not : (b : Bool) → not b ≡ true → b ≡ false
+is_not true h = absurd (false≢true h)
+is_not false h = refl
+
+-- what stands there is of the kind as which it stands there
+stood : (directory : Bool) (e : Option Entry) → stands_as directory e ≡ true → (is_some e ≡ true) × (entry_kind e ≡ kind_if directory)
+stood directory None h = absurd (false≢true h)
+stood true (Some e) h = (refl, ap kind_if h)
+stood false (Some e) h = (refl, ap kind_if (is_not (is_directory e) h))
 
 -- ---- components
 
@@ -196,38 +207,42 @@ module _ (c : RepoState) (report : WholeReport) (trees : AreTrees c.revisions) (
   first_named p xs = ap (λ b. (b && true) || is_named p xs) (same_path_refl p)
 
   abbrev AreSpelled : List Visit → Type 0
-  AreSpelled vs = (q : PathValue) → is_named q (plan_steps New Own vs) ≡ true → IsNamed q
+  AreSpelled vs = (q : PathValue) → is_named q (plan_steps Own vs) ≡ true → IsNamed q
 
   later : (v : Visit) (vs : List Visit) → AreSpelled (v ∷ vs) → AreSpelled vs
   later v vs right q named =
-      right q (named_append (λ _. true) q (visit_steps New Own v) (plan_steps New Own vs) ∙ or_right (is_named q (visit_steps New Own v)) (is_named q (plan_steps New Own vs)) named)
+      right q (named_append (λ _. true) q (visit_steps Own v) (plan_steps Own vs) ∙ or_right (is_named q (visit_steps Own v)) (is_named q (plan_steps Own vs)) named)
 
   sendable : (vs : List Visit) (ds end : List PathValue) → walk New report.ask.target ds vs ≡ Some end → AreSpelled vs → All (IsSendable New) vs
   sendable [] ds end walked right = All-nil (IsSendable New)
-  sendable (Open p ∷ vs) [] end walked right = absurd (none-some end walked)
-  sendable (Open p ∷ vs) (d ∷ ds) end walked right =
-      let on = went_on (is_in_directory report.ask.target d p && is_some (New p)) (if is_directory_there (New p) then p ∷ d ∷ ds else d ∷ ds) (λ mid. walk New report.ask.target mid vs) end walked in
-      All-cons (IsSendable New) (Open p) vs
+  sendable (Open p directory ∷ vs) [] end walked right = absurd (none-some end walked)
+  sendable (Open p directory ∷ vs) (d ∷ ds) end walked right =
+      let on = went_on (is_in_directory report.ask.target d p && stands_as directory (New p)) (if directory then p ∷ d ∷ ds else d ∷ ds) (λ mid. walk New report.ask.target mid vs) end walked in
+      let there = stood directory (New p) (and_behind (is_in_directory report.ask.target d p) (stands_as directory (New p)) on.0) in
+      All-cons (IsSendable New) (Open p directory) vs
       (record {
-        stands = and_behind (is_in_directory report.ask.target d p) (is_some (New p)) on.0;
-        spelled = spelled p (right p (first_named p (Own p false ++ plan_steps New Own vs)));
+        stands = there.0;
+        kind = there.1;
+        spelled = spelled p (right p (first_named p (Own p false ++ plan_steps Own vs)));
         short = short_new p;
       })
-      (sendable vs (if is_directory_there (New p) then p ∷ d ∷ ds else d ∷ ds) end on.1 (later (Open p) vs right))
-  sendable (Add p ∷ vs) [] end walked right = absurd (none-some end walked)
-  sendable (Add p ∷ vs) (d ∷ ds) end walked right =
-      let on = went_on (is_in_directory report.ask.target d p && is_some (New p)) (if is_directory_there (New p) then p ∷ d ∷ ds else d ∷ ds) (λ mid. walk New report.ask.target mid vs) end walked in
-      All-cons (IsSendable New) (Add p) vs
+      (sendable vs (if directory then p ∷ d ∷ ds else d ∷ ds) end on.1 (later (Open p directory) vs right))
+  sendable (Add p directory ∷ vs) [] end walked right = absurd (none-some end walked)
+  sendable (Add p directory ∷ vs) (d ∷ ds) end walked right =
+      let on = went_on (is_in_directory report.ask.target d p && stands_as directory (New p)) (if directory then p ∷ d ∷ ds else d ∷ ds) (λ mid. walk New report.ask.target mid vs) end walked in
+      let there = stood directory (New p) (and_behind (is_in_directory report.ask.target d p) (stands_as directory (New p)) on.0) in
+      All-cons (IsSendable New) (Add p directory) vs
       (record {
-        stands = and_behind (is_in_directory report.ask.target d p) (is_some (New p)) on.0;
-        spelled = spelled p (right p (first_named p (Own p true ++ plan_steps New Own vs)));
+        stands = there.0;
+        kind = there.1;
+        spelled = spelled p (right p (first_named p (Own p true ++ plan_steps Own vs)));
         short = short_new p;
       })
-      (sendable vs (if is_directory_there (New p) then p ∷ d ∷ ds else d ∷ ds) end on.1 (later (Add p) vs right))
+      (sendable vs (if directory then p ∷ d ∷ ds else d ∷ ds) end on.1 (later (Add p directory) vs right))
   sendable (Delete p ∷ vs) [] end walked right = absurd (none-some end walked)
   sendable (Delete p ∷ vs) (d ∷ ds) end walked right =
       let on = went_on (is_in_directory report.ask.target d p) (d ∷ ds) (λ mid. walk New report.ask.target mid vs) end walked in
-      All-cons (IsSendable New) (Delete p) vs (spelled p (right p (first_named p (plan_steps New Own vs)))) (sendable vs (d ∷ ds) end on.1 (later (Delete p) vs right))
+      All-cons (IsSendable New) (Delete p) vs (spelled p (right p (first_named p (plan_steps Own vs)))) (sendable vs (d ∷ ds) end on.1 (later (Delete p) vs right))
   sendable (Close ∷ vs) [] end walked right = absurd (none-some end walked)
   sendable (Close ∷ vs) (d ∷ []) end walked right = absurd (none-some end walked)
   sendable (Close ∷ vs) (d ∷ e ∷ ds) end walked right = All-cons (IsSendable New) Close vs tt (sendable vs (e ∷ ds) end walked (later Close vs right))
@@ -236,8 +251,8 @@ module _ (c : RepoState) (report : WholeReport) (trees : AreTrees c.revisions) (
   below_root : (vs : List Visit) → AreSpelled (from_top report.ask vs) → AreSpelled vs
   below_root vs right = by (same_path report.ask.target []) right
     where
-      by : (b : Bool) → AreSpelled (if b then Open [] ∷ vs else vs) → AreSpelled vs
-      by true all = later (Open []) vs all
+      by : (b : Bool) → AreSpelled (if b then Open [] true ∷ vs else vs) → AreSpelled vs
+      by true all = later (Open [] true) vs all
       by false all = all
 
   pub plan_sendable : (vs : List Visit) → IsPlan c report vs → All (IsSendable New) vs

@@ -7,7 +7,7 @@ use Rattle.wire_replies.specs.Sinks.{WritesPart}
 use Rattle.reporter.specs.Visiting.{MayVisit}
 use Rattle.reporter.specs.declared.visit.Visit.{Visit}
 use Rattle.reporter.specs.declared.visitor.Visitor.{Visitor}
-use Rattle.drive_reports.specs.Targets.{WholeReport, new_tree}
+use Rattle.drive_reports.specs.Targets.{WholeReport}
 use Rattle.drive_sides.proofs.Existing.{some_visits}
 use Rattle.drive_sides.specs.Plans.{drive_trees}
 use Rattle.drive_sending.specs.Commands.{around_after, plan_commands, visit_commands}
@@ -61,7 +61,7 @@ module _ (c : RepoState) (report : WholeReport) where
     Gives now later visit = (rest : List Visit) → MayVisit (drive_trees c report) later rest → MayVisit (drive_trees c report) now (visit ∷ rest)
 
     splits_next : (said : List Visit) (around : ℕ) (visit : Visit) → Splits said around → (rest : List Visit)
-        → plan_commands c report 0 (said ++ visit ∷ rest) ≡ plan_commands c report 0 said ++ (visit_commands c report around visit ++ plan_commands c report (around_after (new_tree c report) around visit) rest)
+        → plan_commands c report 0 (said ++ visit ∷ rest) ≡ plan_commands c report 0 said ++ (visit_commands c report around visit ++ plan_commands c report (around_after around visit) rest)
     splits_next said around visit splits rest = splits (visit ∷ rest)
 
     one_said : (said : List Visit) (around : ℕ) (visit : Visit) → Splits said around → plan_commands c report 0 (said ++ visit ∷ []) ≡ plan_commands c report 0 said ++ visit_commands c report around visit
@@ -69,7 +69,7 @@ module _ (c : RepoState) (report : WholeReport) where
 
     module _ (more : (s t u : S) (first second : List ℕ) → writes s t first → writes t u second → writes s u (first ++ second)) where
       -- one visit more is said
-      pub said_next : (start now later : Visitor) (s t u : S) (around after : ℕ) (visit : Visit) → HasSaid start now s t around → Gives now later visit → after ≡ around_after (new_tree c report) around visit
+      pub said_next : (start now later : Visitor) (s t u : S) (around after : ℕ) (visit : Visit) → HasSaid start now s t around → Gives now later visit → after ≡ around_after around visit
           → writes t u (command_bytes (visit_commands c report around visit)) → HasSaid start later s u after
       said_next start now later s t u around after visit so gives is wrote = record {
         said = so.said ++ visit ∷ [];
@@ -77,8 +77,8 @@ module _ (c : RepoState) (report : WholeReport) where
         splits = λ rest.
             ap (plan_commands c report 0) (append_assoc so.said (visit ∷ []) rest)
             ∙ so.splits (visit ∷ rest)
-            ∙ sym (append_assoc (plan_commands c report 0 so.said) (visit_commands c report around visit) (plan_commands c report (around_after (new_tree c report) around visit) rest))
-            ∙ ap (λ cs. cs ++ plan_commands c report (around_after (new_tree c report) around visit) rest) (sym (one_said so.said around visit so.splits))
+            ∙ sym (append_assoc (plan_commands c report 0 so.said) (visit_commands c report around visit) (plan_commands c report (around_after around visit) rest))
+            ∙ ap (λ cs. cs ++ plan_commands c report (around_after around visit) rest) (sym (one_said so.said around visit so.splits))
             ∙ ap (λ n. plan_commands c report 0 (so.said ++ visit ∷ []) ++ plan_commands c report n rest) (sym is);
         wrote = subst (λ (cs : List EditorCommand). writes s u (command_bytes cs)) (sym (one_said so.said around visit so.splits))
             (both writes more s t u (plan_commands c report 0 so.said) (visit_commands c report around visit) so.wrote wrote);
@@ -92,6 +92,6 @@ module _ (c : RepoState) (report : WholeReport) where
             so.said ++ visit ∷ rest.0,
             so.follows (visit ∷ rest.0) (gives rest.0 rest.1),
             subst (λ (cs : List EditorCommand). WritesPart (writes s u) (command_bytes cs)) (sym (splits_next so.said around visit so.splits rest.0))
-                (behind_part writes more s t u (plan_commands c report 0 so.said) (visit_commands c report around visit ++ plan_commands c report (around_after (new_tree c report) around visit) rest.0) so.wrote
-                (first_part (writes t u) (visit_commands c report around visit) (plan_commands c report (around_after (new_tree c report) around visit) rest.0) part)),
+                (behind_part writes more s t u (plan_commands c report 0 so.said) (visit_commands c report around visit ++ plan_commands c report (around_after around visit) rest.0) so.wrote
+                (first_part (writes t u) (visit_commands c report around visit) (plan_commands c report (around_after around visit) rest.0) part)),
           )

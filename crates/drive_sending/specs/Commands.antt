@@ -7,7 +7,6 @@ use Rattle.svnpath.specs.Paths.{PathValue, same_path}
 use Rattle.svndiff0.specs.Document.{header}
 use Rattle.svndiff0.specs.Full.{full_window}
 use Rattle.repo_api.specs.States.{RepoState}
-use Rattle.repo_api.specs.Trees.{Tree}
 use Rattle.wire_edits.specs.declared.editing.AddedEntry.{AddedEntry}
 use Rattle.wire_edits.specs.declared.editing.DeletedEntry.{DeletedEntry}
 use Rattle.wire_edits.specs.declared.editing.EditorCommand.{EditorCommand}
@@ -16,7 +15,7 @@ use Rattle.wire_edits.specs.declared.editing.OpenedEntry.{OpenedEntry}
 use Rattle.drive_rules.specs.Steps.{EntryKind}
 use Rattle.drive_rules.specs.Steps.EntryKind.{DirectoryKind, FileKind}
 use Rattle.reporter.specs.Own.{Change}
-use Rattle.reporter.specs.Visits.{entry_kind}
+use Rattle.reporter.specs.Visits.{kind_if}
 use Rattle.reporter.specs.declared.visit.Visit.{Visit}
 use Rattle.reporter.specs.declared.visit.Visit.TheVariants.{Open, Add, Delete, Close}
 use Rattle.drive_reports.specs.Targets.{WholeReport, client_tree, new_tree}
@@ -122,13 +121,13 @@ deleted_entry around p = record {
 
 -- the commands of a visit, while so many directories are open around the innermost one
 abbrev pub visit_commands : RepoState → WholeReport → ℕ → Visit → List EditorCommand
-visit_commands c report around (Open p) =
-    let kind = entry_kind (new_tree c report p) in
+visit_commands c report around (Open p directory) =
+    let kind = kind_if directory in
     open_command kind (opened_entry c report around p kind)
     ∷ news_commands report.ask.purpose kind (token_of kind (around + 1))
     (news_told c report p false)
-visit_commands c report around (Add p) =
-    let kind = entry_kind (new_tree c report p) in
+visit_commands c report around (Add p directory) =
+    let kind = kind_if directory in
     add_command kind (added_entry around p kind)
     ∷ news_commands report.ask.purpose kind (token_of kind (around + 1))
     (news_told c report p true)
@@ -141,25 +140,18 @@ deeper_by DirectoryKind around = around + 1
 deeper_by FileKind around = around
 
 -- how many directories are open around the innermost one after a visit
-abbrev pub around_after : Tree → ℕ → Visit → ℕ
-around_after new around (Open p) = deeper_by (entry_kind (new p)) around
-around_after new around (Add p) = deeper_by (entry_kind (new p)) around
-around_after new around (Delete p) = around
-around_after new around Close = around - 1
-
--- the kind of the entry that a visit opens or adds, or else that of a file
-abbrev pub visited_kind : Tree → Visit → EntryKind
-visited_kind new (Open p) = entry_kind (new p)
-visited_kind new (Add p) = entry_kind (new p)
-visited_kind new (Delete p) = FileKind
-visited_kind new Close = FileKind
+abbrev pub around_after : ℕ → Visit → ℕ
+around_after around (Open p directory) = deeper_by (kind_if directory) around
+around_after around (Add p directory) = deeper_by (kind_if directory) around
+around_after around (Delete p) = around
+around_after around Close = around - 1
 
 -- the commands of all visits, in their order
 abbrev pub plan_commands : RepoState → WholeReport → ℕ → List Visit → List EditorCommand
 plan_commands c report around [] = []
 plan_commands c report around (v ∷ vs) =
     visit_commands c report around v
-    ++ plan_commands c report (around_after (new_tree c report) around v) vs
+    ++ plan_commands c report (around_after around v) vs
 
 -- ---- the drive
 

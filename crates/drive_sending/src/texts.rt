@@ -4,7 +4,7 @@ ghost use Rattle.std.specs.Int.{div_ceil};
 ghost use Rattle.svndiff0.specs.Document.{header};
 ghost use Rattle.svndiff0.specs.Full.{full_window};
 ghost use Rattle.wire_edits.specs.declared.editing.EditorCommand.TheVariants.{ApplyTextDelta, TextDeltaChunk, TextDeltaEnd, CloseFile};
-ghost use Rattle.drive_sending.specs.Commands.{windows, chunks, text_commands, checksum_sent, digits_of};
+ghost use Rattle.drive_sending.specs.Commands.{windows, chunks, text_commands, checksum_sent};
 ghost use Rattle.drive_sending.specs.Driving.{command_bytes};
 ghost use Rattle.wire_replies.specs.Sinks.{Writes};
 
@@ -108,16 +108,8 @@ fn checksum_sent(
     };
     match purpose {
         Purpose::Status => Ok(None),
-        Purpose::Update | Purpose::Switch => Ok(Some(digits_of(alloc, text)?)),
+        Purpose::Update | Purpose::Switch => Ok(Some(text.digest_text(alloc)?)),
     }
-}
-
-/// Gives the MD5 of a text, as digits.
-fn digits_of(alloc: Global, text: &FileText) -> Result<ByteString, AllocError>
-    ensures { IfOk result (λ digits. digits ≡ digits_of text.now) }
-{
-    let digits = hex::encode(alloc, &text.digest())?;
-    Ok(ByteString::new(digits.into_bytes()))
 }
 
 /// Makes the command that closes a file.

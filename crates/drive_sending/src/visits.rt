@@ -1,15 +1,11 @@
 //! The commands of visits. Where one of these fails, a part of what it says was written.
-ghost use Rattle.std.specs.Prelude.{◌≡◌, ◌<◌, ◌≤◌, ◌+◌, ◌^◌, ◌∷◌, [], false, length, Option, IfOk};
-ghost use Rattle.repo_api.specs.Kinds.{kind_of};
-ghost use Rattle.repo_api.specs.Trees.{Tree};
-ghost use Rattle.repo_api.specs.declared.entry.Entry.{Entry};
+ghost use Rattle.std.specs.Prelude.{◌≡◌, ◌<◌, ◌≤◌, ◌+◌, ◌^◌, ◌∷◌, [], false, IfOk};
 ghost use Rattle.wire_edits.specs.declared.editing.EditorCommand.TheVariants.{CloseDirectory, DeleteEntry};
 ghost use Rattle.drive_rules.specs.Steps.EntryKind.{DirectoryKind};
-ghost use Rattle.reporter.specs.Visits.{entry_kind, kind_if};
+ghost use Rattle.reporter.specs.Visits.{kind_if};
 ghost use Rattle.reporter.specs.declared.visit.Visit.TheVariants.{Add, Open};
-ghost use Rattle.drive_reports.specs.Targets.{new_tree};
 ghost use Rattle.drive_sides.specs.Plans.{drive_trees, whole};
-ghost use Rattle.drive_sending.specs.Commands.{add_command, added_entry, around_after, deleted_entry, news_told, open_command, opened_entry, plan_commands, visit_commands, visited_kind};
+ghost use Rattle.drive_sending.specs.Commands.{add_command, added_entry, around_after, deeper_by, deleted_entry, news_told, open_command, opened_entry, plan_commands, visit_commands};
 ghost use Rattle.drive_sending.specs.Driving.{Visiting, command_bytes};
 ghost use Rattle.drive_sending.specs.Tokens.{token_of};
 ghost use Rattle.wire_replies.specs.Sinks.{Writes};
@@ -19,7 +15,7 @@ use crate::saying::say_made;
 use crate::telling::{Entrance, or_no_news, say_news};
 use drive_news::News;
 use drive_sides::TwoTrees;
-use repo_api::{NodeKind, Repository};
+use repo_api::Repository;
 use reporter::{Visit, Visitor};
 use std::alloc::{AllocError, Global};
 use svnpath::Path;
@@ -123,12 +119,11 @@ fn say_open<R: Repository, S: ReplySink>(
     entrance: Entrance,
     out: &mut S,
 ) -> Result<(), AllocError>
-    requires deep { entrance.around + 1 < 2 ^ 64 }
-    requires kind { entry_kind (new_tree (R.content trees.now.view.now)
-        (whole trees.now.report.now trees.now.root) path.now) ≡ kind_if entrance.is_directory }
+    requires { entrance.around + 1 < 2 ^ 64 }
     ensures { Writes result (S.writes out.old out.new)
         (command_bytes (visit_commands (R.content trees.now.view.now)
-        (whole trees.now.report.now trees.now.root) entrance.around (Open path.now))) }
+        (whole trees.now.report.now trees.now.root) entrance.around
+        (Open path.now entrance.is_directory))) }
 {
     let news = news_told(alloc, trees, path, false)?;
     say_made(open_command(alloc, trees, path, entrance), out)?;
@@ -143,12 +138,11 @@ fn say_add<R: Repository, S: ReplySink>(
     entrance: Entrance,
     out: &mut S,
 ) -> Result<(), AllocError>
-    requires deep { entrance.around + 1 < 2 ^ 64 }
-    requires kind { entry_kind (new_tree (R.content trees.now.view.now)
-        (whole trees.now.report.now trees.now.root) path.now) ≡ kind_if entrance.is_directory }
+    requires { entrance.around + 1 < 2 ^ 64 }
     ensures { Writes result (S.writes out.old out.new)
         (command_bytes (visit_commands (R.content trees.now.view.now)
-        (whole trees.now.report.now trees.now.root) entrance.around (Add path.now))) }
+        (whole trees.now.report.now trees.now.root) entrance.around
+        (Add path.now entrance.is_directory))) }
 {
     let news = news_told(alloc, trees, path, true)?;
     say_made(add_command(alloc, path, entrance), out)?;
@@ -185,63 +179,54 @@ fn say_visit<R: Repository, S: ReplySink>(
     alloc: Global,
     trees: &TwoTrees<R>,
     visit: &Visit,
-    entrance: Entrance,
+    around: u64,
     out: &mut S,
 ) -> Result<(), AllocError>
-    requires deep { entrance.around + 1 < 2 ^ 64 }
-    requires kind { visited_kind (new_tree (R.content trees.now.view.now)
-        (whole trees.now.report.now trees.now.root)) visit.now ≡ kind_if entrance.is_directory }
+    requires { around + 1 < 2 ^ 64 }
     ensures { Writes result (S.writes out.old out.new)
         (command_bytes (visit_commands (R.content trees.now.view.now)
-        (whole trees.now.report.now trees.now.root) entrance.around visit.now)) }
+        (whole trees.now.report.now trees.now.root) around visit.now)) }
 {
     match visit {
-        Visit::Open(path) => say_open(alloc, trees, path, entrance, out),
-        Visit::Add(path) => say_add(alloc, trees, path, entrance, out),
-        Visit::Delete(path) => say_delete(alloc, path, entrance.around, out),
-        Visit::Close => say_close(alloc, entrance.around, out),
+        Visit::Open { path, is_directory } => {
+            let entrance = Entrance {
+                around,
+                is_directory: *is_directory,
+            };
+            say_open(alloc, trees, path, entrance, out)
+        }
+        Visit::Add { path, is_directory } => {
+            let entrance = Entrance {
+                around,
+                is_directory: *is_directory,
+            };
+            say_add(alloc, trees, path, entrance, out)
+        }
+        Visit::Delete(path) => say_delete(alloc, path, around, out),
+        Visit::Close => say_close(alloc, around, out),
     }
 }
 
-/// Says whether there is a directory.
-fn is_directory(kind: NodeKind) -> bool
-    ensures { (e : Option Entry) → kind ≡ kind_of e → entry_kind e ≡ kind_if result }
+/// Says how many directories are open around the innermost one once an entry was entered.
+fn around_entered(around: u64, is_directory: bool) -> u64
+    requires { around + 1 < 2 ^ 64 }
+    ensures after { result ≡ deeper_by (kind_if is_directory) around }
+    ensures grows { result ≤ around + 1 }
 {
-    match kind {
-        NodeKind::Absent => false,
-        NodeKind::File => false,
-        NodeKind::Directory => true,
-    }
-}
-
-/// Says whether a visit opens or adds a directory.
-fn enters_directory<R: Repository>(
-    alloc: Global,
-    trees: &TwoTrees<R>,
-    visit: &Visit,
-) -> Result<bool, AllocError>
-    ensures { IfOk result (λ answer. visited_kind (new_tree (R.content trees.now.view.now)
-        (whole trees.now.report.now trees.now.root)) visit.now ≡ kind_if answer) }
-{
-    match visit {
-        Visit::Open(path) => Ok(is_directory(trees.new_kind(alloc, path)?)),
-        Visit::Add(path) => Ok(is_directory(trees.new_kind(alloc, path)?)),
-        Visit::Delete(_) => Ok(false),
-        Visit::Close => Ok(false),
-    }
+    if is_directory { around + 1 } else { around }
 }
 
 /// Says how many directories are open around the innermost one after a visit.
-fn around_after(visit: &Visit, entrance: Entrance) -> u64
-    requires { entrance.around + 1 < 2 ^ 64 }
-    ensures after { (new : Tree) → visited_kind new visit.now ≡ kind_if entrance.is_directory
-        → result ≡ around_after new entrance.around visit.now }
-    ensures grows { result ≤ entrance.around + 1 }
+fn around_after(visit: &Visit, around: u64) -> u64
+    requires { around + 1 < 2 ^ 64 }
+    ensures after { result ≡ around_after around visit.now }
+    ensures grows { result ≤ around + 1 }
 {
     match visit {
-        Visit::Open(_) | Visit::Add(_) => entrance.around + entrance.is_directory as u64,
-        Visit::Delete(_) => entrance.around,
-        Visit::Close => entrance.around.saturating_sub(1),
+        Visit::Open { is_directory, .. } => around_entered(around, *is_directory),
+        Visit::Add { is_directory, .. } => around_entered(around, *is_directory),
+        Visit::Delete(_) => around,
+        Visit::Close => around.saturating_sub(1),
     }
 }
 
@@ -254,21 +239,14 @@ fn say_next<R: Repository, S: ReplySink>(
     out: &mut S,
 ) -> Result<u64, AllocError>
     requires { around + 1 < 2 ^ 64 }
-    ensures after { IfOk result (λ after. after ≡ around_after (new_tree
-        (R.content trees.now.view.now) (whole trees.now.report.now trees.now.root)) around
-        visit.now) }
+    ensures after { IfOk result (λ after. after ≡ around_after around visit.now) }
     ensures grows { IfOk result (λ after. after ≤ around + 1) }
     ensures said { Writes result (S.writes out.old out.new)
         (command_bytes (visit_commands (R.content trees.now.view.now)
         (whole trees.now.report.now trees.now.root) around visit.now)) }
 {
-    let is_directory = enters_directory(alloc, trees, visit)?;
-    let entrance = Entrance {
-        around,
-        is_directory,
-    };
-    say_visit(alloc, trees, visit, entrance, out)?;
-    Ok(around_after(visit, entrance))
+    say_visit(alloc, trees, visit, around, out)?;
+    Ok(around_after(visit, around))
 }
 
 /// Writes visits as they are made. More than can be counted are as want of memory.

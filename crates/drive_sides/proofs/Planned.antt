@@ -91,10 +91,10 @@ pub both_sides : (c : RepoState) (report : WholeReport) → AreTrees c.revisions
 both_sides c report trees = record { old_holds = (both_hold c report trees).0; new_holds = (both_hold c report trees).1 }
 
 -- of the whole tree
-pub root_plan : (c : RepoState) (report : WholeReport) (visits : List Visit) → AreTrees c.revisions → report.ask.target ≡ [] → (BothHold (old_tree c report) (new_tree c report) [] → IsRightFor c report [] (Open [] ∷ visits))
+pub root_plan : (c : RepoState) (report : WholeReport) (visits : List Visit) → AreTrees c.revisions → report.ask.target ≡ [] → (BothHold (old_tree c report) (new_tree c report) [] → IsRightFor c report [] (Open [] true ∷ visits))
     → AreNested (new_tree c report) [] [] visits → IsPlan c report visits
 root_plan c report visits trees is right nests = record {
-  right = subst (λ (t : PathValue). IsRightFor c report t (cond (same_path t []) (Open [] ∷ visits) visits)) (sym is) (right (subst (BothHold (old_tree c report) (new_tree c report)) is (both_sides c report trees)));
+  right = subst (λ (t : PathValue). IsRightFor c report t (cond (same_path t []) (Open [] true ∷ visits) visits)) (sym is) (right (subst (BothHold (old_tree c report) (new_tree c report)) is (both_sides c report trees)));
   nests = subst (λ (t : PathValue). AreNested (new_tree c report) t [] visits) (sym is) nests;
 }
 
@@ -103,7 +103,7 @@ pub target_plan : (c : RepoState) (report : WholeReport) (visits : List Visit) �
     → (BothHold (old_tree c report) (new_tree c report) report.ask.target → IsRightFor c report report.ask.target visits)
     → ((d : PathValue) → is_in_directory report.ask.target d report.ask.target ≡ true → AreNested (new_tree c report) report.ask.target d visits) → IsPlan c report visits
 target_plan c report visits trees apart right nests = record {
-  right = subst (λ b. IsRightFor c report report.ask.target (cond b (Open [] ∷ visits) visits)) (sym apart) (right (both_sides c report trees));
+  right = subst (λ b. IsRightFor c report report.ask.target (cond b (Open [] true ∷ visits) visits)) (sym apart) (right (both_sides c report trees));
   nests = nests [] inside;
 }
   where

@@ -1,5 +1,5 @@
 -- The plans of drives.
-use Rattle.std.specs.Prelude.{◌≡◌, List, [], ◌∷◌, Some, if◌then◌else◌}
+use Rattle.std.specs.Prelude.{◌≡◌, true, List, [], ◌∷◌, Some, if◌then◌else◌}
 use Rattle.svnpath.specs.Paths.{PathValue, same_path}
 use Rattle.repo_api.specs.States.{RepoState}
 use Rattle.drive_rules.specs.Scopes.{under}
@@ -31,7 +31,7 @@ drive_trees c report = record {
 
 -- the root itself stands before the visits where there is no target
 abbrev pub from_top : DriveAsk → List Visit → List Visit
-from_top ask visits = if same_path ask.target [] then Open [] ∷ visits else visits
+from_top ask visits = if same_path ask.target [] then Open [] true ∷ visits else visits
 
 -- visits from the open root on, which lead from what the client has to what it is to have
 pub record IsPlan (c : RepoState) (report : WholeReport) (visits : List Visit) : Type 0 where

@@ -25,7 +25,7 @@ fn brings_in(depth: Depth, old: NodeKind, new: NodeKind) -> bool
 {
     match depth {
         Depth::Empty => false,
-        Depth::Files => old == NodeKind::File || new == NodeKind::File,
+        Depth::Files => old.is_file() || new.is_file(),
         Depth::Immediates | Depth::Infinity => true,
     }
 }
@@ -79,7 +79,7 @@ impl<'a, R: Repository> TwoTrees<'a, R> {
         match self.client_place(alloc, path)? {
             None => Ok(None),
             Some(place) => {
-                if self.view.kind(place.revision, &place.path) == NodeKind::Directory {
+                if self.view.kind(place.revision, &place.path).is_directory() {
                     Ok(Some(place.depth))
                 } else {
                     Ok(None)
@@ -125,7 +125,7 @@ impl<'a, R: Repository> TwoTrees<'a, R> {
     {
         match self.report.ask.depth {
             DepthAsked::Given(_) => false,
-            DepthAsked::AsReported => old != NodeKind::Absent,
+            DepthAsked::AsReported => old.is_present(),
         }
     }
 

@@ -74,7 +74,7 @@ impl<'a, R: Repository> TwoTrees<'a, R> {
         let goal = self.goal_path(alloc, path)?;
         let revision = self.report.ask.revision;
         match self.client_place(alloc, path)? {
-            None => Ok(self.view.kind(revision, &goal) != NodeKind::Absent),
+            None => Ok(self.view.kind(revision, &goal).is_present()),
             Some(place) => entries_differ(
                 alloc,
                 self.view,
@@ -103,9 +103,15 @@ impl<'a, R: Repository> Sides for TwoTrees<'a, R> {
     ghost leads = { λ s. news_leads (R.content s.view.now) (whole s.report.now s.root) };
 
     fn kinds(&self, alloc: Global, path: &Path) -> Result<Kinds, AllocError> {
+        if !self.is_in_scope(alloc, path)? {
+            return Ok(Kinds {
+                old: NodeKind::Absent,
+                new: NodeKind::Absent,
+            });
+        }
         Ok(Kinds {
-            old: self.old_kind(alloc, path)?,
-            new: self.new_kind(alloc, path)?,
+            old: self.client_kind(alloc, path)?,
+            new: self.target_kind(alloc, path)?,
         })
     }
 

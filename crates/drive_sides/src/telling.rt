@@ -1,7 +1,6 @@
 //! What the entries of a drive are told, and what else is to be known of them.
 ghost use Rattle.std.specs.Prelude.{◌≡◌, true, IfOk, option_and_then, option_map};
-ghost use Rattle.repo_api.specs.Kinds.{kind_of};
-ghost use Rattle.drive_reports.specs.Targets.{client_tree, drive_scope, is_stale, new_tree, old_tree, stale_in};
+ghost use Rattle.drive_reports.specs.Targets.{client_tree, drive_scope, is_stale, new_tree, stale_in};
 ghost use Rattle.drive_news.specs.News.{news_at, news_of};
 ghost use Rattle.drive_news.specs.Places.{entry_had};
 ghost use Rattle.drive_sides.specs.Plans.{whole};
@@ -9,33 +8,11 @@ ghost use Rattle.drive_sides.specs.Plans.{whole};
 use crate::two_trees::TwoTrees;
 use crate::views::had_at;
 use drive_news::{Had, News, Place, Sight, news_of};
-use repo_api::{NodeKind, Repository};
+use repo_api::Repository;
 use std::alloc::{AllocError, Global};
 use svnpath::Path;
 
 impl<'a, R: Repository> TwoTrees<'a, R> {
-    /// Finds the kind of what the client has, of the paths of the drive.
-    pub(crate) fn old_kind(&self, alloc: Global, path: &Path) -> Result<NodeKind, AllocError>
-        ensures { IfOk result (λ kind. kind ≡ kind_of (old_tree (R.content self.now.view.now)
-            (whole self.now.report.now self.now.root) path.now)) }
-    {
-        if !self.is_in_scope(alloc, path)? {
-            return Ok(NodeKind::Absent);
-        }
-        self.client_kind(alloc, path)
-    }
-
-    /// Finds the kind of what the client is to have, of the paths of the drive.
-    pub fn new_kind(&self, alloc: Global, path: &Path) -> Result<NodeKind, AllocError>
-        ensures { IfOk result (λ kind. kind ≡ kind_of (new_tree (R.content self.now.view.now)
-            (whole self.now.report.now self.now.root) path.now)) }
-    {
-        if !self.is_in_scope(alloc, path)? {
-            return Ok(NodeKind::Absent);
-        }
-        self.target_kind(alloc, path)
-    }
-
     /// Says whether the client's token of a path is stale.
     pub(crate) fn is_stale(&self, alloc: Global, path: &Path) -> Result<bool, AllocError>
         ensures { IfOk result (λ answer. answer ≡ is_stale (R.content self.now.view.now)
@@ -47,7 +24,7 @@ impl<'a, R: Repository> TwoTrees<'a, R> {
         let Some(token) = place.token else {
             return Ok(false);
         };
-        if self.target_kind(alloc, path)? == NodeKind::Absent {
+        if !self.target_kind(alloc, path)?.is_present() {
             return Ok(false);
         }
         let goal = self.goal_path(alloc, path)?;

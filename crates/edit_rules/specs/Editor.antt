@@ -19,8 +19,8 @@ use Rattle.wire_edits.specs.declared.editing.PropertyChange.{PropertyChange}
 use Rattle.edit_rules.specs.Tokens.{Tokens, with_token, without_token, with_change, opened_under, path_of, copies_under, closed_beneath, others_closed_beneath, has_unfinished}
 use Rattle.edit_rules.specs.Edits.{EditState, standing, file_text}
 use Rattle.edit_rules.specs.Refusing.{source_of, edit_refusal}
-use Rattle.edit_rules.specs.declared.fault.EditFault.{EditFault}
-use Rattle.edit_rules.specs.declared.fault.EditFault.TheVariants as edit_faults
+use Rattle.refusals.specs.declared.fault.NotDone.{NotDone}
+use Rattle.refusals.specs.declared.fault.NotDone.TheVariants as faults
 use Rattle.edit_rules.specs.declared.opened.OpenedDirectory.{OpenedDirectory}
 use Rattle.edit_rules.specs.declared.opened.Opened.{Opened}
 use Rattle.edit_rules.specs.declared.opened.Opened.TheVariants.{Directory, File}
@@ -167,15 +167,10 @@ Applies c old AbortEdit new = ⊥
 
 -- why nothing was made of a command: it is refused, and the edit is given up, or memory was, and
 -- nothing has changed
-abbrev pub NotApplied : RepoState → EditState → EditorCommand → EditFault → EditState → Type 0
-NotApplied c old command (edit_faults.Refused r) new =
+abbrev pub NotApplied : RepoState → EditState → EditorCommand → NotDone → EditState → Type 0
+NotApplied c old command (faults.Refused r) new =
     (edit_refusal c old command ≡ Some r) × (new ≡ given_up old)
-NotApplied c old command edit_faults.NoMemory new = new ≡ old
-
--- what is known of a refusal
-abbrev pub IfEditRefused : EditFault → (Refusal → Type 0) → Type 0
-IfEditRefused (edit_faults.Refused r) P = P r
-IfEditRefused edit_faults.NoMemory P = Unit {0}
+NotApplied c old command faults.NoMemory new = new ≡ old
 
 -- ---- the end of an edit
 

@@ -13,7 +13,7 @@ use Rattle.refusals.specs.Refusing.{path_refusal}
 use Rattle.refusals.specs.declared.Refusal.{Refusal}
 use Rattle.refusals.specs.declared.Refusal.TheVariants as refusals
 use Rattle.repo_api.specs.States.{RepoState, TxnState, youngest}
-use Rattle.repo_api.specs.Kinds.{kind_at, has_deeper_at}
+use Rattle.repo_api.specs.Kinds.{kind_at, has_deeper_at, is_present}
 use Rattle.repo_api.specs.declared.change.Source.{Source}
 use Rattle.repo_api.specs.declared.entry.NodeKind.{NodeKind}
 use Rattle.repo_api.specs.declared.entry.NodeKind.TheVariants as kinds
@@ -55,12 +55,6 @@ abbrev pub add_refusal : NodeKind → Option Refusal
 add_refusal kinds.Absent = None
 add_refusal kinds.File = Some refusals.AlreadyExists
 add_refusal kinds.Directory = Some refusals.AlreadyExists
-
--- nothing stands there
-abbrev pub is_absent : NodeKind → Bool
-is_absent kinds.Absent = true
-is_absent kinds.File = false
-is_absent kinds.Directory = false
 
 -- the revision that the client has is below the one in which the entry was last changed
 abbrev pub age_refusal : Option ℕ → Option ℕ → Option Refusal
@@ -114,7 +108,7 @@ source_of name (Some source) = sourced source.1 (source_path name source.0)
 
 -- a copy goes where nothing stands, and within a copy over what stands there
 abbrev pub room_refusal : Bool → NodeKind → Option Refusal
-room_refusal in_copy kind = unless (in_copy || is_absent kind) refusals.OutOfDate
+room_refusal in_copy kind = unless (in_copy || not (is_present kind)) refusals.OutOfDate
 
 -- what is copied is there, and of the kind that is added
 abbrev pub source_kind_refusal : Bool → NodeKind → Option Refusal

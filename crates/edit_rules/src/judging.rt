@@ -3,66 +3,65 @@ ghost use Rattle.std.specs.Prelude.{◌≡◌, option_copied, string_bytes};
 ghost use Rattle.svnpath.specs.Components.{AnswersPath};
 ghost use Rattle.svnpath.specs.Texts.{joined};
 ghost use Rattle.edit_rules.specs.Tokens.{is_within};
-ghost use Rattle.edit_rules.specs.Refusing.{add_refusal, age_refusal, delete_refusal, directory_refusal, file_refusal, is_absent, is_reserved, may_be_named, name_refusal, room_refusal, source_kind_refusal, source_of, source_path, unless};
+ghost use Rattle.edit_rules.specs.Refusing.{add_refusal, age_refusal, delete_refusal, directory_refusal, file_refusal, is_reserved, may_be_named, name_refusal, room_refusal, source_kind_refusal, source_of, source_path, unless};
 ghost use Rattle.edit_rules.specs.Judging.{Judges, Names};
 
-use crate::fault::EditFault;
 use byte_string::ByteString;
-use refusals::Refusal;
+use refusals::{NotDone, Refusal};
 use repo_api::{NodeKind, Source, is_older, is_property_name};
 use std::alloc::Global;
 use svnpath::{Path, PathFault};
 
 /// Refuses what does not hold, with this refusal.
-pub fn judge(holds: bool, refusal: Refusal) -> Result<(), EditFault>
+pub fn judge(holds: bool, refusal: Refusal) -> Result<(), NotDone>
     ensures { Judges result (unless holds refusal) }
 {
     if holds {
         Ok(())
     } else {
-        Err(EditFault::Refused(refusal))
+        Err(NotDone::Refused(refusal))
     }
 }
 
 /// Checks that a directory exists there.
-pub fn judge_directory(kind: NodeKind) -> Result<(), EditFault>
+pub fn judge_directory(kind: NodeKind) -> Result<(), NotDone>
     ensures { Judges result (directory_refusal kind) }
 {
     match kind {
         NodeKind::Directory => Ok(()),
-        NodeKind::File => Err(EditFault::Refused(Refusal::NotADirectory)),
-        NodeKind::Absent => Err(EditFault::Refused(Refusal::NotFound)),
+        NodeKind::File => Err(NotDone::Refused(Refusal::NotADirectory)),
+        NodeKind::Absent => Err(NotDone::Refused(Refusal::NotFound)),
     }
 }
 
 /// Checks that nothing exists there.
-pub fn judge_absence(kind: NodeKind) -> Result<(), EditFault>
+pub fn judge_absence(kind: NodeKind) -> Result<(), NotDone>
     ensures { Judges result (add_refusal kind) }
 {
     match kind {
         NodeKind::Absent => Ok(()),
-        NodeKind::File => Err(EditFault::Refused(Refusal::AlreadyExists)),
-        NodeKind::Directory => Err(EditFault::Refused(Refusal::AlreadyExists)),
+        NodeKind::File => Err(NotDone::Refused(Refusal::AlreadyExists)),
+        NodeKind::Directory => Err(NotDone::Refused(Refusal::AlreadyExists)),
     }
 }
 
 /// Checks that the entry has not changed since the revision that the client has.
-pub fn judge_age(revision: Option<u64>, made: Option<u64>) -> Result<(), EditFault>
+pub fn judge_age(revision: Option<u64>, made: Option<u64>) -> Result<(), NotDone>
     ensures { Judges result (age_refusal revision made) }
 {
     judge(!is_older(revision, made), Refusal::OutOfDate)
 }
 
 /// Checks that a file exists there, unchanged since the revision that the client has.
-pub fn judge_file(kind: NodeKind, revision: Option<u64>, made: Option<u64>) -> Result<(), EditFault>
+pub fn judge_file(kind: NodeKind, revision: Option<u64>, made: Option<u64>) -> Result<(), NotDone>
     ensures { Judges result (file_refusal kind (age_refusal revision made)) }
 {
     match kind {
-        NodeKind::Absent => Err(EditFault::Refused(Refusal::NotFound)),
+        NodeKind::Absent => Err(NotDone::Refused(Refusal::NotFound)),
         NodeKind::File => judge_age(revision, made),
         NodeKind::Directory => {
             judge_age(revision, made)?;
-            Err(EditFault::Refused(Refusal::NotAFile))
+            Err(NotDone::Refused(Refusal::NotAFile))
         }
     }
 }
@@ -72,18 +71,18 @@ pub fn judge_presence(
     kind: NodeKind,
     revision: Option<u64>,
     made: Option<u64>,
-) -> Result<(), EditFault>
+) -> Result<(), NotDone>
     ensures { Judges result (delete_refusal kind (age_refusal revision made)) }
 {
     match kind {
-        NodeKind::Absent => Err(EditFault::Refused(Refusal::OutOfDate)),
+        NodeKind::Absent => Err(NotDone::Refused(Refusal::OutOfDate)),
         NodeKind::File => judge_age(revision, made),
         NodeKind::Directory => judge_age(revision, made),
     }
 }
 
 /// Checks that a property does not have to have another name.
-pub fn judge_name(name: &[u8]) -> Result<(), EditFault>
+pub fn judge_name(name: &[u8]) -> Result<(), NotDone>
     ensures { Judges result (name_refusal name.now) }
 {
     judge(may_be_named(name), Refusal::NotSupported)
@@ -104,25 +103,14 @@ fn is_reserved(name: &[u8]) -> bool
 }
 
 /// Checks that a copy goes where nothing exists; within a copy it may go over what exists there.
-pub fn judge_room(in_copy: bool, kind: NodeKind) -> Result<(), EditFault>
+pub fn judge_room(in_copy: bool, kind: NodeKind) -> Result<(), NotDone>
     ensures { Judges result (room_refusal in_copy kind) }
 {
-    judge(in_copy || is_absent(kind), Refusal::OutOfDate)
-}
-
-/// Says whether nothing exists there.
-fn is_absent(kind: NodeKind) -> bool
-    ensures { result ≡ is_absent kind }
-{
-    match kind {
-        NodeKind::Absent => true,
-        NodeKind::File => false,
-        NodeKind::Directory => false,
-    }
+    judge(in_copy || !kind.is_present(), Refusal::OutOfDate)
 }
 
 /// Checks that what is copied exists, and is of the kind that is added.
-pub fn judge_source_kind(is_file: bool, kind: NodeKind) -> Result<(), EditFault>
+pub fn judge_source_kind(is_file: bool, kind: NodeKind) -> Result<(), NotDone>
     ensures { Judges result (source_kind_refusal is_file kind) }
 {
     if is_file {
@@ -138,7 +126,7 @@ pub fn source_named(
     alloc: Global,
     name: &str,
     source: &Option<(ByteString, u64)>,
-) -> Result<Option<Source>, EditFault>
+) -> Result<Option<Source>, NotDone>
     ensures { Names result (source_of name.now source.now) }
 {
     match source {
@@ -165,7 +153,7 @@ fn source_path(alloc: Global, name: &str, text: &[u8]) -> Result<Path, PathFault
 }
 
 /// Gives the path that a command names.
-pub fn path_named(alloc: Global, root: &Path, text: &ByteString) -> Result<Path, EditFault>
+pub fn path_named(alloc: Global, root: &Path, text: &ByteString) -> Result<Path, NotDone>
     ensures { Names result (joined root.now text.now) }
 {
     Ok(root.join(alloc, text.as_slice())?)

@@ -3,7 +3,6 @@
 #![tactic(auto)]
 
 mod checksums;
-mod fault;
 mod judging;
 mod laws;
 mod opened;
@@ -11,7 +10,6 @@ mod texts;
 mod tokens;
 
 pub use checksums::judge_checksum;
-pub use fault::EditFault;
 pub use judging::{
     is_within, judge, judge_absence, judge_age, judge_directory, judge_file, judge_name,
     judge_presence, judge_room, judge_source_kind, path_named, source_named,

@@ -10,10 +10,9 @@ ghost use Rattle.edit_rules.specs.Judging.{Judges};
 ghost use Rattle.edit_rules.specs.declared.opened.Opened.TheVariants.{File};
 ghost use Rattle.edit_rules.specs.declared.opened.DeltaState.TheVariants.{Reading};
 
-use crate::fault::EditFault;
 use crate::opened::{DeltaState, Opened};
 use byte_string::ByteString;
-use refusals::Refusal;
+use refusals::{NotDone, Refusal};
 use repo_api::{EditOp, FileText};
 use std::collections::BTreeMap;
 use svndiff0::DiffFault;
@@ -23,19 +22,19 @@ use svndiff0::DiffFault;
 pub fn text_edit_under(
     tokens: &mut BTreeMap<ByteString, Opened>,
     token: &ByteString,
-) -> Result<EditOp, EditFault>
+) -> Result<EditOp, NotDone>
     ensures judged { Judges result (end_delta_refusal (opened_under tokens.old.entries token.now)) }
     ensures op { IfOk result (λ op. SetsText (opened_under tokens.old.entries token.now) op) }
     ensures same { tokens.new.entries ≡ tokens.old.entries }
 {
     match tokens.get_mut(token) {
         Some(opened) => text_edit(opened),
-        None => Err(EditFault::Refused(Refusal::MalformedData)),
+        None => Err(NotDone::Refused(Refusal::MalformedData)),
     }
 }
 
 /// Makes the edit of a text by a file's text delta.
-fn text_edit(opened: &mut Opened) -> Result<EditOp, EditFault>
+fn text_edit(opened: &mut Opened) -> Result<EditOp, NotDone>
     ensures judged { Judges result (end_delta_refusal (Some opened.old)) }
     ensures op { IfOk result (λ op. SetsText (Some opened.old) op) }
     ensures same { opened.new ≡ opened.old }
@@ -46,12 +45,12 @@ fn text_edit(opened: &mut Opened) -> Result<EditOp, EditFault>
             let text = shared_text(delta)?;
             Ok(EditOp::SetText(path, text))
         }
-        Opened::Directory(_) => Err(EditFault::Refused(Refusal::MalformedData)),
+        Opened::Directory(_) => Err(NotDone::Refused(Refusal::MalformedData)),
     }
 }
 
 /// Gives the text that a delta makes.
-fn shared_text(delta: &mut DeltaState) -> Result<FileText, EditFault>
+fn shared_text(delta: &mut DeltaState) -> Result<FileText, NotDone>
     ensures judged { (p : PathValue) → Judges result (end_delta_refusal (Some (File p delta.old))) }
     ensures text { IfOk result (λ text. (a : Applying) × (delta.old ≡ Reading a)
         × (outcome a.reading ≡ Ok text)) }
@@ -60,10 +59,10 @@ fn shared_text(delta: &mut DeltaState) -> Result<FileText, EditFault>
     match delta {
         DeltaState::Reading(applier) => match applier.share_text() {
             Ok(text) => Ok(FileText::from_shared(text)),
-            Err(DiffFault::NoMemory) => Err(EditFault::NoMemory),
-            Err(_) => Err(EditFault::Refused(Refusal::BadSvndiff)),
+            Err(DiffFault::NoMemory) => Err(NotDone::NoMemory),
+            Err(_) => Err(NotDone::Refused(Refusal::BadSvndiff)),
         },
-        DeltaState::NotBegun => Err(EditFault::Refused(Refusal::MalformedData)),
-        DeltaState::Ended => Err(EditFault::Refused(Refusal::MalformedData)),
+        DeltaState::NotBegun => Err(NotDone::Refused(Refusal::MalformedData)),
+        DeltaState::Ended => Err(NotDone::Refused(Refusal::MalformedData)),
     }
 }

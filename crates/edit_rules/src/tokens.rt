@@ -4,14 +4,14 @@ ghost use Rattle.svnpath.specs.Paths.{PathValue};
 ghost use Rattle.svndiff0.specs.Applying.{Applying, fed};
 ghost use Rattle.edit_rules.specs.Tokens.{opened_under, directory_of, copies_under, with_change, closed_beneath, others_closed_beneath, has_unfinished};
 ghost use Rattle.edit_rules.specs.Refusing.{chunk_refusal};
-ghost use Rattle.edit_rules.specs.Judging.{Judges, IfNoMemory};
+ghost use Rattle.edit_rules.specs.Judging.{Judges};
+ghost use Rattle.refusals.specs.Faults.{IfNoMemory};
 ghost use Rattle.edit_rules.specs.declared.opened.Opened.TheVariants.{File};
 ghost use Rattle.edit_rules.specs.declared.opened.DeltaState.TheVariants.{Reading};
 
-use crate::fault::EditFault;
 use crate::opened::{DeltaState, Opened};
 use byte_string::ByteString;
-use refusals::Refusal;
+use refusals::{NotDone, Refusal};
 use std::collections::BTreeMap;
 use svndiff0::DiffFault;
 use svnpath::Path;
@@ -86,7 +86,7 @@ pub fn feed_under(
     tokens: &mut BTreeMap<ByteString, Opened>,
     token: &ByteString,
     bytes: &[u8],
-) -> Result<(), EditFault>
+) -> Result<(), NotDone>
     ensures judged { Judges result (chunk_refusal bytes.now
         (opened_under tokens.old.entries token.now)) }
     ensures ok { OnOk result ((p : PathValue) × (a : Applying)
@@ -95,7 +95,7 @@ pub fn feed_under(
     ensures err { IfErr result (λ fault. IfNoMemory fault
         (tokens.new.entries ≡ tokens.old.entries)) }
 {
-    let mut fed = Err(EditFault::Refused(Refusal::MalformedData));
+    let mut fed = Err(NotDone::Refused(Refusal::MalformedData));
     if let Some(opened) = tokens.get_mut(token) {
         fed = feed_opened(opened, bytes);
     }
@@ -103,7 +103,7 @@ pub fn feed_under(
 }
 
 /// Reads the next bytes of a file's text delta.
-fn feed_opened(opened: &mut Opened, bytes: &[u8]) -> Result<(), EditFault>
+fn feed_opened(opened: &mut Opened, bytes: &[u8]) -> Result<(), NotDone>
     ensures judged { Judges result (chunk_refusal bytes.now (Some opened.old)) }
     ensures ok { OnOk result ((p : PathValue) × (a : Applying) × (opened.old ≡ File p (Reading a))
         × (opened.new ≡ File p (Reading (fed a bytes.now)))) }
@@ -111,12 +111,12 @@ fn feed_opened(opened: &mut Opened, bytes: &[u8]) -> Result<(), EditFault>
 {
     match opened {
         Opened::File(_, delta) => feed(delta, bytes),
-        Opened::Directory(_) => Err(EditFault::Refused(Refusal::MalformedData)),
+        Opened::Directory(_) => Err(NotDone::Refused(Refusal::MalformedData)),
     }
 }
 
 /// Reads the next bytes of a text delta.
-fn feed(delta: &mut DeltaState, bytes: &[u8]) -> Result<(), EditFault>
+fn feed(delta: &mut DeltaState, bytes: &[u8]) -> Result<(), NotDone>
     ensures judged { (p : PathValue) → Judges result
         (chunk_refusal bytes.now (Some (File p delta.old))) }
     ensures ok { OnOk result ((a : Applying) × (delta.old ≡ Reading a)
@@ -126,10 +126,10 @@ fn feed(delta: &mut DeltaState, bytes: &[u8]) -> Result<(), EditFault>
     match delta {
         DeltaState::Reading(applier) => match applier.feed(bytes) {
             Ok(()) => Ok(()),
-            Err(DiffFault::NoMemory) => Err(EditFault::NoMemory),
-            Err(_) => Err(EditFault::Refused(Refusal::BadSvndiff)),
+            Err(DiffFault::NoMemory) => Err(NotDone::NoMemory),
+            Err(_) => Err(NotDone::Refused(Refusal::BadSvndiff)),
         },
-        DeltaState::NotBegun => Err(EditFault::Refused(Refusal::MalformedData)),
-        DeltaState::Ended => Err(EditFault::Refused(Refusal::MalformedData)),
+        DeltaState::NotBegun => Err(NotDone::Refused(Refusal::MalformedData)),
+        DeltaState::Ended => Err(NotDone::Refused(Refusal::MalformedData)),
     }
 }

@@ -15,10 +15,9 @@ ghost use Rattle.edit_rules.specs.declared.opened.DeltaState.TheVariants as delt
 use crate::editor::CommitEditor;
 use byte_string::ByteString;
 use edit_rules::{
-    DeltaState, EditFault, Opened, edits_are_right, feed_under, judge_checksum, set_delta,
-    text_edit_under,
+    DeltaState, Opened, edits_are_right, feed_under, judge_checksum, set_delta, text_edit_under,
 };
-use refusals::Refusal;
+use refusals::{NotDone, Refusal};
 use repo_api::{EditOp, FileText, Repository};
 use std::sync::Arc;
 use svndiff0::Applier;
@@ -31,7 +30,7 @@ impl<R: Repository> CommitEditor<R> {
         token: &ByteString,
         checksum: &Option<ByteString>,
         repository: &R,
-    ) -> Result<(), EditFault>
+    ) -> Result<(), NotDone>
         requires { RestsOn self.old (R.content repository.now) }
         ensures judged { Judges result (begin_delta_refusal self.old checksum.now
             (open_under self.old token.now)) }
@@ -53,7 +52,7 @@ impl<R: Repository> CommitEditor<R> {
         token: &ByteString,
         checksum: &Option<ByteString>,
         repository: &R,
-    ) -> Result<Arc<Vec<u8>>, EditFault>
+    ) -> Result<Arc<Vec<u8>>, NotDone>
         requires { RestsOn self.now (R.content repository.now) }
         ensures judged { Judges result (begin_delta_refusal self.now checksum.now
             (open_under self.now token.now)) }
@@ -67,13 +66,13 @@ impl<R: Repository> CommitEditor<R> {
                 Ok(base)
             }
             Some(Opened::File(_, DeltaState::Reading(_))) => {
-                Err(EditFault::Refused(Refusal::MalformedData))
+                Err(NotDone::Refused(Refusal::MalformedData))
             }
-            Some(Opened::File(_, DeltaState::Ended)) => Err(EditFault::Refused(
+            Some(Opened::File(_, DeltaState::Ended)) => Err(NotDone::Refused(
                 Refusal::MalformedData,
             )),
-            Some(Opened::Directory(_)) => Err(EditFault::Refused(Refusal::MalformedData)),
-            None => Err(EditFault::Refused(Refusal::MalformedData)),
+            Some(Opened::Directory(_)) => Err(NotDone::Refused(Refusal::MalformedData)),
+            None => Err(NotDone::Refused(Refusal::MalformedData)),
         }
     }
 
@@ -82,19 +81,19 @@ impl<R: Repository> CommitEditor<R> {
         &mut self,
         token: &ByteString,
         bytes: &ByteString,
-    ) -> Result<(), EditFault>
+    ) -> Result<(), NotDone>
         ensures judged { Judges result (chunk_refusal bytes.now (open_under self.old token.now)) }
         ensures ok { OnOk result (FeedsDelta self.old token.now bytes.now self.new) }
         ensures err { IfErr result (λ fault. Leaves self.old fault self.new) }
     {
         if self.txn.is_none() {
-            return Err(EditFault::Refused(Refusal::MalformedData));
+            return Err(NotDone::Refused(Refusal::MalformedData));
         }
         feed_under(&mut self.tokens, token, bytes.as_slice())
     }
 
     /// Ends a text delta: its text is the file's.
-    pub(crate) fn end_delta(&mut self, token: &ByteString, repository: &R) -> Result<(), EditFault>
+    pub(crate) fn end_delta(&mut self, token: &ByteString, repository: &R) -> Result<(), NotDone>
         requires rests { RestsOn self.old (R.content repository.now) }
         requires sound { IsSoundEdit self.old }
         ensures judged { Judges result (end_delta_refusal (open_under self.old token.now)) }
@@ -110,13 +109,13 @@ impl<R: Repository> CommitEditor<R> {
     }
 
     /// Makes the edit of a text by the delta that is being read under the token. The text is not copied.
-    fn text_edit(&mut self, token: &ByteString) -> Result<EditOp, EditFault>
+    fn text_edit(&mut self, token: &ByteString) -> Result<EditOp, NotDone>
         ensures judged { Judges result (end_delta_refusal (open_under self.old token.now)) }
         ensures op { IfOk result (λ op. SetsText (open_under self.old token.now) op) }
         ensures same { self.new ≡ self.old }
     {
         if self.txn.is_none() {
-            return Err(EditFault::Refused(Refusal::MalformedData));
+            return Err(NotDone::Refused(Refusal::MalformedData));
         }
         text_edit_under(&mut self.tokens, token)
     }
@@ -127,7 +126,7 @@ impl<R: Repository> CommitEditor<R> {
         token: &ByteString,
         checksum: &Option<ByteString>,
         repository: &R,
-    ) -> Result<(), EditFault>
+    ) -> Result<(), NotDone>
         requires { RestsOn self.old (R.content repository.now) }
         ensures judged { Judges result (close_file_refusal self.old checksum.now
             (open_under self.old token.now)) }
@@ -146,7 +145,7 @@ impl<R: Repository> CommitEditor<R> {
         token: &ByteString,
         checksum: &Option<ByteString>,
         repository: &R,
-    ) -> Result<(), EditFault>
+    ) -> Result<(), NotDone>
         requires { RestsOn self.now (R.content repository.now) }
         ensures { Judges result (close_file_refusal self.now checksum.now
             (open_under self.now token.now)) }
@@ -156,8 +155,8 @@ impl<R: Repository> CommitEditor<R> {
                 self.judge_text(path, delta, checksum, repository)?;
                 Ok(())
             }
-            Some(Opened::Directory(_)) => Err(EditFault::Refused(Refusal::MalformedData)),
-            None => Err(EditFault::Refused(Refusal::MalformedData)),
+            Some(Opened::Directory(_)) => Err(NotDone::Refused(Refusal::MalformedData)),
+            None => Err(NotDone::Refused(Refusal::MalformedData)),
         }
     }
 
@@ -169,12 +168,12 @@ impl<R: Repository> CommitEditor<R> {
         delta: &DeltaState,
         checksum: &Option<ByteString>,
         repository: &R,
-    ) -> Result<(), EditFault>
+    ) -> Result<(), NotDone>
         requires { RestsOn self.now (R.content repository.now) }
         ensures { Judges result (closed_text_refusal self.now checksum.now path.now delta.now) }
     {
         if delta.is_reading() {
-            return Err(EditFault::Refused(Refusal::MalformedData));
+            return Err(NotDone::Refused(Refusal::MalformedData));
         }
         self.judge_text_at(path, checksum, repository)?;
         Ok(())
@@ -186,7 +185,7 @@ impl<R: Repository> CommitEditor<R> {
         path: &Path,
         checksum: &Option<ByteString>,
         repository: &R,
-    ) -> Result<(), EditFault>
+    ) -> Result<(), NotDone>
         requires { RestsOn self.now (R.content repository.now) }
         ensures { Judges result (checksum_refusal checksum.now (file_text self.now path.now)) }
     {

@@ -6,12 +6,12 @@ ghost use Rattle.edit_rules.specs.Refusing.{before_root, edit_refusal};
 ghost use Rattle.edit_rules.specs.Editor.{given_up, Applies, NotApplied, finished, RestsOn};
 ghost use Rattle.edit_rules.specs.Judging.{Judges, Leaves};
 ghost use Rattle.edit_rules.specs.Soundness.{IsSoundEdit};
-ghost use Rattle.edit_rules.specs.declared.fault.EditFault.TheVariants.{Refused};
+ghost use Rattle.refusals.specs.declared.fault.NotDone.TheVariants.{Refused};
 
 use crate::room::EDIT_LIMIT;
 use byte_string::ByteString;
-use edit_rules::{EditFault, Opened, has_unfinished, judge};
-use refusals::Refusal;
+use edit_rules::{Opened, has_unfinished, judge};
+use refusals::{NotDone, Refusal};
 use repo_api::{FileText, NodeKind, Repository};
 use std::alloc::{AllocError, Global};
 use std::collections::BTreeMap;
@@ -71,7 +71,7 @@ impl<R: Repository> CommitEditor<R> {
     /// Carries a command out. After one that is refused the edit is given up, and each further one is answered
     /// by `EditAborted`. The repository's revisions begin with those that the edit has seen, and the edit's
     /// transaction has a tree in which stands what is open. Memory is refused to an edit that takes some 4 GiB.
-    pub fn apply(&mut self, command: &EditorCommand, repository: &R) -> Result<(), EditFault>
+    pub fn apply(&mut self, command: &EditorCommand, repository: &R) -> Result<(), NotDone>
         requires rests { RestsOn self.old (R.content repository.now) }
         requires sound { IsSoundEdit self.old }
         ensures ok { OnOk result ((edit_refusal (R.content repository.now) self.old command.now ≡ None)
@@ -82,24 +82,24 @@ impl<R: Repository> CommitEditor<R> {
         self.take_room(command)?;
         match self.carry_out(command, repository) {
             Ok(()) => Ok(()),
-            Err(EditFault::Refused(refusal)) => Err(self.give_up(refusal)),
-            Err(EditFault::NoMemory) => Err(EditFault::NoMemory),
+            Err(NotDone::Refused(refusal)) => Err(self.give_up(refusal)),
+            Err(NotDone::NoMemory) => Err(NotDone::NoMemory),
         }
     }
 
     /// Gives the edit up.
-    fn give_up(&mut self, refusal: Refusal) -> EditFault
+    fn give_up(&mut self, refusal: Refusal) -> NotDone
         ensures state { self.new ≡ given_up self.old }
         ensures fault { result ≡ Refused refusal }
     {
         self.txn = None;
         self.tokens = BTreeMap::new(self.alloc);
         self.refused = true;
-        EditFault::Refused(refusal)
+        NotDone::Refused(refusal)
     }
 
     /// Carries a command out, unless the edit was given up.
-    fn carry_out(&mut self, command: &EditorCommand, repository: &R) -> Result<(), EditFault>
+    fn carry_out(&mut self, command: &EditorCommand, repository: &R) -> Result<(), NotDone>
         requires rests { RestsOn self.old (R.content repository.now) }
         requires sound { IsSoundEdit self.old }
         ensures judged { Judges result (edit_refusal
@@ -109,7 +109,7 @@ impl<R: Repository> CommitEditor<R> {
         ensures err { IfErr result (λ fault. Leaves self.old fault self.new) }
     {
         if self.refused {
-            return Err(EditFault::Refused(Refusal::EditAborted));
+            return Err(NotDone::Refused(Refusal::EditAborted));
         }
         match command {
             EditorCommand::TargetRevision(_) => self.judge_no_root(),
@@ -138,13 +138,13 @@ impl<R: Repository> CommitEditor<R> {
             EditorCommand::CloseFile(token, checksum) => self.close_file(
                 token, checksum, repository,
             ),
-            EditorCommand::CloseEdit => Err(EditFault::Refused(Refusal::MalformedData)),
-            EditorCommand::AbortEdit => Err(EditFault::Refused(Refusal::MalformedData)),
+            EditorCommand::CloseEdit => Err(NotDone::Refused(Refusal::MalformedData)),
+            EditorCommand::AbortEdit => Err(NotDone::Refused(Refusal::MalformedData)),
         }
     }
 
     /// Checks that the root is not open.
-    pub(crate) fn judge_no_root(&self) -> Result<(), EditFault>
+    pub(crate) fn judge_no_root(&self) -> Result<(), NotDone>
         ensures { Judges result (before_root self.now) }
     {
         judge(self.txn.is_none(), Refusal::MalformedData)

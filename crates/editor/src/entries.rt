@@ -14,12 +14,11 @@ ghost use Rattle.edit_rules.specs.declared.opened.DeltaState.TheVariants.{NotBeg
 use crate::editor::CommitEditor;
 use byte_string::ByteString;
 use edit_rules::{
-    DeltaState, EditFault, Opened, OpenedDirectory, close_beneath, close_others_beneath,
-    copies_under, directory_under, edits_are_right, is_within, judge, judge_absence,
-    judge_directory, judge_file, judge_presence, judge_room, judge_source_kind, path_named,
-    source_named,
+    DeltaState, Opened, OpenedDirectory, close_beneath, close_others_beneath, copies_under,
+    directory_under, edits_are_right, is_within, judge, judge_absence, judge_directory, judge_file,
+    judge_presence, judge_room, judge_source_kind, path_named, source_named,
 };
-use refusals::Refusal;
+use refusals::{NotDone, Refusal};
 use repo_api::{EditOp, NodeKind, Repository, Source};
 use std::alloc::AllocError;
 use svnpath::{DEPTH_LIMIT, Path};
@@ -87,7 +86,7 @@ fn judge_source<R: Repository>(
     path: &Path,
     source: &Source,
     repository: &R,
-) -> Result<(), EditFault>
+) -> Result<(), NotDone>
     ensures { Judges result (source_refusal
         (R.content repository.now) is_file path.now source.now) }
 {
@@ -110,7 +109,7 @@ impl<R: Repository> CommitEditor<R> {
         revision: Option<u64>,
         token: &ByteString,
         repository: &R,
-    ) -> Result<(), EditFault>
+    ) -> Result<(), NotDone>
         ensures judged { Judges result (open_root_refusal (R.content repository.now) self.old) }
         ensures ok { OnOk result (OpensRoot
             (R.content repository.now) self.old revision token.now self.new) }
@@ -128,7 +127,7 @@ impl<R: Repository> CommitEditor<R> {
 
     /// Checks that the root is not open yet (otherwise `MalformedData`), and that the youngest revision has a directory
     /// at the edit's path.
-    fn judge_root(&self, repository: &R) -> Result<(), EditFault>
+    fn judge_root(&self, repository: &R) -> Result<(), NotDone>
         ensures { Judges result (open_root_refusal (R.content repository.now) self.now) }
     {
         self.judge_no_root()?;
@@ -142,7 +141,7 @@ impl<R: Repository> CommitEditor<R> {
         is_file: bool,
         entry: &AddedEntry,
         repository: &R,
-    ) -> Result<(), EditFault>
+    ) -> Result<(), NotDone>
         requires rests { RestsOn self.old (R.content repository.now) }
         requires sound { IsSoundEdit self.old }
         ensures judged { Judges result (add_entry_refusal
@@ -167,7 +166,7 @@ impl<R: Repository> CommitEditor<R> {
         path: &Path,
         source: &Option<Source>,
         repository: &R,
-    ) -> Result<(), EditFault>
+    ) -> Result<(), NotDone>
         requires rests { RestsOn self.old (R.content repository.now) }
         requires sound { IsSoundEdit self.old }
         requires named { joined self.old.path entry.now.path ≡ Ok path.now }
@@ -192,7 +191,7 @@ impl<R: Repository> CommitEditor<R> {
         entry: &AddedEntry,
         path: &Path,
         repository: &R,
-    ) -> Result<(), EditFault>
+    ) -> Result<(), NotDone>
         requires rests { RestsOn self.old (R.content repository.now) }
         requires sound { IsSoundEdit self.old }
         requires named { joined self.old.path entry.now.path ≡ Ok path.now }
@@ -218,7 +217,7 @@ impl<R: Repository> CommitEditor<R> {
     }
 
     /// Checks that nothing stands where something new is added.
-    fn judge_new(&self, entry: &AddedEntry, path: &Path, repository: &R) -> Result<(), EditFault>
+    fn judge_new(&self, entry: &AddedEntry, path: &Path, repository: &R) -> Result<(), NotDone>
         requires { RestsOn self.now (R.content repository.now) }
         ensures { Judges result (first (place_refusal self.now entry.now.parent entry.now.token
             path.now) (add_refusal (standing self.now.txn path.now))) }
@@ -236,7 +235,7 @@ impl<R: Repository> CommitEditor<R> {
         path: &Path,
         source: &Source,
         repository: &R,
-    ) -> Result<(), EditFault>
+    ) -> Result<(), NotDone>
         requires rests { RestsOn self.old (R.content repository.now) }
         requires sound { IsSoundEdit self.old }
         requires named { joined self.old.path entry.now.path ≡ Ok path.now }
@@ -266,7 +265,7 @@ impl<R: Repository> CommitEditor<R> {
         path: &Path,
         source: &Source,
         repository: &R,
-    ) -> Result<(), EditFault>
+    ) -> Result<(), NotDone>
         requires { RestsOn self.now (R.content repository.now) }
         ensures { Judges result (add_entry_refusal
             (R.content repository.now) self.now is_file entry.now (Ok path.now)
@@ -343,7 +342,7 @@ impl<R: Repository> CommitEditor<R> {
         &mut self,
         entry: &DeletedEntry,
         repository: &R,
-    ) -> Result<(), EditFault>
+    ) -> Result<(), NotDone>
         requires rests { RestsOn self.old (R.content repository.now) }
         requires sound { IsSoundEdit self.old }
         ensures judged { Judges result (delete_entry_refusal self.old entry.now
@@ -365,7 +364,7 @@ impl<R: Repository> CommitEditor<R> {
         entry: &DeletedEntry,
         path: &Path,
         repository: &R,
-    ) -> Result<(), EditFault>
+    ) -> Result<(), NotDone>
         requires rests { RestsOn self.old (R.content repository.now) }
         requires sound { IsSoundEdit self.old }
         ensures judged { Judges result (delete_entry_refusal self.old entry.now (Ok path.now)) }
@@ -383,12 +382,7 @@ impl<R: Repository> CommitEditor<R> {
 
     /// Checks that the path is one name beneath its parent's directory (otherwise `MalformedData`), and that something
     /// exists there, unchanged since the revision that the client has (otherwise `OutOfDate`).
-    fn judge_delete(
-        &self,
-        entry: &DeletedEntry,
-        path: &Path,
-        repository: &R,
-    ) -> Result<(), EditFault>
+    fn judge_delete(&self, entry: &DeletedEntry, path: &Path, repository: &R) -> Result<(), NotDone>
         requires { RestsOn self.now (R.content repository.now) }
         ensures { Judges result (delete_entry_refusal self.now entry.now (Ok path.now)) }
     {
@@ -406,7 +400,7 @@ impl<R: Repository> CommitEditor<R> {
         &mut self,
         entry: &OpenedEntry,
         repository: &R,
-    ) -> Result<(), EditFault>
+    ) -> Result<(), NotDone>
         requires { RestsOn self.old (R.content repository.now) }
         ensures judged { Judges result (open_directory_refusal self.old entry.now
             (joined self.old.path entry.now.path)) }
@@ -431,7 +425,7 @@ impl<R: Repository> CommitEditor<R> {
         entry: &OpenedEntry,
         path: &Path,
         repository: &R,
-    ) -> Result<(), EditFault>
+    ) -> Result<(), NotDone>
         requires { RestsOn self.now (R.content repository.now) }
         ensures { Judges result (open_directory_refusal self.now entry.now (Ok path.now)) }
     {
@@ -441,7 +435,7 @@ impl<R: Repository> CommitEditor<R> {
     }
 
     /// Opens a file.
-    pub(crate) fn open_file(&mut self, entry: &OpenedEntry, repository: &R) -> Result<(), EditFault>
+    pub(crate) fn open_file(&mut self, entry: &OpenedEntry, repository: &R) -> Result<(), NotDone>
         requires { RestsOn self.old (R.content repository.now) }
         ensures judged { Judges result (open_file_refusal self.old entry.now
             (joined self.old.path entry.now.path)) }
@@ -464,7 +458,7 @@ impl<R: Repository> CommitEditor<R> {
         entry: &OpenedEntry,
         path: &Path,
         repository: &R,
-    ) -> Result<(), EditFault>
+    ) -> Result<(), NotDone>
         requires { RestsOn self.now (R.content repository.now) }
         ensures { Judges result (open_file_refusal self.now entry.now (Ok path.now)) }
     {
@@ -478,7 +472,7 @@ impl<R: Repository> CommitEditor<R> {
     }
 
     /// Judges an entry that the client must not see, and changes nothing.
-    pub(crate) fn pass_absent(&self, entry: &AbsentEntry) -> Result<(), EditFault>
+    pub(crate) fn pass_absent(&self, entry: &AbsentEntry) -> Result<(), NotDone>
         ensures { Judges result (absent_refusal self.now entry.now
             (joined self.now.path entry.now.path)) }
     {
@@ -488,7 +482,7 @@ impl<R: Repository> CommitEditor<R> {
     }
 
     /// Closes a directory.
-    pub(crate) fn close_directory(&mut self, token: &ByteString) -> Result<(), EditFault>
+    pub(crate) fn close_directory(&mut self, token: &ByteString) -> Result<(), NotDone>
         ensures judged { Judges result (close_directory_refusal (open_under self.old token.now)) }
         ensures ok { OnOk result (Closes self.old token.now self.new) }
         ensures err { OnErr result (self.new ≡ self.old) }
@@ -499,13 +493,13 @@ impl<R: Repository> CommitEditor<R> {
     }
 
     /// Checks that a directory is open under the token. A file or nothing there is refused with `MalformedData`.
-    fn judge_directory_token(&self, token: &ByteString) -> Result<(), EditFault>
+    fn judge_directory_token(&self, token: &ByteString) -> Result<(), NotDone>
         ensures { Judges result (close_directory_refusal (open_under self.now token.now)) }
     {
         match self.open_under(token) {
             Some(Opened::Directory(_)) => Ok(()),
-            Some(Opened::File(_, _)) => Err(EditFault::Refused(Refusal::MalformedData)),
-            None => Err(EditFault::Refused(Refusal::MalformedData)),
+            Some(Opened::File(_, _)) => Err(NotDone::Refused(Refusal::MalformedData)),
+            None => Err(NotDone::Refused(Refusal::MalformedData)),
         }
     }
 
@@ -526,7 +520,7 @@ impl<R: Repository> CommitEditor<R> {
         parent: &ByteString,
         token: &ByteString,
         path: &Path,
-    ) -> Result<(), EditFault>
+    ) -> Result<(), NotDone>
         ensures { Judges result (place_refusal self.now parent.now token.now path.now) }
     {
         let placed = self.txn.is_some() && self.is_placed(parent, token, path);
@@ -535,7 +529,7 @@ impl<R: Repository> CommitEditor<R> {
 
     /// Checks that the root is open, and that the path is one name beneath the directory open under the parent's token.
     /// Anything else is refused with `MalformedData`.
-    fn judge_parent(&self, parent: &ByteString, path: &Path) -> Result<(), EditFault>
+    fn judge_parent(&self, parent: &ByteString, path: &Path) -> Result<(), NotDone>
         ensures { Judges result (parent_refusal self.now parent.now path.now) }
     {
         let placed = self.txn.is_some() && is_within(directory_under(&self.tokens, parent), path);

@@ -8,8 +8,8 @@ ghost use Rattle.edit_rules.specs.Soundness.{IsSoundEdit};
 
 use crate::editor::CommitEditor;
 use byte_string::ByteString;
-use edit_rules::{EditFault, Opened, edits_are_right, judge_age, judge_name};
-use refusals::Refusal;
+use edit_rules::{Opened, edits_are_right, judge_age, judge_name};
+use refusals::{NotDone, Refusal};
 use repo_api::{EditOp, Repository};
 use std::alloc::AllocError;
 use svnpath::Path;
@@ -21,7 +21,7 @@ impl<R: Repository> CommitEditor<R> {
         &mut self,
         change: &PropertyChange,
         repository: &R,
-    ) -> Result<(), EditFault>
+    ) -> Result<(), NotDone>
         requires rests { RestsOn self.old (R.content repository.now) }
         requires sound { IsSoundEdit self.old }
         ensures judged { Judges result (directory_property_refusal self.old.txn change.now.name
@@ -42,7 +42,7 @@ impl<R: Repository> CommitEditor<R> {
         token: &ByteString,
         change: &PropertyChange,
         repository: &R,
-    ) -> Result<EditOp, EditFault>
+    ) -> Result<EditOp, NotDone>
         requires { RestsOn self.now (R.content repository.now) }
         ensures judged { Judges result (directory_property_refusal self.now.txn change.now.name
             (open_under self.now token.now)) }
@@ -58,8 +58,8 @@ impl<R: Repository> CommitEditor<R> {
                 )?;
                 Ok(self.property_edit(&directory.path, change)?)
             }
-            Some(Opened::File(_, _)) => Err(EditFault::Refused(Refusal::MalformedData)),
-            None => Err(EditFault::Refused(Refusal::MalformedData)),
+            Some(Opened::File(_, _)) => Err(NotDone::Refused(Refusal::MalformedData)),
+            None => Err(NotDone::Refused(Refusal::MalformedData)),
         }
     }
 
@@ -68,7 +68,7 @@ impl<R: Repository> CommitEditor<R> {
         &mut self,
         change: &PropertyChange,
         repository: &R,
-    ) -> Result<(), EditFault>
+    ) -> Result<(), NotDone>
         requires rests { RestsOn self.old (R.content repository.now) }
         requires sound { IsSoundEdit self.old }
         ensures judged { Judges result (file_property_refusal change.now.name
@@ -84,11 +84,7 @@ impl<R: Repository> CommitEditor<R> {
     }
 
     /// Makes the edit of a property of the file that is open under the token.
-    fn file_property(
-        &self,
-        token: &ByteString,
-        change: &PropertyChange,
-    ) -> Result<EditOp, EditFault>
+    fn file_property(&self, token: &ByteString, change: &PropertyChange) -> Result<EditOp, NotDone>
         ensures judged { Judges result (file_property_refusal change.now.name
             (open_under self.now token.now)) }
         ensures op { IfOk result (λ op. (o : Opened) × (open_under self.now token.now ≡ Some o)
@@ -99,8 +95,8 @@ impl<R: Repository> CommitEditor<R> {
                 judge_name(change.name.as_slice())?;
                 Ok(self.property_edit(path, change)?)
             }
-            Some(Opened::Directory(_)) => Err(EditFault::Refused(Refusal::MalformedData)),
-            None => Err(EditFault::Refused(Refusal::MalformedData)),
+            Some(Opened::Directory(_)) => Err(NotDone::Refused(Refusal::MalformedData)),
+            None => Err(NotDone::Refused(Refusal::MalformedData)),
         }
     }
 

@@ -17,13 +17,14 @@ use Rattle.svnpath.specs.Texts.{parent}
 use Rattle.svnpath.specs.declared.component.TheConstants.{DEPTH_LIMIT}
 use Rattle.repo_api.specs.Trees.{Tree, IsTree, is_directory, is_directory_content}
 use Rattle.repo_api.specs.RightEdits.{HasParent, HasRoom, IsVacant}
-use Rattle.repo_api.specs.Kinds.{kind_of, kind_in, content_kind, has_deeper, has_deeper_at}
+use Rattle.repo_api.specs.Kinds.{is_directory_kind, is_present, kind_of, kind_in, content_kind, has_deeper, has_deeper_at}
 use Rattle.repo_api.specs.MergeLaws.{key_there}
 use Rattle.repo_api.specs.States.{TreeMap, RepoState, tree_of, tree_at, trees_in}
 use Rattle.repo_api.specs.declared.change.Source.{Source}
 use Rattle.repo_api.specs.declared.entry.Content.{Content}
 use Rattle.repo_api.specs.declared.entry.Content.TheVariants as contents
 use Rattle.repo_api.specs.declared.entry.Entry.{Entry}
+use Rattle.repo_api.specs.declared.entry.NodeKind.{NodeKind}
 use Rattle.repo_api.specs.declared.entry.NodeKind.TheVariants as kinds
 use Rattle.world.specs.Whole.{txn_state_of}
 use Rattle.world.specs.declared.world_txn.WorldTxn.{WorldTxn}
@@ -53,6 +54,18 @@ absent_none (Some e) same = by e.content same
     by : (content : Content) → content_kind content ≡ kinds.Absent → Some e ≡ None
     by contents.Directory same = cc
     by (contents.File text) same = cc
+
+pub absent_kind : (kind : NodeKind) (present : Bool) → present ≡ is_present kind → not present ≡ true → kind ≡ kinds.Absent
+absent_kind kinds.Absent present is h = refl
+absent_kind kinds.File true is h = cc
+absent_kind kinds.File false is h = absurd (false≢true is)
+absent_kind kinds.Directory true is h = cc
+absent_kind kinds.Directory false is h = absurd (false≢true is)
+
+pub directory_kind : (kind : NodeKind) → is_directory_kind kind ≡ true → kind ≡ kinds.Directory
+directory_kind kinds.Absent is = cc
+directory_kind kinds.File is = cc
+directory_kind kinds.Directory is = refl
 
 entries_coded : Coded (Option Entry)
 entries_coded = hlevel codes

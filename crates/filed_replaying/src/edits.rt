@@ -1,58 +1,17 @@
 //! Edits that are made where they may be made.
-ghost use Rattle.std.specs.Prelude.{◌≡◌, true, false, IfOk, IsSome};
+ghost use Rattle.std.specs.Prelude.{◌≡◌, true, IfOk, IsSome};
 ghost use Rattle.svnpath.specs.Components.{IsRightPath};
 ghost use Rattle.repo_api.specs.RightEdits.{HasParent, HasRoom, IsRightEdit, IsThere, IsVacant};
 ghost use Rattle.repo_api.specs.States.{tree_of, trees_in};
-ghost use Rattle.repo_api.specs.declared.entry.NodeKind.TheVariants as kinds;
 ghost use Rattle.world.specs.Whole.{world_content, txn_state_of};
 ghost use Rattle.filed_replaying.specs.Rests.{RestsOn};
 
 use crate::replay::Replay;
 use fsfs_lines::FileFault;
 use fsfs_nodes::EntryKind;
-use repo_api::{EditOp, NodeKind, Repository, Source};
+use repo_api::{EditOp, Repository, Source};
 use svnpath::{DEPTH_LIMIT, Path};
 use world::WorldTxn;
-
-/// Says whether something stands where this is.
-fn is_present(kind: NodeKind) -> bool
-    ensures { kind ≡ kinds.Absent → result ≡ false }
-{
-    match kind {
-        NodeKind::Absent => false,
-        NodeKind::File | NodeKind::Directory => true,
-    }
-}
-
-/// Says whether nothing stands where this is.
-fn is_absent(kind: NodeKind) -> bool
-    ensures { result ≡ true → kind ≡ kinds.Absent }
-{
-    match kind {
-        NodeKind::Absent => true,
-        NodeKind::File | NodeKind::Directory => false,
-    }
-}
-
-/// Says whether a directory stands where this is.
-fn is_directory(kind: NodeKind) -> bool
-    ensures { result ≡ true → kind ≡ kinds.Directory }
-{
-    match kind {
-        NodeKind::Directory => true,
-        NodeKind::Absent | NodeKind::File => false,
-    }
-}
-
-/// Says whether a file stands where this is.
-pub fn is_file(kind: NodeKind) -> bool
-    ensures { result ≡ true → kind ≡ kinds.File }
-{
-    match kind {
-        NodeKind::File => true,
-        NodeKind::Absent | NodeKind::Directory => false,
-    }
-}
 
 impl Replay<'_> {
     /// Makes an edit that may be made.
@@ -71,7 +30,7 @@ impl Replay<'_> {
         requires { RestsOn self.world.now txn.now }
         ensures { result ≡ true → IsSome (tree_of (txn_state_of txn.now).tree path.now) }
     {
-        is_present(self.world.kind_in(txn, path))
+        self.world.kind_in(txn, path).is_present()
     }
 
     /// Says whether nothing stands at a path or beneath it.
@@ -79,7 +38,7 @@ impl Replay<'_> {
         requires { RestsOn self.world.now txn.now }
         ensures { result ≡ true → IsVacant (tree_of (txn_state_of txn.now).tree) path.now }
     {
-        is_absent(self.world.kind_in(txn, path))
+        !self.world.kind_in(txn, path).is_present()
     }
 
     /// Says whether a path is beneath a directory.
@@ -92,14 +51,14 @@ impl Replay<'_> {
             return Ok(false);
         };
         let kind = self.world.kind_in(txn, &parent);
-        Ok(is_directory(kind))
+        Ok(kind.is_directory())
     }
 
     /// Says whether what is copied stands there.
     fn is_there(self, source: &Source) -> bool
         ensures { result ≡ true → IsThere (trees_in (world_content self.entry.world.now).revisions) source.now }
     {
-        is_present(self.world.kind(source.revision, &source.path))
+        self.world.kind(source.revision, &source.path).is_present()
     }
 
     /// Says whether a copy to a path makes no path that is too deep.

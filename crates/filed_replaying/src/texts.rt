@@ -2,7 +2,6 @@
 ghost use Rattle.std.specs.Prelude.{◌≡◌};
 ghost use Rattle.filed_replaying.specs.Rests.{RestsOn};
 
-use crate::edits::is_file;
 use crate::replay::Replay;
 use fsfs_lines::FileFault;
 use fsfs_reading::FilePiece;
@@ -47,7 +46,7 @@ impl Replay<'_> {
         let piece = self.piece(path)?;
         let text = self.text(txn, path, piece)?;
         let kind = self.world.kind_in(txn, path);
-        if !is_file(kind) || text.as_slice().len() > TEXT_LIMIT {
+        if !kind.is_file() || text.as_slice().len() > TEXT_LIMIT {
             return Err(FileFault::BadLine);
         }
         let op = EditOp::SetText(path.clone()?, text);

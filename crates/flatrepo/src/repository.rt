@@ -27,13 +27,14 @@ use crate::flat_tree::FlatTree;
 use crate::flat_txn::FlatTxn;
 use crate::looking::{created, kind, properties, text};
 use byte_string::ByteString;
+use dates::date_bytes;
 use pathlocks::{Locks, lock_shared, put_shared, release_shared, unlock_shared};
 use refusals::Refusal;
 use repo_api::{
     Change, ChangeFault, CommitAsk, EditOp, FileText, Lock, LockAsk, LockTokens, NodeKind,
     Properties, PropertyAsk, REVISION_LIMIT, Repository, UnlockAsk,
 };
-use revision_data::{TxnChanges, current_refusal, date_of, property_refusal, revision_properties};
+use revision_data::{TxnChanges, current_refusal, property_refusal, revision_properties};
 use std::alloc::{AllocError, Global};
 use std::mem::drop;
 use std::sync::Arc;
@@ -47,7 +48,7 @@ impl FlatRepo {
         ensures { IfOk result (λ r. (date : List ℕ) × IsDateText moment date
             × (repo_content r ≡ new_repository uuid date)) }
     {
-        let date = date_of(alloc, moment)?;
+        let date = date_bytes(alloc, moment)?;
         let content = FlatContent::opened(alloc, uuid, date)?;
         Ok(FlatRepo {
             alloc,

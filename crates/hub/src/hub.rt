@@ -67,7 +67,7 @@ fn drop_session<R: Repository>(sessions: &mut Vec<(SessionId, Session<R>)>, numb
 }
 
 /// Drops a session unless it is open.
-fn drop_unless<R: Repository>(
+fn drop_if_ended<R: Repository>(
     is_open: bool,
     sessions: &mut Vec<(SessionId, Session<R>)>,
     number: SessionId,
@@ -248,7 +248,7 @@ impl<A: SoleAccess> Hub<A> {
         let entry = &mut self.sessions[i];
         let fed = entry.1.feed(&self.options, piece, &mut self.access, turn);
         let is_open = entry.1.is_open();
-        drop_unless(is_open, &mut self.sessions, number);
+        drop_if_ended(is_open, &mut self.sessions, number);
         match fed {
             Ok(()) => Ok(()),
             Err(_) => Err(AllocError),

@@ -9,10 +9,8 @@ use Rattle.refusals.specs.declared.Refusal.{Refusal}
 use Rattle.refusals.specs.declared.Refusal.TheVariants as refusals
 use Rattle.refusals.specs.Refusing.{path_refusal}
 use Rattle.repo_api.specs.Histories.{Changed, history_of}
-use Rattle.repo_api.specs.Kinds.{kind_at}
+use Rattle.repo_api.specs.Kinds.{is_present, kind_at}
 use Rattle.repo_api.specs.States.{RepoState, youngest}
-use Rattle.repo_api.specs.declared.entry.NodeKind.{NodeKind}
-use Rattle.repo_api.specs.declared.entry.NodeKind.TheVariants as kinds
 use Rattle.history.specs.Locations.{kind_shown, locations}
 use Rattle.history.specs.Logs.{log, newest_asked, place_at}
 use Rattle.history.specs.declared.log_ask.LogAsk.{LogAsk}
@@ -37,11 +35,6 @@ listed_unless None told = told ++ ended replies.Success
 listed_unless (Some r) told = ended (replies.Failure r)
 
 -- ---- what stands where
-
-abbrev pub is_present : NodeKind → Bool
-is_present kinds.Absent = false
-is_present kinds.File = true
-is_present kinds.Directory = true
 
 -- whether something stands at the path of a revision
 abbrev pub is_there : RepoState → ℕ → PathValue → Bool

@@ -1,2 +1,3 @@
 pub mod Table
 pub mod Refusing
+pub mod Faults

@@ -1,11 +1,13 @@
 //! Why a command is refused: the numbers are Subversion's, the texts are this server's own.
 #![tactic(auto)]
 
+mod fault;
 mod refusing;
 
 ghost use Rattle.std.specs.Prelude.{◌≡◌};
 ghost use Rattle.refusals.specs.Table.{refusal_number, refusal_text};
 
+pub use fault::NotDone;
 pub use refusing::path_refusal;
 
 /// Why a command is refused.

@@ -1,5 +1,5 @@
 -- What stands at a path, seen from outside.
-use Rattle.std.specs.Prelude.{ℕ, Bool, ◌+◌, ◌&&◌, nat_lt, length, List, [], Option, Some, None, slice_get}
+use Rattle.std.specs.Prelude.{ℕ, Bool, true, false, ◌+◌, ◌&&◌, nat_lt, length, List, [], Option, Some, None, slice_get}
 use Rattle.std.specs.FinMap.{get, keys}
 use Rattle.std.specs.List.{list_any}
 use Rattle.svnpath.specs.Paths.{PathValue, is_at_or_under}
@@ -20,6 +20,21 @@ content_kind (File text) = kinds.File
 abbrev pub kind_of : Option Entry → NodeKind
 kind_of None = kinds.Absent
 kind_of (Some e) = content_kind e.content
+
+abbrev pub is_present : NodeKind → Bool
+is_present kinds.Absent = false
+is_present kinds.File = true
+is_present kinds.Directory = true
+
+abbrev pub is_file_kind : NodeKind → Bool
+is_file_kind kinds.Absent = false
+is_file_kind kinds.File = true
+is_file_kind kinds.Directory = false
+
+abbrev pub is_directory_kind : NodeKind → Bool
+is_directory_kind kinds.Absent = false
+is_directory_kind kinds.File = false
+is_directory_kind kinds.Directory = true
 
 -- what stands at a path of a revision
 abbrev pub kind_at : RepoState → ℕ → PathValue → NodeKind

@@ -1,5 +1,5 @@
 -- Trees: what stands at each path.
-use Rattle.std.specs.Prelude.{◌≡◌, ◌==◌, ◌≤◌, ℕ, Bool, true, false, ◌&&◌, List, [], ◌∷◌, ◌++◌, length, Option, Some, None, IsSome, IsSomeAnd, IsTrue, Contains}
+use Rattle.std.specs.Prelude.{◌≡◌, ◌==◌, ◌≤◌, ℕ, Bool, true, false, not, ◌&&◌, List, [], ◌∷◌, ◌++◌, length, Option, Some, None, IsSome, IsSomeAnd, IsTrue, Contains}
 use Rattle.svnpath.specs.Components.{IsRightPath}
 use Rattle.svnpath.specs.Paths.{PathValue, Component, same_path}
 use Rattle.repo_api.specs.declared.limits.TheConstants.{TEXT_LIMIT}
@@ -24,6 +24,11 @@ is_directory e = is_directory_content e.content
 abbrev pub is_directory_there : Option Entry → Bool
 is_directory_there None = false
 is_directory_there (Some e) = is_directory e
+
+-- a file stands there
+abbrev pub is_file_there : Option Entry → Bool
+is_file_there None = false
+is_file_there (Some e) = not (is_directory e)
 
 abbrev pub HasDirectory : Tree → PathValue → Type 0
 HasDirectory t p = IsSomeAnd (t p) (λ e. IsTrue (is_directory e))

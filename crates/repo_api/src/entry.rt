@@ -1,7 +1,8 @@
 //! An entry of a tree.
-ghost use Rattle.std.specs.Prelude.{◌≡◌};
-ghost use Rattle.repo_api.specs.Kinds.{content_kind};
-ghost use Rattle.repo_api.specs.Trees.{same_mark, is_open_mark, is_directory};
+ghost use Rattle.std.specs.Prelude.{◌≡◌, Option, is_some};
+ghost use Rattle.repo_api.specs.Kinds.{content_kind, is_directory_kind, is_file_kind, is_present, kind_of};
+ghost use Rattle.repo_api.specs.Trees.{same_mark, is_open_mark, is_directory, is_directory_there, is_file_there};
+ghost use Rattle.repo_api.specs.declared.entry.Entry.{Entry};
 
 use crate::file_text::FileText;
 use crate::properties::Properties;
@@ -58,6 +59,41 @@ impl Mark {
         ensures { result ≡ is_open_mark self.now }
     {
         matches!(self, Mark::Open)
+    }
+}
+
+impl NodeKind {
+    /// Says whether something exists there.
+    pub fn is_present(self) -> bool
+        ensures kind { result ≡ is_present self }
+        ensures entry { (e : Option Entry) → self ≡ kind_of e → result ≡ is_some e }
+    {
+        match self {
+            NodeKind::Absent => false,
+            NodeKind::File | NodeKind::Directory => true,
+        }
+    }
+
+    /// Says whether a file exists there.
+    pub fn is_file(self) -> bool
+        ensures kind { result ≡ is_file_kind self }
+        ensures entry { (e : Option Entry) → self ≡ kind_of e → result ≡ is_file_there e }
+    {
+        match self {
+            NodeKind::File => true,
+            NodeKind::Absent | NodeKind::Directory => false,
+        }
+    }
+
+    /// Says whether a directory exists there.
+    pub fn is_directory(self) -> bool
+        ensures kind { result ≡ is_directory_kind self }
+        ensures entry { (e : Option Entry) → self ≡ kind_of e → result ≡ is_directory_there e }
+    {
+        match self {
+            NodeKind::Directory => true,
+            NodeKind::Absent | NodeKind::File => false,
+        }
     }
 }
 

@@ -1,8 +1,10 @@
 //! Texts of files.
 ghost use Rattle.std.specs.Prelude.{◌≡◌, [], IfOk};
 ghost use Rattle.std.specs.Arc.{arc_value};
+ghost use Rattle.hex.specs.Hex.{encode_lower};
 ghost use Rattle.md5.specs.Md5.{md5};
 
+use byte_string::ByteString;
 use md5::{Digest, Md5};
 use std::alloc::{AllocError, Global};
 use std::marker::Model;
@@ -60,6 +62,14 @@ impl FileText {
         ensures { result ≡ md5 self.now }
     {
         self.digest
+    }
+
+    /// Writes the MD5 of the bytes as 32 lowercase hexadecimal digits.
+    pub fn digest_text(&self, alloc: Global) -> Result<ByteString, AllocError>
+        ensures { IfOk result (λ digits. digits ≡ encode_lower (md5 self.now)) }
+    {
+        let digits = hex::encode(alloc, &self.digest)?;
+        Ok(ByteString::new(digits.into_bytes()))
     }
 
     /// Gives the bytes of the text, which are shared and not copied.

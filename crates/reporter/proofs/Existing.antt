@@ -59,10 +59,10 @@ module _ (t : WalkedTrees) (bound : ℕ) (ends : IsShorter t.new bound) (leads :
   entry_plan n anew p plan short stands = by (comes t anew p) refl
     where
       opens : comes t anew p ≡ false → (b : Below false p) → IsDecided t p → Plan anew p
-      opens kept (vs, file, below) (inl due) = (entry_visits (is_directory_there (t.new p)) (Open p) vs, opened t anew (is_directory_there (t.new p)) p vs leads kept stands refl file (λ sound. inr (p, under_itself p, due)) below)
+      opens kept (vs, file, below) (inl due) = (entry_visits (is_directory_there (t.new p)) (Open p (is_directory_there (t.new p))) vs, opened t anew (is_directory_there (t.new p)) p vs leads kept stands refl file (λ sound. inr (p, under_itself p, due)) below)
       opens kept ([], file, below) (inr is) = let stay = staying t anew p kept in ([], subst (λ b. IsPlanOf t b p []) (sym stay.0) (same t p stay.2 is below))
       opens kept (v ∷ vs, file, below) (inr is) = (
-        entry_visits (is_directory_there (t.new p)) (Open p) (v ∷ vs),
+        entry_visits (is_directory_there (t.new p)) (Open p (is_directory_there (t.new p))) (v ∷ vs),
         opened t anew (is_directory_there (t.new p)) p (v ∷ vs) leads kept stands refl file
             (λ sound. reason_of t.seen t.stale t.old t.new t.own p (v ∷ vs) (inr (inl (λ e. cc))) (below.nests p) (below.right sound)) below,
       )
@@ -70,7 +70,7 @@ module _ (t : WalkedTrees) (bound : ℕ) (ends : IsShorter t.new bound) (leads :
       by : (b : Bool) → comes t anew p ≡ b → Plan anew p
       by true new =
           let b : Below true p = below_plan n true p (plan true) short stands (λ e. absurd (false≢true (sym e))) in
-          (entry_visits (is_directory_there (t.new p)) (Add p) b.0, added t anew (is_directory_there (t.new p)) p b.0 leads new stands refl b.1 b.2)
+          (entry_visits (is_directory_there (t.new p)) (Add p (is_directory_there (t.new p))) b.0, added t anew (is_directory_there (t.new p)) p b.0 leads new stands refl b.1 b.2)
       by false kept = opens kept (below_plan n false p (plan false) short stands (λ e. (staying t anew p kept).2)) (decided p)
 
   -- with as many names to come as no path has

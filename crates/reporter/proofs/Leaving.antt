@@ -1,7 +1,7 @@
 -- What is left to be visited, before and after a visit.
 use Rattle.std.proofs.Common.{◌≡◌, Bool, true, false, List, [], ◌∷◌, ◌++◌, refl, sym, ap, ◌∙◌, subst, if◌then◌else◌, map}
 use Rattle.std.proofs.lemmas.List.{append_assoc, append-nil}
-use Rattle.std.specs.Prelude.{Err, IfOk, Ok, Result}
+use Rattle.std.specs.Prelude.{Err, IfOk, IfSome, None, Ok, Option, Result, Some}
 use Rattle.svnpath.specs.Paths.{PathValue}
 use Rattle.drive_rules.specs.Places.{is_in_directory}
 use Rattle.drive_rules.specs.Scopes.{HoldsTogether, under}
@@ -64,6 +64,12 @@ entered_left t old new inner ds v vs goes_on (below, others, is, left_below, (no
 
 pub closed_left : (t : WalkedTrees) (here : Unvisited) (ds : List Unvisited) (v : Visit) (vs : List Visit) → IsLeftIn t here [] → behind ds vs ≡ v ∷ vs → IsLeft t ds vs → IsLeft t (here ∷ ds) (v ∷ vs)
 closed_left t here ds v vs end closes left = ([], vs, sym closes, end, left)
+
+-- it is closed, unless it is the last
+pub closed_if_left : (t : WalkedTrees) (here : Unvisited) (ds all : List Unvisited) (o : Option Visit) → all ≡ here ∷ ds → IsLeftIn t here []
+    → IfSome o (λ visit. (vs : List Visit) → behind ds vs ≡ visit ∷ vs) → IfSome o (λ visit. (vs : List Visit) → IsLeft t ds vs → IsLeft t all (visit ∷ vs))
+closed_if_left t here ds all None is end closes = tt
+closed_if_left t here ds all (Some v) is end closes = λ vs left. subst (λ xs. IsLeft t xs (v ∷ vs)) (sym is) (closed_left t here ds v vs end (closes vs) left)
 
 pub last_left : (t : WalkedTrees) (here : Unvisited) (ds : List Unvisited) → IsLeftIn t here [] → ds ≡ [] → IsLeft t (here ∷ ds) []
 last_left t here ds end none = subst (λ us. IsLeft t (here ∷ us) []) (sym none) ([], [], refl, end, refl)

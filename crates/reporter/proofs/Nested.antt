@@ -1,5 +1,5 @@
 -- Which directories are open, along the visits of a plan.
-use Rattle.std.proofs.Common.{◌≡◌, ◌+◌, ◌==◌, eq-eqb, Bool, true, false, ◌&&◌, List, [], ◌∷◌, ◌++◌, length, map, Option, Some, None, refl, sym, ap, ◌∙◌, subst, if◌then◌else◌}
+use Rattle.std.proofs.Common.{◌≡◌, ◌+◌, ◌==◌, eq-eqb, Bool, true, false, not, ◌&&◌, List, [], ◌∷◌, ◌++◌, length, map, Option, Some, None, refl, sym, ap, ◌∙◌, subst, if◌then◌else◌}
 use Rattle.std.proofs.lemmas.Bool.{false≢true}
 use Rattle.std.proofs.lemmas.List.{length-append}
 use Rattle.std.proofs.lemmas.List.Elements.{All-head, All-tail}
@@ -7,11 +7,12 @@ use Rattle.std.specs.Prelude.{is_some, All, option_and_then}
 use Rattle.svnpath.specs.Paths.{PathValue, is_at_or_under}
 use Rattle.svnpath.specs.PathLaws.{under_append}
 use Rattle.repo_api.specs.Trees.{Tree, is_directory_there}
+use Rattle.repo_api.specs.declared.entry.Entry.{Entry}
 use Rattle.drive_rules.specs.Places.{is_in_directory}
 use Rattle.drive_rules.proofs.Joined.{or_left, and_both}
 use Rattle.reporter.specs.declared.visit.Visit.{Visit}
 use Rattle.reporter.specs.declared.visit.Visit.TheVariants.{Delete, Close}
-use Rattle.reporter.specs.Nesting.{after_entry_visit, after_visit, walk, AreNested, entry_visits}
+use Rattle.reporter.specs.Nesting.{after_entry_visit, after_visit, walk, AreNested, entry_visits, stands_as}
 use Rattle.reporter.specs.Walks.{IsChild, goes, going, deletes_of}
 
 no_some : {X : Type 0} (x : X) → ◌≡◌ {A = Option X} None (Some x) → ⊥
@@ -41,14 +42,22 @@ pub nested_delete : (t : Tree) (top d p : PathValue) (vs : List Visit) → is_in
 nested_delete t top d p vs inside nested ds =
     ap (λ b. option_and_then (λ m. walk t top m vs) (if b then Some (d ∷ ds) else None)) inside ∙ nested ds
 
+-- an entry stands there as what it is
+stands_here : (dir : Bool) (e : Option Entry) → is_some e ≡ true → dir ≡ is_directory_there e → stands_as dir e ≡ true
+stands_here dir None some kind = absurd (false≢true some)
+stands_here true (Some e) some kind = sym kind
+stands_here false (Some e) some kind = ap not (sym kind)
+
 -- an entry in its directory, with what is below it
-pub nested_entry : (t : Tree) (top d p : PathValue) (v : Visit) (dir : Bool) (rest : List Visit) → ((ds : List PathValue) → after_visit t top ds v ≡ after_entry_visit t top ds p) → dir ≡ is_directory_there (t p) → (dir ≡ false → rest ≡ [])
+pub nested_entry : (t : Tree) (top d p : PathValue) (v : Visit) (dir : Bool) (rest : List Visit) → ((ds : List PathValue) → after_visit t top ds v ≡ after_entry_visit t top ds p dir) → dir ≡ is_directory_there (t p) → (dir ≡ false → rest ≡ [])
     → is_in_directory top d p ≡ true → is_some (t p) ≡ true → AreNested t top p rest → AreNested t top d (entry_visits dir v rest)
 nested_entry t top d p v true rest enters kind none inside stands nested ds =
-    ap (λ o. option_and_then (λ m. walk t top m (rest ++ Close ∷ [])) o) (enters (d ∷ ds) ∙ ap (λ b. if b then Some (if is_directory_there (t p) then p ∷ d ∷ ds else d ∷ ds) else None) (and_both (is_in_directory top d p) (is_some (t p)) inside stands) ∙ ap (λ b. Some (if b then p ∷ d ∷ ds else d ∷ ds)) (sym kind))
+    ap (λ o. option_and_then (λ m. walk t top m (rest ++ Close ∷ [])) o)
+    (enters (d ∷ ds) ∙ ap (λ b. if b then Some (p ∷ d ∷ ds) else None) (and_both (is_in_directory top d p) (stands_as true (t p)) inside (stands_here true (t p) stands kind)))
     ∙ walk_append t top rest (Close ∷ []) (p ∷ d ∷ ds) (p ∷ d ∷ ds) (nested (d ∷ ds))
 nested_entry t top d p v false rest enters kind none inside stands nested ds =
-    ap (λ o. option_and_then (λ m. walk t top m rest) o) (enters (d ∷ ds) ∙ ap (λ b. if b then Some (if is_directory_there (t p) then p ∷ d ∷ ds else d ∷ ds) else None) (and_both (is_in_directory top d p) (is_some (t p)) inside stands) ∙ ap (λ b. Some (if b then p ∷ d ∷ ds else d ∷ ds)) (sym kind))
+    ap (λ o. option_and_then (λ m. walk t top m rest) o)
+    (enters (d ∷ ds) ∙ ap (λ b. if b then Some (d ∷ ds) else None) (and_both (is_in_directory top d p) (stands_as false (t p)) inside (stands_here false (t p) stands kind)))
     ∙ ap (λ vs. walk t top (d ∷ ds) vs) (none refl)
 
 -- a child has its place in its directory

@@ -304,17 +304,17 @@ cut_without r t d e out c = record {
 
 pub cuts : (seen : Node → Node) (scope stale : PathValue → Bool) (t : Tree) (own : Own) (rest : List Visit) (ds : List PathValue) (r : Tree)
     → ((e q : PathValue) → has ds e ≡ true → under e q ≡ true → scope q ≡ true) → AreApart ds → ((e : PathValue) → has ds e ≡ true → IsCut r t e)
-    → IsRight seen scope stale (without_all ds r) t (plan_steps t own rest) → IsRight seen scope stale r t (plan_steps t own (map Delete ds ++ rest))
+    → IsRight seen scope stale (without_all ds r) t (plan_steps own rest) → IsRight seen scope stale r t (plan_steps own (map Delete ds ++ rest))
 cuts seen scope stale t own rest [] r covers apart each right = right
 cuts seen scope stale t own rest (d ∷ ds) r covers apart each right =
-    cut seen scope stale r t d (plan_steps t own (map Delete ds ++ rest)) (λ q u. covers d q (or_left (same_path d d) (has ds d) (same_path_refl d)) u) (each d (or_left (same_path d d) (has ds d) (same_path_refl d)))
+    cut seen scope stale r t d (plan_steps own (map Delete ds ++ rest)) (λ q u. covers d q (or_left (same_path d d) (has ds d) (same_path_refl d)) u) (each d (or_left (same_path d d) (has ds d) (same_path_refl d)))
     (cuts seen scope stale t own rest ds (tree_without d r) (λ e q h u. covers e q (or_right (same_path d e) (has ds e) h) u) apart.1
     (λ e h. cut_without r t d e (false_or (is_at_or_under e d) (λ u. false≢true (sym (apart.0 e u) ∙ has_under ds e h))) (each e (or_right (same_path d e) (has ds e) h))) right)
 
 -- the deletes of what goes, before the visits of what is to be there
 pub with_cuts : (anew : Bool) (seen : Node → Node) (stale : PathValue → Bool) (r t : Tree) (own : Own) (p : PathValue) (xs : List PathValue) (rest : List Visit)
     → HoldsTogether p r → HoldsTogether p t → AreChildren p xs
-    → IsRight seen (below p) stale (left_of anew r t xs) t (plan_steps t own rest) → IsRight seen (below p) stale (old_side anew r) t (plan_steps t own (deletes_of anew r t xs ++ rest))
+    → IsRight seen (below p) stale (left_of anew r t xs) t (plan_steps own rest) → IsRight seen (below p) stale (old_side anew r) t (plan_steps own (deletes_of anew r t xs ++ rest))
 with_cuts true seen stale r t own p xs rest old new children right = right
 with_cuts false seen stale r t own p xs rest old new children right =
     cuts seen (below p) stale t own rest (going r t xs) r (λ e q h u. child_below p q e (going_each r t p xs children.each e h).0 u) (going_apart r t xs children.apart)
@@ -365,9 +365,9 @@ child_sound r t p x child sound = record { old_holds = narrower r sound.old_hold
     narrower : (u : Tree) → HoldsTogether p u → HoldsTogether x u
     narrower u holds y q at low some = holds y q (under_more y x p at (subst (λ z. is_at_or_under z p ≡ true) (sym child.1) (under_append p (child.0 ∷ [])))) low some
 
-pub plan_steps_append : (t : Tree) (own : Own) (xs ys : List Visit) → plan_steps t own (xs ++ ys) ≡ plan_steps t own xs ++ plan_steps t own ys
-plan_steps_append t own [] ys = refl
-plan_steps_append t own (x ∷ xs) ys = ap (λ s. visit_steps t own x ++ s) (plan_steps_append t own xs ys) ∙ sym (append_assoc (visit_steps t own x) (plan_steps t own xs) (plan_steps t own ys))
+pub plan_steps_append : (own : Own) (xs ys : List Visit) → plan_steps own (xs ++ ys) ≡ plan_steps own xs ++ plan_steps own ys
+plan_steps_append own [] ys = refl
+plan_steps_append own (x ∷ xs) ys = ap (λ s. visit_steps own x ++ s) (plan_steps_append own xs ys) ∙ sym (append_assoc (visit_steps own x) (plan_steps own xs) (plan_steps own ys))
 
 -- a child that stays and is not there anew stood nowhere before
 pub stays_gone : (o n : Option Entry) → goes o n ≡ false → is_some n ≡ false → is_some o ≡ false
@@ -377,16 +377,16 @@ stays_gone (Some x) (Some y) h e = absurd (false≢true (sym e))
 
 -- a top that goes is deleted first
 pub top_cut : (seen : Node → Node) (stale : PathValue → Bool) (r t : Tree) (own : Own) (p : PathValue) (rest : List Visit) → Goes r t p ≡ true → BothHold r t p
-    → IsRight seen (under p) stale (old_side true r) t (plan_steps t own rest) → IsRight seen (under p) stale r t (plan_steps t own (Delete p ∷ rest))
+    → IsRight seen (under p) stale (old_side true r) t (plan_steps own rest) → IsRight seen (under p) stale r t (plan_steps own (Delete p ∷ rest))
 top_cut seen stale r t own p rest g sound right =
-    cut seen (under p) stale r t p (plan_steps t own rest) (λ q u. u) (goes_cut r t p p (under_itself p) sound.old_holds sound.new_holds g)
-    (reseated seen (under p) stale (λ _. None) (tree_without p r) t (plan_steps t own rest) (λ q w h u. under_more w q p u h) (λ q h. sym (left_out r p q h)) right)
+    cut seen (under p) stale r t p (plan_steps own rest) (λ q u. u) (goes_cut r t p p (under_itself p) sound.old_holds sound.new_holds g)
+    (reseated seen (under p) stale (λ _. None) (tree_without p r) t (plan_steps own rest) (λ q w h u. under_more w q p u h) (λ q h. sym (left_out r p q h)) right)
 
 -- a close says no step
-pub entry_steps : (t : Tree) (own : Own) (dir : Bool) (v : Visit) (rest : List Visit) → plan_steps t own (v ∷ rest) ≡ plan_steps t own (entry_visits dir v rest)
-entry_steps t own true v rest =
-    ap (λ cs. visit_steps t own v ++ cs) (sym (plan_steps_append t own rest (Close ∷ []) ∙ append-nil (plan_steps t own rest)))
-entry_steps t own false v rest = refl
+pub entry_steps : (own : Own) (dir : Bool) (v : Visit) (rest : List Visit) → plan_steps own (v ∷ rest) ≡ plan_steps own (entry_visits dir v rest)
+entry_steps own true v rest =
+    ap (λ cs. visit_steps own v ++ cs) (sym (plan_steps_append own rest (Close ∷ []) ∙ append-nil (plan_steps own rest)))
+entry_steps own false v rest = refl
 
 -- ---- files
 
@@ -449,8 +449,8 @@ not_false false h = absurd (false≢true (sym h))
 
 -- nor does it change what is right
 pub with_close : (seen : Node → Node) (scope stale : PathValue → Bool) (r t : Tree) (own : Own) (dir : Bool) (v : Visit) (rest : List Visit)
-    → IsRight seen scope stale r t (plan_steps t own (v ∷ rest)) → IsRight seen scope stale r t (plan_steps t own (entry_visits dir v rest))
-with_close seen scope stale r t own dir v rest right = subst (λ (cs : List Step). IsRight seen scope stale r t cs) (entry_steps t own dir v rest) right
+    → IsRight seen scope stale r t (plan_steps own (v ∷ rest)) → IsRight seen scope stale r t (plan_steps own (entry_visits dir v rest))
+with_close seen scope stale r t own dir v rest right = subst (λ (cs : List Step). IsRight seen scope stale r t cs) (entry_steps own dir v rest) right
 
 -- ---- the root
 
@@ -460,6 +460,13 @@ some_there t p h = by (t p) h
     by : (o : Option Entry) → IsSomeAnd o (λ e. IsTrue (is_directory e)) → is_some o ≡ true
     by None k = absurd k
     by (Some x) k = refl
+
+directory_there : (t : Tree) (p : PathValue) → HasDirectory t p → is_directory_there (t p) ≡ true
+directory_there t p h = by (t p) h
+  where
+    by : (o : Option Entry) → IsSomeAnd o (λ e. IsTrue (is_directory e)) → is_directory_there o ≡ true
+    by None k = absurd k
+    by (Some x) k = k
 
 -- a directory in both trees stays
 pub both_stay : (r t : Tree) (p : PathValue) → HasDirectory r p → HasDirectory t p → Goes r t p ≡ false
@@ -477,9 +484,10 @@ both_stay r t p old new = by (r p) (t p) old new
 
 -- the root is opened, whatever is below it
 pub root_opened : (seen : Node → Node) (stale : PathValue → Bool) (r t : Tree) (own : Own) (rest : List Visit) → HasDirectory r [] → HasDirectory t [] → LeadsOver seen r t own
-    → IsRight seen (below []) stale r t (plan_steps t own rest) → IsRight seen (under []) stale r t (plan_steps t own (Open [] ∷ rest))
+    → IsRight seen (below []) stale r t (plan_steps own rest) → IsRight seen (under []) stale r t (plan_steps own (Open [] true ∷ rest))
 root_opened seen stale r t own rest old new leads right =
-    entry_opened seen stale r t own [] rest (some_there r [] old) (some_there t [] new) (both_stay r t [] old new) leads (inl refl) right
+    subst (λ b. IsRight seen (under []) stale r t (plan_steps own (Open [] b ∷ rest))) (directory_there t [] new)
+    (entry_opened seen stale r t own [] rest (some_there r [] old) (some_there t [] new) (both_stay r t [] old new) leads (inl refl) right)
 
 -- what follows from two facts of an answer holds of it
 pub ok_both : {T E : Type 0} (r : Result T E) (P Q R : T → Type 0) → ((v : T) → P v → Q v → R v) → IfOk r P → IfOk r Q → IfOk r R

@@ -66,24 +66,26 @@ same t p stays is plan = record {
 }
 
 pub added : (t : WalkedTrees) (anew dir : Bool) (p : PathValue) (rest : List Visit) → Leads t → comes t anew p ≡ true → is_some (t.new p) ≡ true → dir ≡ is_directory_there (t.new p) → (dir ≡ false → rest ≡ [])
-    → IsPlanBelow t true p rest → IsPlanOf t anew p (entry_visits dir (Add p) rest)
+    → IsPlanBelow t true p rest → IsPlanOf t anew p (entry_visits dir (Add p dir) rest)
 added t anew dir p rest leads new stands kind file plan = record {
   right = λ sound.
-      added_entry t.seen t.stale anew t.old t.new p (plan_steps t.new t.own (entry_visits dir (Add p) rest)) sound
-      (subst (λ b. IsRightPlan t.seen (under p) t.stale (old_side b t.old) t.new t.own (entry_visits dir (Add p) rest)) (sym new)
-      (with_close t.seen (under p) t.stale (old_side true t.old) t.new t.own dir (Add p) rest
-      (entry_anew t.seen t.stale t.old t.new t.own p true rest refl stands leads (plan.right sound))));
-  nests = λ top d inside. nested_entry t.new top d p (Add p) dir rest (λ ds. refl) kind file inside stands (plan.nests top);
+      added_entry t.seen t.stale anew t.old t.new p (plan_steps t.own (entry_visits dir (Add p dir) rest)) sound
+      (subst (λ b. IsRightPlan t.seen (under p) t.stale (old_side b t.old) t.new t.own (entry_visits dir (Add p dir) rest)) (sym new)
+      (with_close t.seen (under p) t.stale (old_side true t.old) t.new t.own dir (Add p dir) rest
+      (subst (λ b. IsRight t.seen (under p) t.stale (old_side true t.old) t.new (plan_steps t.own (Add p b ∷ rest))) (sym kind)
+      (entry_anew t.seen t.stale t.old t.new t.own p true rest refl stands leads (plan.right sound)))));
+  nests = λ top d inside. nested_entry t.new top d p (Add p dir) dir rest (λ ds. refl) kind file inside stands (plan.nests top);
 }
 
 pub opened : (t : WalkedTrees) (anew dir : Bool) (p : PathValue) (rest : List Visit) → Leads t → comes t anew p ≡ false → is_some (t.new p) ≡ true → dir ≡ is_directory_there (t.new p) → (dir ≡ false → rest ≡ [])
-    → (BothHold t.old t.new p → HasReason t.stale t.old t.new p) → IsPlanBelow t false p rest → IsPlanOf t anew p (entry_visits dir (Open p) rest)
+    → (BothHold t.old t.new p → HasReason t.stale t.old t.new p) → IsPlanBelow t false p rest → IsPlanOf t anew p (entry_visits dir (Open p dir) rest)
 opened t anew dir p rest leads kept stands kind file reason plan = record {
   right = λ sound.
-      subst (λ b. IsRightPlan t.seen (under p) t.stale (old_side b t.old) t.new t.own (entry_visits dir (Open p) rest)) (left_side t anew p kept)
-      (with_close t.seen (under p) t.stale t.old t.new t.own dir (Open p) rest
-      (entry_opened t.seen t.stale t.old t.new t.own p rest stay.1 stands stay.2 leads (reason sound) (plan.right sound)));
-  nests = λ top d inside. nested_entry t.new top d p (Open p) dir rest (λ ds. refl) kind file inside stands (plan.nests top);
+      subst (λ b. IsRightPlan t.seen (under p) t.stale (old_side b t.old) t.new t.own (entry_visits dir (Open p dir) rest)) (left_side t anew p kept)
+      (with_close t.seen (under p) t.stale t.old t.new t.own dir (Open p dir) rest
+      (subst (λ b. IsRight t.seen (under p) t.stale t.old t.new (plan_steps t.own (Open p b ∷ rest))) (sym kind)
+      (entry_opened t.seen t.stale t.old t.new t.own p rest stay.1 stands stay.2 leads (reason sound) (plan.right sound))));
+  nests = λ top d inside. nested_entry t.new top d p (Open p dir) dir rest (λ ds. refl) kind file inside stands (plan.nests top);
 }
   where
     stay : (anew ≡ false) × (is_some (t.old p) ≡ true) × (goes (t.old p) (t.new p) ≡ false)
@@ -94,7 +96,7 @@ pub entry_plan : (t : WalkedTrees) (anew dir : Bool) (p : PathValue) (vs : List 
     → (comes t anew p ≡ false → HasReason t.stale t.old t.new p) → IsEntry t (comes t anew p) dir p vs → IsPlanOf t anew p vs
 entry_plan t anew dir p vs leads stands kind reason e = subst (IsPlanOf t anew p) (sym e.is) (by (comes t anew p) refl e.plan)
   where
-    by : (b : Bool) → comes t anew p ≡ b → IsPlanBelow t b p e.rest → IsPlanOf t anew p (entry_visits dir (entry_visit b p) e.rest)
+    by : (b : Bool) → comes t anew p ≡ b → IsPlanBelow t b p e.rest → IsPlanOf t anew p (entry_visits dir (entry_visit b dir p) e.rest)
     by true new plan = added t anew dir p e.rest leads new stands kind e.file plan
     by false kept plan = opened t anew dir p e.rest leads kept stands kind e.file (λ sound. reason kept) plan
 
@@ -135,14 +137,14 @@ entry_joined t s x xs now later apart one others =
     one others)
 
 plans_right : (t : WalkedTrees) (anew : Bool) (p : PathValue) (s : Tree) (xs : List PathValue) (vs : List Visit) → BothHold t.old t.new p → All (IsChild p) xs → AreApart xs → All (IsLedFrom t anew s) xs → ArePlansOf t anew xs vs
-    → IsRight t.seen (any_under xs) t.stale s t.new (plan_steps t.new t.own vs)
+    → IsRight t.seen (any_under xs) t.stale s t.new (plan_steps t.own vs)
 plans_right t anew p s [] vs sound each apart led plans =
-    subst (λ (ws : List Visit). IsRight t.seen (any_under []) t.stale s t.new (plan_steps t.new t.own ws)) (sym plans)
+    subst (λ (ws : List Visit). IsRight t.seen (any_under []) t.stale s t.new (plan_steps t.own ws)) (sym plans)
     (nothing t.seen (any_under []) t.stale s t.new (λ q h. absurd (false≢true h)))
 plans_right t anew p s (x ∷ xs) vs sound each apart led (now, later, is, plan, rest) =
-    subst (λ (cs : List Step). IsRight t.seen (any_under (x ∷ xs)) t.stale s t.new cs) (sym (ap (plan_steps t.new t.own) is ∙ plan_steps_append t.new t.own now later))
-    (entry_joined t s x xs (plan_steps t.new t.own now) (plan_steps t.new t.own later) apart.0
-    (reseated t.seen (under x) t.stale (old_side (anew || goes (t.old x) (t.new x)) t.old) s t.new (plan_steps t.new t.own now) (λ q w h u. under_more w q x u h) (All-head (IsLedFrom t anew s) x xs led)
+    subst (λ (cs : List Step). IsRight t.seen (any_under (x ∷ xs)) t.stale s t.new cs) (sym (ap (plan_steps t.own) is ∙ plan_steps_append t.own now later))
+    (entry_joined t s x xs (plan_steps t.own now) (plan_steps t.own later) apart.0
+    (reseated t.seen (under x) t.stale (old_side (anew || goes (t.old x) (t.new x)) t.old) s t.new (plan_steps t.own now) (λ q w h u. under_more w q x u h) (All-head (IsLedFrom t anew s) x xs led)
     (plan.right (child_sound t.old t.new p x (All-head (IsChild p) x xs each) sound)))
     (plans_right t anew p s xs later sound (All-tail (IsChild p) x xs each) apart.1 (All-tail (IsLedFrom t anew s) x xs led) rest))
 
@@ -157,7 +159,7 @@ pub below_directory : (t : WalkedTrees) (anew : Bool) (p : PathValue) (xs : List
 below_directory t anew p xs vs children all_old all_new plans = record {
   right = λ sound.
       with_cuts anew t.seen t.stale t.old t.new t.own p xs vs sound.old_holds sound.new_holds children
-      (all_children t.seen t.stale (left_of anew t.old t.new xs) t.new p xs (plan_steps t.new t.own vs) children (left_all anew t.old t.new p xs (all_old sound.old_holds)) (all_new sound.new_holds)
+      (all_children t.seen t.stale (left_of anew t.old t.new xs) t.new p xs (plan_steps t.own vs) children (left_all anew t.old t.new p xs (all_old sound.old_holds)) (all_new sound.new_holds)
       (plans_right t anew p (left_of anew t.old t.new xs) xs vs sound children.each children.apart
       (λ i d lt. left_under anew t.old t.new p (get_or xs i d) xs i children lt (one_place xs i d (get_or xs i d) lt) (children.each i d lt)) plans));
   nests = λ top. nested_append t.new top p (deletes_of anew t.old t.new xs) vs (nested_deletes anew t.old t.new top p xs children.each) (plans_nested t anew top p xs vs children.each plans);

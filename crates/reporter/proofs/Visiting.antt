@@ -5,7 +5,7 @@ use Rattle.std.proofs.lemmas.List.{length-append}
 use Rattle.std.specs.Prelude.{IsSomeAnd, is_some}
 use Rattle.svnpath.specs.Paths.{PathValue, is_at_or_under, same_path}
 use Rattle.svnpath.specs.PathLaws.{same_path_is, same_path_refl, under_itself, under_is}
-use Rattle.repo_api.specs.Trees.{Tree, is_directory, is_directory_content}
+use Rattle.repo_api.specs.Trees.{Tree, is_directory, is_directory_content, is_directory_there}
 use Rattle.repo_api.specs.declared.entry.Entry.{Entry}
 use Rattle.drive_rules.specs.Steps.{Step, Node, node_of, node_at, is_of_kind, is_named}
 use Rattle.drive_rules.specs.Drives.{IsRight, HasReason, IsOfOneKind, IsInBoth, created_revision}
@@ -54,23 +54,23 @@ is_its_kind r t p one = by (r p) (t p) one
     by (Some x) (Some y) k = kinds (node_of x) (is_directory x) (is_directory y) refl k
 
 -- the first visit names a path, unless it leaves a directory
-first_named : (t : Tree) (own : PathValue → Bool → List Step) (v : Visit) (vs : List Visit) → (v ≡ Close → ⊥) → (q : PathValue) × (is_named q (plan_steps t own (v ∷ vs)) ≡ true)
-first_named t own (Open p) vs names = (p, or_left _ (is_named p (own p false ++ plan_steps t own vs)) (ap (λ b. b && true) (same_path_refl p)))
-first_named t own (Add p) vs names = (p, or_left _ (is_named p (own p true ++ plan_steps t own vs)) (ap (λ b. b && true) (same_path_refl p)))
-first_named t own (Delete p) vs names = (p, or_left _ (is_named p (plan_steps t own vs)) (ap (λ b. b && true) (same_path_refl p)))
-first_named t own Close vs names = absurd (names refl)
+first_named : (own : PathValue → Bool → List Step) (v : Visit) (vs : List Visit) → (v ≡ Close → ⊥) → (q : PathValue) × (is_named q (plan_steps own (v ∷ vs)) ≡ true)
+first_named own (Open p directory) vs names = (p, or_left _ (is_named p (own p false ++ plan_steps own vs)) (ap (λ b. b && true) (same_path_refl p)))
+first_named own (Add p directory) vs names = (p, or_left _ (is_named p (own p true ++ plan_steps own vs)) (ap (λ b. b && true) (same_path_refl p)))
+first_named own (Delete p) vs names = (p, or_left _ (is_named p (plan_steps own vs)) (ap (λ b. b && true) (same_path_refl p)))
+first_named own Close vs names = absurd (names refl)
 
 -- what is needed has a reason
 pub reason_of : (seen : Node → Node) (stale : PathValue → Bool) (r t : Tree) (own : PathValue → Bool → List Step) (p : PathValue) (rest : List Visit)
-    → IsNeeded rest r t stale p → AreNested t p p rest → IsRight seen (below p) stale r t (plan_steps t own rest) → HasReason stale r t p
+    → IsNeeded rest r t stale p → AreNested t p p rest → IsRight seen (below p) stale r t (plan_steps own rest) → HasReason stale r t p
 reason_of seen stale r t own p rest (inl root) nested right = inl root
 reason_of seen stale r t own p rest (inr (inr (inl d))) nested right = inr (p, under_itself p, inl d)
 reason_of seen stale r t own p rest (inr (inr (inr s))) nested right = inr (p, under_itself p, inr s)
 reason_of seen stale r t own p [] (inr (inl full)) nested right = absurd (full refl)
 reason_of seen stale r t own p (v ∷ vs) (inr (inl full)) nested right = by first (right.reasons first.0 first.1) (right.within first.0 first.1)
   where
-    first : (q : PathValue) × (is_named q (plan_steps t own (v ∷ vs)) ≡ true)
-    first = first_named t own v vs (λ e. nested_opens t p p vs (subst (λ x. AreNested t p p (x ∷ vs)) e nested))
+    first : (q : PathValue) × (is_named q (plan_steps own (v ∷ vs)) ≡ true)
+    first = first_named own v vs (λ e. nested_opens t p p vs (subst (λ x. AreNested t p p (x ∷ vs)) e nested))
 
     root_above : (q : PathValue) → q ≡ [] → is_at_or_under q p ≡ true → p ≡ []
     root_above q e u =
@@ -78,16 +78,16 @@ reason_of seen stale r t own p (v ∷ vs) (inr (inl full)) nested right = by fir
         let none : length q ≡ 0 = ap length e in
         no_length p (omega (long, none, arith))
 
-    by : (f : (q : PathValue) × (is_named q (plan_steps t own (v ∷ vs)) ≡ true)) → HasReason stale r t f.0 → below p f.0 ≡ true → HasReason stale r t p
+    by : (f : (q : PathValue) × (is_named q (plan_steps own (v ∷ vs)) ≡ true)) → HasReason stale r t f.0 → below p f.0 ≡ true → HasReason stale r t p
     by f (inl e) low = inl (root_above f.0 e (below_under p f.0 low))
     by f (inr w) low = inr (w.0, under_more w.0 f.0 p w.1 (below_under p f.0 low), w.2)
 
 -- an entry that stays is opened for a reason
 pub entry_opened : (seen : Node → Node) (stale : PathValue → Bool) (r t : Tree) (own : PathValue → Bool → List Step) (p : PathValue) (rest : List Visit)
     → is_some (r p) ≡ true → is_some (t p) ≡ true → goes (r p) (t p) ≡ false → LeadsOver seen r t own → HasReason stale r t p
-    → IsRight seen (below p) stale r t (plan_steps t own rest) → IsRight seen (under p) stale r t (plan_steps t own (Open p ∷ rest))
+    → IsRight seen (below p) stale r t (plan_steps own rest) → IsRight seen (under p) stale r t (plan_steps own (Open p (is_directory_there (t p)) ∷ rest))
 entry_opened seen stale r t own p rest old new stays leads reason right =
-    opened seen stale r t p (entry_kind (t p)) (own p false) (plan_steps t own rest) (is_its_kind r t p kind) (leads.here p false) (leads.open_meets p kind) (leads.open_leads p kind) (leads.open_text p)
+    opened seen stale r t p (entry_kind (t p)) (own p false) (plan_steps own rest) (is_its_kind r t p kind) (leads.here p false) (leads.open_meets p kind) (leads.open_leads p kind) (leads.open_text p)
     reason right
   where
     kind : IsOfOneKind r t p
@@ -96,22 +96,22 @@ entry_opened seen stale r t own p rest old new stays leads reason right =
 -- an entry that comes where nothing stands is added
 pub entry_added : (seen : Node → Node) (stale : PathValue → Bool) (old r t : Tree) (own : PathValue → Bool → List Step) (p : PathValue) (rest : List Visit)
     → r p ≡ None → is_some (t p) ≡ true → LeadsOver seen old t own
-    → IsRight seen (below p) stale r t (plan_steps t own rest) → IsRight seen (under p) stale r t (plan_steps t own (Add p ∷ rest))
+    → IsRight seen (below p) stale r t (plan_steps own rest) → IsRight seen (under p) stale r t (plan_steps own (Add p (is_directory_there (t p)) ∷ rest))
 entry_added seen stale old r t own p rest none new leads right =
-    fresh seen stale r t p (entry_kind (t p)) (own p true) (plan_steps t own rest) none new (leads.here p true) (leads.add_meets p new) (leads.add_leads p new) (leads.add_text p) right
+    fresh seen stale r t p (entry_kind (t p)) (own p true) (plan_steps own rest) none new (leads.here p true) (leads.add_meets p new) (leads.add_leads p new) (leads.add_text p) right
 
 -- nothing is plan_steps of an entry that is the same and below which nothing is plan_steps
 pub entry_same : (seen : Node → Node) (stale : PathValue → Bool) (r t : Tree) (own : PathValue → Bool → List Step) (p : PathValue) (anew : Bool) (rest : List Visit)
     → anew ≡ false → rest ≡ [] → IsSame r t stale p
-    → IsRight seen (below p) stale (old_side anew r) t (plan_steps t own rest) → IsRight seen (under p) stale (old_side anew r) t (plan_steps t own rest)
+    → IsRight seen (below p) stale (old_side anew r) t (plan_steps own rest) → IsRight seen (under p) stale (old_side anew r) t (plan_steps own rest)
 entry_same seen stale r t own p true rest kept empty same right = absurd (false≢true (sym kept))
 entry_same seen stale r t own p false rest kept empty same right =
-    around seen stale r t p [] (plan_steps t own rest) (λ q h. refl)
+    around seen stale r t p [] (plan_steps own rest) (λ q h. refl)
     (nothing seen (same_path p) stale r t (λ q h. subst (λ x. (node_at r x ≡ node_at t x) × (IsInBoth r t x → (created_revision r x ≡ created_revision t x) × (stale x ≡ false))) (same_path_is p q h) (same.node, λ both. (same.created, same.fresh))))
     right
 
 pub entry_anew : (seen : Node → Node) (stale : PathValue → Bool) (r t : Tree) (own : PathValue → Bool → List Step) (p : PathValue) (anew : Bool) (rest : List Visit)
     → anew ≡ true → is_some (t p) ≡ true → LeadsOver seen r t own
-    → IsRight seen (below p) stale (old_side anew r) t (plan_steps t own rest) → IsRight seen (under p) stale (old_side anew r) t (plan_steps t own (Add p ∷ rest))
+    → IsRight seen (below p) stale (old_side anew r) t (plan_steps own rest) → IsRight seen (under p) stale (old_side anew r) t (plan_steps own (Add p (is_directory_there (t p)) ∷ rest))
 entry_anew seen stale r t own p false rest comes new leads right = absurd (false≢true comes)
 entry_anew seen stale r t own p true rest comes new leads right = entry_added seen stale r (λ _. None) t own p rest refl new leads right

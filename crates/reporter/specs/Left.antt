@@ -34,7 +34,7 @@ pub record IsPlanBelow (t : WalkedTrees) (anew : Bool) (p : PathValue) (vs : Lis
 pub record IsEntry (t : WalkedTrees) (anew directory : Bool) (p : PathValue) (vs : List Visit)
     : Type 0 where
   pub rest : List Visit
-  pub is : vs ≡ entry_visits directory (entry_visit anew p) rest
+  pub is : vs ≡ entry_visits directory (entry_visit anew directory p) rest
   pub file : directory ≡ false → rest ≡ []
   pub plan : IsPlanBelow t anew p rest
 

@@ -1,18 +1,26 @@
 -- Which directories are open between the visits of a plan.
-use Rattle.std.specs.Prelude.{◌≡◌, Bool, true, false, ◌&&◌, is_some, if◌then◌else◌, List, [], ◌∷◌, ◌++◌, Option, Some, None, option_and_then}
+use Rattle.std.specs.Prelude.{◌≡◌, Bool, true, false, not, ◌&&◌, if◌then◌else◌, List, [], ◌∷◌, ◌++◌, Option, Some, None, option_and_then}
 use Rattle.svnpath.specs.Paths.{PathValue}
-use Rattle.repo_api.specs.Trees.{Tree, is_directory_there}
+use Rattle.repo_api.specs.Trees.{Tree, is_directory}
+use Rattle.repo_api.specs.declared.entry.Entry.{Entry}
 use Rattle.drive_rules.specs.Places.{is_in_directory}
 use Rattle.reporter.specs.declared.visit.Visit.{Visit}
 use Rattle.reporter.specs.declared.visit.Visit.TheVariants.{Open, Add, Delete, Close}
 
--- the directories that are open, the innermost first, once an entry is entered, that is to stand
+-- an entry stands there as a directory, or as a file
+abbrev pub stands_as : Bool → Option Entry → Bool
+stands_as directory None = false
+stands_as true (Some e) = is_directory e
+stands_as false (Some e) = not (is_directory e)
+
+-- the directories that are open, the innermost first, once an entry is entered, that is to stand so
 -- and has its place in the innermost: a directory is open from then on, and a file never
-abbrev pub after_entry_visit : Tree → PathValue → List PathValue → PathValue → Option (List PathValue)
-after_entry_visit new top [] p = None
-after_entry_visit new top (d ∷ ds) p =
-    if is_in_directory top d p && is_some (new p)
-    then Some (if is_directory_there (new p) then p ∷ d ∷ ds else d ∷ ds)
+abbrev pub after_entry_visit : Tree → PathValue → List PathValue → PathValue → Bool
+    → Option (List PathValue)
+after_entry_visit new top [] p directory = None
+after_entry_visit new top (d ∷ ds) p directory =
+    if is_in_directory top d p && stands_as directory (new p)
+    then Some (if directory then p ∷ d ∷ ds else d ∷ ds)
     else None
 
 -- once an entry is deleted that has its place in the innermost
@@ -28,8 +36,8 @@ after_close_visit (d ∷ e ∷ ds) = Some (e ∷ ds)
 
 -- the directories that are open after a visit
 abbrev pub after_visit : Tree → PathValue → List PathValue → Visit → Option (List PathValue)
-after_visit new top ds (Open p) = after_entry_visit new top ds p
-after_visit new top ds (Add p) = after_entry_visit new top ds p
+after_visit new top ds (Open p directory) = after_entry_visit new top ds p directory
+after_visit new top ds (Add p directory) = after_entry_visit new top ds p directory
 after_visit new top ds (Delete p) = after_delete_visit top ds p
 after_visit new top ds Close = after_close_visit ds
 
@@ -52,6 +60,6 @@ entry_visits true visit rest = visit ∷ (rest ++ Close ∷ [])
 entry_visits false visit rest = visit ∷ rest
 
 -- an entry is opened, or comes anew
-abbrev pub entry_visit : Bool → PathValue → Visit
-entry_visit true p = Add p
-entry_visit false p = Open p
+abbrev pub entry_visit : Bool → Bool → PathValue → Visit
+entry_visit true directory p = Add p directory
+entry_visit false directory p = Open p directory

@@ -7,7 +7,7 @@ ghost use Rattle.reporter.specs.Walks.{deletes_of, goes};
 ghost use Rattle.reporter.specs.declared.unvisited.Found.TheVariants.{Nothing};
 ghost use Rattle.reporter.specs.declared.visit.Visit.{Visit};
 
-use crate::kinds::{goes, is_added, is_directory, is_there};
+use crate::kinds::{goes, is_added};
 use crate::searching::has_news;
 use crate::sides::Sides;
 use crate::unvisited::{Found, Unvisited};
@@ -89,13 +89,13 @@ pub(crate) fn unvisited_below<S: Sides>(
 }
 
 /// Makes the visit that enters an entry: it is opened, or comes anew.
-fn entry_visit(path: Path, is_anew: bool) -> Visit
-    ensures { result ≡ entry_visit is_anew path }
+fn entry_visit(path: Path, is_anew: bool, is_directory: bool) -> Visit
+    ensures { result ≡ entry_visit is_anew is_directory path }
 {
     if is_anew {
-        Visit::Add(path)
+        Visit::Add { path, is_directory }
     } else {
-        Visit::Open(path)
+        Visit::Open { path, is_directory }
     }
 }
 
@@ -115,10 +115,10 @@ fn entered<S: Sides>(
         → IsEntry (S.trees sides.now) is_anew is_directory path vs) }
 {
     if !is_directory {
-        return Ok(Found::Single(entry_visit(path, is_anew)));
+        return Ok(Found::Single(entry_visit(path, is_anew, is_directory)));
     }
     let below = unvisited_below(alloc, sides, &path, is_anew)?;
-    Ok(Found::Entered(entry_visit(path, is_anew), below))
+    Ok(Found::Entered(entry_visit(path, is_anew, is_directory), below))
 }
 
 /// Finds what is to be visited at a path and under it.
@@ -132,11 +132,11 @@ fn found_at<S: Sides>(
         → IsPlanOf (S.trees sides.now) is_anew path vs) }
 {
     let kinds = sides.kinds(alloc, &path)?;
-    if !is_there(kinds.new) {
+    if !kinds.new.is_present() {
         return Ok(Found::Nothing);
     }
     let comes = is_anew || is_added(kinds);
-    let is_directory = is_directory(kinds.new);
+    let is_directory = kinds.new.is_directory();
     if !comes && !has_news(alloc, sides, &path, is_directory)? {
         return Ok(Found::Nothing);
     }

@@ -5,7 +5,7 @@ ghost use Rattle.drive_rules.specs.Drives.{HasReason};
 ghost use Rattle.reporter.specs.Left.{IsPlanOf, IsPlanBelow};
 ghost use Rattle.reporter.specs.Walks.{goes};
 
-use crate::kinds::{goes, is_added, is_directory, is_there};
+use crate::kinds::{goes, is_added};
 use crate::sides::Sides;
 use std::alloc::{AllocError, Global};
 use svnpath::Path;
@@ -22,13 +22,13 @@ fn is_named<S: Sides>(alloc: Global, sides: &S, path: &Path) -> Result<bool, All
         → IsPlanOf (S.trees sides.now) false path.now []) }
 {
     let kinds = sides.kinds(alloc, path)?;
-    if !is_there(kinds.new) {
+    if !kinds.new.is_present() {
         return Ok(goes(kinds));
     }
     if is_added(kinds) {
         return Ok(true);
     }
-    has_news(alloc, sides, path, is_directory(kinds.new))
+    has_news(alloc, sides, path, kinds.new.is_directory())
 }
 
 /// Says whether something is to be said of an entry that stays, or of what is under it.

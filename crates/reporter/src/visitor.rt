@@ -38,7 +38,7 @@ impl Visitor {
             → BothHold (S.trees sides.now).old (S.trees sides.now).new []
             → IsRightPlan (S.trees sides.now).seen (under []) (S.trees sides.now).stale
             (S.trees sides.now).old (S.trees sides.now).new (S.trees sides.now).own
-            (Open [] ∷ vs)) }
+            (Open [] true ∷ vs)) }
         ensures nests { IfOk result (λ v. (vs : List Visit) → MayVisit (S.trees sides.now) v vs
             → AreNested (S.trees sides.now).new [] [] vs) }
     {

@@ -4,7 +4,6 @@
 
 mod change_list;
 mod changes;
-mod dating;
 mod judging;
 mod noting;
 mod path_map;
@@ -12,7 +11,6 @@ mod properties;
 mod txn_changes;
 
 pub use change_list::ChangeList;
-pub use dating::date_of;
 pub use judging::{current_refusal, property_refusal};
 pub use path_map::put;
 pub use properties::{changed_property, opening_properties, revision_properties};

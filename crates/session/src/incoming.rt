@@ -24,12 +24,12 @@ pub fn take_incoming(reader: &mut ItemReader) -> Result<Option<Incoming>, AllocE
     match reader.next() {
         Ok(Some(item)) => Ok(Some(Incoming::Whole(item))),
         Ok(None) => Ok(None),
-        Err(fault) => broken_unless_memory(fault),
+        Err(fault) => broken_or_memory(fault),
     }
 }
 
 /// Tells a fault of the stream from being out of memory.
-fn broken_unless_memory(fault: ItemFault) -> Result<Option<Incoming>, AllocError>
+fn broken_or_memory(fault: ItemFault) -> Result<Option<Incoming>, AllocError>
     ensures { IfOk result (λ found. IsBrokenFault fault × (found ≡ Some Incoming.Broken)) }
 {
     match fault {

@@ -15,11 +15,11 @@ use access::RepoAccess;
 use items::Item;
 use machine::{Options, Phase, Turn};
 use repo_api::Repository;
-use session_commands::answer_item;
-use session_commits::{edit_item, skip};
-use session_logins::{answer_challenge, greet, log_in};
+use session_commands::main_item;
+use session_commits::{edit_item, skipped_item};
+use session_logins::{challenge_item, greeting_item, login_item};
 use session_replies::{SessionPhase, end_malformed};
-use session_reports::{serve_driven, serve_report};
+use session_reports::{driven_item, report_item};
 use std::alloc::AllocError;
 use std::mem::drop;
 use wire_replies::ReplySink;
@@ -39,14 +39,14 @@ fn serve_item<R: Repository, A: RepoAccess<View = R>, S: ReplySink>(
         (UnreleasedStep turn.old.env phase (Whole (value_of item.now))) }
 {
     match phase {
-        Phase::Greeted => greet(options, item, turn),
-        Phase::LoggingIn(login) => log_in(options, login, item, access, turn),
-        Phase::Challenged(pending) => answer_challenge(options, pending, item, access, turn),
-        Phase::Serving(client) => answer_item(options, client, item, access, turn),
+        Phase::Greeted => greeting_item(options, item, turn),
+        Phase::LoggingIn(login) => login_item(options, login, item, access, turn),
+        Phase::Challenged(pending) => challenge_item(options, pending, item, access, turn),
+        Phase::Serving(client) => main_item(options, client, item, access, turn),
         Phase::Editing(edit) => edit_item(edit, item, access, turn),
-        Phase::Skipping(client) => skip(client, item, turn),
-        Phase::Reporting(reporting) => serve_report(options, reporting, item, access, turn),
-        Phase::Driven(client) => serve_driven(client, item, turn),
+        Phase::Skipping(client) => skipped_item(client, item, turn),
+        Phase::Reporting(reporting) => report_item(options, reporting, item, access, turn),
+        Phase::Driven(client) => driven_item(client, item, turn),
         Phase::Ended => Ok(Phase::Ended),
     }
 }

@@ -10,9 +10,9 @@ ghost use Rattle.machine.specs.Commands.{lock_ask, unlock_ask};
 use crate::token::token_of;
 use byte_string::ByteString;
 use commands::{LockCommand, UnlockCommand};
+use dates::date_bytes;
 use machine::{Client, Env};
 use repo_api::{Lock, LockAsk, UnlockAsk};
-use session_replies::date_of;
 use std::alloc::{AllocError, Global};
 use svnpath::{Path, PathFault};
 
@@ -34,7 +34,7 @@ fn lock_ask(
         steals: command.steals,
         current: command.current,
         token: token_of(alloc, env.token)?,
-        date: date_of(alloc, env.moment)?,
+        date: date_bytes(alloc, env.moment)?,
         path,
     })
 }

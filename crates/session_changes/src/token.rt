@@ -4,15 +4,14 @@ ghost use Rattle.machine.specs.Commands.{token_text};
 
 use byte_string::ByteString;
 use std::alloc::{AllocError, Global};
-use uuid::Uuid;
+use wire_replies::uuid_text;
 
 /// Makes the token from a word.
 pub(crate) fn token_of(alloc: Global, word: u128) -> Result<ByteString, AllocError>
     ensures { IfOk result (λ token. token ≡ token_text word) }
 {
-    let mut buffer = Uuid::encode_buffer();
-    let text = Uuid::from_u128(word).hyphenated().encode_lower(&mut buffer);
+    let text = uuid_text(alloc, word)?;
     let mut token = Vec::from_slice(alloc, b"opaquelocktoken:")?;
-    token.extend_from_slice(text.as_bytes())?;
+    token.extend_from_slice(text.as_slice())?;
     Ok(ByteString::new(token))
 }

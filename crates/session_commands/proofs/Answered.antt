@@ -1,5 +1,5 @@
 -- Answers to commands that change nothing, behind what their clients are told before.
-use Rattle.std.proofs.Common.{◌≡◌, ℕ, List, [], ◌∷◌, ◌++◌, refl}
+use Rattle.std.proofs.Common.{◌≡◌, ℕ, List, [], refl}
 use Rattle.std.specs.Prelude.{Result, Ok, Err, IfOk}
 use Rattle.svnpath.specs.Paths.{PathValue}
 use Rattle.svnpath.specs.declared.fault.PathFault.{PathFault}

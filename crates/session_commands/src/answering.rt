@@ -34,7 +34,7 @@ fn refuse_unknown<R: Repository, S: ReplySink>(
 }
 
 /// Answers a command that is known, and waits for nothing: with the login request, and then its own answer.
-fn answer_command<R: Repository, A: RepoAccess<View = R>, S: ReplySink>(
+fn answer_now<R: Repository, A: RepoAccess<View = R>, S: ReplySink>(
     options: &Options,
     client: Client,
     command: MainCommand,
@@ -56,7 +56,7 @@ fn answer_command<R: Repository, A: RepoAccess<View = R>, S: ReplySink>(
 }
 
 /// Takes a command: it waits for a login, or is answered.
-fn take_command<R: Repository, A: RepoAccess<View = R>, S: ReplySink>(
+fn answer_or_ask_login<R: Repository, A: RepoAccess<View = R>, S: ReplySink>(
     options: &Options,
     client: Client,
     command: MainCommand,
@@ -71,12 +71,12 @@ fn take_command<R: Repository, A: RepoAccess<View = R>, S: ReplySink>(
         let waiting = Some(command);
         ask_for_login(options, OpenLogin { client, waiting }, turn)
     } else {
-        answer_command(options, client, command, access, turn)
+        answer_now(options, client, command, access, turn)
     }
 }
 
 /// Answers an item that is to be a command.
-pub fn answer_item<R: Repository, A: RepoAccess<View = R>, S: ReplySink>(
+pub fn main_item<R: Repository, A: RepoAccess<View = R>, S: ReplySink>(
     options: &Options,
     client: Client,
     item: &Item,
@@ -88,7 +88,7 @@ pub fn answer_item<R: Repository, A: RepoAccess<View = R>, S: ReplySink>(
         (MainStep options.now turn.old.env client (main_command (value_of item.now))) }
 {
     match MainCommand::from_item(turn.alloc, item) {
-        Ok(command) => take_command(options, client, command, access, turn),
+        Ok(command) => answer_or_ask_login(options, client, command, access, turn),
         Err(CommandFault::UnknownName) => refuse_unknown(client, turn),
         Err(CommandFault::BadParameters) => {
             drop(client);

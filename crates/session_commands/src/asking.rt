@@ -10,9 +10,8 @@ ghost use Rattle.machine.specs.Steps.{Answered};
 use byte_string::ByteString;
 use machine::{OpenLogin, Options, Phase, Turn, offer};
 use repo_api::Repository;
-use session_replies::{SessionPhase, say_new};
+use session_replies::{SessionPhase, say_new, stands};
 use std::alloc::{AllocError, Global};
-use std::mem::drop;
 use wire_replies::{Offer, Reply, ReplySink};
 
 /// Answers a login that is under way, and awaits the choice of a mechanism.
@@ -24,13 +23,8 @@ pub fn await_choice<R: Repository, S: ReplySink>(
     ensures { Answered result turn.new.env (S.writes turn.old.out turn.new.out)
         (says turn.old.env (LoggingIn login) (reply.now ∷ [])) }
 {
-    match turn.out.say(reply) {
-        Ok(()) => Ok(Phase::LoggingIn(login)),
-        Err(error) => {
-            drop(login);
-            Err(error)
-        }
-    }
+    let said = turn.out.say(reply);
+    stands(Phase::LoggingIn(login), said)
 }
 
 /// Makes the request of a login to the repository of this name.
@@ -66,11 +60,6 @@ pub fn ask_for_login<R: Repository, S: ReplySink>(
         (asks options.now turn.old.env login) }
 {
     let offered = offer(options, &login.waiting);
-    match say_login(turn.alloc, options, offered, &mut turn.out) {
-        Ok(()) => Ok(Phase::LoggingIn(login)),
-        Err(error) => {
-            drop(login);
-            Err(error)
-        }
-    }
+    let said = say_login(turn.alloc, options, offered, &mut turn.out);
+    stands(Phase::LoggingIn(login), said)
 }

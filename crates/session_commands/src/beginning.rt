@@ -15,7 +15,7 @@ use commands::DriveCommand;
 use drive_reports::{Anchor, Errand, Grafts, Purpose, Report, begin};
 use machine::{Client, OpenReporting, Options, Phase, Turn};
 use repo_api::Repository;
-use session_replies::{Preface, SessionPhase, say_preface};
+use session_replies::{Preface, SessionPhase, say_preface, stands};
 use std::alloc::{AllocError, Global};
 use std::mem::drop;
 use wire_replies::ReplySink;
@@ -74,13 +74,8 @@ fn await_report<R: Repository, S: ReplySink>(
     ensures { Answered result turn.new.env (S.writes turn.old.out turn.new.out)
         (behind (told_before preface) (says turn.old.env (Reporting reporting) [])) }
 {
-    match say_preface(preface, &mut turn.out) {
-        Ok(()) => Ok(Phase::Reporting(reporting)),
-        Err(error) => {
-            drop(reporting);
-            Err(error)
-        }
-    }
+    let said = say_preface(preface, &mut turn.out);
+    stands(Phase::Reporting(reporting), said)
 }
 
 /// Opens a report, after what its client is sent before, if the report could be made. If not, nothing is written.

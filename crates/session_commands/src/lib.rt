@@ -8,7 +8,7 @@ mod own;
 mod reparenting;
 mod request;
 
-pub use answering::answer_item;
+pub use answering::main_item;
 pub use asking::{ask_for_login, await_choice};
 pub use own::own_answer;
 pub use request::Request;

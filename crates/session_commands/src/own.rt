@@ -17,13 +17,13 @@ use repo_api::Repository;
 use session_changes::{change_property, lock, unlock};
 use session_commits::begin_edit;
 use session_reads::tell_read;
-use session_replies::{Preface, SessionPhase, refuse, say_preface};
+use session_replies::{Preface, SessionPhase, refuse, say_preface, stands};
 use std::alloc::AllocError;
 use std::mem::drop;
 use wire_replies::ReplySink;
 
 /// Begins a commit.
-fn begin<R: Repository, S: ReplySink>(
+fn begin_commit<R: Repository, S: ReplySink>(
     options: &Options,
     client: Client,
     command: &CommitCommand,
@@ -45,7 +45,7 @@ fn begin<R: Repository, S: ReplySink>(
 }
 
 /// Tells no more than what comes before an answer. The next command is awaited.
-fn tell_nothing<R: Repository, S: ReplySink>(
+fn tell_preface<R: Repository, S: ReplySink>(
     client: Client,
     preface: Preface,
     turn: &mut Turn<S>,
@@ -53,13 +53,8 @@ fn tell_nothing<R: Repository, S: ReplySink>(
     ensures { Answered result turn.new.env (S.writes turn.old.out turn.new.out)
         (behind (told_before preface) (says turn.old.env (Serving client) [])) }
 {
-    match say_preface(preface, &mut turn.out) {
-        Ok(()) => Ok(Phase::Serving(client)),
-        Err(error) => {
-            drop(client);
-            Err(error)
-        }
-    }
+    let said = say_preface(preface, &mut turn.out);
+    stands(Phase::Serving(client), said)
 }
 
 /// Gives a command's own answer, after what its client is sent before.
@@ -82,8 +77,8 @@ pub fn own_answer<R: Repository, A: RepoAccess<View = R>, S: ReplySink>(
             let report = begun_report(turn.alloc, options, &client, command, access);
             open_report(client, preface, report, turn)
         }
-        MainCommand::Commit(commit) => begin(options, client, commit, preface, turn),
-        MainCommand::AbortEdit => tell_nothing(client, preface, turn),
+        MainCommand::Commit(commit) => begin_commit(options, client, commit, preface, turn),
+        MainCommand::AbortEdit => tell_preface(client, preface, turn),
         MainCommand::Lock(command) => lock(client, command, preface, access, turn),
         MainCommand::Unlock(command) => unlock(client, command, preface, access, turn),
         MainCommand::ChangeRevProp(ask) => {

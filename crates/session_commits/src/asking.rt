@@ -2,15 +2,14 @@
 ghost use Rattle.std.specs.Prelude.{◌≡◌, ◌++◌, [], Ok, Err, IfOk, MatchResult, option_map};
 ghost use Rattle.std.specs.List.{list_all};
 ghost use Rattle.svnpath.specs.Components.{AnswersPath};
-ghost use Rattle.edit_rules.specs.Editor.{IfEditRefused};
+ghost use Rattle.refusals.specs.Faults.{IfRefusedBy};
 ghost use Rattle.repo_api.specs.Judging.{is_property_name};
 ghost use Rattle.machine.specs.Commands.{lock_tokens, are_named, set_all, asked_by};
 
 use byte_string::ByteString;
 use commands::CommitCommand;
-use edit_rules::EditFault;
 use machine::CommitParameters;
-use refusals::{Refusal, path_refusal};
+use refusals::{NotDone, Refusal, path_refusal};
 use repo_api::{LockTokens, Properties, is_property_name};
 use std::alloc::{AllocError, Global};
 use svnpath::{Path, PathFault};
@@ -105,16 +104,16 @@ fn asked_with(
     alloc: Global,
     command: &CommitCommand,
     tokens: LockTokens,
-) -> Result<CommitParameters, EditFault>
+) -> Result<CommitParameters, NotDone>
     ensures { MatchResult result (λ asked. asked_by command.now (Ok tokens) ≡ Ok asked)
-        (λ fault. IfEditRefused fault (λ r. asked_by command.now (Ok tokens) ≡ Err r)) }
+        (λ fault. IfRefusedBy fault (λ r. asked_by command.now (Ok tokens) ≡ Err r)) }
 {
     if !are_named(&command.properties) {
-        return Err(EditFault::Refused(Refusal::NotSupported));
+        return Err(NotDone::Refused(Refusal::NotSupported));
     }
     match asked(alloc, command, tokens) {
         Ok(asked) => Ok(asked),
-        Err(_) => Err(EditFault::NoMemory),
+        Err(_) => Err(NotDone::NoMemory),
     }
 }
 
@@ -123,15 +122,15 @@ pub fn asked_by(
     alloc: Global,
     base: &Path,
     command: &CommitCommand,
-) -> Result<CommitParameters, EditFault>
+) -> Result<CommitParameters, NotDone>
     ensures { MatchResult result
         (λ asked. asked_by command.now (lock_tokens base.now command.now.tokens) ≡ Ok asked)
-        (λ fault. IfEditRefused fault
+        (λ fault. IfRefusedBy fault
         (λ r. asked_by command.now (lock_tokens base.now command.now.tokens) ≡ Err r)) }
 {
     match lock_tokens(alloc, base, command.tokens.as_slice()) {
         Ok(tokens) => asked_with(alloc, command, tokens),
-        Err(PathFault::NoMemory) => Err(EditFault::NoMemory),
-        Err(fault) => Err(EditFault::Refused(path_refusal(fault))),
+        Err(PathFault::NoMemory) => Err(NotDone::NoMemory),
+        Err(fault) => Err(NotDone::Refused(path_refusal(fault))),
     }
 }

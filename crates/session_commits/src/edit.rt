@@ -7,7 +7,8 @@ ghost use Rattle.repo_api.specs.States.{IsBeginning, tree_of};
 ghost use Rattle.repo_api.specs.Transactions.{IsMarkedTxn};
 ghost use Rattle.repo_api.specs.Trees.{IsTree};
 ghost use Rattle.wire_edits.specs.Editing.{editor_command, ends_edit};
-ghost use Rattle.edit_rules.specs.Editor.{IfEditRefused, Applies, finished, RestsOn};
+ghost use Rattle.edit_rules.specs.Editor.{Applies, finished, RestsOn};
+ghost use Rattle.refusals.specs.Faults.{IfRefusedBy};
 ghost use Rattle.edit_rules.specs.Edits.{new_edit};
 ghost use Rattle.edit_rules.specs.Soundness.{IsSoundEdit};
 ghost use Rattle.edit_rules.specs.Refusing.{edit_refusal};
@@ -24,14 +25,14 @@ use crate::giving_up::give_up;
 use access::{Committed, Released, RepoAccess};
 use byte_string::ByteString;
 use commands::CommitCommand;
-use edit_rules::EditFault;
+use dates::date_bytes;
 use editor::CommitEditor;
 use items::Item;
 use machine::{Client, CommitParameters, Ending, OpenEdit, Options, Phase, Turn, ending_of};
-use refusals::Refusal;
+use refusals::{NotDone, Refusal};
 use repo_api::{CommitAsk, Repository};
 use session_replies::{
-    Preface, SessionEdit, SessionPhase, date_of, end_malformed, refuse, say_both, tell_fault,
+    Preface, SessionEdit, SessionPhase, end_malformed, refuse, say_both, stands, tell_fault,
 };
 use std::alloc::{AllocError, Global};
 use std::mem::drop;
@@ -39,13 +40,6 @@ use svnpath::Path;
 use wire_edits::{EditorCommand, ends_edit};
 use wire_forms::CommandFault;
 use wire_replies::{Reply, ReplySink};
-
-/// Tells a client that its edit may begin.
-fn tell_begun<S: ReplySink>(out: &mut S) -> Result<(), AllocError>
-    ensures { Says result (S.writes out.old out.new) (Reply.Success ∷ []) }
-{
-    out.say(&Reply::Success)
-}
 
 /// Makes an edit of which nothing has been made.
 fn new_editor<R: Repository>(
@@ -67,13 +61,8 @@ fn open_edit<R: Repository, S: ReplySink>(
     ensures { Answered result turn.new.env (S.writes turn.old.out turn.new.out)
         (says turn.old.env (Phase.Editing edit) (Reply.Success ∷ [])) }
 {
-    match tell_begun(&mut turn.out) {
-        Ok(()) => Ok(Phase::Editing(edit)),
-        Err(error) => {
-            drop(edit);
-            Err(error)
-        }
-    }
+    let said = turn.out.say(&Reply::Success);
+    stands(Phase::Editing(edit), said)
 }
 
 /// Begins an edit.
@@ -103,8 +92,8 @@ pub fn begin_edit<R: Repository, S: ReplySink>(
                 Err(error)
             }
         },
-        Err(EditFault::Refused(refusal)) => refuse(client, Preface::Nothing, refusal, turn),
-        Err(EditFault::NoMemory) => {
+        Err(NotDone::Refused(refusal)) => refuse(client, Preface::Nothing, refusal, turn),
+        Err(NotDone::NoMemory) => {
             drop(client);
             Err(AllocError)
         }
@@ -116,13 +105,13 @@ fn apply_now<R: Repository, A: RepoAccess<View = R>>(
     editor: &mut CommitEditor<R>,
     command: &EditorCommand,
     access: &mut A,
-) -> Result<(), EditFault>
+) -> Result<(), NotDone>
     requires rests { RestsOn editor.old (content_of (A.point access.old)) }
     requires sound { IsSoundEdit editor.old }
     ensures ok { OnOk result (
         (edit_refusal (content_of (A.point access.new)) editor.old command.now ≡ None)
         × Applies (content_of (A.point access.new)) editor.old command.now editor.new) }
-    ensures err { IfErr result (λ fault. IfEditRefused fault
+    ensures err { IfErr result (λ fault. IfRefusedBy fault
         (λ r. edit_refusal (content_of (A.point access.new)) editor.old command.now ≡ Some r)) }
     ensures later { A.rules.between (A.point access.old) (A.point access.new) }
 {
@@ -131,7 +120,7 @@ fn apply_now<R: Repository, A: RepoAccess<View = R>>(
 }
 
 /// Carries out a command that edits. One that is refused gives the edit up.
-fn edit<R: Repository, A: RepoAccess<View = R>, S: ReplySink>(
+fn apply_command<R: Repository, A: RepoAccess<View = R>, S: ReplySink>(
     edit: SessionEdit<R>,
     command: &EditorCommand,
     access: &mut A,
@@ -145,8 +134,8 @@ fn edit<R: Repository, A: RepoAccess<View = R>, S: ReplySink>(
     let mut edit = edit;
     match apply_now(&mut edit.editor, command, access) {
         Ok(()) => Ok(Phase::Editing(edit)),
-        Err(EditFault::Refused(refusal)) => give_up(edit, refusal, turn),
-        Err(EditFault::NoMemory) => {
+        Err(NotDone::Refused(refusal)) => give_up(edit, refusal, turn),
+        Err(NotDone::NoMemory) => {
             drop(edit);
             Err(AllocError)
         }
@@ -186,14 +175,41 @@ struct Told {
 }
 
 /// Makes what a client is answered about a commit of this moment.
-fn told_of(alloc: Global, moment: u64, user: &Option<ByteString>) -> Result<Told, AllocError>
+fn commit_told(alloc: Global, moment: u64, user: &Option<ByteString>) -> Result<Told, AllocError>
     requires { moment ≤ LAST_MOMENT }
     ensures date { IfOk result (λ told. IsDateText moment told.date) }
     ensures author { IfOk result (λ told. told.author ≡ user.now) }
 {
-    let date = date_of(alloc, moment)?;
+    let date = date_bytes(alloc, moment)?;
     let author = user.clone()?;
     Ok(Told { date, author })
+}
+
+/// Gathers what a commit of this moment asks for, and what its client is told once it is made.
+fn ready_commit(
+    alloc: Global,
+    moment: u64,
+    client: &Client,
+    asked: CommitParameters,
+) -> Result<(CommitAsk, Told), AllocError>
+    requires { moment ≤ LAST_MOMENT }
+    ensures date { IfOk result (λ ready. IsDateText moment ready.1.date) }
+    ensures author { IfOk result (λ ready. ready.1.author ≡ client.now.user) }
+    ensures ask { IfOk result (λ ready. ready.0 ≡ commit_ask client.now asked ready.1.date) }
+{
+    match commit_told(alloc, moment, &client.user) {
+        Ok(told) => match commit_ask(alloc, client, asked, &told.date) {
+            Ok(ask) => Ok((ask, told)),
+            Err(error) => {
+                drop(told);
+                Err(error)
+            }
+        },
+        Err(error) => {
+            drop(asked);
+            Err(error)
+        }
+    }
 }
 
 /// Writes that a commit is made, and then what is told of it.
@@ -206,7 +222,7 @@ fn say_made<S: ReplySink>(info: &Reply, out: &mut S) -> Result<(), AllocError>
 }
 
 /// Tells of a commit.
-fn report<S: ReplySink>(
+fn say_committed<S: ReplySink>(
     revision: u64,
     date: ByteString,
     author: Option<ByteString>,
@@ -246,13 +262,8 @@ fn tell_made<R: Repository, S: ReplySink>(
         (tells_made turn.old.env client revision told.date told.author fails) }
 {
     let Told { date, author } = told;
-    match report(revision, date, author, fails, &mut turn.out) {
-        Ok(()) => Ok(phase_after(client, fails)),
-        Err(error) => {
-            drop(client);
-            Err(error)
-        }
-    }
+    let said = say_committed(revision, date, author, fails, &mut turn.out);
+    stands(phase_after(client, fails), said)
 }
 
 /// Tells of a commit. Where memory was refused for its release there is no answer, and nothing is written.
@@ -293,25 +304,16 @@ fn commit<R: Repository, A: RepoAccess<View = R>, S: ReplySink>(
         (CloseStep turn.old.env client asked (Ok (R.txn_state txn)))
         (UnreleasedClose turn.old.env client asked (Ok (R.txn_state txn))) }
 {
-    match told_of(turn.alloc, turn.env.moment, &client.user) {
-        Ok(told) => match commit_ask(turn.alloc, &client, asked, &told.date) {
-            Ok(ask) => match access.commit(ask, txn) {
-                Ok(made) => tell_commit(client, made, told, turn),
-                Err(fault) => {
-                    drop(told);
-                    tell_fault(client, Preface::Nothing, fault, turn)
-                }
-            },
-            Err(error) => {
-                drop(client);
+    match ready_commit(turn.alloc, turn.env.moment, &client, asked) {
+        Ok((ask, told)) => match access.commit(ask, txn) {
+            Ok(made) => tell_commit(client, made, told, turn),
+            Err(fault) => {
                 drop(told);
-                drop(txn);
-                Err(error)
+                tell_fault(client, Preface::Nothing, fault, turn)
             }
         },
         Err(error) => {
             drop(client);
-            drop(asked);
             drop(txn);
             Err(error)
         }
@@ -319,7 +321,7 @@ fn commit<R: Repository, A: RepoAccess<View = R>, S: ReplySink>(
 }
 
 /// Ends an edit: its transaction is committed, if it has one.
-fn close<R: Repository, A: RepoAccess<View = R>, S: ReplySink>(
+fn commit_edit<R: Repository, A: RepoAccess<View = R>, S: ReplySink>(
     edit: SessionEdit<R>,
     access: &mut A,
     turn: &mut Turn<S>,
@@ -360,17 +362,12 @@ fn abort<R: Repository, S: ReplySink>(
     } = edit;
     drop(asked);
     drop(editor);
-    match turn.out.say(&Reply::Success) {
-        Ok(()) => Ok(Phase::Serving(client)),
-        Err(error) => {
-            drop(client);
-            Err(error)
-        }
-    }
+    let said = turn.out.say(&Reply::Success);
+    stands(Phase::Serving(client), said)
 }
 
 /// Obeys a command of an edit.
-fn obey<R: Repository, A: RepoAccess<View = R>, S: ReplySink>(
+fn edit_command<R: Repository, A: RepoAccess<View = R>, S: ReplySink>(
     edit: SessionEdit<R>,
     command: &EditorCommand,
     access: &mut A,
@@ -384,9 +381,9 @@ fn obey<R: Repository, A: RepoAccess<View = R>, S: ReplySink>(
         (UnreleasedEnd turn.old.env edit (Ok command.now)) }
 {
     match ending_of(command) {
-        Some(Ending::Commits) => close(edit, access, turn),
+        Some(Ending::Commits) => commit_edit(edit, access, turn),
         Some(Ending::GivesUp) => abort(edit, turn),
-        None => self::edit(edit, command, access, turn),
+        None => apply_command(edit, command, access, turn),
     }
 }
 
@@ -406,7 +403,7 @@ pub fn edit_item<R: Repository, A: RepoAccess<View = R>, S: ReplySink>(
 {
     match EditorCommand::from_item(item) {
         Ok(command) => {
-            let phase = obey(edit, &command, access, turn);
+            let phase = edit_command(edit, &command, access, turn);
             drop(command);
             phase
         }
@@ -423,7 +420,7 @@ pub fn edit_item<R: Repository, A: RepoAccess<View = R>, S: ReplySink>(
 }
 
 /// Skips an item of an edit that was given up.
-pub fn skip<R: Repository, S: ReplySink>(
+pub fn skipped_item<R: Repository, S: ReplySink>(
     client: Client,
     item: &Item,
     turn: &mut Turn<S>,

@@ -7,7 +7,7 @@ ghost use Rattle.machine.specs.Steps.{Answered};
 use machine::{OpenEdit, Phase, Turn};
 use refusals::Refusal;
 use repo_api::Repository;
-use session_replies::{SessionEdit, SessionPhase, tell_refusal};
+use session_replies::{SessionEdit, SessionPhase, stands, tell_refusal};
 use std::alloc::AllocError;
 use std::mem::drop;
 use wire_replies::{Reply, ReplySink};
@@ -21,13 +21,8 @@ pub fn give_up<R: Repository, S: ReplySink>(
     ensures { Answered result turn.new.env (S.writes turn.old.out turn.new.out)
         (gives_up turn.old.env edit.client refusal) }
 {
-    match tell_refusal(refusal, &mut turn.out) {
-        Ok(()) => Ok(skipping(edit)),
-        Err(error) => {
-            drop(edit);
-            Err(error)
-        }
-    }
+    let said = tell_refusal(refusal, &mut turn.out);
+    stands(skipping(edit), said)
 }
 
 /// Says where a session stands whose edit was given up.

@@ -79,7 +79,7 @@ pub fn challenge<R: Repository, S: ReplySink>(
 }
 
 /// Gives nobody, unless memory was refused.
-fn nobody_unless_memory(fault: CramFault) -> Result<Option<ByteString>, AllocError>
+fn none_unless_memory(fault: CramFault) -> Result<Option<ByteString>, AllocError>
     ensures { IfOk result (λ user. (fault ≢ CramFault.NoMemory) × (user ≡ None)) }
 {
     match fault {
@@ -103,6 +103,6 @@ pub fn user_of(
     };
     match challenge.check(alloc, answer, users) {
         Ok(user) => Ok(Some(user.into_name())),
-        Err(fault) => nobody_unless_memory(fault),
+        Err(fault) => none_unless_memory(fault),
     }
 }

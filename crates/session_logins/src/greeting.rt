@@ -77,7 +77,7 @@ fn answer_greeting<R: Repository, S: ReplySink>(
 }
 
 /// Answers the greeting.
-pub fn greet<R: Repository, S: ReplySink>(
+pub fn greeting_item<R: Repository, S: ReplySink>(
     options: &Options,
     item: &Item,
     turn: &mut Turn<S>,

@@ -6,5 +6,5 @@ mod greeting;
 mod login;
 mod welcoming;
 
-pub use greeting::greet;
-pub use login::{answer_challenge, log_in};
+pub use greeting::greeting_item;
+pub use login::{challenge_item, login_item};

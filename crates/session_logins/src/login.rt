@@ -22,7 +22,7 @@ use wire_forms::CommandFault;
 use wire_replies::{Reply, ReplySink};
 
 /// Goes on with a mechanism that was chosen.
-fn choose<R: Repository, A: RepoAccess<View = R>, S: ReplySink>(
+fn choose_mechanism<R: Repository, A: RepoAccess<View = R>, S: ReplySink>(
     options: &Options,
     login: OpenLogin,
     response: &AuthResponse,
@@ -54,7 +54,7 @@ fn end_login<R: Repository, S: ReplySink>(
 }
 
 /// Answers the choice of a mechanism.
-pub fn log_in<R: Repository, A: RepoAccess<View = R>, S: ReplySink>(
+pub fn login_item<R: Repository, A: RepoAccess<View = R>, S: ReplySink>(
     options: &Options,
     login: OpenLogin,
     item: &Item,
@@ -66,7 +66,7 @@ pub fn log_in<R: Repository, A: RepoAccess<View = R>, S: ReplySink>(
         (LoginStep options.now turn.old.env login (auth_response (value_of item.now))) }
 {
     match AuthResponse::from_item(turn.alloc, item) {
-        Ok(response) => choose(options, login, &response, access, turn),
+        Ok(response) => choose_mechanism(options, login, &response, access, turn),
         Err(CommandFault::UnknownName) => end_login(login, turn),
         Err(CommandFault::BadParameters) => end_login(login, turn),
         Err(CommandFault::NoMemory) => {
@@ -77,7 +77,7 @@ pub fn log_in<R: Repository, A: RepoAccess<View = R>, S: ReplySink>(
 }
 
 /// Gives the same login, of this user.
-fn of_user(login: OpenLogin, name: ByteString) -> OpenLogin
+fn with_user(login: OpenLogin, name: ByteString) -> OpenLogin
     ensures { result ≡ record login { client = with_user login.client name } }
 {
     let OpenLogin { client, waiting } = login;
@@ -94,7 +94,7 @@ fn of_user(login: OpenLogin, name: ByteString) -> OpenLogin
 }
 
 /// Concludes a challenge: the answer was this user's, or nobody's.
-fn conclude<R: Repository, A: RepoAccess<View = R>, S: ReplySink>(
+fn end_challenge<R: Repository, A: RepoAccess<View = R>, S: ReplySink>(
     options: &Options,
     login: OpenLogin,
     user: Option<ByteString>,
@@ -106,13 +106,13 @@ fn conclude<R: Repository, A: RepoAccess<View = R>, S: ReplySink>(
         (OutcomeStep options.now turn.old.env login user) }
 {
     match user {
-        Some(name) => log_client_in(options, of_user(login, name), access, turn),
+        Some(name) => log_client_in(options, with_user(login, name), access, turn),
         None => await_choice(login, &Reply::LoginFailed, turn),
     }
 }
 
 /// Judges the answer to a challenge.
-fn judge<R: Repository, A: RepoAccess<View = R>, S: ReplySink>(
+fn judge_answer<R: Repository, A: RepoAccess<View = R>, S: ReplySink>(
     options: &Options,
     pending: OpenChallenge,
     answer: &[u8],
@@ -127,7 +127,7 @@ fn judge<R: Repository, A: RepoAccess<View = R>, S: ReplySink>(
     let user = user_of(turn.alloc, options, &challenge, answer);
     drop(challenge);
     match user {
-        Ok(user) => conclude(options, login, user, access, turn),
+        Ok(user) => end_challenge(options, login, user, access, turn),
         Err(error) => {
             drop(login);
             Err(error)
@@ -136,7 +136,7 @@ fn judge<R: Repository, A: RepoAccess<View = R>, S: ReplySink>(
 }
 
 /// Takes an item that is to be the answer to a challenge.
-pub fn answer_challenge<R: Repository, A: RepoAccess<View = R>, S: ReplySink>(
+pub fn challenge_item<R: Repository, A: RepoAccess<View = R>, S: ReplySink>(
     options: &Options,
     pending: OpenChallenge,
     item: &Item,
@@ -148,7 +148,7 @@ pub fn answer_challenge<R: Repository, A: RepoAccess<View = R>, S: ReplySink>(
         (ChallengeStep options.now turn.old.env pending (challenge_answer (value_of item.now))) }
 {
     match challenge_answer(item) {
-        Some(answer) => judge(options, pending, answer.as_slice(), access, turn),
+        Some(answer) => judge_answer(options, pending, answer.as_slice(), access, turn),
         None => {
             drop(pending);
             end_malformed(turn)

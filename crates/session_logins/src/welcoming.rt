@@ -14,7 +14,7 @@ use commands::MainCommand;
 use machine::{Client, OpenLogin, Options, Phase, Turn};
 use repo_api::Repository;
 use session_commands::{Request, own_answer};
-use session_replies::{Preface, SessionPhase, say_new_behind};
+use session_replies::{Preface, SessionPhase, say_new_behind, stands};
 use std::alloc::AllocError;
 use std::mem::drop;
 use wire_replies::{Reply, ReplySink};
@@ -58,17 +58,12 @@ fn welcome<R: Repository, A: RepoAccess<View = R>, S: ReplySink>(
         (Reply.Success ∷ Reply.ReposInfo (content_of (A.point access.new)).uuid client.root ∷ [])) }
     ensures later { A.rules.between (A.point access.old) (A.point access.new) }
 {
-    match tell_welcome(&client.root, access, &mut turn.out) {
-        Ok(()) => Ok(Phase::Serving(client)),
-        Err(error) => {
-            drop(client);
-            Err(error)
-        }
-    }
+    let said = tell_welcome(&client.root, access, &mut turn.out);
+    stands(Phase::Serving(client), said)
 }
 
 /// Goes on with the command that has waited for a login.
-fn go_on<R: Repository, A: RepoAccess<View = R>, S: ReplySink>(
+fn resume_command<R: Repository, A: RepoAccess<View = R>, S: ReplySink>(
     options: &Options,
     client: Client,
     command: MainCommand,
@@ -102,6 +97,6 @@ pub fn log_client_in<R: Repository, A: RepoAccess<View = R>, S: ReplySink>(
     let OpenLogin { client, waiting } = login;
     match waiting {
         None => welcome(client, access, turn),
-        Some(command) => go_on(options, client, command, access, turn),
+        Some(command) => resume_command(options, client, command, access, turn),
     }
 }

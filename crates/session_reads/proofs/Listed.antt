@@ -1,6 +1,6 @@
 -- What is read, as the answer of a step that changes nothing.
 use Rattle.std.proofs.Common.{◌≡◌, ℕ, List, ◌++◌, refl, sym, ap, ◌∙◌}
-use Rattle.std.specs.Prelude.{Option, None, Ok}
+use Rattle.std.specs.Prelude.{Option, None, Ok, Result}
 use Rattle.refusals.specs.declared.Refusal.{Refusal}
 use Rattle.repo_api.specs.States.{RepoState}
 use Rattle.svnpath.specs.Paths.{PathValue}
@@ -8,19 +8,17 @@ use Rattle.commands.specs.declared.command.LogCommand.{LogCommand}
 use Rattle.commands.specs.declared.command.GetLocationsCommand.{GetLocationsCommand}
 use Rattle.history.specs.Logs.{place_at}
 use Rattle.history.specs.declared.log_ask.LogAsk.{LogAsk}
-use Rattle.wire_replies.specs.Replies.{print}
-use Rattle.wire_replies.specs.Sinks.{WritesPart}
 use Rattle.wire_replies.specs.declared.reply.Reply.{Reply}
 use Rattle.wire_replies.specs.declared.reply.Reply.TheVariants as replies
 use Rattle.access.specs.Points.{Point, AccessRules, content_of}
 use Rattle.machine.specs.Answers.{Step, Shows, says, Behind}
 use Rattle.machine.specs.Histories.{ended, listed_unless, log_ask, log_refusal, log_replies, log_told, locations_refusal, locations_replies, locations_told}
 use Rattle.machine.specs.Stages.{Stage}
-use Rattle.machine.specs.Steps.{StepWritten, StepOrNothing}
+use Rattle.machine.specs.Steps.{Answered, Stepped}
 use Rattle.machine.specs.declared.env.Env.{Env}
 use Rattle.machine.specs.declared.phase.Client.{Client}
 use Rattle.machine.specs.declared.phase.Phase.TheVariants.{Serving}
-use Rattle.session_replies.proofs.Steps.{Leads, only_says, leads_behind, told_all, told_part}
+use Rattle.session_replies.proofs.Steps.{Leads, only_says, leads_behind, stepped}
 
 -- a log that is not refused
 pub log_listed : (c : RepoState) (command : LogCommand) (paths : List PathValue) (ask : LogAsk) (r : Option Refusal) → ask ≡ log_ask c command → r ≡ log_refusal c ask paths → r ≡ None
@@ -44,10 +42,6 @@ module _ (rules : AccessRules) (told : RepoState → List Reply) (p q : Point) (
   leads : Leads rules Listing p q env (Serving client) (before ++ told (content_of q))
   leads = leads_behind before (only_says {step = Shows (λ c. says env (Serving client) (told c))} later refl)
 
-  -- what is told is written
-  pub listed : (phase' : Stage) (env' : Env) → phase' ≡ Serving client → env' ≡ env → writes (print (before ++ told (content_of q))) → StepWritten rules Listing p q phase' env' writes
-  listed phase' env' serves same written = told_all leads writes phase' env' (record { phase_after = serves; env_after = same; written = written })
-
-  -- or a part of it
-  pub listed_part : WritesPart writes (print (before ++ told (content_of q))) → StepOrNothing rules Listing p q writes
-  listed_part part = told_part leads writes part
+  -- the step has happened as far as what is told was written
+  pub listed : {E : Type 0} (r : Result Stage E) (env' : Env) → Answered r env' writes (says env (Serving client) (before ++ told (content_of q))) → Stepped r env' writes rules p q Listing
+  listed r env' answered = stepped leads writes r env' answered

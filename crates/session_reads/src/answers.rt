@@ -18,9 +18,8 @@ use access::RepoAccess;
 use commands::ReadCommand;
 use machine::{Client, Phase, Turn};
 use repo_api::Repository;
-use session_replies::{Preface, SessionPhase, say_made, say_new, say_preface};
+use session_replies::{Preface, SessionPhase, say_made, say_new, say_preface, stands};
 use std::alloc::{AllocError, Global};
-use std::mem::drop;
 use svnpath::Path;
 use wire_replies::{Reply, ReplySink};
 
@@ -90,11 +89,6 @@ pub fn tell_read<R: Repository, A: RepoAccess<View = R>, S: ReplySink>(
         (A.point access.old) (A.point access.new)
         (Behind (told_before preface) (Shows (read_answer turn.old.env client command.now))) }
 {
-    match say_read_behind(&client.path, command, preface, access, turn) {
-        Ok(()) => Ok(Phase::Serving(client)),
-        Err(error) => {
-            drop(client);
-            Err(error)
-        }
-    }
+    let said = say_read_behind(&client.path, command, preface, access, turn);
+    stands(Phase::Serving(client), said)
 }

@@ -1,9 +1,8 @@
 //! What is known of entries.
-ghost use Rattle.std.specs.Prelude.{◌≡◌, IfOk, IsOkAnd, decimal};
+ghost use Rattle.std.specs.Prelude.{◌≡◌, IfOk, IsOkAnd};
 ghost use Rattle.svnpath.specs.Texts.{joined};
 ghost use Rattle.repo_api.specs.Kinds.{kind_at};
 ghost use Rattle.repo_api.specs.Properties.{with_property};
-ghost use Rattle.wire_replies.specs.Replies.{uuid_text};
 ghost use Rattle.machine.specs.Readings.{are_any, changed_at, entry_properties, node_found, node_info, place_read, shown_properties, size_at, stat_reply, with_optional, with_revision};
 
 use crate::places::place_read;
@@ -13,8 +12,7 @@ use history::Place;
 use repo_api::{NodeKind, Properties, Repository};
 use std::alloc::{AllocError, Global};
 use svnpath::Path;
-use uuid::Uuid;
-use wire_replies::{NodeInfo, Reply};
+use wire_replies::{NodeInfo, Reply, decimal_text, uuid_text};
 
 /// Gives what is known of what exists at a path, seen from the path of the client's URL.
 pub(crate) fn stat<R: Repository>(
@@ -146,7 +144,7 @@ fn with_revision<R: Repository>(
     ensures { IfOk result (λ more. more ≡
         with_revision (R.content view.now) revision properties) }
 {
-    let number = number_text(alloc, revision);
+    let number = decimal_text(alloc, revision);
     let properties = with_made(alloc, properties, b"svn:entry:committed-rev", number)?;
     let uuid = uuid_text(alloc, view.uuid());
     let properties = with_made(alloc, properties, b"svn:entry:uuid", uuid)?;
@@ -189,21 +187,4 @@ fn with_optional(
         Some(value) => with_made(alloc, properties, name, Ok(value)),
         None => Ok(properties),
     }
-}
-
-/// Writes a number in decimal.
-fn number_text(alloc: Global, number: u64) -> Result<ByteString, AllocError>
-    ensures { IfOk result (λ text. text ≡ decimal number) }
-{
-    let mut buffer = itoa::Buffer::new();
-    ByteString::from_slice(alloc, buffer.format(number).as_bytes())
-}
-
-/// Gives the text of a repository's name among all repositories.
-fn uuid_text(alloc: Global, uuid: u128) -> Result<ByteString, AllocError>
-    ensures { IfOk result (λ text. text ≡ uuid_text uuid) }
-{
-    let mut buffer = Uuid::encode_buffer();
-    let text = Uuid::from_u128(uuid).hyphenated().encode_lower(&mut buffer);
-    ByteString::from_slice(alloc, text.as_bytes())
 }

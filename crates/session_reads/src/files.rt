@@ -1,7 +1,5 @@
 //! Files, and their texts.
 ghost use Rattle.std.specs.Prelude.{◌≡◌, ◌∷◌, ◌++◌, [], IfOk};
-ghost use Rattle.md5.specs.Md5.{md5};
-ghost use Rattle.hex.specs.Hex.{encode_lower};
 ghost use Rattle.svnpath.specs.Texts.{joined};
 ghost use Rattle.repo_api.specs.Kinds.{text_at};
 ghost use Rattle.wire_replies.specs.Replies.{contents};
@@ -89,18 +87,10 @@ fn file_told<R: Repository>(
         file_told (R.content view.now) wants_properties place.now text.now) }
 {
     Ok(Reply::FileInfo(FileInfo {
-        digest: Some(digest_text(alloc, text)?),
+        digest: Some(text.digest_text(alloc)?),
         revision: place.revision,
         properties: shown_properties(alloc, view, place, wants_properties)?,
     }))
-}
-
-/// Gives the digest of a text, as hexadecimal digits.
-fn digest_text(alloc: Global, text: &FileText) -> Result<ByteString, AllocError>
-    ensures { IfOk result (λ digits. digits ≡ encode_lower (md5 text.now)) }
-{
-    let digits = hex::encode(alloc, &text.digest())?;
-    ByteString::from_slice(alloc, digits.as_bytes())
 }
 
 /// Says why there is no file: nothing exists there, or a directory.

@@ -2,10 +2,10 @@
 ghost use Rattle.std.specs.Prelude.{◌≡◌, ◌⊎◌, Ok, Err, MatchResult};
 ghost use Rattle.std.specs.List.{list_all};
 ghost use Rattle.svnpath.specs.declared.fault.PathFault.TheVariants.{NoMemory};
-ghost use Rattle.machine.specs.Histories.{all_joined, is_present, is_there, is_to_come};
+ghost use Rattle.machine.specs.Histories.{all_joined, is_there, is_to_come};
 
 use byte_string::ByteString;
-use repo_api::{NodeKind, Repository};
+use repo_api::Repository;
 use std::alloc::Global;
 use svnpath::{Path, PathFault};
 
@@ -33,22 +33,11 @@ pub(crate) fn is_to_come<R: Repository>(view: &R, revision: u64) -> bool
     view.youngest() < revision
 }
 
-/// Says whether the kind is that of something that exists: a file or a directory.
-fn is_present(kind: NodeKind) -> bool
-    ensures { result ≡ is_present kind }
-{
-    match kind {
-        NodeKind::Absent => false,
-        NodeKind::File => true,
-        NodeKind::Directory => true,
-    }
-}
-
 /// Says whether something exists at the path of a revision.
 pub(crate) fn is_there<R: Repository>(view: &R, revision: u64, path: &Path) -> bool
     ensures { result ≡ is_there (R.content view.now) revision path.now }
 {
-    is_present(view.kind(revision, path))
+    view.kind(revision, path).is_present()
 }
 
 /// Says whether something exists at each of the paths of a revision.

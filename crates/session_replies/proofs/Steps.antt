@@ -1,9 +1,10 @@
 -- A step of a session, and what becomes of its answer.
 use Rattle.std.proofs.Common.{◌≡◌, ℕ, List, [], ◌++◌, refl, sym, subst, ◌∙◌, inl, inr}
-use Rattle.std.specs.Prelude.{Result, Ok, Err}
+use Rattle.std.proofs.lemmas.Bool.{false≢true}
+use Rattle.std.specs.Prelude.{Result, Ok, Err, IsOk, IsErr, MatchResult}
 use Rattle.wire_replies.specs.declared.reply.Reply.{Reply}
 use Rattle.wire_replies.specs.Replies.{print}
-use Rattle.wire_replies.specs.Sinks.{WritesPart}
+use Rattle.wire_replies.specs.Sinks.{Says, WritesPart}
 use Rattle.wire_replies.proofs.Parts.{both_written, part_behind}
 use Rattle.access.specs.Points.{Point, AccessRules, content_of}
 use Rattle.machine.specs.Stages.{Stage}
@@ -85,6 +86,18 @@ module _ (rules : AccessRules) (step : Step) (p q : Point) (a : Answer)
   said (Ok after) env' answered = told_all leads writes after env'
       (record { phase_after = answered.phase_after; env_after = answered.env_after; written = answered.written })
   said (Err e) env' part = told_part leads writes part
+
+-- where a session stands once its replies were written
+pub stood : {E F : Type 0} (r : Result Stage E) (phase : Stage) (said : Result (Unit {0}) F) (env env' : Env) (writes : List ℕ → Type 0) (told : List Reply)
+    → MatchResult r (λ after. (after ≡ phase) × IsOk said) (λ _. IsErr said) → env' ≡ env → Says said writes told → Answered r env' writes (says env phase told)
+stood (Ok after) phase (Ok unit) env env' writes told (is, ok) same written = record {
+  phase_after = is;
+  env_after = same;
+  written = written;
+}
+stood (Ok after) phase (Err e) env env' writes told (is, ok) same part = absurd (false≢true ok)
+stood (Err e) phase (Ok unit) env env' writes told err same written = absurd (false≢true err)
+stood (Err e) phase (Err f) env env' writes told err same part = part
 
 -- memory was refused: nothing was asked for, and nothing was written
 pub not_asked : {rules : AccessRules} {step : Step} {writes : List ℕ → Type 0} {p q : Point}

@@ -2,14 +2,12 @@
 //! place.
 #![tactic(auto)]
 
-mod dating;
 mod preface;
 mod saying;
 mod serving;
 mod turn;
 
-pub use dating::date_of;
 pub use preface::{Preface, say_behind, say_new_behind, say_preface};
 pub use saying::{say_both, say_made, say_new, tell_refusal};
 pub use serving::{end_halted, refuse, tell, tell_fault};
-pub use turn::{SessionEdit, SessionPhase, SessionReport, end_malformed};
+pub use turn::{SessionEdit, SessionPhase, SessionReport, end_malformed, stands};

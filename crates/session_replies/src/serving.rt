@@ -9,7 +9,7 @@ ghost use Rattle.wire_replies.specs.Sinks.{Says};
 ghost use Rattle.machine.specs.Steps.{Answered, AnsweredIfAny};
 
 use crate::preface::{Preface, say_new_behind};
-use crate::turn::SessionPhase;
+use crate::turn::{SessionPhase, stands};
 use machine::{Client, Phase, Turn};
 use refusals::Refusal;
 use repo_api::{ChangeFault, Repository};
@@ -43,13 +43,8 @@ pub fn tell<R: Repository, S: ReplySink>(
         (S.writes turn.old.out turn.new.out)
         (behind (told_before preface) (serves turn.old.env client told)) }
 {
-    match say_made_behind(preface, reply, &mut turn.out) {
-        Ok(()) => Ok(Phase::Serving(client)),
-        Err(error) => {
-            drop(client);
-            Err(error)
-        }
-    }
+    let said = say_made_behind(preface, reply, &mut turn.out);
+    stands(Phase::Serving(client), said)
 }
 
 /// Refuses a command. The next command is awaited.

@@ -6,10 +6,9 @@ use Rattle.repo_api.specs.Soundness.{AreTrees}
 use Rattle.repo_api.specs.States.{RepoState}
 use Rattle.wire_edits.specs.declared.editing.EditorCommand.{EditorCommand}
 use Rattle.drive_reports.specs.Judging.{JudgesReport}
-use Rattle.drive_reports.specs.Refusing.{◌>>=◌, OpenState, finish_root, finish_answer}
-use Rattle.drive_reports.specs.declared.fault.ReportFault.{ReportFault}
-use Rattle.drive_reports.specs.declared.fault.ReportFault.TheVariants as faults
-use Rattle.drive_reports.specs.declared.report.Report.TheVariants.{Open}
+use Rattle.drive_reports.specs.Refusing.{◌>>=◌, OpenState, finish_root}
+use Rattle.refusals.specs.declared.fault.NotDone.{NotDone}
+use Rattle.refusals.specs.declared.fault.NotDone.TheVariants as faults
 use Rattle.drive_reports.specs.declared.report.ReportRoot.{ReportRoot}
 use Rattle.drive_wire.specs.Reporting.{Drawn, Finishes, EndStep}
 use Rattle.drive_wire.specs.Reporting.Drawn.{GoesOn, GivenUp, Fails, Drives, Malformed}
@@ -70,7 +69,7 @@ module _ (rules : AccessRules) (env : Env) (client : Client) (report : OpenState
   lost writes (inr (root, is, inr (drive, is_drive, part))) = told_part (drives root drive is is_drive) writes part
 
 -- a report that leads to no drive, and nothing was written
-pub undriven : (c : RepoState) (report : OpenState) (writes : List ℕ → Type 0) (fault : ReportFault) → writes []
+pub undriven : (c : RepoState) (report : OpenState) (writes : List ℕ → Type 0) (fault : NotDone) → writes []
     → JudgesReport {T = ReportRoot} (Err fault) (finish_root c report) → IsUnanswered c report writes fault
 undriven c report writes (faults.Refused r) nothing is = (is, nothing)
 undriven c report writes faults.NoMemory nothing is = inl nothing

@@ -2,8 +2,8 @@
 use Rattle.std.specs.Prelude.{◌≡◌, ◌⊎◌, ℕ, List, [], Ok, Err}
 use Rattle.repo_api.specs.States.{RepoState}
 use Rattle.drive_reports.specs.Refusing.{OpenState, finish_root}
-use Rattle.drive_reports.specs.declared.fault.ReportFault.{ReportFault}
-use Rattle.drive_reports.specs.declared.fault.ReportFault.TheVariants as faults
+use Rattle.refusals.specs.declared.fault.NotDone.{NotDone}
+use Rattle.refusals.specs.declared.fault.NotDone.TheVariants as faults
 use Rattle.drive_reports.specs.declared.report.ReportRoot.{ReportRoot}
 use Rattle.drive_sides.specs.Plans.{whole}
 use Rattle.drive_sending.specs.Driving.{DriveLost, DriveWritten}
@@ -16,7 +16,7 @@ IsAnswered c report writes =
 
 -- the report leads to no drive, and nothing was written; or for want of memory or of the sink
 -- nothing was written, or a part of a drive that may be sent
-abbrev pub IsUnanswered : RepoState → OpenState → (List ℕ → Type 0) → ReportFault → Type 0
+abbrev pub IsUnanswered : RepoState → OpenState → (List ℕ → Type 0) → NotDone → Type 0
 IsUnanswered c report writes (faults.Refused r) = (finish_root c report ≡ Err r) × writes []
 IsUnanswered c report writes faults.NoMemory =
     writes [] ⊎ ((root : ReportRoot) × (finish_root c report ≡ Ok root)

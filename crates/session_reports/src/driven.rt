@@ -14,7 +14,7 @@ use items::Item;
 use machine::{Client, Phase, Turn};
 use refusals::Refusal;
 use repo_api::Repository;
-use session_replies::{Preface, SessionPhase, end_malformed, say_new, tell, tell_refusal};
+use session_replies::{Preface, SessionPhase, end_malformed, say_new, stands, tell, tell_refusal};
 use std::alloc::AllocError;
 use std::mem::drop;
 use wire_edits::EditorCommand;
@@ -52,7 +52,7 @@ fn say_given_up<S: ReplySink>(out: &mut S) -> Result<(), AllocError>
 }
 
 /// Gives a drive up. The next command is awaited.
-fn give_up<R: Repository, S: ReplySink>(
+fn tell_aborted<R: Repository, S: ReplySink>(
     client: Client,
     turn: &mut Turn<S>,
 ) -> Result<SessionPhase<R>, AllocError>
@@ -60,17 +60,12 @@ fn give_up<R: Repository, S: ReplySink>(
         (says turn.old.env (Serving client)
         (Reply.Edit EditorCommand.AbortEdit ∷ Reply.Failure Refusal.EditAborted ∷ [])) }
 {
-    match say_given_up(&mut turn.out) {
-        Ok(()) => Ok(Phase::Serving(client)),
-        Err(error) => {
-            drop(client);
-            Err(error)
-        }
-    }
+    let said = say_given_up(&mut turn.out);
+    stands(Phase::Serving(client), said)
 }
 
 /// Tells that a drive was taken. The next command is awaited.
-fn take_over<R: Repository, S: ReplySink>(
+fn tell_taken<R: Repository, S: ReplySink>(
     client: Client,
     turn: &mut Turn<S>,
 ) -> Result<SessionPhase<R>, AllocError>
@@ -81,7 +76,7 @@ fn take_over<R: Repository, S: ReplySink>(
 }
 
 /// Takes an item after a drive: the client's answer to it.
-pub fn serve_driven<R: Repository, S: ReplySink>(
+pub fn driven_item<R: Repository, S: ReplySink>(
     client: Client,
     item: &Item,
     turn: &mut Turn<S>,
@@ -90,8 +85,8 @@ pub fn serve_driven<R: Repository, S: ReplySink>(
         (driven_answer turn.old.env client (client_answer (value_of item.now))) }
 {
     match client_answer(item) {
-        Some(true) => take_over(client, turn),
-        Some(false) => give_up(client, turn),
+        Some(true) => tell_taken(client, turn),
+        Some(false) => tell_aborted(client, turn),
         None => {
             drop(client);
             end_malformed(turn)

@@ -7,11 +7,12 @@ ghost use Rattle.machine.specs.Steps.{Stepped};
 ghost use Rattle.machine.specs.Reports.{Draws};
 ghost use Rattle.drive_wire.specs.Reporting.{EndStep};
 
-use crate::refused::fail;
+use crate::refused::tell_refused;
 use access::RepoAccess;
-use drive_reports::{Grafts, OpenReport, ReportFault};
+use drive_reports::{Grafts, OpenReport};
 use drive_sending::say_drive;
 use machine::{Client, Phase, Turn};
+use refusals::NotDone;
 use repo_api::Repository;
 use session_replies::SessionPhase;
 use std::alloc::{AllocError, Global};
@@ -31,7 +32,7 @@ fn say_end<R: Repository, S: ReplySink>(
     view: &R,
     report: &OpenReport<Grafts>,
     out: &mut S,
-) -> Result<(), ReportFault>
+) -> Result<(), NotDone>
     requires trees { AreTrees (R.content view.now).revisions }
     ensures { MatchResult result
         (λ _. IsAnswered (R.content view.now) report.now (S.writes out.old out.new))
@@ -40,19 +41,19 @@ fn say_end<R: Repository, S: ReplySink>(
     match drive_reports::finish(alloc, view, report) {
         Ok(root) => match say_drive(alloc, view, report, root, out) {
             Ok(()) => Ok(()),
-            Err(_) => Err(ReportFault::NoMemory),
+            Err(_) => Err(NotDone::NoMemory),
         },
         Err(fault) => Err(fault),
     }
 }
 
 /// Writes the drive of a report at the repository as it is now, if there is one.
-fn drive_now<R: Repository, A: RepoAccess<View = R>, S: ReplySink>(
+fn say_drive_now<R: Repository, A: RepoAccess<View = R>, S: ReplySink>(
     alloc: Global,
     report: &OpenReport<Grafts>,
     access: &mut A,
     out: &mut S,
-) -> Result<(), ReportFault>
+) -> Result<(), NotDone>
     requires trees { AreSound (content_of (A.point access.old)).revisions }
     ensures drive { MatchResult result
         (λ _. IsAnswered (content_of (A.point access.new)) report.now
@@ -63,7 +64,7 @@ fn drive_now<R: Repository, A: RepoAccess<View = R>, S: ReplySink>(
 {
     match access.look() {
         Ok(view) => say_end(alloc, &view, report, out),
-        Err(_) => Err(ReportFault::NoMemory),
+        Err(_) => Err(NotDone::NoMemory),
     }
 }
 
@@ -79,16 +80,16 @@ pub(crate) fn finish<R: Repository, A: RepoAccess<View = R>, S: ReplySink>(
         (Draws turn.old.env errand.client (EndStep errand.report)) }
 {
     let OpenErrand { client, report } = errand;
-    match drive_now(turn.alloc, &report, access, &mut turn.out) {
+    match say_drive_now(turn.alloc, &report, access, &mut turn.out) {
         Ok(()) => {
             drop(report);
             Ok(Phase::Driven(client))
         }
-        Err(ReportFault::Refused(refusal)) => {
+        Err(NotDone::Refused(refusal)) => {
             drop(report);
-            fail(client, refusal, turn)
+            tell_refused(client, refusal, turn)
         }
-        Err(ReportFault::NoMemory) => {
+        Err(NotDone::NoMemory) => {
             drop(report);
             drop(client);
             Err(AllocError)

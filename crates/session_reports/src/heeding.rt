@@ -100,7 +100,7 @@ fn abort<R: Repository>(errand: OpenErrand) -> SessionPhase<R>
 }
 
 /// Takes a command of a report.
-pub(crate) fn heed<R: Repository, A: RepoAccess<View = R>, S: ReplySink>(
+pub(crate) fn take_command<R: Repository, A: RepoAccess<View = R>, S: ReplySink>(
     options: &Options,
     errand: OpenErrand,
     command: &ReportCommand,

@@ -7,5 +7,5 @@ mod heeding;
 mod refused;
 mod reporting_item;
 
-pub use driven::serve_driven;
-pub use reporting_item::serve_report;
+pub use driven::driven_item;
+pub use reporting_item::report_item;

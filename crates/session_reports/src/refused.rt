@@ -22,7 +22,7 @@ use wire_replies::{Reply, ReplySink};
 use wire_reports::{ReportName, read_name};
 
 /// Tells at the end of a report why there is no drive. The next command is awaited.
-pub(crate) fn fail<R: Repository, S: ReplySink>(
+pub(crate) fn tell_refused<R: Repository, S: ReplySink>(
     client: Client,
     refusal: Refusal,
     turn: &mut Turn<S>,
@@ -34,7 +34,7 @@ pub(crate) fn fail<R: Repository, S: ReplySink>(
 }
 
 /// Goes on with a report that is refused.
-pub(crate) fn stay_refused<R: Repository>(client: Client, refusal: Refusal) -> SessionPhase<R>
+pub(crate) fn refused_phase<R: Repository>(client: Client, refusal: Refusal) -> SessionPhase<R>
     ensures { result ≡ Reporting (record { client = client; report = Refused refusal }) }
 {
     let report = Report::Refused(refusal);
@@ -42,7 +42,7 @@ pub(crate) fn stay_refused<R: Repository>(client: Client, refusal: Refusal) -> S
 }
 
 /// Takes a command of a report that is refused.
-pub(crate) fn pass_over<R: Repository, S: ReplySink>(
+pub(crate) fn refused_item<R: Repository, S: ReplySink>(
     client: Client,
     refusal: Refusal,
     item: &Item,
@@ -56,8 +56,8 @@ pub(crate) fn pass_over<R: Repository, S: ReplySink>(
             drop(client);
             end_malformed(turn)
         }
-        Some(Some(ReportName::FinishReport)) => fail(client, refusal, turn),
+        Some(Some(ReportName::FinishReport)) => tell_refused(client, refusal, turn),
         Some(Some(ReportName::AbortReport)) => Ok(Phase::Serving(client)),
-        Some(_) => Ok(stay_refused(client, refusal)),
+        Some(_) => Ok(refused_phase(client, refusal)),
     }
 }

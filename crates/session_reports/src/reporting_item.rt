@@ -11,8 +11,8 @@ ghost use Rattle.drive_reports.specs.declared.report.Report.TheVariants.{Refused
 ghost use Rattle.machine.specs.Steps.{Stepped};
 
 use crate::finishing::OpenErrand;
-use crate::heeding::heed;
-use crate::refused::{pass_over, stay_refused};
+use crate::heeding::take_command;
+use crate::refused::{refused_item, refused_phase};
 use access::RepoAccess;
 use drive_reports::Report;
 use items::Item;
@@ -27,16 +27,16 @@ use wire_replies::ReplySink;
 use wire_reports::ReportCommand;
 
 /// Refuses a report from now on.
-fn refuse_from_now<R: Repository>(errand: OpenErrand, refusal: Refusal) -> SessionPhase<R>
+fn refuse_report<R: Repository>(errand: OpenErrand, refusal: Refusal) -> SessionPhase<R>
     ensures { result ≡ Reporting (record { client = errand.client; report = Refused refusal }) }
 {
     let OpenErrand { client, report } = errand;
     drop(report);
-    stay_refused(client, refusal)
+    refused_phase(client, refusal)
 }
 
 /// Takes an item within a report that goes on.
-fn heed_item<R: Repository, A: RepoAccess<View = R>, S: ReplySink>(
+fn open_report_item<R: Repository, A: RepoAccess<View = R>, S: ReplySink>(
     options: &Options,
     errand: OpenErrand,
     item: &Item,
@@ -51,11 +51,11 @@ fn heed_item<R: Repository, A: RepoAccess<View = R>, S: ReplySink>(
 {
     match ReportCommand::from_item(item) {
         Ok(command) => {
-            let phase = heed(options, errand, &command, access, turn);
+            let phase = take_command(options, errand, &command, access, turn);
             drop(command);
             phase
         }
-        Err(CommandFault::UnknownName) => Ok(refuse_from_now(errand, Refusal::UnknownCommand)),
+        Err(CommandFault::UnknownName) => Ok(refuse_report(errand, Refusal::UnknownCommand)),
         Err(CommandFault::BadParameters) => {
             drop(errand);
             end_malformed(turn)
@@ -68,7 +68,7 @@ fn heed_item<R: Repository, A: RepoAccess<View = R>, S: ReplySink>(
 }
 
 /// Takes an item within a report.
-pub fn serve_report<R: Repository, A: RepoAccess<View = R>, S: ReplySink>(
+pub fn report_item<R: Repository, A: RepoAccess<View = R>, S: ReplySink>(
     options: &Options,
     reporting: SessionReport,
     item: &Item,
@@ -82,9 +82,9 @@ pub fn serve_report<R: Repository, A: RepoAccess<View = R>, S: ReplySink>(
 {
     let OpenReporting { client, report } = reporting;
     match report {
-        Report::Refused(refusal) => pass_over(client, refusal, item, turn),
+        Report::Refused(refusal) => refused_item(client, refusal, item, turn),
         Report::Open(report) => {
-            heed_item(options, OpenErrand { client, report }, item, access, turn)
+            open_report_item(options, OpenErrand { client, report }, item, access, turn)
         }
     }
 }

@@ -21,8 +21,6 @@ use std::sync::Wait;
 /// How many seats there are at most.
 pub const MAX_SEATS: usize = 65_536;
 
-pub(crate) const MAX_EVENTS: u64 = 1 << 60;
-
 /// A repository, what publishes it, and its archive.
 #[derive(Drop)]
 pub struct Keeper<

@@ -6,7 +6,7 @@ ghost use Rattle.streams.specs.Stream.{scene, AnswersStream, HearsPieces, HearsU
 
 use crate::fault::ServeFault;
 use access::SoleAccess;
-use conversations::{Env, EnvSource, OutputSink, PIECE, read_piece, write_now};
+use conversations::{Env, EnvSource, OutputSink, PIECE, read_piece, write_and_flush};
 use hub::{Hub, SessionId};
 use machine::Turn;
 use std::io;
@@ -113,6 +113,6 @@ pub fn run_stdio<A: SoleAccess, R: Read, W: Write, E: EnvSource>(
         (scene hub.new (R.remaining input.new) (W.contents output.new) envs.new)) }
 {
     let (number, greeting) = hub.connect().map_err(ServeFault::Hub)?;
-    write_now(output, greeting.as_slice()).map_err(ServeFault::Write)?;
+    write_and_flush(output, greeting.as_slice()).map_err(ServeFault::Write)?;
     serve_pieces(hub, number, input, output, envs)
 }

@@ -9,7 +9,7 @@ use crate::reading::HEADER;
 use std::alloc::{AllocError, Global};
 
 /// The longest target view that is written, in bytes.
-const WINDOW: usize = 65_536;
+pub const WINDOW: usize = 65_536;
 
 /// Appends the shortest spelling of an integer.
 #[tactic(auto, unfolding(crate::specs::Full::integer_of))]

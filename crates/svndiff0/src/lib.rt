@@ -18,5 +18,5 @@ mod window;
 pub use applier::Applier;
 pub use fault::DiffFault;
 pub use format::{has_the_text_of_the_format, texts_keep_the_limit};
-pub use full::{encode_full, put_window};
+pub use full::{WINDOW, encode_full, put_window};
 pub use reading::HEADER;

@@ -10,6 +10,7 @@ mod locks;
 mod properties;
 mod reply;
 mod sink;
+mod texts;
 
 pub use contents::{PIECE, TextPiece, say_contents};
 pub use entries::{DirectoryInfo, EntryList, FileInfo, NodeInfo};
@@ -18,3 +19,4 @@ pub use laws::pieces_make_the_text;
 pub use locks::LockList;
 pub use reply::{Offer, Reply};
 pub use sink::{MemorySink, ReplySink};
+pub use texts::{decimal_text, uuid_text};

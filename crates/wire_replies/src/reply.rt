@@ -13,13 +13,13 @@ use crate::entries::{
 use crate::histories::{LogEntry, location_item, log_entry_item};
 use crate::locks::{LockList, lock_item, locks_item};
 use crate::properties::properties_item;
+use crate::texts::uuid_text;
 use byte_string::ByteString;
 use items::{Item, append_string, write_item};
 use refusals::Refusal;
 use repo_api::{Lock, NodeKind, Properties};
 use std::alloc::{AllocError, Global};
 use svnpath::Path;
-use uuid::Uuid;
 use wire_edits::{EditorCommand, write_command};
 
 /// The mechanisms of a login that a client may choose from.
@@ -286,9 +286,8 @@ fn repos_info_item(alloc: Global, uuid: u128, root: &[u8]) -> Result<Item, Alloc
 fn uuid_item(alloc: Global, uuid: u128) -> Result<Item, AllocError>
     ensures { IfOk result (λ item. value_of item ≡ string (uuid_text uuid)) }
 {
-    let mut buffer = Uuid::encode_buffer();
-    let text = Uuid::from_u128(uuid).hyphenated().encode_lower(&mut buffer);
-    string_item(alloc, text.as_bytes())
+    let text = uuid_text(alloc, uuid)?;
+    string_item(alloc, text.as_slice())
 }
 
 /// Makes `( rev [ date ] [ author ] [ post-commit-err ] )`.

@@ -16,6 +16,7 @@ use crate::editing::edit_txn;
 use crate::world::World;
 use crate::world_txn::WorldTxn;
 use byte_string::ByteString;
+use dates::date_bytes;
 use held::Held;
 use history_marks::{repositories_stay_sound, transactions_stay_sound};
 use pathlocks::{Locks, lock_shared, put_shared, release_shared, unlock_shared};
@@ -24,7 +25,7 @@ use repo_api::{
     Change, ChangeFault, CommitAsk, EditOp, FileText, Lock, LockAsk, LockTokens, NodeKind,
     Properties, PropertyAsk, Repository, UnlockAsk,
 };
-use revision_data::{TxnChanges, current_refusal, date_of, property_refusal};
+use revision_data::{TxnChanges, current_refusal, property_refusal};
 use std::alloc::{AllocError, Global};
 use std::sync::Arc;
 use svnpath::Path;
@@ -38,7 +39,7 @@ impl World {
             × (world_content w ≡ new_repository uuid date)) }
     {
         repositories_stay_sound();
-        let date = date_of(alloc, moment)?;
+        let date = date_bytes(alloc, moment)?;
         let held = Held::opened(alloc, uuid, date)?;
         Ok(World {
             alloc,

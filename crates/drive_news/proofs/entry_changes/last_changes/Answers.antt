@@ -15,8 +15,8 @@ returns g c =
     number c.revision_property-date.ensures c.in_ok-changes-2.ensures in
     let author = one_more (codes "svn:entry:last-author") c.revision_property-author.result _ c.in_ok-changes-3.changes _ (revision_property content (codes "svn:author") c.args.created)
     date c.revision_property-author.ensures c.in_ok-changes-3.ensures in
-    let uuid = one_more (codes "svn:entry:uuid") c.uuid_text-uuid.result _ c.in_ok-changes-4.changes _ (Some (uuid_text c.uuid.result))
-    author c.uuid_text-uuid.ensures c.in_ok-changes-4.ensures in
+    let uuid = one_more (codes "svn:entry:uuid") c.uuid_told-uuid.result _ c.in_ok-changes-4.changes _ (Some (uuid_text c.uuid.result))
+    author c.uuid_told-uuid.ensures c.in_ok-changes-4.ensures in
     if_made c.with_stale.result _ _
     (λ more told. told ∙ ap (λ xs. xs ++ stale_changes c.args.is_stale) uuid
     ∙ ap (λ n. (codes "svn:entry:committed-rev", option_map decimal c.args.created)

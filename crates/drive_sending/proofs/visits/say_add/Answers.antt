@@ -6,9 +6,9 @@ use Rattle.drive_sending.specs.Commands.{news_commands, add_command, added_entry
 use Rattle.drive_sending.specs.Tokens.{token_of}
 use Rattle.drive_sending.proofs.Written.{first_part, sent_behind}
 use Rattle.drive_sending.proofs.visits.say_add.Goals as goal
-use Rattle.std.proofs.Common.{◌+◌, sym, subst}
+use Rattle.std.proofs.Common.{◌+◌, subst}
 use Rattle.std.specs.Prelude.{true}
-use Rattle.wire_replies.specs.Sinks.{WritesPart, Writes}
+use Rattle.wire_replies.specs.Sinks.{Writes}
 use Rattle.wire_replies.proofs.Parts.{part_none}
 use Rattle.drive_sending.specs.Driving.{command_bytes}
 
@@ -20,20 +20,15 @@ returns-in_err-news g c =
 pub returns-in_err-say_made : goal.returns-in_err-say_made
 returns-in_err-say_made g c =
     let p = err_from_is_err_and c.from_residual-in_err-say_made.result c.from_residual-in_err-say_made.ensures.1 in
-    rw (p.1) (subst (λ k. WritesPart (g.S.ReplySink.writes c.args.out.now c.say_made.new.out) (command_bytes (add_command k (added_entry c.args.entrance.around c.args.path.now k) ∷ news_commands c.args.trees.now.report.now.ask.purpose k (token_of k (c.args.entrance.around + 1)) (news_told (g.R.Repository.content c.args.trees.now.view.now) (whole c.args.trees.now.report.now c.args.trees.now.root) c.args.path.now true)))) (sym c.requires.kind)
-    (first_part _ (add_command (kind_if c.args.entrance.is_directory) (added_entry c.args.entrance.around c.args.path.now
+    rw (p.1) (first_part _ (add_command (kind_if c.args.entrance.is_directory) (added_entry c.args.entrance.around c.args.path.now
     (kind_if c.args.entrance.is_directory)) ∷ []) (news_commands c.args.trees.now.report.now.ask.purpose (kind_if c.args.entrance.is_directory)
     (token_of (kind_if c.args.entrance.is_directory) (c.args.entrance.around + 1))
     (news_told (g.R.Repository.content c.args.trees.now.view.now) (whole c.args.trees.now.report.now c.args.trees.now.root) c.args.path.now true))
-    (c.in_err-say_made.ensures _ c.add_command.ensures)))
+    (c.in_err-say_made.ensures _ c.add_command.ensures))
 
 pub returns : goal.returns
 returns g c =
-    subst (λ k. Writes c.say_news.result (g.S.ReplySink.writes c.args.out.now c.say_news.new.out)
-    (command_bytes (add_command k (added_entry c.args.entrance.around c.args.path.now k) ∷ news_commands c.args.trees.now.report.now.ask.purpose k
-    (token_of k (c.args.entrance.around + 1)) (news_told (g.R.Repository.content c.args.trees.now.view.now)
-    (whole c.args.trees.now.report.now c.args.trees.now.root) c.args.path.now true)))) (sym c.requires.kind)
-    (sent_behind _ g.met.S.ReplySink.more c.say_news.result _ _ _ (add_command (kind_if c.args.entrance.is_directory)
+    sent_behind _ g.met.S.ReplySink.more c.say_news.result _ _ _ (add_command (kind_if c.args.entrance.is_directory)
     (added_entry c.args.entrance.around c.args.path.now (kind_if c.args.entrance.is_directory)) ∷ [])
     (news_commands c.args.trees.now.report.now.ask.purpose (kind_if c.args.entrance.is_directory)
     (token_of (kind_if c.args.entrance.is_directory) (c.args.entrance.around + 1))
@@ -41,4 +36,4 @@ returns g c =
     (c.in_ok-say_made.ensures _ c.add_command.ensures)
     (subst (λ n. Writes c.say_news.result (g.S.ReplySink.writes c.say_made.new.out c.say_news.new.out)
     (command_bytes (news_commands c.args.trees.now.report.now.ask.purpose (kind_if c.args.entrance.is_directory)
-    (token_of (kind_if c.args.entrance.is_directory) (c.args.entrance.around + 1)) n))) c.in_ok-news.ensures c.say_news.ensures))
+    (token_of (kind_if c.args.entrance.is_directory) (c.args.entrance.around + 1)) n))) c.in_ok-news.ensures c.say_news.ensures)

@@ -7,7 +7,7 @@ pub returns-then-not-is_directory : goal.returns-then-not-is_directory
 returns-then-not-is_directory g c = λ vs is.
     record {
       rest = [];
-      is = is ∙ ap (λ v. v ∷ []) c.entry_visit.ensures ∙ sym (ap (λ b. entry_visits b (entry_visit c.args.is_anew c.args.path) []) c.if-not-is_directory.true);
+      is = is ∙ ap (λ v. v ∷ []) c.entry_visit.ensures ∙ sym (ap (λ b. entry_visits b (entry_visit c.args.is_anew c.args.is_directory c.args.path) []) c.if-not-is_directory.true);
       file = λ _. refl;
       plan = below_file (g.S.Sides.trees c.args.sides.now) c.args.is_anew c.args.path c.requires.stands (sym c.requires.kind ∙ c.if-not-is_directory.true) c.requires.stays;
     }

@@ -9,10 +9,10 @@ use Rattle.reporter.proofs.making.found_at.Goals as goal
 use Rattle.reporter.specs.Left.{IsEntry, IsPlanOf}
 use Rattle.reporter.specs.Walks.{goes}
 
-pub returns-then-not-is_there : goal.returns-then-not-is_there
-returns-then-not-is_there g c = λ vs is.
+pub returns-then-not-is_present : goal.returns-then-not-is_present
+returns-then-not-is_present g c = λ vs is.
     subst (IsPlanOf (g.S.Sides.trees c.args.sides.now) c.args.is_anew c.args.path) (sym is)
-    (absent (g.S.Sides.trees c.args.sides.now) c.args.is_anew c.args.path (sym (c.is_there.ensures ((g.S.Sides.trees c.args.sides.now).new c.args.path) c.in_ok-kinds.ensures.new) ∙ c.if-not-is_there.true))
+    (absent (g.S.Sides.trees c.args.sides.now) c.args.is_anew c.args.path (sym (c.is_present.ensures.entry ((g.S.Sides.trees c.args.sides.now).new c.args.path) c.in_ok-kinds.ensures.new) ∙ c.if-not-is_present.true))
 
 pub has_news-requires-clause-stood : goal.has_news-requires-clause-stood
 has_news-requires-clause-stood g c = (staying (g.S.Sides.trees c.args.sides.now) c.args.is_anew c.args.path (sym new ∙ c.if-not-comes.true)).1
@@ -27,8 +27,8 @@ pub returns : goal.returns
 returns g c =
     IfOk-weaker c.entered.result _ _ (λ found entry. λ vs is.
     entry_plan (g.S.Sides.trees c.args.sides.now) c.args.is_anew c.is_directory-is_directory.result c.args.path vs (g.S.Sides.leads c.args.sides.now)
-    (sym (c.is_there.ensures ((g.S.Sides.trees c.args.sides.now).new c.args.path) c.in_ok-kinds.ensures.new) ∙ c.if-not-is_there.false)
-    (c.is_directory-is_directory.ensures ((g.S.Sides.trees c.args.sides.now).new c.args.path) c.in_ok-kinds.ensures.new)
+    (sym (c.is_present.ensures.entry ((g.S.Sides.trees c.args.sides.now).new c.args.path) c.in_ok-kinds.ensures.new) ∙ c.if-not-is_present.false)
+    (c.is_directory-is_directory.ensures.entry ((g.S.Sides.trees c.args.sides.now).new c.args.path) c.in_ok-kinds.ensures.new)
     reason
     (subst (λ b. IsEntry (g.S.Sides.trees c.args.sides.now) b c.is_directory-is_directory.result c.args.path vs) new (entry vs is)))
     c.entered.ensures

@@ -60,17 +60,17 @@ has_news_below-returns-clause-none g t c = λ _.
 
 -- ---- is_named
 
-pub is_named-returns-then-not-is_there-clause-named : goal.is_named-returns-then-not-is_there-clause-named
-is_named-returns-then-not-is_there-clause-named g t c = λ is.
+pub is_named-returns-then-not-is_present-clause-named : goal.is_named-returns-then-not-is_present-clause-named
+is_named-returns-then-not-is_present-clause-named g t c = λ is.
     going_reason (g.S.Sides.trees c.args.sides.now) c.args.path.now (sym (c.goes.ensures ((g.S.Sides.trees c.args.sides.now).old c.args.path.now) ((g.S.Sides.trees c.args.sides.now).new c.args.path.now) c.in_ok-kinds.ensures.old c.in_ok-kinds.ensures.new) ∙ is)
 
-pub is_named-returns-then-not-is_there-clause-none : goal.is_named-returns-then-not-is_there-clause-none
-is_named-returns-then-not-is_there-clause-none g t c = λ _.
-    absent (g.S.Sides.trees c.args.sides.now) false c.args.path.now (sym (c.is_there.ensures ((g.S.Sides.trees c.args.sides.now).new c.args.path.now) c.in_ok-kinds.ensures.new) ∙ c.if-not-is_there.true)
+pub is_named-returns-then-not-is_present-clause-none : goal.is_named-returns-then-not-is_present-clause-none
+is_named-returns-then-not-is_present-clause-none g t c = λ _.
+    absent (g.S.Sides.trees c.args.sides.now) false c.args.path.now (sym (c.is_present.ensures.entry ((g.S.Sides.trees c.args.sides.now).new c.args.path.now) c.in_ok-kinds.ensures.new) ∙ c.if-not-is_present.true)
 
 pub is_named-returns-then-is_added-clause-named : goal.is_named-returns-then-is_added-clause-named
 is_named-returns-then-is_added-clause-named g t c = λ _.
-    coming_reason (g.S.Sides.trees c.args.sides.now) c.args.path.now (sym (c.is_there.ensures ((g.S.Sides.trees c.args.sides.now).new c.args.path.now) c.in_ok-kinds.ensures.new) ∙ c.if-not-is_there.false)
+    coming_reason (g.S.Sides.trees c.args.sides.now) c.args.path.now (sym (c.is_present.ensures.entry ((g.S.Sides.trees c.args.sides.now).new c.args.path.now) c.in_ok-kinds.ensures.new) ∙ c.if-not-is_present.false)
     (sym (c.is_added.ensures ((g.S.Sides.trees c.args.sides.now).old c.args.path.now) ((g.S.Sides.trees c.args.sides.now).new c.args.path.now) c.in_ok-kinds.ensures.old c.in_ok-kinds.ensures.new) ∙ c.if-is_added.true)
 
 pub is_named-has_news-requires : goal.is_named-has_news-requires
@@ -79,9 +79,9 @@ is_named-has_news-requires g t c κs inside = (
   (
     inside,
     (
-      sym (c.is_there.ensures ((g.S.Sides.trees c.args.sides.now).new c.args.path.now) c.in_ok-kinds.ensures.new) ∙ c.if-not-is_there.false,
+      sym (c.is_present.ensures.entry ((g.S.Sides.trees c.args.sides.now).new c.args.path.now) c.in_ok-kinds.ensures.new) ∙ c.if-not-is_present.false,
       (
-        c.is_directory.ensures ((g.S.Sides.trees c.args.sides.now).new c.args.path.now) c.in_ok-kinds.ensures.new,
+        c.is_directory.ensures.entry ((g.S.Sides.trees c.args.sides.now).new c.args.path.now) c.in_ok-kinds.ensures.new,
         (not_false (is_some ((g.S.Sides.trees c.args.sides.now).old c.args.path.now)) added.0, added.1),
       ),
     ),

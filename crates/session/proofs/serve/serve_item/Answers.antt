@@ -21,17 +21,17 @@ returns-in-Greeted g c =
     let stays = g.met.A.RepoAccess.stays p in
     let a = greeting_answer s env (client_greeting item) in
     let nothing = greeting_nothing s env (client_greeting item) in
-    rw c.in-Greeted.is (unparted _ _ _ _ _ _ _ _ (said g.A.RepoAccess.rules (InputStep s env Greeted (Whole item)) p p a stays refl nothing _ c.greet.result
-    _ c.greet.ensures))
+    rw c.in-Greeted.is (unparted _ _ _ _ _ _ _ _ (said g.A.RepoAccess.rules (InputStep s env Greeted (Whole item)) p p a stays refl nothing _ c.greeting_item.result
+    _ c.greeting_item.ensures))
 
 pub returns-in-LoggingIn : goal.returns-in-LoggingIn
-returns-in-LoggingIn g c = rw c.in-LoggingIn.is (unparted _ _ _ _ _ _ c.log_in.result _ c.log_in.ensures)
+returns-in-LoggingIn g c = rw c.in-LoggingIn.is (unparted _ _ _ _ _ _ c.login_item.result _ c.login_item.ensures)
 
 pub returns-in-Challenged : goal.returns-in-Challenged
-returns-in-Challenged g c = rw c.in-Challenged.is (unparted _ _ _ _ _ _ c.answer_challenge.result _ c.answer_challenge.ensures)
+returns-in-Challenged g c = rw c.in-Challenged.is (unparted _ _ _ _ _ _ c.challenge_item.result _ c.challenge_item.ensures)
 
 pub returns-in-Serving : goal.returns-in-Serving
-returns-in-Serving g c = rw c.in-Serving.is (unparted _ _ _ _ _ _ c.answer_item.result _ c.answer_item.ensures)
+returns-in-Serving g c = rw c.in-Serving.is (unparted _ _ _ _ _ _ c.main_item.result _ c.main_item.ensures)
 
 pub returns-in-Editing : goal.returns-in-Editing
 returns-in-Editing g c = rw c.in-Editing.is c.edit_item.ensures
@@ -47,10 +47,10 @@ returns-in-Skipping g c =
     let a = skipping_answer env client (ends_edit item) in
     let nothing = skipping_nothing env client (ends_edit item) in
     rw c.in-Skipping.is (unparted _ _ _ _ _ _ _ _ (said g.A.RepoAccess.rules (InputStep s env (Skipping client) (Whole item)) p p a stays refl nothing _
-    c.skip.result _ c.skip.ensures))
+    c.skipped_item.result _ c.skipped_item.ensures))
 
 pub returns-in-Reporting : goal.returns-in-Reporting
-returns-in-Reporting g c = rw c.in-Reporting.is (unparted _ _ _ _ _ _ c.serve_report.result _ c.serve_report.ensures)
+returns-in-Reporting g c = rw c.in-Reporting.is (unparted _ _ _ _ _ _ c.report_item.result _ c.report_item.ensures)
 
 pub returns-in-Driven : goal.returns-in-Driven
 returns-in-Driven g c =
@@ -63,7 +63,7 @@ returns-in-Driven g c =
     let a = driven_answer env client (client_answer item) in
     let nothing = driven_nothing env client (client_answer item) in
     rw c.in-Driven.is (unparted _ _ _ _ _ _ _ _ (said g.A.RepoAccess.rules (InputStep s env (Driven client) (Whole item)) p p a stays refl nothing _
-    c.serve_driven.result _ c.serve_driven.ensures))
+    c.driven_item.result _ c.driven_item.ensures))
 
 pub returns-in-Ended : goal.returns-in-Ended
 returns-in-Ended g c =

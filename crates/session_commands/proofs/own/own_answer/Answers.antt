@@ -29,13 +29,13 @@ returns-in-Commit g c =
     let asked = asked_by c.in-Commit.commit (lock_tokens c.args.client.path c.in-Commit.commit.tokens) in
     rw c.in-Commit.is
     (answered _ _ (told_before c.args.request.preface) (g.met.A.RepoAccess.stays _) (commit_begins s env c.args.client asked) refl (begins s env c.args.client asked)
-    _ c.begin.result _ c.begin.ensures)
+    _ c.begin_commit.result _ c.begin_commit.ensures)
 
 pub returns-in-AbortEdit : goal.returns-in-AbortEdit
 returns-in-AbortEdit g c =
     rw c.in-AbortEdit.is
     (answered _ _ (told_before c.args.request.preface) (g.met.A.RepoAccess.stays _) (says c.args.turn.now.env (Serving c.args.client) []) refl refl
-    _ c.tell_nothing.result _ c.tell_nothing.ensures)
+    _ c.tell_preface.result _ c.tell_preface.ensures)
 
 pub returns-in-Lock : goal.returns-in-Lock
 returns-in-Lock g c = rw c.in-Lock.is c.lock.ensures

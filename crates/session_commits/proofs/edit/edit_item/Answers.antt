@@ -6,7 +6,7 @@ use Rattle.session_replies.proofs.Steps.{stepped, only_says, unparted}
 use Rattle.session_commits.proofs.edit.edit_item.Goals as goal
 
 pub returns-in-Ok : goal.returns-in-Ok
-returns-in-Ok g c = rw c.in-Ok.ensures c.obey-phase.ensures
+returns-in-Ok g c = rw c.in-Ok.ensures c.edit_command-phase.ensures
 
 pub returns-in-Err-UnknownName : goal.returns-in-Err-UnknownName
 returns-in-Err-UnknownName g c =

@@ -8,6 +8,6 @@ use Rattle.session_logins.proofs.challenging.user_of.Goals as goal
 pub returns-in-Err : goal.returns-in-Err
 returns-in-Err c =
     let Whose = IsAnswerOf c.args.challenge.now c.in-Some.users.now c.args.answer.now in
-    rw (sym c.in-Some.ensures) (IfOk-weaker c.nobody_unless_memory.result (λ user. (c.in-Err.fault ≢ NoMemory) × (user ≡ None)) Whose
+    rw (sym c.in-Some.ensures) (IfOk-weaker c.none_unless_memory.result (λ user. (c.in-Err.fault ≢ NoMemory) × (user ≡ None)) Whose
     (λ user nobody. subst Whose (sym nobody.1) (λ name right. nobody.0 (c.in-Err.ensures.accepts name right)))
-    c.nobody_unless_memory.ensures)
+    c.none_unless_memory.ensures)

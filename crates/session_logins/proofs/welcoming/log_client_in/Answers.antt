@@ -8,4 +8,4 @@ returns-in-None g c =
     c.welcome.ensures.said)
 
 pub returns-in-Some : goal.returns-in-Some
-returns-in-Some g c = rw c.in-Some.is c.go_on.ensures
+returns-in-Some g c = rw c.in-Some.is c.resume_command.ensures

@@ -8,8 +8,8 @@ use Rattle.session_reads.proofs.entries.with_revision.Goals as goal
 pub returns : goal.returns
 returns g c =
     let content = g.R.Repository.content c.args.view.now in
-    let number = one_more (codes "svn:entry:committed-rev") c.number_text-number.result c.args.properties c.in_ok-properties.properties c.args.properties _ (decimal c.args.revision)
-    refl c.number_text-number.ensures refl c.in_ok-properties.ensures in
+    let number = one_more (codes "svn:entry:committed-rev") c.decimal_text-number.result c.args.properties c.in_ok-properties.properties c.args.properties _ (decimal c.args.revision)
+    refl c.decimal_text-number.ensures refl c.in_ok-properties.ensures in
     let uuid = one_more (codes "svn:entry:uuid") c.uuid_text-uuid.result _ c.in_ok-properties-2.properties _ _ (uuid_text content.uuid)
     number c.uuid_text-uuid.ensures (ap uuid_text c.uuid.ensures) c.in_ok-properties-2.ensures in
     let date = one_optional (codes "svn:entry:committed-date") c.date_of-date.result _ c.in_ok-properties-3.properties _ _

@@ -13,12 +13,12 @@ returns g c =
     let contents = g.W.Write.contents in
     let n = c.in_ok-number.number in
     let old = scene c.args.hub.now (remaining c.args.input.now) (contents c.args.output.now) c.args.envs.now in
-    let greeted = scene c.connect.new.self (remaining c.args.input.now) (contents c.write_now.new.output) c.args.envs.now in
+    let greeted = scene c.connect.new.self (remaining c.args.input.now) (contents c.write_and_flush.new.output) c.args.envs.now in
     let connected = was_ok _ c.connect.result (n, c.in_ok-number.greeting) c.in_ok-number.ensures.cases in
     let connects = subst (λ r. IfOk r (λ x. ConnectsAs c.args.hub.now x.0 x.1.items c.connect.new.self)) connected c.connect.ensures.ok in
-    let wrote = was_ok _ c.write_now.result c.in_ok-map_err.field-0 c.in_ok-map_err.ensures.cases in
-    let ok = subst (λ r. OnOk r (Appends (contents c.args.output.now) (contents c.write_now.new.output) c.as_slice.result.now)) wrote c.write_now.ensures in
-    let written = subst (λ (xs : List ℕ). Appends (contents c.args.output.now) (contents c.write_now.new.output) xs) c.as_slice.ensures.value ok in
+    let wrote = was_ok _ c.write_and_flush.result c.in_ok-map_err.field-0 c.in_ok-map_err.ensures.cases in
+    let ok = subst (λ r. OnOk r (Appends (contents c.args.output.now) (contents c.write_and_flush.new.output) c.as_slice.result.now)) wrote c.write_and_flush.ensures in
+    let written = subst (λ (xs : List ℕ). Appends (contents c.args.output.now) (contents c.write_and_flush.new.output) xs) c.as_slice.ensures.value ok in
     let all = answered g.E.EnvSource.gives n old greeted c.in_ok-number.greeting.items connects refl written refl in
     let new = scene c.serve_pieces.new.hub (remaining c.serve_pieces.new.input) (contents c.serve_pieces.new.output) c.serve_pieces.new.envs in
     record {

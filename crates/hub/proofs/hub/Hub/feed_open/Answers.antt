@@ -33,7 +33,7 @@ feed g c = record {
   session = c.index_mut-entry.result.now.1;
   session_after = c.feed-fed.new.self;
   sessions = c.self.inside.sessions.items;
-  sessions_after = c.drop_unless.new.sessions.items;
+  sessions_after = c.drop_if_ended.new.sessions.items;
   used = c.self.inside.used;
 }
 
@@ -43,7 +43,7 @@ fed g c =
     let entry = c.index_mut-entry.result.now in
     is_fed c.self.inside.options c.args.self.now (feed g c) c.args.i entry.0 c.is_open-is_open.result c.self.view_is
     (is_entry h c.args.self.now c.args.number c.args.i entry c.self.view_is c.self.invariant.0 c.requires c.index_mut-entry.ensures.value)
-    c.requires c.is_open-is_open.ensures c.drop_unless.ensures
+    c.requires c.is_open-is_open.ensures c.drop_if_ended.ensures
 
 pub invariant_of-self : goal.invariant_of-self
 invariant_of-self g c =

@@ -1,7 +1,12 @@
 use Rattle.std.proofs.Common.{◌∷◌, sym, ◌∙◌, ap, subst}
-use Rattle.reporter.proofs.Leaving.{Goes_on, entered_left, single_left}
+use Rattle.reporter.proofs.Leaving.{Goes_on, closed_if_left, entered_left, single_left}
 use Rattle.reporter.specs.Left.{IsLeft}
 use Rattle.reporter.proofs.visitor.Visitor.next.Goals as goal
+
+pub returns-in-Nothing-clause-next : goal.returns-in-Nothing-clause-next
+returns-in-Nothing-clause-next g c =
+    closed_if_left (g.S.Sides.trees c.args.sides.now) c.in-Some.here c.pop_front.new.self.items c.args.self.now.open.items c.closed.result
+    c.in-Some.ensures.items (c.in_ok-next_found.ensures.end c.in-Nothing.is) c.closed.ensures.some
 
 pub returns-in_ok-push_front-in-Single-clause-next : goal.returns-in_ok-push_front-in-Single-clause-next
 returns-in_ok-push_front-in-Single-clause-next g c = λ vs left.

@@ -1,6 +1,0 @@
-use Rattle.std.proofs.Common.{refl}
-use Rattle.session_reports.proofs.driven.take_over.Goals as goal
-
-pub returns : goal.returns
-returns g c =
-    c.tell.ensures _ refl
