@@ -1,9 +1,9 @@
 -- The main commands, as the items that spell them.
 use Rattle.std.specs.Prelude.{ℕ, Bool, true, false, List, [], ◌∷◌, Option, Some, None, option_map, ok_or, Result, Err, codes, if◌then◌else◌}
-use Rattle.std.specs.List.{find}
 use Rattle.std.specs.Option.{option_map_or}
 use Rattle.items.specs.Values.{ItemValue, ItemValues, none, more}
-use Rattle.wire_forms.specs.Forms.{◌>>=◌, is_name, command_form, number_first, string_first, list_first, flag_first, revision_first, items_in, optional_number, optional_string, pairs, strings, numbers}
+use Rattle.wire_forms.specs.Forms.{◌>>=◌, command_form, number_first, string_first, list_first, flag_first, revision_first, items_in, optional_number, optional_string, pairs, strings, numbers}
+use Rattle.wire_forms.specs.Names.{named}
 use Rattle.wire_reports.specs.Asking.{update, switch, status}
 use Rattle.commands.specs.Logins.{are_words}
 use Rattle.commands.specs.declared.command.CommandName.{CommandName}
@@ -230,43 +230,36 @@ get_locations params = do
   revisions ← numbers revisions
   Some (Read (GetLocations (record { path = path; peg = peg; revisions = revisions })))
 
--- the name of a command, as it is sent
-abbrev pub name_text : CommandName → List ℕ
-name_text names.GetLatestRev = codes "get-latest-rev"
-name_text names.CheckPath = codes "check-path"
-name_text names.RevProplist = codes "rev-proplist"
-name_text names.Commit = codes "commit"
-name_text names.AbortEdit = codes "abort-edit"
-name_text names.Lock = codes "lock"
-name_text names.Unlock = codes "unlock"
-name_text names.GetLock = codes "get-lock"
-name_text names.GetLocks = codes "get-locks"
-name_text names.GetFile = codes "get-file"
-name_text names.GetDir = codes "get-dir"
-name_text names.Stat = codes "stat"
-name_text names.GetDatedRev = codes "get-dated-rev"
-name_text names.RevProp = codes "rev-prop"
-name_text names.ChangeRevProp = codes "change-rev-prop"
-name_text names.ChangeRevProp2 = codes "change-rev-prop2"
-name_text names.Reparent = codes "reparent"
-name_text names.Log = codes "log"
-name_text names.GetLocations = codes "get-locations"
-name_text names.Update = codes "update"
-name_text names.Switch = codes "switch"
-name_text names.Status = codes "status"
-
--- all commands
-abbrev pub all_names : List CommandName
-all_names =
-    names.GetLatestRev ∷ names.CheckPath ∷ names.RevProplist ∷ names.Commit ∷ names.AbortEdit
-    ∷ names.Lock ∷ names.Unlock ∷ names.GetLock ∷ names.GetLocks ∷ names.GetFile ∷ names.GetDir
-    ∷ names.Stat ∷ names.GetDatedRev ∷ names.RevProp ∷ names.ChangeRevProp ∷ names.ChangeRevProp2
-    ∷ names.Reparent ∷ names.Log ∷ names.GetLocations ∷ names.Update ∷ names.Switch ∷ names.Status
+-- the names of the commands, as they are sent
+abbrev pub command_names : List (List ℕ × CommandName)
+command_names =
+    (codes "get-latest-rev", names.GetLatestRev)
+    ∷ (codes "check-path", names.CheckPath)
+    ∷ (codes "rev-proplist", names.RevProplist)
+    ∷ (codes "commit", names.Commit)
+    ∷ (codes "abort-edit", names.AbortEdit)
+    ∷ (codes "lock", names.Lock)
+    ∷ (codes "unlock", names.Unlock)
+    ∷ (codes "get-lock", names.GetLock)
+    ∷ (codes "get-locks", names.GetLocks)
+    ∷ (codes "get-file", names.GetFile)
+    ∷ (codes "get-dir", names.GetDir)
+    ∷ (codes "stat", names.Stat)
+    ∷ (codes "get-dated-rev", names.GetDatedRev)
+    ∷ (codes "rev-prop", names.RevProp)
+    ∷ (codes "change-rev-prop", names.ChangeRevProp)
+    ∷ (codes "change-rev-prop2", names.ChangeRevProp2)
+    ∷ (codes "reparent", names.Reparent)
+    ∷ (codes "log", names.Log)
+    ∷ (codes "get-locations", names.GetLocations)
+    ∷ (codes "update", names.Update)
+    ∷ (codes "switch", names.Switch)
+    ∷ (codes "status", names.Status)
     ∷ []
 
 -- the command that has this name
 abbrev pub main_command_name : List ℕ → Option CommandName
-main_command_name name = find (λ known. is_name name (name_text known)) all_names
+main_command_name = named command_names
 
 -- the command of a name and its parameters, if they are of its form
 abbrev pub main_command_with : CommandName → ItemValues → Option MainCommand

@@ -1,10 +1,8 @@
 //! The main commands.
 ghost use Rattle.items.specs.View.{value_of, values_of};
-ghost use Rattle.std.specs.Prelude.{◌≡◌, option_copied, option_map};
-ghost use Rattle.std.specs.List.{find};
+ghost use Rattle.std.specs.Prelude.{◌≡◌, option_map};
 ghost use Rattle.wire_forms.specs.Answering.{Answers, Reads};
-ghost use Rattle.wire_forms.specs.Forms.{is_name};
-ghost use Rattle.commands.specs.Commands.{main_command, main_command_name, name_text, main_command_with, check_path, rev_proplist, locks_first, properties_at_end, commit, lock, unlock, get_lock, get_locks, path_first, get_file, get_dir, has_fields, stat, get_dated_rev, rev_prop, change_rev_prop, change_rev_prop2, previous_value, reparent, limit_at_end, log_command, get_locations};
+ghost use Rattle.commands.specs.Commands.{main_command, main_command_name, main_command_with, check_path, rev_proplist, locks_first, properties_at_end, commit, lock, unlock, get_lock, get_locks, path_first, get_file, get_dir, has_fields, stat, get_dated_rev, rev_prop, change_rev_prop, change_rev_prop2, previous_value, reparent, limit_at_end, log_command, get_locations};
 
 use crate::login::are_words;
 use byte_string::ByteString;
@@ -13,7 +11,7 @@ use repo_api::{PreviousValue, PropertyAsk};
 use std::alloc::Global;
 use wire_forms::CommandFault::{self, BadParameters, UnknownName};
 use wire_forms::{
-    Numbers, Pairs, Strings, copy_optional, read_flag, read_form, read_items, read_list,
+    Numbers, Pairs, Strings, copy_optional, named, read_flag, read_form, read_items, read_list,
     read_number, read_numbers, read_optional_number, read_optional_string, read_pairs,
     read_revision, read_string, read_strings,
 };
@@ -213,82 +211,37 @@ pub enum CommandName {
     Status,
 }
 
-/// The names of all commands.
-const COMMAND_NAMES: [CommandName; 22] = [
-    CommandName::GetLatestRev,
-    CommandName::CheckPath,
-    CommandName::RevProplist,
-    CommandName::Commit,
-    CommandName::AbortEdit,
-    CommandName::Lock,
-    CommandName::Unlock,
-    CommandName::GetLock,
-    CommandName::GetLocks,
-    CommandName::GetFile,
-    CommandName::GetDir,
-    CommandName::Stat,
-    CommandName::GetDatedRev,
-    CommandName::RevProp,
-    CommandName::ChangeRevProp,
-    CommandName::ChangeRevProp2,
-    CommandName::Reparent,
-    CommandName::Log,
-    CommandName::GetLocations,
-    CommandName::Update,
-    CommandName::Switch,
-    CommandName::Status,
+/// The names of the commands, as they are sent.
+const COMMAND_NAMES: [(&[u8], CommandName); 22] = [
+    (b"get-latest-rev", CommandName::GetLatestRev),
+    (b"check-path", CommandName::CheckPath),
+    (b"rev-proplist", CommandName::RevProplist),
+    (b"commit", CommandName::Commit),
+    (b"abort-edit", CommandName::AbortEdit),
+    (b"lock", CommandName::Lock),
+    (b"unlock", CommandName::Unlock),
+    (b"get-lock", CommandName::GetLock),
+    (b"get-locks", CommandName::GetLocks),
+    (b"get-file", CommandName::GetFile),
+    (b"get-dir", CommandName::GetDir),
+    (b"stat", CommandName::Stat),
+    (b"get-dated-rev", CommandName::GetDatedRev),
+    (b"rev-prop", CommandName::RevProp),
+    (b"change-rev-prop", CommandName::ChangeRevProp),
+    (b"change-rev-prop2", CommandName::ChangeRevProp2),
+    (b"reparent", CommandName::Reparent),
+    (b"log", CommandName::Log),
+    (b"get-locations", CommandName::GetLocations),
+    (b"update", CommandName::Update),
+    (b"switch", CommandName::Switch),
+    (b"status", CommandName::Status),
 ];
 
 /// Finds the command that has this name.
 fn main_command_name(name: &[u8]) -> Option<CommandName>
     ensures { result ≡ main_command_name name.now }
 {
-    first_named(&COMMAND_NAMES, name).copied()
-}
-
-/// Finds the first of these that has this name.
-fn first_named<'a>(names: &'a [CommandName], name: &[u8]) -> Option<&'a CommandName>
-    ensures { option_copied result
-        ≡ find (λ known. is_name name.now (name_text known)) names.now }
-{
-    names.iter().find(|known| has_name(name, **known))
-}
-
-/// Says whether the command has this name.
-fn has_name(name: &[u8], known: CommandName) -> bool
-    ensures { result ≡ is_name name.now (name_text known) }
-{
-    name == name_text(known)
-}
-
-/// Gives the name of a command, as it is sent.
-fn name_text(known: CommandName) -> &'static [u8]
-    ensures { result.now ≡ name_text known }
-{
-    match known {
-        CommandName::GetLatestRev => b"get-latest-rev",
-        CommandName::CheckPath => b"check-path",
-        CommandName::RevProplist => b"rev-proplist",
-        CommandName::Commit => b"commit",
-        CommandName::AbortEdit => b"abort-edit",
-        CommandName::Lock => b"lock",
-        CommandName::Unlock => b"unlock",
-        CommandName::GetLock => b"get-lock",
-        CommandName::GetLocks => b"get-locks",
-        CommandName::GetFile => b"get-file",
-        CommandName::GetDir => b"get-dir",
-        CommandName::Stat => b"stat",
-        CommandName::GetDatedRev => b"get-dated-rev",
-        CommandName::RevProp => b"rev-prop",
-        CommandName::ChangeRevProp => b"change-rev-prop",
-        CommandName::ChangeRevProp2 => b"change-rev-prop2",
-        CommandName::Reparent => b"reparent",
-        CommandName::Log => b"log",
-        CommandName::GetLocations => b"get-locations",
-        CommandName::Update => b"update",
-        CommandName::Switch => b"switch",
-        CommandName::Status => b"status",
-    }
+    named(&COMMAND_NAMES, name)
 }
 
 /// Reads the command of a name that is known.

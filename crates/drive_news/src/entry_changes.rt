@@ -8,6 +8,7 @@ ghost use Rattle.drive_news.specs.Parts.{last_changes, revision_property, stale_
 use crate::news::PropertyChanges;
 use byte_string::ByteString;
 use repo_api::Repository;
+use sequence::Sequence;
 use std::alloc::{AllocError, Global};
 use wire_forms::copy_optional;
 use wire_replies::{decimal_text, uuid_text};
@@ -22,7 +23,7 @@ pub(crate) fn last_changes<R: Repository>(
     ensures { IfOk result (λ changes. changes
         ≡ last_changes (R.content view.now) is_stale created) }
 {
-    let changes = PropertyChanges::new(alloc);
+    let changes = Sequence::new(alloc);
     let number = number_text(alloc, created);
     let changes = with_change(alloc, changes, b"svn:entry:committed-rev", number)?;
     let date = revision_property(alloc, view, b"svn:date", created);
@@ -45,7 +46,7 @@ fn with_change(
         more ≡ changes ++ (name.now, value) ∷ [])) }
 {
     let mut changes = changes;
-    changes.push(ByteString::from_slice(alloc, name)?, made?)?;
+    changes.push((ByteString::from_slice(alloc, name)?, made?))?;
     Ok(changes)
 }
 

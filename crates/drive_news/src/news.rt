@@ -1,11 +1,8 @@
 //! What an entry is told of itself.
-ghost use Rattle.std.specs.Prelude.{◌≡◌, ◌∷◌, ◌++◌, [], OnOk, OnErr};
-
 use byte_string::ByteString;
 use drive_reports::Purpose;
 use repo_api::FileText;
-use std::alloc::{AllocError, Global};
-use std::marker::Model;
+use sequence::Sequence;
 use svnpath::Path;
 
 /// Where an entry stands: a revision, and a path in it.
@@ -34,46 +31,7 @@ pub struct Sight<'a> {
 }
 
 /// Names of properties, each with its value, or with none where it is taken out.
-#[derive(Drop)]
-pub struct PropertyChanges {
-    changes: Vec<(ByteString, Option<ByteString>)>,
-}
-
-impl Model for PropertyChanges {
-    ghost use Rattle.std.specs.Prelude.{List};
-    ghost use Rattle.reporter.specs.Own.{Change};
-
-    ghost Value = { List Change };
-
-    ghost view = { λ p. p.changes.items };
-}
-
-impl PropertyChanges {
-    /// Makes a list without changes. It takes no memory.
-    pub fn new(alloc: Global) -> Self
-        ensures { result ≡ [] }
-    {
-        PropertyChanges {
-            changes: Vec::new(alloc),
-        }
-    }
-
-    /// Adds one change more.
-    pub fn push(&mut self, name: ByteString, value: Option<ByteString>) -> Result<(), AllocError>
-        ensures ok { OnOk result (self.new ≡ self.old ++ (name, value) ∷ []) }
-        ensures err { OnErr result (self.new ≡ self.old) }
-    {
-        self.changes.push((name, value))?;
-        Ok(())
-    }
-
-    /// Gives the changes, each after those before it.
-    pub fn as_slice(&self) -> &[(ByteString, Option<ByteString>)]
-        ensures { result.now ≡ self.now }
-    {
-        self.changes.as_slice()
-    }
-}
+pub type PropertyChanges = Sequence<(ByteString, Option<ByteString>)>;
 
 /// What an entry is told of itself: properties, and its text, if it is told.
 #[derive(Drop)]

@@ -7,6 +7,7 @@ ghost use Rattle.drive_news.specs.Parts.{changes_named};
 use crate::news::PropertyChanges;
 use byte_string::ByteString;
 use repo_api::{Properties, is_same_value};
+use sequence::Sequence;
 use std::alloc::{AllocError, Global};
 use wire_forms::copy_optional;
 
@@ -55,7 +56,7 @@ fn with_named(
     let mut changes = changes;
     for (name, _) in names.iter() {
         if is_told(old, new, name) {
-            changes.push(name.clone()?, copy_optional(new.get(name))?)?;
+            changes.push((name.clone()?, copy_optional(new.get(name))?))?;
         }
     }
     Ok(changes)
@@ -85,6 +86,6 @@ pub(crate) fn are_same_properties(
     ensures { IfOk result (λ same. Decides same
         (property_values old.now ≡ property_values new.now)) }
 {
-    let changes = with_property_changes(PropertyChanges::new(alloc), old, new)?;
+    let changes = with_property_changes(Sequence::new(alloc), old, new)?;
     Ok(changes.as_slice().is_empty())
 }

@@ -99,19 +99,19 @@ names_target ask (Ok p) = same_path p ask.target
 names_target ask (Err r) = false
 
 -- the first command must set the target, and link it to no URL
-abbrev pub may_come : OpenState → List ℕ → Option (List ℕ) → Bool
-may_come report text url =
+abbrev pub is_in_order : OpenState → List ℕ → Option (List ℕ) → Bool
+is_in_order report text url =
     is_some report.root
     || (not (is_some url) && names_target report.ask (report_path report.ask text))
 
 -- nothing need stand where a target of some name is reported first
-abbrev pub may_lack : OpenState → Bool
-may_lack report = not (is_some report.root) && not (same_path report.ask.target [])
+abbrev pub may_be_absent : OpenState → Bool
+may_be_absent report = not (is_some report.root) && not (same_path report.ask.target [])
 
 -- the path that is reported first stays
-abbrev pub root_after : Option ReportRoot → ℕ → Depth → ReportRoot
-root_after None revision depth = record { revision = revision; depth = depth }
-root_after (Some root) revision depth = root
+abbrev pub first_root : Option ReportRoot → ℕ → Depth → ReportRoot
+first_root None revision depth = record { revision = revision; depth = depth }
+first_root (Some root) revision depth = root
 
 -- the report with one graft more
 abbrev pub report_with_graft : OpenState → Option ReportRoot → Graft → ReportState
@@ -139,15 +139,15 @@ graft_of p from n depth reported = record {
 abbrev pub set_path_graft : RepoState → List ℕ → OpenState → ReportedPath → Option (List ℕ)
     → Result (ReportRoot × Graft) Refusal
 set_path_graft c name report reported url = do
-  _ ← ok_if (may_come report reported.path url) refusals.MalformedData
+  _ ← ok_if (is_in_order report reported.path url) refusals.MalformedData
   p ← report_path report.ask reported.path
   from ← url_or name (own_source report.ask.anchor report.ask.target report.grafts p) url
   n ← revision_read c (Some reported.revision)
   depth ← graft_depth reported.depth
   _ ← ok_if (has_place report.ask.target (reported_tree c report.ask report.grafts) p)
       refusals.NotFound
-  _ ← ok_if (is_some (trees_in c.revisions n from) || may_lack report) refusals.NotFound
-  Ok (root_after report.root n depth, graft_of p from n depth reported)
+  _ ← ok_if (is_some (trees_in c.revisions n from) || may_be_absent report) refusals.NotFound
+  Ok (first_root report.root n depth, graft_of p from n depth reported)
 
 -- what a path that is set, or linked to a URL, makes of a report
 abbrev pub set_path_answer : RepoState → List ℕ → OpenState → ReportedPath → Option (List ℕ)

@@ -3,7 +3,7 @@ ghost use Rattle.std.specs.Prelude.{◌≡◌, Some, option_copied, IfOk};
 ghost use Rattle.repo_api.specs.Soundness.{AreTrees};
 ghost use Rattle.drive_reports.specs.Judging.{JudgesReport};
 ghost use Rattle.drive_reports.specs.Named.{IsNamed};
-ghost use Rattle.drive_reports.specs.Refusing.{may_come, may_lack, root_after, graft_of, set_path_graft, set_path_answer, delete_path_graft, delete_path_answer, report_with_graft, kept_report, has_goal, has_anchor, finish_root};
+ghost use Rattle.drive_reports.specs.Refusing.{is_in_order, may_be_absent, first_root, graft_of, set_path_graft, set_path_answer, delete_path_graft, delete_path_answer, report_with_graft, kept_report, has_goal, has_anchor, finish_root};
 
 use crate::ask::{DriveAsk, Purpose};
 use crate::graft::{Graft, Subtree};
@@ -29,8 +29,12 @@ pub struct Link<'a> {
 }
 
 /// Says whether a path may be set now, or linked to a URL: the first command must set the target.
-fn may_come(alloc: Global, report: &OpenReport<Grafts>, link: Link<'_>) -> Result<bool, AllocError>
-    ensures { IfOk result (λ answer. answer ≡ may_come report.now link.entry.reported.now.path
+fn is_in_order(
+    alloc: Global,
+    report: &OpenReport<Grafts>,
+    link: Link<'_>,
+) -> Result<bool, AllocError>
+    ensures { IfOk result (λ answer. answer ≡ is_in_order report.now link.entry.reported.now.path
         (option_copied link.entry.url)) }
 {
     if report.root.is_some() {
@@ -47,15 +51,15 @@ fn may_come(alloc: Global, report: &OpenReport<Grafts>, link: Link<'_>) -> Resul
 }
 
 /// Says whether nothing need exist where the target is reported first.
-fn may_lack(report: &OpenReport<Grafts>) -> bool
-    ensures { result ≡ may_lack report.now }
+fn may_be_absent(report: &OpenReport<Grafts>) -> bool
+    ensures { result ≡ may_be_absent report.now }
 {
     report.root.is_none() && !report.ask.target.as_path().is_root()
 }
 
 /// Keeps the path that was reported first.
-fn root_after(root: Option<ReportRoot>, revision: u64, depth: Depth) -> ReportRoot
-    ensures { result ≡ root_after root revision depth }
+fn first_root(root: Option<ReportRoot>, revision: u64, depth: Depth) -> ReportRoot
+    ensures { result ≡ first_root root revision depth }
 {
     match root {
         None => ReportRoot { revision, depth },
@@ -102,7 +106,7 @@ fn set_path_graft<R: Repository>(
     let ask = &report.ask;
     let top = ask.target.as_path();
     let grafts = &report.grafts;
-    judge(may_come(alloc, report, link)?, Refusal::MalformedData)?;
+    judge(is_in_order(alloc, report, link)?, Refusal::MalformedData)?;
     let path = report_path(alloc, ask, &link.reported.path)?;
     let own = own_source(alloc, ask, grafts, &path)?;
     let from = url_or(alloc, name, own, link.url)?;
@@ -111,10 +115,10 @@ fn set_path_graft<R: Repository>(
     let is_placed = has_place(alloc, view, top, grafts, &path)?;
     judge(is_placed, Refusal::NotFound)?;
     judge(
-        is_there(view, revision, &from) || may_lack(report),
+        is_there(view, revision, &from) || may_be_absent(report),
         Refusal::NotFound,
     )?;
-    let root = root_after(report.root, revision, depth);
+    let root = first_root(report.root, revision, depth);
     Ok((root, graft_of(path, from, revision, depth, link.reported)?))
 }
 
@@ -139,7 +143,7 @@ fn delete_path_graft(
 }
 
 /// Gives the report with one graft more.
-fn grafted(
+fn with_graft(
     alloc: Global,
     mut report: OpenReport<Grafts>,
     root: Option<ReportRoot>,
@@ -166,7 +170,7 @@ pub fn set_path<R: Repository>(
         report link.entry.reported.now (option_copied link.entry.url))) }
 {
     match set_path_graft(alloc, view, name, &report, link) {
-        Ok((root, graft)) => grafted(alloc, report, Some(root), graft),
+        Ok((root, graft)) => with_graft(alloc, report, Some(root), graft),
         Err(NotDone::Refused(refusal)) => {
             drop(report);
             Ok(Report::Refused(refusal))
@@ -189,7 +193,7 @@ pub fn delete_path(
     match delete_path_graft(alloc, &report, text) {
         Ok(graft) => {
             let root = report.root;
-            grafted(alloc, report, root, graft)
+            with_graft(alloc, report, root, graft)
         }
         Err(NotDone::Refused(refusal)) => {
             drop(report);

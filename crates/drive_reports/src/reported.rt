@@ -10,7 +10,7 @@ ghost use Rattle.drive_reports.specs.Reported.{has_directory, has_place, in_subt
 
 use crate::graft::{Graft, Subtree};
 use crate::grafts::Grafts;
-use crate::sources::above;
+use crate::sources::parent_or_root;
 use byte_string::ByteString;
 use drive_rules::Depth;
 use repo_api::{NodeKind, Repository};
@@ -114,7 +114,7 @@ fn graft_among<'a, R: Repository>(
         if is_surely_placed(top, graft) {
             return Ok(Some(graft));
         }
-        let above = above(alloc, &graft.path)?;
+        let above = parent_or_root(alloc, &graft.path)?;
         let before = FirstGrafts {
             grafts,
             count: place,
@@ -261,7 +261,7 @@ pub(crate) fn has_place<R: Repository>(
     if path == top {
         return Ok(true);
     }
-    let above = above(alloc, path)?;
+    let above = parent_or_root(alloc, path)?;
     let holder = graft_at(alloc, view, top, grafts, &above)?;
     shows_directory(alloc, view, holder, &above)
 }

@@ -14,7 +14,7 @@ use std::alloc::{AllocError, Global};
 use svnpath::Path;
 
 /// Gives a path of a report as a path of the repository: beneath the anchor.
-fn anchored(alloc: Global, anchor: &Path, path: &Path) -> Result<Path, AllocError>
+fn under_anchor(alloc: Global, anchor: &Path, path: &Path) -> Result<Path, AllocError>
     ensures { IfOk result (λ p. p ≡ anchor.now ++ path.now) }
 {
     path.rebased(alloc, &Path::root(alloc), anchor)
@@ -25,13 +25,13 @@ pub(crate) fn report_path(alloc: Global, ask: &DriveAsk, text: &ByteString) -> R
     ensures judged { JudgesReport result (report_path ask.now text.now) }
     ensures named { IfOk result IsNamed }
 {
-    let own = anchored(alloc, &ask.anchor, ask.target.as_path())?;
+    let own = under_anchor(alloc, &ask.anchor, ask.target.as_path())?;
     let path = path_named(alloc, &own, text)?;
     Ok(path.rebased(alloc, &ask.anchor, &Path::root(alloc))?)
 }
 
 /// Gives the path above; of the root the root.
-pub(crate) fn above(alloc: Global, path: &Path) -> Result<Path, AllocError>
+pub(crate) fn parent_or_root(alloc: Global, path: &Path) -> Result<Path, AllocError>
     ensures { IfOk result (λ p. p ≡ path_above path.now) }
 {
     match path.parent(alloc)? {
@@ -46,7 +46,7 @@ fn origin(alloc: Global, anchor: &Path, grafts: &Grafts, path: &Path) -> Result<
 {
     let all = grafts.as_slice();
     match grafts.last_above(alloc, path, all.len())? {
-        None => anchored(alloc, anchor, path),
+        None => under_anchor(alloc, anchor, path),
         Some(place) => {
             let graft = &all[place];
             path.rebased(alloc, &graft.path, &graft.from)
@@ -64,9 +64,9 @@ pub(crate) fn own_source(
     ensures { IfOk result (λ p. p ≡ own_source ask.now.anchor ask.now.target grafts.now path.now) }
 {
     if path == ask.target.as_path() {
-        return anchored(alloc, &ask.anchor, ask.target.as_path());
+        return under_anchor(alloc, &ask.anchor, ask.target.as_path());
     }
-    let above = above(alloc, path)?;
+    let above = parent_or_root(alloc, path)?;
     let from = origin(alloc, &ask.anchor, grafts, &above)?;
     path.rebased(alloc, &above, &from)
 }

@@ -10,7 +10,7 @@ use Rattle.repo_api.specs.declared.entry.Entry.{Entry}
 use Rattle.drive_rules.specs.declared.depth.Depth.{Depth}
 use Rattle.drive_rules.specs.Steps.{Step, Node, node_of}
 use Rattle.drive_rules.specs.Drives.{IsRight, HasReason, Differs}
-use Rattle.drive_rules.specs.Scopes.{under, HoldsTogether, DepthLimit, scope_of, within, stays_in_scope, brings_in, keeps_old, depth_said, said_or, top_limit}
+use Rattle.drive_rules.specs.Scopes.{under, HoldsTogether, DepthLimit, scope_of, within, stays_in_scope, includes_child, keeps_reported, depth_said, own_or_inherited, top_limit}
 use Rattle.drive_rules.proofs.Joined.{and_front, and_both}
 use Rattle.drive_rules.proofs.Entries.{below_under, below_apart}
 
@@ -46,8 +46,8 @@ and_back false b h = absurd (false≢true h)
 reached_front : (limit : DepthLimit) (r t : Tree) (here : PathValue) (depth : Depth) (xs ys : List Component) → stays_in_scope limit r t here depth (xs ++ ys) ≡ true → stays_in_scope limit r t here depth xs ≡ true
 reached_front limit r t here depth [] ys h = refl
 reached_front limit r t here depth (c ∷ xs) ys h =
-    and_both (brings_in depth (r (here ++ c ∷ [])) (t (here ++ c ∷ [])) || keeps_old limit (r (here ++ c ∷ []))) _ (and_front _ (stays_in_scope limit r t (here ++ c ∷ []) (said_or (depth_said limit (here ++ c ∷ [])) depth) (xs ++ ys)) h)
-    (reached_front limit r t (here ++ c ∷ []) (said_or (depth_said limit (here ++ c ∷ [])) depth) xs ys (and_back (brings_in depth (r (here ++ c ∷ [])) (t (here ++ c ∷ [])) || keeps_old limit (r (here ++ c ∷ []))) _ h))
+    and_both (includes_child depth (r (here ++ c ∷ [])) (t (here ++ c ∷ [])) || keeps_reported limit (r (here ++ c ∷ []))) _ (and_front _ (stays_in_scope limit r t (here ++ c ∷ []) (own_or_inherited (depth_said limit (here ++ c ∷ [])) depth) (xs ++ ys)) h)
+    (reached_front limit r t (here ++ c ∷ []) (own_or_inherited (depth_said limit (here ++ c ∷ [])) depth) xs ys (and_back (includes_child depth (r (here ++ c ∷ [])) (t (here ++ c ∷ [])) || keeps_reported limit (r (here ++ c ∷ []))) _ h))
 
 scope_above : (limit : DepthLimit) (r t : Tree) (top p q : PathValue) → is_at_or_under p top ≡ true → is_at_or_under q p ≡ true → scope_of limit r t top q ≡ true → scope_of limit r t top p ≡ true
 scope_above limit r t top p q at up h =

@@ -25,11 +25,11 @@ tree_without p t q = if is_at_or_under q p then None else t q
 -- ---- depths
 
 -- whether a directory of this depth brings in a child, by what the child was and what it is to be
-abbrev pub brings_in : Depth → Option Entry → Option Entry → Bool
-brings_in Empty old new = false
-brings_in Files old new = is_file_there old || is_file_there new
-brings_in Immediates old new = true
-brings_in Infinity old new = true
+abbrev pub includes_child : Depth → Option Entry → Option Entry → Bool
+includes_child Empty old new = false
+includes_child Files old new = is_file_there old || is_file_there new
+includes_child Immediates old new = true
+includes_child Infinity old new = true
 
 -- the depth of a directory in a directory of this depth
 abbrev pub depth_below : Depth → Depth
@@ -39,9 +39,9 @@ depth_below Files = Empty
 depth_below Empty = Empty
 
 -- the depth that was said of a directory, or else what its parent's depth leaves it
-abbrev pub said_or : Option Depth → Depth → Depth
-said_or (Some depth) above = depth
-said_or None above = depth_below above
+abbrev pub own_or_inherited : Option Depth → Depth → Depth
+own_or_inherited (Some depth) above = depth
+own_or_inherited None above = depth_below above
 
 -- How deep a drive goes: to a given depth, or as deep as was reported of each directory of the old
 -- tree, with a depth for a top that is no directory there.
@@ -55,9 +55,9 @@ depth_said (Given depth) q = None
 depth_said (Reported said top) q = said q
 
 -- a drive as deep as was reported is of every path of the old tree
-abbrev pub keeps_old : DepthLimit → Option Entry → Bool
-keeps_old (Given depth) old = false
-keeps_old (Reported said top) old = is_some old
+abbrev pub keeps_reported : DepthLimit → Option Entry → Bool
+keeps_reported (Given depth) old = false
+keeps_reported (Reported said top) old = is_some old
 
 -- the depth of the top
 abbrev pub top_limit : DepthLimit → PathValue → Depth
@@ -71,17 +71,17 @@ top_limit (Reported said depth) top = by (said top)
 -- ---- scopes
 
 -- a directory of this depth at a path lets its child of this path into the scope
-abbrev pub lets_in : DepthLimit → Tree → Tree → Depth → PathValue → Bool
-lets_in limit old new depth child =
-    brings_in depth (old child) (new child) || keeps_old limit (old child)
+abbrev pub includes : DepthLimit → Tree → Tree → Depth → PathValue → Bool
+includes limit old new depth child =
+    includes_child depth (old child) (new child) || keeps_reported limit (old child)
 
 -- whether the names, gone down one by one from a directory of this depth, stay in scope
 abbrev pub stays_in_scope : DepthLimit → Tree → Tree → PathValue → Depth → List Component → Bool
 stays_in_scope limit old new here depth [] = true
 stays_in_scope limit old new here depth (c ∷ rest) =
     let child = here ++ c ∷ [] in
-    lets_in limit old new depth child
-    && stays_in_scope limit old new child (said_or (depth_said limit child) depth) rest
+    includes limit old new depth child
+    && stays_in_scope limit old new child (own_or_inherited (depth_said limit child) depth) rest
 
 -- the paths of a drive from this top, so deep
 abbrev pub scope_of : DepthLimit → Tree → Tree → PathValue → PathValue → Bool

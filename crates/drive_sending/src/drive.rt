@@ -4,6 +4,7 @@ ghost use Rattle.repo_api.specs.Soundness.{AreTrees};
 ghost use Rattle.wire_edits.specs.declared.editing.EditorCommand.TheVariants.{CloseDirectory, CloseEdit, OpenRoot, TargetRevision};
 ghost use Rattle.drive_rules.specs.Steps.EntryKind.{DirectoryKind};
 ghost use Rattle.drive_reports.specs.Refusing.{finish_root};
+ghost use Rattle.drive_sides.specs.OnTrees.{on_trees};
 ghost use Rattle.drive_sides.specs.Plans.{drive_trees, whole};
 ghost use Rattle.drive_sending.specs.Commands.{body_commands, drive_of, plan_commands, root_commands};
 ghost use Rattle.drive_sending.specs.Driving.{command_bytes, drive_replies, SaysDrive, Visiting};
@@ -11,7 +12,7 @@ ghost use Rattle.drive_sending.specs.Tokens.{token_of};
 ghost use Rattle.wire_replies.specs.Sinks.{Says, Writes};
 
 use crate::naming::token;
-use crate::saying::{say_made, say_new};
+use crate::saying::say_made;
 use crate::telling::say_root_news;
 use crate::visits::{root_news, say_close, say_visits};
 use drive_reports::{Grafts, OpenReport, ReportRoot};
@@ -20,7 +21,7 @@ use repo_api::Repository;
 use reporter::Visitor;
 use std::alloc::{AllocError, Global};
 use wire_edits::EditorCommand;
-use wire_replies::{Reply, ReplySink};
+use wire_replies::{Reply, ReplySink, say_new};
 
 /// Makes the command that opens the root.
 fn open_root(alloc: Global, root: ReportRoot) -> Result<EditorCommand, AllocError>
@@ -51,9 +52,8 @@ fn say_root<R: Repository, S: ReplySink>(
     trees: &TwoTrees<R>,
     out: &mut S,
 ) -> Result<(), AllocError>
-    ensures { Writes result (S.writes out.old out.new)
-        (command_bytes (root_commands (R.content trees.now.view.now)
-        (whole trees.now.report.now trees.now.root))) }
+    ensures { Writes result (S.writes out.old out.new) (command_bytes
+        (on_trees trees.now root_commands)) }
 {
     if !trees.report.ask.target.as_path().is_root() {
         return Ok(());
@@ -69,12 +69,10 @@ fn say_below<R: Repository, S: ReplySink>(
     visitor: &mut Visitor,
     out: &mut S,
 ) -> Result<(), AllocError>
-    ensures { Visiting (drive_trees (R.content trees.now.view.now)
-        (whole trees.now.report.now trees.now.root)) visitor.old
+    ensures { Visiting (on_trees trees.now drive_trees) visitor.old
         (λ visits. Writes result (S.writes out.old out.new)
-        (command_bytes (plan_commands (R.content trees.now.view.now)
-        (whole trees.now.report.now trees.now.root) 0 visits ++ CloseDirectory
-        (token_of DirectoryKind 0) ∷ []))) }
+        (command_bytes (on_trees trees.now plan_commands 0 visits
+        ++ CloseDirectory (token_of DirectoryKind 0) ∷ []))) }
 {
     say_visits(alloc, trees, visitor, out)?;
     say_close(alloc, 0, out)
@@ -87,11 +85,9 @@ fn say_body<R: Repository, S: ReplySink>(
     visitor: &mut Visitor,
     out: &mut S,
 ) -> Result<(), AllocError>
-    ensures { Visiting (drive_trees (R.content trees.now.view.now)
-        (whole trees.now.report.now trees.now.root)) visitor.old
+    ensures { Visiting (on_trees trees.now drive_trees) visitor.old
         (λ visits. Writes result (S.writes out.old out.new)
-        (command_bytes (body_commands (R.content trees.now.view.now)
-        (whole trees.now.report.now trees.now.root) visits))) }
+        (command_bytes (on_trees trees.now body_commands visits))) }
 {
     say_root(alloc, trees, out)?;
     say_below(alloc, trees, visitor, out)
@@ -104,11 +100,9 @@ fn say_rest<R: Repository, S: ReplySink>(
     visitor: &mut Visitor,
     out: &mut S,
 ) -> Result<(), AllocError>
-    ensures { Visiting (drive_trees (R.content trees.now.view.now)
-        (whole trees.now.report.now trees.now.root)) visitor.old
+    ensures { Visiting (on_trees trees.now drive_trees) visitor.old
         (λ visits. Writes result (S.writes out.old out.new)
-        (command_bytes (body_commands (R.content trees.now.view.now)
-        (whole trees.now.report.now trees.now.root) visits ++ CloseEdit ∷ []))) }
+        (command_bytes (on_trees trees.now body_commands visits ++ CloseEdit ∷ []))) }
 {
     say_body(alloc, trees, visitor, out)?;
     say_made(Ok(EditorCommand::CloseEdit), out)
@@ -121,11 +115,9 @@ fn say_commands<R: Repository, S: ReplySink>(
     visitor: &mut Visitor,
     out: &mut S,
 ) -> Result<(), AllocError>
-    ensures { Visiting (drive_trees (R.content trees.now.view.now)
-        (whole trees.now.report.now trees.now.root)) visitor.old
+    ensures { Visiting (on_trees trees.now drive_trees) visitor.old
         (λ visits. Writes result (S.writes out.old out.new)
-        (command_bytes (drive_of (R.content trees.now.view.now)
-        (whole trees.now.report.now trees.now.root) visits))) }
+        (command_bytes (on_trees trees.now drive_of visits))) }
 {
     say_beginning(alloc, trees.report.ask.revision, trees.root, out)?;
     say_rest(alloc, trees, visitor, out)
@@ -138,11 +130,9 @@ fn say_planned<R: Repository, S: ReplySink>(
     visitor: &mut Visitor,
     out: &mut S,
 ) -> Result<(), AllocError>
-    ensures { Visiting (drive_trees (R.content trees.now.view.now)
-        (whole trees.now.report.now trees.now.root)) visitor.old
+    ensures { Visiting (on_trees trees.now drive_trees) visitor.old
         (λ visits. Says result (S.writes out.old out.new)
-        (drive_replies (drive_of (R.content trees.now.view.now)
-        (whole trees.now.report.now trees.now.root) visits))) }
+        (drive_replies (on_trees trees.now drive_of visits))) }
 {
     say_new(Reply::NoLogin, out)?;
     say_commands(alloc, trees, visitor, out)

@@ -3,21 +3,11 @@
 ghost use Rattle.std.specs.Prelude.{◌≡◌, ◌∷◌, [], IfOk};
 ghost use Rattle.wire_edits.specs.declared.editing.EditorCommand.{EditorCommand};
 ghost use Rattle.drive_sending.specs.Driving.{command_bytes};
-ghost use Rattle.wire_replies.specs.Sinks.{Says, Writes};
+ghost use Rattle.wire_replies.specs.Sinks.{Writes};
 
 use std::alloc::AllocError;
-use std::mem::drop;
 use wire_edits::EditorCommand;
-use wire_replies::{Reply, ReplySink};
-
-/// Writes a reply.
-pub(crate) fn say_new<S: ReplySink>(reply: Reply, out: &mut S) -> Result<(), AllocError>
-    ensures { Says result (S.writes out.old out.new) (reply ∷ []) }
-{
-    let said = out.say(&reply);
-    drop(reply);
-    said
-}
+use wire_replies::{Reply, ReplySink, say_new};
 
 /// Writes a command.
 pub(crate) fn say_command<S: ReplySink>(

@@ -14,6 +14,7 @@ use crate::texts::say_file_end;
 use byte_string::ByteString;
 use drive_news::{News, PropertyChanges};
 use drive_reports::Purpose;
+use sequence::Sequence;
 use std::alloc::{AllocError, Global};
 use wire_edits::{EditorCommand, PropertyChange};
 use wire_replies::ReplySink;
@@ -145,7 +146,7 @@ pub(crate) fn or_no_news(alloc: Global, found: Option<News>) -> News
     match found {
         Some(news) => news,
         None => News {
-            changes: PropertyChanges::new(alloc),
+            changes: Sequence::new(alloc),
             text: None,
         },
     }

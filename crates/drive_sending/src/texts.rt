@@ -4,7 +4,7 @@ ghost use Rattle.std.specs.Int.{div_ceil};
 ghost use Rattle.svndiff0.specs.Document.{header};
 ghost use Rattle.svndiff0.specs.Full.{full_window};
 ghost use Rattle.wire_edits.specs.declared.editing.EditorCommand.TheVariants.{ApplyTextDelta, TextDeltaChunk, TextDeltaEnd, CloseFile};
-ghost use Rattle.drive_sending.specs.Commands.{windows, chunks, text_commands, checksum_sent};
+ghost use Rattle.drive_sending.specs.Commands.{windows, text_commands, checksum_sent};
 ghost use Rattle.drive_sending.specs.Driving.{command_bytes};
 ghost use Rattle.wire_replies.specs.Sinks.{Writes};
 

@@ -4,7 +4,8 @@ ghost use Rattle.wire_edits.specs.declared.editing.EditorCommand.TheVariants.{Cl
 ghost use Rattle.drive_rules.specs.Steps.EntryKind.{DirectoryKind};
 ghost use Rattle.reporter.specs.Visits.{kind_if};
 ghost use Rattle.reporter.specs.declared.visit.Visit.TheVariants.{Add, Open};
-ghost use Rattle.drive_sides.specs.Plans.{drive_trees, whole};
+ghost use Rattle.drive_sides.specs.OnTrees.{on_trees};
+ghost use Rattle.drive_sides.specs.Plans.{drive_trees};
 ghost use Rattle.drive_sending.specs.Commands.{add_command, added_entry, around_after, deeper_by, deleted_entry, news_told, open_command, opened_entry, plan_commands, visit_commands};
 ghost use Rattle.drive_sending.specs.Driving.{Visiting, command_bytes};
 ghost use Rattle.drive_sending.specs.Tokens.{token_of};
@@ -31,8 +32,7 @@ fn open_command<R: Repository>(
 ) -> Result<EditorCommand, AllocError>
     requires { entrance.around + 1 < 2 ^ 64 }
     ensures { IfOk result (λ command. command ≡ open_command (kind_if entrance.is_directory)
-        (opened_entry (R.content trees.now.view.now)
-        (whole trees.now.report.now trees.now.root) entrance.around path.now
+        (on_trees trees.now opened_entry entrance.around path.now
         (kind_if entrance.is_directory))) }
 {
     let entry = OpenedEntry {
@@ -93,8 +93,7 @@ fn news_told<R: Repository>(
     path: &Path,
     is_anew: bool,
 ) -> Result<News, AllocError>
-    ensures { IfOk result (λ news. news ≡ news_told (R.content trees.now.view.now)
-        (whole trees.now.report.now trees.now.root) path.now is_anew) }
+    ensures { IfOk result (λ news. news ≡ on_trees trees.now news_told path.now is_anew) }
 {
     let found = trees.news(alloc, path, is_anew)?;
     Ok(or_no_news(alloc, found))
@@ -105,8 +104,7 @@ pub(crate) fn root_news<R: Repository>(
     alloc: Global,
     trees: &TwoTrees<R>,
 ) -> Result<News, AllocError>
-    ensures { IfOk result (λ news. news ≡ news_told (R.content trees.now.view.now)
-        (whole trees.now.report.now trees.now.root) [] false) }
+    ensures { IfOk result (λ news. news ≡ on_trees trees.now news_told [] false) }
 {
     news_told(alloc, trees, &Path::root(alloc), false)
 }
@@ -120,10 +118,8 @@ fn say_open<R: Repository, S: ReplySink>(
     out: &mut S,
 ) -> Result<(), AllocError>
     requires { entrance.around + 1 < 2 ^ 64 }
-    ensures { Writes result (S.writes out.old out.new)
-        (command_bytes (visit_commands (R.content trees.now.view.now)
-        (whole trees.now.report.now trees.now.root) entrance.around
-        (Open path.now entrance.is_directory))) }
+    ensures { Writes result (S.writes out.old out.new) (command_bytes
+        (on_trees trees.now visit_commands entrance.around (Open path.now entrance.is_directory))) }
 {
     let news = news_told(alloc, trees, path, false)?;
     say_made(open_command(alloc, trees, path, entrance), out)?;
@@ -139,10 +135,8 @@ fn say_add<R: Repository, S: ReplySink>(
     out: &mut S,
 ) -> Result<(), AllocError>
     requires { entrance.around + 1 < 2 ^ 64 }
-    ensures { Writes result (S.writes out.old out.new)
-        (command_bytes (visit_commands (R.content trees.now.view.now)
-        (whole trees.now.report.now trees.now.root) entrance.around
-        (Add path.now entrance.is_directory))) }
+    ensures { Writes result (S.writes out.old out.new) (command_bytes
+        (on_trees trees.now visit_commands entrance.around (Add path.now entrance.is_directory))) }
 {
     let news = news_told(alloc, trees, path, true)?;
     say_made(add_command(alloc, path, entrance), out)?;
@@ -183,9 +177,8 @@ fn say_visit<R: Repository, S: ReplySink>(
     out: &mut S,
 ) -> Result<(), AllocError>
     requires { around + 1 < 2 ^ 64 }
-    ensures { Writes result (S.writes out.old out.new)
-        (command_bytes (visit_commands (R.content trees.now.view.now)
-        (whole trees.now.report.now trees.now.root) around visit.now)) }
+    ensures { Writes result (S.writes out.old out.new) (command_bytes
+        (on_trees trees.now visit_commands around visit.now)) }
 {
     match visit {
         Visit::Open { path, is_directory } => {
@@ -241,9 +234,8 @@ fn say_next<R: Repository, S: ReplySink>(
     requires { around + 1 < 2 ^ 64 }
     ensures after { IfOk result (λ after. after ≡ around_after around visit.now) }
     ensures grows { IfOk result (λ after. after ≤ around + 1) }
-    ensures said { Writes result (S.writes out.old out.new)
-        (command_bytes (visit_commands (R.content trees.now.view.now)
-        (whole trees.now.report.now trees.now.root) around visit.now)) }
+    ensures said { Writes result (S.writes out.old out.new) (command_bytes
+        (on_trees trees.now visit_commands around visit.now)) }
 {
     say_visit(alloc, trees, visit, around, out)?;
     Ok(around_after(visit, around))
@@ -256,11 +248,9 @@ pub(crate) fn say_visits<R: Repository, S: ReplySink>(
     visitor: &mut Visitor,
     out: &mut S,
 ) -> Result<(), AllocError>
-    ensures { Visiting (drive_trees (R.content trees.now.view.now)
-        (whole trees.now.report.now trees.now.root)) visitor.old
+    ensures { Visiting (on_trees trees.now drive_trees) visitor.old
         (λ visits. Writes result (S.writes out.old out.new)
-        (command_bytes (plan_commands (R.content trees.now.view.now)
-        (whole trees.now.report.now trees.now.root) 0 visits))) }
+        (command_bytes (on_trees trees.now plan_commands 0 visits))) }
 {
     let mut around = 0;
     for _ in 0..u64::MAX {

@@ -4,7 +4,7 @@ use Rattle.std.proofs.lemmas.Bool.{false≢true}
 use Rattle.svnpath.specs.Paths.{PathValue, Component, is_at_or_under}
 use Rattle.repo_api.specs.Trees.{Tree}
 use Rattle.drive_rules.specs.declared.depth.Depth.{Depth}
-use Rattle.drive_rules.specs.Scopes.{DepthLimit, stays_in_scope, lets_in, depth_said, said_or, scope_of, top_limit}
+use Rattle.drive_rules.specs.Scopes.{DepthLimit, stays_in_scope, includes, depth_said, own_or_inherited, scope_of, top_limit}
 use Rattle.drive_rules.specs.Scopes.DepthLimit.{Given}
 use Rattle.drive_rules.specs.declared.depth.Depth.TheVariants.{Empty, Files, Immediates, Infinity}
 use Rattle.repo_api.specs.States.{RepoState}
@@ -43,10 +43,10 @@ next_name : (names : List Component) (i : ℕ) (x : Component) → i < length na
 next_name names i x h is = (rw (add-one, drop-cons names i x) refl) ∙ ap (λ y. y ∷ drop (i + 1) names) (sym is)
 
 next_step : (limit : DepthLimit) (old new : Tree) (here child : PathValue) (depth : Depth) (names : List Component) (i : ℕ) (x : Component) → i < length names → x ≡ get_or names i x → child ≡ here ++ x ∷ []
-    → stays_in_scope limit old new here depth (drop i names) ≡ (lets_in limit old new depth child && stays_in_scope limit old new child (said_or (depth_said limit child) depth) (drop (i + 1) names))
+    → stays_in_scope limit old new here depth (drop i names) ≡ (includes limit old new depth child && stays_in_scope limit old new child (own_or_inherited (depth_said limit child) depth) (drop (i + 1) names))
 next_step limit old new here child depth names i x lt is child_is =
     ap (stays_in_scope limit old new here depth) (next_name names i x lt is)
-    ∙ ap (λ p. lets_in limit old new depth p && stays_in_scope limit old new p (said_or (depth_said limit p) depth) (drop (i + 1) names)) (sym child_is)
+    ∙ ap (λ p. includes limit old new depth p && stays_in_scope limit old new p (own_or_inherited (depth_said limit p) depth) (drop (i + 1) names)) (sym child_is)
 
 pub was_false : (b : Bool) → not b ≡ true → b ≡ false
 was_false true h = absurd (false≢true h)
@@ -57,19 +57,19 @@ was_true true h = refl
 was_true false h = absurd (false≢true (sym h))
 
 pub stops : (limit : DepthLimit) (old new : Tree) (top q here child : PathValue) (depth : Depth) (names : List Component) (i : ℕ) (x : Component) (b : Bool) → is_at_or_under q top ≡ true
-    → IsSoFar limit old new top q here depth (drop i names) → i < length names → x ≡ get_or names i x → child ≡ here ++ x ∷ [] → b ≡ lets_in limit old new depth child → b ≡ false
+    → IsSoFar limit old new top q here depth (drop i names) → i < length names → x ≡ get_or names i x → child ≡ here ++ x ∷ [] → b ≡ includes limit old new depth child → b ≡ false
     → false ≡ scope_of limit old new top q
 stops limit old new top q here child depth names i x b up far lt is child_is lets none =
     sym (ap (λ u. u && stays_in_scope limit old new top (top_limit limit top) (drop (length top) q)) up
     ∙ far ∙ next_step limit old new here child depth names i x lt is child_is
-    ∙ ap (λ u. u && stays_in_scope limit old new child (said_or (depth_said limit child) depth) (drop (i + 1) names)) (sym lets ∙ none))
+    ∙ ap (λ u. u && stays_in_scope limit old new child (own_or_inherited (depth_said limit child) depth) (drop (i + 1) names)) (sym lets ∙ none))
 
 pub goes_on : (limit : DepthLimit) (old new : Tree) (top q here child : PathValue) (depth next : Depth) (names : List Component) (i : ℕ) (x : Component) (b : Bool)
-    → IsSoFar limit old new top q here depth (drop i names) → i < length names → x ≡ get_or names i x → child ≡ here ++ x ∷ [] → b ≡ lets_in limit old new depth child → b ≡ true
-    → next ≡ said_or (depth_said limit child) depth → IsSoFar limit old new top q child next (drop (i + 1) names)
+    → IsSoFar limit old new top q here depth (drop i names) → i < length names → x ≡ get_or names i x → child ≡ here ++ x ∷ [] → b ≡ includes limit old new depth child → b ≡ true
+    → next ≡ own_or_inherited (depth_said limit child) depth → IsSoFar limit old new top q child next (drop (i + 1) names)
 goes_on limit old new top q here child depth next names i x b far lt is child_is lets some next_is =
     far ∙ next_step limit old new here child depth names i x lt is child_is
-    ∙ ap (λ u. u && stays_in_scope limit old new child (said_or (depth_said limit child) depth) (drop (i + 1) names)) (sym lets ∙ some)
+    ∙ ap (λ u. u && stays_in_scope limit old new child (own_or_inherited (depth_said limit child) depth) (drop (i + 1) names)) (sym lets ∙ some)
     ∙ ap (λ d. stays_in_scope limit old new child d (drop (i + 1) names)) (sym next_is)
 
 no_more : (names : List Component) (i : ℕ) → length names ≤ i → drop i names ≡ []
@@ -146,29 +146,29 @@ deep_fold trees top had (g ∷ grafts) all deep =
     deep_fold trees top (with_graft trees top had g) grafts (deep_with trees top had g all each.0) each.1
 
 -- the depth of a directory that is had, or else this one
-deep_said : (had : ReportedTree) → HasAllDeep had → (q : PathValue) → said_or (reported_depth had q) Infinity ≡ Infinity
+deep_said : (had : ReportedTree) → HasAllDeep had → (q : PathValue) → own_or_inherited (reported_depth had q) Infinity ≡ Infinity
 deep_said had all q = by (had q) (all q)
   where
-    among : (b : Bool) (h : ReportedEntry) → h.depth ≡ Infinity → said_or (cond b (Some h.depth) None) Infinity ≡ Infinity
+    among : (b : Bool) (h : ReportedEntry) → h.depth ≡ Infinity → own_or_inherited (cond b (Some h.depth) None) Infinity ≡ Infinity
     among true h deep = deep
     among false h deep = refl
 
     by : (o : Option ReportedEntry) → depth_had o ≡ Infinity
-        → said_or (cond (has_directory o) (option_map (λ (h : ReportedEntry). h.depth) o) None) Infinity ≡ Infinity
+        → own_or_inherited (cond (has_directory o) (option_map (λ (h : ReportedEntry). h.depth) o) None) Infinity ≡ Infinity
     by None deep = refl
     by (Some h) deep = among (has_directory (Some h)) h deep
 
 -- the top too
-deep_top : (said : PathValue → Option Depth) (depth : Depth) (top : PathValue) → said_or (said top) Infinity ≡ Infinity
+deep_top : (said : PathValue → Option Depth) (depth : Depth) (top : PathValue) → own_or_inherited (said top) Infinity ≡ Infinity
     → depth ≡ Infinity → top_limit (Reported said depth) top ≡ Infinity
 deep_top said depth top deep is = by (said top) refl deep
   where
-    by : (o : Option Depth) → said top ≡ o → said_or o Infinity ≡ Infinity → top_limit (Reported said depth) top ≡ Infinity
+    by : (o : Option Depth) → said top ≡ o → own_or_inherited o Infinity ≡ Infinity → top_limit (Reported said depth) top ≡ Infinity
     by None e d = rw e is
     by (Some x) e d = rw e d
 
 reached_as : (said : PathValue → Option Depth) (depth : Depth)
-    → ((q : PathValue) → said_or (said q) Infinity ≡ Infinity)
+    → ((q : PathValue) → own_or_inherited (said q) Infinity ≡ Infinity)
     → (old new : Tree) (here : PathValue) (names : List Component)
     → stays_in_scope (Reported said depth) old new here Infinity names ≡ true
 reached_as said depth deep old new here [] = refl

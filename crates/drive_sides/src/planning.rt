@@ -4,7 +4,8 @@ ghost use Rattle.repo_api.specs.Soundness.{AreTrees};
 ghost use Rattle.reporter.specs.Visiting.{MayVisit};
 ghost use Rattle.reporter.specs.declared.visit.Visit.{Visit};
 ghost use Rattle.drive_reports.specs.Refusing.{finish_root};
-ghost use Rattle.drive_sides.specs.Plans.{IsPlan, drive_trees, whole};
+ghost use Rattle.drive_sides.specs.OnTrees.{on_trees};
+ghost use Rattle.drive_sides.specs.Plans.{IsPlan, drive_trees};
 
 use crate::two_trees::TwoTrees;
 use repo_api::Repository;
@@ -17,10 +18,8 @@ pub fn visitor<R: Repository>(alloc: Global, trees: &TwoTrees<R>) -> Result<Visi
     requires finished { finish_root (R.content trees.now.view.now) trees.now.report.now
         ≡ Ok trees.now.root }
     ensures { IfOk result (λ visitor. (visits : List Visit)
-        → MayVisit (drive_trees (R.content trees.now.view.now)
-        (whole trees.now.report.now trees.now.root)) visitor visits
-        → IsPlan (R.content trees.now.view.now) (whole trees.now.report.now trees.now.root)
-        visits) }
+        → MayVisit (on_trees trees.now drive_trees) visitor visits
+        → on_trees trees.now IsPlan visits) }
 {
     let top = trees.report.ask.target.as_path();
     if top.is_root() {

@@ -3,11 +3,12 @@ ghost use Rattle.std.specs.Prelude.{◌≡◌, true, Option, IfOk};
 ghost use Rattle.svnpath.specs.Paths.{is_at_or_under};
 ghost use Rattle.repo_api.specs.Kinds.{kind_of};
 ghost use Rattle.repo_api.specs.declared.entry.Entry.{Entry};
-ghost use Rattle.drive_rules.specs.Scopes.{brings_in, keeps_old, lets_in, depth_said, said_or, top_limit};
+ghost use Rattle.drive_rules.specs.Scopes.{includes_child, keeps_reported, includes, depth_said, own_or_inherited, top_limit};
 ghost use Rattle.drive_rules.specs.declared.depth.Depth.TheVariants.{Infinity};
 ghost use Rattle.drive_reports.specs.Reported.{reported_entries};
 ghost use Rattle.drive_reports.specs.Targets.{client_tree, drive_scope, limit_of, reported_depth, target_tree};
 ghost use Rattle.drive_reports.specs.declared.ask.DepthAsked.TheVariants.{AsReported, Given};
+ghost use Rattle.drive_sides.specs.OnTrees.{on_trees};
 ghost use Rattle.drive_sides.specs.Plans.{whole};
 ghost use Rattle.drive_sides.specs.Depths.{FollowsWholeReport};
 
@@ -19,9 +20,9 @@ use std::alloc::{AllocError, Global};
 use svnpath::Path;
 
 /// Says whether a directory of this depth brings in a child, by what it was and what it is to be.
-fn brings_in(depth: Depth, old: NodeKind, new: NodeKind) -> bool
+fn includes_child(depth: Depth, old: NodeKind, new: NodeKind) -> bool
     ensures { (e f : Option Entry) → old ≡ kind_of e → new ≡ kind_of f
-        → result ≡ brings_in depth e f }
+        → result ≡ includes_child depth e f }
 {
     match depth {
         Depth::Empty => false,
@@ -31,8 +32,8 @@ fn brings_in(depth: Depth, old: NodeKind, new: NodeKind) -> bool
 }
 
 /// Gives the depth that was said of a directory, or else what its parent's depth leaves it.
-fn said_or(said: Option<Depth>, above: Depth) -> Depth
-    ensures { result ≡ said_or said above }
+fn own_or_inherited(said: Option<Depth>, above: Depth) -> Depth
+    ensures { result ≡ own_or_inherited said above }
 {
     match said {
         Some(depth) => depth,
@@ -73,8 +74,8 @@ fn asks_as_reported(depth: DepthAsked) -> bool
 impl<'a, R: Repository> TwoTrees<'a, R> {
     /// Finds the depth that was reported of a directory.
     fn reported_depth(&self, alloc: Global, path: &Path) -> Result<Option<Depth>, AllocError>
-        ensures { IfOk result (λ depth. depth ≡ reported_depth (client_tree
-            (R.content self.now.view.now) (whole self.now.report.now self.now.root)) path.now) }
+        ensures { IfOk result (λ depth. depth ≡ reported_depth
+            (on_trees self.now client_tree) path.now) }
     {
         match self.client_place(alloc, path)? {
             None => Ok(None),
@@ -89,10 +90,9 @@ impl<'a, R: Repository> TwoTrees<'a, R> {
     }
 
     /// Finds the depth that was said of a directory.
-    fn said_by(&self, alloc: Global, path: &Path) -> Result<Option<Depth>, AllocError>
-        ensures { IfOk result (λ depth. depth ≡ depth_said (limit_of (client_tree
-            (R.content self.now.view.now) (whole self.now.report.now self.now.root)) self.now.root
-            self.now.report.now.ask.depth) path.now) }
+    fn own_depth(&self, alloc: Global, path: &Path) -> Result<Option<Depth>, AllocError>
+        ensures { IfOk result (λ depth. depth ≡ depth_said (limit_of
+            (on_trees self.now client_tree) self.now.root self.now.report.now.ask.depth) path.now) }
     {
         match self.report.ask.depth {
             DepthAsked::Given(_) => Ok(None),
@@ -102,9 +102,9 @@ impl<'a, R: Repository> TwoTrees<'a, R> {
 
     /// Finds the depth of the top.
     fn top_limit(&self, alloc: Global) -> Result<Depth, AllocError>
-        ensures { IfOk result (λ depth. depth ≡ top_limit (limit_of (client_tree
-            (R.content self.now.view.now) (whole self.now.report.now self.now.root)) self.now.root
-            self.now.report.now.ask.depth) self.now.report.now.ask.target) }
+        ensures { IfOk result (λ depth. depth ≡ top_limit (limit_of
+            (on_trees self.now client_tree) self.now.root self.now.report.now.ask.depth)
+            self.now.report.now.ask.target) }
     {
         match self.report.ask.depth {
             DepthAsked::Given(depth) => Ok(depth),
@@ -118,10 +118,9 @@ impl<'a, R: Repository> TwoTrees<'a, R> {
     }
 
     /// Says whether a drive as deep as was reported is of a path because the client has it.
-    fn keeps_old(&self, old: NodeKind) -> bool
-        ensures { (e : Option Entry) → old ≡ kind_of e → result ≡ keeps_old (limit_of (client_tree
-            (R.content self.now.view.now) (whole self.now.report.now self.now.root)) self.now.root
-            self.now.report.now.ask.depth) e }
+    fn keeps_reported(&self, old: NodeKind) -> bool
+        ensures { (e : Option Entry) → old ≡ kind_of e → result ≡ keeps_reported (limit_of
+            (on_trees self.now client_tree) self.now.root self.now.report.now.ask.depth) e }
     {
         match self.report.ask.depth {
             DepthAsked::Given(_) => false,
@@ -130,33 +129,31 @@ impl<'a, R: Repository> TwoTrees<'a, R> {
     }
 
     /// Says whether a directory of this depth lets its child of this path into the scope.
-    fn lets_in(&self, alloc: Global, depth: Depth, child: &Path) -> Result<bool, AllocError>
-        ensures { IfOk result (λ answer. answer ≡ lets_in (limit_of (client_tree
-            (R.content self.now.view.now) (whole self.now.report.now self.now.root)) self.now.root
-            self.now.report.now.ask.depth) (reported_entries (client_tree
-            (R.content self.now.view.now) (whole self.now.report.now self.now.root)))
+    fn includes(&self, alloc: Global, depth: Depth, child: &Path) -> Result<bool, AllocError>
+        ensures { IfOk result (λ answer. answer ≡ includes (limit_of
+            (on_trees self.now client_tree) self.now.root self.now.report.now.ask.depth)
+            (reported_entries (on_trees self.now client_tree))
             (target_tree (R.content self.now.view.now) self.now.report.now.ask) depth child.now) }
     {
         let old = self.client_kind(alloc, child)?;
         let new = self.target_kind(alloc, child)?;
-        Ok(brings_in(depth, old, new) || self.keeps_old(old))
+        Ok(includes_child(depth, old, new) || self.keeps_reported(old))
     }
 
     /// Says whether the names from the target down to a path stay in scope.
-    fn is_reached(&self, alloc: Global, path: &Path) -> Result<bool, AllocError>
+    fn stays_in_scope(&self, alloc: Global, path: &Path) -> Result<bool, AllocError>
         requires { is_at_or_under path.now self.now.report.now.ask.target ≡ true }
-        ensures { IfOk result (λ answer. answer ≡ drive_scope (R.content self.now.view.now)
-            (whole self.now.report.now self.now.root) path.now) }
+        ensures { IfOk result (λ answer. answer ≡ on_trees self.now drive_scope path.now) }
     {
         let target = self.report.ask.target.as_path();
         let mut depth = self.top_limit(alloc)?;
         let mut here = target.clone()?;
         for name in &path.components()[target.len()..] {
             here = here.child(alloc, name.clone()?)?;
-            if !self.lets_in(alloc, depth, &here)? {
+            if !self.includes(alloc, depth, &here)? {
                 return Ok(false);
             }
-            depth = said_or(self.said_by(alloc, &here)?, depth);
+            depth = own_or_inherited(self.own_depth(alloc, &here)?, depth);
         }
         Ok(true)
     }
@@ -172,8 +169,7 @@ impl<'a, R: Repository> TwoTrees<'a, R> {
 
     /// Says whether a drive is of a path.
     pub(crate) fn is_in_scope(&self, alloc: Global, path: &Path) -> Result<bool, AllocError>
-        ensures { IfOk result (λ answer. answer ≡ drive_scope (R.content self.now.view.now)
-            (whole self.now.report.now self.now.root) path.now) }
+        ensures { IfOk result (λ answer. answer ≡ on_trees self.now drive_scope path.now) }
     {
         let ask = &self.report.ask;
         if !path.is_at_or_under(ask.target.as_path()) {
@@ -185,6 +181,6 @@ impl<'a, R: Repository> TwoTrees<'a, R> {
         if self.follows_whole_report() {
             return Ok(true);
         }
-        self.is_reached(alloc, path)
+        self.stays_in_scope(alloc, path)
     }
 }

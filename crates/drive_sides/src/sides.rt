@@ -18,7 +18,7 @@ impl<'a, R: Repository> TwoTrees<'a, R> {
     ghost use Rattle.drive_reports.specs.Targets.{client_tree, drive_scope, new_tree, old_tree, target_tree};
     ghost use Rattle.drive_sides.specs.Names.{is_name_among};
     ghost use Rattle.drive_news.specs.Places.{Compares};
-    ghost use Rattle.drive_sides.specs.Plans.{whole};
+    ghost use Rattle.drive_sides.specs.OnTrees.{on_trees};
 
     /// Finds the names of what is to exist straight beneath a path.
     fn target_names(&self, alloc: Global, path: &Path) -> Result<BTreeSet<ByteString>, AllocError>
@@ -49,10 +49,8 @@ impl<'a, R: Repository> TwoTrees<'a, R> {
             → is_name_among names.new.keys c ≡ true) }
         ensures adds { OnOk result ((c : Component)
             → is_grafted_over self.now.report.now.grafts path.now (path.now ++ c ∷ []) ≡ false
-            → is_some (client_tree (R.content self.now.view.now)
-            (whole self.now.report.now self.now.root) path.now) ≡ true
-            → is_some (client_tree (R.content self.now.view.now)
-            (whole self.now.report.now self.now.root) (path.now ++ c ∷ [])) ≡ true
+            → is_some (on_trees self.now client_tree path.now) ≡ true
+            → is_some (on_trees self.now client_tree (path.now ++ c ∷ [])) ≡ true
             → is_name_among names.new.keys c ≡ true) }
     {
         match self.client_place(alloc, path)? {
@@ -63,13 +61,9 @@ impl<'a, R: Repository> TwoTrees<'a, R> {
 
     /// Says whether an entry of the drive differs on both sides.
     fn differs(&self, alloc: Global, path: &Path) -> Result<bool, AllocError>
-        requires { drive_scope (R.content self.now.view.now)
-            (whole self.now.report.now self.now.root) path.now ≡ true }
+        requires { on_trees self.now drive_scope path.now ≡ true }
         ensures { IfOk result (λ answer. Compares answer
-            (old_tree (R.content self.now.view.now) (whole self.now.report.now self.now.root)
-            path.now)
-            (new_tree (R.content self.now.view.now) (whole self.now.report.now self.now.root)
-            path.now)) }
+            (on_trees self.now old_tree path.now) (on_trees self.now new_tree path.now)) }
     {
         let goal = self.goal_path(alloc, path)?;
         let revision = self.report.ask.revision;
@@ -92,9 +86,10 @@ impl<'a, R: Repository> Sides for TwoTrees<'a, R> {
     ghost use Rattle.drive_sides.specs.Bounds.{path_bound};
     ghost use Rattle.drive_sides.specs.BoundLaws.{new_is_shorter};
     ghost use Rattle.drive_sides.specs.LeadLaws.{news_leads};
+    ghost use Rattle.drive_sides.specs.OnTrees.{on_trees};
     ghost use Rattle.drive_sides.specs.Plans.{drive_trees, whole};
 
-    ghost trees = { λ s. drive_trees (R.content s.view.now) (whole s.report.now s.root) };
+    ghost trees = { λ s. on_trees s drive_trees };
 
     ghost bound = { λ s. path_bound (R.content s.view.now) s.report.now.ask };
 

@@ -3,7 +3,7 @@ ghost use Rattle.std.specs.Prelude.{◌≡◌, true, IfOk, option_and_then, opti
 ghost use Rattle.drive_reports.specs.Targets.{client_tree, drive_scope, is_stale, new_tree, stale_in};
 ghost use Rattle.drive_news.specs.News.{news_at, news_of};
 ghost use Rattle.drive_news.specs.Places.{entry_had};
-ghost use Rattle.drive_sides.specs.Plans.{whole};
+ghost use Rattle.drive_sides.specs.OnTrees.{on_trees};
 
 use crate::two_trees::TwoTrees;
 use crate::views::had_at;
@@ -15,8 +15,7 @@ use svnpath::Path;
 impl<'a, R: Repository> TwoTrees<'a, R> {
     /// Says whether the client's token of a path is stale.
     pub(crate) fn is_stale(&self, alloc: Global, path: &Path) -> Result<bool, AllocError>
-        ensures { IfOk result (λ answer. answer ≡ is_stale (R.content self.now.view.now)
-            (whole self.now.report.now self.now.root) path.now) }
+        ensures { IfOk result (λ answer. answer ≡ on_trees self.now is_stale path.now) }
     {
         let Some(place) = self.client_place(alloc, path)? else {
             return Ok(false);
@@ -36,8 +35,7 @@ impl<'a, R: Repository> TwoTrees<'a, R> {
 
     /// Says whether the client's token of a path of the drive is stale.
     pub(crate) fn is_stale_in(&self, alloc: Global, path: &Path) -> Result<bool, AllocError>
-        ensures { IfOk result (λ answer. answer ≡ stale_in (R.content self.now.view.now)
-            (whole self.now.report.now self.now.root) path.now) }
+        ensures { IfOk result (λ answer. answer ≡ on_trees self.now stale_in path.now) }
     {
         if !self.is_in_scope(alloc, path)? {
             return Ok(false);
@@ -47,8 +45,8 @@ impl<'a, R: Repository> TwoTrees<'a, R> {
 
     /// Finds the revision that the client reports of what it has at a path.
     pub fn reported_revision(&self, alloc: Global, path: &Path) -> Result<Option<u64>, AllocError>
-        ensures { IfOk result (λ found. found ≡ option_map (λ h. h.revision) (client_tree
-            (R.content self.now.view.now) (whole self.now.report.now self.now.root) path.now)) }
+        ensures { IfOk result (λ found. found ≡ option_map (λ h. h.revision)
+            (on_trees self.now client_tree path.now)) }
     {
         match self.client_place(alloc, path)? {
             None => Ok(None),
@@ -57,19 +55,17 @@ impl<'a, R: Repository> TwoTrees<'a, R> {
     }
 
     /// Gives what an entry of the drive is told of itself, beside what is had of it, if any is.
-    fn news_beside(
+    fn news_over(
         &self,
         alloc: Global,
         path: &Path,
         old: Option<Had<'_>>,
     ) -> Result<Option<News>, AllocError>
-        requires { drive_scope (R.content self.now.view.now)
-            (whole self.now.report.now self.now.root) path.now ≡ true }
+        requires { on_trees self.now drive_scope path.now ≡ true }
         ensures { IfOk result (λ found. found ≡ option_map (news_of (R.content self.now.view.now)
-            self.now.report.now.ask.purpose (stale_in (R.content self.now.view.now)
-            (whole self.now.report.now self.now.root) path.now)
-            (option_and_then (entry_had (R.content self.now.view.now)) old.entry)) (new_tree
-            (R.content self.now.view.now) (whole self.now.report.now self.now.root) path.now)) }
+            self.now.report.now.ask.purpose (on_trees self.now stale_in path.now)
+            (option_and_then (entry_had (R.content self.now.view.now)) old.entry))
+            (on_trees self.now new_tree path.now)) }
     {
         let ask = &self.report.ask;
         let goal = self.goal_path(alloc, path)?;
@@ -93,21 +89,20 @@ impl<'a, R: Repository> TwoTrees<'a, R> {
         path: &Path,
         is_anew: bool,
     ) -> Result<Option<News>, AllocError>
-        ensures { IfOk result (λ found. found ≡ option_map (news_at (R.content self.now.view.now)
-            (whole self.now.report.now self.now.root) path.now is_anew) (new_tree
-            (R.content self.now.view.now) (whole self.now.report.now self.now.root) path.now)) }
+        ensures { IfOk result (λ found. found ≡ option_map
+            (on_trees self.now news_at path.now is_anew) (on_trees self.now new_tree path.now)) }
     {
         if !self.is_in_scope(alloc, path)? {
             return Ok(None);
         }
         if is_anew {
-            return self.news_beside(alloc, path, None);
+            return self.news_over(alloc, path, None);
         }
         match self.client_place(alloc, path)? {
-            None => self.news_beside(alloc, path, None),
+            None => self.news_over(alloc, path, None),
             Some(place) => {
                 let old = had_at(&place);
-                self.news_beside(alloc, path, Some(old))
+                self.news_over(alloc, path, Some(old))
             }
         }
     }

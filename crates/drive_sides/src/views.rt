@@ -6,7 +6,7 @@ ghost use Rattle.repo_api.specs.States.{trees_in};
 ghost use Rattle.drive_reports.specs.Places.{in_place, is_grafted_over};
 ghost use Rattle.drive_reports.specs.Reported.{reported_entries};
 ghost use Rattle.drive_reports.specs.Targets.{client_tree, goal_path, target_tree};
-ghost use Rattle.drive_sides.specs.Plans.{whole};
+ghost use Rattle.drive_sides.specs.OnTrees.{on_trees};
 
 use crate::two_trees::TwoTrees;
 use drive_news::{Had, Place};
@@ -37,18 +37,14 @@ impl<'a, R: Repository> TwoTrees<'a, R> {
         alloc: Global,
         path: &Path,
     ) -> Result<Option<ReportedPlace<'a>>, AllocError>
-        ensures here { IfOk result (λ found.
-            client_tree (R.content self.now.view.now) (whole self.now.report.now self.now.root)
-            path.now ≡ option_and_then (λ place.
+        ensures here { IfOk result (λ found. on_trees self.now client_tree path.now
+            ≡ option_and_then (λ place.
             in_place (trees_in (R.content self.now.view.now).revisions) place []) found) }
         ensures stands { IfOk result (λ found. is_some found ≡ is_some
-            (client_tree (R.content self.now.view.now) (whole self.now.report.now self.now.root)
-            path.now)) }
+            (on_trees self.now client_tree path.now)) }
         ensures beneath { IfOk result (λ found. (rest : List Component)
             → is_grafted_over self.now.report.now.grafts path.now (path.now ++ rest) ≡ false
-            → IfSome found (λ place.
-            client_tree (R.content self.now.view.now) (whole self.now.report.now self.now.root)
-            (path.now ++ rest)
+            → IfSome found (λ place. on_trees self.now client_tree (path.now ++ rest)
             ≡ in_place (trees_in (R.content self.now.view.now).revisions) place rest)) }
     {
         let report = self.report;
@@ -63,8 +59,8 @@ impl<'a, R: Repository> TwoTrees<'a, R> {
 
     /// Finds the kind of what the client has at a path.
     pub(crate) fn client_kind(&self, alloc: Global, path: &Path) -> Result<NodeKind, AllocError>
-        ensures { IfOk result (λ kind. kind ≡ kind_of (reported_entries (client_tree
-            (R.content self.now.view.now) (whole self.now.report.now self.now.root)) path.now)) }
+        ensures { IfOk result (λ kind. kind ≡ kind_of (reported_entries
+            (on_trees self.now client_tree) path.now)) }
     {
         match self.client_place(alloc, path)? {
             None => Ok(NodeKind::Absent),

@@ -8,7 +8,7 @@ use Rattle.std.specs.Prelude.{if◌then◌else◌, nat_le, ◌==◌, ◌&&◌, �
 use borrow.Author.Tests.{eqb-true, eqb-false}
 use Rattle.svnpath.specs.Paths.{PathValue, Component, is_at_or_under}
 use Rattle.repo_api.specs.Histories.{Changed, History}
-use Rattle.history.specs.Traces.{makes, decides, decider, earlier, place_by, is_from, is_copy_by, next_place, trace, trace_below}
+use Rattle.history.specs.Traces.{makes, decides, deciding_change, earlier, place_by, is_from, is_copy_by, next_place, trace, trace_below}
 use Rattle.history.specs.Logs.{listed, is_touched, touches, place_at}
 use Rattle.history.specs.Locations.{path_in, location_back}
 use Rattle.repo_api.specs.Histories.{IsQuiet, IsQuietSince}
@@ -34,7 +34,7 @@ never false not_so = refl
 of_each : (changes : List Changed) (P : Changed → Type 0) → ((e : Changed) → Contains changes e → P e) → All P changes
 of_each changes P each = All-weaker (Contains changes) P each changes (All-contains_itself changes)
 
-none_decides : (changes : List Changed) (p : PathValue) → IsQuiet changes p → decider changes p ≡ None
+none_decides : (changes : List Changed) (p : PathValue) → IsQuiet changes p → deciding_change changes p ≡ None
 none_decides changes p quiet =
     none_found (decides p) (reverse changes)
     (reversed (λ e. decides p e ≡ false) changes

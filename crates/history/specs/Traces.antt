@@ -22,8 +22,8 @@ decides p e = makes e.1.action && is_at_or_under p e.0
 
 -- the longest path at or above p with an add or replace: those above p stand in the order of their
 -- lengths
-abbrev pub decider : List Changed → PathValue → Option Changed
-decider changes p = find (decides p) (reverse changes)
+abbrev pub deciding_change : List Changed → PathValue → Option Changed
+deciding_change changes p = find (decides p) (reverse changes)
 
 abbrev pub earlier : PathValue → ℕ → Option Place
 earlier p n = if n == 0 then None else Some (record { path = p; revision = n - 1 })
@@ -39,7 +39,7 @@ place_by (Some e) at = source_place e.1.source (drop (length e.0) at.path)
 
 -- the place before: the same path in the revision before, the copy's source, or none
 abbrev pub place_before : List Changed → Place → Option Place
-place_before changes at = place_by (decider changes at.path) at
+place_before changes at = place_by (deciding_change changes at.path) at
 
 abbrev pub is_from : Option Source → Bool
 is_from None = false
@@ -51,7 +51,7 @@ is_copy_by (Some e) = is_from e.1.source
 
 -- whether a copy brought what stands at the path
 abbrev pub is_copied : List Changed → PathValue → Bool
-is_copied changes p = is_copy_by (decider changes p)
+is_copied changes p = is_copy_by (deciding_change changes p)
 
 -- the place before, where a trace that ends at copies goes on
 abbrev pub next_place : Bool → List Changed → Place → Option Place

@@ -2,7 +2,7 @@
 ghost use Rattle.std.specs.Prelude.{◌≡◌, ◌≤◌, length, IfOk, option_copied, Some, drop};
 ghost use Rattle.std.specs.List.{list_any};
 ghost use Rattle.repo_api.specs.Histories.{Changed};
-ghost use Rattle.history.specs.Traces.{decides, decider, earlier, source_place, place_before, is_copied, next_place};
+ghost use Rattle.history.specs.Traces.{decides, deciding_change, earlier, source_place, place_before, is_copied, next_place};
 ghost use Rattle.history.specs.Logs.{touches, is_touched};
 
 use crate::place::Place;
@@ -18,8 +18,8 @@ fn decides(path: &Path, at: &Path, change: &Change) -> bool
 }
 
 /// Finds the change at the longest path, at or above this one, that was added or replaced.
-fn decider<'a>(changes: &'a [(Path, Change)], path: &Path) -> Option<&'a (Path, Change)>
-    ensures value { option_copied result ≡ decider changes.now path.now }
+fn deciding_change<'a>(changes: &'a [(Path, Change)], path: &Path) -> Option<&'a (Path, Change)>
+    ensures value { option_copied result ≡ deciding_change changes.now path.now }
     ensures above { (e : Changed) → option_copied result ≡ Some e
         → length e.0 ≤ length path.now }
 {
@@ -64,7 +64,7 @@ pub fn place_before(
 ) -> Result<Option<Place>, AllocError>
     ensures { IfOk result (λ place. place ≡ place_before changes.now at.now) }
 {
-    match decider(changes, &at.path) {
+    match deciding_change(changes, &at.path) {
         None => earlier(at),
         Some(entry) => source_place(alloc, &entry.0, &entry.1.source, &at.path),
     }
@@ -110,7 +110,7 @@ fn source_place(
 fn is_copied(changes: &[(Path, Change)], path: &Path) -> bool
     ensures { result ≡ is_copied changes.now path.now }
 {
-    match decider(changes, path) {
+    match deciding_change(changes, path) {
         None => false,
         Some(entry) => entry.1.source.is_some(),
     }

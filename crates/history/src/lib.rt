@@ -25,4 +25,4 @@ pub use locating::{each_once, location, locations};
 pub use log::Log;
 pub use log_ask::LogAsk;
 pub use place::Place;
-pub use walk::{next_listed, step};
+pub use walk::{next_listed, step_back};

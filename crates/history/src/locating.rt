@@ -5,7 +5,7 @@ ghost use Rattle.repo_api.specs.Histories.{history_of};
 ghost use Rattle.history.specs.Locations.{each_once, location, location_back, location_on, located_in, locations, only_same};
 
 use crate::place::Place;
-use crate::walk::step;
+use crate::walk::step_back;
 use repo_api::{NodeKind, Repository};
 use std::alloc::{AllocError, Global};
 use std::collections::BTreeSet;
@@ -128,7 +128,7 @@ fn location_back<R: Repository>(
         if found.revision == revision {
             return Ok(Some(found.path));
         }
-        let Some(next) = step(alloc, repository, false, &found)? else {
+        let Some(next) = step_back(alloc, repository, false, &found)? else {
             return Ok(None);
         };
         at = next;

@@ -29,7 +29,7 @@ fn only_below(place: Option<Place>, revision: u64) -> Option<Place>
 }
 
 /// Takes one step back along the trace of a place.
-pub fn step<R: Repository>(
+pub fn step_back<R: Repository>(
     alloc: Global,
     repository: &R,
     strict: bool,
@@ -79,7 +79,7 @@ pub fn next_listed<R: Repository>(
         if revision < low {
             return Ok(None);
         }
-        let next = step(alloc, repository, strict, &at)?;
+        let next = step_back(alloc, repository, strict, &at)?;
         if is_touched(repository.changes(revision), &at.path) {
             return Ok(Some(Listed { revision, next }));
         }

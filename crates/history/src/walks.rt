@@ -27,14 +27,14 @@ fn newest(heads: &[Option<Listed>]) -> Option<u64>
 {
     let mut newest = None;
     for head in heads {
-        newest = newer(newest, head);
+        newest = max_head(newest, head);
     }
     newest
 }
 
 /// Gives the greater of the newest revision so far and the one that a walk has found, and `None` where there is
 /// neither.
-fn newer(newest: Option<u64>, head: &Option<Listed>) -> Option<u64>
+fn max_head(newest: Option<u64>, head: &Option<Listed>) -> Option<u64>
     ensures { one_above result ≡ max (one_above newest) (above_head head.now) }
 {
     match (newest, head) {
@@ -79,7 +79,7 @@ impl Walks {
             return Ok(None);
         };
         let heads = mem::replace(&mut self.heads, Vec::new(alloc));
-        self.heads = self.advanced(alloc, repository, heads, newest)?;
+        self.heads = self.heads_after(alloc, repository, heads, newest)?;
         Ok(Some(newest))
     }
 
@@ -97,7 +97,7 @@ impl Walks {
     }
 
     /// Moves the walks on past the newest revision that they have found.
-    fn advanced<R: Repository>(
+    fn heads_after<R: Repository>(
         &self,
         alloc: Global,
         repository: &R,
@@ -112,13 +112,13 @@ impl Walks {
         let mut left = heads;
         let mut next = Vec::new(alloc);
         while let Some(head) = left.pop() {
-            next.push(self.past(alloc, repository, head, newest)?)?;
+            next.push(self.head_after(alloc, repository, head, newest)?)?;
         }
         Ok(next)
     }
 
     /// Moves the walk on, where it has found this revision.
-    fn past<R: Repository>(
+    fn head_after<R: Repository>(
         &self,
         alloc: Global,
         repository: &R,

@@ -47,7 +47,7 @@ pub enum HubFault {
 }
 
 /// Finds the place of a session.
-fn place<R: Repository>(sessions: &[(SessionId, Session<R>)], number: SessionId) -> Option<usize>
+fn index_of<R: Repository>(sessions: &[(SessionId, Session<R>)], number: SessionId) -> Option<usize>
     ensures { MatchOption result (session_of sessions.now number ≡ None)
         (λ i. Finds sessions.now number i) }
 {
@@ -288,7 +288,7 @@ impl<A: SoleAccess> Hub<A> {
         if self.access.is_halted() {
             return Err(HubFault::Halted);
         }
-        let Some(i) = place(&self.sessions, number) else {
+        let Some(i) = index_of(&self.sessions, number) else {
             return Err(HubFault::NoSession);
         };
         match self.feed_open(number, i, piece, turn) {
@@ -306,7 +306,7 @@ impl<A: SoleAccess> Hub<A> {
     pub fn is_open(&self, number: SessionId) -> bool
         ensures { result ≡ (is_some (session_of self.now.sessions number) && not self.now.halted) }
     {
-        place(&self.sessions, number).is_some() && !self.access.is_halted()
+        index_of(&self.sessions, number).is_some() && !self.access.is_halted()
     }
 
     /// Drops a session; a number that isn't open changes nothing.

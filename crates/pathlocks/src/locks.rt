@@ -8,7 +8,7 @@ ghost use Rattle.repo_api.specs.Locking.{in_the_way, at_or_under, check_refusal,
 
 use crate::finding::{append_in_the_way, append_under};
 use crate::refusing::{
-    entry_refusal, first_refusal, handed_in, is_held, lock_of, place_refusal, taking_refusal,
+    entry_refusal, first_refusal, is_held, lock_of, place_refusal, taking_refusal, token_set,
     user_refusal,
 };
 use byte_string::ByteString;
@@ -103,7 +103,7 @@ impl Locks {
         ensures memory { IsOfMemory result }
     {
         let found = self.in_the_way(alloc, changes)?;
-        let handed_in = handed_in(alloc, tokens)?;
+        let handed_in = token_set(alloc, tokens)?;
         match first_refusal(found.as_slice(), user, &handed_in) {
             Some(refusal) => Err(ChangeFault::Refused(refusal)),
             None => Ok(()),

@@ -28,7 +28,7 @@ fn holder_refusal(user: Option<&ByteString>, is_right: bool, lock: &Lock) -> Opt
 }
 
 /// Collects the tokens that were handed in, under whatever paths.
-pub(crate) fn handed_in<'a>(
+pub(crate) fn token_set<'a>(
     alloc: Global,
     tokens: &'a [(Path, ByteString)],
 ) -> Result<BTreeSet<&'a [u8]>, AllocError>

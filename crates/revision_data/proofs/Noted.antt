@@ -106,8 +106,8 @@ pub settled_pruned : (m before : ChangeMap) (old mid new : List (PathValue × Ch
     → found mid q ≡ (if same_path p q then (if is_some (found old q) then note.change else None) else found old q)
     → found new q ≡ (if same_path k q then found mid q else (if is_at_or_under q k then None else found mid q))
     → get (from_entries {R = path_cmp} new) q ≡ changes_after (changes_of before) op q
-settled_pruned m before old mid new op note p k q at same is ready pruning leave prune =
-    get_path new q ∙ prune
+settled_pruned m before old mid new op note p k q at same is ready pruning leave pruned =
+    get_path new q ∙ pruned
     ∙ ap (λ k. if same_path k q then found mid q else (if is_at_or_under q k then None else found mid q)) same
     ∙ ap (λ o. if same_path (path_of op) q then o else (if is_at_or_under q (path_of op) then None else o))
     (left_seen m before old mid op note p q at is ready leave)

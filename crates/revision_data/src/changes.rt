@@ -45,7 +45,7 @@ pub(crate) fn change_after(
 }
 
 /// Makes a change that says neither that the text nor that a property was changed.
-pub(crate) fn plain(action: Action, source: Option<Source>) -> Change
+pub(crate) fn unflagged(action: Action, source: Option<Source>) -> Change
     ensures { result ≡ plain_change action source }
 {
     Change {
@@ -61,8 +61,8 @@ fn after_add(before: Option<&Change>, source: Option<Source>) -> Change
     ensures { result ≡ after_add source (option_copied before.entry) }
 {
     match before {
-        None => plain(Action::Add, source),
-        Some(_) => plain(Action::Replace, source),
+        None => unflagged(Action::Add, source),
+        Some(_) => unflagged(Action::Replace, source),
     }
 }
 
@@ -71,11 +71,11 @@ fn after_delete(before: Option<&Change>) -> Option<Change>
     ensures { result ≡ after_delete (option_copied before.entry) }
 {
     let Some(before) = before else {
-        return Some(plain(Action::Delete, None));
+        return Some(unflagged(Action::Delete, None));
     };
     match before.action {
         Action::Add => None,
-        Action::Delete | Action::Replace | Action::Modify => Some(plain(Action::Delete, None)),
+        Action::Delete | Action::Replace | Action::Modify => Some(unflagged(Action::Delete, None)),
     }
 }
 
@@ -109,7 +109,7 @@ fn or_modified(before: Option<&Change>) -> Result<Change, AllocError>
     ensures { IfOk result (λ change. change ≡ or_modified (option_copied before.entry)) }
 {
     match before {
-        None => Ok(plain(Action::Modify, None)),
+        None => Ok(unflagged(Action::Modify, None)),
         Some(before) => copied_change(before),
     }
 }

@@ -4,7 +4,7 @@ ghost use Rattle.svnpath.specs.Paths.{PathValue, same_path, is_at_or_under};
 ghost use Rattle.repo_api.specs.Changes.{noted, or_modified};
 ghost use Rattle.revision_data.specs.Found.{found};
 
-use crate::changes::plain;
+use crate::changes::unflagged;
 use crate::path_map::{put, take_out};
 use repo_api::{Action, Change};
 use std::alloc::AllocError;
@@ -12,7 +12,7 @@ use std::collections::BTreeMap;
 use svnpath::Path;
 
 /// Puts a modification at the path if nothing was changed there, and answers whether nothing was.
-pub(crate) fn make_room(
+pub(crate) fn put_placeholder(
     changes: &mut BTreeMap<Path, Change>,
     path: &Path,
 ) -> Result<bool, AllocError>
@@ -25,7 +25,7 @@ pub(crate) fn make_room(
     if changes.contains_key(path) {
         return Ok(false);
     }
-    put(changes, path.clone()?, plain(Action::Modify, None))?;
+    put(changes, path.clone()?, unflagged(Action::Modify, None))?;
     Ok(true)
 }
 
@@ -53,7 +53,7 @@ fn replace(changes: &mut BTreeMap<Path, Change>, path: &Path, change: Change)
 }
 
 /// Takes out the changes beneath the path. It takes no memory.
-pub(crate) fn prune(changes: &mut BTreeMap<Path, Change>, path: &Path)
+pub(crate) fn forget_beneath(changes: &mut BTreeMap<Path, Change>, path: &Path)
     ensures { (q : PathValue) → found changes.new.entries q ≡ (if same_path path.now q
         then found changes.old.entries q
         else (if is_at_or_under q path.now then None else found changes.old.entries q)) }

@@ -8,7 +8,7 @@ ghost use Rattle.revision_data.specs.Prepared.{IsPrepared};
 
 use crate::change_list::ChangeList;
 use crate::changes::{change_after, path_of, prunes};
-use crate::noting::{leave, make_room, prune};
+use crate::noting::{forget_beneath, leave, put_placeholder};
 use crate::path_map::take_out;
 use repo_api::{Change, EditOp};
 use std::alloc::{AllocError, Global};
@@ -80,7 +80,7 @@ impl TxnChanges {
     {
         let path = path_of(op);
         let change = change_after(self.changes.get(path), op)?;
-        let made = make_room(&mut self.changes, path)?;
+        let made = put_placeholder(&mut self.changes, path)?;
         Ok(Note { change, made })
     }
 
@@ -92,7 +92,7 @@ impl TxnChanges {
         let Note { change, made: _ } = note;
         leave(&mut self.changes, path_of(op), change);
         if prunes(op) {
-            prune(&mut self.changes, path_of(op));
+            forget_beneath(&mut self.changes, path_of(op));
         }
     }
 

@@ -8,14 +8,13 @@ use conversations::OpenGate;
 use crossbeam_channel::Sender;
 use refusals::Refusal;
 use session_pool::{Admission, Caller, MAX_SESSIONS, SessionPool};
-use session_replies::tell_refusal;
 use std::alloc::{AllocError, Global};
 use std::io::{Eprint, Read, Write};
 use std::net::{IpAddr, Shutdown, SocketAddr, TcpListener, TcpStream};
 use std::sync::Wait;
 use std::time::{Clock, Duration};
 use std::{io, thread};
-use wire_replies::MemorySink;
+use wire_replies::{MemorySink, tell_refusal};
 
 /// How many times a connection that finds no place tries again, a millisecond apart: who has closed a session and comes
 /// again at once finds its own place free.

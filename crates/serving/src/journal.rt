@@ -1,5 +1,4 @@
 //! What an administrator is told on standard error, one line for each event, with its moment.
-ghost use Rattle.std.specs.Prelude.{◌≤◌};
 
 use crate::envs::moment_now;
 use crate::guests::Guests;

@@ -1,7 +1,6 @@
 //! What a lock and an unlock ask for.
-ghost use Rattle.std.specs.Prelude.{◌≡◌, ◌≤◌, ◌⊎◌, Ok, Err, IfOk, MatchResult};
+ghost use Rattle.std.specs.Prelude.{◌≡◌, ◌⊎◌, Ok, Err, IfOk, MatchResult};
 ghost use Rattle.dates.specs.Dates.{IsDateText};
-ghost use Rattle.dates.specs.declared.TheConstants.{LAST_MOMENT};
 ghost use Rattle.svnpath.specs.Texts.{joined};
 ghost use Rattle.svnpath.specs.declared.fault.PathFault.TheVariants.{NoMemory};
 ghost use Rattle.repo_api.specs.Locking.{owner_of, lock_of};

@@ -10,9 +10,9 @@ ghost use Rattle.machine.specs.Steps.{Answered};
 use byte_string::ByteString;
 use machine::{OpenLogin, Options, Phase, Turn, offer};
 use repo_api::Repository;
-use session_replies::{SessionPhase, say_new, stands};
+use session_replies::{SessionPhase, stands};
 use std::alloc::{AllocError, Global};
-use wire_replies::{Offer, Reply, ReplySink};
+use wire_replies::{Offer, Reply, ReplySink, say_new};
 
 /// Answers a login that is under way, and awaits the choice of a mechanism.
 pub fn await_choice<R: Repository, S: ReplySink>(

@@ -1,5 +1,5 @@
 //! What a commit asks for.
-ghost use Rattle.std.specs.Prelude.{◌≡◌, ◌++◌, [], Ok, Err, IfOk, MatchResult, option_map};
+ghost use Rattle.std.specs.Prelude.{◌≡◌, [], Ok, Err, IfOk, MatchResult, option_map};
 ghost use Rattle.std.specs.List.{list_all};
 ghost use Rattle.svnpath.specs.Components.{AnswersPath};
 ghost use Rattle.refusals.specs.Faults.{IfRefusedBy};

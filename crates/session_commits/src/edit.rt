@@ -32,14 +32,14 @@ use machine::{Client, CommitParameters, Ending, OpenEdit, Options, Phase, Turn, 
 use refusals::{NotDone, Refusal};
 use repo_api::{CommitAsk, Repository};
 use session_replies::{
-    Preface, SessionEdit, SessionPhase, end_malformed, refuse, say_both, stands, tell_fault,
+    Preface, SessionEdit, SessionPhase, end_malformed, refuse, stands, tell_fault,
 };
 use std::alloc::{AllocError, Global};
 use std::mem::drop;
 use svnpath::Path;
 use wire_edits::{EditorCommand, ends_edit};
 use wire_forms::CommandFault;
-use wire_replies::{Reply, ReplySink};
+use wire_replies::{Reply, ReplySink, say_both};
 
 /// Makes an edit of which nothing has been made.
 fn new_editor<R: Repository>(
@@ -213,7 +213,7 @@ fn ready_commit(
 }
 
 /// Writes that a commit is made, and then what is told of it.
-fn say_made<S: ReplySink>(info: &Reply, out: &mut S) -> Result<(), AllocError>
+fn say_commit_made<S: ReplySink>(info: &Reply, out: &mut S) -> Result<(), AllocError>
     ensures { Says result (S.writes out.old out.new)
         (Reply.Success ∷ Reply.NoLogin ∷ info.now ∷ []) }
 {
@@ -233,7 +233,7 @@ fn say_committed<S: ReplySink>(
         (Reply.Success ∷ Reply.NoLogin ∷ Reply.CommitInfo revision date author fails ∷ []) }
 {
     let info = Reply::CommitInfo(revision, date, author, fails);
-    let said = say_made(&info, out);
+    let said = say_commit_made(&info, out);
     drop(info);
     said
 }

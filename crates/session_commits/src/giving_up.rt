@@ -7,10 +7,10 @@ ghost use Rattle.machine.specs.Steps.{Answered};
 use machine::{OpenEdit, Phase, Turn};
 use refusals::Refusal;
 use repo_api::Repository;
-use session_replies::{SessionEdit, SessionPhase, stands, tell_refusal};
+use session_replies::{SessionEdit, SessionPhase, stands};
 use std::alloc::AllocError;
 use std::mem::drop;
-use wire_replies::{Reply, ReplySink};
+use wire_replies::{Reply, ReplySink, tell_refusal};
 
 /// Gives an edit up, and tells why: its end is awaited.
 pub fn give_up<R: Repository, S: ReplySink>(

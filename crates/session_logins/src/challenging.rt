@@ -12,10 +12,10 @@ use byte_string::ByteString;
 use cram::{Challenge, CramFault};
 use machine::{Env, OpenChallenge, OpenLogin, Options, Phase, Turn};
 use repo_api::Repository;
-use session_replies::{SessionPhase, say_new};
+use session_replies::SessionPhase;
 use std::alloc::{AllocError, Global};
 use std::mem::drop;
-use wire_replies::{Reply, ReplySink};
+use wire_replies::{Reply, ReplySink, say_new};
 
 /// Makes a challenge of this moment.
 fn new_challenge(alloc: Global, options: &Options, env: Env) -> Result<Challenge, AllocError>

@@ -15,11 +15,11 @@ use machine::{Client, OpenLogin, Options, Phase, Turn};
 use refusals::{Refusal, path_refusal};
 use repo_api::Repository;
 use session_commands::ask_for_login;
-use session_replies::{SessionPhase, end_malformed, say_new};
+use session_replies::{SessionPhase, end_malformed};
 use std::alloc::AllocError;
 use svnpath::{Path, PathFault, RepositoryUrl};
 use wire_forms::CommandFault;
-use wire_replies::{Reply, ReplySink};
+use wire_replies::{Reply, ReplySink, say_new};
 
 /// Says whether a client speaks this protocol.
 fn speaks(greeting: &ClientGreeting) -> bool

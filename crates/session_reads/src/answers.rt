@@ -18,10 +18,10 @@ use access::RepoAccess;
 use commands::ReadCommand;
 use machine::{Client, Phase, Turn};
 use repo_api::Repository;
-use session_replies::{Preface, SessionPhase, say_made, say_new, say_preface, stands};
+use session_replies::{Preface, SessionPhase, say_preface, stands};
 use std::alloc::{AllocError, Global};
 use svnpath::Path;
-use wire_replies::{Reply, ReplySink};
+use wire_replies::{Reply, ReplySink, say_made, say_new};
 
 /// Writes what a command that reads is told of a repository.
 fn say_read<R: Repository, S: ReplySink>(

@@ -11,6 +11,7 @@ use commands::GetDirCommand;
 use history::Place;
 use refusals::Refusal;
 use repo_api::{NodeKind, Repository};
+use sequence::Sequence;
 use std::alloc::{AllocError, Global};
 use svnpath::Path;
 use wire_replies::{DirectoryInfo, EntryList, NodeInfo, Reply};
@@ -67,7 +68,7 @@ fn entries_told<R: Repository>(
     if wanted {
         all_entries(alloc, view, place)
     } else {
-        Ok(EntryList::new(alloc))
+        Ok(Sequence::new(alloc))
     }
 }
 
@@ -81,10 +82,10 @@ fn all_entries<R: Repository>(
         entries_told (R.content view.now) place.now true) }
 {
     let names = view.names(place.revision, &place.path)?;
-    let mut entries = EntryList::new(alloc);
+    let mut entries = Sequence::new(alloc);
     for name in names.iter() {
         let (name, node) = entry_told(alloc, view, place, name)?;
-        entries.push(name, node)?;
+        entries.push((name, node))?;
     }
     Ok(entries)
 }

@@ -14,10 +14,9 @@ use commands::GetFileCommand;
 use history::Place;
 use refusals::Refusal;
 use repo_api::{FileText, NodeKind, Repository};
-use session_replies::{say_made, tell_refusal};
 use std::alloc::{AllocError, Global};
 use svnpath::Path;
-use wire_replies::{FileInfo, Reply, ReplySink, say_contents};
+use wire_replies::{FileInfo, Reply, ReplySink, say_contents, say_made, tell_refusal};
 
 /// Writes what is told of the file at a path, seen from the path of the client's URL.
 pub(crate) fn say_file<R: Repository, S: ReplySink>(

@@ -4,10 +4,9 @@ ghost use Rattle.machine.specs.Histories.{ended};
 ghost use Rattle.wire_replies.specs.Sinks.{Says};
 
 use refusals::Refusal;
-use session_replies::say_both;
 use std::alloc::AllocError;
 use std::mem::drop;
-use wire_replies::{Reply, ReplySink};
+use wire_replies::{Reply, ReplySink, say_both};
 
 /// Writes that no more is listed, and what the command came to.
 pub(crate) fn say_end<S: ReplySink>(reply: Reply, out: &mut S) -> Result<(), AllocError>

@@ -13,10 +13,9 @@ use commands::GetLocationsCommand;
 use history::{Place, locations};
 use refusals::{Refusal, path_refusal};
 use repo_api::Repository;
-use session_replies::say_new;
 use std::alloc::{AllocError, Global};
 use svnpath::{Path, PathFault};
-use wire_replies::{Reply, ReplySink};
+use wire_replies::{Reply, ReplySink, say_new};
 
 /// Says whether one of the revisions is above the youngest.
 fn are_any_to_come<R: Repository>(view: &R, revisions: &[u64]) -> bool

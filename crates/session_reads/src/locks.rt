@@ -7,9 +7,10 @@ ghost use Rattle.machine.specs.Commands.{lock_at, locks_reply};
 use byte_string::ByteString;
 use refusals::path_refusal;
 use repo_api::Repository;
+use sequence::Sequence;
 use std::alloc::{AllocError, Global};
 use svnpath::{Path, PathFault};
-use wire_replies::{LockList, Reply};
+use wire_replies::{LockList, Reply, copied_locks};
 
 /// Gives the lock at a path, seen from the path of the client's URL.
 pub(crate) fn get_lock<R: Repository>(
@@ -50,8 +51,8 @@ fn lock_found<R: Repository>(alloc: Global, view: &R, path: &Path) -> Result<Loc
     ensures { IfOk result (λ locks. locks ≡ lock_at (R.content view.now) path.now) }
 {
     match view.lock_at(path) {
-        Some(lock) => LockList::copied(alloc, &[(path, lock)]),
-        None => Ok(LockList::new(alloc)),
+        Some(lock) => copied_locks(alloc, &[(path, lock)]),
+        None => Ok(Sequence::new(alloc)),
     }
 }
 
@@ -60,5 +61,5 @@ fn locks_found<R: Repository>(alloc: Global, view: &R, path: &Path) -> Result<Lo
     ensures { IfOk result (λ locks. locks ≡ at_or_under (R.content view.now).locks path.now) }
 {
     let found = view.locks_under(path)?;
-    LockList::copied(alloc, found.as_slice())
+    copied_locks(alloc, found.as_slice())
 }

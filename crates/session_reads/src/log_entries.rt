@@ -6,6 +6,7 @@ use crate::{author_of, date_of, revision_value};
 use byte_string::ByteString;
 use history::kind_shown;
 use repo_api::{Change, Repository};
+use sequence::Sequence;
 use std::alloc::{AllocError, Global};
 use svnpath::{Path, pairs_by_text};
 use wire_replies::{ChangeList, LogEntry, LoggedChange, Reply};
@@ -34,7 +35,7 @@ fn all_changes<R: Repository>(
     ensures { IfOk result (λ told. told ≡ changes_told (R.content view.now) true revision) }
 {
     let changes = pairs_by_text(alloc, view.changes(revision))?;
-    let mut told = ChangeList::new(alloc);
+    let mut told = Sequence::new(alloc);
     for (path, change) in changes.iter() {
         told.push(change_told(alloc, view, revision, path, change)?)?;
     }
@@ -53,7 +54,7 @@ fn changes_told<R: Repository>(
     if wanted {
         all_changes(alloc, view, revision)
     } else {
-        Ok(ChangeList::new(alloc))
+        Ok(Sequence::new(alloc))
     }
 }
 

@@ -13,11 +13,10 @@ use commands::LogCommand;
 use history::{Log, LogAsk};
 use refusals::{Refusal, path_refusal};
 use repo_api::Repository;
-use session_replies::say_new;
 use std::alloc::{AllocError, Global};
 use std::mem::drop;
 use svnpath::{Path, PathFault};
-use wire_replies::{Reply, ReplySink};
+use wire_replies::{Reply, ReplySink, say_new};
 
 /// Gives the revision that is named, or the youngest.
 fn or_youngest<R: Repository>(view: &R, revision: Option<u64>) -> u64

@@ -1,6 +1,5 @@
 //! Properties of revisions, and revisions by their dates.
 ghost use Rattle.std.specs.Prelude.{◌≡◌, IfOk, option_copied};
-ghost use Rattle.repo_api.specs.Kinds.{properties_at};
 ghost use Rattle.machine.specs.Readings.{author_of, revision_date, dated_reply, property_reply, revision_value, value_of_property};
 
 use crate::places::revision_read;

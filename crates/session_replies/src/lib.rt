@@ -3,11 +3,9 @@
 #![tactic(auto)]
 
 mod preface;
-mod saying;
 mod serving;
 mod turn;
 
 pub use preface::{Preface, say_behind, say_new_behind, say_preface};
-pub use saying::{say_both, say_made, say_new, tell_refusal};
 pub use serving::{end_halted, refuse, tell, tell_fault};
 pub use turn::{SessionEdit, SessionPhase, SessionReport, end_malformed, stands};

@@ -3,7 +3,6 @@ ghost use Rattle.std.specs.Prelude.{◌≡◌, IsErr, IsOk, MatchResult};
 ghost use Rattle.machine.specs.Answers.{malformed};
 ghost use Rattle.machine.specs.Steps.{Answered};
 
-use crate::saying::tell_refusal;
 use drive_reports::Grafts;
 use editor::CommitEditor;
 use machine::{OpenEdit, OpenReporting, Phase, Turn};
@@ -11,7 +10,7 @@ use refusals::Refusal;
 use repo_api::Repository;
 use std::alloc::AllocError;
 use std::mem::drop;
-use wire_replies::ReplySink;
+use wire_replies::{ReplySink, tell_refusal};
 
 /// An edit of a session at a repository.
 pub type SessionEdit<R> = OpenEdit<CommitEditor<R>>;

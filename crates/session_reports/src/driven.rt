@@ -14,12 +14,12 @@ use items::Item;
 use machine::{Client, Phase, Turn};
 use refusals::Refusal;
 use repo_api::Repository;
-use session_replies::{Preface, SessionPhase, end_malformed, say_new, stands, tell, tell_refusal};
+use session_replies::{Preface, SessionPhase, end_malformed, stands, tell};
 use std::alloc::AllocError;
 use std::mem::drop;
 use wire_edits::EditorCommand;
 use wire_forms::read_form;
-use wire_replies::{Reply, ReplySink};
+use wire_replies::{Reply, ReplySink, say_new, tell_refusal};
 
 /// Says whether an answer of this name tells a success; `None` for what is not an answer.
 fn is_success(name: &[u8]) -> Option<bool>

@@ -1,7 +1,6 @@
 //! A report that is refused: its commands are read by their names alone.
 ghost use Rattle.std.specs.Prelude.{◌≡◌};
 ghost use Rattle.items.specs.View.{value_of};
-ghost use Rattle.wire_replies.specs.declared.reply.Reply.{Reply};
 ghost use Rattle.wire_reports.specs.Reporting.{name_of};
 ghost use Rattle.drive_wire.specs.Reporting.{refused_drawn};
 ghost use Rattle.drive_wire.specs.Reporting.Drawn.{Fails};

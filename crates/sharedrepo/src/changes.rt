@@ -15,7 +15,7 @@ ghost use Rattle.sharedrepo.specs.Standing.{IsSteady, now_of, NotBegun};
 
 use crate::archive::Archive;
 use crate::keeper::Keeper;
-use access::{Committed, Handed, Released, handed_in};
+use access::{Committed, Handed, Released, handed_locks};
 use left_right::Absorb;
 use noted::Noted;
 use published::{AskedChange, Carries, Naming, Published, Sets, commits_are_right};
@@ -166,7 +166,7 @@ impl<
         ensures { CommitsAt shared_rules ask (R.txn_state txn) (now_of S.kept self.old) result
             (now_of S.kept self.new) }
     {
-        match handed_in(&ask) {
+        match handed_locks(&ask) {
             Err(AllocError) => {
                 drop((ask, txn));
                 Err(ChangeFault::NoMemory)

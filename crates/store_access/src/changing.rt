@@ -15,7 +15,7 @@ ghost use Rattle.store_access.specs.Keeping.{LeavesEither, LeavesOneOf};
 use crate::change::{SavedChange, copied};
 use crate::filed::Filed;
 use crate::stored::StoredRepository;
-use access::{Committed, Handed, RepoAccess, SoleAccess, handed_in};
+use access::{Committed, Handed, RepoAccess, SoleAccess, handed_locks};
 use repo_api::{ChangeFault, CommitAsk, LockAsk, PropertyAsk, UnlockAsk};
 use std::alloc::AllocError;
 use store_files::Store;
@@ -46,7 +46,7 @@ impl<F: Filed, S: Store> StoredRepository<F, S> {
             std::mem::drop((ask, txn));
             return Err(ChangeFault::Halted);
         }
-        match handed_in(&ask) {
+        match handed_locks(&ask) {
             Ok(handed) => self.commit_and_release(ask, txn, handed),
             Err(AllocError) => {
                 std::mem::drop((ask, txn));

@@ -1,9 +1,9 @@
 -- The commands of an edit, as the items that spell them.
 use Rattle.std.specs.Prelude.{ℕ, Bool, ◌||◌, List, [], ◌∷◌, Option, Some, option_map, ok_or, Result, Err, codes}
-use Rattle.std.specs.List.{find}
 use Rattle.std.specs.Option.{option_map_or}
 use Rattle.items.specs.Values.{ItemValue, ItemValues}
 use Rattle.wire_forms.specs.Forms.{◌>>=◌, is_name, command_form, number_first, string_first, list_first, optional_number}
+use Rattle.wire_forms.specs.Names.{named}
 use Rattle.wire_edits.specs.Places.{added_entry_of, opened_entry_of, deleted_entry_of, absent}
 use Rattle.wire_edits.specs.Texts.{property, with_checksum, chunk, token_alone}
 use Rattle.wire_edits.specs.declared.editing.EditorCommand.{EditorCommand}
@@ -15,39 +15,32 @@ use Rattle.wire_forms.specs.declared.fault.CommandFault.TheVariants.{UnknownName
 
 -- ---- names
 
--- the name of a command, as it is sent
-abbrev pub editor_name_text : CommandName → List ℕ
-editor_name_text names.TargetRevision = codes "target-rev"
-editor_name_text names.OpenRoot = codes "open-root"
-editor_name_text names.DeleteEntry = codes "delete-entry"
-editor_name_text names.AddDirectory = codes "add-dir"
-editor_name_text names.OpenDirectory = codes "open-dir"
-editor_name_text names.ChangeDirectoryProperty = codes "change-dir-prop"
-editor_name_text names.CloseDirectory = codes "close-dir"
-editor_name_text names.AbsentDirectory = codes "absent-dir"
-editor_name_text names.AddFile = codes "add-file"
-editor_name_text names.OpenFile = codes "open-file"
-editor_name_text names.ChangeFileProperty = codes "change-file-prop"
-editor_name_text names.ApplyTextDelta = codes "apply-textdelta"
-editor_name_text names.TextDeltaChunk = codes "textdelta-chunk"
-editor_name_text names.TextDeltaEnd = codes "textdelta-end"
-editor_name_text names.CloseFile = codes "close-file"
-editor_name_text names.AbsentFile = codes "absent-file"
-editor_name_text names.CloseEdit = codes "close-edit"
-editor_name_text names.AbortEdit = codes "abort-edit"
-
--- the commands of an edit
-abbrev pub editor_names : List CommandName
+-- the names of the commands of an edit, as they are sent
+abbrev pub editor_names : List (List ℕ × CommandName)
 editor_names =
-    names.TargetRevision ∷ names.OpenRoot ∷ names.DeleteEntry ∷ names.AddDirectory
-    ∷ names.OpenDirectory ∷ names.ChangeDirectoryProperty ∷ names.CloseDirectory
-    ∷ names.AbsentDirectory ∷ names.AddFile ∷ names.OpenFile ∷ names.ChangeFileProperty
-    ∷ names.ApplyTextDelta ∷ names.TextDeltaChunk ∷ names.TextDeltaEnd ∷ names.CloseFile
-    ∷ names.AbsentFile ∷ names.CloseEdit ∷ names.AbortEdit ∷ []
+    (codes "target-rev", names.TargetRevision)
+    ∷ (codes "open-root", names.OpenRoot)
+    ∷ (codes "delete-entry", names.DeleteEntry)
+    ∷ (codes "add-dir", names.AddDirectory)
+    ∷ (codes "open-dir", names.OpenDirectory)
+    ∷ (codes "change-dir-prop", names.ChangeDirectoryProperty)
+    ∷ (codes "close-dir", names.CloseDirectory)
+    ∷ (codes "absent-dir", names.AbsentDirectory)
+    ∷ (codes "add-file", names.AddFile)
+    ∷ (codes "open-file", names.OpenFile)
+    ∷ (codes "change-file-prop", names.ChangeFileProperty)
+    ∷ (codes "apply-textdelta", names.ApplyTextDelta)
+    ∷ (codes "textdelta-chunk", names.TextDeltaChunk)
+    ∷ (codes "textdelta-end", names.TextDeltaEnd)
+    ∷ (codes "close-file", names.CloseFile)
+    ∷ (codes "absent-file", names.AbsentFile)
+    ∷ (codes "close-edit", names.CloseEdit)
+    ∷ (codes "abort-edit", names.AbortEdit)
+    ∷ []
 
 -- the command of an edit that has this name
 abbrev pub editor_command_name : List ℕ → Option CommandName
-editor_command_name name = find (λ known. is_name name (editor_name_text known)) editor_names
+editor_command_name = named editor_names
 
 -- ---- parameters
 

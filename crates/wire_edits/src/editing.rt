@@ -1,17 +1,15 @@
 //! The commands of an edit.
-ghost use Rattle.std.specs.Prelude.{◌≡◌, option_copied};
-ghost use Rattle.std.specs.List.{find};
+ghost use Rattle.std.specs.Prelude.{◌≡◌};
 ghost use Rattle.items.specs.View.{value_of, values_of};
 ghost use Rattle.wire_forms.specs.Answering.{Answers, Reads};
-ghost use Rattle.wire_forms.specs.Forms.{is_name};
-ghost use Rattle.wire_edits.specs.Editing.{editor_command, editor_command_name, editor_command_with, editor_name_text, target_revision, open_root, ends_edit, is_last};
+ghost use Rattle.wire_edits.specs.Editing.{editor_command, editor_command_name, editor_command_with, target_revision, open_root, ends_edit, is_last};
 
 use crate::places::{read_absent, read_added, read_deleted, read_opened};
 use crate::texts::{read_chunk, read_property, read_token_alone, read_with_checksum};
 use byte_string::ByteString;
 use items::Item;
 use wire_forms::CommandFault::{self, BadParameters, UnknownName};
-use wire_forms::{read_form, read_list, read_number, read_optional_number, read_string};
+use wire_forms::{named, read_form, read_list, read_number, read_optional_number, read_string};
 
 /// An entry that is added: its path, the token of the directory that it is added to, its own token,
 /// and the path or URL and the revision of which it is a copy.
@@ -136,74 +134,33 @@ pub enum CommandName {
     AbortEdit,
 }
 
-/// The names of all commands.
-const COMMAND_NAMES: [CommandName; 18] = [
-    CommandName::TargetRevision,
-    CommandName::OpenRoot,
-    CommandName::DeleteEntry,
-    CommandName::AddDirectory,
-    CommandName::OpenDirectory,
-    CommandName::ChangeDirectoryProperty,
-    CommandName::CloseDirectory,
-    CommandName::AbsentDirectory,
-    CommandName::AddFile,
-    CommandName::OpenFile,
-    CommandName::ChangeFileProperty,
-    CommandName::ApplyTextDelta,
-    CommandName::TextDeltaChunk,
-    CommandName::TextDeltaEnd,
-    CommandName::CloseFile,
-    CommandName::AbsentFile,
-    CommandName::CloseEdit,
-    CommandName::AbortEdit,
+/// The names of the commands, as they are sent.
+const COMMAND_NAMES: [(&[u8], CommandName); 18] = [
+    (b"target-rev", CommandName::TargetRevision),
+    (b"open-root", CommandName::OpenRoot),
+    (b"delete-entry", CommandName::DeleteEntry),
+    (b"add-dir", CommandName::AddDirectory),
+    (b"open-dir", CommandName::OpenDirectory),
+    (b"change-dir-prop", CommandName::ChangeDirectoryProperty),
+    (b"close-dir", CommandName::CloseDirectory),
+    (b"absent-dir", CommandName::AbsentDirectory),
+    (b"add-file", CommandName::AddFile),
+    (b"open-file", CommandName::OpenFile),
+    (b"change-file-prop", CommandName::ChangeFileProperty),
+    (b"apply-textdelta", CommandName::ApplyTextDelta),
+    (b"textdelta-chunk", CommandName::TextDeltaChunk),
+    (b"textdelta-end", CommandName::TextDeltaEnd),
+    (b"close-file", CommandName::CloseFile),
+    (b"absent-file", CommandName::AbsentFile),
+    (b"close-edit", CommandName::CloseEdit),
+    (b"abort-edit", CommandName::AbortEdit),
 ];
 
 /// Finds the command of an edit that has this name.
 fn editor_command_name(name: &[u8]) -> Option<CommandName>
     ensures { result ≡ editor_command_name name.now }
 {
-    first_named(&COMMAND_NAMES, name).copied()
-}
-
-/// Finds the first of these that has this name.
-fn first_named<'a>(names: &'a [CommandName], name: &[u8]) -> Option<&'a CommandName>
-    ensures { option_copied result
-        ≡ find (λ known. is_name name.now (editor_name_text known)) names.now }
-{
-    names.iter().find(|known| has_name(name, **known))
-}
-
-/// Says whether the command has this name.
-fn has_name(name: &[u8], known: CommandName) -> bool
-    ensures { result ≡ is_name name.now (editor_name_text known) }
-{
-    name == editor_name_text(known)
-}
-
-/// Gives the name of a command, as it is sent.
-fn editor_name_text(known: CommandName) -> &'static [u8]
-    ensures { result.now ≡ editor_name_text known }
-{
-    match known {
-        CommandName::TargetRevision => b"target-rev",
-        CommandName::OpenRoot => b"open-root",
-        CommandName::DeleteEntry => b"delete-entry",
-        CommandName::AddDirectory => b"add-dir",
-        CommandName::OpenDirectory => b"open-dir",
-        CommandName::ChangeDirectoryProperty => b"change-dir-prop",
-        CommandName::CloseDirectory => b"close-dir",
-        CommandName::AbsentDirectory => b"absent-dir",
-        CommandName::AddFile => b"add-file",
-        CommandName::OpenFile => b"open-file",
-        CommandName::ChangeFileProperty => b"change-file-prop",
-        CommandName::ApplyTextDelta => b"apply-textdelta",
-        CommandName::TextDeltaChunk => b"textdelta-chunk",
-        CommandName::TextDeltaEnd => b"textdelta-end",
-        CommandName::CloseFile => b"close-file",
-        CommandName::AbsentFile => b"absent-file",
-        CommandName::CloseEdit => b"close-edit",
-        CommandName::AbortEdit => b"abort-edit",
-    }
+    named(&COMMAND_NAMES, name)
 }
 
 /// Reads the command of a name that is known.

@@ -5,6 +5,7 @@
 mod fault;
 mod form;
 mod lists;
+mod names;
 mod pairs;
 
 pub use fault::CommandFault;
@@ -13,4 +14,5 @@ pub use form::{
     read_optional_number, read_optional_string, read_revision, read_string, read_word,
 };
 pub use lists::{Numbers, Strings, read_numbers, read_strings};
+pub use names::named;
 pub use pairs::{Pairs, read_pairs};

@@ -1,5 +1,5 @@
 //! What is known of files and directories, as items.
-ghost use Rattle.std.specs.Prelude.{◌≡◌, ◌++◌, ◌∷◌, [], IfOk, OnOk, OnErr, map};
+ghost use Rattle.std.specs.Prelude.{◌≡◌, ◌++◌, [], IfOk, map};
 ghost use Rattle.items.specs.View.{row_of, value_of};
 ghost use Rattle.items.specs.Values.{list};
 ghost use Rattle.wire_replies.specs.Replies.{directory_info, entry_tree, entry_trees, file_info, node_trees, stat_trees};
@@ -12,8 +12,8 @@ use crate::properties::properties_item;
 use byte_string::ByteString;
 use items::Item;
 use repo_api::{NodeKind, Properties};
+use sequence::Sequence;
 use std::alloc::{AllocError, Global};
-use std::marker::Model;
 
 /// What is known of a file or a directory.
 #[derive(Drop)]
@@ -48,45 +48,7 @@ pub struct DirectoryInfo {
 }
 
 /// Names, each with what is known of the entry.
-#[derive(Drop)]
-pub struct EntryList {
-    entries: Vec<(ByteString, NodeInfo)>,
-}
-
-impl Model for EntryList {
-    ghost use Rattle.std.specs.Prelude.{ℕ, List};
-    ghost use Rattle.wire_replies.specs.declared.entries.NodeInfo.{NodeInfo};
-
-    ghost Value = { List (List ℕ × NodeInfo) };
-
-    ghost view = { λ l. l.entries.items };
-}
-
-impl EntryList {
-    /// Makes a list without entries.
-    pub fn new(alloc: Global) -> Self
-        ensures { result ≡ [] }
-    {
-        EntryList {
-            entries: Vec::new(alloc),
-        }
-    }
-
-    /// Puts an entry at the end.
-    pub fn push(&mut self, name: ByteString, node: NodeInfo) -> Result<(), AllocError>
-        ensures ok { OnOk result (self.new ≡ self.old ++ (name, node) ∷ []) }
-        ensures err { OnErr result (self.new ≡ self.old) }
-    {
-        self.entries.push((name, node)).map_err(AllocError::from)
-    }
-
-    /// Gives the entries in the order in which they were put.
-    pub fn as_slice(&self) -> &[(ByteString, NodeInfo)]
-        ensures { result.now ≡ self.now }
-    {
-        self.entries.as_slice()
-    }
-}
+pub type EntryList = Sequence<(ByteString, NodeInfo)>;
 
 /// Makes `( success ( [ md5 ] rev ( property ... ) ) )`.
 pub(crate) fn file_info_item(alloc: Global, info: &FileInfo) -> Result<Item, AllocError>

@@ -1,5 +1,5 @@
 //! Logs, and where something was, as items.
-ghost use Rattle.std.specs.Prelude.{◌≡◌, ◌++◌, ◌∷◌, [], IfOk, OnOk, OnErr};
+ghost use Rattle.std.specs.Prelude.{◌≡◌, [], IfOk};
 ghost use Rattle.items.specs.View.{value_of};
 ghost use Rattle.items.specs.Values.{list, more, string, word, both};
 ghost use Rattle.items.specs.Word.{IsWord};
@@ -12,8 +12,8 @@ use crate::build::{
 use byte_string::ByteString;
 use items::Item;
 use repo_api::{Action, Change, NodeKind, Source};
+use sequence::Sequence;
 use std::alloc::{AllocError, Global};
-use std::marker::Model;
 use svnpath::Path;
 
 /// A change that a log tells.
@@ -36,45 +36,7 @@ pub struct LogEntry {
 }
 
 /// Changes that a log tells of one revision.
-#[derive(Drop)]
-pub struct ChangeList {
-    changes: Vec<LoggedChange>,
-}
-
-impl Model for ChangeList {
-    ghost use Rattle.std.specs.Prelude.{List};
-    ghost use Rattle.wire_replies.specs.declared.histories.LoggedChange.{LoggedChange};
-
-    ghost Value = { List LoggedChange };
-
-    ghost view = { λ l. l.changes.items };
-}
-
-impl ChangeList {
-    /// Makes a list without changes.
-    pub fn new(alloc: Global) -> Self
-        ensures { result ≡ [] }
-    {
-        ChangeList {
-            changes: Vec::new(alloc),
-        }
-    }
-
-    /// Puts a change at the end.
-    pub fn push(&mut self, change: LoggedChange) -> Result<(), AllocError>
-        ensures ok { OnOk result (self.new ≡ self.old ++ change ∷ []) }
-        ensures err { OnErr result (self.new ≡ self.old) }
-    {
-        self.changes.push(change).map_err(AllocError::from)
-    }
-
-    /// Gives the changes in the order in which they were put.
-    pub fn as_slice(&self) -> &[LoggedChange]
-        ensures { result.now ≡ self.now }
-    {
-        self.changes.as_slice()
-    }
-}
+pub type ChangeList = Sequence<LoggedChange>;
 
 impl LoggedChange {
     /// Makes a copy of this change at this path, where something of this kind stands or stood.

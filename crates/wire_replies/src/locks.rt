@@ -1,5 +1,5 @@
 //! Locks, as items.
-ghost use Rattle.std.specs.Prelude.{◌≡◌, ◌++◌, ◌∷◌, [], IfOk, OnOk, OnErr, map};
+ghost use Rattle.std.specs.Prelude.{◌≡◌, IfOk, map};
 ghost use Rattle.std.specs.Map.Iter.{deref_pair};
 ghost use Rattle.items.specs.View.{value_of};
 ghost use Rattle.items.specs.Values.{list};
@@ -9,61 +9,22 @@ use crate::build::{list_item, optional_string_item, path_item, string_item, with
 use byte_string::ByteString;
 use items::Item;
 use repo_api::Lock;
+use sequence::Sequence;
 use std::alloc::{AllocError, Global};
-use std::marker::Model;
 use svnpath::Path;
 
 /// Paths, each with the lock that stands there.
-#[derive(Drop)]
-pub struct LockList {
-    locks: Vec<(Path, Lock)>,
-}
+pub type LockList = Sequence<(Path, Lock)>;
 
-impl Model for LockList {
-    ghost use Rattle.std.specs.Prelude.{List};
-    ghost use Rattle.repo_api.specs.declared.lock.Lock.{Lock};
-    ghost use Rattle.svnpath.specs.Paths.{PathValue};
-
-    ghost Value = { List (PathValue × Lock) };
-
-    ghost view = { λ l. l.locks.items };
-}
-
-impl LockList {
-    /// Makes a list without locks.
-    pub fn new(alloc: Global) -> Self
-        ensures { result ≡ [] }
-    {
-        LockList {
-            locks: Vec::new(alloc),
-        }
+/// Makes copies of these paths and of the locks that stand there.
+pub fn copied_locks(alloc: Global, found: &[(&Path, &Lock)]) -> Result<LockList, AllocError>
+    ensures { IfOk result (λ locks. locks ≡ map deref_pair found.now) }
+{
+    let mut locks = Sequence::new(alloc);
+    for &(path, lock) in found {
+        locks.push((path.clone()?, lock.clone()?))?;
     }
-
-    /// Makes copies of these paths and of the locks that stand there.
-    pub fn copied(alloc: Global, found: &[(&Path, &Lock)]) -> Result<Self, AllocError>
-        ensures { IfOk result (λ locks. locks ≡ map deref_pair found.now) }
-    {
-        let mut locks = LockList::new(alloc);
-        for &(path, lock) in found {
-            locks.push(path.clone()?, lock.clone()?)?;
-        }
-        Ok(locks)
-    }
-
-    /// Puts a lock at the end.
-    pub fn push(&mut self, path: Path, lock: Lock) -> Result<(), AllocError>
-        ensures ok { OnOk result (self.new ≡ self.old ++ (path, lock) ∷ []) }
-        ensures err { OnErr result (self.new ≡ self.old) }
-    {
-        self.locks.push((path, lock)).map_err(AllocError::from)
-    }
-
-    /// Gives the paths with their locks, in the order in which they were put.
-    pub fn as_slice(&self) -> &[(Path, Lock)]
-        ensures { result.now ≡ self.now }
-    {
-        self.locks.as_slice()
-    }
+    Ok(locks)
 }
 
 /// Makes `( lock ... )`.

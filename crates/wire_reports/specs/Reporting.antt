@@ -1,8 +1,9 @@
 -- The commands of a report, as the items that spell them.
-use Rattle.std.specs.Prelude.{ℕ, List, Option, Some, None, option_map, ok_or, Result, Err, codes, if◌then◌else◌}
+use Rattle.std.specs.Prelude.{ℕ, List, [], ◌∷◌, Option, Some, option_map, ok_or, Result, Err, codes}
 use Rattle.std.specs.Option.{option_map_or}
 use Rattle.items.specs.Values.{ItemValue, ItemValues}
-use Rattle.wire_forms.specs.Forms.{◌>>=◌, is_name, command_form, number_first, string_first, flag_first}
+use Rattle.wire_forms.specs.Forms.{◌>>=◌, command_form, number_first, string_first, flag_first}
+use Rattle.wire_forms.specs.Names.{named}
 use Rattle.wire_forms.specs.declared.fault.CommandFault.{CommandFault}
 use Rattle.wire_forms.specs.declared.fault.CommandFault.TheVariants.{UnknownName, BadParameters}
 use Rattle.wire_reports.specs.Depths.{depth_at_end}
@@ -15,15 +16,19 @@ use Rattle.wire_reports.specs.declared.report.ReportedPath.{ReportedPath}
 
 -- ---- names
 
+-- the names of the commands of a report, as they are sent
+abbrev pub report_names : List (List ℕ × ReportName)
+report_names =
+    (codes "set-path", names.SetPath)
+    ∷ (codes "delete-path", names.DeletePath)
+    ∷ (codes "link-path", names.LinkPath)
+    ∷ (codes "finish-report", names.FinishReport)
+    ∷ (codes "abort-report", names.AbortReport)
+    ∷ []
+
 -- the command of a report that has this name
 abbrev pub report_name : List ℕ → Option ReportName
-report_name name =
-    if is_name name (codes "set-path") then Some names.SetPath
-    else if is_name name (codes "delete-path") then Some names.DeletePath
-    else if is_name name (codes "link-path") then Some names.LinkPath
-    else if is_name name (codes "finish-report") then Some names.FinishReport
-    else if is_name name (codes "abort-report") then Some names.AbortReport
-    else None
+report_name = named report_names
 
 -- the name of a command, if it is one of a report's, where the item is a command
 abbrev pub name_of : ItemValue → Option (Option ReportName)

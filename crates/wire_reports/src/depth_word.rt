@@ -3,6 +3,7 @@ ghost use Rattle.std.specs.Prelude.{◌≡◌};
 ghost use Rattle.wire_reports.specs.Depths.{depth_word};
 
 use drive_rules::Depth;
+use wire_forms::named;
 
 /// What a word says of a depth.
 #[derive(Clone, Copy, Debug, PartialEq, Eq)]
@@ -15,23 +16,19 @@ pub enum DepthWord {
     Exclude,
 }
 
+/// The words for depths.
+const DEPTH_WORDS: [(&[u8], DepthWord); 6] = [
+    (b"empty", DepthWord::Known(Depth::Empty)),
+    (b"files", DepthWord::Known(Depth::Files)),
+    (b"immediates", DepthWord::Known(Depth::Immediates)),
+    (b"infinity", DepthWord::Known(Depth::Infinity)),
+    (b"unknown", DepthWord::Unknown),
+    (b"exclude", DepthWord::Exclude),
+];
+
 /// Reads what a word says of a depth.
 pub fn depth_word(word: &[u8]) -> Option<DepthWord>
     ensures { result ≡ depth_word word.now }
 {
-    if word == b"empty".as_slice() {
-        Some(DepthWord::Known(Depth::Empty))
-    } else if word == b"files".as_slice() {
-        Some(DepthWord::Known(Depth::Files))
-    } else if word == b"immediates".as_slice() {
-        Some(DepthWord::Known(Depth::Immediates))
-    } else if word == b"infinity".as_slice() {
-        Some(DepthWord::Known(Depth::Infinity))
-    } else if word == b"unknown".as_slice() {
-        Some(DepthWord::Unknown)
-    } else if word == b"exclude".as_slice() {
-        Some(DepthWord::Exclude)
-    } else {
-        None
-    }
+    named(&DEPTH_WORDS, word)
 }

@@ -1,5 +1,5 @@
 //! The commands of a report.
-ghost use Rattle.std.specs.Prelude.{◌≡◌, option_map};
+ghost use Rattle.std.specs.Prelude.{◌≡◌};
 ghost use Rattle.items.specs.View.{value_of, values_of};
 ghost use Rattle.wire_forms.specs.Answering.{Answers, Reads};
 ghost use Rattle.wire_reports.specs.Reporting.{report_command, report_name, name_of, report_command_with, set_path, link_path, delete_path, reported_path};
@@ -9,7 +9,7 @@ use crate::parameters::{read_last_depth, read_token};
 use byte_string::ByteString;
 use items::Item;
 use wire_forms::CommandFault::{self, BadParameters, UnknownName};
-use wire_forms::{copy_optional, read_flag, read_form, read_number, read_string};
+use wire_forms::{copy_optional, named, read_flag, read_form, read_number, read_string};
 
 /// What a client has at a path: what stands at and under a path of the repository in a revision.
 #[derive(Drop)]
@@ -63,23 +63,20 @@ pub enum ReportName {
     AbortReport,
 }
 
+/// The names of the commands, as they are sent.
+const REPORT_NAMES: [(&[u8], ReportName); 5] = [
+    (b"set-path", ReportName::SetPath),
+    (b"delete-path", ReportName::DeletePath),
+    (b"link-path", ReportName::LinkPath),
+    (b"finish-report", ReportName::FinishReport),
+    (b"abort-report", ReportName::AbortReport),
+];
+
 /// Finds the command of a report that has this name.
 fn report_name(name: &[u8]) -> Option<ReportName>
     ensures { result ≡ report_name name.now }
 {
-    if name == b"set-path".as_slice() {
-        Some(ReportName::SetPath)
-    } else if name == b"delete-path".as_slice() {
-        Some(ReportName::DeletePath)
-    } else if name == b"link-path".as_slice() {
-        Some(ReportName::LinkPath)
-    } else if name == b"finish-report".as_slice() {
-        Some(ReportName::FinishReport)
-    } else if name == b"abort-report".as_slice() {
-        Some(ReportName::AbortReport)
-    } else {
-        None
-    }
+    named(&REPORT_NAMES, name)
 }
 
 /// Reads the name of a command, if it is one of a report's; `None` for an item that is not a command.

@@ -9,7 +9,7 @@ ghost use Rattle.held.specs.Growing.{HasOneMore, HasSame};
 ghost use Rattle.world.specs.Whole.{txn_state_of, world_content};
 
 use crate::committing::with_commit;
-use crate::repository::{refusal_of, standing, with_property};
+use crate::repository::{kind_and_created, refusal_of, with_property};
 use crate::world::World;
 use crate::world_txn::WorldTxn;
 use byte_string::ByteString;
@@ -54,7 +54,7 @@ impl World {
         if let Some(refusal) = current_refusal(self.held.youngest(), ask.current) {
             return Err(ChangeFault::Refused(refusal));
         }
-        let (kind, created) = standing(&self.held, &ask.path);
+        let (kind, created) = kind_and_created(&self.held, &ask.path);
         let mut locks = Arc::try_clone(&self.locks)?;
         lock_shared(self.alloc, &mut locks, kind, created, copied(ask)?)?;
         Ok(self.with_locks(locks)?)

@@ -177,7 +177,7 @@ impl Repository for World {
             std::mem::drop(ask);
             return Err(ChangeFault::Refused(refusal));
         }
-        let (kind, created) = standing(&self.held, &ask.path);
+        let (kind, created) = kind_and_created(&self.held, &ask.path);
         lock_shared(self.alloc, &mut self.locks, kind, created, ask)
     }
 
@@ -205,7 +205,7 @@ impl Repository for World {
 }
 
 /// Says what exists at the path in the youngest revision, and the revision of its last change.
-pub(crate) fn standing(held: &Held, path: &Path) -> (NodeKind, Option<u64>)
+pub(crate) fn kind_and_created(held: &Held, path: &Path) -> (NodeKind, Option<u64>)
     ensures kind { result.0
         ≡ kind_at (held_state held.now) (youngest (held_state held.now)) path.now }
     ensures created { result.1

@@ -16,7 +16,7 @@ returns-in-None c =
     let gs = c.args.grafts.now in
     let all : length c.as_slice-all.result.now ≡ length gs = ap length c.as_slice-all.ensures in
     let none = subst (λ o. IsLastAbove c.args.path.now gs (length c.as_slice-all.result.now) o) c.in-None.is c.in_ok-last_above.ensures in
-    subst (λ q. IfOk c.anchored.result (λ p. p ≡ q)) (sym (origin_none c.args.anchor.now c.args.path.now gs (length c.as_slice-all.result.now) all none)) c.anchored.ensures
+    subst (λ q. IfOk c.under_anchor.result (λ p. p ≡ q)) (sym (origin_none c.args.anchor.now c.args.path.now gs (length c.as_slice-all.result.now) all none)) c.under_anchor.ensures
 
 pub returns-in-Some : goal.returns-in-Some
 returns-in-Some c =

@@ -1,5 +1,0 @@
-use Rattle.hub.proofs.Places.{NoneBelow}
-use Rattle.hub.proofs.hub.place.Given as goal
-
-abbrev pub invariant-loop-i : goal.invariant-loop-i
-invariant-loop-i g l = NoneBelow l.sessions l.number l.i

@@ -1,0 +1,48 @@
+//! Replies that are written as they are made. Where one of these fails, a part of what it says was
+//! written.
+ghost use Rattle.std.specs.Prelude.{◌≡◌, ◌∷◌, [], IfOk};
+ghost use Rattle.wire_replies.specs.Sinks.{Says};
+
+use crate::reply::Reply;
+use crate::sink::ReplySink;
+use refusals::Refusal;
+use std::alloc::AllocError;
+use std::mem::drop;
+
+/// Writes two replies.
+pub fn say_both<S: ReplySink>(first: &Reply, second: &Reply, out: &mut S) -> Result<(), AllocError>
+    ensures { Says result (S.writes out.old out.new) (first.now ∷ second.now ∷ []) }
+{
+    out.say(first)?;
+    out.say(second)
+}
+
+/// Writes a reply.
+pub fn say_new<S: ReplySink>(reply: Reply, out: &mut S) -> Result<(), AllocError>
+    ensures { Says result (S.writes out.old out.new) (reply ∷ []) }
+{
+    let said = out.say(&reply);
+    drop(reply);
+    said
+}
+
+/// Writes a reply, if it could be made. If not, nothing is written.
+pub fn say_made<S: ReplySink>(
+    reply: Result<Reply, AllocError>,
+    out: &mut S,
+) -> Result<(), AllocError>
+    ensures { (told : Reply) → IfOk reply (λ made. made ≡ told)
+        → Says result (S.writes out.old out.new) (told ∷ []) }
+{
+    match reply {
+        Ok(reply) => say_new(reply, out),
+        Err(error) => Err(error),
+    }
+}
+
+/// Writes a refusal.
+pub fn tell_refusal<S: ReplySink>(refusal: Refusal, out: &mut S) -> Result<(), AllocError>
+    ensures { Says result (S.writes out.old out.new) (Reply.Failure refusal ∷ []) }
+{
+    say_new(Reply::Failure(refusal), out)
+}
