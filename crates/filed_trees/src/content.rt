@@ -1,7 +1,6 @@
 //! What a node contains, compared with what a file says.
-ghost use Rattle.std.specs.Prelude.{◌≡◌, ◌++◌, ◌∷◌, [], true, ℕ, List, map, length, IfOk, Some, Option, option_and_then, option_copied};
+ghost use Rattle.std.specs.Prelude.{◌≡◌, [], true, ℕ, List, IfOk, Some, Option, option_copied};
 ghost use Rattle.std.specs.Arc.{arc_value};
-ghost use Rattle.std.specs.Map.Iter.{deref_pair};
 ghost use Rattle.repo_api.specs.Properties.{PropertyList};
 ghost use Rattle.repo_api.specs.declared.entry.Content.TheVariants.{Directory};
 ghost use Rattle.fsfs_ids.specs.declared.representation.Representation.{Representation};
@@ -11,14 +10,14 @@ ghost use Rattle.filed_trees.specs.Comparing.{CameWith, IsBody, HasContent, HasE
 use crate::body::{Body, body_of};
 use crate::kids::{check_entries, check_no_kids, check_same_kids};
 use crate::places::{Earlier, Places, earlier_properties, earlier_text};
-use byte_string::ByteString;
 use fsfs_folder::read_properties;
 use fsfs_lines::FileFault;
 use fsfs_nodes::{EntryKind, read_entries};
 use fsfs_reading::FilePiece;
+use next_blocks::are_same_properties;
 use noderevs::NodeRev;
 use repo_api::{Content, FileText, Properties};
-use std::alloc::{AllocError, Global};
+use std::alloc::Global;
 
 /// Answers a malformed line where something does not hold.
 pub(crate) fn check(holds: bool) -> Result<(), FileFault>
@@ -69,39 +68,6 @@ fn check_text(text: &FileText, body: Body<'_>, before: Option<&FileText>) -> Res
     }
 }
 
-/// Lists names and values.
-fn rows_of(
-    alloc: Global,
-    properties: &Properties,
-) -> Result<Vec<(&ByteString, &ByteString)>, AllocError>
-    ensures { IfOk result (λ rows. map deref_pair rows.items ≡ properties.now) }
-{
-    Ok(properties.iter().collect::<Vec<_>>(alloc)?)
-}
-
-/// Says whether a name and a value are the same.
-#[tactic(auto, using(svnpath::specs::PathLaws::same_component_is))]
-fn is_same_row(row: (&ByteString, &ByteString), other: (&ByteString, &ByteString)) -> bool
-    ensures { result ≡ true → deref_pair row.entry ≡ deref_pair other.entry }
-{
-    row.0 == other.0 && row.1 == other.1
-}
-
-/// Says whether names and values are the same, in the same order.
-fn are_same_rows(rows: &[(&ByteString, &ByteString)], others: &[(&ByteString, &ByteString)]) -> bool
-    ensures { result ≡ true → map deref_pair rows.now ≡ map deref_pair others.now }
-{
-    if rows.len() != others.len() {
-        return false;
-    }
-    for k in 0..rows.len() {
-        if !is_same_row(rows[k], others[k]) {
-            return false;
-        }
-    }
-    true
-}
-
 /// Checks that properties are the same.
 ///
 /// # Errors
@@ -114,9 +80,7 @@ pub fn check_same_properties(
 ) -> Result<(), FileFault>
     ensures { IfOk result (λ _. others.now ≡ properties.now) }
 {
-    let rows = rows_of(alloc, properties)?;
-    let other_rows = rows_of(alloc, others)?;
-    check(are_same_rows(other_rows.as_slice(), rows.as_slice()))
+    check(are_same_properties(alloc, others, properties)?)
 }
 
 /// Checks that a line gives a node's properties.

@@ -2,6 +2,7 @@
 //! these files.
 #![tactic(auto)]
 
+mod blocks;
 mod body;
 mod changes;
 mod content;
@@ -12,6 +13,7 @@ mod places;
 mod table;
 mod tabulating;
 
+pub use blocks::read_block;
 pub use changes::changes_by_path;
 pub use content::check_same_properties;
 pub use laws::{

@@ -72,6 +72,16 @@ fn place_of(placed: &[Placed], id: FileId) -> Option<usize>
     scanned(placed, id)
 }
 
+/// Finds the node of an earlier revision that is the node revision of an id.
+pub(crate) fn node_of(tables: &PVec<Table>, id: FileId) -> Option<NodeId> {
+    let table = tables.get(id.revision as usize)?;
+    let place = place_of(table.placed.as_slice(), id)?;
+    Some(NodeId {
+        rev: id.revision,
+        place: place as u64,
+    })
+}
+
 /// Finds where a node of a revision before the last one stands.
 fn placed_at(tables: &PVec<Table>, id: NodeId) -> Option<&Placed>
     ensures { option_copied result ≡ placed_in tables.now id }

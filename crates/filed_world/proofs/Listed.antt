@@ -1,17 +1,12 @@
 -- A listing of all locks finds what their map does.
-use Rattle.std.proofs.Common.{◌≡◌, ◌&&◌, Bool, true, false, List, [], ◌∷◌, Option, Some, None, refl, sym, ap, ◌∙◌}
-use Rattle.std.specs.Prelude.{T, if◌then◌else◌}
+use Rattle.std.proofs.Common.{◌≡◌, true, List, [], ◌∷◌, Option, Some, None, refl, sym, ap, ◌∙◌}
 use Rattle.std.specs.Cmp.{eq_by_cmp_equiv}
 use Rattle.std.specs.BTreeMap.{is_at}
-use Rattle.std.specs.FinMap.{get, entries, entries_sorted}
-use Rattle.std.specs.FinMap.Entries.{is_sorted, below_all}
-use Rattle.std.specs.List.{AllByRecursion, IsDistinct, filter}
-use Rattle.std.specs.List.Sorted.{IsPermutation, IsStrictlySortedBy}
+use Rattle.std.specs.FinMap.{get, entries}
+use Rattle.std.specs.List.{IsDistinct, filter}
+use Rattle.std.specs.List.Sorted.{IsPermutation}
 use Rattle.std.specs.Map.{lookup, keys_of}
-use Rattle.std.specs.Ordering.{is_lt, eq_by_cmp}
-use Rattle.std.specs.declared.cmp.Ordering.{Ordering}
-use Rattle.std.specs.declared.cmp.Ordering.TheVariants.{Less, Equal, Greater}
-use Rattle.std.proofs.lemmas.Bool.{false≢true}
+use Rattle.std.specs.Ordering.{eq_by_cmp}
 use Rattle.std.proofs.lemmas.List.Sorted.{Contains-permutation, IsPermutation-sym, IsPermutation-map}
 use Rattle.std.proofs.lemmas.Map.Keys.{IsDistinct-from_sorted, IsDistinct-IsPermutation}
 use Rattle.std.proofs.lemmas.Map.Views.{lookup-from_Contains, Contains-from_lookup}
@@ -23,41 +18,14 @@ use Rattle.repo_api.specs.Locking.{at_or_under}
 use Rattle.repo_api.specs.States.{LockMap}
 use Rattle.repo_api.specs.declared.lock.Lock.{Lock}
 use Rattle.filed_trees.specs.StandsFor.{lock_of}
+use Rattle.next_blocks.proofs.Ordered.{in_order}
 
 -- ---- the keys of a map differ
-
-is_true : (b : Bool) → T b → b ≡ true
-is_true true h = refl
-is_true false h = absurd h
-
-both_true : (a b : Bool) → (a && b) ≡ true → (a ≡ true) × (b ≡ true)
-both_true true b h = (refl, h)
-both_true false b h = absurd (false≢true h)
-
-is_less : (o : Ordering) → is_lt o ≡ true → o ≡ Less
-is_less Less h = refl
-is_less Equal h = absurd (false≢true h)
-is_less Greater h = absurd (false≢true h)
-
-below_keys : (p : PathValue) (es : List (PathValue × Lock)) → below_all path_cmp p es ≡ true
-    → AllByRecursion (λ k. path_cmp p k ≡ Less) (keys_of es)
-below_keys p [] h = tt
-below_keys p (e ∷ es) h =
-    let both = both_true (is_lt (path_cmp p e.0)) (below_all path_cmp p es) h in
-    (is_less (path_cmp p e.0) both.0, below_keys p es both.1)
-
-sorted_keys : (es : List (PathValue × Lock)) → is_sorted path_cmp es ≡ true
-    → IsStrictlySortedBy path_cmp (keys_of es)
-unfolding IsStrictlySortedBy
-sorted_keys [] h = tt
-sorted_keys (e ∷ es) h =
-    let both = both_true (below_all path_cmp e.0 es) (is_sorted path_cmp es) h in
-    (below_keys e.0 es both.0, sorted_keys es both.1)
 
 keys_differ : (m : LockMap) → IsDistinct (eq_by_cmp path_cmp) (keys_of (entries m))
 keys_differ m =
     IsDistinct-from_sorted path_cmp (keys_of (entries m))
-    (sorted_keys (entries m) (is_true (is_sorted path_cmp (entries m)) (entries_sorted m)))
+    (in_order m)
 
 -- ---- a look-up finds the same in whatever order the entries stand
 

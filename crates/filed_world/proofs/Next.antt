@@ -1,11 +1,11 @@
 -- The world of the next revision comes behind those of the revisions that were read.
-use Rattle.std.proofs.Common.{◌≡◌, ℕ, suc, List, [], ◌∷◌, ◌++◌, length, refl, sym, ap, subst, ◌∙◌, arith}
+use Rattle.std.proofs.Common.{◌≡◌, List, [], ◌∷◌, length, refl, sym, ap, subst, ◌∙◌, arith}
 use Rattle.std.specs.Prelude.{slice_set}
 use Rattle.repo_api.specs.Properties.{PropertyList}
 use Rattle.noderevs.specs.Held.{blocks_of}
 use Rattle.world.specs.declared.world.World.{World}
 use Rattle.filed_trees.specs.declared.table.Table.{Table}
-use Rattle.filed_replaying.specs.Replayed.{HasReplayed, HasRevised}
+use Rattle.world.specs.Adding.{HasAdded, HasFirstList}
 use Rattle.filed_world.specs.Reading.{IsNext}
 use Rattle.filed_world.proofs.Taken.{one_of}
 
@@ -13,41 +13,42 @@ pub nothing : {X : Type 0} (xs : List X) → length xs ≡ 0 → xs ≡ []
 nothing [] none = refl
 nothing (x ∷ xs) none = absurd (omega (arith, none))
 
-module _ (before after : World) (tables : List Table) where
+module _ (before after : World) (tables : List Table) (list : PropertyList) (locks : after.locks.value ≡ before.locks.value) where
   -- revision 0 with its properties
-  pub first_comes : tables ≡ [] → length before.held.value.changes ≡ 1 → HasRevised before after 0
+  pub first_comes : tables ≡ [] → length before.held.value.changes ≡ 1
+      → HasFirstList before.held.value after.held.value list
       → IsNext before.held.value tables after.held.value × (after.locks.value ≡ before.locks.value)
   first_comes none one revised =
       let h = before.held.value in
       let change = one_of h.changes one in
       let block = one_of (blocks_of h.nodes) (h.even ∙ one) in
-      let list = one_of h.properties (h.all ∙ one) in (
+      let first = one_of h.properties (h.all ∙ one) in (
         subst (λ ts. IsNext h ts after.held.value) (sym none) (record {
           uuid = revised.uuid;
           block = block.0;
           blocks = revised.same.blocks ∙ block.1;
           change = change.0;
           changes = revised.same.changes ∙ change.1;
-          list = revised.list;
-          lists = revised.lists ∙ ap (λ ls. slice_set ls 0 revised.list) list.1;
+          list = list;
+          lists = revised.lists ∙ ap (λ ls. slice_set ls 0 list) first.1;
         }),
-        revised.locks,
+        locks,
       )
 
--- a revision that was done once more
-pub next_comes : (before after : World) (tables : List Table) → (tables ≡ [] → ⊥)
-    → HasReplayed before after
+-- a revision that was read
+pub next_comes : (before after : World) (tables : List Table) (list : PropertyList) → (tables ≡ [] → ⊥)
+    → HasAdded before after list
     → IsNext before.held.value tables after.held.value × (after.locks.value ≡ before.locks.value)
-next_comes before after [] some replayed = absurd (some refl)
-next_comes before after (t ∷ ts) some replayed = (
+next_comes before after [] list some added = absurd (some refl)
+next_comes before after (t ∷ ts) list some added = (
   record {
-    uuid = replayed.uuid;
-    block = replayed.more.block;
-    blocks = replayed.more.blocks;
-    change = replayed.more.change;
-    changes = replayed.more.changes;
-    list = replayed.list;
-    lists = replayed.lists;
+    uuid = added.held.uuid;
+    block = added.held.more.block;
+    blocks = added.held.more.blocks;
+    change = added.held.more.change;
+    changes = added.held.more.changes;
+    list = list;
+    lists = added.held.lists;
   },
-  replayed.locks,
+  added.locks,
 )

@@ -1,5 +1,5 @@
 -- What is read of the files, revision by revision, is what is held.
-use Rattle.std.proofs.Common.{◌≡◌, ◌⊎◌, inl, inr, ◌+◌, ℕ, zero, suc, List, [], ◌∷◌, ◌++◌, Option, Some, None, length, map, refl, sym, ap, subst, ◌∙◌, arith}
+use Rattle.std.proofs.Common.{◌≡◌, ◌⊎◌, inl, inr, ℕ, suc, List, [], ◌∷◌, ◌++◌, Option, Some, None, length, map, refl, sym, ap, subst, ◌∙◌, arith}
 use Rattle.std.specs.Prelude.{option_and_then, slice_get, Result, Ok, Err, IfOk}
 use Rattle.std.specs.FinMap.{get, empty, entries, from_entries, get-empty}
 use Rattle.std.specs.Result.{result_ok}
@@ -25,7 +25,7 @@ use Rattle.repostore.specs.Reading.{with_one_more, with_read_locks, IfFileFaulty
 use Rattle.fsfs_folder.specs.Properties.{properties_of}
 use Rattle.fsfs_folder.specs.declared.current.Current.{Current}
 use Rattle.filed_trees.specs.Pieces.{RevisionBytes}
-use Rattle.filed_trees.specs.StandsFor.{revision_bytes, revision_properties, locks_in, lock_of}
+use Rattle.filed_trees.specs.StandsFor.{revision_bytes, revision_properties, locks_in}
 use Rattle.filed_trees.specs.Tables.{AreTabled}
 use Rattle.filed_trees.specs.declared.table.Table.{Table}
 use Rattle.filed_world.specs.Files.{AreFilesOf, AreLocks}

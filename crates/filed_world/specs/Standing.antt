@@ -1,10 +1,9 @@
 -- The files of a repository stand for what it contains.
-use Rattle.std.proofs.Common.{◌≡◌, ℕ, zero, suc, List, [], ◌∷◌, Option, Some, None, length, sym, ap, ◌∙◌}
+use Rattle.std.proofs.Common.{◌≡◌, ℕ, zero, suc, List, [], ◌∷◌, Some, sym, ap, ◌∙◌}
 use Rattle.std.specs.FinMap.{get, entries}
 use Rattle.std.specs.Prelude.{slice_get, option_map}
 use Rattle.std.proofs.lemmas.List.{length-map}
 use Rattle.std.proofs.lemmas.Option.{none-some, same_Some}
-use Rattle.svnpath.specs.Paths.{PathValue}
 use Rattle.repo_api.specs.States.{ChangeMap, LockMap, Revision, tree_in}
 use Rattle.repo_api.specs.Trees.{Tree}
 use Rattle.noderevs.specs.Held.{blocks_of, trees_of}

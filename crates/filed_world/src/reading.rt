@@ -3,6 +3,7 @@ ghost use Rattle.std.specs.Prelude.{◌≡◌, ◌≤◌, [], ℕ, List, Option,
 ghost use Rattle.std.specs.Result.{result_ok};
 ghost use Rattle.repo_api.specs.Opening.{new_repository};
 ghost use Rattle.repo_api.specs.Properties.{PropertyList};
+ghost use Rattle.world.specs.Adding.{HasAdded};
 ghost use Rattle.world.specs.Whole.{world_content};
 ghost use Rattle.repostore.specs.Current.{count_in};
 ghost use Rattle.repostore.specs.Files.{Files};
@@ -14,14 +15,17 @@ ghost use Rattle.filed_world.specs.Reading.{AreFirst, AreRead, HasRead, IsNextOf
 
 use crate::filed_world::FiledWorld;
 use crate::filing::with_table;
-use filed_replaying::{replay_revision, set_revision_properties};
-use filed_trees::{Table, check_same_properties, nothing_is_tabled, tabulated};
+use filed_trees::{
+    Table, changes_by_path, check_same_properties, nothing_is_tabled, read_block, tabulated,
+};
 use fsfs_folder::{Current, read_locks, read_properties};
 use fsfs_judging::judge_revision;
 use fsfs_lines::FileFault;
-use fsfs_reading::read_revision;
+use fsfs_reading::{RevisionFile, read_revision};
+use noderevs::Block;
 use pvec::PVec;
-use repo_api::{Lock, Repository};
+use repo_api::{Lock, Properties, Repository};
+use revision_data::ChangeList;
 use std::alloc::{AllocError, Global};
 use svnpath::Path;
 use world::World;
@@ -149,19 +153,50 @@ impl FiledWorld {
         }
     }
 
+    /// Makes the repository with the nodes and the changes that the file of the next revision says, and
+    /// these properties.
+    fn with_file(&self, file: &RevisionFile, list: Properties) -> Result<World, FileFault>
+        ensures { IfOk result (λ world. HasAdded self.now.world world list) }
+    {
+        match self.read(file) {
+            Ok((block, changes)) => {
+                let next = self.world.with_revision(block, changes, list)?;
+                next.ok_or(FileFault::BadLine)
+            }
+            Err(fault) => {
+                std::mem::drop(list);
+                Err(fault)
+            }
+        }
+    }
+
+    /// Reads the nodes and the changes that the file of the next revision says.
+    fn read(&self, file: &RevisionFile) -> Result<(Block, ChangeList), FileFault> {
+        let changes = changes_by_path(self.alloc, file.changes.as_slice())?;
+        let nodes = self.world.nodes();
+        let pieces = file.pieces.as_slice();
+        match read_block(self.alloc, nodes, &self.tables, &changes, pieces) {
+            Ok(block) => Ok((block, ChangeList::from_map(self.alloc, changes)?)),
+            Err(fault) => {
+                std::mem::drop(changes);
+                Err(fault)
+            }
+        }
+    }
+
     /// Makes the repository with the next revision, by its file and that of its properties.
     fn next_world(&self, revision: &[u8], properties: &[u8]) -> Result<World, FileFault>
         ensures { IfOk result (λ world. (files : Files) → HasRead self.now files
             → IsNextOf self.now world) }
     {
         let number = self.tables.len() as u32;
-        let read = read_revision(self.alloc, number, revision)?;
-        judge_revision(self.alloc, number, &read)?;
-        let said = read_properties(self.alloc, properties)?;
+        let file = read_revision(self.alloc, number, revision)?;
+        judge_revision(self.alloc, number, &file)?;
+        let list = read_properties(self.alloc, properties)?;
         if number == 0 {
-            set_revision_properties(self.alloc, &self.world, 0, &said)
+            Ok(self.world.with_first_properties(list)?)
         } else {
-            replay_revision(self.alloc, &self.world, &read, &said)
+            self.with_file(&file, list)
         }
     }
 
@@ -169,7 +204,8 @@ impl FiledWorld {
     ///
     /// # Errors
     ///
-    /// As `read_revision`, `judge_revision`, `read_properties`, `replay_revision` and `with_read_revision`.
+    /// As `read_revision`, `judge_revision`, `read_properties`, `read_block` and `with_read_revision`; `BadLine`
+    /// where the revision may not be the next one.
     pub fn with_next_revision(
         &self,
         revision: &[u8],

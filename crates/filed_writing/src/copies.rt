@@ -1,11 +1,12 @@
 //! The ids that node revisions get: of their nodes, and of the copies that they are of.
 
-use crate::origin::{change_of, predecessor_of};
+use crate::origin::predecessor_of;
 use crate::revision::{Revision, puts};
 use crate::text::text_of;
 use filed_trees::Placed;
 use fsfs_folder::Current;
 use fsfs_ids::{IdPart, Place};
+use next_blocks::change_of;
 use noderevs::NodeRev;
 use repo_api::{Change, Source};
 use std::alloc::{AllocError, Global};

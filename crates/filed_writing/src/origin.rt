@@ -3,28 +3,13 @@ ghost use Rattle.std.specs.Prelude.{◌≡◌, option_copied};
 ghost use Rattle.std.specs.List.Sorted.{IsStrictlySortedBy};
 ghost use Rattle.std.specs.Map.{keys_of};
 ghost use Rattle.svnpath.specs.Paths.{path_cmp};
-ghost use Rattle.revision_data.specs.Found.{found};
 ghost use Rattle.filed_writing.specs.Origins.{source_of, put_by, root_before, predecessor_of};
 
 use byte_string::ByteString;
+use next_blocks::change_of;
 use noderevs::{NodeId, Nodes};
 use repo_api::{Action, Change, Source};
-use std::cmp::Ordering;
 use svnpath::Path;
-
-/// Finds the change of a path, among changes in the order of their paths.
-pub fn change_of<'a>(changes: &'a [(Path, Change)], path: &[ByteString]) -> Option<&'a Change>
-    ensures { IsStrictlySortedBy path_cmp (keys_of changes.now)
-        → option_copied result ≡ found changes.now path.now }
-{
-    let compare = |entry: &(Path, Change)| -> Ordering
-        ensures { result ≡ path_cmp entry.now.0 path.entry.now }
-    { entry.0.components().cmp(path) };
-    match changes.binary_search_by(compare) {
-        Ok(place) => Some(&changes.get(place)?.1),
-        Err(_) => None,
-    }
-}
 
 /// Finds the node that a copy copied, if there was one.
 fn source_of(nodes: &Nodes, source: &Option<Source>) -> Option<NodeId>

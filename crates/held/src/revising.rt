@@ -1,5 +1,5 @@
 //! A changed property of a revision.
-ghost use Rattle.std.specs.Prelude.{◌≡◌, IfOk, slice_get, slice_set};
+ghost use Rattle.std.specs.Prelude.{◌≡◌, ◌<◌, length, IfOk, slice_get, slice_set};
 ghost use Rattle.repo_api.specs.Kinds.{or_empty};
 ghost use Rattle.repo_api.specs.RevisionProperties.{property_changed, with_changed_property};
 ghost use Rattle.held.specs.Contents.{held_state};
@@ -27,6 +27,33 @@ impl Held {
         ensures same { IfOk result (λ h. HasSame self.now h) }
     {
         let properties = with_changed(alloc, &self.properties, revision, name, value)?;
+        self.with_lists(properties)
+    }
+
+    /// Makes the same with another list of properties of a revision.
+    pub fn with_list(
+        &self,
+        alloc: Global,
+        revision: u64,
+        list: Properties,
+    ) -> Result<Held, AllocError>
+        requires { revision < length self.now.properties }
+        ensures ok { IfOk result (λ h. held_state h ≡ record (held_state self.now)
+            { properties = slice_set self.now.properties revision list }) }
+        ensures same { IfOk result (λ h. HasSame self.now h) }
+    {
+        let list = Arc::new(alloc, list)?;
+        let lists = self.properties.replaced(alloc, revision as usize, list)?;
+        self.with_lists(lists)
+    }
+
+    /// Makes the same with other lists of properties, as many as there are.
+    fn with_lists(&self, properties: PVec<Properties>) -> Result<Held, AllocError>
+        requires { length properties ≡ length self.now.properties }
+        ensures ok { IfOk result (λ h. held_state h
+            ≡ record (held_state self.now) { properties = properties }) }
+        ensures same { IfOk result (λ h. HasSame self.now h) }
+    {
         let nodes = self.nodes.share()?;
         let changes = self.changes.share()?;
         Ok(Held {

@@ -44,16 +44,16 @@ nothing_there : (p : PathValue) → IsSome (tree_of (tree_in None) p) → ⊥
 nothing_there p some = false≢true (sym (ap is_some (get-empty path_cmp p)) ∙ some)
 
 -- the marks of revision n tell of its changes, after a tree
-record IsMarkedNext (n : ℕ) (before tree : Tree) (changes : List Changed) : Type 0 where
-  by_last : (p : PathValue) (e : Changed) → Contains changes e → is_at_or_under e.0 p ≡ true → IsSome (tree p) → created_of (tree p) ≡ Some n
-  by_own : (e : Changed) → Contains changes e → IsSome (tree e.0) → own_revision (tree e.0) ≡ Some n
-  keeps_last : (p : PathValue) → IsNotMade changes p → IsSome (tree p) → (created_of (tree p) ≡ Some n) ⊎ (created_of (tree p) ≡ created_of (before p))
-  keeps_own : (p : PathValue) → IsNotMade changes p → IsSome (tree p) → (own_revision (tree p) ≡ Some n) ⊎ (own_revision (tree p) ≡ own_revision (before p))
+pub record IsMarkedNext (n : ℕ) (before tree : Tree) (changes : List Changed) : Type 0 where
+  pub by_last : (p : PathValue) (e : Changed) → Contains changes e → is_at_or_under e.0 p ≡ true → IsSome (tree p) → created_of (tree p) ≡ Some n
+  pub by_own : (e : Changed) → Contains changes e → IsSome (tree e.0) → own_revision (tree e.0) ≡ Some n
+  pub keeps_last : (p : PathValue) → IsNotMade changes p → IsSome (tree p) → (created_of (tree p) ≡ Some n) ⊎ (created_of (tree p) ≡ created_of (before p))
+  pub keeps_own : (p : PathValue) → IsNotMade changes p → IsSome (tree p) → (own_revision (tree p) ≡ Some n) ⊎ (own_revision (tree p) ≡ own_revision (before p))
 
 abbrev tree_by : Option Revision → Tree
 tree_by o = tree_of (tree_in o)
 
-abbrev IsMarkedList : List Revision → Type 0
+abbrev pub IsMarkedList : List Revision → Type 0
 IsMarkedList rs = IsMarkedBy (trees_in rs) (λ n. changes_in (slice_get rs n))
 
 -- what is made at or above a path is made at or above what lies beneath it
@@ -142,7 +142,7 @@ module _ (rs : List Revision) (r : Revision) (old : IsMarkedList rs)
             subst (λ (o : Option Revision). Keeps o (slice_get more k) (suc k) p) (sym is)
             (subst (λ (o : Option Revision). Keeps (slice_get rs (suc k)) o (suc k) p) (sym (is_old k within)) kept)
 
-  more_marked : IsMarkedList more
+  pub more_marked : IsMarkedList more
   more_marked = record {
     by_last = more_by_last;
     by_own = more_by_own;

@@ -43,10 +43,7 @@ impl ChangeList {
     }
 
     /// Makes a list of the changes of a map.
-    pub(crate) fn from_map(
-        alloc: Global,
-        changes: BTreeMap<Path, Change>,
-    ) -> Result<Self, AllocError>
+    pub fn from_map(alloc: Global, changes: BTreeMap<Path, Change>) -> Result<Self, AllocError>
         ensures { IfOk result (λ list. list ≡ from_entries changes.entries) }
     {
         Ok(ChangeList {

@@ -1,5 +1,5 @@
 //! The components of a path: which are right, and the lists of them that texts name.
-ghost use Rattle.std.specs.Prelude.{◌≡◌, ◌+◌, ◌⊎◌, [], ◌∷◌, ◌++◌, map, length, None, Some, Err, IfOk, OnOk, IfErr, MatchResult};
+ghost use Rattle.std.specs.Prelude.{◌≡◌, ◌+◌, ◌⊎◌, [], ◌∷◌, ◌++◌, map, length, None, Some, Err, IfOk, OnOk, IfErr, MatchResult, is_none};
 ghost use Rattle.std.specs.List.{slice_split, list_any};
 ghost use Rattle.std.specs.Str.{is_utf8};
 ghost use Rattle.std.specs.Option.{option_or};
@@ -68,6 +68,13 @@ fn judge(component: &[u8]) -> Result<(), PathFault>
         return Err(PathFault::TooLong);
     }
     Ok(())
+}
+
+/// Says whether these bytes may be a component of a path.
+pub fn is_component(component: &[u8]) -> bool
+    ensures { result ≡ is_none (component_fault component.now) }
+{
+    judge(component).is_ok()
 }
 
 /// Puts a component beneath the others, unless it is refused there.

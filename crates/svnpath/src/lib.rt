@@ -11,7 +11,7 @@ mod listings;
 mod path;
 mod repository_url;
 
-pub use component::{COMPONENT_LIMIT, DEPTH_LIMIT};
+pub use component::{COMPONENT_LIMIT, DEPTH_LIMIT, is_component};
 pub use fault::PathFault;
 pub use listings::{by_text, pairs_by_text, sort_by_text};
 pub use path::Path;

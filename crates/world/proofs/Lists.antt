@@ -1,5 +1,5 @@
 -- Revisions that go on, and are as many.
-use Rattle.std.proofs.Common.{◌≡◌, ◌<◌, ◌+◌, ℕ, zero, suc, List, [], ◌∷◌, ◌++◌, length, refl, sym, ap, subst, arith, length-append, append-nil, ◌∙◌}
+use Rattle.std.proofs.Common.{◌≡◌, ◌<◌, ◌+◌, ℕ, List, [], ◌∷◌, ◌++◌, length, refl, sym, ap, subst, arith, length-append, append-nil, ◌∙◌}
 use Rattle.repo_api.specs.States.{Revision, IsBeginning}
 
 none_more : (more : List Revision) (n : ℕ) → n + length more ≡ n → more ≡ []

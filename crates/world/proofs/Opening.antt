@@ -1,5 +1,5 @@
 -- A transaction that begins, and after an edit.
-use Rattle.std.proofs.Common.{◌≡◌, ◌<◌, ◌-◌, ℕ, zero, suc, List, [], ◌∷◌, length, None, arith, refl, sym, ap, subst, ◌∙◌}
+use Rattle.std.proofs.Common.{◌≡◌, ◌<◌, ℕ, zero, suc, List, [], ◌∷◌, length, arith, refl, sym, ap, subst, ◌∙◌}
 use Rattle.std.specs.FinMap.{get, empty, get-empty}
 use Rattle.svnpath.specs.Paths.{PathValue, path_cmp}
 use Rattle.repo_api.specs.Changes.{changes_after}

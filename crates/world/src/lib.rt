@@ -1,6 +1,7 @@
 //! A repository over node revisions, which share what did not change.
 #![tactic(auto)]
 
+mod adding;
 mod committing;
 mod editing;
 mod filing;

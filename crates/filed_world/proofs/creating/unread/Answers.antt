@@ -1,4 +1,4 @@
-use Rattle.std.proofs.Common.{◌≡◌, sym, ap, ◌∙◌}
+use Rattle.std.proofs.Common.{ap, ◌∙◌}
 use Rattle.world.specs.Whole.{world_content}
 use Rattle.filed_world.proofs.Taken.{first_next, ok_then, ok_both}
 use Rattle.filed_world.proofs.creating.unread.Goals as goal

@@ -1,6 +1,5 @@
-use Rattle.std.proofs.Common.{rules, ◌≡◌, sym, ap, ◌∙◌}
+use Rattle.std.proofs.Common.{rules, sym, ap, ◌∙◌}
 use Rattle.std.specs.Prelude.{IsErrOf}
-use Rattle.svnpath.specs.Paths.{PathValue}
 use Rattle.txntree.specs.Whole.{txn_tree}
 use Rattle.held.specs.Maps.{IsMapOf}
 use Rattle.held.specs.declared.committing.CommitFault.TheVariants.{Conflict}

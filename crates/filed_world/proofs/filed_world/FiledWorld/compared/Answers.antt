@@ -1,9 +1,7 @@
-use Rattle.std.proofs.Common.{◌≡◌, ◌++◌, ◌∷◌, [], sym, ap, subst, ◌∙◌}
-use Rattle.std.specs.Prelude.{length}
+use Rattle.std.proofs.Common.{sym, ap, subst, ◌∙◌}
 use Rattle.repo_api.specs.Histories.{history_of}
 use Rattle.noderevs.specs.Held.{blocks_of}
 use Rattle.repostore.specs.Reading.{with_one_more}
-use Rattle.filed_trees.specs.Tables.{AreTabled}
 use Rattle.world.specs.Whole.{world_content}
 use Rattle.filed_world.specs.Reading.{AreRead}
 use Rattle.filed_world.proofs.Taken.{next_tabled, next_read}

@@ -1,4 +1,4 @@
-use Rattle.std.proofs.Common.{◌≡◌, sym, subst}
+use Rattle.std.proofs.Common.{sym, subst}
 use Rattle.filed_world.specs.Reading.{AreRead}
 use Rattle.filed_world.proofs.Taken.{first_read}
 use Rattle.filed_world.proofs.filed_world.FiledWorld.unread.Goals as goal

@@ -1,4 +1,4 @@
-use Rattle.std.proofs.Common.{◌≡◌, sym, subst}
+use Rattle.std.proofs.Common.{sym, subst}
 use Rattle.repostore.specs.Reading.{with_read_locks}
 use Rattle.filed_world.specs.Reading.{AreRead}
 use Rattle.filed_world.proofs.Taken.{locks_read}

@@ -1,4 +1,4 @@
-use Rattle.std.proofs.Common.{◌≡◌, sym, subst}
+use Rattle.std.proofs.Common.{sym, subst}
 use Rattle.repostore.specs.Files.{with_locks}
 use Rattle.filed_world.specs.Files.{AreFilesOf}
 use Rattle.filed_world.proofs.Changed.{locks_changed}

@@ -1,4 +1,4 @@
-use Rattle.std.proofs.Common.{◌≡◌, ◌++◌, ◌∷◌, [], sym, ap, subst, ◌∙◌}
+use Rattle.std.proofs.Common.{◌++◌, ◌∷◌, [], ap, subst, ◌∙◌}
 use Rattle.repo_api.specs.Histories.{history_of}
 use Rattle.noderevs.specs.Held.{blocks_of}
 use Rattle.filed_trees.specs.Tables.{AreTabled}

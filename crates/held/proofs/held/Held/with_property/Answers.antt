@@ -1,33 +1,6 @@
-use Rattle.std.proofs.Common.{◌≡◌, ◌<◌, length, ap, sym, subst, ◌∙◌}
+use Rattle.std.proofs.Common.{length, ap, ◌∙◌}
 use Rattle.std.proofs.lemmas.List.{length-set}
-use Rattle.noderevs.specs.Held.{blocks_of}
-use Rattle.noderevs.specs.Nodes.{node_in, root_in}
-use Rattle.held.specs.Placed.{ArePlaced}
-use Rattle.held.proofs.Again.{shown_again, revisions_again, same_state}
 use Rattle.held.proofs.held.Held.with_property.Goals as goal
 
-pub invariant_of-result : goal.invariant_of-result
-invariant_of-result c =
-    let old = c.args.self.now in
-    let blocks = c.in_ok-nodes.ensures in
-    let changes = c.in_ok-changes.ensures in
-    let many : length old.changes ≡ length c.in_ok-changes.changes = ap length (sym changes) in
-    record {
-      even = ap length blocks ∙ old.even ∙ many;
-      all =
-          ap length c.in_ok-properties.ensures ∙ length-set old.properties c.args.revision _
-          ∙ old.all ∙ many;
-      begun = subst (λ n. 0 < n) many old.begun;
-      placed = subst (λ bs. ArePlaced (node_in bs) (root_in bs)) (sym blocks) old.placed;
-      shown =
-          shown_again (blocks_of old.nodes) (blocks_of c.in_ok-nodes.nodes)
-          old.changes c.in_ok-changes.changes blocks changes old.shown;
-    }
-
-pub returns-clause-ok : goal.returns-clause-ok
-returns-clause-ok c =
-    same_state _ _ _ _ _
-    (revisions_again (blocks_of c.args.self.now.nodes) (blocks_of c.in_ok-nodes.nodes)
-    c.args.self.now.changes c.in_ok-changes.changes c.in_ok-nodes.ensures c.in_ok-changes.ensures
-    c.args.self.now.shown _)
-    c.in_ok-properties.ensures
+pub with_lists-requires : goal.with_lists-requires
+with_lists-requires c = ap length c.in_ok-properties.ensures ∙ length-set c.args.self.now.properties c.args.revision _

@@ -1,4 +1,4 @@
-use Rattle.std.proofs.Common.{◌≡◌, sym, ap, ◌∙◌}
+use Rattle.std.proofs.Common.{sym, ap, ◌∙◌}
 use Rattle.repo_api.specs.Kinds.{text_of}
 use Rattle.txntree.specs.Whole.{txn_tree}
 use Rattle.held.specs.declared.held.Held.{Held}

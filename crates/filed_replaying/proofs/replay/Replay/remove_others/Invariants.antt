@@ -1,8 +1,0 @@
-use Rattle.filed_replaying.specs.Rests.{RestsOn}
-use Rattle.filed_replaying.proofs.replay.Replay.remove_others.Given as goal
-
-abbrev pub invariant-loop-name : goal.invariant-loop-name
-invariant-loop-name l =
-    (goal.iterator-loop-name).can_next l.name-iterator ×
-    (goal.iterator-loop-name).is_finite l.name-iterator ×
-    RestsOn l.self.world.now l.txn

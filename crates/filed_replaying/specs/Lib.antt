@@ -1,2 +1,0 @@
-pub mod Replayed
-pub mod Rests

@@ -1,9 +1,0 @@
-use Rattle.std.proofs.Common.{◌≡◌, map, subst}
-use Rattle.std.specs.Map.Iter.{deref_pair}
-use Rattle.std.specs.Prelude.{IfOk}
-use Rattle.std.proofs.lemmas.Iterator.Consumers.{map_from_collect, YieldsList-from_rest}
-use Rattle.filed_trees.proofs.content.rows_of.Goals as goal
-
-pub returns : goal.returns
-returns c = subst (λ r. IfOk r (λ w. map deref_pair w.items ≡ c.args.properties.now)) c.in_ok-collect.was
-    (map_from_collect c.collect.result c.collect.ensures.ran (YieldsList-from_rest c.args.properties.now c.iter.ensures))

@@ -1,0 +1,10 @@
+pub mod Walking
+pub mod Finite
+pub mod Next
+pub mod Trees
+pub mod Marks
+pub mod Sound
+pub mod Searching
+pub mod Listed
+pub mod Lists
+pub mod Ordered

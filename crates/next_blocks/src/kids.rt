@@ -1,0 +1,89 @@
+//! The entries of the directories of a block.
+ghost use Rattle.std.specs.Prelude.{◌≡◌, true, IfOk, Some, None, Decides};
+ghost use Rattle.std.specs.FinMap.{entries};
+ghost use Rattle.std.specs.List.Sorted.{IsStrictlySortedBy};
+ghost use Rattle.std.specs.Map.{keys_of};
+ghost use Rattle.svnpath.specs.Paths.{Component, path_cmp};
+ghost use Rattle.noderevs.specs.Nodes.{kid_of};
+ghost use Rattle.noderevs.specs.declared.node_rev.NodeId.{NodeId};
+ghost use Rattle.next_blocks.specs.Rules.{IsNewKid, IsOldKid, IsRightKid, past_of};
+
+use crate::changes::is_made;
+use crate::next_block::NextBlock;
+use byte_string::ByteString;
+use noderevs::{NodeId, NodeRev};
+use std::alloc::{AllocError, Global};
+use svnpath::{Path, is_component};
+
+/// Says whether two paths are the same.
+pub(crate) fn is_same_path(path: &Path, other: &Path) -> bool
+    ensures { Decides result (path.now ≡ other.now) }
+{
+    path == other
+}
+
+/// Says whether an id is this one.
+pub(crate) fn is_id(found: Option<NodeId>, id: NodeId) -> bool
+    ensures { Decides result (found ≡ Some id) }
+{
+    found == Some(id)
+}
+
+impl NextBlock<'_> {
+    /// Says whether an entry at a path is a node of the block that was made there.
+    fn is_new_kid(self, path: &Path, kid: NodeId) -> bool
+        ensures { Decides result (IsNewKid (past_of self.entry.nodes.now) self.entry.block.now
+            path.now kid) }
+    {
+        match self.block.nodes.get(kid.place as usize) {
+            Some(node) => self.is_new(kid) && is_same_path(&node.path, path),
+            None => false,
+        }
+    }
+
+    /// Says whether an entry at a path is a node of an earlier revision, which was there before if
+    /// nothing was made there.
+    fn is_old_kid(self, path: &Path, kid: NodeId) -> bool
+        requires { IsStrictlySortedBy path_cmp (keys_of self.changes.now) }
+        ensures { Decides result (IsOldKid (past_of self.entry.nodes.now) self.entry.changes.now
+            path.now kid) }
+    {
+        self.nodes.node(kid).is_some()
+            && (is_made(self.changes, path.components())
+                || is_id(self.find_before(path.components()), kid))
+    }
+
+    /// Says whether an entry of a directory is one that it may have.
+    fn is_right_kid(
+        self,
+        alloc: Global,
+        directory: &Path,
+        name: &ByteString,
+        kid: NodeId,
+    ) -> Result<bool, AllocError>
+        requires { IsStrictlySortedBy path_cmp (keys_of self.changes.now) }
+        ensures { IfOk result (λ answer. Decides answer (IsRightKid
+            (past_of self.entry.nodes.now) self.entry.block.now self.entry.changes.now directory.now
+            name.now kid)) }
+    {
+        let path = directory.child(alloc, name.clone()?)?;
+        let is_placed = self.is_new_kid(&path, kid) || self.is_old_kid(&path, kid);
+        Ok(is_placed && is_component(name.as_slice()))
+    }
+
+    /// Says whether the entries of a node are those that it may have.
+    pub(crate) fn are_right_kids(self, alloc: Global, node: &NodeRev) -> Result<bool, AllocError>
+        requires { IsStrictlySortedBy path_cmp (keys_of self.changes.now) }
+        ensures { IfOk result (λ answer. Decides answer ((name : Component) (kid : NodeId)
+            → kid_of name node.now ≡ Some kid → IsRightKid (past_of self.entry.nodes.now)
+            self.entry.block.now self.entry.changes.now node.now.path name kid)) }
+    {
+        let entries = node.kids.entries(alloc)?;
+        for entry in &entries {
+            if !self.is_right_kid(alloc, &node.path, &entry.0, entry.1)? {
+                return Ok(false);
+            }
+        }
+        Ok(true)
+    }
+}

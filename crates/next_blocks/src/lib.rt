@@ -1,0 +1,13 @@
+//! The rules by which a block of nodes may be the next revision of a repository.
+#![tactic(auto)]
+
+mod block;
+mod changes;
+mod kids;
+mod next_block;
+mod node;
+mod own;
+
+pub use changes::change_of;
+pub use next_block::NextBlock;
+pub use own::are_same_properties;

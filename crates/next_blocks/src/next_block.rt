@@ -1,0 +1,69 @@
+//! A block that is to come after the revisions of nodes.
+ghost use Rattle.std.specs.Prelude.{◌≡◌, ◌==◌, Some, option_copied};
+ghost use Rattle.noderevs.specs.Held.{count};
+ghost use Rattle.noderevs.specs.Nodes.{kid_at};
+ghost use Rattle.next_blocks.specs.Rules.{beside, id_before, id_in, past_of};
+
+use byte_string::ByteString;
+use noderevs::{Block, NodeId, NodeRev, Nodes};
+use repo_api::Change;
+use svnpath::Path;
+
+/// Holds a block that is to come after the revisions of nodes, and the changes of its revision in the
+/// order of their paths.
+#[derive(Clone, Copy)]
+pub struct NextBlock<'a> {
+    pub nodes: &'a Nodes,
+    pub block: &'a Block,
+    pub changes: &'a [(Path, Change)],
+}
+
+impl<'a> NextBlock<'a> {
+    /// Says whether a node is one of the block.
+    pub(crate) fn is_new(self, id: NodeId) -> bool
+        ensures { result ≡ (id.rev == count self.entry.nodes.now) }
+    {
+        id.rev as usize == self.nodes.count()
+    }
+
+    /// Finds the node of an id, of the block or of an earlier revision.
+    pub(crate) fn node(self, id: NodeId) -> Option<&'a NodeRev>
+        ensures { option_copied result ≡ beside (past_of self.entry.nodes.now) self.entry.block.now id }
+    {
+        if self.is_new(id) {
+            self.block.nodes.get(id.place as usize)
+        } else {
+            self.nodes.node(id)
+        }
+    }
+
+    /// Finds the id of an entry of a directory.
+    pub(crate) fn kid(self, directory: NodeId, name: &ByteString) -> Option<NodeId>
+        ensures { result ≡ kid_at (beside (past_of self.entry.nodes.now) self.entry.block.now)
+            (Some directory) name.now }
+    {
+        match self.node(directory)?.kids.get(name) {
+            Some(id) => Some(*id),
+            None => None,
+        }
+    }
+
+    /// Finds the id that a path of the block's tree leads to.
+    pub(crate) fn find(self, path: &[ByteString]) -> Option<NodeId>
+        ensures { result ≡ id_in (past_of self.entry.nodes.now) self.entry.block.now path.now }
+    {
+        let mut at = self.block.root;
+        for name in path {
+            at = self.kid(at, name)?;
+        }
+        Some(at)
+    }
+
+    /// Finds the id that a path of the youngest revision before leads to.
+    pub(crate) fn find_before(self, path: &[ByteString]) -> Option<NodeId>
+        ensures { result ≡ id_before (past_of self.entry.nodes.now) path.now }
+    {
+        let youngest = self.nodes.count().saturating_sub(1) as u64;
+        self.nodes.find_in(self.nodes.root(youngest), path)
+    }
+}

@@ -1,0 +1,140 @@
+//! The rules of each node of a block.
+ghost use Rattle.std.specs.Prelude.{◌≡◌, ◌<◌, ◌≤◌, true, length, List, ℕ, IfOk, None, Some, slice_get, Decides};
+ghost use Rattle.std.specs.Arc.{arc_value};
+ghost use Rattle.std.specs.List.Sorted.{IsStrictlySortedBy};
+ghost use Rattle.std.specs.Map.{keys_of};
+ghost use Rattle.svnpath.specs.Paths.{Component, path_cmp};
+ghost use Rattle.repo_api.specs.Trees.{is_directory_content};
+ghost use Rattle.repo_api.specs.declared.limits.TheConstants.{TEXT_LIMIT};
+ghost use Rattle.repo_api.specs.declared.entry.Content.TheVariants.{File};
+ghost use Rattle.noderevs.specs.Heights.{IsHeight};
+ghost use Rattle.noderevs.specs.Held.{count};
+ghost use Rattle.noderevs.specs.Nodes.{kid_of};
+ghost use Rattle.noderevs.specs.declared.node_rev.NodeRev.{NodeRev};
+ghost use Rattle.next_blocks.specs.Rules.{IsRightFile, IsRightNode, KeepsOwn, beside, id_in, past_of};
+
+use crate::changes::is_made;
+use crate::kids::is_id;
+use crate::next_block::NextBlock;
+use noderevs::{NodeId, NodeRev};
+use repo_api::{Content, TEXT_LIMIT};
+use std::alloc::{AllocError, Global};
+
+/// Says whether a node has no entries.
+fn has_no_kids(alloc: Global, node: &NodeRev) -> Result<bool, AllocError>
+    ensures { IfOk result (λ answer. Decides answer ((name : Component)
+        → kid_of name node.now ≡ None)) }
+{
+    let names = node.kids.names(alloc)?;
+    let names = names.as_slice();
+    Ok(names.is_empty())
+}
+
+/// Says whether a node is a directory.
+pub(crate) fn is_directory(node: &NodeRev) -> bool
+    ensures { result ≡ is_directory_content (arc_value node.now.content) }
+{
+    matches!(&*node.content, Content::Directory)
+}
+
+/// Says whether the text of a file is not too long.
+fn is_short(node: &NodeRev) -> bool
+    ensures { Decides result ((text : List ℕ) → arc_value node.now.content ≡ File text
+        → length text ≤ TEXT_LIMIT) }
+{
+    match &*node.content {
+        Content::Directory => true,
+        Content::File(text) => text.as_slice().len() <= TEXT_LIMIT,
+    }
+}
+
+/// Says whether a file has no entries, and a text that is not too long.
+fn is_right_file(alloc: Global, node: &NodeRev) -> Result<bool, AllocError>
+    ensures { IfOk result (λ answer. Decides answer ((text : List ℕ)
+        → arc_value node.now.content ≡ File text → IsRightFile node.now text)) }
+{
+    if is_directory(node) {
+        return Ok(true);
+    }
+    let is_empty = has_no_kids(alloc, node)?;
+    Ok(is_empty && is_short(node))
+}
+
+impl NextBlock<'_> {
+    /// Says whether a node is where its path leads to.
+    fn is_placed(self, place: usize, node: &NodeRev) -> bool
+        requires { count self.nodes.now < 262144 }
+        ensures { Decides result (id_in (past_of self.entry.nodes.now) self.entry.block.now
+            node.now.path ≡ Some (record {
+              rev = (past_of self.entry.nodes.now).count;
+              place = place;
+            })) }
+    {
+        let id = NodeId {
+            rev: self.nodes.count() as u32,
+            place: place as u64,
+        };
+        is_id(self.find(node.path.components()), id)
+    }
+
+    /// Says whether a node has its height.
+    fn has_its_height(self, alloc: Global, node: &NodeRev) -> Result<bool, AllocError>
+        requires { count self.nodes.now < 262144 }
+        ensures { IfOk result (λ answer. Decides answer (IsHeight (beside
+            (past_of self.entry.nodes.now) self.entry.block.now) node.now.kids node.now.height)) }
+    {
+        let rev = self.nodes.count() as u32;
+        let block = self.block.nodes.as_slice();
+        let height = self.nodes.height_over(alloc, rev, block, &node.kids)?;
+        Ok(height == node.height)
+    }
+
+    /// Says whether the own last change of a node was made by this revision, or else is that from
+    /// before, where nothing was made.
+    fn keeps_own(self, node: &NodeRev) -> bool
+        requires { IsStrictlySortedBy path_cmp (keys_of self.changes.now) }
+        ensures { Decides result (KeepsOwn (past_of self.entry.nodes.now) self.entry.changes.now
+            node.now) }
+    {
+        let path = node.path.components();
+        let before = self.nodes.held(self.find_before(path));
+        node.own.rev as usize == self.nodes.count()
+            || is_made(self.changes, path)
+            || before.is_some_and(|before| before.own.rev == node.own.rev)
+    }
+
+    /// Says whether a node of the block, at its place, keeps the rules.
+    fn is_right_node(self, alloc: Global, place: usize, node: &NodeRev) -> Result<bool, AllocError>
+        requires sorted { IsStrictlySortedBy path_cmp (keys_of self.changes.now) }
+        requires room { count self.nodes.now < 262144 }
+        ensures { IfOk result (λ answer. Decides answer (IsRightNode
+            (past_of self.entry.nodes.now) self.entry.block.now self.entry.changes.now place
+            node.now)) }
+    {
+        if !self.has_its_height(alloc, node)? || !is_right_file(alloc, node)? {
+            return Ok(false);
+        }
+        if !self.names_own(alloc, node)? || !self.are_right_kids(alloc, node)? {
+            return Ok(false);
+        }
+        Ok(self.is_placed(place, node) && self.keeps_own(node))
+    }
+
+    /// Says whether each node of the block keeps the rules.
+    pub(crate) fn are_right_nodes(self, alloc: Global) -> Result<bool, AllocError>
+        requires sorted { IsStrictlySortedBy path_cmp (keys_of self.changes.now) }
+        requires room { count self.nodes.now < 262144 }
+        ensures { IfOk result (λ answer. Decides answer ((k : ℕ) (node : NodeRev)
+            → slice_get self.entry.block.now.nodes.items k ≡ Some node
+            → IsRightNode (past_of self.entry.nodes.now) self.entry.block.now
+            self.entry.changes.now k node)) }
+    {
+        let nodes = self.block.nodes.as_slice();
+        for place in 0..nodes.len() {
+            if !self.is_right_node(alloc, place, &nodes[place])? {
+                return Ok(false);
+            }
+        }
+        Ok(true)
+    }
+}
