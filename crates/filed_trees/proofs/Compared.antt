@@ -93,7 +93,7 @@ module _ (files : RevisionBytes) (places : Places) (rows : ChangeRows) (for : Ar
       → path_in piece.node ≡ Some node.path → IsEarlier places piece.node.predecessor e
       → own_from (λ _. earlier_own e) (Made (revision_in places) node.path) (if is_some (found rows node.path) then None else piece.node.predecessor)
       ≡ Some (mark_of node.own)
-      → HasContent files (tables_of places) piece.node node
+      → HasContent files (tables_of places) piece.node (arc_value node.content) node.kids
       → properties_in files piece.node.properties ≡ Some (arc_value node.properties)
       → (id : NodeId) → id.rev ≡ revision_in places → IsFiled files (tables_of places) id node (placed_of piece.node)
   compared_filed piece node e last path at own content properties id rev = record {

@@ -8,8 +8,7 @@ use Rattle.repo_api.specs.Properties.{PropertyList}
 use Rattle.repo_api.specs.Trees.{content_text}
 use Rattle.repo_api.specs.declared.entry.Content.{Content}
 use Rattle.repo_api.specs.declared.entry.Content.TheVariants as contents
-use Rattle.noderevs.specs.Nodes.{kid_of}
-use Rattle.noderevs.specs.declared.node_rev.NodeRev.{NodeRev}
+use Rattle.noderevs.specs.Nodes.{Kids, kid_named, kid_of}
 use Rattle.fsfs_ids.specs.declared.representation.Representation.{Representation}
 use Rattle.fsfs_nodes.specs.declared.entries.DirectoryEntry.{DirectoryEntry}
 use Rattle.fsfs_nodes.specs.declared.entries.EntryKind.{EntryKind}
@@ -80,9 +79,9 @@ module _ (files : RevisionBytes) (places : Places) where
       ap (properties_in files) line ∙ f.properties ∙ is
 
   pub kept_entries : (e : Earlier) → WasFiled files places (Some e) → arc_value e.node.now.content ≡ contents.Directory
-      → (node : NodeRev) → ((name : Component) → kid_of name node ≡ kid_of name e.node.now)
-      → (line : Option Representation) → line ≡ e.placed.now.text → HasEntries files (tables_of places) line node
-  kept_entries e was directory node same line is =
+      → (ids : Kids) → ((name : Component) → kid_named ids name ≡ kid_of name e.node.now)
+      → (line : Option Representation) → line ≡ e.placed.now.text → HasEntries files (tables_of places) line ids
+  kept_entries e was directory ids same line is =
       let f = was.1 in
       let text : e.placed.now.text ≡ f.piece.node.text = ap (λ p. p.text) f.is in record {
         entries = f.entries;
@@ -91,19 +90,19 @@ module _ (files : RevisionBytes) (places : Places) where
         kids = λ name. subst (λ o. IsAt (tables_of places) o (entry_named name f.entries)) (sym (same name)) (f.kids name);
       }
 
-pub file_content : (files : RevisionBytes) (tables : List Table) (said : FileNode) (node : NodeRev) (t : List ℕ) → said.kind ≡ File
-    → arc_value node.content ≡ contents.File t → text_in files said.text ≡ Some t → ((name : Component) → kid_of name node ≡ None)
-    → HasContent files tables said node
-file_content files tables said node t kind is text none = record {
+pub file_content : (files : RevisionBytes) (tables : List Table) (said : FileNode) (content : Content) (ids : Kids) (t : List ℕ) → said.kind ≡ File
+    → content ≡ contents.File t → text_in files said.text ≡ Some t → ((name : Component) → kid_named ids name ≡ None)
+    → HasContent files tables said content ids
+file_content files tables said content ids t kind is text none = record {
   content = ap (content_by files said.text) kind ∙ ap (option_map contents.File) text ∙ ap Some (sym is);
   entries = [];
   read = ap (entries_by files said.text) kind;
   kids = λ name. subst (λ o. IsAt tables o None) (sym (none name)) tt;
 }
 
-pub directory_content : (files : RevisionBytes) (tables : List Table) (said : FileNode) (node : NodeRev) → said.kind ≡ Directory
-    → arc_value node.content ≡ contents.Directory → HasEntries files tables said.text node → HasContent files tables said node
-directory_content files tables said node kind is has = record {
+pub directory_content : (files : RevisionBytes) (tables : List Table) (said : FileNode) (content : Content) (ids : Kids) → said.kind ≡ Directory
+    → content ≡ contents.Directory → HasEntries files tables said.text ids → HasContent files tables said content ids
+directory_content files tables said content ids kind is has = record {
   content = ap (content_by files said.text) kind ∙ ap (option_map (λ es. contents.Directory)) has.read ∙ ap Some (sym is);
   entries = has.entries;
   read = ap (entries_by files said.text) kind ∙ has.read;

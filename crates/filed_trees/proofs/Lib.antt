@@ -1,5 +1,7 @@
 mod Lists
 mod Named
+mod Entering
+mod Reading
 mod Kept
 mod Read
 mod Growing

@@ -22,7 +22,7 @@ use Rattle.filed_trees.specs.Tables.{IsAt}
 use Rattle.filed_trees.specs.Comparing.{named_kid, IsAmong}
 use Rattle.filed_trees.specs.declared.table.Table.{Table}
 
-at_name : (name n : Component) → is_at (slice_cmp nat_cmp name) n ≡ same_component name n
+pub at_name : (name n : Component) → is_at (slice_cmp nat_cmp name) n ≡ same_component name n
 at_name name n = sym (texts_ties name n)
 
 found_by : (es : List (Component × NodeId)) (name : Component)

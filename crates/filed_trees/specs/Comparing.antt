@@ -1,5 +1,5 @@
 -- Comparing the nodes of a revision with its file.
-use Rattle.std.specs.Prelude.{◌≡◌, ◌<◌, ℕ, List, [], ◌∷◌, ◌++◌, Option, Some, None, IfSome, IsSomeAnd, slice_get, suc, length}
+use Rattle.std.specs.Prelude.{◌≡◌, ◌<◌, ℕ, List, [], ◌∷◌, ◌++◌, Option, Some, None, IfSome, IsSome, IsSomeAnd, slice_get, suc, length}
 use Rattle.std.specs.Borrow.{Bor}
 use Rattle.std.specs.Arc.{arc_value}
 use Rattle.std.specs.BTreeMap.{is_at}
@@ -10,10 +10,11 @@ use Rattle.svnpath.specs.Paths.{Component, PathValue}
 use Rattle.repo_api.specs.Properties.{PropertyList}
 use Rattle.repo_api.specs.Trees.{content_text}
 use Rattle.noderevs.specs.Held.{node_at}
-use Rattle.noderevs.specs.Nodes.{kid_of, mark_of}
+use Rattle.noderevs.specs.Nodes.{Kids, kid_named, mark_of}
+use Rattle.noderevs.specs.declared.node_rev.Block.{Block}
 use Rattle.noderevs.specs.declared.node_rev.NodeId.{NodeId}
-use Rattle.noderevs.specs.declared.node_rev.NodeRev.{NodeRev}
 use Rattle.noderevs.specs.declared.nodes.Nodes.{Nodes}
+use Rattle.repo_api.specs.declared.entry.Content.{Content}
 use Rattle.repo_api.specs.declared.entry.Mark.{Mark}
 use Rattle.fsfs_ids.specs.declared.id.FileId.{FileId}
 use Rattle.fsfs_ids.specs.declared.representation.Representation.{Representation}
@@ -22,6 +23,7 @@ use Rattle.fsfs_nodes.specs.declared.node.FileNode.{FileNode}
 use Rattle.fsfs_reading.specs.declared.piece.FilePiece.{FilePiece}
 use Rattle.filed_trees.specs.Pieces.{RevisionBytes, piece_in, body_at_line, content_in, entries_in, entries_at, entry_named, path_in}
 use Rattle.filed_trees.specs.Changes.{ChangeRows, changes_in}
+use Rattle.filed_trees.specs.Trees.{first_id}
 use Rattle.filed_trees.specs.Tables.{placed_in, IsAt, IsFiled, IsPlaced}
 use Rattle.filed_trees.specs.declared.table.Table.{Table}
 use Rattle.filed_trees.specs.declared.body.Body.{Body}
@@ -41,6 +43,11 @@ IsAmong kids kid =
 -- the id at a name
 abbrev pub id_at : List (Component × FileId) → Component → Option FileId
 id_at ids name = lookup (is_at (slice_cmp nat_cmp name)) ids
+
+-- each entry has a name that the ids have
+abbrev pub AreNamed : (Component → Option FileId) → Kids → Type 0
+AreNamed ids kids =
+    (name : Component) (id : NodeId) → kid_named kids name ≡ Some id → IsSome (ids name)
 
 -- where what came with a node revision of this revision's file stands in the files, if its line is of
 -- this revision
@@ -98,18 +105,18 @@ WasFiled files places earlier =
 
 -- a line gives the entries of a node
 pub record HasEntries (files : RevisionBytes) (tables : List Table) (line : Option Representation)
-    (node : NodeRev) : Type 0 where
+    (ids : Kids) : Type 0 where
   pub entries : List DirectoryEntry
   pub read : entries_at files line ≡ Some entries
-  pub kids : (name : Component) → IsAt tables (kid_of name node) (entry_named name entries)
+  pub kids : (name : Component) → IsAt tables (kid_named ids name) (entry_named name entries)
 
 -- a node revision gives the content and the entries of a node
 pub record HasContent (files : RevisionBytes) (tables : List Table) (said : FileNode)
-    (node : NodeRev) : Type 0 where
-  pub content : content_in files said ≡ Some (arc_value node.content)
+    (content_is : Content) (ids : Kids) : Type 0 where
+  pub content : content_in files said ≡ Some content_is
   pub entries : List DirectoryEntry
   pub read : entries_in files said ≡ Some entries
-  pub kids : (name : Component) → IsAt tables (kid_of name node) (entry_named name entries)
+  pub kids : (name : Component) → IsAt tables (kid_named ids name) (entry_named name entries)
 
 -- a piece of the file of this revision, the last of the files
 pub record IsOfLast (files : RevisionBytes) (revision : ℕ) (piece : FilePiece) : Type 0 where
@@ -139,3 +146,11 @@ pub record AreForAll (files : RevisionBytes) (nodes : Nodes) (tables : List Tabl
       → IsPlaced files (tables ++ table ∷ []) id (node_at nodes id) (placed_in tables id)
   pub last : (k : ℕ) (piece : FilePiece) → slice_get pieces k ≡ Some piece
       → IsOfLast files (length tables) piece
+
+-- the nodes of a block are those that the last file says, as its table places them
+pub record AreNew (files : RevisionBytes) (tables : List Table) (block : Block) (table : Table)
+    (pieces : List FilePiece) : Type 0 where
+  pub nodes : (id : NodeId) → id.rev ≡ length tables
+      → IsPlaced files (tables ++ table ∷ []) id (slice_get block.nodes.items id.place)
+      (slice_get table.placed.items id.place)
+  pub root : IsAt (tables ++ table ∷ []) (Some block.root) (first_id pieces)

@@ -1,130 +1,97 @@
 //! The nodes of a revision, read from its file.
+ghost use Rattle.std.specs.Prelude.{◌≡◌, ◌++◌, ◌∷◌, [], ℕ, List, Option, Some, None, Ok, All, Contains, length, map, slice_get, is_some, if◌then◌else◌, IfOk, option_copied, option_map};
+ghost use Rattle.std.specs.Arc.{arc_value};
+ghost use Rattle.repo_api.specs.States.{ChangeMap};
+ghost use Rattle.repo_api.specs.declared.entry.Content.TheVariants as contents;
+ghost use Rattle.repo_api.specs.declared.entry.Mark.TheVariants as marks;
+ghost use Rattle.noderevs.specs.Held.{blocks_of};
+ghost use Rattle.noderevs.specs.Nodes.{mark_of};
+ghost use Rattle.noderevs.specs.declared.node_rev.NodeId.{NodeId};
+ghost use Rattle.revision_data.specs.Found.{found};
+ghost use Rattle.fsfs_ids.specs.declared.id.FileId.{FileId};
+ghost use Rattle.fsfs_ids.specs.declared.representation.Representation.{Representation};
+ghost use Rattle.fsfs_reading.specs.Pieces.{revision_of};
+ghost use Rattle.filed_trees.specs.Pieces.{RevisionBytes, properties_in, text_in};
+ghost use Rattle.filed_trees.specs.Tables.{AreTabled, IsAt, IsFiled, IsPlaced, placed_of};
+ghost use Rattle.filed_trees.specs.Trees.{own_from};
+ghost use Rattle.filed_trees.specs.declared.places.Places.{Places};
+ghost use Rattle.filed_trees.specs.Comparing.{AreFor, AreForAll, AreNew, CameWith, HasContent, HasEntries, IsBody, IsEarlier, IsOfLast, WasFiled, earlier_own, earlier_text, revision_in, tables_of};
 
 use crate::body::{Body, body_of};
-use crate::changes::read_path;
-use crate::places::{
-    Earlier, Places, earlier_properties, earlier_text, find_earlier, is_same_id, node_of,
-};
-use crate::table::Table;
-use byte_string::ByteString;
+use crate::changes::{changes_by_path, note_order, read_path};
+use crate::entries::{is_directory, read_kids, same_kids};
+use crate::places::{Earlier, Places, earlier_properties, earlier_text, find_earlier, node_of};
+use crate::table::{Table, table_of};
 use fsfs_folder::read_properties;
-use fsfs_ids::FileId;
 use fsfs_lines::FileFault;
-use fsfs_nodes::{DirectoryEntry, EntryKind, read_entries};
-use fsfs_reading::FilePiece;
+use fsfs_nodes::EntryKind;
+use fsfs_reading::{FilePiece, RevisionFile};
 use noderevs::{Block, Made, NodeId, NodeRev, Nodes};
 use pvec::PVec;
 use repo_api::{Change, Content, FileText, Properties};
+use revision_data::ChangeList;
 use shared_map::SharedMap;
 use std::alloc::{AllocError, Global};
-use std::collections::{BTreeMap, BTreeSet};
+use std::collections::BTreeMap;
 use std::sync::Arc;
 use svnpath::Path;
 
-/// Holds what is known where a node is read: what stands in the files of the revisions before, the node
-/// revisions of this one, the root first and then by falling offsets, and its changes.
+/// Holds what is known where a node is read: what stands in the files of the revisions and in that of
+/// this one, and the changes of this one.
 #[derive(Clone, Copy)]
 struct Reading<'a> {
     alloc: Global,
     places: Places<'a>,
-    pieces: &'a [FilePiece],
     changes: &'a BTreeMap<Path, Change>,
 }
 
 /// Makes the content of a file with these bytes.
-fn file_of(alloc: Global, bytes: &[u8]) -> Result<Arc<Content>, AllocError> {
+fn file_of(alloc: Global, bytes: &[u8]) -> Result<Arc<Content>, AllocError>
+    ensures { IfOk result (λ content. arc_value content ≡ contents.File bytes.now) }
+{
     let bytes = Arc::new(alloc, Vec::from_slice(alloc, bytes)?)?;
     Ok(Arc::new(alloc, Content::File(FileText::from_shared(bytes)))?)
 }
 
-/// Lists the names that a map has and entries do not.
-fn other_names(
-    alloc: Global,
-    kids: &SharedMap<NodeId>,
-    entries: &[DirectoryEntry],
-) -> Result<Vec<ByteString>, AllocError> {
-    let mut named = BTreeSet::new(alloc);
-    for entry in entries {
-        named.insert(entry.name.clone()?)?;
-    }
-    let mut others = Vec::new(alloc);
-    for name in kids.names(alloc)?.as_slice() {
-        if !named.contains(*name) {
-            others.push((*name).clone()?)?;
-        }
-    }
-    Ok(others)
-}
-
-/// Shares the entries of the predecessor, none where there is no predecessor.
-fn kids_before(
-    alloc: Global,
-    earlier: Option<Earlier<'_>>,
-) -> Result<SharedMap<NodeId>, AllocError> {
+/// Shares the text of the predecessor.
+///
+/// # Errors
+///
+/// `Dangling` where it is no file.
+fn text_before(earlier: Option<Earlier<'_>>) -> Result<Arc<Content>, FileFault>
+    ensures { IfOk result (λ content. (files : RevisionBytes) (places : Places)
+        → WasFiled files places earlier.entry → (t : List ℕ)
+        × ((arc_value content ≡ contents.File t)
+        × (text_in files (earlier_text earlier.entry) ≡ Some t))) }
+{
     match earlier {
-        Some(earlier) => earlier.node.kids.share(alloc),
-        None => Ok(SharedMap::new(alloc)),
+        Some(earlier) if !is_directory(earlier.node) => {
+            Ok(Arc::try_clone(&earlier.node.content)?)
+        }
+        _ => Err(FileFault::Dangling),
     }
 }
 
 impl Reading<'_> {
     /// Says which revision is read.
-    fn revision(self) -> u32 {
+    fn revision(self) -> u32
+        ensures { result ≡ revision_in self.entry.places }
+    {
         self.places.tables.len() as u32
     }
 
-    /// Finds the node that a node revision of this file is. Nodes stand by rising offsets.
-    fn new_node(self, id: FileId) -> Option<NodeId> {
-        let found = self
-            .pieces
-            .binary_search_by(|piece| id.offset.cmp(&piece.node.id.offset))
-            .ok()?;
-        if !is_same_id(self.pieces.get(found)?.node.id, id) {
-            return None;
+    /// Reads the text of a file. It shares what the predecessor has.
+    fn text(self, body: Body<'_>, earlier: Option<Earlier<'_>>) -> Result<Arc<Content>, FileFault>
+        ensures { IfOk result (λ content. (files : RevisionBytes) (line : Option Representation)
+            → IsBody files line (earlier_text earlier.entry) body.entry
+            → WasFiled files self.entry.places earlier.entry → (t : List ℕ)
+            × ((arc_value content ≡ contents.File t) × (text_in files line ≡ Some t))) }
+    {
+        match body {
+            Body::Empty => Ok(Arc::new(self.alloc, Content::File(FileText::empty()))?),
+            Body::New(bytes) => Ok(file_of(self.alloc, bytes)?),
+            Body::Kept => text_before(earlier),
         }
-        Some(NodeId {
-            rev: self.revision(),
-            place: self.pieces.len().checked_sub(found)?.checked_sub(1)? as u64,
-        })
-    }
-
-    /// Finds the node that a node revision is.
-    ///
-    /// # Errors
-    ///
-    /// `Dangling` where there is none.
-    fn node_id(self, id: FileId) -> Result<NodeId, FileFault> {
-        let found = if id.revision == self.revision() {
-            self.new_node(id)
-        } else {
-            node_of(self.places.tables, id)
-        };
-        found.ok_or(FileFault::Dangling)
-    }
-
-    /// Puts entries in a map where it has others at their names.
-    fn put_entries(
-        self,
-        kids: &mut SharedMap<NodeId>,
-        entries: &[DirectoryEntry],
-    ) -> Result<(), FileFault> {
-        for entry in entries {
-            let id = self.node_id(entry.id)?;
-            if kids.get(&entry.name) != Some(&id) {
-                kids.put(self.alloc, entry.name.clone()?, id)?;
-            }
-        }
-        Ok(())
-    }
-
-    /// Makes the entries of a directory those that its bytes say.
-    fn set_entries(self, kids: &mut SharedMap<NodeId>, bytes: &[u8]) -> Result<(), FileFault> {
-        let entries = read_entries(self.alloc, bytes)?;
-        self.put_entries(kids, entries.as_slice())?;
-        for name in other_names(self.alloc, kids, entries.as_slice())?.as_slice() {
-            kids.remove(name)?;
-        }
-        Ok(())
     }
 
     /// Reads the entries of a directory. They share what the predecessor has.
@@ -132,27 +99,39 @@ impl Reading<'_> {
         self,
         body: Body<'_>,
         earlier: Option<Earlier<'_>>,
-    ) -> Result<SharedMap<NodeId>, FileFault> {
+    ) -> Result<SharedMap<NodeId>, FileFault>
+        ensures { IfOk result (λ kids. (files : RevisionBytes) (line : Option Representation)
+            → IsBody files line (earlier_text earlier.entry) body.entry
+            → WasFiled files self.entry.places earlier.entry
+            → HasEntries files (tables_of self.entry.places) line kids) }
+    {
         match body {
             Body::Empty => Ok(SharedMap::new(self.alloc)),
-            Body::Kept => Ok(kids_before(self.alloc, earlier)?),
-            Body::New(bytes) => {
-                let mut kids = kids_before(self.alloc, earlier)?;
-                self.set_entries(&mut kids, bytes)?;
-                Ok(kids)
-            }
+            Body::New(bytes) => read_kids(self.alloc, self.places, bytes, earlier),
+            Body::Kept => same_kids(self.alloc, earlier),
         }
     }
 
-    /// Reads the text of a file. It shares what the predecessor has.
-    fn text(self, body: Body<'_>, earlier: Option<Earlier<'_>>) -> Result<Arc<Content>, FileFault> {
-        match body {
-            Body::Empty => Ok(Arc::new(self.alloc, Content::File(FileText::empty()))?),
-            Body::New(bytes) => Ok(file_of(self.alloc, bytes)?),
-            Body::Kept => match earlier {
-                Some(earlier) => Ok(Arc::try_clone(&earlier.node.content)?),
-                None => Err(FileFault::Dangling),
-            },
+    /// Reads what a node contains: a text, or entries.
+    fn content(
+        self,
+        piece: &FilePiece,
+        earlier: Option<Earlier<'_>>,
+    ) -> Result<(Arc<Content>, SharedMap<NodeId>), FileFault>
+        ensures { IfOk result (λ read. (files : RevisionBytes)
+            → CameWith files (revision_in self.entry.places) piece.now.node.text piece.now.text
+            → WasFiled files self.entry.places earlier.entry
+            → HasContent files (tables_of self.entry.places) piece.now.node (arc_value read.0)
+            read.1) }
+    {
+        let kept = earlier_text(earlier);
+        let body = body_of(self.revision(), piece.node.text, &piece.text, kept)?;
+        match piece.node.kind {
+            EntryKind::File => Ok((self.text(body, earlier)?, SharedMap::new(self.alloc))),
+            EntryKind::Directory => {
+                let content = Arc::new(self.alloc, Content::Directory)?;
+                Ok((content, self.kids(body, earlier)?))
+            }
         }
     }
 
@@ -161,7 +140,13 @@ impl Reading<'_> {
         self,
         piece: &FilePiece,
         earlier: Option<Earlier<'_>>,
-    ) -> Result<Arc<Properties>, FileFault> {
+    ) -> Result<Arc<Properties>, FileFault>
+        ensures { IfOk result (λ properties. (files : RevisionBytes)
+            → CameWith files (revision_in self.entry.places) piece.now.node.properties
+            piece.now.properties
+            → WasFiled files self.entry.places earlier.entry
+            → properties_in files piece.now.node.properties ≡ Some (arc_value properties)) }
+    {
         let line = piece.node.properties;
         let kept = earlier_properties(earlier);
         match body_of(self.revision(), line, &piece.properties, kept)? {
@@ -176,7 +161,14 @@ impl Reading<'_> {
 
     /// Says where a node itself was last changed: here, where its path is listed as changed or there is
     /// no predecessor, else where the predecessor was.
-    fn own(self, path: &Path, earlier: Option<Earlier<'_>>) -> Result<Made, AllocError> {
+    fn own(self, path: &Path, earlier: Option<Earlier<'_>>) -> Result<Made, AllocError>
+        ensures { IfOk result (λ own. (predecessor : Option FileId)
+            → IsEarlier self.entry.places predecessor earlier.entry
+            → own_from (λ _. earlier_own earlier.entry)
+            (marks.Made (revision_in self.entry.places) path.now)
+            (if is_some (found self.entry.changes.now.entries path.now) then None else predecessor)
+            ≡ Some (mark_of own)) }
+    {
         match earlier {
             Some(earlier) if self.changes.get(path).is_none() => Ok(Made {
                 rev: earlier.node.own.rev,
@@ -189,21 +181,19 @@ impl Reading<'_> {
         }
     }
 
-    /// Reads a node, whose entries are nodes of earlier revisions or of those that were read before it.
-    fn node(self, piece: &FilePiece, block: &[NodeRev]) -> Result<NodeRev, FileFault> {
+    /// Reads a node, whose entries are nodes of earlier revisions or of this one.
+    fn node(self, piece: &FilePiece, block: &[NodeRev]) -> Result<NodeRev, FileFault>
+        ensures { IfOk result (λ node. (files : RevisionBytes)
+            → AreFor files self.entry.places self.entry.changes.now.entries
+            → IsOfLast files (revision_in self.entry.places) piece.now → (id : NodeId)
+            → id.rev ≡ revision_in self.entry.places
+            → IsFiled files (tables_of self.entry.places) id node (placed_of piece.now.node)) }
+    {
         let path = read_path(self.alloc, &piece.node.path)?;
         let earlier = find_earlier(self.places, piece.node.predecessor)?;
         let own = self.own(&path, earlier)?;
         let properties = self.properties(piece, earlier)?;
-        let line = piece.node.text;
-        let body = body_of(self.revision(), line, &piece.text, earlier_text(earlier))?;
-        let (content, kids) = match piece.node.kind {
-            EntryKind::File => (self.text(body, earlier)?, SharedMap::new(self.alloc)),
-            EntryKind::Directory => (
-                Arc::new(self.alloc, Content::Directory)?,
-                self.kids(body, earlier)?,
-            ),
-        };
+        let (content, kids) = self.content(piece, earlier)?;
         let height = self
             .places
             .nodes
@@ -217,42 +207,140 @@ impl Reading<'_> {
             height,
         })
     }
+
+    /// Finds the root, which is the first node revision.
+    fn root(self, first: Option<&FilePiece>) -> Result<NodeId, FileFault>
+        ensures { IfOk result (λ root. IsAt (tables_of self.entry.places) (Some root)
+            (option_map (λ piece. piece.node.id) (option_copied first.entry))) }
+    {
+        let Some(first) = first else {
+            return Err(FileFault::BadLine);
+        };
+        node_of(self.places, first.node.id).ok_or(FileFault::Dangling)
+    }
+
+    /// Reads all nodes, in the order of their offsets.
+    fn nodes(self, rows: &[&FilePiece]) -> Result<Vec<NodeRev>, FileFault>
+        ensures long { IfOk result (λ nodes. length nodes.items ≡ length rows.now) }
+        ensures filed { IfOk result (λ nodes. (files : RevisionBytes)
+            → AreFor files self.entry.places self.entry.changes.now.entries
+            → All (λ row. IsOfLast files (revision_in self.entry.places) row.now) rows.now
+            → (id : NodeId) → id.rev ≡ revision_in self.entry.places
+            → IsPlaced files (tables_of self.entry.places) id (slice_get nodes.items id.place)
+            (slice_get (map (λ row. placed_of row.now.node) rows.now) id.place)) }
+    {
+        let mut nodes = Vec::new(self.alloc);
+        for row in rows {
+            let node = self.node(row, nodes.as_slice())?;
+            nodes.push(node)?;
+        }
+        Ok(nodes)
+    }
+
+    /// Reads the block of all nodes.
+    fn block(self, rows: &[&FilePiece], first: Option<&FilePiece>) -> Result<Block, FileFault>
+        ensures root { IfOk result (λ block. IsAt (tables_of self.entry.places) (Some block.root)
+            (option_map (λ piece. piece.node.id) (option_copied first.entry))) }
+        ensures filed { IfOk result (λ block. (files : RevisionBytes)
+            → AreFor files self.entry.places self.entry.changes.now.entries
+            → All (λ row. IsOfLast files (revision_in self.entry.places) row.now) rows.now
+            → (id : NodeId) → id.rev ≡ revision_in self.entry.places
+            → IsPlaced files (tables_of self.entry.places) id
+            (slice_get block.nodes.items id.place)
+            (slice_get (map (λ row. placed_of row.now.node) rows.now) id.place)) }
+    {
+        let root = self.root(first)?;
+        let nodes = self.nodes(rows)?;
+        Ok(Block { nodes, root })
+    }
 }
 
-/// Reads the nodes of the next revision from the node revisions of its file, the root first and then by
-/// falling offsets, and its changes. The tables are those of the revisions before. They share what their
-/// predecessors have. That they may come next is not judged.
-///
-/// # Errors
-///
-/// `Dangling` where an id or a line names what it may not, `BadLine` where a line is invalid; `NoMemory`.
-pub fn read_block<'a>(
+/// Lists node revisions by rising offsets, the last first.
+fn by_offset(alloc: Global, pieces: &[FilePiece]) -> Result<Vec<&FilePiece>, AllocError>
+    ensures { IfOk result (λ rows. All (λ row. Contains pieces.now row.now) rows.items) }
+{
+    let mut rows = Vec::new(alloc);
+    for k in 0..pieces.len() {
+        rows.push(&pieces[pieces.len() - 1 - k])?;
+    }
+    Ok(rows)
+}
+
+/// Reads the nodes of the next revision, and says where they stand in its file.
+fn read_block<'a>(
     alloc: Global,
     nodes: &'a Nodes,
     tables: &'a PVec<Table>,
     changes: &'a BTreeMap<Path, Change>,
     pieces: &'a [FilePiece],
-) -> Result<Block, FileFault> {
-    let so_far = Table {
-        placed: Vec::new(alloc),
+) -> Result<(Block, Table), FileFault>
+    ensures { IfOk result (λ read. (files : RevisionBytes)
+        → AreForAll files nodes.now tables.now changes.now.entries pieces.now
+        → AreNew files tables.now read.0 read.1 pieces.now) }
+{
+    let rows = by_offset(alloc, pieces)?;
+    let table = table_of(alloc, rows.as_slice())?;
+    let places = Places {
+        nodes,
+        tables,
+        so_far: &table,
     };
     let reading = Reading {
         alloc,
-        places: Places {
-            nodes,
-            tables,
-            so_far: &so_far,
-        },
-        pieces,
+        places,
         changes,
     };
-    let mut block = Vec::new(alloc);
-    for piece in pieces.iter().rev() {
-        block.push(reading.node(piece, block.as_slice())?)?;
+    match reading.block(rows.as_slice(), pieces.first()) {
+        Ok(block) => Ok((block, table)),
+        Err(fault) => {
+            std::mem::drop(table);
+            Err(fault)
+        }
     }
-    let root = NodeId {
-        rev: tables.len() as u32,
-        place: block.len().saturating_sub(1) as u64,
-    };
-    Ok(Block { nodes: block, root })
+}
+
+/// Holds what the file of a revision says: its nodes, where they stand in the file, and its changes.
+#[derive(Drop)]
+pub struct ReadRevision {
+    pub block: Block,
+    pub table: Table,
+    pub changes: ChangeList,
+}
+
+/// Reads the next revision from its file, whose node revisions are the root first and then by falling
+/// offsets. The tables are those of the revisions before. Nodes share what their predecessors have. That
+/// the revision may come next is not judged.
+///
+/// # Errors
+///
+/// `Dangling` where an id or a line names what it may not, `BadLine` where a line is invalid; `NoMemory`.
+pub fn read_next<'a>(
+    alloc: Global,
+    nodes: &'a Nodes,
+    tables: &'a PVec<Table>,
+    file: &'a RevisionFile,
+) -> Result<ReadRevision, FileFault>
+    ensures { IfOk result (λ read. (files : RevisionBytes) (bytes : List ℕ)
+        (lists : List ChangeMap) → AreTabled files (blocks_of nodes.now) tables.now lists
+        → revision_of (length tables.now) bytes
+        ≡ Ok (file.now.pieces.items, file.now.changes.items)
+        → AreTabled (files ++ bytes ∷ []) (blocks_of nodes.now ++ read.block ∷ [])
+        (tables.now ++ read.table ∷ []) (lists ++ read.changes ∷ [])) }
+{
+    let changes = changes_by_path(alloc, file.changes.as_slice())?;
+    note_order(&changes);
+    match read_block(alloc, nodes, tables, &changes, file.pieces.as_slice()) {
+        Ok((block, table)) => {
+            let changes = ChangeList::from_map(alloc, changes)?;
+            Ok(ReadRevision {
+                block,
+                table,
+                changes,
+            })
+        }
+        Err(fault) => {
+            std::mem::drop(changes);
+            Err(fault)
+        }
+    }
 }

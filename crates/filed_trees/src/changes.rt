@@ -1,7 +1,10 @@
 //! The changes that a revision's file says.
 ghost use Rattle.std.specs.Prelude.{◌≡◌, true, map, IfOk, Some};
+ghost use Rattle.std.specs.List.Sorted.{IsStrictlySortedBy};
+ghost use Rattle.std.specs.Map.{keys_of};
 ghost use Rattle.std.specs.Map.Iter.{deref_pair};
 ghost use Rattle.std.specs.Result.{result_ok};
+ghost use Rattle.svnpath.specs.Paths.{path_cmp};
 ghost use Rattle.svnpath.specs.Texts.{parsed};
 ghost use Rattle.filed_trees.specs.Changes.{action_in, source_in, change_in, changes_by};
 
@@ -87,6 +90,13 @@ pub fn changes_by_path(
         map.insert(path, made)?;
     }
     Ok(map)
+}
+
+/// Shows that changes are in the order of their paths.
+pub(crate) fn note_order(changes: &BTreeMap<Path, Change>)
+    ensures { IsStrictlySortedBy path_cmp (keys_of changes.now.entries) }
+{
+    let _count = changes.len();
 }
 
 /// Says whether two paths are the same.

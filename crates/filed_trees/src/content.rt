@@ -167,7 +167,7 @@ fn check_directory(
     ensures { IfOk result (λ _. (files : RevisionBytes) (line : Option Representation)
         → IsBody files line (earlier_text earlier.entry) body.entry
         → WasFiled files places.entry earlier.entry
-        → HasEntries files (tables_of places.entry) line node.now) }
+        → HasEntries files (tables_of places.entry) line node.now.kids) }
 {
     match body {
         Body::Empty => check_no_kids(alloc, node),
@@ -207,7 +207,8 @@ pub(crate) fn check_content(
     ensures { IfOk result (λ _. (files : RevisionBytes)
         → CameWith files (revision_in places.entry) piece.now.node.text piece.now.text
         → WasFiled files places.entry earlier.entry
-        → HasContent files (tables_of places.entry) piece.now.node node.now) }
+        → HasContent files (tables_of places.entry) piece.now.node
+        (arc_value node.now.content) node.now.kids) }
 {
     let revision = places.tables.len() as u32;
     let kept = earlier_text(earlier);

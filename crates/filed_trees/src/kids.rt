@@ -103,7 +103,7 @@ pub(crate) fn check_same_kids(
 /// # Errors
 ///
 /// `BadLine` where a name comes twice; `NoMemory`.
-fn ids_by_name(
+pub(crate) fn ids_by_name(
     alloc: Global,
     entries: &[DirectoryEntry],
 ) -> Result<BTreeMap<ByteString, FileId>, FileFault>

@@ -6,6 +6,7 @@ mod blocks;
 mod body;
 mod changes;
 mod content;
+mod entries;
 mod kids;
 mod laws;
 mod own;
@@ -13,7 +14,7 @@ mod places;
 mod table;
 mod tabulating;
 
-pub use blocks::read_block;
+pub use blocks::{ReadRevision, read_next};
 pub use changes::changes_by_path;
 pub use content::check_same_properties;
 pub use laws::{

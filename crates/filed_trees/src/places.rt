@@ -1,7 +1,7 @@
 //! Where nodes stand in the files, as far as that is known.
 ghost use Rattle.std.specs.Prelude.{◌≡◌, ◌≤◌, ◌∷◌, ◌++◌, [], true, IfOk, IfSome, IsSomeAnd, length, option_copied, option_map, slice_get, Some};
-ghost use Rattle.filed_trees.specs.Comparing.{IsEarlier, earlier_text, earlier_properties};
-ghost use Rattle.filed_trees.specs.Tables.{placed_in};
+ghost use Rattle.filed_trees.specs.Comparing.{IsEarlier, earlier_text, earlier_properties, tables_of};
+ghost use Rattle.filed_trees.specs.Tables.{IsAt, placed_in};
 
 use crate::table::{Placed, Table};
 use fsfs_ids::{FileId, Representation};
@@ -72,9 +72,21 @@ fn place_of(placed: &[Placed], id: FileId) -> Option<usize>
     scanned(placed, id)
 }
 
-/// Finds the node of an earlier revision that is the node revision of an id.
-pub(crate) fn node_of(tables: &PVec<Table>, id: FileId) -> Option<NodeId> {
-    let table = tables.get(id.revision as usize)?;
+/// Gives the table of a revision.
+fn table_at(places: Places<'_>, revision: u32) -> Option<&Table>
+    ensures { option_copied result ≡ slice_get (tables_of places.entry) revision }
+{
+    if revision as usize == places.tables.len() {
+        return Some(places.so_far);
+    }
+    places.tables.get(revision as usize)
+}
+
+/// Finds the node that is the node revision of an id.
+pub(crate) fn node_of(places: Places<'_>, id: FileId) -> Option<NodeId>
+    ensures { IfSome result (λ node. IsAt (tables_of places.entry) (Some node) (Some id)) }
+{
+    let table = table_at(places, id.revision)?;
     let place = place_of(table.placed.as_slice(), id)?;
     Some(NodeId {
         rev: id.revision,

@@ -8,47 +8,22 @@ ghost use Rattle.noderevs.specs.Held.{blocks_of, node_at};
 ghost use Rattle.noderevs.specs.declared.node_rev.Block.{Block};
 ghost use Rattle.noderevs.specs.declared.node_rev.NodeId.{NodeId};
 ghost use Rattle.filed_trees.specs.Pieces.{RevisionBytes, path_in};
-ghost use Rattle.filed_trees.specs.Tables.{AreTabled, IsAt, IsFiled, IsPlaced, placed_of};
+ghost use Rattle.filed_trees.specs.Tables.{AreTabled, IsAt, IsFiled, IsPlaced};
 ghost use Rattle.filed_trees.specs.Comparing.{AreFor, AreForAll, IsOfLast, IsPieceAt, tables_of, revision_in};
 
 use crate::changes::{changes_by_path, check_changes, read_path};
 use crate::content::{check, check_content, check_properties};
 use crate::own::check_own;
 use crate::places::{Places, file_id, find_earlier, is_same_id};
-use crate::table::{Placed, Table};
-use fsfs_ids::Place;
+use crate::table::{Placed, Table, place};
 use fsfs_lines::FileFault;
-use fsfs_nodes::FileNode;
 use fsfs_reading::{FilePiece, read_revision};
 use noderevs::{NodeId, NodeRev, Nodes};
 use pvec::PVec;
 use repo_api::Change;
-use std::alloc::{AllocError, Global};
+use std::alloc::Global;
 use std::collections::BTreeMap;
 use svnpath::Path;
-
-/// Gives what a table keeps of a node revision.
-fn place(node: &FileNode) -> Result<Placed, AllocError>
-    ensures { IfOk result (λ placed. placed ≡ placed_of node.now) }
-{
-    let copyroot = match &node.copyroot {
-        Some(place) => Place {
-            revision: place.revision,
-            path: place.path.clone()?,
-        },
-        None => Place {
-            revision: node.id.revision,
-            path: node.path.clone()?,
-        },
-    };
-    Ok(Placed {
-        id: node.id,
-        count: node.count,
-        text: node.text,
-        properties: node.properties,
-        copyroot,
-    })
-}
 
 /// Compares a node of the last revision with a node revision of its file, and answers where it stands.
 ///
@@ -121,7 +96,7 @@ fn piece_at<'a>(
 /// # Errors
 ///
 /// As `compared`.
-fn table_of(
+fn compared_all(
     alloc: Global,
     nodes: &Nodes,
     tables: &PVec<Table>,
@@ -208,7 +183,7 @@ pub fn tabulated(
     let read = read_revision(alloc, revision, file)?;
     let said = changes_by_path(alloc, read.changes.as_slice())?;
     check_changes(alloc, &said, changes)?;
-    let table = table_of(alloc, nodes, tables, &said, read.pieces.as_slice())?;
+    let table = compared_all(alloc, nodes, tables, &said, read.pieces.as_slice())?;
     let root = nodes.root(revision as u64);
     check(is_root(tables, &table, root, read.pieces.first()))?;
     Ok(table)

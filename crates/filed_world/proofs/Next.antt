@@ -2,11 +2,13 @@
 use Rattle.std.proofs.Common.{◌≡◌, List, [], ◌∷◌, length, refl, sym, ap, subst, ◌∙◌, arith}
 use Rattle.std.specs.Prelude.{slice_set}
 use Rattle.repo_api.specs.Properties.{PropertyList}
+use Rattle.repo_api.specs.States.{ChangeMap}
 use Rattle.noderevs.specs.Held.{blocks_of}
+use Rattle.noderevs.specs.declared.node_rev.Block.{Block}
 use Rattle.world.specs.declared.world.World.{World}
 use Rattle.filed_trees.specs.declared.table.Table.{Table}
 use Rattle.world.specs.Adding.{HasAdded, HasFirstList}
-use Rattle.filed_world.specs.Reading.{IsNext}
+use Rattle.filed_world.specs.Reading.{IsNext, so_far}
 use Rattle.filed_world.proofs.Taken.{one_of}
 
 pub nothing : {X : Type 0} (xs : List X) → length xs ≡ 0 → xs ≡ []
@@ -36,19 +38,20 @@ module _ (before after : World) (tables : List Table) (list : PropertyList) (loc
       )
 
 -- a revision that was read
-pub next_comes : (before after : World) (tables : List Table) (list : PropertyList) → (tables ≡ [] → ⊥)
-    → HasAdded before after list
-    → IsNext before.held.value tables after.held.value × (after.locks.value ≡ before.locks.value)
-next_comes before after [] list some added = absurd (some refl)
-next_comes before after (t ∷ ts) list some added = (
-  record {
-    uuid = added.held.uuid;
-    block = added.held.more.block;
-    blocks = added.held.more.blocks;
-    change = added.held.more.change;
-    changes = added.held.more.changes;
-    list = list;
-    lists = added.held.lists;
-  },
-  added.locks,
-)
+pub next_comes : (before after : World) (tables : List Table) (block : Block) (change : ChangeMap) (list : PropertyList)
+    → (tables ≡ [] → ⊥) → HasAdded before after block change list → IsNext before.held.value tables after.held.value
+next_comes before after [] block change list some added = absurd (some refl)
+next_comes before after (t ∷ ts) block change list some added = record {
+  uuid = added.held.uuid;
+  block = block;
+  blocks = added.held.blocks;
+  change = change;
+  changes = added.held.changes;
+  list = list;
+  lists = added.held.lists;
+}
+
+-- what is held of the revisions is all, once one has been read
+pub whole : {X : Type 0} (tables : List Table) (xs : List X) → (tables ≡ [] → ⊥) → so_far tables xs ≡ xs
+whole [] xs some = absurd (some refl)
+whole (t ∷ ts) xs some = refl

@@ -6,6 +6,7 @@ use Rattle.repo_api.specs.States.{ChangeMap, LockMap}
 use Rattle.noderevs.specs.Held.{blocks_of}
 use Rattle.noderevs.specs.declared.node_rev.Block.{Block}
 use Rattle.held.specs.declared.held.Held.{Held}
+use Rattle.world.specs.Adding.{HasAdded}
 use Rattle.world.specs.declared.world.World.{World}
 use Rattle.repostore.specs.Current.{count_in}
 use Rattle.repostore.specs.Files.{Files}
@@ -14,6 +15,7 @@ use Rattle.fsfs_folder.specs.Identity.{uuid_of}
 use Rattle.fsfs_folder.specs.declared.current.Current.{Current}
 use Rattle.filed_trees.specs.StandsFor.{revision_bytes, revision_properties}
 use Rattle.filed_trees.specs.Tables.{AreTabled}
+use Rattle.filed_trees.specs.declared.blocks.ReadRevision.{ReadRevision}
 use Rattle.filed_trees.specs.declared.table.Table.{Table}
 use Rattle.filed_world.specs.Files.{AreLocks}
 use Rattle.filed_world.specs.declared.filed_world.FiledWorld.{FiledWorld}
@@ -65,3 +67,9 @@ pub record IsNext (before : Held) (tables : List Table) (after : Held) : Type 0 
 abbrev pub IsNextOf : FiledWorld → World → Type 0
 IsNextOf f world = IsNext f.world.held.value f.tables world.held.value
     × (world.locks.value ≡ f.world.locks.value)
+
+-- a revision was taken as it was read
+pub record HasTaken (before made : FiledWorld) (read : ReadRevision) (list : PropertyList) : Type 0 where
+  pub world : HasAdded before.world made.world read.block read.changes list
+  pub tables : made.tables ≡ before.tables ++ read.table ∷ []
+  pub current : made.current ≡ before.current

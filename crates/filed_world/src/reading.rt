@@ -1,9 +1,8 @@
 //! A repository whose files are read, one revision after another.
-ghost use Rattle.std.specs.Prelude.{◌≡◌, ◌≤◌, [], ℕ, List, Option, Some, length, slice_get, IfOk, None, option_copied};
+ghost use Rattle.std.specs.Prelude.{◌≡◌, ◌<◌, ◌≤◌, ◌++◌, ◌∷◌, [], ℕ, List, Option, Some, length, slice_get, IfOk, None, option_copied};
 ghost use Rattle.std.specs.Result.{result_ok};
 ghost use Rattle.repo_api.specs.Opening.{new_repository};
 ghost use Rattle.repo_api.specs.Properties.{PropertyList};
-ghost use Rattle.world.specs.Adding.{HasAdded};
 ghost use Rattle.world.specs.Whole.{world_content};
 ghost use Rattle.repostore.specs.Current.{count_in};
 ghost use Rattle.repostore.specs.Files.{Files};
@@ -11,21 +10,19 @@ ghost use Rattle.repostore.specs.Reading.{IfFindsFaulty, with_one_more, with_rea
 ghost use Rattle.fsfs_folder.specs.Properties.{properties_of};
 ghost use Rattle.filed_trees.specs.StandsFor.{locks_in};
 ghost use Rattle.filed_world.specs.Files.{IsOf};
-ghost use Rattle.filed_world.specs.Reading.{AreFirst, AreRead, HasRead, IsNextOf};
+ghost use Rattle.filed_world.specs.Reading.{AreFirst, AreRead, HasRead, HasTaken, IsNextOf};
 
 use crate::filed_world::FiledWorld;
 use crate::filing::with_table;
 use filed_trees::{
-    Table, changes_by_path, check_same_properties, nothing_is_tabled, read_block, tabulated,
+    ReadRevision, Table, check_same_properties, nothing_is_tabled, read_next, tabulated,
 };
 use fsfs_folder::{Current, read_locks, read_properties};
 use fsfs_judging::judge_revision;
 use fsfs_lines::FileFault;
-use fsfs_reading::{RevisionFile, read_revision};
-use noderevs::Block;
+use fsfs_reading::read_revision;
 use pvec::PVec;
 use repo_api::{Lock, Properties, Repository};
-use revision_data::ChangeList;
 use std::alloc::{AllocError, Global};
 use svnpath::Path;
 use world::World;
@@ -153,16 +150,79 @@ impl FiledWorld {
         }
     }
 
-    /// Makes the repository with the nodes and the changes that the file of the next revision says, and
-    /// these properties.
-    fn with_file(&self, file: &RevisionFile, list: Properties) -> Result<World, FileFault>
-        ensures { IfOk result (λ world. HasAdded self.now.world world list) }
+    /// Reads the files of revision 0, which a repository has when it is new but for its properties.
+    fn with_first_revision(
+        &self,
+        revision: &[u8],
+        properties: &[u8],
+    ) -> Result<FiledWorld, FileFault>
+        requires { length self.now.tables ≡ 0 }
+        ensures { IfOk result (λ made. (files : Files) → HasRead self.now files
+            → HasRead made (with_one_more files (revision.now, properties.now))) }
     {
-        match self.read(file) {
-            Ok((block, changes)) => {
-                let next = self.world.with_revision(block, changes, list)?;
-                next.ok_or(FileFault::BadLine)
+        let list = read_properties(self.alloc, properties)?;
+        let world = self.world.with_first_properties(list)?;
+        self.with_read_revision(world, revision, properties)
+    }
+
+    /// Makes the repository of a world that has one revision more, whose nodes stand so in its file.
+    fn with_world(&self, world: World, table: Table) -> Result<FiledWorld, AllocError>
+        ensures world { IfOk result (λ made. made.world ≡ world) }
+        ensures tables { IfOk result (λ made. made.tables ≡ self.now.tables ++ table ∷ []) }
+        ensures current { IfOk result (λ made. made.current ≡ self.now.current) }
+    {
+        match with_table(self.alloc, &self.tables, table) {
+            Ok(tables) => Ok(FiledWorld {
+                alloc: self.alloc,
+                world,
+                tables,
+                current: self.current,
+            }),
+            Err(error) => {
+                std::mem::drop(world);
+                Err(error)
             }
+        }
+    }
+
+    /// Takes a revision that was read, if it may come next.
+    ///
+    /// # Errors
+    ///
+    /// `BadLine` where it may not; `NoMemory`.
+    fn with_read(&self, read: ReadRevision, list: Properties) -> Result<FiledWorld, FileFault>
+        ensures { IfOk result (λ made. HasTaken self.now made read list) }
+    {
+        let table = read.table;
+        match self.world.with_revision(read.block, read.changes, list) {
+            Ok(Some(world)) => Ok(self.with_world(world, table)?),
+            Ok(None) => {
+                std::mem::drop(table);
+                Err(FileFault::BadLine)
+            }
+            Err(_) => {
+                std::mem::drop(table);
+                Err(FileFault::NoMemory)
+            }
+        }
+    }
+
+    /// Reads the files of a revision after revision 0.
+    fn with_further_revision(
+        &self,
+        revision: &[u8],
+        properties: &[u8],
+    ) -> Result<FiledWorld, FileFault>
+        requires { 0 < length self.now.tables }
+        ensures { IfOk result (λ made. (files : Files) → HasRead self.now files
+            → HasRead made (with_one_more files (revision.now, properties.now))) }
+    {
+        let number = self.tables.len() as u32;
+        let file = read_revision(self.alloc, number, revision)?;
+        judge_revision(self.alloc, number, &file)?;
+        let list = read_properties(self.alloc, properties)?;
+        match read_next(self.alloc, self.world.nodes(), &self.tables, &file) {
+            Ok(read) => self.with_read(read, list),
             Err(fault) => {
                 std::mem::drop(list);
                 Err(fault)
@@ -170,42 +230,12 @@ impl FiledWorld {
         }
     }
 
-    /// Reads the nodes and the changes that the file of the next revision says.
-    fn read(&self, file: &RevisionFile) -> Result<(Block, ChangeList), FileFault> {
-        let changes = changes_by_path(self.alloc, file.changes.as_slice())?;
-        let nodes = self.world.nodes();
-        let pieces = file.pieces.as_slice();
-        match read_block(self.alloc, nodes, &self.tables, &changes, pieces) {
-            Ok(block) => Ok((block, ChangeList::from_map(self.alloc, changes)?)),
-            Err(fault) => {
-                std::mem::drop(changes);
-                Err(fault)
-            }
-        }
-    }
-
-    /// Makes the repository with the next revision, by its file and that of its properties.
-    fn next_world(&self, revision: &[u8], properties: &[u8]) -> Result<World, FileFault>
-        ensures { IfOk result (λ world. (files : Files) → HasRead self.now files
-            → IsNextOf self.now world) }
-    {
-        let number = self.tables.len() as u32;
-        let file = read_revision(self.alloc, number, revision)?;
-        judge_revision(self.alloc, number, &file)?;
-        let list = read_properties(self.alloc, properties)?;
-        if number == 0 {
-            Ok(self.world.with_first_properties(list)?)
-        } else {
-            self.with_file(&file, list)
-        }
-    }
-
     /// Reads the files of the next revision, and takes them.
     ///
     /// # Errors
     ///
-    /// As `read_revision`, `judge_revision`, `read_properties`, `read_block` and `with_read_revision`; `BadLine`
-    /// where the revision may not be the next one.
+    /// As `read_revision`, `judge_revision`, `read_properties` and `read_next`; `BadLine` where the revision
+    /// may not be the next one, or revision 0 is not that of a new repository.
     pub fn with_next_revision(
         &self,
         revision: &[u8],
@@ -214,8 +244,11 @@ impl FiledWorld {
         ensures { IfOk result (λ made. (files : Files) → HasRead self.now files
             → HasRead made (with_one_more files (revision.now, properties.now))) }
     {
-        let world = self.next_world(revision, properties)?;
-        self.with_read_revision(world, revision, properties)
+        if self.tables.len() == 0 {
+            self.with_first_revision(revision, properties)
+        } else {
+            self.with_further_revision(revision, properties)
+        }
     }
 
     /// Makes the repository with the locks of a list and no others.

@@ -1,10 +1,9 @@
 //! A further revision.
 ghost use Rattle.std.specs.Prelude.{◌≡◌, ◌<◌, ◌++◌, ◌∷◌, [], length, IfOk};
 ghost use Rattle.repo_api.specs.States.{TreeMap};
-ghost use Rattle.noderevs.specs.Held.{node_at, count};
+ghost use Rattle.noderevs.specs.Held.{blocks_of, node_at, count};
 ghost use Rattle.noderevs.specs.Soundness.{IsNext};
 ghost use Rattle.held.specs.Contents.{revisions_of, block_tree};
-ghost use Rattle.held.specs.Growing.{HasOneMore};
 ghost use Rattle.held.specs.Maps.{IsMapOf, Mapped};
 ghost use Rattle.held.specs.Placed.{IsPlacedBlock};
 
@@ -35,7 +34,9 @@ impl Held {
         ensures properties { IfOk result (λ h. h.properties
             ≡ self.now.properties ++ properties ∷ []) }
         ensures uuid { IfOk result (λ h. h.uuid ≡ self.now.uuid) }
-        ensures more { IfOk result (λ h. HasOneMore self.now h) }
+        ensures block { IfOk result (λ h. blocks_of h.nodes
+            ≡ blocks_of self.now.nodes ++ block ∷ []) }
+        ensures changes { IfOk result (λ h. h.changes ≡ self.now.changes ++ changes ∷ []) }
     {
         let nodes = self.nodes.with_block(alloc, block)?;
         let changes = with_one_more(alloc, &self.changes, changes)?;

@@ -27,7 +27,7 @@ fn with_next(
     requires sound { ∥ IsSoundRepo (held_state held.now) ∥₁ }
     requires next { IsNextRevision (past_of held.now.nodes) block (entries changes) }
     requires room { length (revisions_of held.now) < 262144 }
-    ensures added { IfOk result (λ h. HasNext held.now h.value properties) }
+    ensures added { IfOk result (λ h. HasNext held.now h.value block changes properties) }
     ensures sound { IfOk result (λ h. ∥ IsSoundRepo (held_state h.value) ∥₁) }
 {
     let next = held.with_revision(alloc, block, changes, properties)?;
@@ -66,7 +66,7 @@ fn with_checked(
     requires { ∥ IsSoundRepo (held_state held.now) ∥₁ }
     ensures added { IfOk result (λ next. MatchOption next
         (MayComeNext held.now block (entries changes) → ⊥)
-        (λ h. HasNext held.now h.value properties)) }
+        (λ h. HasNext held.now h.value block changes properties)) }
     ensures sound { IfOk result (λ next. IfSome next
         (λ h. ∥ IsSoundRepo (held_state h.value) ∥₁)) }
 {
@@ -118,7 +118,7 @@ impl World {
     ) -> Result<Option<World>, AllocError>
         ensures { IfOk result (λ next. MatchOption next
             (MayComeNext self.now.held.value block (entries changes) → ⊥)
-            (λ w. HasAdded self.now w properties)) }
+            (λ w. HasAdded self.now w block changes properties)) }
     {
         let Some(held) = with_checked(self.alloc, &self.held, block, changes, properties)? else {
             return Ok(None);

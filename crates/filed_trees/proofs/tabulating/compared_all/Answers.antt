@@ -2,7 +2,7 @@ use Rattle.std.proofs.Common.{◌≡◌, ◌++◌, ◌∷◌, [], length, None, 
 use Rattle.noderevs.specs.Held.{node_at}
 use Rattle.noderevs.specs.declared.node_rev.NodeId.{NodeId}
 use Rattle.filed_trees.proofs.Compared.{all_placed, node_past, one_placed}
-use Rattle.filed_trees.proofs.tabulating.table_of.Goals as goal
+use Rattle.filed_trees.proofs.tabulating.compared_all.Goals as goal
 
 pub loop-place-preserved : goal.loop-place-preserved
 loop-place-preserved c =

@@ -2,7 +2,7 @@ use Rattle.std.proofs.Common.{◌≡◌, length}
 use Rattle.filed_trees.specs.Pieces.{RevisionBytes}
 use Rattle.filed_trees.specs.Comparing.{AreForAll}
 use Rattle.filed_trees.proofs.Compared.{SoFar}
-use Rattle.filed_trees.proofs.tabulating.table_of.Given as goal
+use Rattle.filed_trees.proofs.tabulating.compared_all.Given as goal
 
 abbrev pub invariant-loop-place : goal.invariant-loop-place
 invariant-loop-place l =

@@ -1,0 +1,39 @@
+use Rattle.std.proofs.Common.{rules, ◌≡◌, ◌+◌, ◌++◌, ◌∷◌, [], length, map, Some, option_map, sym, ap, subst, ◌∙◌, arith, length-append}
+use Rattle.std.proofs.lemmas.List.{length-map}
+use Rattle.std.proofs.lemmas.Option.{slice_get-get_or, slice_get-map}
+use Rattle.std.specs.Borrow.{Bor}
+use Rattle.fsfs_reading.specs.declared.piece.FilePiece.{FilePiece}
+use Rattle.filed_trees.specs.Tables.{placed_of}
+use Rattle.filed_trees.specs.Comparing.{IsOfLast, revision_in, tables_of}
+use Rattle.filed_trees.proofs.Reading.{AreRead, all_read, one_read}
+use Rattle.filed_trees.proofs.blocks.Reading.nodes.Goals as goal
+
+pub loop-row-preserved : goal.loop-row-preserved
+loop-row-preserved c =
+    let rows = c.args.rows.now in
+    let placed = λ (row : Bor FilePiece). placed_of row.now.node in
+    let nodes = c.loop-row.nodes.items in
+    let i = c.loop-row.row-index in
+    let row = c.row-item.result in
+    let places = c.args.self.places in
+    let node = c.in_ok-node.node in
+    let long = c.loop-row.invariant.0 in
+    let pushed : c.push.new.self.items ≡ nodes ++ node ∷ [] = search rules in (
+      ap length pushed ∙ omega (arith, long, length-append nodes (node ∷ [])),
+      λ files for last.
+          subst (λ ns. AreRead files (tables_of places) (revision_in places) (map placed rows) ns (i + 1)) (sym pushed)
+          (one_read files (tables_of places) (revision_in places) (map placed rows) nodes node (placed row) i long
+          (slice_get-map placed rows i ∙ ap (option_map placed) (slice_get-get_or rows i row c.loop-row-test.true ∙ ap Some (sym c.row-item.is)))
+          (c.in_ok-node.ensures files for (subst (λ (r : Bor FilePiece). IsOfLast files (revision_in places) r.now) (sym c.row-item.is) (last i row c.loop-row-test.true)))
+          (c.loop-row.invariant.1 files for last)),
+    )
+
+pub returns-clause-filed : goal.returns-clause-filed
+returns-clause-filed c = λ files for last.
+    let placed = λ (row : Bor FilePiece). placed_of row.now.node in
+    let places = c.args.self.places in
+    let rows = c.args.rows.now in
+    let over = c.loop-row-test.false in
+    let same : length (map placed rows) ≡ length rows = length-map rows placed in
+    all_read files (tables_of places) (revision_in places) (map placed rows) c.loop-row.nodes.items c.loop-row.row-index
+    c.loop-row.invariant.0 (omega (arith, same, over)) (c.loop-row.invariant.1 files for last)

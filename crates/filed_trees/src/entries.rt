@@ -1,0 +1,202 @@
+//! The entries of a directory, read from a file.
+ghost use Rattle.std.specs.Prelude.{◌≡◌, ◌⊎◌, Option, Some, All, Contains, IsSome, IsSomeAnd, IfOk, if◌then◌else◌};
+ghost use Rattle.std.specs.Arc.{arc_value};
+ghost use Rattle.svnpath.specs.Paths.{Component, same_component};
+ghost use Rattle.repo_api.specs.Trees.{is_directory_content};
+ghost use Rattle.noderevs.specs.Nodes.{kid_named};
+ghost use Rattle.noderevs.specs.declared.node_rev.NodeId.{NodeId};
+ghost use Rattle.fsfs_ids.specs.declared.representation.Representation.{Representation};
+ghost use Rattle.filed_trees.specs.Pieces.{RevisionBytes, body_at_line, entry_named};
+ghost use Rattle.filed_trees.specs.Tables.{IsAt};
+ghost use Rattle.filed_trees.specs.Comparing.{AreNamed, HasEntries, WasFiled, earlier_text, id_at, tables_of};
+ghost use Rattle.filed_trees.specs.declared.places.Places.{Places};
+
+use crate::kids::ids_by_name;
+use crate::places::{Earlier, Places, node_of};
+use byte_string::ByteString;
+use fsfs_ids::FileId;
+use fsfs_lines::FileFault;
+use fsfs_nodes::{DirectoryEntry, read_entries};
+use noderevs::{NodeId, NodeRev};
+use repo_api::Content;
+use shared_map::SharedMap;
+use std::alloc::{AllocError, Global};
+use std::collections::BTreeMap;
+
+/// Says whether a node is a directory.
+pub(crate) fn is_directory(node: &NodeRev) -> bool
+    ensures { result ≡ is_directory_content (arc_value node.now.content) }
+{
+    matches!(&*node.content, Content::Directory)
+}
+
+/// Finds the node of an entry's name.
+///
+/// # Errors
+///
+/// `Dangling` where the files have no such node revision, `BadLine` where there is no such name.
+fn node_named(
+    places: Places<'_>,
+    ids: &BTreeMap<ByteString, FileId>,
+    name: &ByteString,
+) -> Result<NodeId, FileFault>
+    ensures { IfOk result (λ node. IsAt (tables_of places.entry) (Some node)
+        (id_at ids.now.entries name.now)) }
+{
+    let Some(id) = ids.get(name) else {
+        return Err(FileFault::BadLine);
+    };
+    match node_of(places, *id) {
+        Some(node) => Ok(node),
+        None => Err(FileFault::Dangling),
+    }
+}
+
+/// Puts an id at a name, unless it is there.
+fn put_kid(
+    alloc: Global,
+    kids: &mut SharedMap<NodeId>,
+    name: &ByteString,
+    id: NodeId,
+) -> Result<(), AllocError>
+    ensures { IfOk result (λ _. (n : Component) → kid_named kids.new n
+        ≡ (if same_component n name.now then Some id else kid_named kids.old n)) }
+{
+    if kids.get(name) == Some(&id) {
+        return Ok(());
+    }
+    kids.put(alloc, name.clone()?, id)
+}
+
+/// Puts the nodes of entries at their names.
+///
+/// # Errors
+///
+/// As `node_named`; `NoMemory`.
+fn put_kids(
+    alloc: Global,
+    places: Places<'_>,
+    kids: &mut SharedMap<NodeId>,
+    ids: &BTreeMap<ByteString, FileId>,
+    entries: &[DirectoryEntry],
+) -> Result<(), FileFault>
+    ensures placed { IfOk result (λ _. All (λ e. IsSomeAnd (kid_named kids.new e.name)
+        (λ id. IsAt (tables_of places.entry) (Some id) (id_at ids.now.entries e.name))) entries.now) }
+    ensures named { IfOk result (λ _. AreNamed (id_at ids.now.entries) kids.old
+        → AreNamed (id_at ids.now.entries) kids.new) }
+{
+    for entry in entries {
+        let id = node_named(places, ids, &entry.name)?;
+        put_kid(alloc, kids, &entry.name, id)?;
+    }
+    Ok(())
+}
+
+/// Lists the names of entries that the ids have not.
+fn other_names(
+    alloc: Global,
+    kids: &SharedMap<NodeId>,
+    ids: &BTreeMap<ByteString, FileId>,
+) -> Result<Vec<ByteString>, AllocError>
+    ensures { IfOk result (λ others. (name : Component) (id : NodeId)
+        → kid_named kids.now name ≡ Some id
+        → IsSome (id_at ids.now.entries name) ⊎ Contains others.items name) }
+{
+    let mut others = Vec::new(alloc);
+    let entries = kids.entries(alloc)?;
+    for entry in &entries {
+        if ids.get(&entry.0).is_none() {
+            others.push(entry.0.clone()?)?;
+        }
+    }
+    Ok(others)
+}
+
+/// Removes names.
+fn remove_kids(kids: &mut SharedMap<NodeId>, names: &[ByteString]) -> Result<(), AllocError>
+    ensures { IfOk result (λ _. (name : Component) (id : NodeId)
+        → kid_named kids.new name ≡ Some id
+        → (kid_named kids.old name ≡ Some id) × (Contains names.now name → ⊥)) }
+{
+    for name in names {
+        kids.remove(name)?;
+    }
+    Ok(())
+}
+
+/// Makes the entries of a directory those of a list.
+///
+/// # Errors
+///
+/// `BadLine` where a name comes twice, `Dangling` where the files have no node revision of an id;
+/// `NoMemory`.
+fn set_kids(
+    alloc: Global,
+    places: Places<'_>,
+    kids: &mut SharedMap<NodeId>,
+    entries: &[DirectoryEntry],
+) -> Result<(), FileFault>
+    ensures { IfOk result (λ _. (name : Component) → IsAt (tables_of places.entry)
+        (kid_named kids.new name) (entry_named name entries.now)) }
+{
+    let ids = ids_by_name(alloc, entries)?;
+    let others = other_names(alloc, kids, &ids)?;
+    remove_kids(kids, others.as_slice())?;
+    put_kids(alloc, places, kids, &ids, entries)
+}
+
+/// Shares the entries of the predecessor, none where there is no predecessor.
+fn shared_kids(
+    alloc: Global,
+    earlier: Option<Earlier<'_>>,
+) -> Result<SharedMap<NodeId>, AllocError> {
+    match earlier {
+        Some(earlier) => earlier.node.kids.share(alloc),
+        None => Ok(SharedMap::new(alloc)),
+    }
+}
+
+/// Reads the entries that bytes say. They share what the predecessor has.
+///
+/// # Errors
+///
+/// As `read_entries` and `set_kids`.
+pub(crate) fn read_kids(
+    alloc: Global,
+    places: Places<'_>,
+    bytes: &[u8],
+    earlier: Option<Earlier<'_>>,
+) -> Result<SharedMap<NodeId>, FileFault>
+    ensures { IfOk result (λ kids. (files : RevisionBytes) (line : Option Representation)
+        → IsSomeAnd line (λ l. body_at_line files l ≡ Some bytes.now)
+        → HasEntries files (tables_of places.entry) line kids) }
+{
+    let entries = read_entries(alloc, bytes)?;
+    let mut kids = shared_kids(alloc, earlier)?;
+    match set_kids(alloc, places, &mut kids, entries.as_slice()) {
+        Ok(()) => Ok(kids),
+        Err(fault) => {
+            std::mem::drop(kids);
+            Err(fault)
+        }
+    }
+}
+
+/// Shares the entries of the predecessor.
+///
+/// # Errors
+///
+/// `Dangling` where it is no directory.
+pub(crate) fn same_kids(
+    alloc: Global,
+    earlier: Option<Earlier<'_>>,
+) -> Result<SharedMap<NodeId>, FileFault>
+    ensures { IfOk result (λ kids. (files : RevisionBytes) (places : Places)
+        → WasFiled files places earlier.entry
+        → HasEntries files (tables_of places) (earlier_text earlier.entry) kids) }
+{
+    match earlier {
+        Some(earlier) if is_directory(earlier.node) => Ok(earlier.node.kids.share(alloc)?),
+        _ => Err(FileFault::Dangling),
+    }
+}
