@@ -1,10 +1,10 @@
 -- The entries of a directory, put and removed one after another.
-use Rattle.std.proofs.Common.{◌≡◌, suc, Bool, true, false, cond, List, [], ◌∷◌, Option, Some, None, refl, sym, ap, subst, ◌∙◌, arith}
+use Rattle.std.proofs.Common.{◌≡◌, ◌<◌, ℕ, suc, length, Bool, true, false, cond, List, [], ◌∷◌, Option, Some, None, refl, sym, ap, subst, ◌∙◌, arith}
 use Rattle.std.proofs.lemmas.Bool.{false≢true}
 use Rattle.std.proofs.lemmas.Cmp.{nat_list_cmp_total}
-use Rattle.std.proofs.lemmas.Option.{none-some, same_Some}
+use Rattle.std.proofs.lemmas.Option.{none-some, same_Some, slice_get_within}
 use Rattle.std.specs.FinMap.{empty, get-empty, insert, remove, get-insert, get-remove}
-use Rattle.std.specs.Prelude.{Result, Ok, Err, IfOk, All, IsSome, IsSomeAnd, if◌then◌else◌}
+use Rattle.std.specs.Prelude.{Result, Ok, Err, IfOk, All, IsSome, IsSomeAnd, slice_get, if◌then◌else◌}
 use Rattle.svnpath.specs.PathLaws.{same_component_is, same_component_refl}
 use Rattle.svnpath.specs.Paths.{Component, same_component}
 use Rattle.shared_map.specs.Entries.{by_bytes}
@@ -94,3 +94,10 @@ both_ok (Err e) P Q p q f = p
 -- no entries at all
 pub nothing_named : (n : Component) → kid_named empty n ≡ None
 nothing_named n = get-empty by_bytes n
+
+pub some_within : {A : Type 0} (xs : List A) (k : ℕ) (P : A → Type 0) → IsSomeAnd (slice_get xs k) P → k < length xs
+some_within xs k P is = by (slice_get xs k) refl is
+  where
+    by : (o : Option _) → slice_get xs k ≡ o → IsSomeAnd o P → k < length xs
+    by None at is = absurd is
+    by (Some x) at is = slice_get_within xs k x at

@@ -1,8 +1,8 @@
 -- What is said of files and tables is said of more of them.
-use Rattle.std.proofs.Common.{◌≡◌, ◌≢◌, ◌==◌, ℕ, zero, suc, ◌<◌, Bool, true, false, List, [], ◌∷◌, ◌++◌, length, Option, Some, None, option_map, option_and_then, is_some, Ok, refl, sym, ap, subst, ◌∙◌, arith, length-append, rules, ⊎_elim}
+use Rattle.std.proofs.Common.{◌≡◌, ◌≢◌, ◌==◌, ℕ, zero, suc, ◌<◌, Bool, true, false, List, [], ◌∷◌, ◌++◌, length, Option, Some, None, option_map, option_and_then, is_some, Ok, refl, sym, ap, subst, ◌∙◌, arith, length-append, rules, ⊎_elim, IsSomeAnd}
 use Rattle.std.proofs.lemmas.Bool.{cases_eq, cases_lt, eqb-true}
 use Rattle.std.proofs.lemmas.List.{get_or_append_left}
-use Rattle.std.proofs.lemmas.Option.{none-some, slice_get_within, slice_get_past, slice_get-get_or}
+use Rattle.std.proofs.lemmas.Option.{none-some, slice_get_within, slice_get_past, slice_get-get_or, same_Some}
 use Rattle.std.proofs.Math.Seq.{get_or-append_seam}
 use Rattle.std.specs.FinMap.{entries}
 use Rattle.std.specs.Prelude.{slice_get, if◌then◌else◌}
@@ -26,7 +26,7 @@ use Rattle.fsfs_reading.specs.declared.piece.FilePiece.{FilePiece}
 use Rattle.filed_trees.specs.Pieces.{RevisionBytes, piece_in, body_at_line, text_in, properties_in, entries_at, entries_by, entry_named, content_by, path_in}
 use Rattle.filed_trees.specs.Changes.{ChangeRows, revision_in, changes_by, changes_in}
 use Rattle.filed_trees.specs.Trees.{own_from, own_at, own_below, own_in, first_id, root_in}
-use Rattle.filed_trees.specs.Tables.{placed_in, IsAt, IsFiled, IsPlaced, AreTabled}
+use Rattle.filed_trees.specs.Tables.{placed_in, IsAt, IsFiled, IsPlaced, AreTabled, HasRows}
 use Rattle.filed_trees.specs.declared.table.Placed.{Placed}
 use Rattle.filed_trees.specs.declared.table.Table.{Table}
 
@@ -258,8 +258,9 @@ module _ (files : RevisionBytes) (blocks : List Block) (tables : List Table) (li
       (node_in (blocks ++ block ∷ []) id) (slice_get table.placed.items id.place))
       → IsAt (tables ++ table ∷ []) (nodes.root_in (blocks ++ block ∷ []) (length tables)) (root_in (files ++ file ∷ []) (length tables))
       → changes_in (files ++ file ∷ []) (length tables) ≡ Some (entries list)
+      → IsSomeAnd (revision_in (files ++ file ∷ []) (length tables)) (λ said. HasRows said.0 table)
       → AreTabled (files ++ file ∷ []) (blocks ++ block ∷ []) (tables ++ table ∷ []) (lists ++ list ∷ [])
-  tabled_more block table list new root changed = record {
+  tabled_more block table list new root changed rows = record {
     all = length_more files file ∙ ap suc all.all ∙ sym (length_more blocks block);
     tabled = length_more tables table ∙ ap suc all.tabled ∙ sym (length_more blocks block);
     listed = length_more lists list ∙ ap suc all.listed ∙ sym (length_more blocks block);
@@ -281,6 +282,13 @@ module _ (files : RevisionBytes) (blocks : List Block) (tables : List Table) (li
         (λ e. ap (changes_in (files ++ file ∷ [])) e ∙ changed ∙ sym (ap (option_map entries) (ap (slice_get (lists ++ list ∷ [])) (e ∙ all.tabled ∙ sym all.listed) ∙ last_place lists list)))
         (λ ne. other_changes files file n (λ e. ne (e ∙ all.all ∙ sym all.tabled)) ∙ all.changed n ∙ sym (ap (option_map entries) (other_place lists list n (λ e. ne (e ∙ all.listed ∙ sym all.tabled)))))
         (cases_eq n (length tables));
+    rows = λ n t at. ⊎_elim
+        (λ e. subst (λ (k : ℕ). IsSomeAnd (revision_in (files ++ file ∷ []) k) (λ said. HasRows said.0 t)) (sym e)
+        (subst (λ (u : Table). IsSomeAnd (revision_in (files ++ file ∷ []) (length tables)) (λ said. HasRows said.0 u))
+        (same_Some table t (sym (last_place tables table) ∙ ap (slice_get (tables ++ table ∷ [])) (sym e) ∙ at)) rows))
+        (λ ne. subst (λ o. IsSomeAnd o (λ said. HasRows said.0 t)) (sym (other_revision files file n (λ e. ne (e ∙ all.all ∙ sym all.tabled))))
+        (all.rows n t (sym (other_place tables table n ne) ∙ at)))
+        (cases_eq n (length tables));
   }
 
 -- what the last file says
@@ -289,7 +297,7 @@ module _ (files : RevisionBytes) (file : List ℕ) (n : ℕ) (long : length file
   pub last_file : slice_get (files ++ file ∷ []) n ≡ Some file
   last_file = ap (slice_get (files ++ file ∷ [])) (sym long) ∙ last_place files file
 
-  last_revision : revision_in (files ++ file ∷ []) n ≡ Some (pieces, said)
+  pub last_revision : revision_in (files ++ file ∷ []) n ≡ Some (pieces, said)
   unfolding revision_in
   last_revision = rw (last_file, read) refl
 

@@ -4,7 +4,6 @@ use Rattle.std.proofs.lemmas.Option.{none-some, same_Some}
 use Rattle.std.specs.Arc.{arc_value}
 use Rattle.std.specs.Prelude.{Result, Ok, Err, IfOk}
 use Rattle.svnpath.specs.Paths.{Component}
-use Rattle.repo_api.specs.Properties.{PropertyList}
 use Rattle.repo_api.specs.Trees.{content_text}
 use Rattle.repo_api.specs.declared.entry.Content.{Content}
 use Rattle.repo_api.specs.declared.entry.Content.TheVariants as contents
@@ -14,9 +13,9 @@ use Rattle.fsfs_nodes.specs.declared.entries.DirectoryEntry.{DirectoryEntry}
 use Rattle.fsfs_nodes.specs.declared.entries.EntryKind.{EntryKind}
 use Rattle.fsfs_nodes.specs.declared.entries.EntryKind.TheVariants.{File, Directory}
 use Rattle.fsfs_nodes.specs.declared.node.FileNode.{FileNode}
-use Rattle.filed_trees.specs.Pieces.{RevisionBytes, text_in, properties_in, entries_at, entries_by, entry_named, content_by}
+use Rattle.filed_trees.specs.Pieces.{RevisionBytes, text_in, entries_at, entries_by, entry_named, content_by}
 use Rattle.filed_trees.specs.Tables.{IsAt}
-use Rattle.filed_trees.specs.Comparing.{WasFiled, HasEntries, HasContent, tables_of, earlier_text, earlier_properties, earlier_content_text, earlier_node_properties}
+use Rattle.filed_trees.specs.Comparing.{WasFiled, HasEntries, HasContent, tables_of}
 use Rattle.filed_trees.specs.declared.places.Earlier.{Earlier}
 use Rattle.filed_trees.specs.declared.places.Places.{Places}
 use Rattle.filed_trees.specs.declared.table.Table.{Table}
@@ -36,20 +35,6 @@ file_of_text : (c : Content) (t : List ℕ) → content_text c ≡ Some t → c 
 file_of_text contents.Directory t e = absurd (none-some t e)
 file_of_text (contents.File u) t e = ap contents.File (same_Some u t e)
 
--- the text of a node revision that is a file
-text_by : (files : RevisionBytes) (line : Option Representation) (kind : EntryKind) (t : List ℕ)
-    → content_by files line kind ≡ Some (contents.File t) → text_in files line ≡ Some t
-text_by files line File t e = by (text_in files line) e
-  where
-    by : (o : Option (List ℕ)) → option_map contents.File o ≡ Some (contents.File t) → o ≡ Some t
-    by None e = absurd (none-some (contents.File t) e)
-    by (Some u) e = ap Some (text_of_file u t (same_Some (contents.File u) (contents.File t) e))
-text_by files line Directory t e = absurd (by (entries_at files line) e)
-  where
-    by : (o : Option (List DirectoryEntry)) → option_map (λ entries. contents.Directory) o ≡ Some (contents.File t) → ⊥
-    by None e = none-some (contents.File t) e
-    by (Some es) e = no_file t (same_Some contents.Directory (contents.File t) e)
-
 -- the entries of one that is a directory
 entries_of_directory : (files : RevisionBytes) (line : Option Representation) (kind : EntryKind) (es : List DirectoryEntry)
     → content_by files line kind ≡ Some contents.Directory → entries_by files line kind ≡ Some es → entries_at files line ≡ Some es
@@ -61,23 +46,6 @@ entries_of_directory files line File es e read = absurd (by (text_in files line)
     by (Some t) e = no_file t (sym (same_Some (contents.File t) contents.Directory e))
 
 module _ (files : RevisionBytes) (places : Places) where
-  pub kept_text : (earlier : Option Earlier) → WasFiled files places earlier → (t : List ℕ) → earlier_content_text earlier ≡ Some t
-      → text_in files (earlier_text earlier) ≡ Some t
-  kept_text None was t is = absurd (none-some t is)
-  kept_text (Some e) was t is =
-      let f = was.1 in
-      let line : e.placed.now.text ≡ f.piece.node.text = ap (λ p. p.text) f.is in
-      ap (text_in files) line
-      ∙ text_by files f.piece.node.text f.piece.node.kind t (f.content ∙ ap Some (file_of_text (arc_value e.node.now.content) t is))
-
-  pub kept_properties : (earlier : Option Earlier) → WasFiled files places earlier → (ps : PropertyList) → earlier_node_properties earlier ≡ Some ps
-      → properties_in files (earlier_properties earlier) ≡ Some ps
-  kept_properties None was ps is = absurd (none-some ps is)
-  kept_properties (Some e) was ps is =
-      let f = was.1 in
-      let line : e.placed.now.properties ≡ f.piece.node.properties = ap (λ p. p.properties) f.is in
-      ap (properties_in files) line ∙ f.properties ∙ is
-
   pub kept_entries : (e : Earlier) → WasFiled files places (Some e) → arc_value e.node.now.content ≡ contents.Directory
       → (ids : Kids) → ((name : Component) → kid_named ids name ≡ kid_of name e.node.now)
       → (line : Option Representation) → line ≡ e.placed.now.text → HasEntries files (tables_of places) line ids

@@ -1,16 +1,16 @@
 -- The entries of a node and those that a file says.
-use Rattle.std.proofs.Common.{◌≡◌, ℕ, suc, Bool, true, false, cond, List, [], ◌∷◌, map, Option, Some, None, option_map, refl, sym, ap, subst, ◌∙◌, arith}
+use Rattle.std.proofs.Common.{◌≡◌, ℕ, suc, Bool, true, false, cond, List, [], ◌∷◌, map, Option, Some, None, option_map, refl, sym, ap, subst, ◌∙◌, arith, ◌&&◌, get_or}
 use Rattle.std.proofs.lemmas.Bool.{false≢true}
 use Rattle.std.proofs.lemmas.Map.Entries.{place_from_lookup}
 use Rattle.std.proofs.lemmas.Option.{none-some, same_Some, slice_get-map, slice_get_within, get_or_from_slice_get}
 use Rattle.std.specs.Borrow.{Bor}
 use Rattle.std.specs.BTreeMap.{is_at}
 use Rattle.std.specs.Cmp.Lexicographic.{slice_cmp, texts_ties}
-use Rattle.std.specs.FinMap.{find, get, entries, get-entries}
-use Rattle.std.specs.Map.{lookup}
+use Rattle.std.specs.FinMap.{find, get, entries, get-entries, entries_sorted}
+use Rattle.std.specs.Map.{lookup, keys_of}
 use Rattle.std.specs.Option.{option_or}
-use Rattle.std.specs.Ordering.{nat_cmp}
-use Rattle.std.specs.Prelude.{All, IsSome, slice_get}
+use Rattle.std.specs.Ordering.{nat_cmp, is_lt}
+use Rattle.std.specs.Prelude.{All, IsSome, slice_get, T, Contains}
 use Rattle.svnpath.specs.PathLaws.{same_component_is}
 use Rattle.svnpath.specs.Paths.{Component, same_component}
 use Rattle.noderevs.specs.Nodes.{Kids}
@@ -20,6 +20,19 @@ use Rattle.fsfs_nodes.specs.declared.entries.DirectoryEntry.{DirectoryEntry}
 use Rattle.filed_trees.specs.Pieces.{entry_named}
 use Rattle.filed_trees.specs.Tables.{IsAt}
 use Rattle.filed_trees.specs.Comparing.{named_kid, IsAmong}
+use Rattle.std.proofs.lemmas.Map.Keys.{IsDistinct-from_sorted}
+use Rattle.std.proofs.lemmas.Map.Views.{lookup-from_Contains}
+use Rattle.std.specs.Cmp.{eq_by_cmp_equiv}
+use Rattle.std.specs.FinMap.Entries.{is_sorted, below_all}
+use Rattle.std.specs.List.{AllByRecursion}
+use Rattle.std.specs.List.Sorted.{IsStrictlySortedBy}
+use Rattle.std.specs.declared.cmp.Ordering.{Ordering}
+use Rattle.std.specs.declared.cmp.Ordering.TheVariants.{Less, Equal, Greater}
+use Rattle.std.proofs.lemmas.Cmp.{nat_list_cmp_total}
+use Rattle.shared_map.specs.Entries.{by_bytes}
+use Rattle.std.proofs.lemmas.List.Elements.{Contains-get_or}
+use Rattle.std.proofs.lemmas.List.{length-map}
+use Rattle.std.proofs.Math.ListN.{get_or-map}
 use Rattle.filed_trees.specs.declared.table.Table.{Table}
 
 pub at_name : (name n : Component) → is_at (slice_cmp nat_cmp name) n ≡ same_component name n
@@ -47,6 +60,50 @@ among kids es all name id is =
     by : (k : ℕ) (o : Option (Bor Component × NodeId)) → slice_get kids k ≡ o → option_map named_kid o ≡ Some (name, id) → IsAmong kids (name, id)
     by k None at e = absurd (none-some (name, id) e)
     by k (Some x) at e = (k, (x, (at, same_Some (named_kid x) (name, id) e)))
+
+-- ---- entries in order
+
+is_less : (o : Ordering) → is_lt o ≡ true → o ≡ Less
+is_less Less h = refl
+is_less Equal h = absurd (false≢true h)
+is_less Greater h = absurd (false≢true h)
+
+both_true : (a b : Bool) → (a && b) ≡ true → (a ≡ true) × (b ≡ true)
+both_true true b h = (refl, h)
+both_true false b h = absurd (false≢true h)
+
+below_keys : (name : Component) (es : List (Component × NodeId)) → below_all by_bytes name es ≡ true
+    → AllByRecursion (λ k. by_bytes name k ≡ Less) (keys_of es)
+below_keys name [] h = tt
+below_keys name (e ∷ es) h =
+    let both = both_true (is_lt (by_bytes name e.0)) (below_all by_bytes name es) h in
+    (is_less (by_bytes name e.0) both.0, below_keys name es both.1)
+
+sorted_keys : (es : List (Component × NodeId)) → is_sorted by_bytes es ≡ true → IsStrictlySortedBy by_bytes (keys_of es)
+unfolding IsStrictlySortedBy
+sorted_keys [] h = tt
+sorted_keys (e ∷ es) h =
+    let both = both_true (below_all by_bytes e.0 es) (is_sorted by_bytes es) h in
+    (below_keys e.0 es both.0, sorted_keys es both.1)
+
+is_true : (b : Bool) → T b → b ≡ true
+is_true true h = refl
+is_true false h = absurd h
+
+-- what is listed of a map is what it has at each name
+entry_is : (kids : Kids) (e : Component × NodeId) → Contains (entries kids) e → get kids e.0 ≡ Some e.1
+entry_is kids e listed =
+    get-entries kids e.0 ∙ found_by (entries kids) e.0
+    ∙ lookup-from_Contains (eq_by_cmp_equiv nat_list_cmp_total) e.0 e.1 (entries kids)
+    (IsDistinct-from_sorted by_bytes (keys_of (entries kids))
+    (sorted_keys (entries kids) (is_true (is_sorted by_bytes (entries kids)) (entries_sorted kids)))) listed
+
+pub are_kids : (kids : Kids) (listed : List (Bor Component × NodeId)) → map named_kid listed ≡ entries kids
+    → All (λ k. get kids k.0.now ≡ Some k.1) listed
+are_kids kids listed all k d lt = entry_is kids (named_kid (get_or listed k d))
+    (subst (λ l. Contains l (named_kid (get_or listed k d))) all
+    (subst (Contains (map named_kid listed)) (get_or-map named_kid listed k d)
+    (Contains-get_or (map named_kid listed) k (named_kid d) (omega (arith, lt, length-map listed named_kid)))))
 
 -- what holds of all that were listed holds of each
 pub of_listed : (P : Component → NodeId → Type 0) (kids : List (Bor Component × NodeId)) → All (λ k. P k.0.now k.1) kids

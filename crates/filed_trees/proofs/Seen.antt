@@ -103,4 +103,5 @@ none_tabled = record {
   nodes = λ id. tt;
   roots = λ n. subst (IsAt [] None) (sym (no_root n)) tt;
   changed = no_changes;
+  rows = λ n table at. absurd (none-some table at);
 }

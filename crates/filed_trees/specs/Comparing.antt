@@ -1,18 +1,20 @@
 -- Comparing the nodes of a revision with its file.
-use Rattle.std.specs.Prelude.{◌≡◌, ◌<◌, ℕ, List, [], ◌∷◌, ◌++◌, Option, Some, None, IfSome, IsSome, IsSomeAnd, slice_get, suc, length}
+use Rattle.std.specs.Prelude.{◌≡◌, ◌<◌, ℕ, List, [], ◌∷◌, ◌++◌, Option, Some, None, IfSome, IsSome, IsSomeAnd, slice_get, suc, length, take}
 use Rattle.std.specs.Borrow.{Bor}
 use Rattle.std.specs.Arc.{arc_value}
 use Rattle.std.specs.BTreeMap.{is_at}
 use Rattle.std.specs.Cmp.Lexicographic.{slice_cmp}
 use Rattle.std.specs.Map.{lookup}
 use Rattle.std.specs.Ordering.{nat_cmp}
-use Rattle.svnpath.specs.Paths.{Component, PathValue}
-use Rattle.repo_api.specs.Properties.{PropertyList}
-use Rattle.repo_api.specs.Trees.{content_text}
-use Rattle.noderevs.specs.Held.{node_at}
-use Rattle.noderevs.specs.Nodes.{Kids, kid_named, mark_of}
+use Rattle.svnpath.specs.Paths.{Component}
+use Rattle.std.specs.FinMap.{entries}
+use Rattle.repo_api.specs.Histories.{Changed}
+use Rattle.noderevs.specs.Held.{node_at, root_at}
+use Rattle.noderevs.specs.Heights.{IsHeight}
+use Rattle.noderevs.specs.Nodes.{Kids, Look, kid_named, kid_of, mark_of, with_block}
 use Rattle.noderevs.specs.declared.node_rev.Block.{Block}
 use Rattle.noderevs.specs.declared.node_rev.NodeId.{NodeId}
+use Rattle.noderevs.specs.declared.node_rev.NodeRev.{NodeRev}
 use Rattle.noderevs.specs.declared.nodes.Nodes.{Nodes}
 use Rattle.repo_api.specs.declared.entry.Content.{Content}
 use Rattle.repo_api.specs.declared.entry.Mark.{Mark}
@@ -21,11 +23,12 @@ use Rattle.fsfs_ids.specs.declared.representation.Representation.{Representation
 use Rattle.fsfs_nodes.specs.declared.entries.DirectoryEntry.{DirectoryEntry}
 use Rattle.fsfs_nodes.specs.declared.node.FileNode.{FileNode}
 use Rattle.fsfs_reading.specs.declared.piece.FilePiece.{FilePiece}
-use Rattle.filed_trees.specs.Pieces.{RevisionBytes, piece_in, body_at_line, content_in, entries_in, entries_at, entry_named, path_in}
+use Rattle.filed_trees.specs.Pieces.{RevisionBytes, piece_in, body_at_line, content_in, entries_in, entries_at, entry_named}
 use Rattle.filed_trees.specs.Changes.{ChangeRows, changes_in}
 use Rattle.filed_trees.specs.Trees.{first_id}
 use Rattle.filed_trees.specs.Tables.{placed_in, IsAt, IsFiled, IsPlaced}
 use Rattle.filed_trees.specs.declared.table.Table.{Table}
+use Rattle.filed_trees.specs.declared.blocks.ReadRevision.{ReadRevision}
 use Rattle.filed_trees.specs.declared.body.Body.{Body}
 use Rattle.filed_trees.specs.declared.body.Body.TheVariants.{Empty, New, Kept}
 use Rattle.filed_trees.specs.declared.places.Earlier.{Earlier}
@@ -55,6 +58,12 @@ abbrev pub CameWith : RevisionBytes → ℕ → Option Representation → Option
 CameWith files revision line new =
     (l : Representation) (body : List ℕ) → line ≡ Some l → l.revision ≡ revision
     → new ≡ Some body → body_at_line files l ≡ Some body
+
+-- something came with a line that is of this revision, and with no other
+abbrev pub IsHere : ℕ → Option Representation → Option (List ℕ) → Type 0
+IsHere revision None new = new ≡ None
+IsHere revision (Some line) None = line.revision ≡ revision → ⊥
+IsHere revision (Some line) (Some body) = line.revision ≡ revision
 
 -- what a line gives: nothing where there is none, bytes, or what the predecessor's line gives
 abbrev pub IsBody : RevisionBytes → Option Representation → Option Representation → Body → Type 0
@@ -91,14 +100,6 @@ abbrev pub earlier_own : Option Earlier → Option Mark
 earlier_own None = None
 earlier_own (Some earlier) = Some (mark_of earlier.node.now.own)
 
-abbrev pub earlier_content_text : Option Earlier → Option (List ℕ)
-earlier_content_text None = None
-earlier_content_text (Some earlier) = content_text (arc_value earlier.node.now.content)
-
-abbrev pub earlier_node_properties : Option Earlier → Option PropertyList
-earlier_node_properties None = None
-earlier_node_properties (Some earlier) = Some (arc_value earlier.node.now.properties)
-
 abbrev pub WasFiled : RevisionBytes → Places → Option Earlier → Type 0
 WasFiled files places earlier =
     IfSome earlier (λ e. (n : NodeId) × IsFiled files (tables_of places) n e.node.now e.placed.now)
@@ -124,6 +125,8 @@ pub record IsOfLast (files : RevisionBytes) (revision : ℕ) (piece : FilePiece)
   pub revision_is : piece.node.id.revision ≡ revision
   pub text : CameWith files revision piece.node.text piece.text
   pub properties : CameWith files revision piece.node.properties piece.properties
+  pub text_here : IsHere revision piece.node.text piece.text
+  pub properties_here : IsHere revision piece.node.properties piece.properties
 
 -- files whose last is that of the revision that is compared: it says these changes, and the nodes of
 -- the revisions before it are placed in them
@@ -132,10 +135,6 @@ pub record AreFor (files : RevisionBytes) (places : Places) (rows : ChangeRows) 
   pub changes : changes_in files (revision_in places) ≡ Some rows
   pub earlier : (id : NodeId) → id.rev < revision_in places
       → IsPlaced files (tables_of places) id (node_at places.nodes.now id) (placed_in places.tables.now id)
-
--- the node revision at a place of a list was made at this path
-abbrev pub IsPieceAt : List FilePiece → PathValue → ℕ → Type 0
-IsPieceAt pieces path k = IfSome (slice_get pieces k) (λ piece. path_in piece.node ≡ Some path)
 
 -- the same files, whatever the last table is, and the node revisions that the last of them says
 pub record AreForAll (files : RevisionBytes) (nodes : Nodes) (tables : List Table) (rows : ChangeRows)
@@ -154,3 +153,29 @@ pub record AreNew (files : RevisionBytes) (tables : List Table) (block : Block) 
       → IsPlaced files (tables ++ table ∷ []) id (slice_get block.nodes.items id.place)
       (slice_get table.placed.items id.place)
   pub root : IsAt (tables ++ table ∷ []) (Some block.root) (first_id pieces)
+
+-- each of the nodes of a revision has its height over those in front of it
+abbrev pub HaveHeights : Look → ℕ → List NodeRev → Type 0
+HaveHeights look rev nodes = (k : ℕ) (node : NodeRev) → slice_get nodes k ≡ Some node
+    → IsHeight (with_block look rev (take k nodes)) node.kids node.height
+
+-- nodes with the same marks, content, properties and entries
+pub record IsSameNode (node other : NodeRev) : Type 0 where
+  pub path : node.path ≡ other.path
+  pub own : mark_of node.own ≡ mark_of other.own
+  pub content : arc_value node.content ≡ arc_value other.content
+  pub properties : arc_value node.properties ≡ arc_value other.properties
+  pub kids : (name : Component) → kid_of name node ≡ kid_of name other
+
+abbrev pub AreSame : Option NodeRev → Option NodeRev → Type 0
+AreSame None None = Unit {0}
+AreSame None (Some other) = ⊥
+AreSame (Some node) None = ⊥
+AreSame (Some node) (Some other) = IsSameNode node other
+
+-- a revision of nodes, whose changes are these, is what was read
+pub record IsLast (nodes : Nodes) (revision : ℕ) (changes : List Changed) (read : ReadRevision) : Type 0 where
+  pub nodes_are : (id : NodeId) → id.rev ≡ revision
+      → AreSame (slice_get read.block.nodes.items id.place) (node_at nodes id)
+  pub root_is : root_at nodes revision ≡ Some read.block.root
+  pub changes_are : entries read.changes ≡ changes

@@ -4,3 +4,5 @@ pub mod Trees
 pub mod Tables
 pub mod StandsFor
 pub mod Comparing
+pub mod Readable
+pub mod Values

@@ -1,5 +1,5 @@
 -- Which node revision of the files each node of a repository is.
-use Rattle.std.specs.Prelude.{◌≡◌, ℕ, List, Option, Some, None, option_and_then, option_map, slice_get, length}
+use Rattle.std.specs.Prelude.{◌≡◌, ℕ, List, Option, Some, None, option_and_then, option_map, slice_get, length, map, reverse, IsSomeAnd}
 use Rattle.std.specs.Arc.{arc_value}
 use Rattle.std.specs.FinMap.{entries}
 use Rattle.svnpath.specs.Paths.{Component}
@@ -14,7 +14,7 @@ use Rattle.fsfs_nodes.specs.declared.entries.DirectoryEntry.{DirectoryEntry}
 use Rattle.fsfs_nodes.specs.declared.node.FileNode.{FileNode}
 use Rattle.fsfs_reading.specs.declared.piece.FilePiece.{FilePiece}
 use Rattle.filed_trees.specs.Pieces.{RevisionBytes, piece_in, content_in, properties_in, entries_in, entry_named, path_in}
-use Rattle.filed_trees.specs.Changes.{changes_in}
+use Rattle.filed_trees.specs.Changes.{changes_in, revision_in}
 use Rattle.filed_trees.specs.Trees as files_trees
 use Rattle.filed_trees.specs.Trees.{own_in}
 use Rattle.filed_trees.specs.declared.table.Placed.{Placed}
@@ -69,7 +69,17 @@ IsPlaced files tables id None (Some placed) = ⊥
 IsPlaced files tables id (Some node) None = ⊥
 IsPlaced files tables id (Some node) (Some placed) = IsFiled files tables id node placed
 
--- the files say what the blocks of all revisions hold, where the tables say, and these changes
+-- a table lists the node revisions of a file, by rising offsets
+abbrev pub HasRows : List FilePiece → Table → Type 0
+HasRows pieces table = table.placed.items ≡ map (λ piece. placed_of piece.node) (reverse pieces)
+
+-- so does the table of each revision
+abbrev pub AreRows : RevisionBytes → List Table → Type 0
+AreRows files tables = (n : ℕ) (table : Table) → slice_get tables n ≡ Some table
+    → IsSomeAnd (revision_in files n) (λ said. HasRows said.0 table)
+
+-- the files say what the blocks of all revisions hold, where the tables say, and these changes; and
+-- the tables say nothing else
 pub record AreTabled (files : RevisionBytes) (blocks : List Block) (tables : List Table)
     (changes : List ChangeMap) : Type 0 where
   pub all : length files ≡ length blocks
@@ -78,3 +88,4 @@ pub record AreTabled (files : RevisionBytes) (blocks : List Block) (tables : Lis
   pub nodes : (id : NodeId) → IsPlaced files tables id (node_in blocks id) (placed_in tables id)
   pub roots : (n : ℕ) → IsAt tables (root_in blocks n) (files_trees.root_in files n)
   pub changed : (n : ℕ) → changes_in files n ≡ option_map entries (slice_get changes n)
+  pub rows : AreRows files tables

@@ -1,7 +1,8 @@
 //! What a line of a node revision gives.
-ghost use Rattle.std.specs.Prelude.{◌≡◌, true, IfOk};
+ghost use Rattle.std.specs.Prelude.{◌≡◌, true, IfOk, Decides};
 ghost use Rattle.filed_trees.specs.Pieces.{RevisionBytes};
-ghost use Rattle.filed_trees.specs.Comparing.{CameWith, IsBody};
+ghost use Rattle.filed_trees.specs.Comparing.{CameWith, IsBody, IsHere};
+ghost use Rattle.filed_trees.specs.Readable.{IsKept, IsSaid, Judges};
 
 use byte_string::ByteString;
 use fsfs_ids::Representation;
@@ -18,7 +19,7 @@ pub(crate) enum Body<'a> {
 
 /// Says whether two lines are the same.
 fn is_same_line(line: Representation, other: Representation) -> bool
-    ensures { result ≡ true → line ≡ other }
+    ensures { Decides result (line ≡ other) }
 {
     line == other
 }
@@ -35,8 +36,10 @@ pub(crate) fn body_of<'a>(
     new: &'a Option<ByteString>,
     kept: Option<Representation>,
 ) -> Result<Body<'a>, FileFault>
-    ensures { IfOk result (λ body. (files : RevisionBytes)
+    ensures body { IfOk result (λ body. (files : RevisionBytes)
         → CameWith files revision line new.now → IsBody files line kept body) }
+    ensures judges { IsHere revision line new.now → Judges result (IsKept line new.now kept) }
+    ensures said { IsHere revision line new.now → IfOk result (λ body. IsSaid line new.now body) }
 {
     let Some(line) = line else {
         return Ok(Body::Empty);

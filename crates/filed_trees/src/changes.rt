@@ -1,12 +1,12 @@
 //! The changes that a revision's file says.
-ghost use Rattle.std.specs.Prelude.{◌≡◌, true, map, IfOk, Some};
+ghost use Rattle.std.specs.Prelude.{◌≡◌, true, IfOk, Some, IsSome, Decides};
 ghost use Rattle.std.specs.List.Sorted.{IsStrictlySortedBy};
 ghost use Rattle.std.specs.Map.{keys_of};
-ghost use Rattle.std.specs.Map.Iter.{deref_pair};
 ghost use Rattle.std.specs.Result.{result_ok};
 ghost use Rattle.svnpath.specs.Paths.{path_cmp};
 ghost use Rattle.svnpath.specs.Texts.{parsed};
 ghost use Rattle.filed_trees.specs.Changes.{action_in, source_in, change_in, changes_by};
+ghost use Rattle.filed_trees.specs.Readable.{Judges};
 
 use byte_string::ByteString;
 use fsfs_ids::Place;
@@ -19,7 +19,8 @@ use svnpath::{Path, PathFault};
 
 /// Reads a path.
 pub(crate) fn read_path(alloc: Global, text: &ByteString) -> Result<Path, FileFault>
-    ensures { IfOk result (λ path. result_ok (parsed text.now) ≡ Some path) }
+    ensures path { IfOk result (λ path. result_ok (parsed text.now) ≡ Some path) }
+    ensures judges { Judges result (IsSome (result_ok (parsed text.now))) }
 {
     match Path::parse(alloc, text.as_slice()) {
         Ok(path) => Ok(path),
@@ -42,7 +43,8 @@ fn action_in(action: FileAction) -> Action
 
 /// Reads the source of a copy, if there is one.
 fn read_source(alloc: Global, place: &Option<Place>) -> Result<Option<Source>, FileFault>
-    ensures { IfOk result (λ source. source_in place.now ≡ Some source) }
+    ensures source { IfOk result (λ source. source_in place.now ≡ Some source) }
+    ensures judges { Judges result (IsSome (source_in place.now)) }
 {
     let Some(place) = place else {
         return Ok(None);
@@ -57,7 +59,8 @@ fn read_source(alloc: Global, place: &Option<Place>) -> Result<Option<Source>, F
 /// Reads a changed path, and its change.
 #[tactic(auto, unfolding(crate::specs::Changes::change_in))]
 fn read_change(alloc: Global, change: &FileChange) -> Result<(Path, Change), FileFault>
-    ensures { IfOk result (λ p. change_in change.now ≡ Some p) }
+    ensures change { IfOk result (λ p. change_in change.now ≡ Some p) }
+    ensures judges { Judges result (IsSome (change_in change.now)) }
 {
     let path = read_path(alloc, &change.path)?;
     let source = read_source(alloc, &change.source)?;
@@ -79,7 +82,8 @@ pub fn changes_by_path(
     alloc: Global,
     changes: &[FileChange],
 ) -> Result<BTreeMap<Path, Change>, FileFault>
-    ensures { IfOk result (λ map. changes_by changes.now ≡ Some map.entries) }
+    ensures changes { IfOk result (λ map. changes_by changes.now ≡ Some map.entries) }
+    ensures judges { Judges result (IsSome (changes_by changes.now)) }
 {
     let mut map = BTreeMap::new(alloc);
     for change in changes {
@@ -100,16 +104,16 @@ pub(crate) fn note_order(changes: &BTreeMap<Path, Change>)
 }
 
 /// Says whether two paths are the same.
-#[tactic(auto, using(svnpath::specs::PathLaws::same_path_is))]
+#[tactic(auto, using(svnpath::specs::PathLaws::same_path_is, svnpath::specs::PathLaws::same_path_refl))]
 pub(crate) fn is_same_path(path: &Path, other: &Path) -> bool
-    ensures { result ≡ true → path.now ≡ other.now }
+    ensures { Decides result (path.now ≡ other.now) }
 {
     path == other
 }
 
 /// Says whether both are the same source, or both none.
 fn is_same_source(source: &Option<Source>, other: &Option<Source>) -> bool
-    ensures { result ≡ true → source.now ≡ other.now }
+    ensures { Decides result (source.now ≡ other.now) }
 {
     match (source, other) {
         (None, None) => true,
@@ -121,7 +125,7 @@ fn is_same_source(source: &Option<Source>, other: &Option<Source>) -> bool
 
 /// Says whether two changes are the same.
 fn is_same_change(change: &Change, other: &Change) -> bool
-    ensures { result ≡ true → change.now ≡ other.now }
+    ensures { Decides result (change.now ≡ other.now) }
 {
     change.action == other.action
         && change.text == other.text
@@ -129,44 +133,24 @@ fn is_same_change(change: &Change, other: &Change) -> bool
         && is_same_source(&change.source, &other.source)
 }
 
-/// Says whether a row is a change with its path.
-fn is_same_row(row: (&Path, &Change), changed: &(Path, Change)) -> bool
-    ensures { result ≡ true → deref_pair row.entry ≡ changed.now }
+/// Says whether two changes of paths are the same.
+fn is_same_row(row: &(Path, Change), other: &(Path, Change)) -> bool
+    ensures { Decides result (row.now ≡ other.now) }
 {
-    is_same_path(row.0, &changed.0) && is_same_change(row.1, &changed.1)
+    is_same_path(&row.0, &other.0) && is_same_change(&row.1, &other.1)
 }
 
-/// Says whether rows and changes with their paths are the same, in the same order.
-fn are_same_changes(rows: &[(&Path, &Change)], changes: &[(Path, Change)]) -> bool
-    ensures { result ≡ true → map deref_pair rows.now ≡ changes.now }
+/// Says whether changes with their paths are the same, in the same order.
+pub(crate) fn are_same_changes(changes: &[(Path, Change)], others: &[(Path, Change)]) -> bool
+    ensures { Decides result (changes.now ≡ others.now) }
 {
-    if rows.len() != changes.len() {
+    if changes.len() != others.len() {
         return false;
     }
-    for k in 0..rows.len() {
-        if !is_same_row(rows[k], &changes[k]) {
+    for k in 0..changes.len() {
+        if !is_same_row(&changes[k], &others[k]) {
             return false;
         }
     }
     true
-}
-
-/// Checks that a revision's file says these changes.
-///
-/// # Errors
-///
-/// `BadLine` where it says others; `NoMemory`.
-pub(crate) fn check_changes(
-    alloc: Global,
-    said: &BTreeMap<Path, Change>,
-    changes: &[(Path, Change)],
-) -> Result<(), FileFault>
-    ensures { IfOk result (λ _. said.now.entries ≡ changes.now) }
-{
-    let rows = said.iter().collect::<Vec<_>>(alloc)?;
-    if are_same_changes(rows.as_slice(), changes) {
-        Ok(())
-    } else {
-        Err(FileFault::BadLine)
-    }
 }

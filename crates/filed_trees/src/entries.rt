@@ -10,6 +10,10 @@ ghost use Rattle.filed_trees.specs.Pieces.{RevisionBytes, body_at_line, entry_na
 ghost use Rattle.filed_trees.specs.Tables.{IsAt};
 ghost use Rattle.filed_trees.specs.Comparing.{AreNamed, HasEntries, WasFiled, earlier_text, id_at, tables_of};
 ghost use Rattle.filed_trees.specs.declared.places.Places.{Places};
+ghost use Rattle.filed_trees.specs.Readable.{AreEntries, IsOfKind, IsTabled, Judges};
+ghost use Rattle.fsfs_nodes.specs.Entries.{entries_of};
+ghost use Rattle.std.specs.Result.{result_ok};
+ghost use Rattle.fsfs_nodes.specs.declared.entries.EntryKind.TheVariants.{Directory};
 
 use crate::kids::ids_by_name;
 use crate::places::{Earlier, Places, node_of};
@@ -40,8 +44,10 @@ fn node_named(
     ids: &BTreeMap<ByteString, FileId>,
     name: &ByteString,
 ) -> Result<NodeId, FileFault>
-    ensures { IfOk result (λ node. IsAt (tables_of places.entry) (Some node)
+    ensures at { IfOk result (λ node. IsAt (tables_of places.entry) (Some node)
         (id_at ids.now.entries name.now)) }
+    ensures judges { Judges result (IsSomeAnd (id_at ids.now.entries name.now)
+        (IsTabled (tables_of places.entry))) }
 {
     let Some(id) = ids.get(name) else {
         return Err(FileFault::BadLine);
@@ -84,6 +90,8 @@ fn put_kids(
         (λ id. IsAt (tables_of places.entry) (Some id) (id_at ids.now.entries e.name))) entries.now) }
     ensures named { IfOk result (λ _. AreNamed (id_at ids.now.entries) kids.old
         → AreNamed (id_at ids.now.entries) kids.new) }
+    ensures judges { Judges result (All (λ e. IsSomeAnd (id_at ids.now.entries e.name)
+        (IsTabled (tables_of places.entry))) entries.now) }
 {
     for entry in entries {
         let id = node_named(places, ids, &entry.name)?;
@@ -136,8 +144,9 @@ fn set_kids(
     kids: &mut SharedMap<NodeId>,
     entries: &[DirectoryEntry],
 ) -> Result<(), FileFault>
-    ensures { IfOk result (λ _. (name : Component) → IsAt (tables_of places.entry)
+    ensures kids { IfOk result (λ _. (name : Component) → IsAt (tables_of places.entry)
         (kid_named kids.new name) (entry_named name entries.now)) }
+    ensures judges { Judges result (AreEntries (IsTabled (tables_of places.entry)) entries.now) }
 {
     let ids = ids_by_name(alloc, entries)?;
     let others = other_names(alloc, kids, &ids)?;
@@ -167,9 +176,11 @@ pub(crate) fn read_kids(
     bytes: &[u8],
     earlier: Option<Earlier<'_>>,
 ) -> Result<SharedMap<NodeId>, FileFault>
-    ensures { IfOk result (λ kids. (files : RevisionBytes) (line : Option Representation)
+    ensures kids { IfOk result (λ kids. (files : RevisionBytes) (line : Option Representation)
         → IsSomeAnd line (λ l. body_at_line files l ≡ Some bytes.now)
         → HasEntries files (tables_of places.entry) line kids) }
+    ensures judges { Judges result (IsSomeAnd (result_ok (entries_of bytes.now))
+        (AreEntries (IsTabled (tables_of places.entry)))) }
 {
     let entries = read_entries(alloc, bytes)?;
     let mut kids = shared_kids(alloc, earlier)?;
@@ -191,9 +202,10 @@ pub(crate) fn same_kids(
     alloc: Global,
     earlier: Option<Earlier<'_>>,
 ) -> Result<SharedMap<NodeId>, FileFault>
-    ensures { IfOk result (λ kids. (files : RevisionBytes) (places : Places)
+    ensures kids { IfOk result (λ kids. (files : RevisionBytes) (places : Places)
         → WasFiled files places earlier.entry
         → HasEntries files (tables_of places) (earlier_text earlier.entry) kids) }
+    ensures judges { Judges result (IsOfKind Directory earlier.entry) }
 {
     match earlier {
         Some(earlier) if is_directory(earlier.node) => Ok(earlier.node.kids.share(alloc)?),

@@ -2,15 +2,21 @@
 ghost use Rattle.std.specs.Prelude.{◌≡◌, ℕ, List, [], Some, slice_get};
 ghost use Rattle.std.specs.FinMap.{get};
 ghost use Rattle.svnpath.specs.Paths.{PathValue};
+ghost use Rattle.repo_api.specs.Histories.{Changed};
 ghost use Rattle.repo_api.specs.States.{ChangeMap, RepoState, Revision};
-ghost use Rattle.noderevs.specs.Nodes.{node_in, root_in};
+ghost use Rattle.noderevs.specs.Heights.{AreHigh};
+ghost use Rattle.noderevs.specs.Held.{count, node_at};
+ghost use Rattle.noderevs.specs.Nodes.{node_in, root_in, with_block};
 ghost use Rattle.noderevs.specs.Views.{shared_tree};
 ghost use Rattle.noderevs.specs.declared.node_rev.Block.{Block};
+ghost use Rattle.noderevs.specs.declared.nodes.Nodes.{Nodes};
+ghost use Rattle.next_blocks.specs.Rules.{IsNextRevision, past_of};
 ghost use Rattle.repostore.specs.Files.{Files};
 ghost use Rattle.filed_trees.specs.Pieces.{RevisionBytes};
 ghost use Rattle.filed_trees.specs.Trees.{tree_in};
 ghost use Rattle.filed_trees.specs.Tables.{AreTabled};
 ghost use Rattle.filed_trees.specs.StandsFor.{StandsFor, IsRevision};
+ghost use Rattle.filed_trees.specs.Values.{AreSameNext, AreSameRevisions};
 ghost use Rattle.filed_trees.specs.declared.table.Table.{Table};
 
 /// Shows that where tables say which node revision of the files each node is, the trees of the files
@@ -41,4 +47,21 @@ pub fn tabled_revisions_are_those_of_the_files()
         → ((path : PathValue) → get revision.tree path
         ≡ shared_tree (node_in blocks) (root_in blocks n) path)
         → slice_get changes n ≡ Some revision.changes → IsRevision files n revision }
+{}
+
+/// Shows that what may come next depends on what nodes have: where other nodes and another block have
+/// the same at the same places, and each of them its height, the same changes may come next.
+pub fn what_comes_next_depends_on_what_nodes_have()
+    ensures { (past other : Nodes) (b c : Block) (changes : List Changed)
+        → AreSameNext past other b c
+        → AreHigh (with_block (node_at other) (count other) c.nodes.items)
+        → IsNextRevision (past_of past) b changes → IsNextRevision (past_of other) c changes }
+{}
+
+/// Shows that files say one repository at most: nodes that are tabled in the same files have the same,
+/// at the same places.
+pub fn files_say_one_repository()
+    ensures { (files : RevisionBytes) (blocks others : List Block) (tables more : List Table)
+        (lists all : List ChangeMap) → AreTabled files blocks tables lists
+        → AreTabled files others more all → AreSameRevisions blocks others lists all }
 {}

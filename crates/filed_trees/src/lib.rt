@@ -9,7 +9,6 @@ mod content;
 mod entries;
 mod kids;
 mod laws;
-mod own;
 mod places;
 mod table;
 mod tabulating;
@@ -18,8 +17,9 @@ pub use blocks::{ReadRevision, read_next};
 pub use changes::changes_by_path;
 pub use content::check_same_properties;
 pub use laws::{
-    files_stand_for_one_state, nothing_is_tabled, tabled_revisions_are_those_of_the_files,
-    tabled_trees_are_those_of_the_files,
+    files_say_one_repository, files_stand_for_one_state, nothing_is_tabled,
+    tabled_revisions_are_those_of_the_files, tabled_trees_are_those_of_the_files,
+    what_comes_next_depends_on_what_nodes_have,
 };
 pub use table::{Placed, Table};
 pub use tabulating::tabulated;

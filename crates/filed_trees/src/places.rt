@@ -1,7 +1,10 @@
 //! Where nodes stand in the files, as far as that is known.
-ghost use Rattle.std.specs.Prelude.{◌≡◌, ◌≤◌, ◌∷◌, ◌++◌, [], true, IfOk, IfSome, IsSomeAnd, length, option_copied, option_map, slice_get, Some};
-ghost use Rattle.filed_trees.specs.Comparing.{IsEarlier, earlier_text, earlier_properties, tables_of};
+ghost use Rattle.std.specs.Prelude.{◌≡◌, ◌≤◌, ◌∷◌, ◌++◌, [], true, IfOk, IfSome, IsSomeAnd, length, option_copied, option_map, slice_get, Some, Decides};
+ghost use Rattle.filed_trees.specs.Comparing.{IsEarlier, earlier_text, earlier_properties, tables_of, AreFor};
 ghost use Rattle.filed_trees.specs.Tables.{IsAt, placed_in};
+ghost use Rattle.filed_trees.specs.Readable.{Finds, HasPlaced, IsTabled, Judges};
+ghost use Rattle.filed_trees.specs.Pieces.{RevisionBytes};
+ghost use Rattle.filed_trees.specs.Changes.{ChangeRows};
 
 use crate::table::{Placed, Table};
 use fsfs_ids::{FileId, Representation};
@@ -27,7 +30,7 @@ pub(crate) struct Earlier<'a> {
 
 /// Says whether two ids are the same.
 pub(crate) fn is_same_id(id: FileId, other: FileId) -> bool
-    ensures { result ≡ true → id ≡ other }
+    ensures { Decides result (id ≡ other) }
 {
     id == other
 }
@@ -51,7 +54,8 @@ fn first_from(placed: &[Placed], offset: u64) -> usize
 
 /// Finds the place of an id by going over all.
 fn scanned(placed: &[Placed], id: FileId) -> Option<usize>
-    ensures { IfSome result (λ k. IsSomeAnd (slice_get placed.now k) (λ p. p.id ≡ id)) }
+    ensures at { IfSome result (λ k. IsSomeAnd (slice_get placed.now k) (λ p. p.id ≡ id)) }
+    ensures finds { Finds result (HasPlaced placed.now id) }
 {
     for k in 0..placed.len() {
         if is_same_id(placed[k].id, id) {
@@ -63,7 +67,8 @@ fn scanned(placed: &[Placed], id: FileId) -> Option<usize>
 
 /// Finds the place of an id. That is quick where offsets rise with the places.
 fn place_of(placed: &[Placed], id: FileId) -> Option<usize>
-    ensures { IfSome result (λ k. IsSomeAnd (slice_get placed.now k) (λ p. p.id ≡ id)) }
+    ensures at { IfSome result (λ k. IsSomeAnd (slice_get placed.now k) (λ p. p.id ≡ id)) }
+    ensures finds { Finds result (HasPlaced placed.now id) }
 {
     let place = first_from(placed, id.offset);
     if place < placed.len() && is_same_id(placed[place].id, id) {
@@ -84,7 +89,8 @@ fn table_at(places: Places<'_>, revision: u32) -> Option<&Table>
 
 /// Finds the node that is the node revision of an id.
 pub(crate) fn node_of(places: Places<'_>, id: FileId) -> Option<NodeId>
-    ensures { IfSome result (λ node. IsAt (tables_of places.entry) (Some node) (Some id)) }
+    ensures at { IfSome result (λ node. IsAt (tables_of places.entry) (Some node) (Some id)) }
+    ensures finds { Finds result (IsTabled (tables_of places.entry) id) }
 {
     let table = table_at(places, id.revision)?;
     let place = place_of(table.placed.as_slice(), id)?;
@@ -92,23 +98,6 @@ pub(crate) fn node_of(places: Places<'_>, id: FileId) -> Option<NodeId>
         rev: id.revision,
         place: place as u64,
     })
-}
-
-/// Finds where a node of a revision before the last one stands.
-fn placed_at(tables: &PVec<Table>, id: NodeId) -> Option<&Placed>
-    ensures { option_copied result ≡ placed_in tables.now id }
-{
-    tables.get(id.rev as usize)?.placed.get(id.place as usize)
-}
-
-/// Finds the id of a node, of the last revision too.
-pub(crate) fn file_id(tables: &PVec<Table>, so_far: &Table, id: NodeId) -> Option<FileId>
-    ensures { result ≡ option_map (λ p. p.id) (placed_in (tables.now ++ so_far.now ∷ []) id) }
-{
-    if id.rev as usize == tables.len() {
-        return Some(so_far.placed.get(id.place as usize)?.id);
-    }
-    Some(placed_at(tables, id)?.id)
 }
 
 /// Finds the node of an earlier revision that a node revision names as its predecessor.
@@ -120,7 +109,9 @@ pub(crate) fn find_earlier<'a>(
     places: Places<'a>,
     predecessor: Option<FileId>,
 ) -> Result<Option<Earlier<'a>>, FileFault>
-    ensures { IfOk result (IsEarlier places.entry predecessor) }
+    ensures earlier { IfOk result (IsEarlier places.entry predecessor) }
+    ensures finds { (files : RevisionBytes) (rows : ChangeRows) → AreFor files places.entry rows
+        → Judges result (IfSome predecessor (IsTabled places.entry.tables.now)) }
 {
     let Some(id) = predecessor else {
         return Ok(None);
@@ -133,7 +124,9 @@ pub(crate) fn find_earlier<'a>(
 
 /// Finds the node of an earlier revision that is the node revision of an id.
 fn earlier_of(places: Places<'_>, id: FileId) -> Option<Earlier<'_>>
-    ensures { IfSome result (λ e. IsEarlier places.entry (Some id) (Some e)) }
+    ensures earlier { IfSome result (λ e. IsEarlier places.entry (Some id) (Some e)) }
+    ensures finds { (files : RevisionBytes) (rows : ChangeRows) → AreFor files places.entry rows
+        → Finds result (IsTabled places.entry.tables.now id) }
 {
     let table = places.tables.get(id.revision as usize)?;
     let place = place_of(table.placed.as_slice(), id)?;

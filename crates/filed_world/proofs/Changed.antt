@@ -17,6 +17,7 @@ use Rattle.fsfs_folder.specs.declared.current.Current.{Current}
 use Rattle.filed_trees.specs.StandsFor.{revision_bytes, revision_properties}
 use Rattle.filed_trees.specs.Tables.{AreTabled}
 use Rattle.filed_trees.specs.declared.table.Table.{Table}
+use Rattle.filed_world.specs.Histories.{IsHistory, held_history}
 use Rattle.filed_world.specs.Files.{AreFilesOf, AreLocks, HasOneMoreList, HasOtherList}
 
 -- ---- properties, revision by revision
@@ -111,6 +112,7 @@ module _ (h : Held) (locks : LockMap) (tables : List Table) (current : Current) 
     current_is = are.current_is;
     youngest = are.youngest;
     tabled = are.tabled;
+    history = are.history;
     properties = λ n. are_said n ∙ sym (said_is (with_locks files bytes) n);
     locked = locked;
   }
@@ -140,6 +142,10 @@ module _ (h : Held) (locks : LockMap) (tables : List Table) (current : Current) 
               (subst (λ cs. AreTabled (revision_bytes more) (blocks_of h.nodes) tables cs)
               (sym same.changes)
               (subst (λ fs. AreTabled fs (blocks_of h.nodes) tables h.changes) (sym first) are.tabled));
+          history =
+              subst IsHistory
+              (λ i. record { files = sym first i; blocks = sym same.blocks i; tables = tables; changes = sym same.changes i })
+              are.history;
           properties = λ n. ap (λ ls. slice_get ls n) other.lists
               ∙ other_said h.properties files.revisions k other.list bytes said_now many_lists are_said n
               ∙ sym (said_is more n);
@@ -154,11 +160,12 @@ module _ (h : Held) (locks : LockMap) (tables : List Table) (current : Current) 
       → slice_get new.properties (length h.changes) ≡ Some list
       → AreTabled (revision_bytes files ++ file ∷ []) (blocks_of new.nodes) (tables ++ table ∷ [])
       new.changes
+      → IsHistory (held_history new (tables ++ table ∷ []) (revision_bytes files ++ file ∷ []))
       → result_ok (properties_of properties) ≡ Some list
       → result_ok (current_of said_now) ≡ Some next → next.youngest ≡ length tables
       → AreFilesOf new locks (tables ++ table ∷ []) next
       (with_revision files (file, properties) said_now)
-  revision_added new list table next file properties said_now uuid more at tabled is says young =
+  revision_added new list table next file properties said_now uuid more at tabled history is says young =
       let added = with_revision files (file, properties) said_now in
       let bytes : revision_bytes added ≡ revision_bytes files ++ file ∷ [] =
       map-append (λ r. r.0) files.revisions ((file, properties) ∷ []) in
@@ -177,6 +184,7 @@ module _ (h : Held) (locks : LockMap) (tables : List Table) (current : Current) 
         tabled =
             subst (λ fs. AreTabled fs (blocks_of new.nodes) (tables ++ table ∷ []) new.changes)
             (sym bytes) tabled;
+        history = subst (λ fs. IsHistory (held_history new (tables ++ table ∷ []) fs)) (sym bytes) history;
         properties = λ n. ap (λ ls. slice_get ls n) more.lists
             ∙ one_more_said h.properties files.revisions more.list (file, properties) many_lists
             said_list are_said n

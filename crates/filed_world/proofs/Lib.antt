@@ -3,5 +3,7 @@ pub mod Counts
 pub mod Listed
 pub mod Lists
 pub mod Newest
+pub mod Histories
 pub mod Next
+pub mod Further
 pub mod Taken

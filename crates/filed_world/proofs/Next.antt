@@ -1,5 +1,5 @@
 -- The world of the next revision comes behind those of the revisions that were read.
-use Rattle.std.proofs.Common.{◌≡◌, List, [], ◌∷◌, length, refl, sym, ap, subst, ◌∙◌, arith}
+use Rattle.std.proofs.Common.{◌≡◌, List, [], ◌∷◌, length, refl, sym, ap, subst, ◌∙◌, arith, ◌++◌}
 use Rattle.std.specs.Prelude.{slice_set}
 use Rattle.repo_api.specs.Properties.{PropertyList}
 use Rattle.repo_api.specs.States.{ChangeMap}
@@ -37,21 +37,20 @@ module _ (before after : World) (tables : List Table) (list : PropertyList) (loc
         locks,
       )
 
--- a revision that was read
-pub next_comes : (before after : World) (tables : List Table) (block : Block) (change : ChangeMap) (list : PropertyList)
-    → (tables ≡ [] → ⊥) → HasAdded before after block change list → IsNext before.held.value tables after.held.value
-next_comes before after [] block change list some added = absurd (some refl)
-next_comes before after (t ∷ ts) block change list some added = record {
-  uuid = added.held.uuid;
-  block = block;
-  blocks = added.held.blocks;
-  change = change;
-  changes = added.held.changes;
-  list = list;
-  lists = added.held.lists;
-}
-
 -- what is held of the revisions is all, once one has been read
 pub whole : {X : Type 0} (tables : List Table) (xs : List X) → (tables ≡ [] → ⊥) → so_far tables xs ≡ xs
 whole [] xs some = absurd (some refl)
 whole (t ∷ ts) xs some = refl
+
+-- a revision that was read
+abbrev pub next_comes : (before after : World) (tables : List Table) (block : Block) (change : ChangeMap) (list : PropertyList)
+    → (tables ≡ [] → ⊥) → HasAdded before after block change list → IsNext before.held.value tables after.held.value
+next_comes before after tables block change list some added = record {
+  uuid = added.held.uuid;
+  block = block;
+  blocks = added.held.blocks ∙ ap (λ bs. bs ++ block ∷ []) (sym (whole tables (blocks_of before.held.value.nodes) some));
+  change = change;
+  changes = added.held.changes ∙ ap (λ cs. cs ++ change ∷ []) (sym (whole tables before.held.value.changes some));
+  list = list;
+  lists = added.held.lists ∙ ap (λ ls. ls ++ list ∷ []) (sym (whole tables before.held.value.properties some));
+}

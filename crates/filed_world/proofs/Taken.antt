@@ -1,5 +1,5 @@
 -- What is read of the files, revision by revision, is what is held.
-use Rattle.std.proofs.Common.{◌≡◌, ◌⊎◌, inl, inr, ℕ, suc, List, [], ◌∷◌, ◌++◌, Option, Some, None, length, map, refl, sym, ap, subst, ◌∙◌, arith}
+use Rattle.std.proofs.Common.{◌≡◌, ◌⊎◌, inl, inr, ℕ, suc, List, [], ◌∷◌, ◌++◌, Option, Some, None, length, map, refl, sym, ap, subst, ◌∙◌, arith, ◌<◌}
 use Rattle.std.specs.Prelude.{option_and_then, slice_get, Result, Ok, Err, IfOk}
 use Rattle.std.specs.FinMap.{get, empty, entries, from_entries, get-empty}
 use Rattle.std.specs.Result.{result_ok}
@@ -29,9 +29,12 @@ use Rattle.filed_trees.specs.StandsFor.{revision_bytes, revision_properties, loc
 use Rattle.filed_trees.specs.Tables.{AreTabled}
 use Rattle.filed_trees.specs.declared.table.Table.{Table}
 use Rattle.filed_world.specs.Files.{AreFilesOf, AreLocks}
-use Rattle.filed_world.specs.Reading.{SayHead, AreFirst, AreRead, IsNext, so_far}
+use Rattle.filed_world.specs.Reading.{SayHead, AreFirst, AreRead, IsNext, so_far, read_history}
 use Rattle.filed_world.proofs.Changed.{AreSaid, said, said_is, one_more_said}
 use Rattle.filed_world.proofs.Listed.{looked_up}
+use Rattle.filed_world.specs.Histories.{ComesNext, IsHistory, held_history}
+use Rattle.filed_world.proofs.Histories.{history_more, no_history}
+use Rattle.repo_api.specs.declared.limits.TheConstants.{REVISION_LIMIT}
 use Rattle.filed_world.proofs.Newest.{last_of}
 
 -- ---- before the first revision
@@ -50,6 +53,7 @@ first_read h locks current uuid date files nothing same first =
       head = subst (λ u. SayHead u current files) (sym named) first.head;
       begins = λ e. sym (held_many h) ∙ ap (λ (c : RepoState). length c.revisions) same;
       tabled = subst (λ rs. AreTabled (map (λ r. r.0) rs) [] [] []) (sym first.none) nothing;
+      history = subst (λ rs. IsHistory (read_history h [] (map (λ r. r.0) rs))) (sym first.none) (no_history nothing);
       properties = no_properties files first.none;
       locked = record {
         said = [];
@@ -130,15 +134,35 @@ module _ (h : Held) (locks : LockMap) (tables : List Table) (current : Current) 
       (tabled fs blocks next.block (so_far tables h.changes) next.change are.tabled next.blocks
       (sym (is ∙ listed new_locks))))
 
+  -- so are the revisions, if it comes next
+  pub next_history : (file : List ℕ) (table : Table)
+      → AreTabled (revision_bytes files ++ file ∷ []) (blocks_of new.nodes) (tables ++ table ∷ []) new.changes
+      → (0 < length (revision_bytes files) → ComesNext (read_history h tables (revision_bytes files)) file next.block next.change)
+      → length (revision_bytes files) < REVISION_LIMIT
+      → IsHistory (held_history new (tables ++ table ∷ []) (revision_bytes files ++ file ∷ []))
+  next_history file table tabled comes room =
+      subst IsHistory
+      (λ i. record {
+        files = revision_bytes files ++ file ∷ [];
+        blocks = sym next.blocks i;
+        tables = tables ++ table ∷ [];
+        changes = sym next.changes i;
+      })
+      (history_more (read_history h tables (revision_bytes files)) are.history file next.block table next.change
+      (subst (λ bs. AreTabled (revision_bytes files ++ file ∷ []) bs (tables ++ table ∷ []) (so_far tables h.changes ++ next.change ∷ []))
+      next.blocks (subst (AreTabled (revision_bytes files ++ file ∷ []) (blocks_of new.nodes) (tables ++ table ∷ [])) next.changes tabled))
+      comes room)
+
   pub next_read : (new_locks : LockMap) (file properties : List ℕ) (table : Table)
       → new_locks ≡ locks
       → AreTabled (revision_bytes files ++ file ∷ []) (blocks_of new.nodes) (tables ++ table ∷ [])
       new.changes
+      → IsHistory (held_history new (tables ++ table ∷ []) (revision_bytes files ++ file ∷ []))
       → ((list : PropertyList) → slice_get new.properties (length tables) ≡ Some list
       → result_ok (properties_of properties) ≡ Some list)
       → AreRead new new_locks (tables ++ table ∷ []) current
       (with_one_more files (file, properties))
-  next_read new_locks file properties table same tabled says =
+  next_read new_locks file properties table same tabled history says =
       let more = with_one_more files (file, properties) in
       let all = tables ++ table ∷ [] in
       let bytes : revision_bytes more ≡ revision_bytes files ++ file ∷ [] =
@@ -167,6 +191,15 @@ module _ (h : Held) (locks : LockMap) (tables : List Table) (current : Current) 
             (sym (behind tables table (blocks_of new.nodes)))
             (subst (λ cs. AreTabled (revision_bytes files ++ file ∷ []) (blocks_of new.nodes) all cs)
             (sym (behind tables table new.changes)) tabled));
+        history =
+            subst IsHistory
+            (λ i. record {
+              files = sym bytes i;
+              blocks = sym (behind tables table (blocks_of new.nodes)) i;
+              tables = all;
+              changes = sym (behind tables table new.changes) i;
+            })
+            history;
         properties = λ n. ap (λ ls. slice_get ls n)
             (behind tables table new.properties ∙ next.lists)
             ∙ one_more_said lists files.revisions next.list (file, properties) many said_last are_said n
@@ -189,6 +222,7 @@ locks_read h locks tables current files are said file new is same = record {
   };
   begins = are.begins;
   tabled = are.tabled;
+  history = are.history;
   properties = λ n. are.properties n ∙ said_is files n ∙ sym (said_is (with_read_locks files file) n);
   locked = record {
     said = said;
@@ -213,6 +247,7 @@ all_read h locks (t ∷ ts) current files are count = record {
   current_is = are.head.current_is;
   youngest = same_Some (suc current.youngest) (length files.revisions) (sym are.head.count ∙ count);
   tabled = are.tabled;
+  history = are.history;
   properties = are.properties;
   locked = are.locked;
 }

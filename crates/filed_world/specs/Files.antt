@@ -16,6 +16,7 @@ use Rattle.fsfs_folder.specs.declared.current.Current.{Current}
 use Rattle.filed_trees.specs.StandsFor.{revision_bytes, revision_properties, locks_in, lock_of}
 use Rattle.filed_trees.specs.Tables.{AreTabled}
 use Rattle.filed_trees.specs.declared.table.Table.{Table}
+use Rattle.filed_world.specs.Histories.{IsHistory, held_history}
 use Rattle.filed_world.specs.declared.filed_world.FiledWorld.{FiledWorld}
 
 abbrev pub filed_content : FiledWorld → RepoState
@@ -39,6 +40,7 @@ pub record AreFilesOf (h : Held) (locks : LockMap) (tables : List Table) (curren
   pub current_is : result_ok (current_of files.current) ≡ Some current
   pub youngest : suc current.youngest ≡ length files.revisions
   pub tabled : AreTabled (revision_bytes files) (blocks_of h.nodes) tables h.changes
+  pub history : IsHistory (held_history h tables (revision_bytes files))
   pub properties : (n : ℕ) → slice_get h.properties n ≡ revision_properties files n
   pub locked : AreLocks files.locks locks
 

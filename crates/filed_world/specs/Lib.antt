@@ -1,4 +1,5 @@
 pub mod Creating
 pub mod Files
+pub mod Histories
 pub mod Reading
 pub mod Standing

@@ -18,6 +18,8 @@ use Rattle.filed_trees.specs.Tables.{AreTabled}
 use Rattle.filed_trees.specs.declared.blocks.ReadRevision.{ReadRevision}
 use Rattle.filed_trees.specs.declared.table.Table.{Table}
 use Rattle.filed_world.specs.Files.{AreLocks}
+use Rattle.filed_world.specs.Histories.{History, IsHistory}
+use Rattle.filed_trees.specs.Pieces.{RevisionBytes}
 use Rattle.filed_world.specs.declared.filed_world.FiledWorld.{FiledWorld}
 
 -- the first files say a format, the name of the repository, and the youngest of its revisions
@@ -38,6 +40,15 @@ abbrev pub so_far : {X : Type 0} → List Table → List X → List X
 so_far [] xs = []
 so_far (table ∷ tables) xs = xs
 
+-- what is held of the revisions that have been read, with the tables and the files of these
+abbrev pub read_history : Held → List Table → RevisionBytes → History
+read_history h tables files = record {
+  files = files;
+  blocks = so_far tables (blocks_of h.nodes);
+  tables = tables;
+  changes = so_far tables h.changes;
+}
+
 -- the files that have been read say what is held of them; before the first revision is read, there is
 -- one to compare it with
 pub record AreRead (h : Held) (locks : LockMap) (tables : List Table) (current : Current)
@@ -46,6 +57,7 @@ pub record AreRead (h : Held) (locks : LockMap) (tables : List Table) (current :
   pub begins : tables ≡ [] → length h.changes ≡ 1
   pub tabled : AreTabled (revision_bytes files) (so_far tables (blocks_of h.nodes)) tables
       (so_far tables h.changes)
+  pub history : IsHistory (read_history h tables (revision_bytes files))
   pub properties : (n : ℕ) → slice_get (so_far tables h.properties) n ≡ revision_properties files n
   pub locked : AreLocks files.locks locks
 

@@ -1,5 +1,5 @@
 //! A new repository, and its files.
-ghost use Rattle.std.specs.Prelude.{◌≡◌, ◌≤◌, List, ℕ, IfOk, None, Some};
+ghost use Rattle.std.specs.Prelude.{◌≡◌, ◌≤◌, List, ℕ, IfOk, None, Some, []};
 ghost use Rattle.dates.specs.Dates.{IsDateText};
 ghost use Rattle.dates.specs.declared.TheConstants.{LAST_MOMENT};
 ghost use Rattle.repo_api.specs.Opening.{new_repository};
@@ -101,6 +101,7 @@ fn first_files(alloc: Global, world: &World) -> Result<(NewFiles, Current), Allo
 
 /// Begins with a new repository, of which no revision has been read.
 fn unread(alloc: Global, world: &World, current: Current) -> Result<FiledWorld, AllocError>
+    ensures none { IfOk result (λ unread. unread.tables ≡ []) }
     ensures read { IfOk result (λ unread. (uuid : ℕ) (date : List ℕ) (files : Files)
         → world_content world.now ≡ new_repository uuid date → AreFirst uuid current files
         → HasRead unread files) }

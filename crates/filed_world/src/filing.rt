@@ -6,6 +6,7 @@ ghost use Rattle.repostore.specs.Current.{count_in};
 ghost use Rattle.repostore.specs.Files.{Files, with_locks, with_properties, with_revision};
 ghost use Rattle.filed_trees.specs.Pieces.{RevisionBytes};
 ghost use Rattle.filed_trees.specs.Tables.{AreTabled};
+ghost use Rattle.filed_world.specs.Histories.{HasHistory, IsHistory, held_history};
 ghost use Rattle.filed_world.specs.Files.{AreLocks, HasOneMoreList, HasOtherList, IsOf, filed_content};
 
 use crate::filed_world::FiledWorld;
@@ -135,7 +136,11 @@ impl FiledWorld {
 
     /// Reads the files of the next revision as opening the folder does, where no locks have been read yet. What could
     /// not be read then is not made.
-    fn check_next_revision(&self, revision: &[u8], properties: &[u8]) -> Result<(), AllocError> {
+    fn check_next_revision(&self, revision: &[u8], properties: &[u8]) -> Result<(), AllocError>
+        ensures { IfOk result (λ _. (files : RevisionBytes) → 0 < length self.now.tables
+            → IsHistory (held_history self.now.world.held.value self.now.tables files)
+            → HasHistory (files ++ revision.now ∷ [])) }
+    {
         let unlocked = self.with_listed_locks(&[])?;
         let read = unlocked.with_next_revision(revision, properties);
         std::mem::drop(unlocked);

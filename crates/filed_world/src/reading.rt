@@ -1,5 +1,5 @@
 //! A repository whose files are read, one revision after another.
-ghost use Rattle.std.specs.Prelude.{◌≡◌, ◌<◌, ◌≤◌, ◌++◌, ◌∷◌, [], ℕ, List, Option, Some, length, slice_get, IfOk, None, option_copied};
+ghost use Rattle.std.specs.Prelude.{◌≡◌, ◌<◌, ◌≤◌, ◌++◌, ◌∷◌, [], ℕ, List, Option, Some, length, slice_get, IfOk, None, option_copied, IsSome};
 ghost use Rattle.std.specs.Result.{result_ok};
 ghost use Rattle.repo_api.specs.Opening.{new_repository};
 ghost use Rattle.repo_api.specs.Properties.{PropertyList};
@@ -10,7 +10,12 @@ ghost use Rattle.repostore.specs.Reading.{IfFindsFaulty, with_one_more, with_rea
 ghost use Rattle.fsfs_folder.specs.Properties.{properties_of};
 ghost use Rattle.filed_trees.specs.StandsFor.{locks_in};
 ghost use Rattle.filed_world.specs.Files.{IsOf};
-ghost use Rattle.filed_world.specs.Reading.{AreFirst, AreRead, HasRead, HasTaken, IsNextOf};
+ghost use Rattle.std.specs.FinMap.{entries};
+ghost use Rattle.world.specs.Adding.{MayComeNext};
+ghost use Rattle.filed_trees.specs.Pieces.{RevisionBytes};
+ghost use Rattle.filed_trees.specs.Readable.{Judges};
+ghost use Rattle.filed_world.specs.Histories.{HasHistory, IsHistory};
+ghost use Rattle.filed_world.specs.Reading.{AreFirst, AreRead, HasRead, HasTaken, IsNextOf, read_history};
 
 use crate::filed_world::FiledWorld;
 use crate::filing::with_table;
@@ -77,14 +82,14 @@ impl FiledWorld {
         self.tables.len()
     }
 
-    /// Compares the files of the next revision with the youngest revision of a world, and gives the
-    /// tables with that of the revision.
+    /// Compares the files of revision 0 with that of a world, and gives the tables with that of the revision.
     fn compared(
         &self,
         world: &World,
         revision: &[u8],
         properties: &[u8],
     ) -> Result<PVec<Table>, FileFault>
+        requires { length self.now.tables ≡ 0 }
         ensures { IfOk result (λ tables. (files : Files) → HasRead self.now files
             → IsNextOf self.now world.now
             → AreRead world.now.held.value world.now.locks.value tables self.now.current
@@ -120,17 +125,18 @@ impl FiledWorld {
         check_same_properties(self.alloc, &said, list)
     }
 
-    /// Takes the files of the next revision, if they say what the youngest revision of a world is.
+    /// Takes the files of revision 0, if they say what that of a world is.
     ///
     /// # Errors
     ///
     /// As `tabulated` and `read_properties`; `BadLine` where properties differ.
-    pub fn with_read_revision(
+    pub(crate) fn with_read_revision(
         &self,
         world: World,
         revision: &[u8],
         properties: &[u8],
     ) -> Result<FiledWorld, FileFault>
+        requires { length self.now.tables ≡ 0 }
         ensures world { IfOk result (λ made. made.world ≡ world) }
         ensures read { IfOk result (λ made. (files : Files) → HasRead self.now files
             → IsNextOf self.now world
@@ -191,7 +197,9 @@ impl FiledWorld {
     ///
     /// `BadLine` where it may not; `NoMemory`.
     fn with_read(&self, read: ReadRevision, list: Properties) -> Result<FiledWorld, FileFault>
-        ensures { IfOk result (λ made. HasTaken self.now made read list) }
+        ensures taken { IfOk result (λ made. HasTaken self.now made read list) }
+        ensures may { Judges result (MayComeNext self.now.world.held.value read.block
+            (entries read.changes)) }
     {
         let table = read.table;
         match self.world.with_revision(read.block, read.changes, list) {
@@ -214,8 +222,12 @@ impl FiledWorld {
         properties: &[u8],
     ) -> Result<FiledWorld, FileFault>
         requires { 0 < length self.now.tables }
-        ensures { IfOk result (λ made. (files : Files) → HasRead self.now files
+        ensures read { IfOk result (λ made. (files : Files) → HasRead self.now files
             → HasRead made (with_one_more files (revision.now, properties.now))) }
+        ensures judges { (files : RevisionBytes)
+            → IsHistory (read_history self.now.world.held.value self.now.tables files)
+            → Judges result (HasHistory (files ++ revision.now ∷ [])
+            × IsSome (result_ok (properties_of properties.now))) }
     {
         let number = self.tables.len() as u32;
         let file = read_revision(self.alloc, number, revision)?;
@@ -241,8 +253,13 @@ impl FiledWorld {
         revision: &[u8],
         properties: &[u8],
     ) -> Result<FiledWorld, FileFault>
-        ensures { IfOk result (λ made. (files : Files) → HasRead self.now files
+        ensures read { IfOk result (λ made. (files : Files) → HasRead self.now files
             → HasRead made (with_one_more files (revision.now, properties.now))) }
+        // After revision 0, a fault is found only where these are not the files of a next revision.
+        ensures judges { (files : RevisionBytes) → 0 < length self.now.tables
+            → IsHistory (read_history self.now.world.held.value self.now.tables files)
+            → Judges result (HasHistory (files ++ revision.now ∷ [])
+            × IsSome (result_ok (properties_of properties.now))) }
     {
         if self.tables.len() == 0 {
             self.with_first_revision(revision, properties)
@@ -253,9 +270,11 @@ impl FiledWorld {
 
     /// Makes the repository with the locks of a list and no others.
     pub(crate) fn with_listed_locks(&self, locks: &[(Path, Lock)]) -> Result<FiledWorld, AllocError>
-        ensures { IfOk result (λ made. (files : Files) (file : Option (List ℕ))
+        ensures read { IfOk result (λ made. (files : Files) (file : Option (List ℕ))
             → HasRead self.now files → locks_in file ≡ Some locks.now
             → HasRead made (with_read_locks files file)) }
+        ensures tables { IfOk result (λ made. made.tables ≡ self.now.tables) }
+        ensures held { IfOk result (λ made. made.world.held.value ≡ self.now.world.held.value) }
     {
         let world = self.world.with_listed_locks(locks)?;
         let tables = self.tables.share()?;

@@ -10,4 +10,4 @@ mod own;
 
 pub use changes::change_of;
 pub use next_block::NextBlock;
-pub use own::are_same_properties;
+pub use own::{are_same_properties, is_same_content};

@@ -59,7 +59,7 @@ pub fn are_same_properties(
 }
 
 /// Says whether both are directories, or files of the same text.
-fn is_same_content(content: &Content, other: &Content) -> bool
+pub fn is_same_content(content: &Content, other: &Content) -> bool
     ensures { Decides result (content.now ≡ other.now) }
 {
     match (content, other) {

@@ -67,6 +67,8 @@ fn with_checked(
     ensures added { IfOk result (λ next. MatchOption next
         (MayComeNext held.now block (entries changes) → ⊥)
         (λ h. HasNext held.now h.value block changes properties)) }
+    ensures may { IfOk result (λ next. IfSome next
+        (λ h. MayComeNext held.now block (entries changes))) }
     ensures sound { IfOk result (λ next. IfSome next
         (λ h. ∥ IsSoundRepo (held_state h.value) ∥₁)) }
 {
@@ -116,9 +118,11 @@ impl World {
         changes: ChangeList,
         properties: Properties,
     ) -> Result<Option<World>, AllocError>
-        ensures { IfOk result (λ next. MatchOption next
+        ensures added { IfOk result (λ next. MatchOption next
             (MayComeNext self.now.held.value block (entries changes) → ⊥)
             (λ w. HasAdded self.now w block changes properties)) }
+        ensures may { IfOk result (λ next. IfSome next
+            (λ w. MayComeNext self.now.held.value block (entries changes))) }
     {
         let Some(held) = with_checked(self.alloc, &self.held, block, changes, properties)? else {
             return Ok(None);

@@ -1,16 +1,21 @@
-use Rattle.std.proofs.Common.{◌-◌, length, sym, subst, arith}
-use Rattle.std.proofs.lemmas.List.Elements.{All-append}
-use Rattle.std.specs.Borrow.{Bor}
-use Rattle.std.specs.Prelude.{All, Contains}
-use Rattle.fsfs_reading.specs.declared.piece.FilePiece.{FilePiece}
-use Rattle.filed_trees.proofs.Reading.{all_one}
+use Rattle.std.proofs.Common.{◌∷◌, ◌++◌, [], map, reverse, sym, ap, take, ◌∙◌, arith}
+use Rattle.std.proofs.lemmas.List.{get_or-reverse, length-reverse, map-append, take_all, take_more}
+use Rattle.filed_trees.proofs.Rows.{piece_of}
 use Rattle.filed_trees.proofs.blocks.by_offset.Goals as goal
 
 pub loop-k-preserved : goal.loop-k-preserved
 loop-k-preserved c =
     let pieces = c.args.pieces.now in
+    let k = c.loop-k.k in
     let within = c.loop-k-test.true in
-    let there = λ (row : Bor FilePiece). Contains pieces row.now in
-    subst (All there) (sym c.in_ok-push.ensures.items)
-    (All-append there c.loop-k.rows.items _ c.loop-k.invariant
-    (all_one there _ (length pieces - 1 - c.loop-k.k, omega (arith, within), sym c.index-pieces-pieces.is)))
+    let piece = c.index-pieces-pieces.result in
+    ap (map piece_of) c.in_ok-push.ensures.items
+    ∙ map-append piece_of c.loop-k.rows.items _
+    ∙ ap (λ l. l ++ piece ∷ []) c.loop-k.invariant
+    ∙ ap (λ p. take k (reverse pieces) ++ p ∷ []) (c.index-pieces-pieces.is ∙ sym (get_or-reverse pieces k piece within))
+    ∙ sym (take_more (reverse pieces) k piece (omega (arith, within, length-reverse pieces)))
+
+pub returns : goal.returns
+returns c =
+    let pieces = c.args.pieces.now in
+    c.loop-k.invariant ∙ take_all c.loop-k.k (reverse pieces) (omega (arith, c.loop-k-test.false, length-reverse pieces))

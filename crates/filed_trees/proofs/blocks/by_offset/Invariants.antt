@@ -1,5 +1,5 @@
-use Rattle.std.specs.Prelude.{All, Contains}
+use Rattle.std.proofs.Common.{◌≡◌, map, reverse, take}
 use Rattle.filed_trees.proofs.blocks.by_offset.Given as goal
 
 abbrev pub invariant-loop-k : goal.invariant-loop-k
-invariant-loop-k l = All (λ row. Contains l.pieces row.now) l.rows.items
+invariant-loop-k l = map (λ row. row.now) l.rows.items ≡ take l.k (reverse l.pieces)

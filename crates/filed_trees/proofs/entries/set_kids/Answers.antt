@@ -7,10 +7,13 @@ use Rattle.filed_trees.specs.Comparing.{AreNamed, id_at, tables_of}
 use Rattle.filed_trees.specs.Tables.{IsAt}
 use Rattle.filed_trees.proofs.Entering.{at_entry, both_ok, of_some, some_of}
 use Rattle.filed_trees.proofs.Named.{names_agree}
+use Rattle.filed_trees.specs.Readable.{IsTabled}
+use Rattle.filed_trees.proofs.Judged.{still_judged}
+use Rattle.filed_trees.proofs.Once.{entries_right, right_entries}
 use Rattle.filed_trees.proofs.entries.set_kids.Goals as goal
 
-pub returns : goal.returns
-returns c =
+pub returns-clause-kids : goal.returns-clause-kids
+returns-clause-kids c =
     let tables = tables_of c.args.places in
     let ids = id_at c.in_ok-ids.ids.entries in
     let entries = c.args.entries.now in
@@ -23,7 +26,12 @@ returns c =
     both_ok c.put_kids.result (λ _. All (λ e. IsSomeAnd (kids e.name) (at e.name)) entries)
     (λ _. AreNamed ids c.remove_kids.new.kids → AreNamed ids c.put_kids.new.kids)
     c.put_kids.ensures.placed c.put_kids.ensures.named (λ x placed named.
-    names_agree tables kids ids entries c.in_ok-ids.ensures
+    names_agree tables kids ids entries c.in_ok-ids.ensures.ids
     (λ n i is. of_some (at n) (kids n) i is (at_entry (λ m. IsSomeAnd (kids m) (at m)) n entries placed
-    (subst (λ o. IsSome o) (c.in_ok-ids.ensures n) (named start n i is))))
+    (subst (λ o. IsSome o) (c.in_ok-ids.ensures.ids n) (named start n i is))))
     (λ k d lt. some_of (at _) (kids _) (placed k d lt)))
+
+pub returns-clause-judges : goal.returns-clause-judges
+returns-clause-judges c = still_judged c.put_kids.result c.put_kids.ensures.judges
+    (right_entries (IsTabled (tables_of c.args.places)) (id_at c.in_ok-ids.ids.entries) c.args.entries.now c.in_ok-ids.ensures.ids c.in_ok-ids.ensures.judges)
+    (entries_right (IsTabled (tables_of c.args.places)) (id_at c.in_ok-ids.ids.entries) c.args.entries.now c.in_ok-ids.ensures.ids)

@@ -1,29 +1,89 @@
-use Rattle.std.proofs.Common.{◌≡◌, ℕ, ◌++◌, ◌∷◌, [], length, Ok, sym, ap, subst, ◌∙◌, option_map}
-use Rattle.std.specs.Prelude.{slice_get, option_copied}
-use Rattle.noderevs.specs.Held.{root_at}
+use Rattle.std.proofs.Common.{◌≡◌, ◌++◌, ◌∷◌, [], length, Ok, sym, ap, subst, ◌∙◌, rules, Err, List}
+use Rattle.std.specs.FinMap.{same_entries_map}
 use Rattle.fsfs_reading.specs.Pieces.{revision_of}
-use Rattle.filed_trees.specs.Changes.{changes_by}
-use Rattle.filed_trees.specs.Comparing.{AreForAll}
-use Rattle.filed_trees.specs.Tables.{IsAt}
-use Rattle.filed_trees.specs.Trees.{first_id}
-use Rattle.filed_trees.proofs.Compared.{first_of, tabled_by}
+use Rattle.filed_trees.specs.Tables.{AreTabled}
+use Rattle.filed_trees.proofs.Reading.{tabled_same}
+use Rattle.std.proofs.lemmas.Bool.{false≢true}
+use Rattle.noderevs.specs.Held.{root_at}
+use Rattle.fsfs_lines.specs.declared.fault.FileFault.{FileFault}
+use Rattle.fsfs_parts.specs.declared.change.FileChange.{FileChange}
+use Rattle.fsfs_reading.specs.declared.piece.FilePiece.{FilePiece}
+use Rattle.filed_trees.specs.Comparing.{IsLast}
+use Rattle.filed_trees.specs.Readable.{IsReadableFile, Judges}
+use Rattle.filed_trees.specs.Values.{IsFiledNext}
+use Rattle.filed_trees.proofs.Judged.{no_part}
+use Rattle.filed_trees.proofs.One.{last_changes_are, last_nodes, last_root_is}
+use Rattle.filed_trees.proofs.Read.{same_Ok}
 use Rattle.filed_trees.proofs.tabulating.tabulated.Goals as goal
 
-pub returns : goal.returns
-returns c = λ files blocks block lists list all is same.
+pub returns-in-Ok-true-clause-tabled : goal.returns-in-Ok-true-clause-tabled
+returns-in-Ok-true-clause-tabled c = λ files blocks block lists list all is same.
     let tables = c.args.tables.now in
     let nodes = c.args.nodes.now in
-    let pieces = c.in_ok-read.read.pieces.items in
-    let said = c.in_ok-read.read.changes.items in
+    let read = c.in_ok-read.read in
+    let bytes = c.args.file.now in
+    let more = files ++ bytes ∷ [] in
+    let placed = tables ++ read.table ∷ [] in
+    let last = c.in-Ok-true.ensures.0 c.in-Ok-true.field-0-test in
     let count : c.len-revision.result ≡ length tables = c.len-revision.ensures.length in
-    let read : revision_of (length tables) c.args.file.now ≡ Ok (pieces, said) =
-    ap (λ (n : ℕ). revision_of n c.args.file.now) (sym count) ∙ c.in_ok-read.ensures in
-    let places = tables ++ c.in_ok-table.table ∷ [] in
-    let root : c.root-root.result ≡ root_at nodes (length tables) = c.root-root.ensures ∙ ap (root_at nodes) count in
-    let first : option_map (λ p. p.node.id) (option_copied c.first.result) ≡ first_id pieces =
-    ap (option_map (λ p. p.node.id)) (c.first.ensures.value ∙ ap (λ l. slice_get l 0) c.deref.ensures.value) ∙ first_of pieces in
-    tabled_by files blocks tables lists all c.args.file.now block c.in_ok-table.table list nodes is pieces said c.in_ok-said.said.entries
-    read (ap changes_by (sym c.as_slice.ensures.value) ∙ c.in_ok-said.ensures) (c.in_ok-check_changes.ensures ∙ sym same)
-    (λ fs for. c.in_ok-table.ensures fs (subst (λ ps. AreForAll fs nodes tables c.in_ok-said.said.entries ps) (sym c.as_slice-2.ensures.value) for))
-    (subst (λ o. IsAt places o (first_id pieces)) root
-    (subst (IsAt places c.root-root.result) first (c.is_root.ensures c.in_ok-check.ensures)))
+    let said : revision_of (length tables) bytes ≡ Ok (c.in_ok-file.file.pieces.items, c.in_ok-file.file.changes.items) =
+    ap (λ n. revision_of n bytes) (sym count) ∙ c.in_ok-file.ensures in
+    let behind = c.in_ok-read.ensures.tabled files bytes blocks (block ∷ []) lists all is said in
+    tabled_same more blocks placed lists read.block block list nodes is c.len-revision.result (sym all.tabled ∙ sym count)
+    last.nodes_are last.root_is
+    (subst (λ l. AreTabled more (blocks ++ read.block ∷ []) placed (lists ++ l ∷ []))
+    (same_entries_map read.changes list (last.changes_are ∙ sym same)) behind)
+
+pub returns-in_err-read-clause-judges : goal.returns-in_err-read-clause-judges
+returns-in_err-read-clause-judges c = λ files blocks block lists list all is same.
+    let bytes = c.args.file.now in
+    let pieces = c.in_ok-file.file.pieces.items in
+    let changes = c.in_ok-file.file.changes.items in
+    let said : revision_of (length c.args.tables.now) bytes ≡ Ok (pieces, changes) =
+    ap (λ n. revision_of n bytes) (sym c.len-revision.ensures.length) ∙ c.in_ok-file.ensures in
+    let tables = c.args.tables.now in
+    let right = IsFiledNext (files ++ bytes ∷ []) tables bytes (blocks ++ block ∷ []) (lists ++ list ∷ []) in
+    let fault = c.in_err-read.field-0.0 in
+    let result : c.from_residual-in_err-read.result ≡ Err fault = search rules in
+    subst (λ r. Judges r right) (sym result)
+    (no_part fault (λ (p : right). subst (λ (x : List FilePiece × List FileChange). IsReadableFile (files ++ bytes ∷ []) tables x.0 x.1)
+    (same_Ok {E = FileFault} (p.pieces, p.said) (pieces, changes) (sym p.says ∙ said)) p.readable)
+    (c.in_err-read.ensures.judges files bytes blocks (block ∷ []) lists all is said))
+
+pub returns-in-Ok-true-clause-judges : goal.returns-in-Ok-true-clause-judges
+returns-in-Ok-true-clause-judges c = λ files blocks block lists list all is same.
+    let bytes = c.args.file.now in
+    let pieces = c.in_ok-file.file.pieces.items in
+    let changes = c.in_ok-file.file.changes.items in
+    let said : revision_of (length c.args.tables.now) bytes ≡ Ok (pieces, changes) =
+    ap (λ n. revision_of n bytes) (sym c.len-revision.ensures.length) ∙ c.in_ok-file.ensures in
+    record {
+      pieces = pieces;
+      said = changes;
+      says = said;
+      readable = c.in_ok-read.ensures.judges files bytes blocks (block ∷ []) lists all is said;
+      table = c.in_ok-read.read.table;
+      tabled = returns-in-Ok-true-clause-tabled c files blocks block lists list all is same;
+    }
+
+pub returns-in-Ok-false-clause-judges : goal.returns-in-Ok-false-clause-judges
+returns-in-Ok-false-clause-judges c = λ files blocks block lists list all is same p.
+    let bytes = c.args.file.now in
+    let pieces = c.in_ok-file.file.pieces.items in
+    let changes = c.in_ok-file.file.changes.items in
+    let said : revision_of (length c.args.tables.now) bytes ≡ Ok (pieces, changes) =
+    ap (λ n. revision_of n bytes) (sym c.len-revision.ensures.length) ∙ c.in_ok-file.ensures in
+    let nodes = c.args.nodes.now in
+    let read = c.in_ok-read.read in
+    let tables = c.args.tables.now in
+    let count : c.len-revision.result ≡ length blocks = c.len-revision.ensures.length ∙ all.tabled in
+    let behind = c.in_ok-read.ensures.tabled files bytes blocks (block ∷ []) lists all is said in
+    let more = files ++ bytes ∷ [] in
+    let ts = tables ++ read.table ∷ [] in
+    let us = tables ++ p.table ∷ [] in
+    let last : IsLast nodes c.len-revision.result c.args.changes.now read = record {
+      changes_are = last_changes_are more blocks read.block block ts us lists read.changes list behind p.tabled nodes is ∙ same;
+      root_is = ap (root_at nodes) count ∙ last_root_is more blocks read.block block ts us lists read.changes list behind p.tabled nodes is;
+      nodes_are = λ id e. last_nodes more blocks read.block block ts us lists read.changes list behind p.tabled nodes is id (e ∙ count);
+    } in
+    false≢true (sym c.in-Ok-false.field-0-test ∙ c.in-Ok-false.ensures.1 last)

@@ -1,4 +1,4 @@
-use Rattle.std.proofs.Common.{suc, [], Some, None, refl, sym, ap, subst, ◌∙◌}
+use Rattle.std.proofs.Common.{suc, [], Some, None, refl, sym, ap, subst, ◌∙◌, length}
 use Rattle.std.specs.Prelude.{codes}
 use Rattle.repo_api.specs.States.{RepoState}
 use Rattle.repostore.specs.Files.{Files}
@@ -36,3 +36,6 @@ returns-in-Ok-with_read_revision-clause-files c = λ uuid date same.
     (subst (λ p. HasRead made (with_one_more head (c.as_slice-revision.result.now, p)))
     c.as_slice.ensures.value read))
     c.requires.count
+
+pub with_read_revision-requires : goal.with_read_revision-requires
+with_read_revision-requires c = ap length c.in-Ok.ensures.none

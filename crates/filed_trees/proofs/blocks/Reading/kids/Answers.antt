@@ -6,8 +6,8 @@ use Rattle.filed_trees.specs.Tables.{IsAt}
 use Rattle.filed_trees.proofs.Entering.{nothing_named}
 use Rattle.filed_trees.proofs.blocks.Reading.kids.Goals as goal
 
-pub returns-in-Empty : goal.returns-in-Empty
-returns-in-Empty c = λ files line body was. record {
+pub returns-in-Empty-clause-kids : goal.returns-in-Empty-clause-kids
+returns-in-Empty-clause-kids c = λ files line body was. record {
   entries = [];
   read = ap (entries_at files) (subst (IsBody files line (earlier_text c.args.earlier)) c.in-Empty.is body);
   kids = λ name. subst (λ o. IsAt (tables_of c.args.self.places) o None)

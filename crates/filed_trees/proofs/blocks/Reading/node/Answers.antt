@@ -1,13 +1,18 @@
 use Rattle.filed_trees.proofs.Compared.{compared_filed, was_filed}
+use Rattle.filed_trees.specs.Readable.{IsKept, IsReadable, IsTabled, Judges}
+use Rattle.filed_trees.proofs.Judged.{no_part}
+use Rattle.filed_trees.proofs.Right.{is_before, readable_content, readable_properties}
+use Rattle.std.proofs.Common.{rules, ◌≡◌, Err, refl, sym, subst}
+use Rattle.filed_trees.specs.Comparing.{tables_of}
 use Rattle.filed_trees.proofs.blocks.Reading.node.Goals as goal
 
-pub returns : goal.returns
-returns c = λ files for last id rev.
+pub returns-clause-filed : goal.returns-clause-filed
+returns-clause-filed c = λ files for last id rev.
     let places = c.args.self.places in
     let rows = c.args.self.changes.now.entries in
     let piece = c.args.piece.now in
     let e = c.in_ok-earlier.earlier in
-    let was = was_filed files places rows for piece.node.predecessor e c.in_ok-earlier.ensures in
+    let was = was_filed files places rows for piece.node.predecessor e c.in_ok-earlier.ensures.earlier in
     compared_filed files places rows for piece (record {
       path = c.in_ok-path.path;
       own = c.in_ok-own.own;
@@ -15,8 +20,62 @@ returns c = λ files for last id rev.
       properties = c.in_ok-properties.properties;
       kids = c.in_ok-content.kids;
       height = c.in_ok-height.height;
-    }) e last c.in_ok-path.ensures c.in_ok-earlier.ensures
-    (c.in_ok-own.ensures piece.node.predecessor c.in_ok-earlier.ensures)
-    (c.in_ok-content.ensures files last.text was)
-    (c.in_ok-properties.ensures files last.properties was)
+    }) e last c.in_ok-path.ensures.path c.in_ok-earlier.ensures.earlier
+    (c.in_ok-own.ensures piece.node.predecessor c.in_ok-earlier.ensures.earlier)
+    (c.in_ok-content.ensures.content files last.text was)
+    (c.in_ok-properties.ensures.properties files last.properties was)
     id rev
+
+pub returns-in_err-earlier-clause-judges : goal.returns-in_err-earlier-clause-judges
+returns-in_err-earlier-clause-judges c = λ files for last.
+    let places = c.args.self.places in
+    let right = IsReadable files places.tables.now (IsTabled (tables_of places)) c.args.piece.now in
+    let fault = c.in_err-earlier.field-0.0 in
+    let is : c.from_residual-in_err-earlier.result ≡ Err fault = search rules in
+    subst (λ r. Judges r right) (sym is)
+    (no_part fault (λ (r : right). r.before) (c.in_err-earlier.ensures.finds files c.args.self.changes.now.entries for))
+
+pub returns-in_err-properties-clause-judges : goal.returns-in_err-properties-clause-judges
+returns-in_err-properties-clause-judges c = λ files for last.
+    let places = c.args.self.places in
+    let piece = c.args.piece.now in
+    let earlier = c.in_ok-earlier.earlier in
+    let right = IsReadable files places.tables.now (IsTabled (tables_of places)) piece in
+    let fault = c.in_err-properties.field-0.0 in
+    let before = is_before files places c.args.self.changes.now.entries for piece.node piece.node.predecessor earlier refl c.in_ok-earlier.ensures.earlier in
+    let is : c.from_residual-in_err-properties.result ≡ Err fault = search rules in
+    subst (λ r. Judges r right) (sym is)
+    (no_part fault (readable_properties files places.tables.now (IsTabled (tables_of places)) piece earlier before)
+    (c.in_err-properties.ensures.judges last.properties_here))
+
+pub returns-in_err-content-clause-judges : goal.returns-in_err-content-clause-judges
+returns-in_err-content-clause-judges c = λ files for last.
+    let places = c.args.self.places in
+    let piece = c.args.piece.now in
+    let earlier = c.in_ok-earlier.earlier in
+    let right = IsReadable files places.tables.now (IsTabled (tables_of places)) piece in
+    let fault = c.in_err-content.field-0.0 in
+    let before = is_before files places c.args.self.changes.now.entries for piece.node piece.node.predecessor earlier refl c.in_ok-earlier.ensures.earlier in
+    let is : c.from_residual-in_err-content.result ≡ Err fault = search rules in
+    subst (λ r. Judges r right) (sym is)
+    (no_part fault (readable_content files places.tables.now (IsTabled (tables_of places)) piece earlier before)
+    (c.in_err-content.ensures.judges last.text_here))
+
+pub returns-clause-judges : goal.returns-clause-judges
+returns-clause-judges c = λ files for last.
+    let places = c.args.self.places in
+    let piece = c.args.piece.now in
+    let rows = c.args.self.changes.now.entries in
+    let earlier = c.in_ok-earlier.earlier in
+    let before = is_before files places rows for piece.node piece.node.predecessor earlier refl c.in_ok-earlier.ensures.earlier in
+    let content = c.in_ok-content.ensures.judges last.text_here in
+    let properties = c.in_ok-properties.ensures.judges last.properties_here in
+    record {
+      path = c.in_ok-path.ensures.judges;
+      before = c.in_ok-earlier.ensures.finds files rows for;
+      text = subst (IsKept piece.node.text piece.text) (sym before.text) content.text;
+      kind = λ some none. before.from piece.node.kind (content.kind some none);
+      entries = content.entries;
+      properties = subst (IsKept piece.node.properties piece.properties) (sym before.properties) properties.kept;
+      list = properties.list;
+    }

@@ -4,8 +4,8 @@ use Rattle.filed_world.specs.Reading.{AreRead}
 use Rattle.filed_world.proofs.Taken.{locks_read}
 use Rattle.filed_world.proofs.filed_world.FiledWorld.with_listed_locks.Goals as goal
 
-pub returns : goal.returns
-returns c = λ files file are is.
+pub returns-clause-read : goal.returns-clause-read
+returns-clause-read c = λ files file are is.
     let old = c.args.self.now in
     let new = c.in_ok-world.world in
     let more = with_read_locks files file in

@@ -1,4 +1,4 @@
-use Rattle.std.proofs.Common.{◌≡◌, ◌+◌, Some, length, sym, ap, subst, ◌∙◌}
+use Rattle.std.proofs.Common.{◌≡◌, ◌+◌, Some, length, sym, ap, subst, ◌∙◌, ◌<◌, ◌∷◌, [], ◌++◌, arith}
 use Rattle.std.specs.Prelude.{slice_get}
 use Rattle.repostore.specs.Files.{with_revision}
 use Rattle.held.proofs.Seen.{held_many}
@@ -7,6 +7,8 @@ use Rattle.filed_trees.specs.StandsFor.{revision_bytes}
 use Rattle.filed_world.specs.Files.{AreFilesOf}
 use Rattle.filed_world.proofs.Changed.{many_tables, revision_added}
 use Rattle.filed_world.proofs.Newest.{youngest_is}
+use Rattle.filed_world.specs.Histories.{HasHistory}
+use Rattle.filed_world.proofs.Further.{committed_history}
 use Rattle.filed_world.proofs.filed_world.FiledWorld.with_revision.Goals as goal
 
 pub returns-clause-number : goal.returns-clause-number
@@ -35,9 +37,17 @@ returns-clause-files c = λ files is.
     ∙ youngest_is held new.held.value new.locks.value c.requires.more in
     let at : slice_get new.held.value.properties (length held.changes) ≡ Some c.in-Some.list.now =
     ap (slice_get new.held.value.properties) (sym young) ∙ sym c.in-Some.ensures in
+    let bytes = revision_bytes files in
+    let made = c.in_ok-written.ensures bytes is.tabled in
+    let some : 0 < length old.tables = let young = is.youngest in let many = many_tables held old.world.locks.value old.tables old.current files is in
+    omega (arith, young, many) in
+    let has : HasHistory (bytes ++ file ∷ []) = subst (λ f. HasHistory (bytes ++ f ∷ [])) c.as_slice.ensures.value
+    (c.in_ok-check_next_revision.ensures bytes some is.history) in
+    let history = committed_history held new.held.value c.requires.more old.tables bytes file table is.history has
+    (omega (arith, some, is.tabled.all, is.tabled.tabled)) made in
     let are = revision_added held old.world.locks.value old.tables old.current files is
     new.held.value c.in-Some.list.now table next file properties says c.requires.uuid c.requires.list
-    at (c.in_ok-written.ensures (revision_bytes files) is.tabled) c.in_ok-properties.ensures
+    at made history c.in_ok-properties.ensures
     c.in_ok-current_file.ensures.read c.len.ensures.length in (
       subst (λ ls. AreFilesOf new.held.value ls c.in_ok-tables.tables next after)
           (sym c.requires.locks)

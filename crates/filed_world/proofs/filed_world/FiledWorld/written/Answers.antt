@@ -17,6 +17,6 @@ returns-in-Ok c = λ files are.
     subst (λ f. AreTabled (fs ++ f ∷ []) (blocks ++ block ∷ []) (old.tables ++ c.in-Ok.table ∷ [])
     (lists ++ list ∷ []))
     c.as_slice.ensures.value
-    (c.in-Ok.ensures fs blocks block lists list before
+    (c.in-Ok.ensures.tabled fs blocks block lists list before
     (ap blocks_of c.nodes-2.ensures ∙ longer) same))
     are

@@ -1,0 +1,44 @@
+-- Where a fault of a file is answered.
+use Rattle.std.proofs.Common.{◌≡◌, sym, ap, subst, ◌∙◌, ⊎_elim}
+use Rattle.std.proofs.lemmas.Bool.{false≢true}
+use Rattle.std.specs.Prelude.{◌⊎◌, Result, Ok, Err, IsSome, is_some}
+use Rattle.std.specs.Result.{result_ok}
+use Rattle.fsfs_lines.specs.declared.fault.FileFault.{FileFault}
+use Rattle.fsfs_lines.specs.declared.fault.FileFault.TheVariants.{Truncated, BadLine, Delta, Digest, Dangling, NoMemory, WrongFormat}
+use Rattle.repostore.specs.Reading.{IfFileFaulty}
+use Rattle.filed_trees.specs.Readable.{Judges}
+
+pub faulty : (fault : FileFault) (P : Type 0) → P → IfFileFaulty fault P
+faulty NoMemory P p = tt
+faulty Truncated P p = p
+faulty BadLine P p = p
+faulty Delta P p = p
+faulty Digest P p = p
+faulty Dangling P p = p
+faulty WrongFormat P p = p
+
+pub still_faulty : (fault : FileFault) {P Q : Type 0} → (P → Q) → IfFileFaulty fault P → IfFileFaulty fault Q
+still_faulty NoMemory f p = tt
+still_faulty Truncated f p = f p
+still_faulty BadLine f p = f p
+still_faulty Delta f p = f p
+still_faulty Digest f p = f p
+still_faulty Dangling f p = f p
+still_faulty WrongFormat f p = f p
+
+-- a fault of a part is one of the whole
+pub no_part : (fault : FileFault) {P Q : Type 0} → (Q → P) → IfFileFaulty fault (P → ⊥) → IfFileFaulty fault (Q → ⊥)
+no_part fault f is = still_faulty fault (λ n q. n (f q)) is
+
+-- what is answered exactly
+pub exact_fault : {X : Type 0} (fault : FileFault) (read : Result X FileFault) → (read ≡ Err fault) ⊎ (fault ≡ NoMemory)
+    → IfFileFaulty fault (IsSome (result_ok read) → ⊥)
+exact_fault fault read said = ⊎_elim
+    (λ e. faulty fault (IsSome (result_ok read) → ⊥) (λ is. false≢true (sym (ap (λ r. is_some (result_ok r)) e) ∙ is)))
+    (λ e. subst (λ f. IfFileFaulty f (IsSome (result_ok read) → ⊥)) (sym e) tt)
+    said
+
+-- what is judged in other words
+pub still_judged : {T P Q : Type 0} (r : Result T FileFault) → Judges r P → (P → Q) → (Q → P) → Judges r Q
+still_judged (Ok x) is into from = into is
+still_judged (Err fault) is into from = no_part fault from is

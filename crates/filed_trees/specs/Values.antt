@@ -1,0 +1,42 @@
+-- Nodes and a block that have what other nodes and another block have.
+use Rattle.std.specs.Prelude.{◌≡◌, ℕ, List, option_map, slice_get, ◌++◌, ◌∷◌, [], Ok, length}
+use Rattle.std.specs.FinMap.{entries}
+use Rattle.repo_api.specs.States.{ChangeMap}
+use Rattle.noderevs.specs.Held.{count, node_at, root_at}
+use Rattle.noderevs.specs.Nodes.{node_in, root_in}
+use Rattle.noderevs.specs.declared.node_rev.Block.{Block}
+use Rattle.noderevs.specs.declared.node_rev.NodeId.{NodeId}
+use Rattle.noderevs.specs.declared.nodes.Nodes.{Nodes}
+use Rattle.fsfs_parts.specs.declared.change.FileChange.{FileChange}
+use Rattle.fsfs_reading.specs.Pieces.{revision_of}
+use Rattle.fsfs_reading.specs.declared.piece.FilePiece.{FilePiece}
+use Rattle.filed_trees.specs.Pieces.{RevisionBytes}
+use Rattle.filed_trees.specs.Readable.{IsReadableFile}
+use Rattle.filed_trees.specs.Tables.{AreTabled}
+use Rattle.filed_trees.specs.declared.table.Table.{Table}
+use Rattle.filed_trees.specs.Comparing.{AreSame}
+
+-- the nodes of all revisions have the same at the same places, and so have those of the blocks
+pub record AreSameNext (past other : Nodes) (b c : Block) : Type 0 where
+  pub nodes : (id : NodeId) → AreSame (node_at past id) (node_at other id)
+  pub roots : (n : ℕ) → root_at past n ≡ root_at other n
+  pub many : count past ≡ count other
+  pub block : (k : ℕ) → AreSame (slice_get b.nodes.items k) (slice_get c.nodes.items k)
+  pub root : b.root ≡ c.root
+
+-- two repositories have the same nodes at the same places, the same roots and the same changes
+pub record AreSameRevisions (blocks others : List Block) (lists more : List ChangeMap) : Type 0 where
+  pub nodes : (id : NodeId) → AreSame (node_in blocks id) (node_in others id)
+  pub roots : (n : ℕ) → root_in blocks n ≡ root_in others n
+  pub changes : (n : ℕ) → option_map entries (slice_get lists n) ≡ option_map entries (slice_get more n)
+
+-- the last of these files says the last of these revisions, and can be read after the others, of which
+-- these are the tables
+pub record IsFiledNext (files : RevisionBytes) (tables : List Table) (file : List ℕ)
+    (blocks : List Block) (lists : List ChangeMap) : Type 0 where
+  pub pieces : List FilePiece
+  pub said : List FileChange
+  pub says : revision_of (length tables) file ≡ Ok (pieces, said)
+  pub readable : IsReadableFile files tables pieces said
+  pub table : Table
+  pub tabled : AreTabled files blocks (tables ++ table ∷ []) lists

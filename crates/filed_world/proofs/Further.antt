@@ -1,0 +1,156 @@
+-- A further revision that was read comes next where the files are those of a history, and nowhere else.
+use Rattle.std.proofs.Common.{◌≡◌, ◌<◌, List, [], ◌∷◌, ◌++◌, length, Ok, ℕ, sym, ap, subst, ◌∙◌, arith, length-append, ◌+◌, refl}
+use Rattle.std.specs.FinMap.{entries}
+use Rattle.std.specs.Prelude.{Result, Err, IfOk}
+use Rattle.repo_api.specs.States.{ChangeMap}
+use Rattle.repo_api.specs.declared.limits.TheConstants.{REVISION_LIMIT}
+use Rattle.noderevs.specs.Heights.{AreHigh}
+use Rattle.noderevs.specs.Held.{blocks_of, count, node_at}
+use Rattle.noderevs.specs.Nodes.{with_block, node_in}
+use Rattle.noderevs.specs.declared.node_rev.Block.{Block}
+use Rattle.next_blocks.specs.Rules.{IsNextRevision, past_of}
+use Rattle.held.specs.declared.held.Held.{Held}
+use Rattle.held.proofs.Seen.{held_many}
+use Rattle.world.specs.Adding.{MayComeNext}
+use Rattle.fsfs_judging.specs.Judging.{judged_revision}
+use Rattle.fsfs_lines.specs.declared.fault.FileFault.{FileFault}
+use Rattle.fsfs_parts.specs.declared.change.FileChange.{FileChange}
+use Rattle.fsfs_reading.specs.Pieces.{revision_of}
+use Rattle.fsfs_reading.specs.declared.piece.FilePiece.{FilePiece}
+use Rattle.filed_trees.specs.Pieces.{RevisionBytes}
+use Rattle.filed_trees.specs.Readable.{IsReadableFile, Judges}
+use Rattle.filed_trees.specs.Tables.{AreTabled}
+use Rattle.filed_trees.specs.declared.table.Table.{Table}
+use Rattle.filed_world.specs.Histories.{ComesNext, HasHistory, IsHistory, with_next, first, held_history}
+use Rattle.filed_world.specs.Reading.{read_history, so_far}
+use Rattle.filed_world.proofs.Histories.{comes, history_more, keeps_rules, reads, past_many, comes_here}
+use Rattle.held.specs.Growing.{HasOneMore}
+use Rattle.noderevs.proofs.Pushing.{pushed_look}
+use Rattle.filed_world.proofs.Next.{whole}
+
+pub if_judged : {T : Type 0} (P : Type 0) (r : Result T FileFault) → Judges r P → IfOk r (λ x. P)
+if_judged P (Ok x) is = is
+if_judged P (Err fault) is = tt
+
+same_ok : {X : Type 0} (x y : X) → ◌≡◌ {A = Result X FileFault} (Ok x) (Ok y) → x ≡ y
+same_ok x y e = ap (the x) e
+  where
+    the : {Y : Type 0} → Y → Result Y FileFault → Y
+    the d (Ok z) = z
+    the d (Err fault) = d
+
+module _ (h : Held) (tables : List Table) (files : RevisionBytes) (some : tables ≡ [] → ⊥) (is : IsHistory (read_history h tables files)) where
+  -- all that is held has been read
+  pub all_said : AreTabled files (blocks_of h.nodes) tables h.changes
+  all_said = subst (λ bs. AreTabled files bs tables h.changes) (whole tables (blocks_of h.nodes) some)
+      (subst (AreTabled files (so_far tables (blocks_of h.nodes)) tables) (whole tables h.changes some) is.all)
+
+  long : length files ≡ length tables
+  long = all_said.all ∙ sym all_said.tabled
+
+  pos : 0 < length files
+  pos = by tables some long
+    where
+      by : (ts : List Table) → (ts ≡ [] → ⊥) → length files ≡ length ts → 0 < length files
+      by [] none e = absurd (none refl)
+      by (t ∷ ts) none e = omega (arith, e)
+
+  module _ (file : List ℕ) (pieces : List FilePiece) (said : List FileChange) (says : revision_of (length tables) file ≡ Ok (pieces, said)) where
+    says_it : revision_of (length files) file ≡ Ok (pieces, said)
+    says_it = ap (λ n. revision_of n file) long ∙ says
+
+    module _ (block : Block) (table : Table) (change : ChangeMap)
+        (tabled : AreTabled (files ++ file ∷ []) (blocks_of h.nodes ++ block ∷ []) (tables ++ table ∷ []) (h.changes ++ change ∷ []))
+        (judged : judged_revision (length tables) pieces said ≡ Ok tt) (readable : IsReadableFile (files ++ file ∷ []) tables pieces said) where
+      pub comes_next : IsNextRevision (past_of h.nodes) block (entries change) → ComesNext (read_history h tables files) file block change
+      comes_next rules = record {
+        pieces = pieces;
+        said = said;
+        says = says_it;
+        judged = ap (λ n. judged_revision n pieces said) long ∙ judged;
+        readable = readable;
+        nodes = h.nodes;
+        before = sym (whole tables (blocks_of h.nodes) some);
+        rules = rules;
+      }
+
+      pub has_room : MayComeNext h block (entries change) → length files < REVISION_LIMIT
+      has_room may = let room = may.room in let many = held_many h in omega (arith, room, many, all_said.all, all_said.listed)
+
+      pub history_of_next : MayComeNext h block (entries change) → IsHistory (with_next (read_history h tables files) file block table change)
+      history_of_next may = history_more (read_history h tables files) is file block table change
+          (subst (λ bs. AreTabled (files ++ file ∷ []) (bs ++ block ∷ []) (tables ++ table ∷ []) (so_far tables h.changes ++ change ∷ []))
+          (sym (whole tables (blocks_of h.nodes) some))
+          (subst (λ cs. AreTabled (files ++ file ∷ []) (blocks_of h.nodes ++ block ∷ []) (tables ++ table ∷ []) (cs ++ change ∷ []))
+          (sym (whole tables h.changes some)) tabled))
+          (λ p. comes_next may.next) (has_room may)
+
+      pub may_come : HasHistory (files ++ file ∷ []) → AreHigh (with_block (node_at h.nodes) (count h.nodes) block.nodes.items)
+          → MayComeNext h block (entries change)
+      may_come has high =
+          let room = has.1.1.room in
+          let many = held_many h in
+          let longer : length has.0.files ≡ length files + 1 = ap length has.1.0 ∙ length-append files (file ∷ []) in
+          record {
+            room = omega (arith, room, many, longer, all_said.all, all_said.listed);
+            next = keeps_rules has.0 has.1.1 files file has.1.0 h.nodes tables h.changes all_said block table change tabled high pos;
+          }
+
+  -- what the files of a history say
+  module _ (file : List ℕ) (has : HasHistory (files ++ file ∷ [])) where
+    pub says_of : (ps : List FilePiece) × ((cs : List FileChange) × ((revision_of (length tables) file ≡ Ok (ps, cs))
+        × ((judged_revision (length tables) ps cs ≡ Ok tt) × IsReadableFile (files ++ file ∷ []) tables ps cs)))
+    says_of =
+        let c = comes has.0 has.1.1 files file has.1.0 h.nodes tables h.changes all_said pos in
+        let same : length (first (length files) has.0).files ≡ length tables =
+        past_many has.0 has.1.1 files file has.1.0 h.nodes tables h.changes all_said ∙ long in (
+          c.pieces,
+          (
+            c.said,
+            (
+              ap (λ n. revision_of n file) (sym same) ∙ c.says,
+              (
+                ap (λ n. judged_revision n c.pieces c.said) (sym same) ∙ c.judged,
+                reads has.0 has.1.1 files file has.1.0 h.nodes tables h.changes all_said pos,
+              ),
+            ),
+          ),
+        )
+
+    pub right_file : (pieces : List FilePiece) (said : List FileChange) → revision_of (length tables) file ≡ Ok (pieces, said)
+        → (judged_revision (length tables) pieces said ≡ Ok tt) × IsReadableFile (files ++ file ∷ []) tables pieces said
+    right_file pieces said says =
+        let s = says_of in
+        subst (λ (x : List FilePiece × List FileChange). (judged_revision (length tables) x.0 x.1 ≡ Ok tt)
+        × IsReadableFile (files ++ file ∷ []) tables x.0 x.1)
+        (same_ok (s.0, s.1.0) (pieces, said) (sym s.1.1.0 ∙ says)) (s.1.1.1.0, s.1.1.1.1)
+
+-- what a commit makes comes next, too
+pub committed_history : (old new : Held) (more : HasOneMore old new) (tables : List Table) (files : RevisionBytes) (file : List ℕ) (table : Table)
+    → IsHistory (held_history old tables files) → HasHistory (files ++ file ∷ []) → 0 < length files
+    → AreTabled (files ++ file ∷ []) (blocks_of new.nodes) (tables ++ table ∷ []) new.changes
+    → IsHistory (held_history new (tables ++ table ∷ []) (files ++ file ∷ []))
+committed_history old new more tables files file table is has some after =
+    subst IsHistory
+    (λ i. record {
+      files = files ++ file ∷ [];
+      blocks = sym more.blocks i;
+      tables = tables ++ table ∷ [];
+      changes = sym more.changes i;
+    })
+    (history_more (held_history old tables files) is file more.block table more.change said
+    (λ p. comes_here has.0 has.1.1 files file has.1.0 old.nodes tables old.changes is.all more.block table more.change said high some)
+    room)
+  where
+    said : AreTabled (files ++ file ∷ []) (blocks_of old.nodes ++ more.block ∷ []) (tables ++ table ∷ []) (old.changes ++ more.change ∷ [])
+    said = subst (λ bs. AreTabled (files ++ file ∷ []) bs (tables ++ table ∷ []) (old.changes ++ more.change ∷ [])) more.blocks
+        (subst (AreTabled (files ++ file ∷ []) (blocks_of new.nodes) (tables ++ table ∷ [])) more.changes after)
+
+    high : AreHigh (with_block (node_at old.nodes) (count old.nodes) more.block.nodes.items)
+    high = subst AreHigh (λ i id. (ap (λ bs. node_in bs id) more.blocks ∙ pushed_look (blocks_of old.nodes) more.block id) i) new.nodes.high
+
+    room : length files < REVISION_LIMIT
+    room =
+        let most = has.1.1.room in
+        let longer : length has.0.files ≡ length files + 1 = ap length has.1.0 ∙ length-append files (file ∷ []) in
+        omega (arith, most, longer)
