@@ -1,5 +1,5 @@
 -- The files of a new repository stand for it.
-use Rattle.std.proofs.Common.{◌≡◌, ◌⊎◌, inl, inr, ℕ, List, Option, None, subst}
+use Rattle.std.proofs.Common.{◌≡◌, inl, inr, ℕ, List, Option, None, subst}
 use Rattle.dates.specs.Dates.{IsDateText}
 use Rattle.store_files.specs.Folders.{Folder}
 use Rattle.repo_api.specs.Opening.{new_repository}

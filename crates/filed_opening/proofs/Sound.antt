@@ -1,5 +1,5 @@
 -- Trees that are known to be sound are shown to be.
-use Rattle.std.proofs.Common.{◌≡◌, Bool, ℕ, List, [], ◌∷◌, Option}
+use Rattle.std.proofs.Common.{Bool, ℕ, List, [], ◌∷◌, Option}
 use Rattle.std.proofs.Math.Logic.{∥∥₁_elim, ∥∥₁_map}
 use native.Mathlib.Bridge.{le_prop}
 use Rattle.std.specs.Coded.{codes, Coded, Coded-set}

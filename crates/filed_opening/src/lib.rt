@@ -7,6 +7,6 @@ mod opening;
 mod reader;
 
 pub use creating::create;
-pub use laws::opened_trees_are_sound;
+pub use laws::{files_of_a_repository_are_not_faulty, opened_trees_are_sound};
 pub use opening::{FolderRepository, open};
 pub use reader::FolderReader;

@@ -3,7 +3,7 @@ mod Lists
 mod Named
 mod Entering
 mod Once
-mod Reading
+pub mod Reading
 mod Kept
 mod Read
 mod Growing

@@ -1,4 +1,5 @@
 //! Checks of what a file says.
+ghost use Rattle.filed_trees.specs.Readable.{Judges};
 ghost use Rattle.std.specs.Prelude.{◌≡◌, true, IfOk};
 
 use fsfs_lines::FileFault;
@@ -8,7 +9,8 @@ use std::alloc::Global;
 
 /// Answers a malformed line where something does not hold.
 pub(crate) fn check(holds: bool) -> Result<(), FileFault>
-    ensures { IfOk result (λ _. holds ≡ true) }
+    ensures holds { IfOk result (λ _. holds ≡ true) }
+    ensures judges { Judges result (holds ≡ true) }
 {
     if holds {
         Ok(())
@@ -27,7 +29,8 @@ pub fn check_same_properties(
     properties: &Properties,
     others: &Properties,
 ) -> Result<(), FileFault>
-    ensures { IfOk result (λ _. others.now ≡ properties.now) }
+    ensures same { IfOk result (λ _. others.now ≡ properties.now) }
+    ensures judges { Judges result (others.now ≡ properties.now) }
 {
     check(are_same_properties(alloc, others, properties)?)
 }

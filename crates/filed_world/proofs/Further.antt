@@ -83,7 +83,7 @@ module _ (h : Held) (tables : List Table) (files : RevisionBytes) (some : tables
           (sym (whole tables (blocks_of h.nodes) some))
           (subst (λ cs. AreTabled (files ++ file ∷ []) (blocks_of h.nodes ++ block ∷ []) (tables ++ table ∷ []) (cs ++ change ∷ []))
           (sym (whole tables h.changes some)) tabled))
-          (λ p. comes_next may.next) (has_room may)
+          (λ p. comes_next may.next) (λ none. let some_files = pos in absurd (omega (arith, none, some_files))) (has_room may)
 
       pub may_come : HasHistory (files ++ file ∷ []) → AreHigh (with_block (node_at h.nodes) (count h.nodes) block.nodes.items)
           → MayComeNext h block (entries change)
@@ -140,7 +140,7 @@ committed_history old new more tables files file table is has some after =
     })
     (history_more (held_history old tables files) is file more.block table more.change said
     (λ p. comes_here has.0 has.1.1 files file has.1.0 old.nodes tables old.changes is.all more.block table more.change said high some)
-    room)
+    (λ none. absurd (omega (arith, none, some))) room)
   where
     said : AreTabled (files ++ file ∷ []) (blocks_of old.nodes ++ more.block ∷ []) (tables ++ table ∷ []) (old.changes ++ more.change ∷ [])
     said = subst (λ bs. AreTabled (files ++ file ∷ []) bs (tables ++ table ∷ []) (old.changes ++ more.change ∷ [])) more.blocks

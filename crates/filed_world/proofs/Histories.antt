@@ -23,14 +23,14 @@ use Rattle.filed_trees.specs.Values.{AreSameNext, AreSameRevisions}
 use Rattle.filed_trees.specs.declared.table.Table.{Table}
 use Rattle.filed_trees.proofs.One.{readable_same, same_revisions}
 use Rattle.filed_trees.proofs.Values.{same_next}
-use Rattle.filed_world.specs.Histories.{AreSaid, ComesNext, History, IsHistory, first, with_next}
+use Rattle.filed_world.specs.Histories.{AreSaid, ComesNext, History, IsHistory, first, with_next, ComesFirst}
 use Rattle.fsfs_reading.specs.Pieces.{revision_of}
 use Rattle.fsfs_judging.specs.Judging.{judged_revision}
 use Rattle.filed_world.proofs.Newest.{last_of}
 
 -- ---- the first of revisions, and one more
 
-other_of : {X : Type 0} (xs : List X) (x : X) (k : ℕ) → k ≢ length xs → slice_get (xs ++ x ∷ []) k ≡ slice_get xs k
+pub other_of : {X : Type 0} (xs : List X) (x : X) (k : ℕ) → k ≢ length xs → slice_get (xs ++ x ∷ []) k ≡ slice_get xs k
 other_of xs x k ne = ⊎_elim
     (λ lt. slice_get-get_or (xs ++ x ∷ []) k x (omega (arith, lt, length-append xs (x ∷ []))) ∙ ap Some (get_or_append_left xs (x ∷ []) x k lt)
     ∙ sym (slice_get-get_or xs k x lt))
@@ -61,13 +61,15 @@ no_history nothing = record {
   all = nothing;
   said = λ n le. subst AreSaid (sym (first_all (record { files = []; blocks = []; tables = []; changes = [] }) nothing n (omega arith))) nothing;
   next = λ n file block change pos at_file at_block at_change. absurd (none-some file at_file);
+  begins = λ file block change at_file at_block at_change. absurd (none-some file at_file);
   room = omega arith;
 }
 
 pub history_more : (h : History) (is : IsHistory h) (file : List ℕ) (block : Block) (table : Table) (change : ChangeMap)
-    → AreSaid (with_next h file block table change) → (0 < length h.files → ComesNext h file block change) → length h.files < REVISION_LIMIT
+    → AreSaid (with_next h file block table change) → (0 < length h.files → ComesNext h file block change) → (length h.files ≡ 0 → ComesFirst file block change)
+    → length h.files < REVISION_LIMIT
     → IsHistory (with_next h file block table change)
-history_more h is file block table change more came room =
+history_more h is file block table change more came first_came room =
     let said = is.all in
     record {
       all = more;
@@ -78,6 +80,18 @@ history_more h is file block table change more came room =
           (λ ne. subst AreSaid (sym (first_all (with_next h file block table change) more n (omega (arith, ge, ne, length-append h.files (file ∷ []))))) more)
           (cases_eq n (length h.files)))
           (cases_lt n (length h.files));
+      begins = λ f b c at_file at_block at_change. ⊎_elim
+          (λ e.
+          let is_file : file ≡ f = same_Some file f (sym (last_of h.files file) ∙ ap (slice_get (h.files ++ file ∷ [])) (sym e) ∙ at_file) in
+          let is_block : block ≡ b = same_Some block b (sym (last_of h.blocks block) ∙ ap (slice_get (h.blocks ++ block ∷ [])) (sym said.all ∙ sym e) ∙ at_block) in
+          let is_change : change ≡ c = same_Some change c (sym (last_of h.changes change)
+          ∙ ap (slice_get (h.changes ++ change ∷ [])) (said.listed ∙ sym said.all ∙ sym e) ∙ at_change) in
+          subst (λ x. ComesFirst f b x) is_change (subst (λ x. ComesFirst f x change) is_block (subst (λ x. ComesFirst x block change) is_file
+          (first_came (sym e)))))
+          (λ ne. is.begins f b c (sym (other_of h.files file 0 ne) ∙ at_file)
+          (sym (other_of h.blocks block 0 (λ e. ne (e ∙ sym said.all))) ∙ at_block)
+          (sym (other_of h.changes change 0 (λ e. ne (e ∙ said.listed ∙ sym said.all))) ∙ at_change))
+          (cases_eq 0 (length h.files));
       next = λ n f b c pos at_file at_block at_change. ⊎_elim
           (λ e.
           let is_file : file ≡ f = same_Some file f (sym (last_of h.files file) ∙ ap (slice_get (h.files ++ file ∷ [])) (sym e) ∙ at_file) in

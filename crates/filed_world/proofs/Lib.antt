@@ -6,4 +6,6 @@ pub mod Newest
 pub mod Histories
 pub mod Next
 pub mod Further
+pub mod First
+pub mod Opened
 pub mod Taken

@@ -32,9 +32,10 @@ use Rattle.filed_world.specs.Files.{AreFilesOf, AreLocks}
 use Rattle.filed_world.specs.Reading.{SayHead, AreFirst, AreRead, IsNext, so_far, read_history}
 use Rattle.filed_world.proofs.Changed.{AreSaid, said, said_is, one_more_said}
 use Rattle.filed_world.proofs.Listed.{looked_up}
-use Rattle.filed_world.specs.Histories.{ComesNext, IsHistory, held_history}
+use Rattle.filed_world.specs.Histories.{ComesNext, IsHistory, held_history, ComesFirst}
 use Rattle.filed_world.proofs.Histories.{history_more, no_history}
 use Rattle.repo_api.specs.declared.limits.TheConstants.{REVISION_LIMIT}
+use Rattle.filed_world.proofs.Opened.{is_new}
 use Rattle.filed_world.proofs.Newest.{last_of}
 
 -- ---- before the first revision
@@ -51,7 +52,7 @@ first_read h locks current uuid date files nothing same first =
     let free : locks ≡ empty = ap (λ (c : RepoState). c.locks) same in
     record {
       head = subst (λ u. SayHead u current files) (sym named) first.head;
-      begins = λ e. sym (held_many h) ∙ ap (λ (c : RepoState). length c.revisions) same;
+      begins = λ e. is_new h locks uuid date same;
       tabled = subst (λ rs. AreTabled (map (λ r. r.0) rs) [] [] []) (sym first.none) nothing;
       history = subst (λ rs. IsHistory (read_history h [] (map (λ r. r.0) rs))) (sym first.none) (no_history nothing);
       properties = no_properties files first.none;
@@ -138,9 +139,9 @@ module _ (h : Held) (locks : LockMap) (tables : List Table) (current : Current) 
   pub next_history : (file : List ℕ) (table : Table)
       → AreTabled (revision_bytes files ++ file ∷ []) (blocks_of new.nodes) (tables ++ table ∷ []) new.changes
       → (0 < length (revision_bytes files) → ComesNext (read_history h tables (revision_bytes files)) file next.block next.change)
-      → length (revision_bytes files) < REVISION_LIMIT
+      → (length (revision_bytes files) ≡ 0 → ComesFirst file next.block next.change) → length (revision_bytes files) < REVISION_LIMIT
       → IsHistory (held_history new (tables ++ table ∷ []) (revision_bytes files ++ file ∷ []))
-  next_history file table tabled comes room =
+  next_history file table tabled comes begins room =
       subst IsHistory
       (λ i. record {
         files = revision_bytes files ++ file ∷ [];
@@ -151,7 +152,7 @@ module _ (h : Held) (locks : LockMap) (tables : List Table) (current : Current) 
       (history_more (read_history h tables (revision_bytes files)) are.history file next.block table next.change
       (subst (λ bs. AreTabled (revision_bytes files ++ file ∷ []) bs (tables ++ table ∷ []) (so_far tables h.changes ++ next.change ∷ []))
       next.blocks (subst (AreTabled (revision_bytes files ++ file ∷ []) (blocks_of new.nodes) (tables ++ table ∷ [])) next.changes tabled))
-      comes room)
+      comes begins room)
 
   pub next_read : (new_locks : LockMap) (file properties : List ℕ) (table : Table)
       → new_locks ≡ locks

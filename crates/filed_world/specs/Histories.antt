@@ -15,6 +15,7 @@ use Rattle.filed_trees.specs.Pieces.{RevisionBytes}
 use Rattle.filed_trees.specs.Readable.{IsReadableFile}
 use Rattle.filed_trees.specs.Tables.{AreTabled}
 use Rattle.held.specs.declared.held.Held.{Held}
+use Rattle.noderevs.specs.OpeningBlocks.{IsOpeningBlock}
 use Rattle.filed_trees.specs.declared.table.Table.{Table}
 
 -- the files of revisions, and the nodes, the table and the changes of each
@@ -58,11 +59,23 @@ pub record ComesNext (past : History) (file : List ℕ) (block : Block) (change 
   pub before : blocks_of nodes ≡ past.blocks
   pub rules : IsNextRevision (past_of nodes) block (entries change)
 
+-- revision 0 is that of a new repository, and its file can be read
+pub record ComesFirst (file : List ℕ) (block : Block) (change : ChangeMap) : Type 0 where
+  pub pieces : List FilePiece
+  pub said : List FileChange
+  pub says : revision_of 0 file ≡ Ok (pieces, said)
+  pub readable : IsReadableFile (file ∷ []) [] pieces said
+  pub opening : IsOpeningBlock block
+  pub unchanged : entries change ≡ []
+
 -- the files say the revisions, and the first so many of them the first so many; each revision after
 -- revision 0 comes after those before it
 pub record IsHistory (h : History) : Type 0 where
   pub all : AreSaid h
   pub said : (n : ℕ) → n ≤ length h.files → AreSaid (first n h)
+  pub begins : (file : List ℕ) (block : Block) (change : ChangeMap) → slice_get h.files 0 ≡ Some file
+      → slice_get h.blocks 0 ≡ Some block → slice_get h.changes 0 ≡ Some change
+      → ComesFirst file block change
   pub next : (n : ℕ) (file : List ℕ) (block : Block) (change : ChangeMap) → 0 < n
       → slice_get h.files n ≡ Some file → slice_get h.blocks n ≡ Some block
       → slice_get h.changes n ≡ Some change → ComesNext (first n h) file block change

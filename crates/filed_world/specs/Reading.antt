@@ -20,6 +20,8 @@ use Rattle.filed_trees.specs.declared.table.Table.{Table}
 use Rattle.filed_world.specs.Files.{AreLocks}
 use Rattle.filed_world.specs.Histories.{History, IsHistory}
 use Rattle.filed_trees.specs.Pieces.{RevisionBytes}
+use Rattle.noderevs.specs.OpeningBlocks.{AreOpening}
+use Rattle.std.specs.FinMap.{entries}
 use Rattle.filed_world.specs.declared.filed_world.FiledWorld.{FiledWorld}
 
 -- the first files say a format, the name of the repository, and the youngest of its revisions
@@ -49,12 +51,18 @@ read_history h tables files = record {
   changes = so_far tables h.changes;
 }
 
--- the files that have been read say what is held of them; before the first revision is read, there is
--- one to compare it with
+-- what is held is a new repository, but for the properties of revision 0
+pub record IsNew (h : Held) : Type 0 where
+  pub one : length h.changes ≡ 1
+  pub opening : AreOpening (blocks_of h.nodes)
+  pub unchanged : (change : ChangeMap) → slice_get h.changes 0 ≡ Some change → entries change ≡ []
+
+-- the files that have been read say what is held of them; before the first revision is read, that is a
+-- new repository
 pub record AreRead (h : Held) (locks : LockMap) (tables : List Table) (current : Current)
     (files : Files) : Type 0 where
   pub head : SayHead h.uuid current files
-  pub begins : tables ≡ [] → length h.changes ≡ 1
+  pub begins : tables ≡ [] → IsNew h
   pub tabled : AreTabled (revision_bytes files) (so_far tables (blocks_of h.nodes)) tables
       (so_far tables h.changes)
   pub history : IsHistory (read_history h tables (revision_bytes files))

@@ -15,7 +15,7 @@ ghost use Rattle.world.specs.Adding.{MayComeNext};
 ghost use Rattle.filed_trees.specs.Pieces.{RevisionBytes};
 ghost use Rattle.filed_trees.specs.Readable.{Judges};
 ghost use Rattle.filed_world.specs.Histories.{HasHistory, IsHistory};
-ghost use Rattle.filed_world.specs.Reading.{AreFirst, AreRead, HasRead, HasTaken, IsNextOf, read_history};
+ghost use Rattle.filed_world.specs.Reading.{AreFirst, AreRead, HasRead, HasTaken, IsNextOf, read_history, IsNew};
 
 use crate::filed_world::FiledWorld;
 use crate::filing::with_table;
@@ -90,8 +90,12 @@ impl FiledWorld {
         properties: &[u8],
     ) -> Result<PVec<Table>, FileFault>
         requires { length self.now.tables ≡ 0 }
-        ensures { IfOk result (λ tables. (files : Files) → HasRead self.now files
-            → IsNextOf self.now world.now
+        ensures judges { (list : PropertyList) → IsNew world.now.held.value
+            → slice_get world.now.held.value.properties 0 ≡ Some list
+            → Judges result (HasHistory (revision.now ∷ [])
+            × (result_ok (properties_of properties.now) ≡ Some list)) }
+        ensures read { IfOk result (λ tables. (files : Files) → HasRead self.now files
+            → IsNextOf self.now world.now → IsNew world.now.held.value
             → AreRead world.now.held.value world.now.locks.value tables self.now.current
             (with_one_more files (revision.now, properties.now))) }
     {
@@ -114,9 +118,12 @@ impl FiledWorld {
 
     /// Checks that the file of the next revision's properties says those of the world.
     fn check_list(&self, world: &World, properties: &[u8]) -> Result<(), FileFault>
-        ensures { IfOk result (λ _. (list : PropertyList)
+        ensures list { IfOk result (λ _. (list : PropertyList)
             → slice_get world.now.held.value.properties (length self.now.tables) ≡ Some list
             → result_ok (properties_of properties.now) ≡ Some list) }
+        ensures judges { (list : PropertyList)
+            → slice_get world.now.held.value.properties (length self.now.tables) ≡ Some list
+            → Judges result (result_ok (properties_of properties.now) ≡ Some list) }
     {
         let Some(list) = world.revision_properties(self.tables.len() as u64) else {
             return Err(FileFault::BadLine);
@@ -138,8 +145,12 @@ impl FiledWorld {
     ) -> Result<FiledWorld, FileFault>
         requires { length self.now.tables ≡ 0 }
         ensures world { IfOk result (λ made. made.world ≡ world) }
+        ensures judges { (list : PropertyList) → IsNew world.held.value
+            → slice_get world.held.value.properties 0 ≡ Some list
+            → Judges result (HasHistory (revision.now ∷ [])
+            × (result_ok (properties_of properties.now) ≡ Some list)) }
         ensures read { IfOk result (λ made. (files : Files) → HasRead self.now files
-            → IsNextOf self.now world
+            → IsNextOf self.now world → IsNew world.held.value
             → HasRead made (with_one_more files (revision.now, properties.now))) }
     {
         match self.compared(&world, revision, properties) {
@@ -163,8 +174,11 @@ impl FiledWorld {
         properties: &[u8],
     ) -> Result<FiledWorld, FileFault>
         requires { length self.now.tables ≡ 0 }
-        ensures { IfOk result (λ made. (files : Files) → HasRead self.now files
+        ensures read { IfOk result (λ made. (files : Files) → HasRead self.now files
             → HasRead made (with_one_more files (revision.now, properties.now))) }
+        ensures judges { IsNew self.now.world.held.value
+            → Judges result (HasHistory (revision.now ∷ [])
+            × IsSome (result_ok (properties_of properties.now))) }
     {
         let list = read_properties(self.alloc, properties)?;
         let world = self.world.with_first_properties(list)?;
@@ -255,8 +269,9 @@ impl FiledWorld {
     ) -> Result<FiledWorld, FileFault>
         ensures read { IfOk result (λ made. (files : Files) → HasRead self.now files
             → HasRead made (with_one_more files (revision.now, properties.now))) }
-        // After revision 0, a fault is found only where these are not the files of a next revision.
-        ensures judges { (files : RevisionBytes) → 0 < length self.now.tables
+        // A fault is found only where these are not the files of a next revision.
+        ensures judges { (files : RevisionBytes)
+            → (self.now.tables ≡ [] → IsNew self.now.world.held.value)
             → IsHistory (read_history self.now.world.held.value self.now.tables files)
             → Judges result (HasHistory (files ++ revision.now ∷ [])
             × IsSome (result_ok (properties_of properties.now))) }

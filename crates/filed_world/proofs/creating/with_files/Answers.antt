@@ -5,6 +5,7 @@ use Rattle.repostore.specs.Files.{Files}
 use Rattle.repostore.specs.Reading.{with_one_more}
 use Rattle.filed_world.specs.Reading.{AreFirst, HasRead}
 use Rattle.filed_world.specs.Creating.{new_files}
+use Rattle.filed_world.proofs.Opened.{is_new}
 use Rattle.filed_world.proofs.creating.with_files.Goals as goal
 
 pub returns-in-Ok-with_read_revision-clause-files : goal.returns-in-Ok-with_read_revision-clause-files
@@ -29,7 +30,8 @@ returns-in-Ok-with_read_revision-clause-files c = λ uuid date same.
       unlocked = refl;
     } in
     let read = c.in-Ok-with_read_revision.ensures.read head
-    (c.in-Ok.ensures.read uuid date head same first) (c.in-Ok.ensures.next uuid date same) in
+    (c.in-Ok.ensures.read uuid date head same first) (c.in-Ok.ensures.next uuid date same)
+    (is_new c.args.world.held.value c.args.world.locks.value uuid date same) in
     c.read_whole.ensures (new_files files)
     (subst (λ r. HasRead made (with_one_more head (r, files.properties.items)))
     c.as_slice-revision.ensures.value

@@ -64,6 +64,7 @@ returns-in-Ok-clause-read c = ok_both c.with_read.result (λ made taken may file
     (next_history h f.world.locks.value f.tables f.current files are new next file read.table tabled
     (λ pos. comes_next h f.tables bytes some are.history file c.in_ok-file.file.pieces.items c.in_ok-file.file.changes.items said read.block read.table
     read.changes behind judged readable may.next)
+    (λ no_files. absurd (omega (arith, no_files, begun, all.all, all.tabled)))
     (has_room h f.tables bytes some are.history file c.in_ok-file.file.pieces.items c.in_ok-file.file.changes.items said read.block read.table
     read.changes behind judged readable may))
     (λ other is. ap result_ok c.in_ok-list.ensures ∙ sym last ∙ is)))) c.with_read.ensures.taken
