@@ -1,7 +1,7 @@
 //! A repository in files that a keeper alone changes.
 ghost use Rattle.std.specs.Prelude.{◌≡◌, false};
 ghost use Rattle.store_files.specs.Folders.{Folder};
-ghost use Rattle.store_access.specs.Keeping.{Keeps, StandsFor};
+ghost use Rattle.store_access.specs.Keeping.{Keeps, HasRepository};
 
 use repostore::Saves;
 use store_access::{Filed, StoredRepository};
@@ -32,16 +32,16 @@ impl<F: Filed, S: Store> FiledArchive<F, S> {
         &self.repository
     }
 
-    /// Gives the store of the files. While changes are saved, what it reads stands for what the repository contains,
-    /// and so does what a stop leaves now.
+    /// Gives the store of the files. While changes are saved, what it reads has the files of the repository, and so has
+    /// what a stop leaves now.
     pub fn store(&self) -> &S
         ensures store { result.now ≡ self.now.saves.store }
         ensures holds { S.is_honest self.now.saves.store → self.now.saves.is_halted ≡ false
-            → ∥ StandsFor F.stands_for (F.content self.now.repository)
+            → ∥ HasRepository F.content F.is_of (F.content self.now.repository)
             (S.holds self.now.saves.store) ∥₁ }
         ensures leaves { S.is_honest self.now.saves.store → self.now.saves.is_halted ≡ false
             → (f : Folder) → S.may_leave self.now.saves.store f
-            → ∥ StandsFor F.stands_for (F.content self.now.repository) f ∥₁ }
+            → ∥ HasRepository F.content F.is_of (F.content self.now.repository) f ∥₁ }
     {
         self.saves.store()
     }

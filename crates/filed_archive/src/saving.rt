@@ -72,7 +72,7 @@ fn save_files<S: Store>(saves: &mut Saves<S>, new: &ChangedFiles) -> Result<(), 
 
 impl<F: Filed, S: Store> FiledArchive<F, S> {
     /// Saves a change that was made of this repository, and then has the repository behind it. A stop at any moment
-    /// of the call leaves files that stand for the repository from before the change, or behind it.
+    /// of the call leaves the files of the repository from before the change, or behind it.
     pub fn save_change(&mut self, unsaved: Unsaved<F>) -> Result<(), SaveFault>
         requires running { self.old.saves.is_halted ≡ false }
         requires writes { (e : Accepted)
@@ -84,7 +84,7 @@ impl<F: Filed, S: Store> FiledArchive<F, S> {
         ensures stop { (e : Accepted)
             → Writes F.content F.is_of self.old.repository unsaved e
             → S.is_honest self.old.saves.store
-            → ∥ LeavesEither S.moment S.left_since F.stands_for self.old.saves.store
+            → ∥ LeavesEither F.content F.is_of S.moment S.left_since self.old.saves.store
             self.new.saves.store (F.content self.old.repository)
             (changed (F.content self.old.repository) e) ∥₁ }
     {

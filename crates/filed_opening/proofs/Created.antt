@@ -1,4 +1,4 @@
--- The files of a new repository stand for it.
+-- A folder has the files of a new repository.
 use Rattle.std.proofs.Common.{◌≡◌, inl, inr, ℕ, List, Option, None, subst}
 use Rattle.dates.specs.Dates.{IsDateText}
 use Rattle.store_files.specs.Folders.{Folder}
@@ -6,10 +6,8 @@ use Rattle.repo_api.specs.Opening.{new_repository}
 use Rattle.repostore.specs.Creating.{opening_files, IsFreeOrHas}
 use Rattle.repostore.specs.Files.{HasFiles}
 use Rattle.repostore.specs.declared.creating.Opening.{Opening}
-use Rattle.filed_trees.specs.StandsFor.{StandsFor}
 use Rattle.filed_world.specs.Creating.{new_files}
 use Rattle.filed_world.specs.Files.{IsOf, filed_content}
-use Rattle.filed_world.specs.Standing.{stand_for}
 use Rattle.filed_world.specs.declared.creating.NewFiles.{NewFiles}
 use Rattle.filed_world.specs.declared.filed_world.FiledWorld.{FiledWorld}
 use Rattle.filed_opening.specs.Creating.{HasNew, IsFreeOrNew}
@@ -26,13 +24,13 @@ module _ (uuid moment : ℕ) (filed : FiledWorld) (files : NewFiles) (opening : 
   has_new f has = record {
     date = new.0;
     dated = new.1;
-    stands = (
-      new_files files,
-      subst (λ fs. HasFiles fs f) same has,
-      subst (StandsFor (new_files files)) new.2
-          (stand_for filed.world.held.value filed.world.locks.value filed.tables filed.current
-          (new_files files) are),
-    );
+    has = record {
+      repository = filed;
+      files = new_files files;
+      has = subst (λ fs. HasFiles fs f) same has;
+      of_these = are;
+      contains = new.2;
+    };
   }
 
   pub has_new_at : (locks : Option (List ℕ)) (f : Folder) → locks ≡ None

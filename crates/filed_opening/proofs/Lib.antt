@@ -1,3 +1,3 @@
 pub mod Created
 pub mod Sound
-pub mod Sane
+pub mod NotFaulty

@@ -1,12 +1,13 @@
 //! A repository opened from its files.
-ghost use Rattle.std.specs.Prelude.{◌≡◌, IfOk, IfErr};
+ghost use Rattle.std.specs.Prelude.{◌≡◌, ◌⊎◌, IfOk, IfErr};
+ghost use Rattle.repo_api.specs.States.{RepoState};
 ghost use Rattle.store_files.specs.Folders.{Folder, IsSame};
 ghost use Rattle.store_files.specs.Moments.{HasRisen};
 ghost use Rattle.repostore.specs.Reading.{IsFaulty, IfFaulty};
 ghost use Rattle.repostore.specs.Saving.{OnlyReads};
-ghost use Rattle.store_access.specs.Keeping.{StandsFor};
+ghost use Rattle.store_access.specs.Keeping.{HasRepository, StandsFor};
 ghost use Rattle.filed_trees.specs.StandsFor as files;
-ghost use Rattle.filed_world.specs.Files.{filed_content};
+ghost use Rattle.filed_world.specs.Files.{IsOf, filed_content};
 ghost use Rattle.filed_opening.specs.Faults.{folder_faults};
 
 use crate::reader::FolderReader;
@@ -25,6 +26,13 @@ pub fn open<S: Store>(alloc: Global, store: S) -> Result<FolderRepository<S>, Un
     requires { S.is_honest store → (f : Folder) → S.may_leave store f → IsSame (S.holds store) f }
     ensures found { IfOk result (λ opened. S.is_honest opened.saves.store
         → StandsFor files.StandsFor (filed_content opened.repository) (S.holds store)) }
+    // Where the folder has the files of a repository, it finds this one, unless the device or memory fails.
+    ensures same { IfOk result (λ opened. S.is_honest opened.saves.store
+        → (c : RepoState) → HasRepository filed_content IsOf c (S.holds store)
+        → filed_content opened.repository ≡ c) }
+    ensures failed { IfErr result (λ unopened. S.is_honest unopened.store
+        → (c : RepoState) → HasRepository filed_content IsOf c (S.holds store)
+        → (unopened.fault ≡ StoreFault.Device) ⊎ (unopened.fault ≡ StoreFault.NoMemory)) }
     ensures faulty { IfErr result (λ unopened. S.is_honest unopened.store
         → IfFaulty unopened.fault (IsFaulty folder_faults (S.holds store))) }
     ensures device { IfErr result (λ unopened. unopened.fault ≡ StoreFault.Device

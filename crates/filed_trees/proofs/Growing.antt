@@ -29,17 +29,9 @@ use Rattle.filed_trees.specs.Trees.{own_from, own_at, own_below, own_in, first_i
 use Rattle.filed_trees.specs.Tables.{placed_in, IsAt, IsFiled, IsPlaced, AreTabled, HasRows}
 use Rattle.filed_trees.specs.declared.table.Placed.{Placed}
 use Rattle.filed_trees.specs.declared.table.Table.{Table}
+use Rattle.noderevs.proofs.Pushing.{last_place, other_place}
 
 -- ---- lists with one more
-
-pub last_place : {X : Type 0} (xs : List X) (x : X) → slice_get (xs ++ x ∷ []) (length xs) ≡ Some x
-last_place xs x = slice_get-get_or (xs ++ x ∷ []) (length xs) x (omega (arith, length-append xs (x ∷ []))) ∙ ap Some (get_or-append_seam xs x [] x)
-
-pub other_place : {X : Type 0} (xs : List X) (x : X) (k : ℕ) → k ≢ length xs → slice_get (xs ++ x ∷ []) k ≡ slice_get xs k
-other_place xs x k ne = ⊎_elim
-    (λ lt. slice_get-get_or (xs ++ x ∷ []) k x (omega (arith, lt, length-append xs (x ∷ []))) ∙ ap Some (get_or_append_left xs (x ∷ []) x k lt) ∙ sym (slice_get-get_or xs k x lt))
-    (λ ge. slice_get_past (xs ++ x ∷ []) k (omega (arith, ge, ne, length-append xs (x ∷ []))) ∙ sym (slice_get_past xs k ge))
-    (cases_lt k (length xs))
 
 abbrev pub Stays : {A : Type 0} → Option A → Option A → Type 0
 Stays {A} o p = (x : A) → o ≡ Some x → p ≡ Some x

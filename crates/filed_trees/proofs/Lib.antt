@@ -8,10 +8,10 @@ mod Kept
 mod Read
 mod Growing
 mod Compared
-mod Right
+mod Asked
 mod Rows
-pub mod Values
-pub mod One
-mod High
+pub mod SameNext
+pub mod OneRepository
+mod Heights
 pub mod Seen
 pub mod States

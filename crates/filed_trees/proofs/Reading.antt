@@ -22,8 +22,9 @@ use Rattle.filed_trees.specs.Comparing.{AreForAll, AreNew, AreSame, IsSameNode}
 use Rattle.filed_trees.specs.Tables.{AreTabled, HasRows, IsAt, IsFiled, IsPlaced, placed_in}
 use Rattle.filed_trees.specs.declared.table.Placed.{Placed}
 use Rattle.filed_trees.specs.declared.table.Table.{Table}
-use Rattle.filed_trees.proofs.Growing.{last_changes, last_file, last_place, last_revision, last_root, length_more, old_placed, other_place, tabled_more}
+use Rattle.filed_trees.proofs.Growing.{last_changes, last_file, last_revision, last_root, length_more, old_placed, tabled_more}
 use Rattle.filed_trees.proofs.Read.{pieces_of_last}
+use Rattle.noderevs.proofs.Pushing.{last_place, other_place}
 
 module _ (files : RevisionBytes) (tables : List Table) (revision : ℕ) (rows : List Placed) where
   -- the nodes before a place are placed

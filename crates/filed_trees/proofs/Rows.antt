@@ -12,7 +12,7 @@ use Rattle.filed_trees.specs.Trees.{first_id}
 use Rattle.filed_trees.specs.Tables.{placed_of}
 use Rattle.filed_trees.specs.Readable.{AreEntries, AreReadable, HasPlaced, IsOneOf, IsReadable, IsTabled}
 use Rattle.filed_trees.specs.declared.table.Table.{Table}
-use Rattle.filed_trees.proofs.Growing.{last_place, other_place}
+use Rattle.noderevs.proofs.Pushing.{last_place, other_place}
 
 -- what a table has of rows is what it has of their node revisions
 pub placed_rows : (rows : List (Bor FilePiece))

@@ -22,4 +22,4 @@ pub use laws::{
     what_comes_next_depends_on_what_nodes_have,
 };
 pub use table::{Placed, Table};
-pub use tabulating::tabulated;
+pub use tabulating::{is_last_revision, tabulated};

@@ -77,7 +77,11 @@ fn are_same_nodes(
 }
 
 /// Says whether the last revision of nodes, whose changes are these, is what was read.
-fn is_last(
+///
+/// # Errors
+///
+/// `AllocError` where memory is refused.
+pub fn is_last_revision(
     alloc: Global,
     nodes: &Nodes,
     rev: u32,
@@ -126,7 +130,7 @@ pub fn tabulated(
     let revision = tables.len() as u32;
     let file = read_revision(alloc, revision, file)?;
     let read = read_next(alloc, nodes, tables, &file)?;
-    match is_last(alloc, nodes, revision, changes, &read) {
+    match is_last_revision(alloc, nodes, revision, changes, &read) {
         Ok(true) => Ok(read.table),
         Ok(false) => {
             std::mem::drop(read);

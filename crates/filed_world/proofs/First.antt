@@ -26,7 +26,7 @@ use Rattle.filed_world.specs.Reading.{IsNew}
 use Rattle.filed_world.proofs.Histories.{history_more, no_history}
 use Rattle.repo_api.specs.Properties.{PropertyList}
 use Rattle.world.specs.Adding.{HasFirstList}
-use Rattle.filed_world.proofs.Taken.{one_of}
+use Rattle.filed_world.proofs.Opened.{one_of}
 
 abbrev path_of : Mark → PathValue
 path_of Open = []

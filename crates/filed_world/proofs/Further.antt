@@ -39,6 +39,12 @@ same_ok x y e = ap (the x) e
     the d (Ok z) = z
     the d (Err fault) = d
 
+-- what is held is read, once a revision has been
+pub as_read : (h : Held) (tables : List Table) (files : RevisionBytes) → (tables ≡ [] → ⊥) → IsHistory (held_history h tables files)
+    → IsHistory (read_history h tables files)
+as_read h [] files some is = absurd (some refl)
+as_read h (t ∷ ts) files some is = is
+
 module _ (h : Held) (tables : List Table) (files : RevisionBytes) (some : tables ≡ [] → ⊥) (is : IsHistory (read_history h tables files)) where
   -- all that is held has been read
   pub all_said : AreTabled files (blocks_of h.nodes) tables h.changes

@@ -1,9 +1,9 @@
 -- Revisions that come one after another.
-use Rattle.std.proofs.Common.{◌≡◌, ◌≢◌, ◌≤◌, ◌<◌, ℕ, zero, suc, List, [], ◌∷◌, ◌++◌, take, length, Some, option_map, option_and_then, refl, sym, ap, subst, ◌∙◌, arith, length-append, ⊎_elim}
+use Rattle.std.proofs.Common.{◌≡◌, ◌≤◌, ◌<◌, ℕ, zero, suc, List, [], ◌∷◌, ◌++◌, take, length, Some, option_map, option_and_then, refl, sym, ap, subst, ◌∙◌, arith, length-append, ⊎_elim}
 use Rattle.std.proofs.Math.Seq.{take-append_seam}
 use Rattle.std.proofs.lemmas.Bool.{cases_eq, cases_lt}
-use Rattle.std.proofs.lemmas.List.{get_or_append_left, take-append-le, take_all}
-use Rattle.std.proofs.lemmas.Option.{none-some, same_Some, slice_get-get_or, slice_get_past, slice_get_within}
+use Rattle.std.proofs.lemmas.List.{take-append-le, take_all}
+use Rattle.std.proofs.lemmas.Option.{none-some, same_Some, slice_get_within}
 use Rattle.std.specs.FinMap.{entries}
 use Rattle.std.specs.Prelude.{slice_get}
 use Rattle.repo_api.specs.States.{ChangeMap}
@@ -21,21 +21,14 @@ use Rattle.filed_trees.specs.Readable.{IsReadableFile}
 use Rattle.filed_trees.specs.Tables.{AreTabled}
 use Rattle.filed_trees.specs.Values.{AreSameNext, AreSameRevisions}
 use Rattle.filed_trees.specs.declared.table.Table.{Table}
-use Rattle.filed_trees.proofs.One.{readable_same, same_revisions}
-use Rattle.filed_trees.proofs.Values.{same_next}
+use Rattle.filed_trees.proofs.OneRepository.{readable_same, same_revisions}
+use Rattle.filed_trees.proofs.SameNext.{same_next}
 use Rattle.filed_world.specs.Histories.{AreSaid, ComesNext, History, IsHistory, first, with_next, ComesFirst}
 use Rattle.fsfs_reading.specs.Pieces.{revision_of}
 use Rattle.fsfs_judging.specs.Judging.{judged_revision}
-use Rattle.filed_world.proofs.Newest.{last_of}
+use Rattle.noderevs.proofs.Pushing.{last_place, other_place}
 
 -- ---- the first of revisions, and one more
-
-pub other_of : {X : Type 0} (xs : List X) (x : X) (k : ℕ) → k ≢ length xs → slice_get (xs ++ x ∷ []) k ≡ slice_get xs k
-other_of xs x k ne = ⊎_elim
-    (λ lt. slice_get-get_or (xs ++ x ∷ []) k x (omega (arith, lt, length-append xs (x ∷ []))) ∙ ap Some (get_or_append_left xs (x ∷ []) x k lt)
-    ∙ sym (slice_get-get_or xs k x lt))
-    (λ ge. slice_get_past (xs ++ x ∷ []) k (omega (arith, ge, ne, length-append xs (x ∷ []))) ∙ sym (slice_get_past xs k ge))
-    (cases_lt k (length xs))
 
 module _ (h : History) (said : AreSaid h) where
   -- all of them are the first so many
@@ -82,21 +75,21 @@ history_more h is file block table change more came first_came room =
           (cases_lt n (length h.files));
       begins = λ f b c at_file at_block at_change. ⊎_elim
           (λ e.
-          let is_file : file ≡ f = same_Some file f (sym (last_of h.files file) ∙ ap (slice_get (h.files ++ file ∷ [])) (sym e) ∙ at_file) in
-          let is_block : block ≡ b = same_Some block b (sym (last_of h.blocks block) ∙ ap (slice_get (h.blocks ++ block ∷ [])) (sym said.all ∙ sym e) ∙ at_block) in
-          let is_change : change ≡ c = same_Some change c (sym (last_of h.changes change)
+          let is_file : file ≡ f = same_Some file f (sym (last_place h.files file) ∙ ap (slice_get (h.files ++ file ∷ [])) (sym e) ∙ at_file) in
+          let is_block : block ≡ b = same_Some block b (sym (last_place h.blocks block) ∙ ap (slice_get (h.blocks ++ block ∷ [])) (sym said.all ∙ sym e) ∙ at_block) in
+          let is_change : change ≡ c = same_Some change c (sym (last_place h.changes change)
           ∙ ap (slice_get (h.changes ++ change ∷ [])) (said.listed ∙ sym said.all ∙ sym e) ∙ at_change) in
           subst (λ x. ComesFirst f b x) is_change (subst (λ x. ComesFirst f x change) is_block (subst (λ x. ComesFirst x block change) is_file
           (first_came (sym e)))))
-          (λ ne. is.begins f b c (sym (other_of h.files file 0 ne) ∙ at_file)
-          (sym (other_of h.blocks block 0 (λ e. ne (e ∙ sym said.all))) ∙ at_block)
-          (sym (other_of h.changes change 0 (λ e. ne (e ∙ said.listed ∙ sym said.all))) ∙ at_change))
+          (λ ne. is.begins f b c (sym (other_place h.files file 0 ne) ∙ at_file)
+          (sym (other_place h.blocks block 0 (λ e. ne (e ∙ sym said.all))) ∙ at_block)
+          (sym (other_place h.changes change 0 (λ e. ne (e ∙ said.listed ∙ sym said.all))) ∙ at_change))
           (cases_eq 0 (length h.files));
       next = λ n f b c pos at_file at_block at_change. ⊎_elim
           (λ e.
-          let is_file : file ≡ f = same_Some file f (sym (last_of h.files file) ∙ ap (slice_get (h.files ++ file ∷ [])) (sym e) ∙ at_file) in
-          let is_block : block ≡ b = same_Some block b (sym (last_of h.blocks block) ∙ ap (slice_get (h.blocks ++ block ∷ [])) (sym said.all ∙ sym e) ∙ at_block) in
-          let is_change : change ≡ c = same_Some change c (sym (last_of h.changes change)
+          let is_file : file ≡ f = same_Some file f (sym (last_place h.files file) ∙ ap (slice_get (h.files ++ file ∷ [])) (sym e) ∙ at_file) in
+          let is_block : block ≡ b = same_Some block b (sym (last_place h.blocks block) ∙ ap (slice_get (h.blocks ++ block ∷ [])) (sym said.all ∙ sym e) ∙ at_block) in
+          let is_change : change ≡ c = same_Some change c (sym (last_place h.changes change)
           ∙ ap (slice_get (h.changes ++ change ∷ [])) (said.listed ∙ sym said.all ∙ sym e) ∙ at_change) in
           let past : h ≡ first n (with_next h file block table change) =
           sym (first_same h said file block table change n (omega (arith, e)) ∙ first_all h said n (omega (arith, e))) in
@@ -104,12 +97,12 @@ history_more h is file block table change more came first_came room =
           (subst (λ x. ComesNext h f b x) is_change (subst (λ x. ComesNext h f x change) is_block (subst (λ x. ComesNext h x block change) is_file
           (came (omega (arith, e, pos)))))))
           (λ ne.
-          let old : slice_get h.files n ≡ Some f = sym (other_of h.files file n ne) ∙ at_file in
+          let old : slice_get h.files n ≡ Some f = sym (other_place h.files file n ne) ∙ at_file in
           let within = slice_get_within h.files n f old in
           subst (λ p. ComesNext p f b c) (sym (first_same h said file block table change n (omega (arith, within))))
           (is.next n f b c pos old
-          (sym (other_of h.blocks block n (λ e. ne (e ∙ sym said.all))) ∙ at_block)
-          (sym (other_of h.changes change n (λ e. ne (e ∙ said.listed ∙ sym said.all))) ∙ at_change)))
+          (sym (other_place h.blocks block n (λ e. ne (e ∙ sym said.all))) ∙ at_block)
+          (sym (other_place h.changes change n (λ e. ne (e ∙ said.listed ∙ sym said.all))) ∙ at_change)))
           (cases_eq n (length h.files));
       room = omega (arith, room, length-append h.files (file ∷ []));
     }
@@ -148,7 +141,7 @@ module _ (h : History) (is : IsHistory h) (files : RevisionBytes) (file : List �
   the_change = there_at h.changes n (all_said.listed ∙ sym all_said.all ∙ omega (arith, length-append files (file ∷ [])))
 
   pub comes : 0 < n → ComesNext past file the_block.0 the_change.0
-  comes pos = is.next n file the_block.0 the_change.0 pos (ap (λ fs. slice_get fs n) are ∙ last_of files file) the_block.1 the_change.1
+  comes pos = is.next n file the_block.0 the_change.0 pos (ap (λ fs. slice_get fs n) are ∙ last_place files file) the_block.1 the_change.1
 
   same_past : AreSameRevisions past.blocks (blocks_of nodes) past.changes changes
   same_past = same_revisions files past.blocks (blocks_of nodes) past.tables tables past.changes changes past_said said
@@ -170,7 +163,7 @@ module _ (h : History) (is : IsHistory h) (files : RevisionBytes) (file : List �
         all_said after
 
     last_block : slice_get (blocks_of nodes ++ c ∷ []) n ≡ Some c
-    last_block = ap (slice_get (blocks_of nodes ++ c ∷ [])) said.all ∙ last_of (blocks_of nodes) c
+    last_block = ap (slice_get (blocks_of nodes ++ c ∷ [])) said.all ∙ last_place (blocks_of nodes) c
 
     same_blocks : (pos : 0 < n) → AreSameNext (comes pos).nodes nodes the_block.0 c
     same_blocks pos = record {
@@ -188,7 +181,7 @@ module _ (h : History) (is : IsHistory h) (files : RevisionBytes) (file : List �
 
     same_changes : entries the_change.0 ≡ entries l
     same_changes = same_Some (entries the_change.0) (entries l) (sym (ap (option_map entries) the_change.1) ∙ same_after.changes n
-        ∙ ap (option_map entries) (ap (slice_get (changes ++ l ∷ [])) (said.all ∙ sym said.listed) ∙ last_of changes l))
+        ∙ ap (option_map entries) (ap (slice_get (changes ++ l ∷ [])) (said.all ∙ sym said.listed) ∙ last_place changes l))
 
     pub keeps_rules : 0 < n → IsNextRevision (past_of nodes) c (entries l)
     keeps_rules pos = subst (IsNextRevision (past_of nodes) c) same_changes

@@ -9,7 +9,7 @@ use Rattle.world.specs.declared.world.World.{World}
 use Rattle.filed_trees.specs.declared.table.Table.{Table}
 use Rattle.world.specs.Adding.{HasAdded, HasFirstList}
 use Rattle.filed_world.specs.Reading.{IsNext, so_far}
-use Rattle.filed_world.proofs.Taken.{one_of}
+use Rattle.filed_world.proofs.Opened.{one_of}
 
 pub nothing : {X : Type 0} (xs : List X) → length xs ≡ 0 → xs ≡ []
 nothing [] none = refl

@@ -24,7 +24,7 @@ use Rattle.held.proofs.Seen.{held_changes, held_many, held_seen}
 use Rattle.repo_api.specs.declared.change.Change.{Change}
 use Rattle.filed_world.specs.Reading.{IsNew}
 
-one_of : {X : Type 0} (xs : List X) → length xs ≡ 1 → (x : X) × (xs ≡ x ∷ [])
+pub one_of : {X : Type 0} (xs : List X) → length xs ≡ 1 → (x : X) × (xs ≡ x ∷ [])
 one_of [] one = absurd (omega (arith, one))
 one_of (x ∷ []) one = (x, refl)
 one_of (x ∷ y ∷ xs) one = absurd (omega (arith, one))

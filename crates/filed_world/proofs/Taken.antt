@@ -35,8 +35,8 @@ use Rattle.filed_world.proofs.Listed.{looked_up}
 use Rattle.filed_world.specs.Histories.{ComesNext, IsHistory, held_history, ComesFirst}
 use Rattle.filed_world.proofs.Histories.{history_more, no_history}
 use Rattle.repo_api.specs.declared.limits.TheConstants.{REVISION_LIMIT}
-use Rattle.filed_world.proofs.Opened.{is_new}
-use Rattle.filed_world.proofs.Newest.{last_of}
+use Rattle.filed_world.proofs.Opened.{is_new, one_of}
+use Rattle.noderevs.proofs.Pushing.{last_place}
 
 -- ---- before the first revision
 
@@ -62,11 +62,6 @@ first_read h locks current uuid date files nothing same first =
         each = λ p. ap (λ ls. get ls p) free ∙ get-empty path_cmp p;
       };
     }
-
-pub one_of : {X : Type 0} (xs : List X) → length xs ≡ 1 → (x : X) × (xs ≡ x ∷ [])
-one_of [] one = absurd (omega (arith, one))
-one_of (x ∷ []) one = (x, refl)
-one_of (x ∷ y ∷ xs) one = absurd (omega (arith, one))
 
 -- the first revision of a new repository comes next where nothing has been read
 pub first_next : (old new : Held) (old_locks new_locks : LockMap) (tables : List Table) (uuid : ℕ)
@@ -115,7 +110,7 @@ module _ (h : Held) (locks : LockMap) (tables : List Table) (current : Current) 
       held_changes new (length tables) next.change
       (subst (λ n. slice_get new.changes n ≡ Some next.change) many_changes
       (ap (λ cs. slice_get cs (length (so_far tables h.changes))) next.changes
-      ∙ last_of (so_far tables h.changes) next.change))
+      ∙ last_place (so_far tables h.changes) next.change))
 
   pub next_tabled : (new_locks : LockMap) (changed : List Changed) (file : List ℕ) (table : Table)
       → changed ≡ history_of (state_of new new_locks) (length tables)
@@ -175,7 +170,7 @@ module _ (h : Held) (locks : LockMap) (tables : List Table) (current : Current) 
       long ∙ are.tabled.listed ∙ sym are.tabled.all ∙ length-map files.revisions (λ r. r.0) in
       let said_last : result_ok (properties_of properties) ≡ Some next.list =
       says next.list (subst (λ n. slice_get new.properties n ≡ Some next.list) (long ∙ many_changes)
-      (ap (λ ls. slice_get ls (length lists)) next.lists ∙ last_of lists next.list)) in
+      (ap (λ ls. slice_get ls (length lists)) next.lists ∙ last_place lists next.list)) in
       let are_said : AreSaid lists files.revisions = λ n. are.properties n ∙ said_is files n in
       record {
         head = record {

@@ -1,5 +1,5 @@
 -- The files of a repository that are read, one revision after another.
-use Rattle.std.specs.Prelude.{◌≡◌, ℕ, suc, List, [], ◌∷◌, ◌++◌, None, Some, codes, length, slice_get}
+use Rattle.std.specs.Prelude.{◌≡◌, ℕ, suc, List, [], ◌∷◌, ◌++◌, None, Some, Ok, codes, length, slice_get}
 use Rattle.std.specs.Result.{result_ok}
 use Rattle.repo_api.specs.Properties.{PropertyList}
 use Rattle.repo_api.specs.States.{ChangeMap, LockMap}
@@ -18,7 +18,15 @@ use Rattle.filed_trees.specs.Tables.{AreTabled}
 use Rattle.filed_trees.specs.declared.blocks.ReadRevision.{ReadRevision}
 use Rattle.filed_trees.specs.declared.table.Table.{Table}
 use Rattle.filed_world.specs.Files.{AreLocks}
-use Rattle.filed_world.specs.Histories.{History, IsHistory}
+use Rattle.noderevs.specs.Heights.{AreHigh}
+use Rattle.noderevs.specs.Held.{count, node_at}
+use Rattle.noderevs.specs.Nodes.{with_block}
+use Rattle.fsfs_judging.specs.Judging.{judged_revision}
+use Rattle.fsfs_parts.specs.declared.change.FileChange.{FileChange}
+use Rattle.fsfs_reading.specs.Pieces.{revision_of}
+use Rattle.fsfs_reading.specs.declared.piece.FilePiece.{FilePiece}
+use Rattle.filed_trees.specs.Readable.{IsReadableFile}
+use Rattle.filed_world.specs.Histories.{HasHistory, History, IsHistory, held_history}
 use Rattle.filed_trees.specs.Pieces.{RevisionBytes}
 use Rattle.noderevs.specs.OpeningBlocks.{AreOpening}
 use Rattle.std.specs.FinMap.{entries}
@@ -72,6 +80,34 @@ pub record AreRead (h : Held) (locks : LockMap) (tables : List Table) (current :
 -- it is that of these files, as far as they have been read
 abbrev pub HasRead : FiledWorld → Files → Type 0
 HasRead f files = AreRead f.world.held.value f.world.locks.value f.tables f.current files
+
+-- what is said of files that say what is held
+abbrev pub WhereTabled : Held → List Table → (RevisionBytes → Type 0) → Type 0
+WhereTabled h tables P =
+    (files : RevisionBytes) → AreTabled files (blocks_of h.nodes) tables h.changes → P files
+
+-- this was read of the file of the next revision, which is judged to be right
+pub record IsSaidNext (h : Held) (tables : List Table) (file : List ℕ) (read : ReadRevision) : Type 0 where
+  pub pieces : List FilePiece
+  pub said : List FileChange
+  pub says : revision_of (length tables) file ≡ Ok (pieces, said)
+  pub judged : judged_revision (length tables) pieces said ≡ Ok tt
+  pub readable : WhereTabled h tables (λ files.
+      IsReadableFile (files ++ file ∷ []) tables pieces said)
+  pub tabled : WhereTabled h tables (λ files. AreTabled (files ++ file ∷ [])
+      (blocks_of h.nodes ++ read.block ∷ []) (tables ++ read.table ∷ []) (h.changes ++ read.changes ∷ []))
+  pub high : WhereTabled h tables (λ files.
+      AreHigh (with_block (node_at h.nodes) (count h.nodes) read.block.nodes.items))
+
+-- the file of the next revision was read back: it says that of what is held then, as opening reads it
+pub record IsReadBack (h : Held) (tables : List Table) (after : Held) (file : List ℕ)
+    (now : List Table) : Type 0 where
+  pub table : Table
+  pub tables_are : now ≡ tables ++ table ∷ []
+  pub tabled : WhereTabled h tables (λ files. AreTabled (files ++ file ∷ []) (blocks_of after.nodes)
+      now after.changes)
+  pub history : (files : RevisionBytes) → IsHistory (held_history h tables files)
+      → HasHistory (files ++ file ∷ [])
 
 -- behind the revisions that have tables comes one more
 pub record IsNext (before : Held) (tables : List Table) (after : Held) : Type 0 where

@@ -1,4 +1,5 @@
 //! A repository, and where its node revisions stand in its files.
+ghost use Rattle.std.specs.Prelude.{◌≡◌};
 
 use filed_trees::Table;
 use fsfs_folder::Current;
@@ -14,4 +15,20 @@ pub struct FiledWorld {
     pub(crate) world: World,
     pub(crate) tables: PVec<Table>,
     pub(crate) current: Current,
+}
+
+impl FiledWorld {
+    /// Keeps the tables alone.
+    pub(crate) fn into_tables(self) -> PVec<Table>
+        ensures { result ≡ self.tables }
+    {
+        let FiledWorld {
+            alloc: _,
+            world,
+            tables,
+            current: _,
+        } = self;
+        std::mem::drop(world);
+        tables
+    }
 }

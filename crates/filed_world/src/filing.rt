@@ -1,18 +1,15 @@
 //! The repository behind each change, with its files.
 ghost use Rattle.std.specs.Prelude.{◌≡◌, ◌+◌, ◌<◌, ◌++◌, ◌∷◌, [], Some, IfOk, length};
-ghost use Rattle.noderevs.specs.Held.{blocks_of};
 ghost use Rattle.held.specs.Growing.{HasOneMore, HasSame};
 ghost use Rattle.repostore.specs.Current.{count_in};
 ghost use Rattle.repostore.specs.Files.{Files, with_locks, with_properties, with_revision};
-ghost use Rattle.filed_trees.specs.Pieces.{RevisionBytes};
-ghost use Rattle.filed_trees.specs.Tables.{AreTabled};
-ghost use Rattle.filed_world.specs.Histories.{HasHistory, IsHistory, held_history};
+ghost use Rattle.filed_world.specs.Reading.{IsReadBack};
 ghost use Rattle.filed_world.specs.Files.{AreLocks, HasOneMoreList, HasOtherList, IsOf, filed_content};
 
 use crate::filed_world::FiledWorld;
 use crate::written::{current_file, locks_file, properties_file};
-use filed_trees::{Table, tabulated};
-use filed_writing::{Written, write_revision};
+use filed_trees::{Table, is_last_revision};
+use filed_writing::write_revision;
 use fsfs_folder::Current;
 use pvec::PVec;
 use repo_api::Repository;
@@ -103,53 +100,34 @@ impl FiledWorld {
         Ok((made, new))
     }
 
-    /// Writes the file of the youngest revision of a repository that has one more than this one, and
-    /// compares it with the revision. What could not be read back is not made.
-    fn written(&self, world: &World) -> Result<(Written, Table), AllocError>
-        requires { HasOneMore self.now.world.held.value world.now.held.value }
-        ensures { IfOk result (λ made. (files : RevisionBytes)
-            → AreTabled files (blocks_of self.now.world.held.value.nodes) self.now.tables
-            self.now.world.held.value.changes
-            → AreTabled (files ++ made.0.file.items ∷ [])
-            (blocks_of world.now.held.value.nodes) (self.now.tables ++ made.1 ∷ [])
-            world.now.held.value.changes) }
+    /// Reads the files of the next revision as opening the folder does, and compares what they say with the
+    /// youngest revision of a repository that has one more than this one: gives the tables behind it. What could not
+    /// be read back is not made.
+    fn read_back(
+        &self,
+        world: &World,
+        revision: &[u8],
+        properties: &[u8],
+    ) -> Result<PVec<Table>, AllocError>
+        requires begun { 0 < length self.now.tables }
+        requires more { HasOneMore self.now.world.held.value world.now.held.value }
+        ensures { IfOk result (λ tables. IsReadBack self.now.world.held.value self.now.tables
+            world.now.held.value revision.now tables) }
     {
+        let Ok((read, list)) = self.read_further(revision, properties) else {
+            return Err(AllocError);
+        };
+        let number = self.tables.len() as u32;
         let changes = world.changes(world.youngest());
-        let written = write_revision(
-            self.alloc,
-            world.nodes(),
-            &self.tables,
-            changes,
-            self.current,
-        )?;
-        match tabulated(
-            self.alloc,
-            world.nodes(),
-            &self.tables,
-            changes,
-            written.file.as_slice(),
-        ) {
-            Ok(table) => Ok((written, table)),
-            Err(_) => Err(AllocError),
-        }
-    }
-
-    /// Reads the files of the next revision as opening the folder does, where no locks have been read yet. What could
-    /// not be read then is not made.
-    fn check_next_revision(&self, revision: &[u8], properties: &[u8]) -> Result<(), AllocError>
-        ensures { IfOk result (λ _. (files : RevisionBytes) → 0 < length self.now.tables
-            → IsHistory (held_history self.now.world.held.value self.now.tables files)
-            → HasHistory (files ++ revision.now ∷ [])) }
-    {
-        let unlocked = self.with_listed_locks(&[])?;
-        let read = unlocked.with_next_revision(revision, properties);
-        std::mem::drop(unlocked);
-        match read {
-            Ok(read) => {
-                std::mem::drop(read);
-                Ok(())
+        match is_last_revision(self.alloc, world.nodes(), number, changes, &read) {
+            Ok(true) => match self.with_read(read, list) {
+                Ok(made) => Ok(made.into_tables()),
+                Err(_) => Err(AllocError),
+            },
+            _ => {
+                std::mem::drop((read, list));
+                Err(AllocError)
             }
-            Err(_) => Err(AllocError),
         }
     }
 
@@ -170,11 +148,21 @@ impl FiledWorld {
             made.1.current.items)
             × (count_in made.1.current.items ≡ Some (length files.revisions + 1))) }
     {
+        // a repository has its revision 0, so this never happens
+        if self.tables.len() == 0 {
+            return Err(AllocError);
+        }
         let number = world.youngest();
-        let (written, table) = self.written(&world)?;
         let Some(list) = world.revision_properties(number) else {
             return Err(AllocError);
         };
+        let written = write_revision(
+            self.alloc,
+            world.nodes(),
+            &self.tables,
+            world.changes(number),
+            self.current,
+        )?;
         let properties = properties_file(self.alloc, list)?;
         let current = Current {
             youngest: self.tables.len() as u32,
@@ -187,8 +175,7 @@ impl FiledWorld {
             properties,
             current: current_file(self.alloc, current)?,
         };
-        let tables = with_table(self.alloc, &self.tables, table)?;
-        self.check_next_revision(new.revision.as_slice(), new.properties.as_slice())?;
+        let tables = self.read_back(&world, new.revision.as_slice(), new.properties.as_slice())?;
         let made = FiledWorld {
             alloc: self.alloc,
             world,

@@ -15,7 +15,7 @@ ghost use Rattle.world.specs.Adding.{MayComeNext};
 ghost use Rattle.filed_trees.specs.Pieces.{RevisionBytes};
 ghost use Rattle.filed_trees.specs.Readable.{Judges};
 ghost use Rattle.filed_world.specs.Histories.{HasHistory, IsHistory};
-ghost use Rattle.filed_world.specs.Reading.{AreFirst, AreRead, HasRead, HasTaken, IsNextOf, read_history, IsNew};
+ghost use Rattle.filed_world.specs.Reading.{AreFirst, AreRead, HasRead, HasTaken, IsNew, IsNextOf, IsSaidNext, read_history};
 
 use crate::filed_world::FiledWorld;
 use crate::filing::with_table;
@@ -210,7 +210,11 @@ impl FiledWorld {
     /// # Errors
     ///
     /// `BadLine` where it may not; `NoMemory`.
-    fn with_read(&self, read: ReadRevision, list: Properties) -> Result<FiledWorld, FileFault>
+    pub(crate) fn with_read(
+        &self,
+        read: ReadRevision,
+        list: Properties,
+    ) -> Result<FiledWorld, FileFault>
         ensures taken { IfOk result (λ made. HasTaken self.now made read list) }
         ensures may { Judges result (MayComeNext self.now.world.held.value read.block
             (entries read.changes)) }
@@ -229,6 +233,38 @@ impl FiledWorld {
         }
     }
 
+    /// Reads what the files of a revision after revision 0 say, and judges it.
+    ///
+    /// # Errors
+    ///
+    /// As `read_revision`, `judge_revision`, `read_properties` and `read_next`.
+    pub(crate) fn read_further(
+        &self,
+        revision: &[u8],
+        properties: &[u8],
+    ) -> Result<(ReadRevision, Properties), FileFault>
+        requires { 0 < length self.now.tables }
+        ensures read { IfOk result (λ said. IsSaidNext self.now.world.held.value self.now.tables
+            revision.now said.0) }
+        ensures list { IfOk result (λ said. result_ok (properties_of properties.now) ≡ Some said.1) }
+        ensures faulty { (files : RevisionBytes)
+            → IsHistory (read_history self.now.world.held.value self.now.tables files)
+            → IfFindsFaulty result (HasHistory (files ++ revision.now ∷ [])
+            × IsSome (result_ok (properties_of properties.now)) → ⊥) }
+    {
+        let number = self.tables.len() as u32;
+        let file = read_revision(self.alloc, number, revision)?;
+        judge_revision(self.alloc, number, &file)?;
+        let list = read_properties(self.alloc, properties)?;
+        match read_next(self.alloc, self.world.nodes(), &self.tables, &file) {
+            Ok(read) => Ok((read, list)),
+            Err(fault) => {
+                std::mem::drop(list);
+                Err(fault)
+            }
+        }
+    }
+
     /// Reads the files of a revision after revision 0.
     fn with_further_revision(
         &self,
@@ -243,17 +279,8 @@ impl FiledWorld {
             → Judges result (HasHistory (files ++ revision.now ∷ [])
             × IsSome (result_ok (properties_of properties.now))) }
     {
-        let number = self.tables.len() as u32;
-        let file = read_revision(self.alloc, number, revision)?;
-        judge_revision(self.alloc, number, &file)?;
-        let list = read_properties(self.alloc, properties)?;
-        match read_next(self.alloc, self.world.nodes(), &self.tables, &file) {
-            Ok(read) => self.with_read(read, list),
-            Err(fault) => {
-                std::mem::drop(list);
-                Err(fault)
-            }
-        }
+        let (read, list) = self.read_further(revision, properties)?;
+        self.with_read(read, list)
     }
 
     /// Reads the files of the next revision, and takes them.

@@ -1,11 +1,12 @@
 //! A hub over a repository that is opened from its files.
-ghost use Rattle.std.specs.Prelude.{◌≡◌, IfOk, IfErr, false};
+ghost use Rattle.std.specs.Prelude.{◌≡◌, ◌⊎◌, IfOk, IfErr, false};
+ghost use Rattle.repo_api.specs.States.{RepoState};
 ghost use Rattle.store_files.specs.Folders.{Folder, IsSame};
 ghost use Rattle.store_files.specs.Moments.{HasRisen};
 ghost use Rattle.repostore.specs.Reading.{IsFaulty, IfFaulty};
 ghost use Rattle.repostore.specs.Saving.{OnlyReads};
-ghost use Rattle.store_access.specs.Keeping.{StandsFor};
-ghost use Rattle.filed_trees.specs.StandsFor as files;
+ghost use Rattle.store_access.specs.Keeping.{HasRepository};
+ghost use Rattle.filed_world.specs.Files.{IsOf, filed_content};
 ghost use Rattle.filed_opening.specs.Faults.{folder_faults};
 ghost use Rattle.folder_hub.specs.Opening.{BeginsWith};
 
@@ -31,6 +32,10 @@ pub fn open_hub<S: Store>(
 ) -> Result<FolderHub<S>, Unopened<S>>
     requires { S.is_honest store → (f : Folder) → S.may_leave store f → IsSame (S.holds store) f }
     ensures found { IfOk result (λ hub. BeginsWith S.is_honest S.holds store options hub) }
+    // A folder that has the files of a repository is opened, unless the device or memory fails.
+    ensures failed { IfErr result (λ unopened. S.is_honest unopened.store
+        → (c : RepoState) → HasRepository filed_content IsOf c (S.holds store)
+        → (unopened.fault ≡ StoreFault.Device) ⊎ (unopened.fault ≡ StoreFault.NoMemory)) }
     ensures faulty { IfErr result (λ unopened. S.is_honest unopened.store
         → IfFaulty unopened.fault (IsFaulty folder_faults (S.holds store))) }
     ensures device { IfErr result (λ unopened. unopened.fault ≡ StoreFault.Device
@@ -43,14 +48,14 @@ pub fn open_hub<S: Store>(
     Ok(Hub::with_access(alloc, repository, options))
 }
 
-/// Shows the store of a hub's files. While changes are made, what it reads stands for what the hub's repository
-/// contains, and so does what a stop leaves now.
+/// Shows the store of a hub's files. While changes are made, what it reads has the files of the hub's repository,
+/// and so has what a stop leaves now.
 pub fn store_of<S: Store>(hub: &FolderHub<S>) -> &S
     ensures holds { S.is_honest result.now → hub.now.halted ≡ false
-        → ∥ StandsFor files.StandsFor hub.now.content (S.holds result.now) ∥₁ }
+        → ∥ HasRepository filed_content IsOf hub.now.content (S.holds result.now) ∥₁ }
     ensures leaves { S.is_honest result.now → hub.now.halted ≡ false
         → (f : Folder) → S.may_leave result.now f
-        → ∥ StandsFor files.StandsFor hub.now.content f ∥₁ }
+        → ∥ HasRepository filed_content IsOf hub.now.content f ∥₁ }
 {
     hub.access().store()
 }

@@ -4,31 +4,20 @@ use Rattle.std.specs.Prelude.{◌≤◌}
 use Rattle.store_files.specs.Folders.{Folder, IsSame, text_of}
 use Rattle.store_files.specs.Moments.{Elapses, LeavesOnly}
 use Rattle.repostore.specs.Saving.{OnlyReads}
-use Rattle.fsfs_lines.specs.declared.fault.FileFault.{FileFault}
-use Rattle.fsfs_lines.specs.declared.fault.FileFault.TheVariants.{Truncated, BadLine, Delta, Digest, Dangling, WrongFormat, NoMemory}
 use Rattle.store_files.specs.declared.name.FileName.TheVariants.{Current, Locks}
 use Rattle.store_files.specs.declared.fault.StoreFault.{StoreFault}
 use Rattle.store_files.specs.declared.fault.StoreFault.TheVariants as store
 use Rattle.repostore.specs.Current.{count_in}
-use Rattle.repostore.specs.Reading.{Faulty, HasFaultyRevision, IsFaulty, IfFileFaulty, IfFaulty}
+use Rattle.repostore.specs.Reading.{Faulty, HasFaultyRevision, IsFaulty, IfFaulty}
 use Rattle.repostore.proofs.Steps.{goes_on}
-
-file_faulty : (fault : FileFault) (P Q : Type 0) → (P → Q) → IfFileFaulty fault P → IfFileFaulty fault Q
-file_faulty NoMemory P Q gives is = tt
-file_faulty Truncated P Q gives is = gives is
-file_faulty BadLine P Q gives is = gives is
-file_faulty Delta P Q gives is = gives is
-file_faulty Digest P Q gives is = gives is
-file_faulty Dangling P Q gives is = gives is
-file_faulty WrongFormat P Q gives is = gives is
 
 -- what a fault of a file leads to
 pub faulty_gives : (fault : StoreFault) (P Q : Type 0) → (P → Q) → IfFaulty fault P → IfFaulty fault Q
 faulty_gives store.Device P Q gives is = tt
-faulty_gives (store.File fault) P Q gives is = file_faulty fault P Q gives is
-faulty_gives store.Halted P Q gives is = tt
+faulty_gives (store.File fault) P Q gives is = gives is
+faulty_gives store.Halted P Q gives is = absurd is
 faulty_gives store.NoMemory P Q gives is = tt
-faulty_gives store.Exists P Q gives is = tt
+faulty_gives store.Exists P Q gives is = absurd is
 
 -- a folder is faulty where the rest is that is read behind its first files
 pub rest_faulty : (faulty : Faulty) (f : Folder) (n : ℕ) → count_in (text_of (f Current)) ≡ Some n

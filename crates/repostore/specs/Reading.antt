@@ -65,12 +65,13 @@ IfFileFaulty Digest P = P
 IfFileFaulty Dangling P = P
 IfFileFaulty WrongFormat P = P
 
+-- where a file is told to be faulty, this holds; else the device failed, or memory was refused
 abbrev pub IfFaulty : StoreFault → Type 0 → Type 0
 IfFaulty store.Device P = Unit {0}
-IfFaulty (store.File fault) P = IfFileFaulty fault P
-IfFaulty store.Halted P = Unit {0}
 IfFaulty store.NoMemory P = Unit {0}
-IfFaulty store.Exists P = Unit {0}
+IfFaulty (store.File fault) P = P
+IfFaulty store.Halted P = ⊥
+IfFaulty store.Exists P = ⊥
 
 -- where a file is told to be faulty, this holds
 abbrev pub IfFindsFaulty : {T : Type 0} → Result T FileFault → Type 0 → Type 0

@@ -1,5 +1,5 @@
--- What the files stand for while a change is saved.
-use Rattle.std.proofs.Common.{◌≡◌, ◌⊎◌, inl, inr, ⊎_elim, ℕ, false, Option, Some, None, subst}
+-- Whose files a folder has while a change is saved.
+use Rattle.std.proofs.Common.{◌≡◌, ◌⊎◌, inl, inr, ⊎_elim, ℕ, false, Option, Some, None, refl, subst}
 use Rattle.std.proofs.Math.Logic.{∥∥₁_map, ∥∥₁_map₂}
 use Rattle.repo_api.specs.States.{RepoState}
 use Rattle.repo_api.specs.Locking.{without_released}
@@ -15,12 +15,11 @@ use Rattle.repostore.specs.Saving.{IsSaved}
 use Rattle.repostore.specs.declared.saves.Saves.{Saves}
 use Rattle.repostore.proofs.Steps.{begun, weaker}
 use Rattle.repostore.proofs.Joining.{join}
-use Rattle.store_access.specs.Keeping.{Keeps, StandsFor, StandsForEither, LeavesEither, LeavesOneOf}
+use Rattle.store_access.specs.Keeping.{Keeps, HasRepository, HasEitherRepository, LeavesEither, LeavesOneOf}
 
 module _ {S F : Type 0} (is_honest : S → Type 0) (holds : S → Folder)
     (may_leave : S → Folder → Type 0) (moment : S → ℕ) (left_since : S → ℕ → Folder → Type 0)
-    (stands_for : Files → RepoState → Type 0) (is_of : F → Files → Type 0) (content : F → RepoState)
-    (is_state : (r : F) (files : Files) → is_of r files → stands_for files (content r)) where
+    (content : F → RepoState) (is_of : F → Files → Type 0) where
   abbrev pub Kept : Saves S → F → Type 0
   Kept saves r = Keeps is_honest holds may_leave is_of saves r
 
@@ -28,20 +27,20 @@ module _ {S F : Type 0} (is_honest : S → Type 0) (holds : S → Folder)
   Saved = IsSaved is_honest holds may_leave
 
   abbrev pub Either : Saves S → Saves S → RepoState → RepoState → Type 0
-  Either old new = LeavesEither moment left_since stands_for old.store new.store
+  Either old new = LeavesEither content is_of moment left_since old.store new.store
 
-  stands : (r : F) (files : Files) (f : Folder) → is_of r files → HasFiles files f → StandsFor stands_for (content r) f
-  stands r files f of has = (files, has, is_state r files of)
+  stands : (r : F) (files : Files) (f : Folder) → is_of r files → HasFiles files f → HasRepository content is_of (content r) f
+  stands r files f of has = record { repository = r; files = files; has = has; of_these = of; contains = refl }
 
-  -- what is read stands for the repository, and so does what a stop leaves
+  -- what is read has the files of the repository, and so has what a stop leaves
   pub read_stands : (saves : Saves S) (r : F) → ∥ Kept saves r ∥₁ → is_honest saves.store → saves.is_halted ≡ false
-      → ∥ StandsFor stands_for (content r) (holds saves.store) ∥₁
+      → ∥ HasRepository content is_of (content r) (holds saves.store) ∥₁
   read_stands saves r kept honest goes_on = ∥∥₁_map kept (λ k.
       let i = k honest goes_on in
       stands r i.files (holds saves.store) i.of_these i.saved.stands.read)
 
   pub left_stands : (saves : Saves S) (r : F) → ∥ Kept saves r ∥₁ → is_honest saves.store → saves.is_halted ≡ false
-      → (f : Folder) → may_leave saves.store f → ∥ StandsFor stands_for (content r) f ∥₁
+      → (f : Folder) → may_leave saves.store f → ∥ HasRepository content is_of (content r) f ∥₁
   left_stands saves r kept honest goes_on f left = ∥∥₁_map kept (λ k.
       let i = k honest goes_on in
       stands r i.files f i.of_these (i.saved.stands.left f left))
@@ -55,7 +54,7 @@ module _ {S F : Type 0} (is_honest : S → Type 0) (holds : S → Folder)
   saves_either old new r next made kept goes_on of run honest = ∥∥₁_map kept (λ k.
       let i = k honest goes_on in
       weaker is_honest holds may_leave moment left_since old.store new.store
-      (HasEither i.files (made i.files)) (StandsForEither stands_for (content r) (content next))
+      (HasEither i.files (made i.files)) (HasEitherRepository content is_of (content r) (content next))
       (λ f. ⊎_elim (λ was. inl (stands r i.files f i.of_these was))
       (λ is. inr (stands next (made i.files) f (of i.files i.of_these) is)))
       (run i.files i.of_these i.saved))
@@ -85,12 +84,12 @@ module _ {S F : Type 0} (is_honest : S → Type 0) (holds : S → Folder)
   unmoved saves r after only_now kept goes_on honest = ∥∥₁_map kept (λ k.
       let i = k honest goes_on in
       weaker is_honest holds may_leave moment left_since saves.store saves.store
-      (HasFiles i.files) (StandsForEither stands_for (content r) after)
+      (HasFiles i.files) (HasEitherRepository content is_of (content r) after)
       (λ f was. inl (stands r i.files f i.of_these was))
       (begun is_honest holds may_leave moment left_since saves.store (HasFiles i.files) only_now i.saved.stands).run)
 
 -- a commit, and the release behind it
-module _ {S : Type 0} (moment : S → ℕ) (left_since : S → ℕ → Folder → Type 0) (stands_for : Files → RepoState → Type 0) where
+module _ {S F : Type 0} (moment : S → ℕ) (left_since : S → ℕ → Folder → Type 0) (content : F → RepoState) (is_of : F → Files → Type 0) where
   weaken : (start now : S) (P R : Folder → Type 0) → ((f : Folder) → P f → R f)
       → LeavesOnly moment left_since start now P → LeavesOnly moment left_since start now R
   weaken start now P R more run = record {
@@ -100,31 +99,31 @@ module _ {S : Type 0} (moment : S → ℕ) (left_since : S → ℕ → Folder �
   }
 
   pub one_of_either : (old new : S) (before between after : RepoState)
-      → ∥ LeavesEither moment left_since stands_for old new before between ∥₁
-      → ∥ LeavesOneOf moment left_since stands_for old new before between after ∥₁
+      → ∥ LeavesEither content is_of moment left_since old new before between ∥₁
+      → ∥ LeavesOneOf content is_of moment left_since old new before between after ∥₁
   one_of_either old new before between after run = ∥∥₁_map run (λ r.
-      weaken old new (StandsForEither stands_for before between)
-      (λ f. StandsForEither stands_for before between f ⊎ StandsFor stands_for after f) (λ f p. inl p) r)
+      weaken old new (HasEitherRepository content is_of before between)
+      (λ f. HasEitherRepository content is_of before between f ⊎ HasRepository content is_of after f) (λ f p. inl p) r)
 
   pub one_of_both : (old mid new : S) (before between after : RepoState)
-      → ∥ LeavesEither moment left_since stands_for old mid before between ∥₁
-      → ∥ LeavesEither moment left_since stands_for mid new between after ∥₁
-      → ∥ LeavesOneOf moment left_since stands_for old new before between after ∥₁
+      → ∥ LeavesEither content is_of moment left_since old mid before between ∥₁
+      → ∥ LeavesEither content is_of moment left_since mid new between after ∥₁
+      → ∥ LeavesOneOf content is_of moment left_since old new before between after ∥₁
   one_of_both old mid new before between after first then = ∥∥₁_map₂ first then (λ a b.
-      weaken old new (λ f. StandsForEither stands_for before between f ⊎ StandsForEither stands_for between after f)
-      (λ f. StandsForEither stands_for before between f ⊎ StandsFor stands_for after f)
+      weaken old new (λ f. HasEitherRepository content is_of before between f ⊎ HasEitherRepository content is_of between after f)
+      (λ f. HasEitherRepository content is_of before between f ⊎ HasRepository content is_of after f)
       (λ f. ⊎_elim (λ p. inl p) (⊎_elim (λ is. inl (inr is)) (λ is. inr is)))
-      (join moment left_since old mid new (StandsForEither stands_for before between) (StandsForEither stands_for between after) a b))
+      (join moment left_since old mid new (HasEitherRepository content is_of before between) (HasEitherRepository content is_of between after) a b))
 
   pub commit_released : (old mid new : S) (before between : RepoState) (ask : CommitAsk) (handed : Option Handed) → IsHandedIn ask handed
-      → ∥ LeavesEither moment left_since stands_for old mid before between ∥₁
-      → ∥ LeavesEither moment left_since stands_for mid new between (without_handed between handed) ∥₁
-      → ∥ LeavesOneOf moment left_since stands_for old new before between (without_released between ask.author ask.tokens) ∥₁
+      → ∥ LeavesEither content is_of moment left_since old mid before between ∥₁
+      → ∥ LeavesEither content is_of moment left_since mid new between (without_handed between handed) ∥₁
+      → ∥ LeavesOneOf content is_of moment left_since old new before between (without_released between ask.author ask.tokens) ∥₁
   commit_released old mid new before between ask None kept first then = ∥∥₁_map₂ first then (λ a b.
-      weaken old new (λ f. StandsForEither stands_for before between f ⊎ StandsForEither stands_for between between f)
-      (λ f. StandsForEither stands_for before between f ⊎ StandsFor stands_for (without_released between ask.author ask.tokens) f)
+      weaken old new (λ f. HasEitherRepository content is_of before between f ⊎ HasEitherRepository content is_of between between f)
+      (λ f. HasEitherRepository content is_of before between f ⊎ HasRepository content is_of (without_released between ask.author ask.tokens) f)
       (λ f. ⊎_elim (λ p. inl p) (⊎_elim (λ is. inl (inr is)) (λ is. inl (inr is))))
-      (join moment left_since old mid new (StandsForEither stands_for before between) (StandsForEither stands_for between between) a b))
+      (join moment left_since old mid new (HasEitherRepository content is_of before between) (HasEitherRepository content is_of between between) a b))
   commit_released old mid new before between ask (Some handed) kept first then =
       one_of_both old mid new before between (without_released between ask.author ask.tokens) first
-      (subst (λ (after : RepoState). ∥ LeavesEither moment left_since stands_for mid new between after ∥₁) (without ask handed between kept.1 kept.2) then)
+      (subst (λ (after : RepoState). ∥ LeavesEither content is_of moment left_since mid new between after ∥₁) (without ask handed between kept.1 kept.2) then)

@@ -26,20 +26,27 @@ Keeps is_honest holds may_leave is_of saves repository =
 abbrev pub StandsFor : (Files → RepoState → Type 0) → RepoState → Folder → Type 0
 StandsFor stands_for c f = (files : Files) × HasFiles files f × stands_for files c
 
--- they stand for the one or the other
-abbrev pub StandsForEither : (Files → RepoState → Type 0) → RepoState → RepoState → Folder → Type 0
-StandsForEither stands_for before after f =
-    StandsFor stands_for before f ⊎ StandsFor stands_for after f
+module _ {F : Type 0} (content : F → RepoState) (is_of : F → Files → Type 0) where
+  -- the folder has the files of a repository that contains this
+  pub record HasRepository (c : RepoState) (f : Folder) : Type 0 where
+    pub repository : F
+    pub files : Files
+    pub has : HasFiles files f
+    pub of_these : is_of repository files
+    pub contains : content repository ≡ c
 
--- a stop within a call, from here to there, leaves files that stand for the one or the other
-abbrev pub LeavesEither : {S : Type 0} → (S → ℕ) → (S → ℕ → Folder → Type 0)
-    → (Files → RepoState → Type 0) → S → S → RepoState → RepoState → Type 0
-LeavesEither moment left_since stands_for old new before after =
-    LeavesOnly moment left_since old new (StandsForEither stands_for before after)
+  -- it has those of the one or the other
+  abbrev pub HasEitherRepository : RepoState → RepoState → Folder → Type 0
+  HasEitherRepository before after f = HasRepository before f ⊎ HasRepository after f
 
--- or for a third
-abbrev pub LeavesOneOf : {S : Type 0} → (S → ℕ) → (S → ℕ → Folder → Type 0)
-    → (Files → RepoState → Type 0) → S → S → RepoState → RepoState → RepoState → Type 0
-LeavesOneOf moment left_since stands_for old new before between after =
-    LeavesOnly moment left_since old new
-    (λ f. StandsForEither stands_for before between f ⊎ StandsFor stands_for after f)
+  module _ {S : Type 0} (moment : S → ℕ) (left_since : S → ℕ → Folder → Type 0) where
+    -- a stop within a call, from here to there, leaves the files of the one or the other
+    abbrev pub LeavesEither : S → S → RepoState → RepoState → Type 0
+    LeavesEither old new before after =
+        LeavesOnly moment left_since old new (HasEitherRepository before after)
+
+    -- or of a third
+    abbrev pub LeavesOneOf : S → S → RepoState → RepoState → RepoState → Type 0
+    LeavesOneOf old new before between after =
+        LeavesOnly moment left_since old new
+        (λ f. HasEitherRepository before between f ⊎ HasRepository after f)

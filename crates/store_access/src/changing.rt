@@ -22,7 +22,7 @@ use store_files::Store;
 
 impl<F: Filed, S: Store> StoredRepository<F, S> {
     /// Makes the transaction the next revision, and then releases what was handed in with it. A stop at any moment
-    /// of the call leaves files that stand for the repository from before it, with the revision, or without the
+    /// of the call leaves the files of the repository from before it, with the revision, or without the
     /// released locks too.
     pub fn commit_in_files(&mut self, ask: CommitAsk, txn: F::Txn) -> Result<Committed, ChangeFault>
         requires rests { IsBeginning (F.txn_state txn).shown
@@ -35,7 +35,7 @@ impl<F: Filed, S: Store> StoredRepository<F, S> {
             (point_in F.content S.failed F.txn_state self.new.repository self.new.saves
             self.new.pending) }
         ensures stop { S.is_honest self.old.saves.store → self.old.saves.is_halted ≡ false
-            → ∥ LeavesOneOf S.moment S.left_since F.stands_for self.old.saves.store
+            → ∥ LeavesOneOf F.content F.is_of S.moment S.left_since self.old.saves.store
             self.new.saves.store (F.content self.old.repository)
             (committed (F.content self.old.repository) ask (F.txn_state txn))
             (without_released (committed (F.content self.old.repository) ask (F.txn_state txn))
@@ -74,7 +74,7 @@ impl<F: Filed, S: Store> StoredRepository<F, S> {
             (point_in F.content S.failed F.txn_state self.new.repository self.new.saves
             self.new.pending) }
         ensures stop { S.is_honest self.old.saves.store
-            → ∥ LeavesOneOf S.moment S.left_since F.stands_for self.old.saves.store
+            → ∥ LeavesOneOf F.content F.is_of S.moment S.left_since self.old.saves.store
             self.new.saves.store (F.content self.old.repository)
             (committed (F.content self.old.repository) ask (F.txn_state txn))
             (without_released (committed (F.content self.old.repository) ask (F.txn_state txn))
@@ -101,7 +101,7 @@ impl<F: Filed, S: Store> StoredRepository<F, S> {
     }
 
     /// Locks the path of a file, in place of a lock that stands there if that may be stolen. A stop at any moment of
-    /// the call leaves files that stand for the repository from before it, or with the lock.
+    /// the call leaves the files of the repository from before it, or with the lock.
     pub fn lock_in_files(&mut self, ask: LockAsk) -> Result<(), ChangeFault>
         ensures point { LocksAt sole_rules ask
             (point_in F.content S.failed F.txn_state self.old.repository self.old.saves
@@ -109,7 +109,7 @@ impl<F: Filed, S: Store> StoredRepository<F, S> {
             (point_in F.content S.failed F.txn_state self.new.repository self.new.saves
             self.new.pending) }
         ensures stop { S.is_honest self.old.saves.store → self.old.saves.is_halted ≡ false
-            → ∥ LeavesEither S.moment S.left_since F.stands_for self.old.saves.store
+            → ∥ LeavesEither F.content F.is_of S.moment S.left_since self.old.saves.store
             self.new.saves.store (F.content self.old.repository)
             (locked (F.content self.old.repository) ask) ∥₁ }
         ensures stays { self.old.saves.is_halted ≡ true → self.new.saves ≡ self.old.saves }
@@ -123,7 +123,7 @@ impl<F: Filed, S: Store> StoredRepository<F, S> {
         }
     }
 
-    /// Takes the lock at a path away. A stop at any moment of the call leaves files that stand for the repository
+    /// Takes the lock at a path away. A stop at any moment of the call leaves the files of the repository
     /// from before it, or without the lock.
     pub fn unlock_in_files(&mut self, ask: &UnlockAsk) -> Result<(), ChangeFault>
         ensures point { UnlocksAt sole_rules ask.now
@@ -132,7 +132,7 @@ impl<F: Filed, S: Store> StoredRepository<F, S> {
             (point_in F.content S.failed F.txn_state self.new.repository self.new.saves
             self.new.pending) }
         ensures stop { S.is_honest self.old.saves.store → self.old.saves.is_halted ≡ false
-            → ∥ LeavesEither S.moment S.left_since F.stands_for self.old.saves.store
+            → ∥ LeavesEither F.content F.is_of S.moment S.left_since self.old.saves.store
             self.new.saves.store (F.content self.old.repository)
             (unlocked (F.content self.old.repository) ask.now) ∥₁ }
         ensures stays { self.old.saves.is_halted ≡ true → self.new.saves ≡ self.old.saves }
@@ -150,7 +150,8 @@ impl<F: Filed, S: Store> StoredRepository<F, S> {
     }
 
     /// Makes this the value of a property of a revision, or takes the property out where there is no value, if the
-    /// value before is the one that is asked for. A stop at any moment of the call leaves files that stand for the repository from before it, or with the change.
+    /// value before is the one that is asked for. A stop at any moment of the call leaves the files of the repository
+    /// from before it, or with the change.
     pub fn change_property_in_files(&mut self, ask: PropertyAsk) -> Result<(), ChangeFault>
         ensures point { ChangesPropertyAt sole_rules ask
             (point_in F.content S.failed F.txn_state self.old.repository self.old.saves
@@ -158,7 +159,7 @@ impl<F: Filed, S: Store> StoredRepository<F, S> {
             (point_in F.content S.failed F.txn_state self.new.repository self.new.saves
             self.new.pending) }
         ensures stop { S.is_honest self.old.saves.store → self.old.saves.is_halted ≡ false
-            → ∥ LeavesEither S.moment S.left_since F.stands_for self.old.saves.store
+            → ∥ LeavesEither F.content F.is_of S.moment S.left_since self.old.saves.store
             self.new.saves.store (F.content self.old.repository)
             (with_changed_property (F.content self.old.repository) ask.revision ask.name ask.value) ∥₁ }
         ensures stays { self.old.saves.is_halted ≡ true → self.new.saves ≡ self.old.saves }

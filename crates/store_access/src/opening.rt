@@ -1,12 +1,13 @@
 //! A repository opened from its files.
 ghost use Rattle.std.specs.Prelude.{◌≡◌, Some, IfOk, IfErr, length};
+ghost use Rattle.repo_api.specs.States.{RepoState};
 ghost use Rattle.store_files.specs.Folders.{Folder, IsSame};
 ghost use Rattle.store_files.specs.Moments.{HasRisen};
 ghost use Rattle.repostore.specs.Current.{count_in};
 ghost use Rattle.repostore.specs.Files.{Files};
 ghost use Rattle.repostore.specs.Reading.{IsFaulty, IfFaulty};
 ghost use Rattle.repostore.specs.Saving.{OnlyReads};
-ghost use Rattle.store_access.specs.Keeping.{StandsFor};
+ghost use Rattle.store_access.specs.Keeping.{HasRepository, StandsFor};
 
 use crate::filed::Filed;
 use crate::stored::StoredRepository;
@@ -35,6 +36,10 @@ pub fn open_repository<S: Store, L: Loader>(
     ensures found { IfOk result (λ opened. S.is_honest opened.saves.store
         → StandsFor L.Repository.stands_for (L.Repository.content opened.repository)
         (S.holds store)) }
+    // Where the folder has the files of a repository, it is this one.
+    ensures same { IfOk result (λ opened. S.is_honest opened.saves.store
+        → (c : RepoState) → HasRepository L.Repository.content L.Repository.is_of c (S.holds store)
+        → L.Repository.content opened.repository ≡ c) }
     ensures faulty { IfErr result (λ unopened. S.is_honest unopened.store
         → IfFaulty unopened.fault (IsFaulty L.faulty (S.holds store))) }
     ensures device { IfErr result (λ unopened. unopened.fault ≡ StoreFault.Device

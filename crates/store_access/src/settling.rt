@@ -69,7 +69,7 @@ impl<F: Filed, S: Store> StoredRepository<F, S> {
             (point_in F.content S.failed F.txn_state self.new.repository self.new.saves
             self.new.pending) }
         ensures stop { S.is_honest self.old.saves.store
-            → ∥ LeavesEither S.moment S.left_since F.stands_for self.old.saves.store
+            → ∥ LeavesEither F.content F.is_of S.moment S.left_since self.old.saves.store
             self.new.saves.store (F.content self.old.repository) (F.content next) ∥₁ }
     {
         match self.saves.save_locks(file) {
@@ -102,7 +102,7 @@ impl<F: Filed, S: Store> StoredRepository<F, S> {
             (point_in F.content S.failed F.txn_state self.new.repository self.new.saves
             self.new.pending) }
         ensures stop { S.is_honest self.old.saves.store
-            → ∥ LeavesEither S.moment S.left_since F.stands_for self.old.saves.store
+            → ∥ LeavesEither F.content F.is_of S.moment S.left_since self.old.saves.store
             self.new.saves.store (F.content self.old.repository) (F.content next) ∥₁ }
     {
         match self.saves.save_rev_prop(new.revision, &new.file) {
@@ -139,7 +139,7 @@ impl<F: Filed, S: Store> StoredRepository<F, S> {
             self.new.pending) }
         ensures honest { S.is_honest self.old.saves.store → S.is_honest self.new.saves.store }
         ensures stop { S.is_honest self.old.saves.store
-            → ∥ LeavesEither S.moment S.left_since F.stands_for self.old.saves.store
+            → ∥ LeavesEither F.content F.is_of S.moment S.left_since self.old.saves.store
             self.new.saves.store (F.content self.old.repository) (F.content next) ∥₁ }
     {
         match self
@@ -167,7 +167,7 @@ impl<F: Filed, S: Store> StoredRepository<F, S> {
             (point_in F.content S.failed F.txn_state self.new.repository self.new.saves
             self.new.pending) }
         ensures stop { S.is_honest self.old.saves.store
-            → ∥ LeavesEither S.moment S.left_since F.stands_for self.old.saves.store
+            → ∥ LeavesEither F.content F.is_of S.moment S.left_since self.old.saves.store
             self.new.saves.store (F.content self.old.repository)
             (without_handed (F.content self.old.repository) handed) ∥₁ }
     {
@@ -186,7 +186,7 @@ impl<F: Filed, S: Store> StoredRepository<F, S> {
             (point_in F.content S.failed F.txn_state self.new.repository self.new.saves
             self.new.pending) }
         ensures stop { S.is_honest self.old.saves.store
-            → ∥ LeavesEither S.moment S.left_since F.stands_for self.old.saves.store
+            → ∥ LeavesEither F.content F.is_of S.moment S.left_since self.old.saves.store
             self.new.saves.store (F.content self.old.repository)
             (without_released (F.content self.old.repository) handed.user handed.tokens) ∥₁ }
     {

@@ -1,7 +1,7 @@
 //! A repository in files that one hub alone has.
 ghost use Rattle.std.specs.Prelude.{◌≡◌, false};
 ghost use Rattle.store_files.specs.Folders.{Folder};
-ghost use Rattle.store_access.specs.Keeping.{Keeps, StandsFor};
+ghost use Rattle.store_access.specs.Keeping.{Keeps, HasRepository};
 
 use crate::change::SavedChange;
 use crate::filed::Filed;
@@ -55,16 +55,16 @@ impl<F: Filed, S: Store> StoredRepository<F, S> {
         (repository, saves)
     }
 
-    /// Gives the store of the files. While changes are made, what it reads stands for what the repository contains, and
-    /// so does what a stop leaves now.
+    /// Gives the store of the files. While changes are made, what it reads has the files of the repository, and so has
+    /// what a stop leaves now.
     pub fn store(&self) -> &S
         ensures store { result.now ≡ self.now.saves.store }
         ensures holds { S.is_honest self.now.saves.store → self.now.saves.is_halted ≡ false
-            → ∥ StandsFor F.stands_for (F.content self.now.repository)
+            → ∥ HasRepository F.content F.is_of (F.content self.now.repository)
             (S.holds self.now.saves.store) ∥₁ }
         ensures leaves { S.is_honest self.now.saves.store → self.now.saves.is_halted ≡ false
             → (f : Folder) → S.may_leave self.now.saves.store f
-            → ∥ StandsFor F.stands_for (F.content self.now.repository) f ∥₁ }
+            → ∥ HasRepository F.content F.is_of (F.content self.now.repository) f ∥₁ }
     {
         self.saves.store()
     }

@@ -1,4 +1,4 @@
-use Rattle.filed_opening.proofs.Sane.{not_faulty}
+use Rattle.filed_opening.proofs.NotFaulty.{not_faulty}
 use Rattle.filed_opening.proofs.laws.files_of_a_repository_are_not_faulty.Goals as goal
 
 pub returns : goal.returns

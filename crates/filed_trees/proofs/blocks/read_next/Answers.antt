@@ -10,7 +10,7 @@ use Rattle.filed_trees.proofs.Reading.{for_all}
 use Rattle.std.specs.Prelude.{is_some}
 use Rattle.filed_trees.specs.Tables.{HasRows}
 use Rattle.noderevs.specs.Held.{blocks_of}
-use Rattle.filed_trees.proofs.High.{are_high}
+use Rattle.filed_trees.proofs.Heights.{are_high}
 use Rattle.filed_trees.proofs.blocks.read_next.Goals as goal
 
 pub returns-in_ok-changes-in-Ok-clause-tabled : goal.returns-in_ok-changes-in-Ok-clause-tabled

@@ -1,4 +1,4 @@
-use Rattle.filed_trees.proofs.One.{same_revisions}
+use Rattle.filed_trees.proofs.OneRepository.{same_revisions}
 use Rattle.filed_trees.proofs.laws.files_say_one_repository.Goals as goal
 
 pub returns : goal.returns

@@ -1,4 +1,4 @@
-use Rattle.filed_trees.proofs.Values.{same_next}
+use Rattle.filed_trees.proofs.SameNext.{same_next}
 use Rattle.filed_trees.proofs.laws.what_comes_next_depends_on_what_nodes_have.Goals as goal
 
 pub returns : goal.returns

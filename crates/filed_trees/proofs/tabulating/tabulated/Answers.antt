@@ -12,7 +12,7 @@ use Rattle.filed_trees.specs.Comparing.{IsLast}
 use Rattle.filed_trees.specs.Readable.{IsReadableFile, Judges}
 use Rattle.filed_trees.specs.Values.{IsFiledNext}
 use Rattle.filed_trees.proofs.Judged.{no_part}
-use Rattle.filed_trees.proofs.One.{last_changes_are, last_nodes, last_root_is}
+use Rattle.filed_trees.proofs.OneRepository.{last_changes_are, last_nodes, last_root_is}
 use Rattle.filed_trees.proofs.Read.{same_Ok}
 use Rattle.filed_trees.proofs.tabulating.tabulated.Goals as goal
 

@@ -1,4 +1,4 @@
-use Rattle.std.proofs.Common.{sym, subst}
+use Rattle.std.proofs.Common.{sym, subst, ap, ◌∙◌}
 use Rattle.hub_runs.specs.State.{HubState}
 use Rattle.store_access.specs.Keeping.{StandsFor}
 use Rattle.store_access.specs.Stored.{point_in}
@@ -18,4 +18,6 @@ returns-clause-found g c =
           subst (λ (hub : HubState). StandsFor files.StandsFor hub.content
           (g.S.Store.holds c.args.store)) (sym c.with_access.ensures)
           (c.in_ok-repository.ensures.found honest);
+      same = λ honest x has. ap (λ (hub : HubState). hub.content) c.with_access.ensures
+          ∙ c.in_ok-repository.ensures.same honest x has;
     }

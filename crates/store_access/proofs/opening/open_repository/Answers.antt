@@ -1,6 +1,7 @@
 use Rattle.std.proofs.Common.{subst, sym}
 use Rattle.repostore.proofs.Reaching.{has_count}
 use Rattle.store_access.specs.Keeping.{StandsFor}
+use Rattle.store_access.proofs.Alone.{alone}
 use Rattle.store_access.proofs.opening.open_repository.Goals as goal
 
 pub new-requires : goal.new-requires
@@ -23,3 +24,11 @@ returns-clause-found g c = λ honest.
     let of_these = c.finish.ensures found.files found.taken (has_count old found.files found.are) in
     subst (λ x. StandsFor r.Filed.stands_for (r.Repository.content x) old) (sym c.new.ensures.repository)
     (found.files, found.are, g.met.L.Repository.Filed.is_state c.finish.result found.files of_these)
+
+pub returns-clause-same : goal.returns-clause-same
+returns-clause-same g c = λ honest x has.
+    let r = g.L.Repository in
+    let met = g.met.L.Repository.Filed in
+    alone r.Repository.content r.Filed.is_of r.Filed.stands_for met.is_state met.one_state
+    x (r.Repository.content c.new.result.repository) (g.S.Store.holds c.args.store) has
+    (returns-clause-found g c honest)

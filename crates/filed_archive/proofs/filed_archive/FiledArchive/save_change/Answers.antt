@@ -12,7 +12,7 @@ invariant_of-self g c =
     let f = g.F.Filed in
     let writes = c.requires.writes.1 in
     record {
-      kept = kept_next s.is_honest s.holds s.may_leave s.moment s.left_since f.stands_for f.is_of g.F.Repository.content g.met.F.Filed.is_state
+      kept = kept_next s.is_honest s.holds s.may_leave s.moment s.left_since g.F.Repository.content f.is_of
           c.args.self.now.saves c.save_files.new.saves c.args.self.now.repository c.args.unsaved.next (λ files. written c.args.unsaved.files files)
           c.args.self.now.kept c.requires.running c.save_files.ensures.honest.1
           (λ files of. (writes.leads files of).0)
@@ -24,7 +24,7 @@ invariant_of-self-in-Err-1 g c =
     let s = g.S.Store in
     let f = g.F.Filed in
     record {
-      kept = kept_still s.is_honest s.holds s.may_leave s.moment s.left_since f.stands_for f.is_of g.F.Repository.content g.met.F.Filed.is_state
+      kept = kept_still s.is_honest s.holds s.may_leave s.moment s.left_since g.F.Repository.content f.is_of
           c.args.self.now.saves c.save_files.new.saves c.args.self.now.repository
           c.args.self.now.kept c.requires.running c.save_files.ensures.honest.1
           (λ files saved still. c.in-Err.ensures.refused files saved refl still);
@@ -35,8 +35,8 @@ returns-in-Ok-clause-stop g c = λ e writes honest.
     let s = g.S.Store in
     let f = g.F.Filed in
     let old = c.args.self.now in
-    subst (λ (x : RepoState). ∥ LeavesEither s.moment s.left_since f.stands_for old.saves.store c.save_files.new.saves.store (g.F.Repository.content old.repository) x ∥₁) writes.next
-    (saves_either s.is_honest s.holds s.may_leave s.moment s.left_since f.stands_for f.is_of g.F.Repository.content g.met.F.Filed.is_state
+    subst (λ (x : RepoState). ∥ LeavesEither g.F.Repository.content f.is_of s.moment s.left_since old.saves.store c.save_files.new.saves.store (g.F.Repository.content old.repository) x ∥₁) writes.next
+    (saves_either s.is_honest s.holds s.may_leave s.moment s.left_since g.F.Repository.content f.is_of
     old.saves c.save_files.new.saves old.repository c.args.unsaved.next (λ files. written c.args.unsaved.files files)
     old.kept c.requires.running (λ files of. (writes.leads files of).0)
     (λ files of saved. c.save_files.ensures.any_moment files saved (writes.leads files of).1) honest)
@@ -46,8 +46,8 @@ returns-in-Err-clause-stop g c = λ e writes honest.
     let s = g.S.Store in
     let f = g.F.Filed in
     let old = c.args.self.now in
-    subst (λ (x : RepoState). ∥ LeavesEither s.moment s.left_since f.stands_for old.saves.store c.save_files.new.saves.store (g.F.Repository.content old.repository) x ∥₁) writes.next
-    (saves_either s.is_honest s.holds s.may_leave s.moment s.left_since f.stands_for f.is_of g.F.Repository.content g.met.F.Filed.is_state
+    subst (λ (x : RepoState). ∥ LeavesEither g.F.Repository.content f.is_of s.moment s.left_since old.saves.store c.save_files.new.saves.store (g.F.Repository.content old.repository) x ∥₁) writes.next
+    (saves_either s.is_honest s.holds s.may_leave s.moment s.left_since g.F.Repository.content f.is_of
     old.saves c.save_files.new.saves old.repository c.args.unsaved.next (λ files. written c.args.unsaved.files files)
     old.kept c.requires.running (λ files of. (writes.leads files of).0)
     (λ files of saved. c.save_files.ensures.any_moment files saved (writes.leads files of).1) honest)

@@ -13,7 +13,7 @@ use Rattle.std.specs.Prelude.{All}
 use Rattle.noderevs.specs.Held.{node_at}
 use Rattle.noderevs.specs.Heights.{IsHeight}
 use Rattle.noderevs.specs.Nodes.{with_block}
-use Rattle.filed_trees.proofs.High.{heights_more}
+use Rattle.filed_trees.proofs.Heights.{heights_more}
 use Rattle.filed_trees.proofs.blocks.Reading.nodes.Goals as goal
 
 pub loop-row-preserved : goal.loop-row-preserved

@@ -7,7 +7,9 @@ use Rattle.filed_trees.specs.StandsFor.{revision_bytes}
 use Rattle.filed_world.specs.Files.{AreFilesOf}
 use Rattle.filed_world.proofs.Changed.{many_tables, revision_added}
 use Rattle.filed_world.proofs.Newest.{youngest_is}
-use Rattle.filed_world.specs.Histories.{HasHistory}
+use Rattle.noderevs.specs.Held.{blocks_of}
+use Rattle.filed_trees.specs.Tables.{AreTabled}
+use Rattle.filed_world.specs.Reading.{IsReadBack}
 use Rattle.filed_world.proofs.Further.{committed_history}
 use Rattle.filed_world.proofs.filed_world.FiledWorld.with_revision.Goals as goal
 
@@ -23,9 +25,8 @@ returns-clause-files c = λ files is.
     let old = c.args.self.now in
     let held = old.world.held.value in
     let new = c.args.world in
-    let table = c.in_ok-written.table in
     let next : Current = record {
-      youngest = c.len.result;
+      youngest = c.len-2.result;
       node = c.in_ok-written.written.current.node;
       copy = c.in_ok-written.written.current.copy;
     } in
@@ -38,22 +39,24 @@ returns-clause-files c = λ files is.
     let at : slice_get new.held.value.properties (length held.changes) ≡ Some c.in-Some.list.now =
     ap (slice_get new.held.value.properties) (sym young) ∙ sym c.in-Some.ensures in
     let bytes = revision_bytes files in
-    let made = c.in_ok-written.ensures bytes is.tabled in
+    let back : IsReadBack held old.tables new.held.value file c.in_ok-tables.tables =
+    subst (λ f. IsReadBack held old.tables new.held.value f c.in_ok-tables.tables) c.as_slice.ensures.value c.in_ok-tables.ensures in
+    let table = back.table in
     let some : 0 < length old.tables = let young = is.youngest in let many = many_tables held old.world.locks.value old.tables old.current files is in
     omega (arith, young, many) in
-    let has : HasHistory (bytes ++ file ∷ []) = subst (λ f. HasHistory (bytes ++ f ∷ [])) c.as_slice.ensures.value
-    (c.in_ok-check_next_revision.ensures bytes some is.history) in
-    let history = committed_history held new.held.value c.requires.more old.tables bytes file table is.history has
+    let made = subst (λ ts. AreTabled (bytes ++ file ∷ []) (blocks_of new.held.value.nodes) ts new.held.value.changes) back.tables_are
+    (back.tabled bytes is.tabled) in
+    let history = committed_history held new.held.value c.requires.more old.tables bytes file table is.history (back.history bytes is.history)
     (omega (arith, some, is.tabled.all, is.tabled.tabled)) made in
     let are = revision_added held old.world.locks.value old.tables old.current files is
     new.held.value c.in-Some.list.now table next file properties says c.requires.uuid c.requires.list
     at made history c.in_ok-properties.ensures
-    c.in_ok-current_file.ensures.read c.len.ensures.length in (
+    c.in_ok-current_file.ensures.read c.len-2.ensures.length in (
       subst (λ ls. AreFilesOf new.held.value ls c.in_ok-tables.tables next after)
           (sym c.requires.locks)
           (subst (λ ts. AreFilesOf new.held.value old.world.locks.value ts next after)
-          (sym c.in_ok-tables.ensures) are),
+          (sym back.tables_are) are),
       c.in_ok-current_file.ensures.count
-          ∙ ap (λ n. Some (n + 1)) (c.len.ensures.length
+          ∙ ap (λ n. Some (n + 1)) (c.len-2.ensures.length
           ∙ many_tables held old.world.locks.value old.tables old.current files is),
     )

@@ -11,7 +11,7 @@ pub returns-then-not-releases-clause-stop : goal.returns-then-not-releases-claus
 returns-then-not-releases-clause-stop g c = λ honest.
     let s = g.S.Store in
     let f = g.F.Filed in
-    unmoved s.is_honest s.holds s.may_leave s.moment s.left_since f.stands_for f.is_of g.F.Repository.content g.met.F.Filed.is_state
+    unmoved s.is_honest s.holds s.may_leave s.moment s.left_since g.F.Repository.content f.is_of
     c.args.self.now.saves c.args.self.now.repository (without_released (g.F.Repository.content c.args.self.now.repository) c.args.handed.user c.args.handed.tokens)
     (λ d. g.met.S.Store.only_now c.args.self.now.saves.store d) c.args.self.now.kept c.requires honest
 
@@ -19,7 +19,7 @@ pub returns-in-Err-clause-stop : goal.returns-in-Err-clause-stop
 returns-in-Err-clause-stop g c = λ honest.
     let s = g.S.Store in
     let f = g.F.Filed in
-    unmoved s.is_honest s.holds s.may_leave s.moment s.left_since f.stands_for f.is_of g.F.Repository.content g.met.F.Filed.is_state
+    unmoved s.is_honest s.holds s.may_leave s.moment s.left_since g.F.Repository.content f.is_of
     c.args.self.now.saves c.args.self.now.repository (without_released (g.F.Repository.content c.args.self.now.repository) c.args.handed.user c.args.handed.tokens)
     (λ d. g.met.S.Store.only_now c.args.self.now.saves.store d) c.args.self.now.kept c.requires honest
 

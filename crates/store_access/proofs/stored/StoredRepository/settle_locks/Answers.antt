@@ -8,7 +8,7 @@ invariant_of-self g c =
     let s = g.S.Store in
     let f = g.F.Filed in
     record {
-      kept = kept_next s.is_honest s.holds s.may_leave s.moment s.left_since f.stands_for f.is_of g.F.Repository.content g.met.F.Filed.is_state
+      kept = kept_next s.is_honest s.holds s.may_leave s.moment s.left_since g.F.Repository.content f.is_of
           c.args.self.now.saves c.save_locks.new.self c.args.self.now.repository c.args.next (λ files. with_locks files c.args.file.now)
           c.args.self.now.kept c.requires.goes_on c.save_locks.ensures.honest.1 c.requires.files
           (λ files of saved. c.in-Ok.ensures.saved files saved);
@@ -19,7 +19,7 @@ invariant_of-self-in-Err g c =
     let s = g.S.Store in
     let f = g.F.Filed in
     record {
-      kept = kept_still s.is_honest s.holds s.may_leave s.moment s.left_since f.stands_for f.is_of g.F.Repository.content g.met.F.Filed.is_state
+      kept = kept_still s.is_honest s.holds s.may_leave s.moment s.left_since g.F.Repository.content f.is_of
           c.args.self.now.saves c.save_locks.new.self c.args.self.now.repository
           c.args.self.now.kept c.requires.goes_on c.save_locks.ensures.honest.1
           (λ files saved still. c.in-Err.ensures.refused files saved refl still);
@@ -29,7 +29,7 @@ pub returns-in-Ok-clause-stop : goal.returns-in-Ok-clause-stop
 returns-in-Ok-clause-stop g c =
     let s = g.S.Store in
     let f = g.F.Filed in
-    saves_either s.is_honest s.holds s.may_leave s.moment s.left_since f.stands_for f.is_of g.F.Repository.content g.met.F.Filed.is_state
+    saves_either s.is_honest s.holds s.may_leave s.moment s.left_since g.F.Repository.content f.is_of
     c.args.self.now.saves c.save_locks.new.self c.args.self.now.repository c.args.next (λ files. with_locks files c.args.file.now)
     c.args.self.now.kept c.requires.goes_on c.requires.files (λ files of saved. c.save_locks.ensures.any_moment files saved)
 
@@ -37,6 +37,6 @@ pub returns-in-Err-clause-stop : goal.returns-in-Err-clause-stop
 returns-in-Err-clause-stop g c =
     let s = g.S.Store in
     let f = g.F.Filed in
-    saves_either s.is_honest s.holds s.may_leave s.moment s.left_since f.stands_for f.is_of g.F.Repository.content g.met.F.Filed.is_state
+    saves_either s.is_honest s.holds s.may_leave s.moment s.left_since g.F.Repository.content f.is_of
     c.args.self.now.saves c.save_locks.new.self c.args.self.now.repository c.args.next (λ files. with_locks files c.args.file.now)
     c.args.self.now.kept c.requires.goes_on c.requires.files (λ files of saved. c.save_locks.ensures.any_moment files saved)

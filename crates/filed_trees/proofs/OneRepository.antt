@@ -30,8 +30,8 @@ use Rattle.fsfs_nodes.specs.declared.entries.DirectoryEntry.{DirectoryEntry}
 use Rattle.std.specs.FinMap.{entries}
 use Rattle.noderevs.specs.Held.{blocks_of, node_at, root_at}
 use Rattle.noderevs.specs.declared.nodes.Nodes.{Nodes}
-use Rattle.filed_trees.proofs.Growing.{last_place}
 use Rattle.filed_trees.proofs.Rows.{forwards}
+use Rattle.noderevs.proofs.Pushing.{last_place}
 
 -- a file that is there says what it says
 said_by : (files : RevisionBytes) (n : ℕ) (said : List FilePiece × List FileChange) → revision_in files n ≡ Some said

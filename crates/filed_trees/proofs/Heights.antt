@@ -16,7 +16,7 @@ use Rattle.noderevs.specs.declared.node_rev.Block.{Block}
 use Rattle.noderevs.specs.declared.node_rev.NodeId.{NodeId}
 use Rattle.noderevs.specs.declared.node_rev.NodeRev.{NodeRev}
 use Rattle.noderevs.specs.declared.nodes.Nodes.{Nodes}
-use Rattle.noderevs.proofs.Pushing.{next_is_free}
+use Rattle.noderevs.proofs.Pushing.{last_place, next_is_free, other_place}
 use Rattle.fsfs_ids.specs.declared.id.FileId.{FileId}
 use Rattle.fsfs_ids.specs.declared.representation.Representation.{Representation}
 use Rattle.fsfs_nodes.specs.Entries.{entries_of}
@@ -34,8 +34,8 @@ use Rattle.filed_trees.specs.Readable.{AreReadable, IsReadable, IsTabled, kind_b
 use Rattle.filed_trees.specs.Tables.{AreTabled, HasRows, IsAt, IsFiled, IsPlaced, placed_in}
 use Rattle.filed_trees.specs.declared.table.Placed.{Placed}
 use Rattle.filed_trees.specs.declared.table.Table.{Table}
-use Rattle.filed_trees.proofs.Growing.{filed_more_files, last_file, last_place, last_revision, other_place}
-use Rattle.filed_trees.proofs.One.{of_revision, piece_at_place, rising}
+use Rattle.filed_trees.proofs.Growing.{filed_more_files, last_file, last_revision}
+use Rattle.filed_trees.proofs.OneRepository.{of_revision, piece_at_place, rising}
 use Rattle.filed_trees.proofs.Read.{LieBefore, entries_lie_before, pieces_of_last}
 use Rattle.filed_trees.proofs.Rows.{forwards}
 

@@ -1,28 +1,31 @@
 -- The files of a repository are not faulty.
-use Rattle.std.proofs.Common.{◌≡◌, ◌≤◌, ◌<◌, ℕ, zero, suc, List, [], ◌∷◌, ◌++◌, map, take, length, Option, Some, None, option_map, option_and_then, refl, sym, ap, subst, ◌∙◌, arith, ⊎_elim, length-append}
+use Rattle.std.proofs.Common.{◌≡◌, ◌≤◌, ◌<◌, ℕ, zero, suc, List, [], ◌∷◌, ◌++◌, map, take, length, Option, Some, None, option_map, option_and_then, refl, sym, ap, subst, ◌∙◌, arith, ⊎_elim, length-append, ◌⊎◌, inl, inr}
 use Rattle.std.proofs.lemmas.Bool.{cases_eq}
 use Rattle.std.proofs.lemmas.List.{length-map, map-append, take-append-le, take_all}
 use Rattle.std.proofs.lemmas.Option.{none-some, same_Some}
-use Rattle.std.specs.Prelude.{IsSome, slice_get}
+use Rattle.std.specs.Prelude.{IfErr, IsSome, Result, Ok, Err, slice_get}
 use Rattle.std.specs.Result.{result_ok}
 use Rattle.repo_api.specs.Properties.{PropertyList}
 use Rattle.store_files.specs.Folders.{Folder, text_of}
 use Rattle.store_files.specs.declared.name.FileName.TheVariants.{Current}
 use Rattle.repostore.specs.Current.{count_in}
 use Rattle.repostore.specs.Files.{Files, HasFiles, RevisionFiles, reached, revision_files, revisions_below}
-use Rattle.repostore.specs.Reading.{HasFaultyRevision, IsFaulty}
+use Rattle.repostore.specs.Reading.{HasFaultyRevision, IfFaulty, IsFaulty}
 use Rattle.fsfs_folder.specs.Properties.{properties_of}
 use Rattle.filed_trees.specs.StandsFor.{revision_bytes, locks_in}
 use Rattle.held.specs.declared.held.Held.{Held}
-use Rattle.filed_world.specs.Files.{IsOf}
+use Rattle.filed_world.specs.Files.{IsOf, filed_content}
+use Rattle.store_access.specs.Keeping.{HasRepository}
+use Rattle.store_files.specs.declared.fault.StoreFault.{StoreFault}
+use Rattle.store_files.specs.declared.fault.StoreFault.TheVariants.{Device, File, Halted, NoMemory, Exists}
+use Rattle.repo_api.specs.States.{RepoState}
 use Rattle.filed_world.specs.Histories.{ComesNext, HasHistory, History, IsHistory, AreSaid, first, held_history}
 use Rattle.filed_world.specs.declared.filed_world.FiledWorld.{FiledWorld}
 use Rattle.fsfs_folder.specs.Current.{current_of}
 use Rattle.fsfs_folder.specs.Identity.{uuid_of}
-use Rattle.filed_world.proofs.Histories.{other_of}
-use Rattle.filed_world.proofs.Newest.{last_of}
 use Rattle.filed_world.proofs.Changed.{said_is}
 use Rattle.filed_opening.specs.Faults.{folder_faults}
+use Rattle.noderevs.proofs.Pushing.{last_place, other_place}
 
 -- ---- the first of a history are one
 
@@ -105,10 +108,10 @@ module _ (folder : Folder) where
       (cases_eq n m)
     where
       last : (xs : List RevisionFiles) (x : RevisionFiles) → slice_get (xs ++ x ∷ []) (length xs) ≡ Some x
-      last xs x = last_of xs x
+      last xs x = last_place xs x
 
       before : (xs : List RevisionFiles) (x : RevisionFiles) (k : ℕ) → k < length xs → slice_get (xs ++ x ∷ []) k ≡ slice_get xs k
-      before xs x k lt = other_of xs x k (λ e. omega (arith, e, lt))
+      before xs x k lt = other_place xs x k (λ e. omega (arith, e, lt))
 
   module _ (f : FiledWorld) (files : Files) (is : IsOf f files) (m : ℕ) (count : count_in (text_of (folder Current)) ≡ Some m)
       (are : reached folder m ≡ files) where
@@ -169,3 +172,16 @@ not_faulty f files folder is has = by (count_in (text_of (folder Current))) refl
     by : (o : Option ℕ) → count_in (text_of (folder Current)) ≡ o → option_map (reached folder) o ≡ Some files → IsFaulty folder_faults folder → ⊥
     by None count e faulty = none-some files e
     by (Some m) count e faulty = no_fault folder f files is m count (same_Some (reached folder m) files e) faulty
+
+-- so a folder that has them is opened, unless the device or memory fails
+pub fails : (fault : StoreFault) (folder : Folder) → IfFaulty fault (IsFaulty folder_faults folder)
+    → (c : RepoState) → HasRepository filed_content IsOf c folder → (fault ≡ Device) ⊎ (fault ≡ NoMemory)
+fails Device folder is c has = inl refl
+fails NoMemory folder is c has = inr refl
+fails (File fault) folder is c has = absurd (not_faulty has.repository has.files folder has.of_these has.has is)
+fails Halted folder is c has = absurd is
+fails Exists folder is c has = absurd is
+
+pub err_gives : {T E : Type 0} {P Q : E → Type 0} (r : Result T E) → ((e : E) → P e → Q e) → IfErr r P → IfErr r Q
+err_gives (Ok x) gives is = tt
+err_gives (Err e) gives is = gives e is
