@@ -33,14 +33,14 @@ ghost use Rattle.hub_runs.specs.Done.{GoesOnBy, HasDone, HaveDone};
 ghost use Rattle.hub.specs.CallLaws.{CallsHaveDone};
 ghost use Rattle.hub_runs.specs.State.{HubState, HasTrees, hub_at, session_of};
 ghost use Rattle.hub_runs.specs.Runs.{Event, HubStep, HubRun, with_rest};
+ghost use Rattle.hub.specs.Always.{Always, AlwaysBy};
 ghost use Rattle.hub.specs.Calls.{CallRun};
 ghost use Rattle.hub.specs.declared.calls.Call.{Call};
 ghost use Rattle.hub.specs.declared.calls.Outcome.{Outcome};
 
-/// Shows that the trees and changes of revisions that exist stay the same, whatever happens.
+/// Shows that the trees and changes of revisions that exist stay the same, whatever happens, and whatever calls come.
 pub fn revisions_stay()
-    ensures { (old new : HubState) (env after : Env) (events : List Event) (told : List Reply)
-        → HubRun old env events told new after → IsBeginning old.content.revisions new.content.revisions }
+    ensures { Always (λ old new. IsBeginning old.content.revisions new.content.revisions) }
 {}
 
 /// Shows that an event adds at most one revision.
@@ -97,12 +97,7 @@ pub fn nothing_else_is_asked_for()
 /// Shows that, whatever happens, and whatever calls come, the repository has gone on by the changes that were asked
 /// for, each accepted in the state that those before it make, and by nothing else.
 pub fn only_accepted_changes()
-    ensures events { (old new : HubState) (env after : Env) (events : List Event) (told : List Reply)
-        (run : HubRun old env events told new after) (changes : List Accepted)
-        → HaveDone old env events told new after run changes → GoesOnBy old.content changes new.content }
-    ensures calls { (old new : HubState) (calls : List Call) (outcomes : List Outcome)
-        (run : CallRun old calls outcomes new) (changes : List Accepted)
-        → CallsHaveDone old calls outcomes new run changes → GoesOnBy old.content changes new.content }
+    ensures { AlwaysBy (λ old changes new. GoesOnBy old.content changes new.content) }
 {}
 
 /// Shows that changes that were asked for respect locks, at an event, whatever happens, and whatever calls come: each
@@ -110,14 +105,7 @@ pub fn only_accepted_changes()
 /// the lock stays as it was; and where no two locks have one token, and each new lock has a token that none has then,
 /// no two come to have one.
 pub fn locks_are_respected()
-    ensures event { (old new : HubState) (env after : Env) (event : Event) (changes : List Accepted) (told : List Reply)
-        → HasDone old env event changes told new after → RespectLocks old.content changes new.content }
-    ensures events { (old new : HubState) (env after : Env) (events : List Event) (told : List Reply)
-        (run : HubRun old env events told new after) (changes : List Accepted)
-        → HaveDone old env events told new after run changes → RespectLocks old.content changes new.content }
-    ensures calls { (old new : HubState) (calls : List Call) (outcomes : List Outcome)
-        (run : CallRun old calls outcomes new) (changes : List Accepted)
-        → CallsHaveDone old calls outcomes new run changes → RespectLocks old.content changes new.content }
+    ensures { AlwaysBy (λ old changes new. RespectLocks old.content changes new.content) }
 {
     only_accepted_changes();
     pathlocks::accepted_commits_hold_locks();
@@ -144,39 +132,17 @@ pub fn no_two_locks_have_one_token()
     pathlocks::tokens_stay_distinct();
 }
 
-/// Shows that, whatever calls come, the trees and changes of revisions that exist stay the same.
-pub fn calls_keep_history()
-    ensures { (old new : HubState) (calls : List Call) (outcomes : List Outcome)
-        → CallRun old calls outcomes new → IsBeginning old.content.revisions new.content.revisions }
-{}
-
 /// Shows that the settings and the repository's name among all repositories never change.
 pub fn constants_stay()
-    ensures events { (old new : HubState) (env after : Env) (events : List Event) (told : List Reply)
-        → HubRun old env events told new after → KeepsConstants old new }
-    ensures calls { (old new : HubState) (calls : List Call) (outcomes : List Outcome)
-        → CallRun old calls outcomes new → KeepsConstants old new }
+    ensures { Always KeepsConstants }
 {}
 
 /// Shows that properties of revisions that exist stay the same, but for those that were asked to be changed: at an
 /// event, whatever happens, and whatever calls come. Where clients may not change them, all stay the same.
 pub fn revision_properties_stay()
-    ensures event { (old new : HubState) (env after : Env) (event : Event) (changes : List Accepted) (told : List Reply)
-        → HasDone old env event changes told new after → KeepsOtherProperties old.content changes new.content }
-    ensures events { (old new : HubState) (env after : Env) (events : List Event) (told : List Reply)
-        (run : HubRun old env events told new after) (changes : List Accepted)
-        → HaveDone old env events told new after run changes
-        → KeepsOtherProperties old.content changes new.content }
-    ensures calls { (old new : HubState) (calls : List Call) (outcomes : List Outcome)
-        (run : CallRun old calls outcomes new) (changes : List Accepted)
-        → CallsHaveDone old calls outcomes new run changes
-        → KeepsOtherProperties old.content changes new.content }
-    ensures closed_events { (old new : HubState) (env after : Env) (events : List Event)
-        (told : List Reply) → old.settings.revprops ≡ false → HubRun old env events told new after
-        → KeepsProperties old.content new.content }
-    ensures closed_calls { (old new : HubState) (calls : List Call) (outcomes : List Outcome)
-        → old.settings.revprops ≡ false → CallRun old calls outcomes new
-        → KeepsProperties old.content new.content }
+    ensures others { AlwaysBy (λ old changes new. KeepsOtherProperties old.content changes new.content) }
+    ensures closed { Always (λ old new. old.settings.revprops ≡ false
+        → KeepsProperties old.content new.content) }
 {
     only_accepted_changes();
     repo_laws::changes_of_properties_keep_revisions();
@@ -184,34 +150,21 @@ pub fn revision_properties_stay()
 
 /// Shows that the count of the store's failures never falls.
 pub fn failures_never_fall()
-    ensures events { (old new : HubState) (env after : Env) (events : List Event) (told : List Reply)
-        → HubRun old env events told new after → old.failures ≤ last_count → old.failures ≤ new.failures }
-    ensures calls { (old new : HubState) (calls : List Call) (outcomes : List Outcome)
-        → CallRun old calls outcomes new → old.failures ≤ last_count → old.failures ≤ new.failures }
+    ensures { Always (λ old new. old.failures ≤ last_count → old.failures ≤ new.failures) }
 {}
 
 /// Shows that, where the store has not failed, changes have not come to a halt. (By its count, which stays at its
 /// greatest value.)
 pub fn halts_are_counted()
-    ensures events { (old new : HubState) (env after : Env) (events : List Event) (told : List Reply)
-        → HubRun old env events told new after
-        → old.failures < last_count → new.failures ≡ old.failures → new.halted ≡ old.halted }
-    ensures calls { (old new : HubState) (calls : List Call) (outcomes : List Outcome)
-        → CallRun old calls outcomes new
-        → old.failures < last_count → new.failures ≡ old.failures → new.halted ≡ old.halted }
+    ensures { Always (λ old new. old.failures < last_count → new.failures ≡ old.failures
+        → new.halted ≡ old.halted) }
 {}
 
 /// Shows that after a halt nothing changes the repository any more, it stays so, and what was being saved then stays
 /// known.
 pub fn a_halt_stays()
-    ensures events { (old new : HubState) (env after : Env) (events : List Event) (told : List Reply)
-        → HubRun old env events told new after
-        → old.halted ≡ true → (new.halted ≡ true) × (new.content ≡ old.content)
-        × (new.pending ≡ old.pending) }
-    ensures calls { (old new : HubState) (calls : List Call) (outcomes : List Outcome)
-        → CallRun old calls outcomes new
-        → old.halted ≡ true → (new.halted ≡ true) × (new.content ≡ old.content)
-        × (new.pending ≡ old.pending) }
+    ensures { Always (λ old new. old.halted ≡ true → (new.halted ≡ true)
+        × (new.content ≡ old.content) × (new.pending ≡ old.pending)) }
 {}
 
 /// Shows that what a stream brings does not depend on how it is cut: what the first part brings comes first, and then
@@ -225,12 +178,9 @@ pub fn cut_anywhere()
 /// Shows that every tree is a tree, those of the revisions and those of the open edits: where it is so, it stays so,
 /// whatever happens, whatever has come of a stream, and whatever calls come.
 pub fn trees_stay_trees()
-    ensures events { (old new : HubState) (env after : Env) (events : List Event) (told : List Reply)
-        → HasTrees old → HubRun old env events told new after → HasTrees new }
+    ensures always { Always (λ old new. HasTrees old → HasTrees new) }
     ensures streams { (old : HubState) (n : ℕ) (session : SessionState) (rest : List ℕ)
         → session_of old.sessions n ≡ Some session → HasTrees old → HasTrees (with_rest old n session rest) }
-    ensures calls { (old new : HubState) (calls : List Call) (outcomes : List Outcome)
-        → HasTrees old → CallRun old calls outcomes new → HasTrees new }
 {
     machine::steps_keep_trees();
 }
@@ -238,14 +188,7 @@ pub fn trees_stay_trees()
 /// Shows that a commit never overwrites what was changed since its base, by others or by its transaction, whatever
 /// happens to a hub in which every tree is a tree, and whatever it is called for.
 pub fn commits_overwrite_nothing()
-    ensures events { (old new : HubState) (env after : Env) (events : List Event) (told : List Reply)
-        (run : HubRun old env events told new after) (changes : List Accepted)
-        → HaveDone old env events told new after run changes → HasTrees old
-        → AllKeepSides old.content changes }
-    ensures calls { (old new : HubState) (calls : List Call) (outcomes : List Outcome)
-        (run : CallRun old calls outcomes new) (changes : List Accepted)
-        → CallsHaveDone old calls outcomes new run changes → HasTrees old
-        → AllKeepSides old.content changes }
+    ensures { AlwaysBy (λ old changes new. HasTrees old → AllKeepSides old.content changes) }
 {
     machine::steps_keep_trees();
 }
@@ -273,21 +216,16 @@ pub fn new_trees_are_trees()
 /// Shows that the tree of each revision is a tree, whatever happens to a hub in which every tree is one, and whatever
 /// it is called for.
 pub fn revisions_are_trees()
-    ensures events { (old new : HubState) (env after : Env) (events : List Event) (told : List Reply)
-        → HasTrees old → HubRun old env events told new after → AreTrees new.content.revisions }
-    ensures calls { (old new : HubState) (calls : List Call) (outcomes : List Outcome)
-        → HasTrees old → CallRun old calls outcomes new → AreTrees new.content.revisions }
+    ensures { Always (λ old new. HasTrees old → AreTrees new.content.revisions) }
 {
     trees_stay_trees();
 }
 
-/// Marks name what they mark, whatever happens to such a hub: in the tree of each revision no mark is open, a `last`
-/// names all that is at and under its path, and an `own` the kind, the properties and the text there.
+/// Shows that marks name what they mark, whatever happens to such a hub, and whatever it is called for: in the tree of
+/// each revision no mark is open, a `last` names all that is at and under its path, and an `own` the kind, the
+/// properties and the text there.
 pub fn marks_name_what_they_mark()
-    ensures events { (old new : HubState) (env after : Env) (events : List Event) (told : List Reply)
-        → HasTrees old → HubRun old env events told new after → AreMarked (trees_in new.content.revisions) }
-    ensures calls { (old new : HubState) (calls : List Call) (outcomes : List Outcome)
-        → HasTrees old → CallRun old calls outcomes new → AreMarked (trees_in new.content.revisions) }
+    ensures { Always (λ old new. HasTrees old → AreMarked (trees_in new.content.revisions)) }
 {
     trees_stay_trees();
 }

@@ -2,8 +2,8 @@ use Rattle.hub_runs.proofs.Failing.{run_counted, never_falls}
 use Rattle.hub.proofs.Calling.{calls_counted}
 use Rattle.hub.proofs.laws.failures_never_fall.Goals as goal
 
-pub returns-clause-events : goal.returns-clause-events
-returns-clause-events c = λ old new env after events told run. never_falls old new (run_counted old new env after events told run)
-
-pub returns-clause-calls : goal.returns-clause-calls
-returns-clause-calls c = λ old new calls outcomes run. never_falls old new (calls_counted old new calls outcomes run)
+pub returns : goal.returns
+returns c = (
+  λ old new env after events told run. never_falls old new (run_counted old new env after events told run),
+  λ old new calls outcomes run. never_falls old new (calls_counted old new calls outcomes run),
+)

@@ -2,8 +2,8 @@ use Rattle.hub_runs.proofs.Failing.{run_counted, not_halted}
 use Rattle.hub.proofs.Calling.{calls_counted}
 use Rattle.hub.proofs.laws.halts_are_counted.Goals as goal
 
-pub returns-clause-events : goal.returns-clause-events
-returns-clause-events c = λ old new env after events told run. not_halted old new (run_counted old new env after events told run)
-
-pub returns-clause-calls : goal.returns-clause-calls
-returns-clause-calls c = λ old new calls outcomes run. not_halted old new (calls_counted old new calls outcomes run)
+pub returns : goal.returns
+returns c = (
+  λ old new env after events told run. not_halted old new (run_counted old new env after events told run),
+  λ old new calls outcomes run. not_halted old new (calls_counted old new calls outcomes run),
+)
