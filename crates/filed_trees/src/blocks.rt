@@ -49,12 +49,11 @@ struct Reading<'a> {
     changes: &'a BTreeMap<Path, Change>,
 }
 
-/// Makes the content of a file with these bytes.
-fn file_of(alloc: Global, bytes: &[u8]) -> Result<Arc<Content>, AllocError>
-    ensures { IfOk result (λ content. arc_value content ≡ contents.File bytes.now) }
+/// Makes the content of a file with this text, which is shared.
+fn file_of(alloc: Global, text: &FileText) -> Result<Arc<Content>, AllocError>
+    ensures { IfOk result (λ content. arc_value content ≡ contents.File text.now) }
 {
-    let bytes = Arc::new(alloc, Vec::from_slice(alloc, bytes)?)?;
-    Ok(Arc::new(alloc, Content::File(FileText::from_shared(bytes)))?)
+    Ok(Arc::new(alloc, Content::File(text.clone()?))?)
 }
 
 /// Shares the text of the predecessor.
@@ -95,7 +94,7 @@ impl Reading<'_> {
     {
         match body {
             Body::Empty => Ok(Arc::new(self.alloc, Content::File(FileText::empty()))?),
-            Body::New(bytes) => Ok(file_of(self.alloc, bytes)?),
+            Body::New(text) => Ok(file_of(self.alloc, text)?),
             Body::Kept => text_before(earlier),
         }
     }
@@ -115,7 +114,7 @@ impl Reading<'_> {
     {
         match body {
             Body::Empty => Ok(SharedMap::new(self.alloc)),
-            Body::New(bytes) => read_kids(self.alloc, self.places, bytes, earlier),
+            Body::New(dump) => read_kids(self.alloc, self.places, dump.as_slice(), earlier),
             Body::Kept => same_kids(self.alloc, earlier),
         }
     }
@@ -164,7 +163,10 @@ impl Reading<'_> {
         let kept = earlier_properties(earlier);
         match body_of(self.revision(), line, &piece.properties, kept)? {
             Body::Empty => Ok(Arc::new(self.alloc, Properties::new(self.alloc))?),
-            Body::New(bytes) => Ok(Arc::new(self.alloc, read_properties(self.alloc, bytes)?)?),
+            Body::New(dump) => Ok(Arc::new(
+                self.alloc,
+                read_properties(self.alloc, dump.as_slice())?,
+            )?),
             Body::Kept => match earlier {
                 Some(earlier) => Ok(Arc::try_clone(&earlier.node.properties)?),
                 None => Err(FileFault::Dangling),

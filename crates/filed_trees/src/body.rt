@@ -4,16 +4,16 @@ ghost use Rattle.filed_trees.specs.Pieces.{RevisionBytes};
 ghost use Rattle.filed_trees.specs.Comparing.{CameWith, IsBody, IsHere};
 ghost use Rattle.filed_trees.specs.Readable.{IsKept, IsSaid, Judges};
 
-use byte_string::ByteString;
 use fsfs_ids::Representation;
 use fsfs_lines::FileFault;
+use repo_api::FileText;
 
 /// Says what a line gives: nothing where there is none, what came with it, or what the predecessor's
 /// line gives.
 #[derive(Clone, Copy)]
 pub(crate) enum Body<'a> {
     Empty,
-    New(&'a [u8]),
+    New(&'a FileText),
     Kept,
 }
 
@@ -33,7 +33,7 @@ fn is_same_line(line: Representation, other: Representation) -> bool
 pub(crate) fn body_of<'a>(
     revision: u32,
     line: Option<Representation>,
-    new: &'a Option<ByteString>,
+    new: &'a Option<FileText>,
     kept: Option<Representation>,
 ) -> Result<Body<'a>, FileFault>
     ensures body { IfOk result (λ body. (files : RevisionBytes)
@@ -46,7 +46,7 @@ pub(crate) fn body_of<'a>(
     };
     if line.revision == revision {
         return match new {
-            Some(bytes) => Ok(Body::New(bytes.as_slice())),
+            Some(bytes) => Ok(Body::New(bytes)),
             None => Err(FileFault::Dangling),
         };
     }

@@ -1,6 +1,6 @@
 //! Writing a node revision.
 
-use crate::body::{Before, Body, dump_of};
+use crate::body::{Before, Body, digested, dump_of};
 use crate::copies::{CopyRoot, NewCopy, Origin, Predecessor};
 use crate::entries::kind_of;
 use crate::revision::Revision;
@@ -31,12 +31,12 @@ impl Revision<'_> {
     ) -> Result<FileId, AllocError> {
         let content: &Content = &draft.node.content;
         if let Content::File(text) = content {
-            let body = Body::of(text.as_slice(), text_before(draft.origin.predecessor));
+            let body = Body::of(text, text_before(draft.origin.predecessor));
             return self.write_with(alloc, out, body, draft);
         }
-        let dump = self.entries_dump(alloc, written, draft.node)?;
+        let dump = digested(alloc, self.entries_dump(alloc, written, draft.node)?)?;
         let before = self.entries_before(alloc, written, &draft)?;
-        let body = Body::of(dump.as_slice(), line_before(&before, text_line(&draft)));
+        let body = Body::of(&dump, line_before(&before, text_line(&draft)));
         self.write_with(alloc, out, body, draft)
     }
 
@@ -65,12 +65,9 @@ impl Revision<'_> {
         text: Body<'_>,
         draft: Draft<'_>,
     ) -> Result<FileId, AllocError> {
-        let dump = dump_of(alloc, &draft.node.properties)?;
+        let dump = digested(alloc, dump_of(alloc, &draft.node.properties)?)?;
         let before = properties_before(alloc, draft.origin.predecessor)?;
-        let properties = Body::of(
-            dump.as_slice(),
-            line_before(&before, properties_line(&draft)),
-        );
+        let properties = Body::of(&dump, line_before(&before, properties_line(&draft)));
         let mut lines = self.lines(alloc, draft)?;
         lines.text = text.kept;
         lines.properties = properties.kept;

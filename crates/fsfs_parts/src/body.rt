@@ -1,32 +1,34 @@
 //! Plain representations.
 ghost use Rattle.std.specs.Prelude.{◌≡◌, ◌++◌, length, OnOk, IfOk};
-ghost use Rattle.md5.specs.Md5.{md5};
-ghost use Rattle.fsfs_lines.specs.Reading.{Gives};
+ghost use Rattle.fsfs_lines.specs.Reading.{Answers, Gives};
 ghost use Rattle.fsfs_parts.specs.Bodies.{body_bytes, rest_at, plain_at, body_of, body_at, representation_at};
 
 use fsfs_ids::Representation;
 use fsfs_lines::{FileFault, line_at, without_prefix};
-use md5::{Digest, Md5};
-use std::alloc::AllocError;
+use repo_api::FileText;
+use std::alloc::{AllocError, Global};
+use std::sync::Arc;
 
-/// Appends a representation of the bytes to the file of a revision, and gives its line.
+/// Appends a representation of these bytes to the file of a revision, and gives its line, which has the
+/// digest that is kept with them.
 pub fn append_body(
     out: &mut Vec<u8>,
     revision: u32,
-    body: &[u8],
+    body: &FileText,
 ) -> Result<Representation, AllocError>
     ensures { IfOk result (λ named. (named ≡ representation_at revision (length out.old.items) body.now)
         × (out.new.items ≡ out.old.items ++ body_bytes body.now)) }
 {
+    let bytes = body.as_slice();
     let representation = Representation {
         revision,
         offset: out.len() as u64,
-        length: body.len() as u64,
-        size: body.len() as u64,
-        digest: Md5::digest(body),
+        length: bytes.len() as u64,
+        size: bytes.len() as u64,
+        digest: body.digest(),
     };
     out.extend_from_slice(b"PLAIN\n")?;
-    out.extend_from_slice(body)?;
+    out.extend_from_slice(bytes)?;
     out.extend_from_slice(b"ENDREP\n")?;
     Ok(representation)
 }
@@ -74,26 +76,29 @@ fn body_of(len: u64, bytes: &[u8]) -> Result<&[u8], FileFault>
     }
 }
 
-/// Reads the bytes of the representation that a line of this file names.
+/// Reads the bytes of the representation that a line of this file names, with their digest, which is
+/// computed once and compared.
 ///
 /// # Errors
 ///
 /// `Truncated` where the file ends within it, `Delta` for another representation than a plain one,
-/// `BadLine` where its first or last line is another or a size is named that isn't its length, and
-/// `Digest`.
+/// `BadLine` where its first or last line is another or a size is named that isn't its length, `Digest`,
+/// and `NoMemory` for the copy.
 #[tactic(auto, unfolding(crate::specs::Bodies::body_at))]
-pub fn read_body<'a>(
-    bytes: &'a [u8],
+pub fn read_body(
+    alloc: Global,
+    bytes: &[u8],
     representation: &Representation,
-) -> Result<&'a [u8], FileFault>
-    ensures { Gives (λ body. body.now) result (body_at bytes.now representation.now) }
+) -> Result<FileText, FileFault>
+    ensures { Answers (λ body. body) result (body_at bytes.now representation.now) }
 {
     let rest = plain_at(rest_at(bytes, representation.offset)?)?;
     if representation.size != representation.length {
         return Err(FileFault::BadLine);
     }
     let body = body_of(representation.length, rest)?;
-    if Md5::digest(body) != representation.digest {
+    let body = FileText::from_shared(Arc::new(alloc, Vec::from_slice(alloc, body)?)?);
+    if body.digest() != representation.digest {
         return Err(FileFault::Digest);
     }
     Ok(body)

@@ -3,18 +3,18 @@ ghost use Rattle.std.specs.Prelude.{◌≡◌};
 ghost use Rattle.fsfs_lines.specs.Reading.{Answers};
 ghost use Rattle.fsfs_reading.specs.Pieces.{new_body, piece_at, entries_in};
 
-use byte_string::ByteString;
 use fsfs_ids::Representation;
 use fsfs_lines::FileFault;
 use fsfs_nodes::{DirectoryEntry, EntryKind, FileNode, read_entries, read_node};
 use fsfs_parts::read_body;
+use repo_api::FileText;
 use std::alloc::Global;
 
 /// Holds a node revision, and the new text (or entries) and the new properties that come with it.
 #[derive(Debug, Drop)]
 pub struct FilePiece {
-    pub text: Option<ByteString>,
-    pub properties: Option<ByteString>,
+    pub text: Option<FileText>,
+    pub properties: Option<FileText>,
     pub node: FileNode,
 }
 
@@ -24,7 +24,7 @@ fn read_new(
     revision: u32,
     bytes: &[u8],
     line: Option<Representation>,
-) -> Result<Option<ByteString>, FileFault>
+) -> Result<Option<FileText>, FileFault>
     ensures { Answers (λ body. body) result (new_body revision bytes.now line) }
 {
     let Some(representation) = line else {
@@ -33,9 +33,7 @@ fn read_new(
     if representation.revision != revision {
         return Ok(None);
     }
-    let body = read_body(bytes, &representation)?;
-    let copy = ByteString::from_slice(alloc, body)?;
-    Ok(Some(copy))
+    Ok(Some(read_body(alloc, bytes, &representation)?))
 }
 
 /// Reads the node revision at an offset of a revision's file, and what comes with it.

@@ -7,6 +7,7 @@ ghost use Rattle.fsfs_writing.specs.Files.{brought, named_line, placed_node, pie
 use fsfs_ids::Representation;
 use fsfs_nodes::{FileNode, append_node};
 use fsfs_parts::{FileChange, Trailer, append_body, append_changes, append_trailer};
+use repo_api::FileText;
 use std::alloc::AllocError;
 
 /// Appends a new representation, if there is one, and gives the line: its own, or the one that is
@@ -14,7 +15,7 @@ use std::alloc::AllocError;
 fn write_body(
     out: &mut Vec<u8>,
     revision: u32,
-    body: Option<&[u8]>,
+    body: Option<&FileText>,
     kept: Option<Representation>,
 ) -> Result<Option<Representation>, AllocError>
     ensures { IfOk result (λ line.
@@ -32,8 +33,8 @@ fn write_body(
 /// its lines for the text and the properties are those that are kept where nothing new comes.
 pub fn write_node(
     out: &mut Vec<u8>,
-    text: Option<&[u8]>,
-    properties: Option<&[u8]>,
+    text: Option<&FileText>,
+    properties: Option<&FileText>,
     draft: FileNode,
 ) -> Result<FileNode, AllocError>
     ensures { IfOk result (λ node.
