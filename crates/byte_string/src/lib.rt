@@ -6,10 +6,8 @@
 //! begins another is less.
 #![tactic(auto)]
 
-ghost use Rattle.std.specs.Prelude.{◌≡◌, ◌==◌, ℕ, List, refl, Some, IfOk};
-ghost use Rattle.std.specs.Cmp.{partial_equiv_from_equiv};
-ghost use Rattle.std.specs.Cmp.Lexicographic.{slice_cmp, pointwise, texts_ties, texts_po};
-ghost use Rattle.std.specs.Ordering.{nat_cmp};
+ghost use Rattle.std.specs.{Prelude.{◌≡◌, ◌==◌, ℕ, List, refl, Some, IfOk}, Cmp.partial_equiv_from_equiv};
+ghost use Rattle.std.specs.{Cmp.Lexicographic.{slice_cmp, pointwise, texts_ties, texts_po}, Ordering.nat_cmp};
 
 use std::alloc::{AllocError, Global};
 use std::cmp::Ordering;

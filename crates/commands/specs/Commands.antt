@@ -1,21 +1,18 @@
 -- The main commands, as the items that spell them.
 use Rattle.std.specs.Prelude.{ℕ, Bool, true, false, List, [], ◌∷◌, Option, Some, None, option_map, ok_or, Result, Err, codes, if◌then◌else◌}
 use Rattle.std.specs.Option.{option_map_or}
-use Rattle.items.specs.Values.{ItemValue, ItemValues, none, more}
-use Rattle.wire_forms.specs.Forms.{◌>>=◌, command_form, number_first, string_first, list_first, flag_first, revision_first, items_in, optional_number, optional_string, pairs, strings, numbers}
-use Rattle.wire_forms.specs.Names.{named}
+use Rattle.items.specs.Values.{ItemValue, ItemValues, more, none}
+use Rattle.wire_forms.specs.Forms.{◌>>=◌, command_form, number_first, string_first, list_first, flag_first, revision_first, items_in, optional_number}
+use Rattle.wire_forms.specs.{Forms.{optional_string, pairs, strings, numbers}, Names.named, declared.fault.CommandFault.CommandFault}
+use Rattle.wire_forms.specs.declared.fault.CommandFault.TheVariants.{UnknownName, BadParameters}
 use Rattle.wire_reports.specs.Asking.{update, switch, status}
-use Rattle.commands.specs.Logins.{are_words}
-use Rattle.commands.specs.declared.command.CommandName.{CommandName}
-use Rattle.commands.specs.declared.command.CommandName.TheVariants as names
-use Rattle.commands.specs.declared.command.MainCommand.{MainCommand}
+use Rattle.commands.specs.{Logins.are_words, declared.command.CommandName.CommandName, declared.command.MainCommand.MainCommand}
 use Rattle.commands.specs.declared.command.DriveCommand.TheVariants.{Update, Switch, Status}
 use Rattle.commands.specs.declared.command.MainCommand.TheVariants.{Read, Drive, Commit, AbortEdit, Lock, Unlock, ChangeRevProp, Reparent}
-use Rattle.commands.specs.declared.command.ReadCommand.TheVariants.{GetLatestRev, CheckPath, RevProplist, GetLock, GetLocks, GetFile, GetDir, Stat, GetDatedRev, RevProp, Log, GetLocations}
-use Rattle.repo_api.specs.declared.property_ask.PreviousValue.{PreviousValue}
-use Rattle.repo_api.specs.declared.property_ask.PreviousValue.TheVariants.{Any, Exactly}
-use Rattle.wire_forms.specs.declared.fault.CommandFault.{CommandFault}
-use Rattle.wire_forms.specs.declared.fault.CommandFault.TheVariants.{UnknownName, BadParameters}
+use Rattle.commands.specs.declared.command.ReadCommand.TheVariants.{GetLatestRev, CheckPath, RevProplist, GetLock, GetLocks, GetFile, GetDir, Stat, GetDatedRev}
+use Rattle.commands.specs.declared.command.ReadCommand.TheVariants.{RevProp, Log, GetLocations}
+use Rattle.commands.specs.declared.command.CommandName.TheVariants as names
+use Rattle.repo_api.specs.{declared.property_ask.PreviousValue.PreviousValue, declared.property_ask.PreviousValue.TheVariants.{Any, Exactly}}
 
 -- `( path [ rev ] )`
 abbrev pub check_path : ItemValues → Option MainCommand

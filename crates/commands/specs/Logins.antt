@@ -1,11 +1,9 @@
 -- What a client sends before its first command.
 use Rattle.std.specs.Prelude.{ℕ, Bool, true, false, ◌||◌, List, Option, Some, None, ok_or, Result, codes, if◌then◌else◌}
-use Rattle.items.specs.Values.{ItemValue, word, number, string, list, ItemValues, none, more}
+use Rattle.items.specs.Values.{ItemValue, ItemValues, list, more, none, number, string, word}
 use Rattle.wire_forms.specs.Forms.{◌>>=◌, is_name, items_in, word_first, number_first, string_first, list_first, optional_string}
-use Rattle.commands.specs.declared.login.ClientGreeting.{ClientGreeting}
-use Rattle.commands.specs.declared.login.AuthResponse.{AuthResponse}
-use Rattle.wire_forms.specs.declared.fault.CommandFault.{CommandFault}
-use Rattle.wire_forms.specs.declared.fault.CommandFault.TheVariants.{BadParameters}
+use Rattle.wire_forms.specs.{declared.fault.CommandFault.CommandFault, declared.fault.CommandFault.TheVariants.BadParameters}
+use Rattle.commands.specs.{declared.login.ClientGreeting.ClientGreeting, declared.login.AuthResponse.AuthResponse}
 
 -- each is a word
 abbrev pub are_words : ItemValues → Bool

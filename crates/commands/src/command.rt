@@ -2,7 +2,9 @@
 ghost use Rattle.items.specs.View.{value_of, values_of};
 ghost use Rattle.std.specs.Prelude.{◌≡◌, option_map};
 ghost use Rattle.wire_forms.specs.Answering.{Answers, Reads};
-ghost use Rattle.commands.specs.Commands.{main_command, main_command_name, main_command_with, check_path, rev_proplist, locks_first, properties_at_end, commit, lock, unlock, get_lock, get_locks, path_first, get_file, get_dir, has_fields, stat, get_dated_rev, rev_prop, change_rev_prop, change_rev_prop2, previous_value, reparent, limit_at_end, log_command, get_locations};
+ghost use Rattle.commands.specs.Commands.{main_command, main_command_name, main_command_with, check_path, rev_proplist, locks_first, properties_at_end, commit};
+ghost use Rattle.commands.specs.Commands.{lock, unlock, get_lock, get_locks, path_first, get_file, get_dir, has_fields, stat, get_dated_rev, rev_prop};
+ghost use Rattle.commands.specs.Commands.{change_rev_prop, change_rev_prop2, previous_value, reparent, limit_at_end, log_command, get_locations};
 
 use crate::login::are_words;
 use byte_string::ByteString;

@@ -1,8 +1,6 @@
 -- A piece more behind others.
-use Rattle.std.proofs.Common.{◌≡◌, ℕ, List, [], ◌∷◌, ◌++◌, refl, sym, ap, subst, ◌∙◌, append-nil}
-use Rattle.std.proofs.lemmas.Grind.{flat_map-append}
-use Rattle.machine.specs.declared.env.Env.{Env}
-use Rattle.machine.specs.Hearing.{Input}
+use Rattle.std.proofs.{Common.{◌≡◌, ℕ, List, [], ◌∷◌, ◌++◌, refl, sym, ap, subst, ◌∙◌, append-nil}, lemmas.Grind.flat_map-append}
+use Rattle.machine.specs.{declared.env.Env.Env, Hearing.Input}
 use Rattle.conversations.specs.Pieces.{Piece, bytes_of, ComesInPieces, GivesAll}
 
 -- what a feed brings is a piece

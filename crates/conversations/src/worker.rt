@@ -1,14 +1,9 @@
 //! One session between a reader and a writer, at a repository that others may change.
-ghost use Rattle.std.specs.Prelude.{◌≡◌, ◌++◌, [], ◌∷◌, true, OnOk, OnErr, IfOk, IfErr};
-ghost use Rattle.std.specs.Io.KnownBytes.{Appends, IsAtEnd};
+ghost use Rattle.std.specs.{Prelude.{◌≡◌, ◌++◌, [], ◌∷◌, true, OnOk, OnErr, IfOk, IfErr}, Io.KnownBytes.{Appends, IsAtEnd}};
 ghost use Rattle.repo_api.specs.Soundness.{AreSound};
 ghost use Rattle.access.specs.Points.{content_of};
 ghost use Rattle.wire_replies.specs.Replies.{print};
-ghost use Rattle.wire_replies.specs.declared.reply.Reply.TheVariants.{Greeting};
-ghost use Rattle.machine.specs.Stages.{is_open, StandsOn};
-ghost use Rattle.machine.specs.Steps.{FeedWritten, FeedLost};
-ghost use Rattle.machine.specs.declared.phase.Phase.TheVariants.{Greeted};
-ghost use Rattle.conversations.specs.declared.fault.TalkFault.{TalkFault};
+ghost use Rattle.machine.specs.{Stages.{is_open, StandsOn}, Steps.{FeedLost, FeedWritten}, declared.phase.Phase.TheVariants.Greeted};
 ghost use Rattle.conversations.specs.Conversation.{sight, Answers, Breaks, Converses, Hears, Serves, Stops, IfRead, IfLost};
 
 use crate::envs::EnvSource;
@@ -32,7 +27,7 @@ const MAX_UNREAD: usize = 67_108_864;
 
 /// Makes the greeting.
 fn greeting(alloc: Global) -> Result<Vec<u8>, TalkFault>
-    ensures ok { IfOk result (λ out. out.items ≡ print (Greeting ∷ [])) }
+    ensures ok { IfOk result (λ out. out.items ≡ print (Reply.Greeting ∷ [])) }
     ensures err { IfErr result (λ fault. fault ≡ TalkFault.NoMemory) }
 {
     let mut out = Vec::new(alloc);

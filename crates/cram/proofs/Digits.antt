@@ -1,16 +1,12 @@
 -- The digits of a digest have the form that an answer wants.
 use Rattle.std.proofs.Common.{◌≡◌, ℕ, zero, suc, ◌/◌, ◌%◌, ◌<◌, ◌*◌, Bool, true, ◌&&◌, List, [], ◌∷◌, length, refl, ap, ◌∙◌, arith}
-use Rattle.std.specs.Prelude.{All, slice_index}
-use Rattle.std.specs.Int.{w32, to_le_bytes, bytes_low_first, byte_at}
-use Rattle.std.specs.List.{list_all}
-use Rattle.std.proofs.lemmas.List.Elements.{All-append, All-cons, All-head, All-nil, All-tail}
-use Rattle.std.proofs.lemmas.List.Sums.{AllPass-from_list_all}
+use Rattle.std.proofs.{lemmas.List.Elements.{All-append, All-cons, All-head, All-nil, All-tail}, lemmas.List.Sums.AllPass-from_list_all}
+use Rattle.std.specs.{Prelude.{All, slice_index}, Int.{w32, to_le_bytes, bytes_low_first, byte_at}, List.list_all}
 use Rattle.hex.specs.Hex.{encode_lower, encode_with, lower_digits}
 use Rattle.hex.proofs.HexLemmas.{length-encode_with}
 use Rattle.md5.specs.Md5.{digest_bytes, md5}
 use Rattle.md5.proofs.StandardFacts.{length-md5}
-use Rattle.cram.specs.Answer.{digits_under, is_lower_digit}
-use Rattle.cram.specs.Hmac.{hmac_of}
+use Rattle.cram.specs.{Answer.{digits_under, is_lower_digit}, Hmac.hmac_of}
 
 byte_at-is_byte : (i n : ℕ) → byte_at i n < 256
 byte_at-is_byte zero n = omega arith

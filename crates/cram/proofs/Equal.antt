@@ -1,8 +1,7 @@
 -- Two texts are the same where no pair of bytes differs in a bit.
-use Rattle.std.proofs.Common.{◌≡◌, ◌↔◌, ℕ, ◌+◌, ◌<◌, List, length, get_or, min, refl, sym, ap, ◌∙◌, arith, below_more}
-use Rattle.std.specs.Int.Bits.{bit_or, bit_xor, xor_self, xor_zero_l, xor_zero_r, xor_assoc, or_zero_l}
-use Rattle.std.proofs.lemmas.Nat.{le_or_l, le_or_r}
+use Rattle.std.proofs.{Common.{◌≡◌, ◌↔◌, ℕ, ◌+◌, ◌<◌, List, length, get_or, min, refl, sym, ap, ◌∙◌, arith, below_more}, lemmas.Nat.{le_or_l, le_or_r}}
 use Rattle.std.proofs.lemmas.List.{ext_get_or}
+use Rattle.std.specs.Int.Bits.{bit_or, bit_xor, xor_self, xor_zero_l, xor_zero_r, xor_assoc, or_zero_l}
 
 -- the first bytes of the two texts are the same exactly where the difference is 0
 pub record IsDifference (these those : List ℕ) (count difference : ℕ) : Type 0 where

@@ -1,9 +1,8 @@
 -- A file of users is read line by line.
-use Rattle.std.proofs.Common.{◌≡◌, ℕ, ◌+◌, ◌<◌, ◌≤◌, Bool, false, List, [], ◌∷◌, ◌++◌, length, map, ◌⊎◌, inl, inr, refl, sym, ap, ◌∙◌, arith, append_assoc, length-append}
+use Rattle.std.proofs.Common.{◌≡◌, ℕ, ◌+◌, ◌<◌, ◌≤◌, Bool, false, List, [], ◌∷◌, ◌++◌, length, map, ◌⊎◌, inl, inr, refl, sym, ap, ◌∙◌, arith, append_assoc}
+use Rattle.std.proofs.Common.{length-append}
 use Rattle.std.specs.Str.Lines.{lines}
-use Rattle.cram.specs.Login.{Login}
-use Rattle.cram.specs.Line.{Line, line_of}
-use Rattle.cram.specs.UsersFile.{file_lines, breaks, AreRight, IsSaidBy}
+use Rattle.cram.specs.{Login.Login, Line.{Line, line_of}, UsersFile.{file_lines, breaks, AreRight, IsSaidBy}}
 
 -- the bytes up to the rest are these lines
 pub record IsReadTo (bytes rest : List ℕ) (headed : Bool) (logins : List Login) (count : ℕ) : Type 0 where

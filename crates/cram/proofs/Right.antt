@@ -1,7 +1,6 @@
 -- A right answer is refused for no reason of its own.
 use Rattle.std.proofs.Common.{◌≡◌, ℕ, List, [], ◌∷◌, ◌++◌, length, Some, None, refl, sym, ap, ◌∙◌, arith, length-append}
-use Rattle.cram.specs.Login.{Login, password_of}
-use Rattle.cram.specs.Answer.{IsAnswer, IsRightAnswer, IsUnknown, IsWrong, digits_under}
+use Rattle.cram.specs.{Login.{Login, password_of}, Answer.{IsAnswer, IsRightAnswer, IsUnknown, IsWrong, digits_under}}
 use Rattle.cram.proofs.Digits.{length-digits_under, digits_under-lower}
 
 pub answer_from_right : (challenge : List ℕ) (users : List Login) (answer name : List ℕ) (h : IsRightAnswer challenge users answer name) → IsAnswer answer name (digits_under h.password challenge)

@@ -1,12 +1,8 @@
 -- A challenge, and which answers to it are right (RFC 2195).
-use Rattle.std.specs.Prelude.{◌≡◌, ◌≢◌, ℕ, nat_le, Bool, true, ◌&&◌, ◌||◌, List, ◌∷◌, ◌++◌, length, codes, decimal, Option, Some, None}
-use Rattle.std.specs.List.{list_all}
+use Rattle.std.specs.{Prelude.{◌≡◌, ◌≢◌, ℕ, nat_le, Bool, true, ◌&&◌, ◌||◌, List, ◌∷◌, ◌++◌, length, codes, decimal, Option, Some, None}, List.list_all}
 use Rattle.hex.specs.Hex.{encode_lower}
-use Rattle.cram.specs.declared.fault.CramFault.{CramFault}
+use Rattle.cram.specs.{declared.fault.CramFault.CramFault, Hmac.hmac_of, Login.{Login, password_of}, Line.is_user_name}
 use Rattle.cram.specs.declared.fault.CramFault.TheVariants as faults
-use Rattle.cram.specs.Hmac.{hmac_of}
-use Rattle.cram.specs.Login.{Login, password_of}
-use Rattle.cram.specs.Line.{is_user_name}
 
 -- `<nonce.moment@name>`, the numbers in decimal
 abbrev pub challenge_text : ℕ → ℕ → List ℕ → List ℕ

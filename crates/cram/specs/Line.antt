@@ -1,7 +1,6 @@
 -- What a line of the users file says.
 use Rattle.std.specs.Prelude.{ℕ, ◌-◌, ◌==◌, nat_lt, Bool, not, ◌&&◌, ◌||◌, List, length, take, drop, slice_index, codes, if◌then◌else◌}
-use Rattle.std.specs.List.{list_all, list_any, before_first, after_first, prefix_len, suffix_len}
-use Rattle.std.specs.Str.{bytes_eq}
+use Rattle.std.specs.{List.{list_all, list_any, before_first, after_first, prefix_len, suffix_len}, Str.bytes_eq}
 use Rattle.cram.specs.Login.{Login}
 
 -- a space or a tab

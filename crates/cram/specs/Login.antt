@@ -1,6 +1,5 @@
 -- The users that may log in.
-use Rattle.std.specs.Prelude.{ℕ, List, [], ◌∷◌, Option, Some, None, if◌then◌else◌}
-use Rattle.std.specs.Str.{bytes_eq}
+use Rattle.std.specs.{Prelude.{ℕ, List, [], ◌∷◌, Option, Some, None, if◌then◌else◌}, Str.bytes_eq}
 
 pub record Login : Type 0 where
   pub name : List ℕ

@@ -1,7 +1,6 @@
 -- What a line that the code has read says.
-use Rattle.cram.specs.declared.line.ParsedLine.{ParsedLine}
+use Rattle.cram.specs.{declared.line.ParsedLine.ParsedLine, Line.{Line, blank, comment, header, pair, wrong}}
 use Rattle.cram.specs.declared.line.ParsedLine.TheVariants as code
-use Rattle.cram.specs.Line.{Line, blank, comment, header, pair, wrong}
 
 abbrev pub said_by : ParsedLine → Line
 said_by code.Blank = blank

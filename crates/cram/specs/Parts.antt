@@ -1,6 +1,5 @@
 -- The parts round the first byte that passes a test.
-use Rattle.std.specs.Prelude.{◌≡◌, ℕ, ◌<◌, Bool, List, length}
-use Rattle.std.specs.List.{position_or_len, before_first, after_first}
+use Rattle.std.specs.{Prelude.{◌≡◌, ℕ, ◌<◌, Bool, List, length}, List.{position_or_len, before_first, after_first}}
 
 -- no byte passes
 abbrev pub IsWithout : (ℕ → Bool) → List ℕ → Type 0

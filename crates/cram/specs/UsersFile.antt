@@ -1,11 +1,8 @@
 -- Which users a file has, and which of its lines is the first that breaks a rule.
-use Rattle.std.specs.Prelude.{◌≡◌, ℕ, ◌+◌, Bool, true, false, not, ◌||◌, is_some, List, [], ◌∷◌, ◌++◌, length, map, MatchBool}
-use Rattle.std.specs.List.{list_any, flat_map}
+use Rattle.std.specs.{Prelude.{◌≡◌, ℕ, ◌+◌, Bool, true, false, not, ◌||◌, is_some, List, [], ◌∷◌, ◌++◌, length, map, MatchBool}, List.{list_any, flat_map}}
 use Rattle.std.specs.Str.Lines.{lines}
-use Rattle.cram.specs.declared.fault.CramFault.{CramFault}
+use Rattle.cram.specs.{declared.fault.CramFault.CramFault, Login.{Login, password_of}, Line.{Line, blank, comment, header, pair, wrong, line_of}}
 use Rattle.cram.specs.declared.fault.CramFault.TheVariants as faults
-use Rattle.cram.specs.Login.{Login, password_of}
-use Rattle.cram.specs.Line.{Line, blank, comment, header, pair, wrong, line_of}
 
 -- what the lines of a file say; a line ends with LF or CRLF, the last one also with the file
 abbrev pub file_lines : List ℕ → List Line

@@ -1,6 +1,5 @@
 // The answer to a challenge.
-ghost use Rattle.std.specs.Prelude.{◌≡◌, ◌↔◌, List, ℕ, length, IsTrue, MatchOption};
-ghost use Rattle.std.specs.List.{list_all};
+ghost use Rattle.std.specs.{Prelude.{◌≡◌, ◌↔◌, List, ℕ, length, IsTrue, MatchOption}, List.list_all};
 ghost use Rattle.cram.specs.Answer.{IsAnswer, is_lower_digit};
 
 use crate::line::is_user_name;

@@ -79,8 +79,7 @@ impl Model for Users {
 
 impl Users {
     ghost use Rattle.std.specs.Prelude.{◌≡◌, ◌++◌, ◌∷◌, [], IfOk, IfErr, OnOk, option_copied};
-    ghost use Rattle.cram.specs.Login.{password_of};
-    ghost use Rattle.cram.specs.UsersFile.{AreRight, IsFileFault, file_lines, logins_of};
+    ghost use Rattle.cram.specs.{Login.password_of, UsersFile.{AreRight, IsFileFault, file_lines, logins_of}};
 
     /// Reads a file of users: a line `[users]`, and behind it lines `name = password`. The blanks (spaces
     /// and tabs) round the first `=` are dropped. A name and a password have 1 to 255 bytes, and a name
@@ -142,9 +141,7 @@ struct Draft {
 
 impl Draft {
     ghost use Rattle.std.specs.Prelude.{[], List, IfOk};
-    ghost use Rattle.cram.specs.Line.{Line, pair};
-    ghost use Rattle.cram.specs.ParsedLine.{said_by};
-    ghost use Rattle.cram.specs.UsersFile.{IsSaidBy, TakesLine};
+    ghost use Rattle.cram.specs.{Line.{Line, pair}, ParsedLine.said_by, UsersFile.{IsSaidBy, TakesLine}};
 
     /// Makes what a file says before its first line: no users, and no header.
     fn new(alloc: Global) -> Draft

@@ -1,7 +1,6 @@
 -- Dates as the protocol and the revision properties have them.
 use Rattle.std.specs.Prelude.{◌≡◌, ℕ, ◌*◌, pos, List, [], ◌∷◌, ◌++◌, Some, false}
-use Rattle.jiff.specs.Words.{civil_nanos, datetime_text}
-use Rattle.jiff.specs.Types.{DateTime}
+use Rattle.jiff.specs.{Words.{civil_nanos, datetime_text}, Types.DateTime}
 
 -- The civil date and time of the moment in UTC, `YYYY-MM-DDThh:mm:ss.uuuuuuZ`. A moment is a count
 -- of

@@ -2,8 +2,7 @@
 #![tactic(auto)]
 
 ghost use Rattle.std.specs.Prelude.{◌≤◌, IfOk, string_bytes};
-ghost use Rattle.dates.specs.Dates.{IsDateText};
-ghost use Rattle.dates.specs.declared.TheConstants.{LAST_MOMENT};
+ghost use Rattle.dates.specs.{Dates.IsDateText, declared.TheConstants.LAST_MOMENT};
 
 use byte_string::ByteString;
 use jiff::Timestamp;

@@ -1,23 +1,15 @@
 -- The changes of properties lead from the old values to the new ones.
-use Rattle.std.proofs.Common.{◌≡◌, ◌==◌, ℕ, Bool, true, false, cond, ◌&&◌, ◌||◌, not, List, [], ◌∷◌, Option, Some, None, refl, sym, ap, ◌∙◌, length, arith, Ordering}
-use Rattle.std.proofs.lemmas.Bool.{false≢true}
-use Rattle.std.proofs.lemmas.List.Elements.{All-nil, All-cons}
-use Rattle.std.specs.Prelude.{All, map, filter, Decides}
-use Rattle.std.specs.BTreeMap.{is_at}
-use Rattle.std.specs.Cmp.{both_ways}
-use Rattle.std.specs.Cmp.Lexicographic.{slice_cmp, texts_ties}
-use Rattle.std.specs.List.{list_any}
-use Rattle.std.specs.Ordering.{nat_cmp, is_eq, match_ordering}
-use Rattle.std.specs.declared.cmp.Ordering.TheVariants.{Less, Equal, Greater}
-use Rattle.svnpath.specs.Paths.{same_component}
-use Rattle.svnpath.specs.PathLaws.{same_component_is, same_component_refl}
-use Rattle.repo_api.specs.Properties.{PropertyList, is_same_value, property_value, with_property}
+use Rattle.std.proofs.Common.{◌≡◌, ◌==◌, ℕ, Bool, true, false, cond, ◌&&◌, ◌||◌, not, List, [], ◌∷◌, Option, Some, None, refl, sym, ap, ◌∙◌, length, arith}
+use Rattle.std.proofs.{Common.Ordering, lemmas.Bool.false≢true, lemmas.List.Elements.{All-nil, All-cons}}
+use Rattle.std.specs.{Prelude.{All, map, filter, Decides}, BTreeMap.is_at, Cmp.both_ways, Cmp.Lexicographic.{slice_cmp, texts_ties}, List.list_any}
+use Rattle.std.specs.{Ordering.{nat_cmp, is_eq, match_ordering}, declared.cmp.Ordering.TheVariants.{Less, Equal, Greater}}
+use Rattle.svnpath.specs.{PathLaws.{same_component_is, same_component_refl}, Paths.same_component}
+use Rattle.repo_api.specs.Properties.{is_same_value, property_value, PropertyList, with_property}
 use Rattle.drive_rules.specs.Steps.{is_entry_property, property_values}
 use Rattle.drive_rules.proofs.Joined.{or_false}
 use Rattle.reporter.specs.Own.{Change, changes_name, LeadTo}
 use Rattle.reporter.proofs.Owning.{Agrees}
-use Rattle.drive_news.specs.News.{names_in_both, is_told, property_changes}
-use Rattle.drive_news.specs.Parts.{changes_named}
+use Rattle.drive_news.specs.{News.{names_in_both, is_told, property_changes}, Parts.changes_named}
 
 -- ---- tests
 

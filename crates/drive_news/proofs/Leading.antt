@@ -1,30 +1,18 @@
 -- What entries are told leads from what they were to what they are to be.
 use Rattle.std.proofs.Common.{◌≡◌, ℕ, Bool, true, false, cond, ◌&&◌, ◌||◌, List, [], ◌∷◌, ◌++◌, Option, Some, None, refl, sym, ap, subst, ◌∙◌, option_map}
-use Rattle.std.proofs.lemmas.Bool.{false≢true}
-use Rattle.std.proofs.lemmas.List.Elements.{All-nil, All-cons}
-use Rattle.std.specs.Prelude.{All, IsSome, IsSomeAnd, is_some}
-use Rattle.std.specs.List.{list_all, filter_map, cons_option}
-use Rattle.svnpath.specs.Paths.{PathValue}
-use Rattle.svnpath.specs.PathLaws.{same_component_is, same_path_refl}
+use Rattle.std.proofs.{lemmas.Bool.false≢true, lemmas.List.Elements.{All-nil, All-cons}}
+use Rattle.std.specs.{Prelude.{All, IsSome, IsSomeAnd, is_some}, List.{list_all, filter_map, cons_option}}
+use Rattle.svnpath.specs.{PathLaws.{same_component_is, same_path_refl}, Paths.PathValue}
 use Rattle.wire_forms.specs.Forms.{is_name}
-use Rattle.repo_api.specs.Kinds.{content_text}
-use Rattle.repo_api.specs.States.{RepoState}
-use Rattle.repo_api.specs.Trees.{Tree, is_directory, is_directory_content}
-use Rattle.repo_api.specs.declared.entry.Content.{Content}
-use Rattle.repo_api.specs.declared.entry.Content.TheVariants.{Directory, File}
-use Rattle.repo_api.specs.declared.entry.Entry.{Entry}
-use Rattle.drive_rules.specs.Steps.{Node, PropertyValues, Step, node_of, property_values, no_properties, empty_content, is_entry_property, after_steps, all_meet, is_of_kind, has_step, is_text, IsOwn}
-use Rattle.drive_rules.specs.Steps.EntryKind.{FileKind}
-use Rattle.drive_rules.specs.Steps.Step.{PropertyAt}
+use Rattle.repo_api.specs.{States.RepoState, Trees.{content_text, is_directory, is_directory_content, Tree}, declared.entry.Content.Content}
+use Rattle.repo_api.specs.{declared.entry.Content.TheVariants.{Directory, File}, declared.entry.Entry.Entry}
+use Rattle.drive_rules.specs.Steps.{after_steps, all_meet, empty_content, has_step, is_entry_property, is_of_kind, is_text, IsOwn, no_properties, Node, node_of}
+use Rattle.drive_rules.specs.{Steps.{property_values, PropertyValues, Step}, Steps.EntryKind.FileKind, Steps.Step.PropertyAt}
 use Rattle.drive_rules.proofs.Joined.{any_append, and_front, or_right}
-use Rattle.drive_reports.specs.declared.ask.Purpose.{Purpose}
-use Rattle.drive_reports.specs.declared.ask.Purpose.TheVariants.{Update, Switch, Status}
-use Rattle.reporter.specs.Own.{Change, property_steps, text_steps, own_steps, content_with_text, LeadTo}
-use Rattle.reporter.specs.Visits.{kind_if}
-use Rattle.reporter.specs.Walks.{LeadsOver, blank}
+use Rattle.drive_reports.specs.{declared.ask.Purpose.Purpose, declared.ask.Purpose.TheVariants.{Update, Switch, Status}}
+use Rattle.reporter.specs.{Own.{Change, property_steps, text_steps, own_steps, content_with_text, LeadTo}, Visits.kind_if, Walks.{LeadsOver, blank}}
 use Rattle.reporter.proofs.Owning.{own_becomes, own_is, own_meets}
-use Rattle.drive_wire.specs.EntryProperties.{entry_property}
-use Rattle.drive_wire.specs.Sent.{seen_by}
+use Rattle.drive_wire.specs.{EntryProperties.entry_property, Sent.seen_by}
 use Rattle.drive_news.specs.News.{entry_changes, entry_property_names, property_changes, text_sent, other_text, news_of, steps_if, old_entry}
 use Rattle.drive_news.specs.declared.news.News.{News}
 use Rattle.drive_news.proofs.Changes.{changes_lead_to}

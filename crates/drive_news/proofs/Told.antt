@@ -1,26 +1,17 @@
 -- What an entry is told by its entry properties.
 use Rattle.std.proofs.Common.{◌≡◌, ℕ, Bool, true, false, cond, ◌&&◌, ◌||◌, List, [], ◌∷◌, ◌++◌, Option, Some, None, refl, sym, ap, ◌∙◌, option_map}
-use Rattle.std.proofs.lemmas.Bool.{false≢true}
-use Rattle.std.proofs.lemmas.List.Elements.{All-head, All-tail}
-use Rattle.std.proofs.lemmas.List.Sums.{fold-append}
-use Rattle.std.specs.Prelude.{All, codes, fold}
-use Rattle.std.specs.List.{filter_map, cons_option}
-use Rattle.svnpath.specs.Paths.{PathValue, same_path}
-use Rattle.svnpath.specs.PathLaws.{same_component_is, same_path_refl}
+use Rattle.std.proofs.{lemmas.Bool.false≢true, lemmas.List.Elements.{All-head, All-tail}, lemmas.List.Sums.fold-append}
+use Rattle.std.specs.{Prelude.{All, codes, fold}, List.{filter_map, cons_option}}
+use Rattle.svnpath.specs.{PathLaws.{same_component_is, same_path_refl}, Paths.{PathValue, same_path}}
 use Rattle.wire_forms.specs.Forms.{is_name}
-use Rattle.repo_api.specs.Kinds.{node_properties, or_empty}
-use Rattle.repo_api.specs.Properties.{PropertyList}
-use Rattle.repo_api.specs.States.{RepoState}
-use Rattle.repo_api.specs.declared.entry.Entry.{Entry}
-use Rattle.drive_rules.specs.Steps.{Step, is_entry_property, is_named, step_path}
-use Rattle.drive_rules.specs.Steps.Step.{OpenAt, AddAt, DeleteAt, PropertyAt, TextAt}
+use Rattle.repo_api.specs.{Kinds.{node_properties, or_empty}, Properties.PropertyList, States.RepoState, declared.entry.Entry.Entry}
+use Rattle.drive_rules.specs.{Steps.{is_entry_property, is_named, Step, step_path}, Steps.Step.{AddAt, DeleteAt, OpenAt, PropertyAt, TextAt}}
 use Rattle.drive_rules.proofs.Joined.{or_false}
 use Rattle.drive_reports.specs.declared.ask.Purpose.{Purpose}
 use Rattle.reporter.specs.Own.{Change, property_steps, text_steps}
 use Rattle.drive_wire.specs.EntryProperties.{entry_property, told, told_by}
 use Rattle.drive_news.specs.News.{entry_changes, entry_property_names, property_changes, news_of, news_steps}
-use Rattle.drive_news.proofs.Changes.{any_named, turned, changes_lead_to}
-use Rattle.drive_news.proofs.Leading.{as_own}
+use Rattle.drive_news.proofs.{Changes.{any_named, turned, changes_lead_to}, Leading.as_own}
 
 -- what is told of a name, by what was told before
 abbrev pub told_after : PathValue → List ℕ → Option (Option (List ℕ)) → List Step → Option (Option (List ℕ))

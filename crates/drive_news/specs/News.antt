@@ -3,17 +3,12 @@
 use Rattle.std.specs.Prelude.{ℕ, Bool, true, false, not, ◌&&◌, List, [], ◌∷◌, ◌++◌, Option, Some, None, option_map, map, filter, fold, codes, if◌then◌else◌}
 use Rattle.std.specs.List.{filter_map}
 use Rattle.svnpath.specs.Paths.{PathValue}
-use Rattle.repo_api.specs.Kinds.{node_properties, content_text, text_of, or_empty}
-use Rattle.repo_api.specs.Properties.{PropertyList, is_same_value, property_value, with_property}
-use Rattle.repo_api.specs.States.{RepoState}
-use Rattle.repo_api.specs.Trees.{Tree}
-use Rattle.repo_api.specs.declared.entry.Entry.{Entry}
+use Rattle.repo_api.specs.{Kinds.{node_properties, or_empty}, Properties.{is_same_value, property_value, PropertyList, with_property}, States.RepoState}
+use Rattle.repo_api.specs.{Trees.{content_text, text_of, Tree}, declared.entry.Entry.Entry}
 use Rattle.wire_forms.specs.Forms.{is_name}
-use Rattle.drive_rules.specs.Steps.{Step, is_entry_property}
-use Rattle.reporter.specs.Own.{Change, property_steps, text_steps}
-use Rattle.reporter.specs.Visits.{OwnSteps}
-use Rattle.drive_reports.specs.Targets.{WholeReport, old_tree, new_tree, stale_in}
-use Rattle.drive_reports.specs.declared.ask.Purpose.{Purpose}
+use Rattle.drive_rules.specs.Steps.{is_entry_property, Step}
+use Rattle.reporter.specs.{Own.{Change, property_steps, text_steps}, Visits.OwnSteps}
+use Rattle.drive_reports.specs.{Targets.{WholeReport, old_tree, new_tree, stale_in}, declared.ask.Purpose.Purpose}
 use Rattle.drive_reports.specs.declared.ask.Purpose.TheVariants.{Update, Switch, Status}
 use Rattle.drive_wire.specs.EntryProperties.{entry_property}
 use Rattle.drive_news.specs.declared.news.News.{News}

@@ -1,8 +1,6 @@
 -- The parts of what an entry is told.
 use Rattle.std.specs.Prelude.{ℕ, Bool, true, false, List, [], ◌∷◌, Option, Some, None, option_map, option_and_then, map, filter, codes, decimal}
-use Rattle.repo_api.specs.Kinds.{properties_at}
-use Rattle.repo_api.specs.Properties.{PropertyList, property_value}
-use Rattle.repo_api.specs.States.{RepoState}
+use Rattle.repo_api.specs.{Kinds.properties_at, Properties.{property_value, PropertyList}, States.RepoState}
 use Rattle.wire_replies.specs.Replies.{uuid_text}
 use Rattle.reporter.specs.Own.{Change}
 use Rattle.drive_news.specs.News.{is_told}

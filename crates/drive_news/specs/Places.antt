@@ -1,16 +1,9 @@
 -- Entries at their places.
 use Rattle.std.specs.Prelude.{◌≡◌, Bool, true, false, Option, option_map, option_and_then}
-use Rattle.repo_api.specs.States.{RepoState, trees_in}
-use Rattle.repo_api.specs.Trees.{revision_of}
-use Rattle.repo_api.specs.declared.entry.Content.{Content}
-use Rattle.repo_api.specs.declared.entry.Entry.{Entry}
+use Rattle.repo_api.specs.{States.{RepoState, trees_in}, Trees.revision_of, declared.entry.Content.Content, declared.entry.Entry.Entry}
 use Rattle.drive_rules.specs.Steps.{node_of}
 use Rattle.drive_reports.specs.Reported.{top_entry}
-use Rattle.drive_news.specs.News.{news_of}
-use Rattle.drive_news.specs.declared.news.Had.{Had}
-use Rattle.drive_news.specs.declared.news.News.{News}
-use Rattle.drive_news.specs.declared.news.Place.{Place}
-use Rattle.drive_news.specs.declared.news.Sight.{Sight}
+use Rattle.drive_news.specs.{News.news_of, declared.news.Had.Had, declared.news.News.News, declared.news.Place.Place, declared.news.Sight.Sight}
 
 -- what stands at a place
 abbrev pub entry_at : RepoState → Place → Option Entry

@@ -1,7 +1,6 @@
 //! The entry properties that an entry is told.
 ghost use Rattle.std.specs.Prelude.{◌≡◌, ◌∷◌, ◌++◌, [], IfOk, IsOkAnd, Some, decimal, option_map};
-ghost use Rattle.repo_api.specs.Properties.{property_value};
-ghost use Rattle.repo_api.specs.Kinds.{properties_at};
+ghost use Rattle.repo_api.specs.{Kinds.properties_at, Properties.property_value};
 ghost use Rattle.wire_replies.specs.Replies.{uuid_text};
 ghost use Rattle.drive_news.specs.Parts.{last_changes, revision_property, stale_changes};
 

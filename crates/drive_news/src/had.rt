@@ -1,6 +1,6 @@
 //! What a client has of an entry.
 ghost use Rattle.std.specs.Prelude.{◌≡◌, [], option_copied};
-ghost use Rattle.repo_api.specs.Kinds.{created_of, kind_of, node_properties, text_of};
+ghost use Rattle.repo_api.specs.{Kinds.{created_of, kind_of, node_properties}, Trees.text_of};
 ghost use Rattle.drive_news.specs.Places.{entry_had};
 
 use crate::news::Had;
@@ -27,8 +27,7 @@ pub(crate) fn had_properties<'a, R: Repository>(
     none: &'a Properties,
 ) -> Option<&'a Properties>
     requires { none.now ≡ [] }
-    ensures { option_copied result
-        ≡ node_properties (entry_had (R.content view.now) had.entry) }
+    ensures { option_copied result ≡ node_properties (entry_had (R.content view.now) had.entry) }
 {
     if had.starts_empty && had_kind(view, had).is_directory() {
         return Some(none);

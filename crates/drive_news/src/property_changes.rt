@@ -1,8 +1,7 @@
 //! What becomes of an entry's properties.
 ghost use Rattle.std.specs.Prelude.{◌≡◌, ◌==◌, ◌++◌, Decides, IfOk, length, map};
 ghost use Rattle.drive_rules.specs.Steps.{is_entry_property, property_values};
-ghost use Rattle.drive_news.specs.News.{is_told, names_in_both, property_changes};
-ghost use Rattle.drive_news.specs.Parts.{changes_named};
+ghost use Rattle.drive_news.specs.{News.{is_told, names_in_both, property_changes}, Parts.changes_named};
 
 use crate::news::PropertyChanges;
 use byte_string::ByteString;

@@ -1,9 +1,7 @@
 //! What an entry at a place is told of itself.
 ghost use Rattle.std.specs.Prelude.{◌≡◌, ◌++◌, [], IfOk, option_and_then, option_copied, option_map};
-ghost use Rattle.repo_api.specs.Kinds.{created_of, node_properties, or_empty, text_of};
-ghost use Rattle.drive_news.specs.News.{other_text, property_changes, text_sent};
-ghost use Rattle.drive_news.specs.Parts.{last_changes};
-ghost use Rattle.drive_news.specs.Places.{entry_at, entry_had, news_seen, old_seen};
+ghost use Rattle.repo_api.specs.{Kinds.{created_of, node_properties, or_empty}, Trees.text_of};
+ghost use Rattle.drive_news.specs.{News.{other_text, property_changes, text_sent}, Parts.last_changes, Places.{entry_at, entry_had, news_seen, old_seen}};
 
 use crate::entry_changes::last_changes;
 use crate::had::{had_properties, had_text};

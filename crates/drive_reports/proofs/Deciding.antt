@@ -1,23 +1,16 @@
 -- Which graft says what a client has at a path.
-use Rattle.std.proofs.Common.{◌≡◌, ℕ, ◌+◌, ◌-◌, ◌<◌, ◌≤◌, arith, Bool, true, false, cond, ◌&&◌, ◌||◌, not, List, [], ◌∷◌, ◌++◌, length, drop, take, get_or, Option, Some, None, refl, sym, ap, ◌∙◌, subst, option_map, ⊎_elim, zero, suc}
-use Rattle.std.proofs.lemmas.Bool.{false≢true}
-use Rattle.std.proofs.lemmas.List.{take_more, length-append, length-take-le}
-use Rattle.std.proofs.lemmas.List.Sums.{fold-append}
+use Rattle.std.proofs.Common.{◌≡◌, ℕ, ◌+◌, ◌-◌, ◌<◌, ◌≤◌, arith, Bool, true, false, cond, ◌&&◌, ◌||◌, not, List, [], ◌∷◌, ◌++◌, length, drop, take, get_or}
+use Rattle.std.proofs.{Common.{Option, Some, None, refl, sym, ap, ◌∙◌, subst, option_map, ⊎_elim, zero, suc}, lemmas.Bool.false≢true}
+use Rattle.std.proofs.{lemmas.List.{take_more, length-append, length-take-le}, lemmas.List.Sums.fold-append}
 use Rattle.std.specs.Prelude.{IsTrue, IsSomeAnd, is_some, option_and_then}
-use Rattle.svnpath.specs.Paths.{PathValue, is_at_or_under, same_path}
-use Rattle.svnpath.specs.PathLaws.{same_path_is, same_path_refl, under_is, under_itself}
-use Rattle.repo_api.specs.Soundness.{AreTrees}
-use Rattle.repo_api.specs.States.{Revision}
-use Rattle.repo_api.specs.Trees.{Tree, is_directory}
+use Rattle.svnpath.specs.{PathLaws.{same_path_is, same_path_refl, under_is, under_itself}, Paths.{is_at_or_under, PathValue, same_path}}
+use Rattle.repo_api.specs.{Soundness.AreTrees, States.Revision, Trees.{is_directory, Tree}}
 use Rattle.drive_rules.specs.Scopes.{below, HoldsTogether}
-use Rattle.drive_rules.proofs.Joined.{or_false}
-use Rattle.drive_rules.proofs.Entries.{under_more}
-use Rattle.drive_reports.specs.Places.{AllHoldTogether, is_grafted_over}
-use Rattle.drive_reports.specs.Reported.{ReportedEntry, ReportedTree, reported_entries, in_subtree, in_graft, shown_by, has_directory, has_place, path_above, with_graft, is_surely_placed, reported}
-use Rattle.drive_reports.specs.declared.graft.Graft.{Graft}
+use Rattle.drive_rules.proofs.{Joined.or_false, Entries.under_more}
+use Rattle.drive_reports.specs.{Places.{AllHoldTogether, is_grafted_over}, Reported.{ReportedEntry, ReportedTree, reported_entries, in_subtree, in_graft}}
+use Rattle.drive_reports.specs.{Reported.{shown_by, has_directory, has_place, path_above, with_graft, is_surely_placed, reported}, declared.graft.Graft.Graft}
 use Rattle.drive_reports.specs.declared.graft.Subtree.{Subtree}
-use Rattle.drive_reports.proofs.Drives.{each_holds}
-use Rattle.drive_reports.proofs.Holding.{all_hold, comparable, longer_below, above_under, below_longer}
+use Rattle.drive_reports.proofs.{Drives.each_holds, Holding.{all_hold, comparable, longer_below, above_under, below_longer}}
 
 -- one graft more
 pub reported_more : (trees : ℕ → Tree) (top : PathValue) (gs : List Graft) (i : ℕ) (g : Graft) (q : PathValue) → i < length gs → g ≡ get_or gs i g

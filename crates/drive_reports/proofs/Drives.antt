@@ -1,19 +1,12 @@
 -- The two trees of a drive hold together.
-use Rattle.std.proofs.Common.{◌≡◌, arith, ℕ, zero, suc, ◌+◌, Bool, true, false, cond, List, [], ◌∷◌, ◌++◌, length, drop, None, refl, sym, ap, ◌∙◌, subst, if◌then◌else◌}
-use Rattle.std.proofs.lemmas.Bool.{false≢true}
-use Rattle.std.proofs.lemmas.List.{length-append, append_assoc}
-use Rattle.std.specs.Prelude.{IsTrue, IsSome, IsSomeAnd, is_some, slice_get}
-use Rattle.std.specs.FinMap.{get-empty}
-use Rattle.svnpath.specs.Paths.{PathValue, is_at_or_under, path_cmp}
-use Rattle.svnpath.specs.PathLaws.{under_is, under_append, rest_append}
-use Rattle.repo_api.specs.Trees.{HasDirectory, is_directory}
-use Rattle.repo_api.specs.Soundness.{AreTrees}
-use Rattle.repo_api.specs.States.{RepoState, Revision, tree_of, tree_in, trees_in}
-use Rattle.drive_rules.specs.Scopes.{below, HoldsTogether, DepthLimit}
-use Rattle.drive_rules.proofs.Entries.{below_under}
-use Rattle.drive_rules.proofs.Trees.{tree_holds, scope_holds}
-use Rattle.drive_reports.specs.Reported.{reported_entries}
-use Rattle.drive_reports.specs.Targets.{WholeReport, goal_path, target_tree, client_tree, limit_of, old_tree, new_tree}
+use Rattle.std.proofs.Common.{◌≡◌, arith, ℕ, zero, suc, ◌+◌, Bool, true, false, cond, List, [], ◌∷◌, ◌++◌, length, drop, None, refl, sym, ap, ◌∙◌, subst}
+use Rattle.std.proofs.{Common.if◌then◌else◌, lemmas.Bool.false≢true, lemmas.List.{length-append, append_assoc}}
+use Rattle.std.specs.{Prelude.{IsTrue, IsSome, IsSomeAnd, is_some, slice_get}, FinMap.get-empty}
+use Rattle.svnpath.specs.{PathLaws.{rest_append, under_append, under_is}, Paths.{is_at_or_under, path_cmp, PathValue}}
+use Rattle.repo_api.specs.{Soundness.AreTrees, States.{RepoState, Revision, tree_in, tree_of, trees_in}, Trees.{HasDirectory, is_directory}}
+use Rattle.drive_rules.specs.Scopes.{below, DepthLimit, HoldsTogether}
+use Rattle.drive_rules.proofs.{Entries.below_under, Trees.{tree_holds, scope_holds}}
+use Rattle.drive_reports.specs.{Reported.reported_entries, Targets.{WholeReport, goal_path, target_tree, client_tree, limit_of, old_tree, new_tree}}
 use Rattle.drive_reports.specs.declared.ask.DriveAsk.{DriveAsk}
 use Rattle.drive_reports.proofs.Holding.{all_hold, longer_below, below_longer}
 

@@ -1,30 +1,19 @@
 -- The last graft of which something is so, by its place in the order.
-use Rattle.std.proofs.Common.{◌≡◌, ℕ, zero, suc, ◌+◌, ◌-◌, ◌<◌, ◌≤◌, arith, Bool, true, false, cond, ◌&&◌, ◌||◌, List, [], ◌∷◌, ◌++◌, length, take, drop, get_or, Option, Some, None, refl, sym, ap, subst, ◌∙◌, ◌⊎◌, inl, inr, ⊎_elim}
-use Rattle.std.proofs.lemmas.Bool.{false≢true, or_from, or_left, or_right, ltb-true, ltb-false, lt-ltb}
-use Rattle.std.proofs.lemmas.List.{length_push, length-take-le, take_more}
-use Rattle.std.proofs.lemmas.List.Folds.{list_any_at}
-use Rattle.std.proofs.lemmas.Map.Keys.{sorted_head, sorted_tail}
-use Rattle.std.proofs.lemmas.Map.Made.{is_some-lookup}
+use Rattle.std.proofs.Common.{◌≡◌, ℕ, zero, suc, ◌+◌, ◌-◌, ◌<◌, ◌≤◌, arith, Bool, true, false, cond, ◌&&◌, ◌||◌, List, [], ◌∷◌, ◌++◌, length, take, drop}
+use Rattle.std.proofs.Common.{get_or, Option, Some, None, refl, sym, ap, subst, ◌∙◌, ◌⊎◌, inl, inr, ⊎_elim}
+use Rattle.std.proofs.{lemmas.Bool.{false≢true, or_from, or_left, or_right, ltb-true, ltb-false, lt-ltb}, lemmas.List.{length_push, length-take-le, take_more}}
+use Rattle.std.proofs.{lemmas.List.Folds.list_any_at, lemmas.Map.Keys.{sorted_head, sorted_tail}, lemmas.Map.Made.is_some-lookup}
 use Rattle.std.proofs.lemmas.Option.{get_or_from_slice_get, slice_get_read, slice_get_within}
-use Rattle.std.specs.BTreeMap.{is_at}
-use Rattle.std.specs.BTreeMap.Range.{range_contains}
-use Rattle.std.specs.Cmp.{both_ways}
-use Rattle.std.specs.List.{AllByRecursion, filter, list_any}
-use Rattle.std.specs.List.Sorted.{IsStrictlySortedBy}
-use Rattle.std.specs.Map.{keys_of}
-use Rattle.std.specs.Option.{option_map_or}
-use Rattle.std.specs.Ordering.{is_eq, is_le, is_lt}
-use Rattle.std.specs.Prelude.{is_some, nat_lt, if◌then◌else◌, not, slice_get, fold}
-use Rattle.std.specs.declared.cmp.Ordering.{Ordering}
-use Rattle.std.specs.declared.cmp.Ordering.TheVariants.{Less, Equal, Greater}
+use Rattle.std.specs.{BTreeMap.is_at, BTreeMap.Range.range_contains, Cmp.both_ways, List.{AllByRecursion, filter, list_any}, List.Sorted.IsStrictlySortedBy}
+use Rattle.std.specs.{Map.keys_of, Option.option_map_or, Ordering.{is_eq, is_le, is_lt}, Prelude.{is_some, nat_lt, if◌then◌else◌, not, slice_get, fold}}
+use Rattle.std.specs.{declared.cmp.Ordering.Ordering, declared.cmp.Ordering.TheVariants.{Less, Equal, Greater}}
 use Rattle.std.specs.declared.ops.Bound.TheVariants.{Excluded, Unbounded}
-use Rattle.svnpath.specs.Paths.{Component, PathValue, is_at_or_under, path_cmp, path_ties, same_path}
 use Rattle.svnpath.specs.PathLaws.{at_is, at_is_same, between_under, from_under, same_path_is, same_path_refl}
+use Rattle.svnpath.specs.Paths.{Component, is_at_or_under, path_cmp, path_ties, PathValue, same_path}
 use Rattle.repo_api.specs.Trees.{Tree}
 use Rattle.drive_rules.specs.Scopes.{below, HoldsTogether}
 use Rattle.drive_rules.proofs.Entries.{below_under}
-use Rattle.drive_reports.specs.Finding.{AreFound, IsLastOf, IsLastAt, IsLastAbove, later, place_of}
-use Rattle.drive_reports.specs.declared.graft.Graft.{Graft}
+use Rattle.drive_reports.specs.{Finding.{AreFound, IsLastOf, IsLastAt, IsLastAbove, later, place_of}, declared.graft.Graft.Graft}
 use Rattle.drive_reports.specs.Reported.{has_place, is_surely_placed, origin, origin_after, reported}
 use Rattle.drive_reports.proofs.Deciding.{AreLater, Shows, last_placed, last_surely, later_elsewhere, later_unplaced, none_shown, under_length}
 

@@ -1,20 +1,15 @@
 -- A reported tree holds together.
-use Rattle.std.proofs.Common.{◌≡◌, ℕ, zero, suc, ◌+◌, ◌-◌, ◌≤◌, ◌<◌, arith, Bool, true, false, cond, ◌&&◌, not, List, [], ◌∷◌, ◌++◌, length, drop, take, Option, Some, None, refl, sym, ap, ◌∙◌, subst, ◌⊎◌, inl, inr, ⊎_elim, option_map}
-use Rattle.std.proofs.lemmas.Bool.{false≢true}
+use Rattle.std.proofs.Common.{◌≡◌, ℕ, zero, suc, ◌+◌, ◌-◌, ◌≤◌, ◌<◌, arith, Bool, true, false, cond, ◌&&◌, not, List, [], ◌∷◌, ◌++◌, length, drop, take, Option}
+use Rattle.std.proofs.{Common.{Some, None, refl, sym, ap, ◌∙◌, subst, ◌⊎◌, inl, inr, ⊎_elim, option_map}, lemmas.Bool.false≢true}
 use Rattle.std.proofs.lemmas.List.{length-append, append_assoc, append-nil}
 use Rattle.std.specs.Prelude.{IsTrue, IsSome, IsSomeAnd, is_some, fold, option_and_then}
-use Rattle.svnpath.specs.Paths.{PathValue, Component, is_at_or_under, same_path}
-use Rattle.svnpath.specs.PathLaws.{same_path_is, same_path_refl, under_is, under_append, rest_append}
-use Rattle.repo_api.specs.Trees.{Tree, is_directory}
-use Rattle.repo_api.specs.declared.entry.Entry.{Entry}
-use Rattle.drive_rules.specs.Scopes.{below, HoldsTogether, depth_below}
-use Rattle.drive_rules.specs.declared.depth.Depth.{Depth}
+use Rattle.svnpath.specs.{PathLaws.{rest_append, same_path_is, same_path_refl, under_append, under_is}, Paths.{Component, is_at_or_under, PathValue, same_path}}
+use Rattle.repo_api.specs.{Trees.{is_directory, Tree}, declared.entry.Entry.Entry}
+use Rattle.drive_rules.specs.{Scopes.{below, depth_below, HoldsTogether}, declared.depth.Depth.Depth}
 use Rattle.drive_rules.specs.declared.depth.Depth.TheVariants.{Empty, Files, Immediates, Infinity}
-use Rattle.drive_rules.proofs.Joined.{or_cases}
-use Rattle.drive_rules.proofs.Entries.{under_more, below_under, below_apart, under_both, no_length}
-use Rattle.drive_reports.specs.Reported.{ReportedEntry, ReportedTree, reported_entries, left_by, top_entry, reported_as, in_subtree, in_graft, has_directory, has_place, path_above, with_graft, reported}
-use Rattle.drive_reports.specs.declared.graft.Graft.{Graft}
-use Rattle.drive_reports.specs.declared.graft.Subtree.{Subtree}
+use Rattle.drive_rules.proofs.{Joined.or_cases, Entries.{under_more, below_under, below_apart, under_both, no_length}}
+use Rattle.drive_reports.specs.Reported.{ReportedEntry, ReportedTree, reported_entries, left_by, top_entry, reported_as, in_subtree, in_graft, has_directory}
+use Rattle.drive_reports.specs.{Reported.{has_place, path_above, with_graft, reported}, declared.graft.Graft.Graft, declared.graft.Subtree.Subtree}
 
 take_take : {X : Type 0} (n m : ℕ) (xs : List X) → n ≤ m → take n (take m xs) ≡ take n xs
 take_take zero m xs le = refl

@@ -1,13 +1,9 @@
 -- What a text names beneath a path has right components.
 use Rattle.std.proofs.Common.{◌≡◌, ℕ, ◌+◌, List, [], ◌∷◌, ◌++◌, length, drop, Option, Some, None, Ok, refl, sym, ap, ◌∙◌, subst, append_assoc}
-use Rattle.std.proofs.lemmas.Bool.{false≢true}
-use Rattle.std.proofs.lemmas.List.Elements.{All-nil, All-cons, All-append}
-use Rattle.std.specs.Option.{option_or}
-use Rattle.std.specs.Prelude.{is_some}
-use Rattle.svnpath.specs.Paths.{PathValue, Component}
-use Rattle.svnpath.specs.PathLaws.{rest_append}
-use Rattle.svnpath.specs.Components.{component_fault, depth_fault, first_fault, unless_fault, beneath, IsComponent}
-use Rattle.svnpath.specs.Texts.{joined, components_of, without_first_slash, without_last_slash}
+use Rattle.std.proofs.{lemmas.Bool.false≢true, lemmas.List.Elements.{All-nil, All-cons, All-append}}
+use Rattle.std.specs.{Option.option_or, Prelude.is_some}
+use Rattle.svnpath.specs.{Components.{beneath, component_fault, depth_fault, first_fault, IsComponent, unless_fault}, PathLaws.rest_append}
+use Rattle.svnpath.specs.{Paths.{Component, PathValue}, Texts.{components_of, joined, without_first_slash, without_last_slash}}
 use Rattle.svnpath.specs.declared.fault.PathFault.{PathFault}
 use Rattle.drive_reports.specs.Named.{IsNamed}
 

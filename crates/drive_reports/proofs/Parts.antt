@@ -1,21 +1,13 @@
 -- What a graft shows beneath a path is a subtree of its own.
 use Rattle.std.proofs.Common.{◌≡◌, ℕ, Bool, true, false, cond, List, [], ◌∷◌, ◌++◌, length, drop, Option, Some, None, refl, sym, ap, ◌∙◌, option_map}
-use Rattle.std.proofs.lemmas.Bool.{false≢true}
-use Rattle.std.proofs.lemmas.List.{append_assoc, append-nil}
+use Rattle.std.proofs.{lemmas.Bool.false≢true, lemmas.List.{append_assoc, append-nil}}
 use Rattle.std.specs.Prelude.{not, is_some, option_and_then, option_copied, Result, Ok, Err, IfOk, IfSome}
-use Rattle.svnpath.specs.Paths.{PathValue, Component, is_at_or_under}
-use Rattle.svnpath.specs.PathLaws.{under_is, under_append, rest_append}
-use Rattle.repo_api.specs.Trees.{Tree, is_directory}
-use Rattle.repo_api.specs.declared.entry.Entry.{Entry}
-use Rattle.drive_rules.specs.Scopes.{depth_below}
-use Rattle.drive_rules.specs.declared.depth.Depth.{Depth}
-use Rattle.drive_rules.specs.declared.depth.Depth.TheVariants.{Empty, Files, Immediates, Infinity}
+use Rattle.svnpath.specs.{PathLaws.{rest_append, under_append, under_is}, Paths.{Component, is_at_or_under, PathValue}}
+use Rattle.repo_api.specs.{Trees.{is_directory, Tree}, declared.entry.Entry.Entry}
+use Rattle.drive_rules.specs.{Scopes.depth_below, declared.depth.Depth.Depth, declared.depth.Depth.TheVariants.{Empty, Files, Immediates, Infinity}}
 use Rattle.drive_rules.proofs.Entries.{under_more}
-use Rattle.drive_reports.specs.Places.{part_below, in_place, reported_subtree}
-use Rattle.drive_reports.specs.Reported.{ReportedEntry, in_subtree, in_graft, left_by, reported_as, shown_by}
-use Rattle.drive_reports.specs.declared.graft.Graft.{Graft}
-use Rattle.drive_reports.specs.declared.graft.Subtree.{Subtree}
-use Rattle.drive_reports.specs.declared.reported.ReportedPlace.{ReportedPlace}
+use Rattle.drive_reports.specs.{Places.{part_below, in_place, reported_subtree}, Reported.{ReportedEntry, in_subtree, in_graft, left_by, reported_as, shown_by}}
+use Rattle.drive_reports.specs.{declared.graft.Graft.Graft, declared.graft.Subtree.Subtree, declared.reported.ReportedPlace.ReportedPlace}
 
 -- what is left of what is shown is all of it
 left_all : (depth : Depth) (rest : List Component) (e : Option Entry) → is_some (left_by depth rest e) ≡ true → left_by depth rest e ≡ e

@@ -2,15 +2,11 @@
 use Rattle.std.proofs.Common.{◌≡◌, ℕ, true, false, cond, ◌||◌, List, [], ◌∷◌, ◌++◌, length, drop, Option, Some, None, refl, sym, ap, ◌∙◌, option_map}
 use Rattle.std.proofs.lemmas.List.{append-nil}
 use Rattle.std.specs.Prelude.{option_and_then}
-use Rattle.svnpath.specs.Paths.{PathValue, Component, is_at_or_under}
-use Rattle.svnpath.specs.PathLaws.{same_path_refl}
-use Rattle.repo_api.specs.Trees.{Tree}
-use Rattle.repo_api.specs.declared.entry.Entry.{Entry}
-use Rattle.drive_rules.specs.Scopes.{depth_below}
-use Rattle.drive_rules.specs.declared.depth.Depth.TheVariants.{Infinity}
+use Rattle.svnpath.specs.{PathLaws.same_path_refl, Paths.{Component, is_at_or_under, PathValue}}
+use Rattle.repo_api.specs.{Trees.Tree, declared.entry.Entry.Entry}
+use Rattle.drive_rules.specs.{Scopes.depth_below, declared.depth.Depth.TheVariants.Infinity}
 use Rattle.drive_reports.specs.Reported.{ReportedEntry, reported_entries, has_directory, in_subtree, in_graft, left_by, top_entry, reported_as, reported}
-use Rattle.drive_reports.specs.declared.graft.Graft.{Graft}
-use Rattle.drive_reports.specs.declared.graft.Subtree.{Subtree}
+use Rattle.drive_reports.specs.{declared.graft.Graft.Graft, declared.graft.Subtree.Subtree}
 use Rattle.drive_reports.proofs.Deciding.{shows_placed}
 
 entry_of : (f : Entry → ReportedEntry) → ((e : Entry) → (f e).entry ≡ e) → (o : Option Entry) → option_map (λ (h : ReportedEntry). h.entry) (option_map f o) ≡ o

@@ -1,17 +1,12 @@
 -- The depths that are reported and asked for.
-use Rattle.std.specs.Prelude.{Bool, true, false, not, Option, Some, None, Result, Ok, Err}
-use Rattle.std.specs.Option.{option_map_or}
+use Rattle.std.specs.{Prelude.{Bool, true, false, not, Option, Some, None, Result, Ok, Err}, Option.option_map_or}
 use Rattle.refusals.specs.declared.Refusal.{Refusal}
 use Rattle.refusals.specs.declared.Refusal.TheVariants as refusals
-use Rattle.drive_rules.specs.declared.depth.Depth.{Depth}
-use Rattle.drive_rules.specs.declared.depth.Depth.TheVariants.{Empty, Files, Immediates, Infinity}
-use Rattle.wire_reports.specs.declared.depth_word.DepthWord.{DepthWord}
-use Rattle.wire_reports.specs.declared.depth_word.DepthWord.TheVariants.{Known, Unknown, Exclude}
-use Rattle.drive_reports.specs.declared.ask.DepthAsked.{DepthAsked}
-use Rattle.drive_reports.specs.declared.ask.DepthAsked.TheVariants as asks
-use Rattle.drive_reports.specs.declared.ask.Purpose.{Purpose}
-use Rattle.drive_reports.specs.declared.ask.Purpose.TheVariants.{Update, Switch, Status}
+use Rattle.drive_rules.specs.{declared.depth.Depth.Depth, declared.depth.Depth.TheVariants.{Empty, Files, Immediates, Infinity}}
+use Rattle.wire_reports.specs.{declared.depth_word.DepthWord.DepthWord, declared.depth_word.DepthWord.TheVariants.{Known, Unknown, Exclude}}
+use Rattle.drive_reports.specs.{declared.ask.DepthAsked.DepthAsked, declared.ask.Purpose.Purpose, declared.ask.Purpose.TheVariants.{Update, Switch, Status}}
 use Rattle.drive_reports.specs.declared.graft.Graft.{Graft}
+use Rattle.drive_reports.specs.declared.ask.DepthAsked.TheVariants as asks
 
 -- how much of what stands there a client reports: everything, where it says nothing of it
 abbrev pub graft_depth : Option DepthWord → Result Depth Refusal

@@ -1,8 +1,6 @@
 -- Where grafts stand in the order of their report.
-use Rattle.std.specs.Prelude.{◌≡◌, ◌<◌, ℕ, nat_lt, Bool, true, false, if◌then◌else◌, List, length, Option, Some, None, slice_get}
-use Rattle.std.specs.Map.{lookup}
-use Rattle.std.specs.BTreeMap.{is_at}
-use Rattle.svnpath.specs.Paths.{PathValue, is_at_or_under, path_cmp, same_path}
+use Rattle.std.specs.{Prelude.{◌≡◌, ◌<◌, ℕ, nat_lt, Bool, true, false, if◌then◌else◌, List, length, Option, Some, None, slice_get}, Map.lookup, BTreeMap.is_at}
+use Rattle.svnpath.specs.Paths.{is_at_or_under, path_cmp, PathValue, same_path}
 use Rattle.drive_reports.specs.declared.graft.Graft.{Graft}
 
 -- the last of the first so many grafts of which this is so, by its place in the order

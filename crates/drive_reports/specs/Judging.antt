@@ -1,7 +1,6 @@
 -- What the judging of a command of a report answers.
 use Rattle.std.specs.Prelude.{◌≡◌, Result, Ok, Err}
-use Rattle.refusals.specs.declared.Refusal.{Refusal}
-use Rattle.refusals.specs.declared.fault.NotDone.{NotDone}
+use Rattle.refusals.specs.{declared.Refusal.Refusal, declared.fault.NotDone.NotDone}
 use Rattle.refusals.specs.declared.fault.NotDone.TheVariants as faults
 
 -- the result is what is wanted, or memory ran out

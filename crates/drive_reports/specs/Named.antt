@@ -1,7 +1,6 @@
 -- Paths that a client can name.
 use Rattle.std.specs.Prelude.{List, All}
-use Rattle.svnpath.specs.Paths.{PathValue}
-use Rattle.svnpath.specs.Components.{IsComponent}
+use Rattle.svnpath.specs.{Components.IsComponent, Paths.PathValue}
 use Rattle.drive_reports.specs.declared.graft.Graft.{Graft}
 
 -- its components are right ones, however many they are

@@ -1,14 +1,9 @@
 -- What a client has at a path and beneath it.
-use Rattle.std.specs.Prelude.{ℕ, Bool, false, ◌&&◌, List, [], ◌∷◌, Option, None, option_copied}
-use Rattle.std.specs.List.{list_any}
-use Rattle.svnpath.specs.Paths.{PathValue, Component, is_at_or_under}
-use Rattle.repo_api.specs.States.{Revision, trees_in}
-use Rattle.repo_api.specs.Trees.{Tree}
-use Rattle.drive_rules.specs.Scopes.{below, depth_below, HoldsTogether}
-use Rattle.drive_rules.specs.declared.depth.Depth.{Depth}
-use Rattle.drive_reports.specs.Reported.{ReportedEntry, in_subtree}
-use Rattle.drive_reports.specs.declared.graft.Graft.{Graft}
-use Rattle.drive_reports.specs.declared.graft.Subtree.{Subtree}
+use Rattle.std.specs.{Prelude.{ℕ, Bool, false, ◌&&◌, List, [], ◌∷◌, Option, None, option_copied}, List.list_any}
+use Rattle.svnpath.specs.Paths.{Component, is_at_or_under, PathValue}
+use Rattle.repo_api.specs.{States.{Revision, trees_in}, Trees.Tree}
+use Rattle.drive_rules.specs.{Scopes.{below, depth_below, HoldsTogether}, declared.depth.Depth.Depth}
+use Rattle.drive_reports.specs.{Reported.{ReportedEntry, in_subtree}, declared.graft.Graft.Graft, declared.graft.Subtree.Subtree}
 use Rattle.drive_reports.specs.declared.reported.ReportedPlace.{ReportedPlace}
 
 -- what stands in a revision stands in a directory of it

@@ -1,29 +1,17 @@
 -- What the commands of a report make of it, and when they are refused.
 -- A definition in `do` judges one thing after another; the first refusal counts.
-use Rattle.std.specs.Prelude.{ℕ, Bool, true, false, not, ◌&&◌, ◌||◌, nat_lt, is_some, List, [], ◌∷◌, ◌++◌, length, drop, Option, Some, None, ok_or, Result, Ok, Err, if◌then◌else◌}
-use Rattle.svnpath.specs.Paths.{PathValue, same_path}
-use Rattle.svnpath.specs.Texts.{joined}
-use Rattle.svnpath.specs.Urls.{path_of_text}
-use Rattle.svnpath.specs.declared.fault.PathFault.{PathFault}
-use Rattle.refusals.specs.Refusing.{path_refusal}
-use Rattle.refusals.specs.declared.Refusal.{Refusal}
+use Rattle.std.specs.Prelude.{ℕ, Bool, true, false, not, ◌&&◌, ◌||◌, nat_lt, is_some, List, [], ◌∷◌, ◌++◌, length, drop, Option, Some, None, ok_or, Result, Ok}
+use Rattle.std.specs.Prelude.{Err, if◌then◌else◌}
+use Rattle.svnpath.specs.{Paths.{PathValue, same_path}, Texts.joined, Urls.path_of_text, declared.fault.PathFault.PathFault}
+use Rattle.refusals.specs.{Refusing.path_refusal, declared.Refusal.Refusal}
 use Rattle.refusals.specs.declared.Refusal.TheVariants as refusals
-use Rattle.repo_api.specs.States.{RepoState, youngest, trees_in}
-use Rattle.repo_api.specs.Trees.{is_directory_there}
+use Rattle.repo_api.specs.{States.{RepoState, trees_in, youngest}, Trees.is_directory_there}
 use Rattle.drive_rules.specs.declared.depth.Depth.{Depth}
-use Rattle.wire_reports.specs.declared.asking.DriveRequest.{DriveRequest}
-use Rattle.wire_reports.specs.declared.report.ReportedPath.{ReportedPath}
-use Rattle.drive_reports.specs.Depths.{graft_depth, depth_asked}
-use Rattle.drive_reports.specs.Reported.{has_place, has_directory, own_source}
-use Rattle.drive_reports.specs.Targets.{WholeReport, reported_tree}
-use Rattle.drive_reports.specs.declared.ask.DriveAsk.{DriveAsk}
-use Rattle.drive_reports.specs.declared.ask.Purpose.{Purpose}
-use Rattle.drive_reports.specs.declared.ask.Purpose.TheVariants.{Switch}
-use Rattle.drive_reports.specs.declared.graft.Graft.{Graft}
-use Rattle.drive_reports.specs.declared.report.OpenReport.{OpenReport}
-use Rattle.drive_reports.specs.declared.report.Report.{Report}
-use Rattle.drive_reports.specs.declared.report.Report.TheVariants.{Refused, Open}
-use Rattle.drive_reports.specs.declared.report.ReportRoot.{ReportRoot}
+use Rattle.wire_reports.specs.{declared.asking.DriveRequest.DriveRequest, declared.report.ReportedPath.ReportedPath}
+use Rattle.drive_reports.specs.{Depths.{graft_depth, depth_asked}, Reported.{has_place, has_directory, own_source}, Targets.{WholeReport, reported_tree}}
+use Rattle.drive_reports.specs.{declared.ask.DriveAsk.DriveAsk, declared.ask.Purpose.Purpose, declared.ask.Purpose.TheVariants.Switch}
+use Rattle.drive_reports.specs.{declared.graft.Graft.Graft, declared.report.OpenReport.OpenReport, declared.report.Report.Report}
+use Rattle.drive_reports.specs.{declared.report.Report.TheVariants.{Refused, Open}, declared.report.ReportRoot.ReportRoot}
 
 -- a report that goes on, with the grafts in their order
 abbrev pub OpenState : Type 0

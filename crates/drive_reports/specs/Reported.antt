@@ -1,13 +1,10 @@
 -- The tree that a report says the client has.
-use Rattle.std.specs.Prelude.{ℕ, ◌-◌, Bool, false, not, is_some, ◌&&◌, ◌||◌, List, [], ◌∷◌, ◌++◌, length, take, drop, Option, Some, None, option_map, option_and_then, fold, if◌then◌else◌}
-use Rattle.svnpath.specs.Paths.{PathValue, Component, is_at_or_under, same_path}
-use Rattle.repo_api.specs.Trees.{Tree, is_directory, is_file_there}
-use Rattle.repo_api.specs.declared.entry.Entry.{Entry}
-use Rattle.drive_rules.specs.Scopes.{depth_below}
-use Rattle.drive_rules.specs.declared.depth.Depth.{Depth}
-use Rattle.drive_rules.specs.declared.depth.Depth.TheVariants.{Empty, Files, Immediates, Infinity}
-use Rattle.drive_reports.specs.declared.graft.Graft.{Graft}
-use Rattle.drive_reports.specs.declared.graft.Subtree.{Subtree}
+use Rattle.std.specs.Prelude.{ℕ, ◌-◌, Bool, false, not, is_some, ◌&&◌, ◌||◌, List, [], ◌∷◌, ◌++◌, length, take, drop, Option, Some, None, option_map}
+use Rattle.std.specs.Prelude.{option_and_then, fold, if◌then◌else◌}
+use Rattle.svnpath.specs.Paths.{Component, is_at_or_under, PathValue, same_path}
+use Rattle.repo_api.specs.{Trees.{is_directory, is_file_there, Tree}, declared.entry.Entry.Entry}
+use Rattle.drive_rules.specs.{Scopes.depth_below, declared.depth.Depth.Depth, declared.depth.Depth.TheVariants.{Empty, Files, Immediates, Infinity}}
+use Rattle.drive_reports.specs.{declared.graft.Graft.Graft, declared.graft.Subtree.Subtree}
 
 -- what a client has at a path: the entry, its revision, how deep it was reported, and the token of
 -- a lock

@@ -1,21 +1,13 @@
 -- The two trees of a drive: what the client has, and what it is to have.
 use Rattle.std.specs.Prelude.{ℕ, Bool, false, not, ◌&&◌, ◌++◌, List, length, drop, Option, Some, None, option_map, option_and_then, is_some, if◌then◌else◌}
 use Rattle.std.specs.FinMap.{get}
-use Rattle.svnpath.specs.Paths.{PathValue, is_at_or_under}
-use Rattle.repo_api.specs.States.{RepoState, LockMap, trees_in}
-use Rattle.repo_api.specs.Trees.{Tree}
-use Rattle.repo_api.specs.declared.entry.Entry.{Entry}
-use Rattle.repo_api.specs.declared.lock.Lock.{Lock}
+use Rattle.svnpath.specs.Paths.{is_at_or_under, PathValue}
+use Rattle.repo_api.specs.{States.{LockMap, RepoState, trees_in}, Trees.Tree, declared.entry.Entry.Entry, declared.lock.Lock.Lock}
 use Rattle.wire_forms.specs.Forms.{is_name}
-use Rattle.drive_rules.specs.Scopes.{DepthLimit, scope_of, within}
-use Rattle.drive_rules.specs.Scopes.DepthLimit.{Given, Reported}
-use Rattle.drive_rules.specs.declared.depth.Depth.{Depth}
-use Rattle.drive_reports.specs.Reported.{ReportedTree, reported_entries, has_directory, reported}
-use Rattle.drive_reports.specs.declared.ask.DepthAsked.{DepthAsked}
+use Rattle.drive_rules.specs.{Scopes.{DepthLimit, scope_of, within}, Scopes.DepthLimit.{Given, Reported}, declared.depth.Depth.Depth}
+use Rattle.drive_reports.specs.{Reported.{ReportedTree, reported_entries, has_directory, reported}, declared.ask.DepthAsked.DepthAsked}
+use Rattle.drive_reports.specs.{declared.ask.DriveAsk.DriveAsk, declared.graft.Graft.Graft, declared.report.ReportRoot.ReportRoot}
 use Rattle.drive_reports.specs.declared.ask.DepthAsked.TheVariants as asks
-use Rattle.drive_reports.specs.declared.ask.DriveAsk.{DriveAsk}
-use Rattle.drive_reports.specs.declared.graft.Graft.{Graft}
-use Rattle.drive_reports.specs.declared.report.ReportRoot.{ReportRoot}
 
 -- a report that has come to its end
 pub record WholeReport : Type 0 where

@@ -1,9 +1,9 @@
 //! What the commands of a report make of it.
 ghost use Rattle.std.specs.Prelude.{◌≡◌, Some, option_copied, IfOk};
 ghost use Rattle.repo_api.specs.Soundness.{AreTrees};
-ghost use Rattle.drive_reports.specs.Judging.{JudgesReport};
-ghost use Rattle.drive_reports.specs.Named.{IsNamed};
-ghost use Rattle.drive_reports.specs.Refusing.{is_in_order, may_be_absent, first_root, graft_of, set_path_graft, set_path_answer, delete_path_graft, delete_path_answer, report_with_graft, kept_report, has_goal, has_anchor, finish_root};
+ghost use Rattle.drive_reports.specs.{Judging.JudgesReport, Named.IsNamed, Refusing.{is_in_order, may_be_absent, first_root, graft_of, set_path_graft}};
+ghost use Rattle.drive_reports.specs.Refusing.{set_path_answer, delete_path_graft, delete_path_answer, report_with_graft, kept_report, has_goal, has_anchor};
+ghost use Rattle.drive_reports.specs.Refusing.{finish_root};
 
 use crate::ask::{DriveAsk, Purpose};
 use crate::graft::{Graft, Subtree};

@@ -1,7 +1,6 @@
 //! What an update, a switch or a status asks for.
 ghost use Rattle.std.specs.Prelude.{◌≡◌, option_copied, IfOk};
-ghost use Rattle.drive_reports.specs.Judging.{JudgesReport};
-ghost use Rattle.drive_reports.specs.Refusing.{ask_of, begun_report};
+ghost use Rattle.drive_reports.specs.{Judging.JudgesReport, Refusing.{ask_of, begun_report}};
 
 use crate::ask::{DriveAsk, Purpose};
 use crate::grafts::Grafts;

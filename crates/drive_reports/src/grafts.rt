@@ -1,10 +1,7 @@
 //! The grafts of a report.
-ghost use Rattle.std.specs.Prelude.{◌≡◌, ◌≤◌, ◌||◌, ◌∷◌, ◌++◌, [], length, OnOk, OnErr, IfOk};
-ghost use Rattle.std.specs.List.{list_any};
+ghost use Rattle.std.specs.{Prelude.{◌≡◌, ◌≤◌, ◌||◌, ◌∷◌, ◌++◌, [], length, OnOk, OnErr, IfOk}, List.list_any};
 ghost use Rattle.drive_rules.specs.Scopes.{below};
-ghost use Rattle.drive_reports.specs.Depths.{is_shallow};
-ghost use Rattle.drive_reports.specs.Finding.{IsLastAbove, IsLastAt, later};
-ghost use Rattle.drive_reports.specs.Named.{AreNamed, IsNamed};
+ghost use Rattle.drive_reports.specs.{Depths.is_shallow, Finding.{IsLastAbove, IsLastAt, later}, Named.{AreNamed, IsNamed}};
 
 use crate::graft::{Graft, is_shallow};
 use crate::index::GraftIndex;
@@ -25,12 +22,8 @@ pub struct Grafts {
 }
 
 impl Model for Grafts {
-    ghost use Rattle.std.specs.Prelude.{◌≡◌, List};
-    ghost use Rattle.std.specs.List.{list_any};
-    ghost use Rattle.drive_reports.specs.Depths.{is_shallow};
-    ghost use Rattle.drive_reports.specs.Finding.{AreFound};
-    ghost use Rattle.drive_reports.specs.Named.{AreNamed};
-    ghost use Rattle.drive_reports.specs.declared.graft.Graft.{Graft};
+    ghost use Rattle.std.specs.{Prelude.{◌≡◌, List}, List.list_any};
+    ghost use Rattle.drive_reports.specs.{Depths.is_shallow, Finding.AreFound, Named.AreNamed, declared.graft.Graft.Graft};
 
     ghost Value = { List Graft };
 

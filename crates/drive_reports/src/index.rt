@@ -1,7 +1,5 @@
 //! Finds the grafts of a report by their paths.
-ghost use Rattle.std.specs.Prelude.{◌≡◌, ◌++◌, ◌∷◌, [], Option, Some, length, if◌then◌else◌, OnOk, OnErr};
-ghost use Rattle.std.specs.List.{list_any};
-ghost use Rattle.std.specs.Map.{keys_of};
+ghost use Rattle.std.specs.{Prelude.{◌≡◌, ◌++◌, ◌∷◌, [], Option, Some, length, if◌then◌else◌, OnOk, OnErr}, List.list_any, Map.keys_of};
 ghost use Rattle.svnpath.specs.Paths.{PathValue, same_path};
 ghost use Rattle.drive_rules.specs.Scopes.{below};
 ghost use Rattle.drive_reports.specs.Finding.{place_of};

@@ -1,11 +1,8 @@
 //! The rules by which a command of a report is refused, each by itself.
 ghost use Rattle.std.specs.Prelude.{◌≡◌, ◌++◌, drop, length, is_some, option_copied, IfOk};
-ghost use Rattle.repo_api.specs.Trees.{is_directory_there};
+ghost use Rattle.repo_api.specs.{States.trees_in, Trees.is_directory_there};
 ghost use Rattle.svnpath.specs.Texts.{joined};
-ghost use Rattle.repo_api.specs.States.{trees_in};
-ghost use Rattle.drive_reports.specs.Depths.{graft_depth, depth_asked, shallow};
-ghost use Rattle.drive_reports.specs.Judging.{JudgesReport};
-ghost use Rattle.drive_reports.specs.Named.{IsNamed};
+ghost use Rattle.drive_reports.specs.{Depths.{graft_depth, depth_asked, shallow}, Judging.JudgesReport, Named.IsNamed};
 ghost use Rattle.drive_reports.specs.Refusing.{ok_if, or_refusal, url_or, revision_read};
 
 use crate::ask::{DepthAsked, Purpose};

@@ -1,16 +1,10 @@
 //! What holds of reports. The functions do nothing: their contracts are the laws.
 ghost use Rattle.std.specs.Prelude.{◌≡◌, ℕ, true, false, List, [], ◌∷◌, ◌++◌, length, drop, Some};
-ghost use Rattle.svnpath.specs.Paths.{PathValue, is_at_or_under};
-ghost use Rattle.repo_api.specs.Soundness.{AreTrees};
-ghost use Rattle.repo_api.specs.States.{RepoState, Revision};
-ghost use Rattle.repo_api.specs.Trees.{Tree};
-ghost use Rattle.drive_rules.specs.Scopes.{HoldsTogether};
-ghost use Rattle.drive_rules.specs.declared.depth.Depth.TheVariants.{Infinity};
-ghost use Rattle.drive_reports.specs.Places.{AllHoldTogether};
-ghost use Rattle.drive_reports.specs.Reported.{reported, reported_entries};
-ghost use Rattle.drive_reports.specs.Targets.{WholeReport, old_tree, new_tree};
-ghost use Rattle.drive_reports.specs.declared.graft.Graft.{Graft};
-ghost use Rattle.drive_reports.specs.declared.graft.Subtree.{Subtree};
+ghost use Rattle.svnpath.specs.Paths.{is_at_or_under, PathValue};
+ghost use Rattle.repo_api.specs.{Soundness.AreTrees, States.{RepoState, Revision}, Trees.Tree};
+ghost use Rattle.drive_rules.specs.{Scopes.HoldsTogether, declared.depth.Depth.TheVariants.Infinity};
+ghost use Rattle.drive_reports.specs.{Places.AllHoldTogether, Reported.{reported, reported_entries}, Targets.{WholeReport, old_tree, new_tree}};
+ghost use Rattle.drive_reports.specs.{declared.graft.Graft.Graft, declared.graft.Subtree.Subtree};
 
 /// Shows that what exists in a revision exists in a directory of it, wherever each tree is a tree.
 pub fn revisions_hold_together()

@@ -1,9 +1,8 @@
 //! What a client has, by its report.
-ghost use Rattle.std.specs.Prelude.{◌≡◌, ◌≤◌, ◌+◌, ◌++◌, [], true, false, List, Option, Some, option_copied, option_map, option_and_then, is_some, length, take, IfOk, IfSome};
-ghost use Rattle.repo_api.specs.Kinds.{kind_of};
-ghost use Rattle.repo_api.specs.States.{trees_in};
-ghost use Rattle.repo_api.specs.declared.entry.Entry.{Entry};
-ghost use Rattle.svnpath.specs.Paths.{PathValue, Component, is_at_or_under};
+ghost use Rattle.std.specs.Prelude.{◌≡◌, ◌≤◌, ◌+◌, ◌++◌, [], true, false, List, Option, Some, option_copied, option_map, option_and_then, is_some, length};
+ghost use Rattle.std.specs.Prelude.{take, IfOk, IfSome};
+ghost use Rattle.repo_api.specs.{Kinds.kind_of, States.trees_in, declared.entry.Entry.Entry};
+ghost use Rattle.svnpath.specs.Paths.{Component, is_at_or_under, PathValue};
 ghost use Rattle.drive_rules.specs.Scopes.{depth_below};
 ghost use Rattle.drive_reports.specs.Places.{AllHoldTogether, in_place, is_grafted_over, part_below, reported_subtree};
 ghost use Rattle.drive_reports.specs.Reported.{has_directory, has_place, in_subtree, is_surely_placed, left_by, reported, shown_by};

@@ -1,9 +1,6 @@
 //! Which paths of the repository the paths of a report stand for.
 ghost use Rattle.std.specs.Prelude.{◌≡◌, ◌++◌, IfOk};
-ghost use Rattle.drive_reports.specs.Judging.{JudgesReport};
-ghost use Rattle.drive_reports.specs.Named.{IsNamed};
-ghost use Rattle.drive_reports.specs.Refusing.{report_path};
-ghost use Rattle.drive_reports.specs.Reported.{path_above, origin, own_source};
+ghost use Rattle.drive_reports.specs.{Judging.JudgesReport, Named.IsNamed, Refusing.report_path, Reported.{path_above, origin, own_source}};
 
 use crate::ask::DriveAsk;
 use crate::grafts::Grafts;

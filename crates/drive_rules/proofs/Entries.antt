@@ -1,18 +1,15 @@
 -- The right drive of an entry, from that of what is below it.
-use Rattle.std.proofs.Common.{◌≡◌, ◌+◌, arith, Bool, true, false, cond, ◌&&◌, ◌||◌, not, List, [], ◌∷◌, ◌++◌, length, drop, Option, Some, None, refl, sym, ap, ◌∙◌, subst, ◌⊎◌, inl, inr, ⊎_elim, option_map}
-use Rattle.std.proofs.lemmas.Bool.{false≢true}
-use Rattle.std.proofs.lemmas.List.{length-append, append-nil, append_assoc}
-use Rattle.std.specs.Prelude.{IsSome, IsSomeAnd, is_some}
-use Rattle.std.specs.List.{list_any}
-use Rattle.svnpath.specs.Paths.{PathValue, is_at_or_under, same_path}
-use Rattle.svnpath.specs.PathLaws.{same_path_is, same_path_refl, under_itself, under_is, under_append}
-use Rattle.repo_api.specs.Trees.{Tree, HasFile, is_directory}
-use Rattle.repo_api.specs.declared.entry.Entry.{Entry}
-use Rattle.drive_rules.specs.Steps.{EntryKind, Step, Node, node_of, node_at, after_step, after_steps, meets, all_meet, is_of_kind, is_named, has_step, is_opening, adds_or_deletes, is_text, empty_content, no_properties, may_change, IsOwn}
-use Rattle.drive_rules.specs.Steps.Step.{OpenAt, AddAt, DeleteAt}
-use Rattle.drive_rules.specs.Drives.{IsRight, HasReason, Differs, IsOfOneKind, HasOtherText, IsInBoth, created_revision}
+use Rattle.std.proofs.Common.{◌≡◌, ◌+◌, arith, Bool, true, false, cond, ◌&&◌, ◌||◌, not, List, [], ◌∷◌, ◌++◌, length, drop, Option, Some, None, refl, sym, ap}
+use Rattle.std.proofs.{Common.{◌∙◌, subst, ◌⊎◌, inl, inr, ⊎_elim, option_map}, lemmas.Bool.false≢true, lemmas.List.{length-append, append-nil, append_assoc}}
+use Rattle.std.specs.{Prelude.{IsSome, IsSomeAnd, is_some}, List.list_any}
+use Rattle.svnpath.specs.{PathLaws.{same_path_is, same_path_refl, under_append, under_is, under_itself}, Paths.{is_at_or_under, PathValue, same_path}}
+use Rattle.repo_api.specs.{Trees.{HasFile, is_directory, Tree}, declared.entry.Entry.Entry}
+use Rattle.drive_rules.specs.Steps.{EntryKind, Step, Node, node_of, node_at, after_step, after_steps, meets, all_meet, is_of_kind, is_named, has_step}
+use Rattle.drive_rules.specs.Steps.{is_opening, adds_or_deletes, is_text, empty_content, no_properties, may_change, IsOwn}
+use Rattle.drive_rules.specs.{Steps.Step.{OpenAt, AddAt, DeleteAt}, Drives.{IsRight, HasReason, Differs, IsOfOneKind, HasOtherText, IsInBoth, created_revision}}
 use Rattle.drive_rules.specs.Scopes.{under, below, tree_without}
-use Rattle.drive_rules.proofs.Joined.{or_cases, or_left, or_right, and_front, and_both, apart_same, reach_named, either, Spares, IsDisjoint, joined, same_under, none_some}
+use Rattle.drive_rules.proofs.Joined.{or_cases, or_left, or_right, and_front, and_both, apart_same, reach_named, either, Spares, IsDisjoint, joined, same_under}
+use Rattle.drive_rules.proofs.Joined.{none_some}
 
 pub no_length : {X : Type 0} (xs : List X) → length xs ≡ 0 → xs ≡ []
 no_length [] e = refl

@@ -1,17 +1,12 @@
 -- Right drives of two scopes apart make one.
-use Rattle.std.proofs.Common.{◌≡◌, Bool, true, false, cond, ◌&&◌, ◌||◌, not, List, [], ◌∷◌, ◌++◌, Option, Some, None, refl, sym, ap, ◌∙◌, ◌⊎◌, inl, inr, ⊎_elim, option_map}
-use Rattle.std.proofs.lemmas.Bool.{false≢true}
-use Rattle.std.proofs.lemmas.List.Sums.{fold-append}
-use Rattle.std.specs.Prelude.{IsSome, is_some}
-use Rattle.std.specs.List.{list_any}
-use Rattle.svnpath.specs.Paths.{PathValue, is_at_or_under, same_path}
-use Rattle.svnpath.specs.PathLaws.{same_path_is, same_path_refl, under_itself}
-use Rattle.repo_api.specs.Trees.{Tree}
-use Rattle.drive_rules.specs.Steps.{Step, Node, node_at, after_step, after_steps, meets, all_meet, is_of_kind, step_path, is_named, has_step, is_opening, adds_or_deletes, is_text, is_entry_property, with_property_value, empty_content, no_properties, may_change}
-use Rattle.drive_rules.specs.Steps.EntryKind.{FileKind}
-use Rattle.drive_rules.specs.Steps.Step.{OpenAt, AddAt, DeleteAt, PropertyAt, TextAt}
-use Rattle.drive_rules.specs.Drives.{IsRight, IsInBoth, created_revision}
-use Rattle.repo_api.specs.declared.entry.Content.TheVariants.{File}
+use Rattle.std.proofs.Common.{◌≡◌, Bool, true, false, cond, ◌&&◌, ◌||◌, not, List, [], ◌∷◌, ◌++◌, Option, Some, None, refl, sym, ap, ◌∙◌, ◌⊎◌, inl, inr, ⊎_elim}
+use Rattle.std.proofs.{Common.option_map, lemmas.Bool.false≢true, lemmas.List.Sums.fold-append}
+use Rattle.std.specs.{Prelude.{IsSome, is_some}, List.list_any}
+use Rattle.svnpath.specs.{PathLaws.{same_path_is, same_path_refl, under_itself}, Paths.{is_at_or_under, PathValue, same_path}}
+use Rattle.repo_api.specs.{Trees.Tree, declared.entry.Content.TheVariants.File}
+use Rattle.drive_rules.specs.Steps.{Step, Node, node_at, after_step, after_steps, meets, all_meet, is_of_kind, step_path, is_named, has_step, is_opening}
+use Rattle.drive_rules.specs.Steps.{adds_or_deletes, is_text, is_entry_property, with_property_value, empty_content, no_properties, may_change}
+use Rattle.drive_rules.specs.{Steps.EntryKind.FileKind, Steps.Step.{OpenAt, AddAt, DeleteAt, PropertyAt, TextAt}, Drives.{IsRight, IsInBoth, created_revision}}
 
 pub or_cases : (a b : Bool) → (a || b) ≡ true → (a ≡ true) ⊎ (b ≡ true)
 or_cases true b h = inl refl

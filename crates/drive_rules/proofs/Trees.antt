@@ -1,18 +1,12 @@
 -- Trees hold together.
-use Rattle.std.proofs.Common.{◌≡◌, ℕ, zero, suc, Bool, true, false, cond, ◌&&◌, ◌||◌, List, [], ◌∷◌, ◌++◌, length, drop, Option, Some, None, refl, sym, ap, ◌∙◌, subst, inl, inr, ⊎_elim, option_map, if◌then◌else◌}
-use Rattle.std.proofs.lemmas.Bool.{false≢true}
-use Rattle.std.proofs.lemmas.List.{append_assoc}
+use Rattle.std.proofs.Common.{◌≡◌, ℕ, zero, suc, Bool, true, false, cond, ◌&&◌, ◌||◌, List, [], ◌∷◌, ◌++◌, length, drop, Option, Some, None, refl, sym, ap, ◌∙◌}
+use Rattle.std.proofs.{Common.{subst, inl, inr, ⊎_elim, option_map, if◌then◌else◌}, lemmas.Bool.false≢true, lemmas.List.append_assoc}
 use Rattle.std.specs.Prelude.{IsTrue, IsSome, IsSomeAnd}
-use Rattle.svnpath.specs.Paths.{PathValue, Component, is_at_or_under, same_path}
-use Rattle.svnpath.specs.PathLaws.{same_path_refl, under_is, rest_append}
-use Rattle.repo_api.specs.Trees.{Tree, IsTree, HasDirectory, is_directory}
-use Rattle.repo_api.specs.declared.entry.Entry.{Entry}
-use Rattle.drive_rules.specs.declared.depth.Depth.{Depth}
-use Rattle.drive_rules.specs.Steps.{Step, Node, node_of}
-use Rattle.drive_rules.specs.Drives.{IsRight, HasReason, Differs}
-use Rattle.drive_rules.specs.Scopes.{under, HoldsTogether, DepthLimit, scope_of, within, stays_in_scope, includes_child, keeps_reported, depth_said, own_or_inherited, top_limit}
-use Rattle.drive_rules.proofs.Joined.{and_front, and_both}
-use Rattle.drive_rules.proofs.Entries.{below_under, below_apart}
+use Rattle.svnpath.specs.{PathLaws.{rest_append, same_path_refl, under_is}, Paths.{Component, is_at_or_under, PathValue, same_path}}
+use Rattle.repo_api.specs.{Trees.{HasDirectory, is_directory, IsTree, Tree}, declared.entry.Entry.Entry}
+use Rattle.drive_rules.specs.{declared.depth.Depth.Depth, Steps.{Step, Node, node_of}, Drives.{IsRight, HasReason, Differs}, Scopes.{under, HoldsTogether}}
+use Rattle.drive_rules.specs.Scopes.{DepthLimit, scope_of, within, stays_in_scope, includes_child, keeps_reported, depth_said, own_or_inherited, top_limit}
+use Rattle.drive_rules.proofs.{Joined.{and_front, and_both}, Entries.{below_under, below_apart}}
 
 some_of : (t : Tree) (p : PathValue) → HasDirectory t p → IsSome (t p)
 some_of t p h = by (t p) h

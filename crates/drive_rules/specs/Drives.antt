@@ -1,9 +1,7 @@
 -- The drives that lead from a reported tree to its target.
 use Rattle.std.specs.Prelude.{◌≡◌, ℕ, Bool, false, List, [], Option, option_map, IsTrue, IsSome, IsSomeAnd, ◌⊎◌}
-use Rattle.svnpath.specs.Paths.{PathValue, is_at_or_under}
-use Rattle.repo_api.specs.Trees.{Tree, HasFile, is_directory, revision_of}
-use Rattle.repo_api.specs.declared.entry.Content.{Content}
-use Rattle.repo_api.specs.declared.entry.Entry.{Entry}
+use Rattle.svnpath.specs.Paths.{is_at_or_under, PathValue}
+use Rattle.repo_api.specs.{Trees.{HasFile, is_directory, revision_of, Tree}, declared.entry.Content.Content, declared.entry.Entry.Entry}
 use Rattle.repo_api.specs.declared.entry.Mark.{Mark}
 use Rattle.drive_rules.specs.Steps.{Step, Node, node_at, after_steps, all_meet, has_step, is_named, is_opening, adds_or_deletes, is_text}
 

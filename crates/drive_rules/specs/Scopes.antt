@@ -1,10 +1,8 @@
 -- The paths that a drive is of.
 use Rattle.std.specs.Prelude.{◌≡◌, IsSome, Bool, true, false, not, ◌&&◌, ◌||◌, List, [], ◌∷◌, ◌++◌, Option, Some, None, is_some, if◌then◌else◌, drop, length}
-use Rattle.svnpath.specs.Paths.{PathValue, Component, same_path, is_at_or_under}
-use Rattle.repo_api.specs.Trees.{Tree, HasDirectory, is_file_there}
-use Rattle.repo_api.specs.declared.entry.Entry.{Entry}
-use Rattle.drive_rules.specs.declared.depth.Depth.{Depth}
-use Rattle.drive_rules.specs.declared.depth.Depth.TheVariants.{Empty, Files, Immediates, Infinity}
+use Rattle.svnpath.specs.Paths.{Component, is_at_or_under, PathValue, same_path}
+use Rattle.repo_api.specs.{Trees.{HasDirectory, is_file_there, Tree}, declared.entry.Entry.Entry}
+use Rattle.drive_rules.specs.{declared.depth.Depth.Depth, declared.depth.Depth.TheVariants.{Empty, Files, Immediates, Infinity}}
 
 -- q is at or under p
 abbrev pub under : PathValue → PathValue → Bool

@@ -1,16 +1,9 @@
 -- The steps of a drive, and what each makes of what stands at a path.
-use Rattle.std.specs.Prelude.{◌≡◌, ◌==◌, ℕ, Bool, true, false, not, ◌&&◌, ◌||◌, is_some, List, [], ◌∷◌, Option, Some, None, option_map, fold, codes, if◌then◌else◌}
-use Rattle.std.specs.BTreeMap.{is_at}
-use Rattle.std.specs.Cmp.Lexicographic.{slice_cmp}
-use Rattle.std.specs.List.{list_any, starts_with}
-use Rattle.std.specs.Map.{lookup}
-use Rattle.std.specs.Ordering.{nat_cmp}
-use Rattle.svnpath.specs.Paths.{PathValue, is_at_or_under, same_path, same_component}
-use Rattle.repo_api.specs.Properties.{PropertyList}
-use Rattle.repo_api.specs.Trees.{Tree, is_directory_content}
-use Rattle.repo_api.specs.declared.entry.Content.{Content}
-use Rattle.repo_api.specs.declared.entry.Content.TheVariants.{Directory, File}
-use Rattle.repo_api.specs.declared.entry.Entry.{Entry}
+use Rattle.std.specs.Prelude.{◌≡◌, ◌==◌, ℕ, Bool, true, false, not, ◌&&◌, ◌||◌, is_some, List, [], ◌∷◌, Option, Some, None, option_map, fold, codes}
+use Rattle.std.specs.{Prelude.if◌then◌else◌, BTreeMap.is_at, Cmp.Lexicographic.slice_cmp, List.{list_any, starts_with}, Map.lookup, Ordering.nat_cmp}
+use Rattle.svnpath.specs.Paths.{is_at_or_under, PathValue, same_component, same_path}
+use Rattle.repo_api.specs.{Properties.PropertyList, Trees.{is_directory_content, Tree}, declared.entry.Content.Content}
+use Rattle.repo_api.specs.{declared.entry.Content.TheVariants.{Directory, File}, declared.entry.Entry.Entry}
 
 -- a directory or a file
 pub data EntryKind : Type 0 where

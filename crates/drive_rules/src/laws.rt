@@ -1,7 +1,7 @@
 //! What holds of the trees of drives. The functions do nothing: their contracts are the laws.
 ghost use Rattle.std.specs.Prelude.{[]};
 ghost use Rattle.svnpath.specs.Paths.{PathValue};
-ghost use Rattle.repo_api.specs.Trees.{Tree, IsTree};
+ghost use Rattle.repo_api.specs.Trees.{IsTree, Tree};
 ghost use Rattle.drive_rules.specs.Scopes.{HoldsTogether, DepthLimit, scope_of, within};
 
 /// Shows that what exists in a tree exists in a directory of it.

@@ -1,44 +1,26 @@
 -- The drive of a plan may be sent.
-use Rattle.std.proofs.Common.{◌≡◌, ◌≤◌, ℕ, Bool, true, false, ◌&&◌, ◌||◌, List, [], ◌∷◌, ◌++◌, append-nil, length, Option, Some, None, option_map, refl, sym, ap, ◌∙◌, subst, if◌then◌else◌}
-use Rattle.std.proofs.lemmas.Bool.{false≢true}
-use Rattle.std.proofs.lemmas.List.Elements.{All-head, All-tail, All-nil, All-cons}
+use Rattle.std.proofs.Common.{◌≡◌, ◌≤◌, ℕ, Bool, true, false, ◌&&◌, ◌||◌, List, [], ◌∷◌, ◌++◌, append-nil, length, Option, Some, None, option_map, refl, sym}
+use Rattle.std.proofs.{Common.{ap, ◌∙◌, subst, if◌then◌else◌}, lemmas.Bool.false≢true, lemmas.List.Elements.{All-head, All-tail, All-nil, All-cons}}
 use Rattle.std.proofs.lemmas.List.Sums.{fold-append}
-use Rattle.std.specs.Prelude.{All, IsSomeAnd, fold, is_some}
-use Rattle.std.specs.List.{list_any}
-use Rattle.std.specs.Option.{option_or}
-use Rattle.svnpath.specs.Paths.{PathValue, same_path}
-use Rattle.svnpath.specs.PathLaws.{same_path_is}
+use Rattle.std.specs.{Prelude.{All, IsSomeAnd, fold, is_some}, List.list_any, Option.option_or}
+use Rattle.svnpath.specs.{PathLaws.same_path_is, Paths.{PathValue, same_path}}
 use Rattle.svndiff0.specs.Window.{limit}
-use Rattle.repo_api.specs.States.{RepoState}
-use Rattle.repo_api.specs.Trees.{Tree}
-use Rattle.repo_api.specs.declared.entry.Entry.{Entry}
+use Rattle.repo_api.specs.{States.RepoState, Trees.Tree, declared.entry.Entry.Entry}
 use Rattle.wire_edits.specs.declared.editing.EditorCommand.TheVariants.{CloseDirectory}
-use Rattle.drive_rules.specs.Steps.{Step, is_entry_property, has_step, is_opening, is_adding}
-use Rattle.drive_rules.specs.Steps.EntryKind.{DirectoryKind}
-use Rattle.drive_rules.specs.Steps.Step.{OpenAt, AddAt}
-use Rattle.drive_rules.proofs.Joined.{and_front, named_append}
-use Rattle.drive_rules.proofs.Trees.{in_scope}
-use Rattle.reporter.specs.Own.{Change, property_steps, text_steps}
-use Rattle.reporter.specs.Visits.{entry_kind, kind_if, plan_steps, visit_steps}
-use Rattle.reporter.specs.declared.visit.Visit.{Visit}
+use Rattle.drive_rules.specs.{Steps.{has_step, is_adding, is_entry_property, is_opening, Step}, Steps.EntryKind.DirectoryKind, Steps.Step.{AddAt, OpenAt}}
+use Rattle.drive_rules.proofs.{Joined.{and_front, named_append}, Trees.in_scope}
+use Rattle.reporter.specs.{Own.{Change, property_steps, text_steps}, Visits.{entry_kind, kind_if, plan_steps, visit_steps}, declared.visit.Visit.Visit}
 use Rattle.reporter.specs.declared.visit.Visit.TheVariants.{Open, Add, Delete, Close}
 use Rattle.drive_reports.specs.Reported.{reported_entries}
 use Rattle.drive_reports.specs.Targets.{WholeReport, client_tree, target_tree, limit_of, drive_scope, is_stale, old_tree, new_tree, stale_in}
-use Rattle.drive_wire.specs.EntryProperties.{entry_property, told_by, told}
-use Rattle.drive_wire.specs.Saying.{Says}
+use Rattle.drive_wire.specs.{EntryProperties.{entry_property, told_by, told}, Saying.Says}
 use Rattle.drive_wire.specs.Sent.{IsDrive, LeadsToTarget, TellsEach, base_of, or_no_text, enters, from_root, seen_by}
-use Rattle.drive_wire.proofs.Joining.{says_append}
-use Rattle.drive_wire.proofs.Writing.{reads_close}
-use Rattle.drive_news.specs.News.{news_at, news_steps, steps_if, own_steps_of, old_entry}
-use Rattle.drive_news.specs.declared.news.News.{News}
+use Rattle.drive_wire.proofs.{Joining.says_append, Writing.reads_close}
+use Rattle.drive_news.specs.{News.{news_at, news_steps, steps_if, own_steps_of, old_entry}, declared.news.News.News}
 use Rattle.drive_sides.specs.Plans.{IsPlan, from_top}
-use Rattle.drive_sending.specs.Commands.{news_commands, news_told, root_commands, plan_commands, body_commands, drive_of}
-use Rattle.drive_sending.proofs.Sending.{IsSendable}
-use Rattle.drive_sending.specs.Tokens.{token_of}
-use Rattle.drive_sending.proofs.Tokens.{entry_at, open_directories}
-use Rattle.drive_sending.proofs.Entries.{says_news}
-use Rattle.drive_sending.proofs.Plans.{says_plan, steps_told, news_silent, nothing_short}
-use Rattle.drive_sending.proofs.Told.{own_news, other_news}
+use Rattle.drive_sending.specs.{Commands.{news_commands, news_told, root_commands, plan_commands, body_commands, drive_of}, Tokens.token_of}
+use Rattle.drive_sending.proofs.{Sending.IsSendable, Tokens.{entry_at, open_directories}, Entries.says_news}
+use Rattle.drive_sending.proofs.{Plans.{says_plan, steps_told, news_silent, nothing_short}, Told.{own_news, other_news}}
 
 -- ---- which visits enter a path
 

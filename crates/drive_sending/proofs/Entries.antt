@@ -1,31 +1,21 @@
 -- What the commands of one entry say.
-use Rattle.std.proofs.Common.{◌≡◌, ◌≤◌, ℕ, zero, suc, true, false, List, [], ◌∷◌, ◌++◌, append-nil, length, map, take, drop, Option, Some, None, refl, sym, ap, ◌∙◌, subst, if◌then◌else◌}
-use Rattle.std.specs.Int.{div_ceil}
-use Rattle.std.specs.Prelude.{Ok}
-use Rattle.svnpath.specs.Paths.{PathValue}
-use Rattle.svnpath.specs.PathLaws.{same_component_refl}
-use Rattle.svndiff0.specs.Document.{header, document_text}
-use Rattle.svndiff0.specs.Full.{full_window, full_windows, full_document}
-use Rattle.svndiff0.specs.Window.{limit}
+use Rattle.std.proofs.Common.{◌≡◌, ◌≤◌, ℕ, zero, suc, true, false, List, [], ◌∷◌, ◌++◌, append-nil, length, map, take, drop, Option, Some, None, refl, sym, ap}
+use Rattle.std.proofs.Common.{◌∙◌, subst, if◌then◌else◌}
+use Rattle.std.specs.{Int.div_ceil, Prelude.Ok}
+use Rattle.svnpath.specs.{PathLaws.same_component_refl, Paths.PathValue}
+use Rattle.svndiff0.specs.{Document.{header, document_text}, Full.{full_window, full_windows, full_document}, Window.limit}
 use Rattle.svndiff0.proofs.Fulls.{full_again}
-use Rattle.drive_wire.specs.Sent.{or_no_text}
+use Rattle.drive_wire.specs.{Sent.or_no_text, Saying.{OpenEntry, Says, same_kind, sends_texts, is_base_checksum, is_sent_checksum, is_sent_delta, file_closed}}
+use Rattle.drive_wire.specs.Saying.TextState.{Received}
 use Rattle.wire_forms.specs.Forms.{is_name}
 use Rattle.wire_edits.specs.declared.editing.EditorCommand.TheVariants.{CloseFile}
-use Rattle.drive_rules.specs.Steps.{EntryKind}
-use Rattle.drive_rules.specs.Steps.EntryKind.{DirectoryKind, FileKind}
-use Rattle.drive_rules.specs.Steps.Step.{TextAt}
+use Rattle.drive_rules.specs.{Steps.EntryKind, Steps.EntryKind.{DirectoryKind, FileKind}, Steps.Step.TextAt}
 use Rattle.drive_rules.proofs.Joined.{and_both}
 use Rattle.reporter.specs.Own.{property_steps, text_steps}
-use Rattle.drive_reports.specs.declared.ask.Purpose.{Purpose}
-use Rattle.drive_reports.specs.declared.ask.Purpose.TheVariants.{Update, Switch, Status}
-use Rattle.drive_wire.specs.Saying.{OpenEntry, Says, same_kind, sends_texts, is_base_checksum, is_sent_checksum, is_sent_delta, file_closed}
-use Rattle.drive_wire.specs.Saying.TextState.{Received}
-use Rattle.drive_wire.proofs.Joining.{says_append}
-use Rattle.drive_wire.proofs.Writing.{says_properties, says_text, joined_bytes, with_state}
-use Rattle.drive_news.specs.News.{news_steps}
-use Rattle.drive_news.specs.declared.news.News.{News}
-use Rattle.drive_sending.specs.Commands.{windows, chunks, text_commands, digits_of, checksum_sent, news_commands, property_command}
-use Rattle.drive_sending.specs.Tokens.{token_of}
+use Rattle.drive_reports.specs.{declared.ask.Purpose.Purpose, declared.ask.Purpose.TheVariants.{Update, Switch, Status}}
+use Rattle.drive_wire.proofs.{Joining.says_append, Writing.{says_properties, says_text, joined_bytes, with_state}}
+use Rattle.drive_news.specs.{News.news_steps, declared.news.News.News}
+use Rattle.drive_sending.specs.{Commands.{windows, chunks, text_commands, digits_of, checksum_sent, news_commands, property_command}, Tokens.token_of}
 use Rattle.drive_sending.proofs.Tokens.{entry_at, open_directories}
 
 -- the chunks of a document are the document

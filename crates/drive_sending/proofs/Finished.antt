@@ -1,34 +1,23 @@
 -- Where there is no target, a directory is to stand at the root of a drive.
-use Rattle.std.proofs.Common.{◌≡◌, ℕ, inr, List, Bool, true, false, ◌&&◌, [], ◌++◌, append-nil, length, drop, Option, Some, None, refl, sym, ap, ◌∙◌, subst, if◌then◌else◌}
-use Rattle.repo_api.specs.Trees.{is_directory_there}
-use Rattle.std.proofs.lemmas.Bool.{false≢true}
+use Rattle.std.proofs.Common.{◌≡◌, ℕ, inr, List, Bool, true, false, ◌&&◌, [], ◌++◌, append-nil, length, drop, Option, Some, None, refl, sym, ap, ◌∙◌, subst}
+use Rattle.std.proofs.{Common.if◌then◌else◌, lemmas.Bool.false≢true}
+use Rattle.repo_api.specs.{Soundness.AreTrees, States.{RepoState, trees_in}, Trees.is_directory_there, declared.entry.Entry.Entry}
 use Rattle.std.specs.Prelude.{Result, Ok, Err, ok_or, is_some}
-use Rattle.svnpath.specs.Paths.{PathValue, same_path, is_at_or_under}
-use Rattle.svnpath.specs.PathLaws.{same_path_is}
+use Rattle.svnpath.specs.{PathLaws.same_path_is, Paths.{is_at_or_under, PathValue, same_path}}
 use Rattle.refusals.specs.declared.Refusal.{Refusal}
 use Rattle.refusals.specs.declared.Refusal.TheVariants as refusals
-use Rattle.repo_api.specs.Soundness.{AreTrees}
-use Rattle.repo_api.specs.States.{RepoState, trees_in}
-use Rattle.repo_api.specs.declared.entry.Entry.{Entry}
-use Rattle.drive_rules.specs.Scopes.{stays_in_scope, top_limit}
-use Rattle.drive_rules.specs.Steps.EntryKind.{DirectoryKind}
+use Rattle.drive_rules.specs.{Scopes.{stays_in_scope, top_limit}, Steps.EntryKind.DirectoryKind}
 use Rattle.drive_rules.proofs.Joined.{and_front}
-use Rattle.reporter.specs.Visits.{entry_kind, kind_if}
-use Rattle.drive_reports.specs.Named.{IsNamed, AreNamed}
-use Rattle.drive_reports.specs.Refusing.{◌>>=◌, ok_if, OpenState, has_goal, has_anchor, finish_root}
-use Rattle.drive_reports.specs.Reported.{reported_entries, has_directory}
-use Rattle.drive_reports.specs.Targets.{WholeReport, client_tree, reported_tree, target_tree, limit_of, new_tree}
+use Rattle.reporter.specs.{Visits.{entry_kind, kind_if}, declared.visit.Visit.Visit}
+use Rattle.drive_reports.specs.{Named.{IsNamed, AreNamed}, Refusing.{◌>>=◌, ok_if, OpenState, has_goal, has_anchor, finish_root}}
+use Rattle.drive_reports.specs.{Reported.{reported_entries, has_directory}, Targets.{WholeReport, client_tree, reported_tree, target_tree, limit_of, new_tree}}
 use Rattle.drive_reports.specs.declared.report.ReportRoot.{ReportRoot}
-use Rattle.drive_sides.specs.Plans.{whole}
-use Rattle.reporter.specs.declared.visit.Visit.{Visit}
+use Rattle.drive_sides.specs.Plans.{whole, IsPlan}
 use Rattle.wire_edits.specs.declared.editing.EditorCommand.{EditorCommand}
 use Rattle.wire_replies.specs.Sinks.{Says}
 use Rattle.drive_wire.specs.Sent.{IsDrive}
-use Rattle.drive_sides.specs.Plans.{IsPlan}
-use Rattle.drive_sending.specs.Commands.{drive_of}
-use Rattle.drive_sending.specs.Driving.{drive_replies, SaysDrive}
-use Rattle.drive_sending.proofs.Sending.{plan_sendable}
-use Rattle.drive_sending.proofs.Drives.{RootStands, is_drive}
+use Rattle.drive_sending.specs.{Commands.drive_of, Driving.{drive_replies, SaysDrive}}
+use Rattle.drive_sending.proofs.{Sending.plan_sendable, Drives.{RootStands, is_drive}}
 
 judged : (o : Option ReportRoot) (b : Bool) (root : ReportRoot) → ((ok_or o refusals.MalformedData) >>= (λ r. (ok_if b refusals.NotFound) >>= (λ _. Ok r))) ≡ Ok root → b ≡ true
 judged None b root e = absurd (err_is_ok e)

@@ -1,44 +1,27 @@
 -- What the commands of a plan say.
-use Rattle.std.proofs.Common.{arith, ◌≡◌, ◌≤◌, ◌+◌, ◌-◌, ℕ, Bool, true, false, ◌&&◌, List, [], ◌∷◌, ◌++◌, length, Option, Some, None, option_map, refl, sym, ap, ◌∙◌, subst, if◌then◌else◌}
-use Rattle.std.proofs.lemmas.Bool.{false≢true}
-use Rattle.std.proofs.lemmas.List.Elements.{All-head, All-tail}
+use Rattle.std.proofs.Common.{arith, ◌≡◌, ◌≤◌, ◌+◌, ◌-◌, ℕ, Bool, true, false, ◌&&◌, List, [], ◌∷◌, ◌++◌, length, Option, Some, None, option_map, refl, sym, ap}
+use Rattle.std.proofs.{Common.{◌∙◌, subst, if◌then◌else◌}, lemmas.Bool.false≢true, lemmas.List.Elements.{All-head, All-tail}}
 use Rattle.std.proofs.lemmas.Option.{none-some, same_Some}
 use Rattle.std.specs.Prelude.{All, option_and_then}
-use Rattle.svnpath.specs.Paths.{PathValue}
-use Rattle.svnpath.specs.PathLaws.{same_component_refl}
+use Rattle.svnpath.specs.{PathLaws.same_component_refl, Paths.PathValue}
 use Rattle.svndiff0.specs.Window.{limit}
-use Rattle.repo_api.specs.Kinds.{text_of, content_text}
-use Rattle.repo_api.specs.States.{RepoState}
-use Rattle.repo_api.specs.Trees.{Tree, is_directory_content}
-use Rattle.repo_api.specs.declared.entry.Content.{Content}
-use Rattle.repo_api.specs.declared.entry.Content.TheVariants.{Directory, File}
-use Rattle.repo_api.specs.declared.entry.Entry.{Entry}
+use Rattle.repo_api.specs.{States.RepoState, Trees.{content_text, is_directory_content, text_of, Tree}, declared.entry.Content.Content}
+use Rattle.repo_api.specs.{declared.entry.Content.TheVariants.{Directory, File}, declared.entry.Entry.Entry}
 use Rattle.wire_forms.specs.Forms.{is_name}
 use Rattle.wire_edits.specs.declared.editing.EditorCommand.{EditorCommand}
-use Rattle.drive_rules.specs.Places.{is_in_directory}
+use Rattle.drive_rules.specs.{Places.is_in_directory, Steps.{EntryKind, Step}, Steps.EntryKind.{DirectoryKind, FileKind}, Steps.Step.{AddAt, DeleteAt, OpenAt}}
 use Rattle.drive_rules.proofs.Joined.{and_front}
-use Rattle.drive_rules.specs.Steps.{EntryKind, Step}
-use Rattle.drive_rules.specs.Steps.EntryKind.{DirectoryKind, FileKind}
-use Rattle.drive_rules.specs.Steps.Step.{OpenAt, AddAt, DeleteAt}
-use Rattle.reporter.specs.Nesting.{stands_as, walk}
-use Rattle.reporter.specs.Visits.{entry_kind, kind_if, plan_steps}
-use Rattle.reporter.specs.declared.visit.Visit.{Visit}
+use Rattle.reporter.specs.{Nesting.{stands_as, walk}, Visits.{entry_kind, kind_if, plan_steps}, declared.visit.Visit.Visit}
 use Rattle.reporter.specs.declared.visit.Visit.TheVariants.{Open, Add, Delete, Close}
-use Rattle.drive_reports.specs.Targets.{WholeReport, old_tree, new_tree}
-use Rattle.drive_reports.specs.declared.ask.Purpose.{Purpose}
+use Rattle.drive_reports.specs.{Targets.{WholeReport, old_tree, new_tree}, declared.ask.Purpose.Purpose}
 use Rattle.drive_reports.specs.declared.ask.Purpose.TheVariants.{Update, Switch, Status}
 use Rattle.drive_wire.specs.Saying as saying
-use Rattle.drive_wire.specs.Saying.{Says, steps_said, is_in_place, when, is_open_token}
-use Rattle.drive_wire.specs.Sent.{base_of, or_no_text}
-use Rattle.drive_wire.proofs.Joining.{says_append}
-use Rattle.drive_wire.proofs.Writing.{reads_entry, reads_close}
-use Rattle.drive_news.specs.News.{news_at, news_steps, steps_if, own_steps_of, other_text, text_sent, old_entry}
-use Rattle.drive_news.specs.declared.news.News.{News}
+use Rattle.drive_wire.specs.{Saying.{Says, steps_said, is_in_place, when, is_open_token}, Sent.{base_of, or_no_text}}
+use Rattle.drive_wire.proofs.{Joining.says_append, Writing.{reads_entry, reads_close}}
+use Rattle.drive_news.specs.{News.{news_at, news_steps, steps_if, own_steps_of, other_text, text_sent, old_entry}, declared.news.News.News}
 use Rattle.drive_sending.specs.Commands.{open_command, add_command, opened_entry, added_entry, news_commands, news_told, or_no_news, plan_commands, deeper_by}
 use Rattle.drive_sending.specs.Tokens.{token_of}
-use Rattle.drive_sending.proofs.Spelled.{IsSpelledPath}
-use Rattle.drive_sending.proofs.Sending.{IsTellable, IsSendable}
-use Rattle.drive_sending.proofs.Tokens.{entry_at, open_directories, grown, none_open}
+use Rattle.drive_sending.proofs.{Spelled.IsSpelledPath, Sending.{IsTellable, IsSendable}, Tokens.{entry_at, open_directories, grown, none_open}}
 use Rattle.drive_sending.proofs.Entries.{IsTextSent, after_entry, says_news}
 
 -- ---- where a walk goes on

@@ -5,8 +5,7 @@ use Rattle.repo_api.specs.States.{RepoState}
 use Rattle.drive_rules.specs.Steps.EntryKind.{DirectoryKind}
 use Rattle.drive_reports.specs.Targets.{WholeReport}
 use Rattle.drive_news.specs.declared.news.News.{News}
-use Rattle.drive_sending.specs.Commands.{news_commands, news_told, root_commands}
-use Rattle.drive_sending.specs.Tokens.{token_of}
+use Rattle.drive_sending.specs.{Commands.{news_commands, news_told, root_commands}, Tokens.token_of}
 
 -- without a target the root is told its news
 pub root_told : (c : RepoState) (report : WholeReport) (news : News) → report.ask.target ≡ [] → news ≡ news_told c report [] false

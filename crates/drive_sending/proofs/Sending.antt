@@ -1,35 +1,22 @@
 -- Every visit of a plan can be sent: its path is one that a client can name, what it enters is to stand, and texts keep the limit.
-use Rattle.std.proofs.Common.{◌≡◌, ◌≤◌, ℕ, Bool, true, false, not, cond, ◌&&◌, ◌||◌, List, [], ◌∷◌, ◌++◌, length, drop, Option, Some, None, option_map, refl, sym, ap, ◌∙◌, subst, arith, append-nil, ⊎_elim, if◌then◌else◌}
-use Rattle.std.proofs.lemmas.Bool.{false≢true}
-use Rattle.std.proofs.lemmas.List.Elements.{All-nil, All-cons, All-head, All-tail, All-append}
-use Rattle.std.proofs.lemmas.Option.{none-some}
+use Rattle.std.proofs.Common.{◌≡◌, ◌≤◌, ℕ, Bool, true, false, not, cond, ◌&&◌, ◌||◌, List, [], ◌∷◌, ◌++◌, length, drop, Option, Some, None, option_map, refl}
+use Rattle.std.proofs.{Common.{sym, ap, ◌∙◌, subst, arith, append-nil, ⊎_elim, if◌then◌else◌}, lemmas.Bool.false≢true}
+use Rattle.std.proofs.{lemmas.List.Elements.{All-nil, All-cons, All-head, All-tail, All-append}, lemmas.Option.none-some}
 use Rattle.std.specs.Prelude.{All, fold, is_some, option_and_then}
-use Rattle.svnpath.specs.Components.{IsComponent}
-use Rattle.svnpath.specs.Paths.{PathValue, Component, is_at_or_under, same_path}
-use Rattle.svnpath.specs.PathLaws.{under_is, same_path_refl}
+use Rattle.svnpath.specs.{Components.IsComponent, PathLaws.{same_path_refl, under_is}, Paths.{Component, is_at_or_under, PathValue, same_path}}
 use Rattle.svndiff0.specs.Window.{limit}
-use Rattle.repo_api.specs.Soundness.{AreTrees}
-use Rattle.repo_api.specs.States.{RepoState, trees_in}
-use Rattle.repo_api.specs.Trees.{Tree, text_of, is_directory}
-use Rattle.repo_api.specs.declared.entry.Entry.{Entry}
+use Rattle.repo_api.specs.{Soundness.AreTrees, States.{RepoState, trees_in}, Trees.{is_directory, text_of, Tree}, declared.entry.Entry.Entry}
 use Rattle.repo_api.specs.declared.limits.TheConstants.{TEXT_LIMIT}
 use Rattle.repo_laws.proofs.Standing.{right_where, short_where}
-use Rattle.drive_rules.specs.Drives.{Differs, HasReason}
-use Rattle.drive_rules.specs.Places.{is_in_directory}
-use Rattle.drive_rules.specs.Scopes.{depth_below}
-use Rattle.drive_rules.specs.Steps.{Step, node_of, is_named}
-use Rattle.drive_rules.specs.declared.depth.Depth.{Depth}
-use Rattle.drive_rules.specs.declared.depth.Depth.TheVariants.{Empty, Files, Immediates, Infinity}
+use Rattle.drive_rules.specs.{Drives.{Differs, HasReason}, Places.is_in_directory, Scopes.depth_below, Steps.{is_named, node_of, Step}}
+use Rattle.drive_rules.specs.{declared.depth.Depth.Depth, declared.depth.Depth.TheVariants.{Empty, Files, Immediates, Infinity}}
 use Rattle.drive_rules.proofs.Joined.{and_front, named_append, or_right}
-use Rattle.reporter.specs.Nesting.{stands_as, walk}
-use Rattle.reporter.specs.Visits.{OwnSteps, entry_kind, kind_if, plan_steps, visit_steps}
-use Rattle.reporter.specs.declared.visit.Visit.{Visit}
+use Rattle.reporter.specs.{Nesting.{stands_as, walk}, Visits.{OwnSteps, entry_kind, kind_if, plan_steps, visit_steps}, declared.visit.Visit.Visit}
 use Rattle.reporter.specs.declared.visit.Visit.TheVariants.{Open, Add, Delete, Close}
 use Rattle.drive_reports.specs.Named.{IsNamed, AreNamed}
 use Rattle.drive_reports.specs.Reported.{ReportedEntry, ReportedTree, left_by, top_entry, reported_as, in_subtree, in_graft, has_place, with_graft}
 use Rattle.drive_reports.specs.Targets.{WholeReport, client_tree, drive_scope, goal_path, is_stale, is_stale_token, new_tree, old_tree, stale_in, target_tree}
-use Rattle.drive_reports.specs.declared.graft.Graft.{Graft}
-use Rattle.drive_reports.specs.declared.graft.Subtree.{Subtree}
+use Rattle.drive_reports.specs.{declared.graft.Graft.Graft, declared.graft.Subtree.Subtree}
 use Rattle.drive_wire.specs.Sent.{or_no_text}
 use Rattle.drive_sides.specs.Plans.{IsPlan, from_top}
 use Rattle.drive_sides.proofs.Listing.{in_old, in_new, under_target}

@@ -1,16 +1,10 @@
 -- The text of a path that a client can name names the path.
 use Rattle.std.proofs.Common.{◌≡◌, [], ◌∷◌, ◌++◌, Bool, true, false, cond, ◌||◌, not, length, Option, Some, None, refl, sym, ap, ◌∙◌, append-nil, if◌then◌else◌}
-use Rattle.std.proofs.lemmas.Bool.{false≢true}
-use Rattle.std.proofs.lemmas.List.Elements.{All-nil, All-cons, All-head, All-tail}
+use Rattle.std.proofs.{lemmas.Bool.false≢true, lemmas.List.Elements.{All-nil, All-cons, All-head, All-tail}}
 use Rattle.std.proofs.lemmas.List.Splits.{slice_split_none, slice_split_at}
-use Rattle.std.specs.List.{All, slice_split, flat_map, list_any}
-use Rattle.std.specs.Prelude.{◌==◌, nat_lt, IsNone}
-use Rattle.std.specs.Str.{is_utf8}
-use Rattle.svnpath.specs.Components.{IsComponent, is_forbidden, is_forbidden_byte}
-use Rattle.svnpath.specs.Paths.{PathValue, Component, same_component}
-use Rattle.svnpath.specs.Texts.{components_of, is_slash}
-use Rattle.svnpath.specs.declared.component.TheConstants.{COMPONENT_LIMIT}
-use Rattle.svnpath.specs.declared.fault.PathFault.{PathFault}
+use Rattle.std.specs.{List.{All, slice_split, flat_map, list_any}, Prelude.{◌==◌, nat_lt, IsNone}, Str.is_utf8}
+use Rattle.svnpath.specs.{Components.{is_forbidden, is_forbidden_byte, IsComponent}, Paths.{Component, PathValue, same_component}}
+use Rattle.svnpath.specs.{Texts.{components_of, is_slash}, declared.component.TheConstants.COMPONENT_LIMIT, declared.fault.PathFault.PathFault}
 use Rattle.svnpath.specs.declared.fault.PathFault.TheVariants.{EmptyComponent, ForbiddenComponent, TooLong}
 use Rattle.drive_rules.proofs.Joined.{or_false}
 use Rattle.drive_reports.specs.Named.{IsNamed}

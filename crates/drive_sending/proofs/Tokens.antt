@@ -1,17 +1,11 @@
 -- A new token is not open.
 use Rattle.std.proofs.Common.{arith, add-one, ◌≡◌, ◌<◌, ◌≤◌, ◌+◌, ◌^◌, ℕ, Bool, true, false, ◌||◌, List, [], ◌∷◌, length, refl, sym, ap, ◌∙◌, subst}
-use Rattle.std.proofs.lemmas.Bool.{ltb-false, ltb-true}
-use Rattle.std.proofs.lemmas.Fmt.{decimal_injective, length-decimal-le}
-use Rattle.std.proofs.lemmas.List.{length-replicate}
-use Rattle.std.specs.Fmt.{decimal}
-use Rattle.std.specs.Prelude.{if◌then◌else◌, nat_lt, replicate}
-use Rattle.svnpath.specs.Paths.{PathValue}
-use Rattle.svnpath.specs.PathLaws.{same_component_is}
+use Rattle.std.proofs.{lemmas.Bool.{ltb-false, ltb-true}, lemmas.Fmt.{decimal_injective, length-decimal-le}, lemmas.List.length-replicate}
+use Rattle.std.specs.{Fmt.decimal, Prelude.{if◌then◌else◌, nat_lt, replicate}}
+use Rattle.svnpath.specs.{PathLaws.same_component_is, Paths.PathValue}
 use Rattle.wire_forms.specs.Forms.{is_name}
-use Rattle.drive_rules.specs.Steps.{EntryKind}
-use Rattle.drive_rules.specs.Steps.EntryKind.{DirectoryKind, FileKind}
-use Rattle.drive_wire.specs.Saying.{OpenEntry, is_open_token}
-use Rattle.drive_wire.specs.Saying.TextState.{Unchanged}
+use Rattle.drive_rules.specs.{Steps.EntryKind, Steps.EntryKind.{DirectoryKind, FileKind}}
+use Rattle.drive_wire.specs.{Saying.{OpenEntry, is_open_token}, Saying.TextState.Unchanged}
 use Rattle.drive_sending.specs.Tokens.{count_text, token_of}
 
 -- what is open under the token of an entry that was entered while so many were open

@@ -1,26 +1,16 @@
 -- What each entry that a plan opens or adds is told of itself.
-use Rattle.std.proofs.Common.{◌≡◌, ℕ, Bool, true, false, cond, ◌&&◌, ◌||◌, not, List, [], ◌∷◌, map, Option, Some, None, option_map, refl, sym, ap, ◌∙◌, if◌then◌else◌}
-use Rattle.std.proofs.lemmas.Bool.{false≢true}
-use Rattle.std.proofs.lemmas.List.{map-append}
-use Rattle.std.proofs.lemmas.List.Sums.{fold-append}
-use Rattle.std.specs.Prelude.{filter, fold, codes}
-use Rattle.std.specs.List.{list_any, filter_map, cons_option}
-use Rattle.std.specs.Option.{option_or}
-use Rattle.svnpath.specs.Paths.{PathValue, same_path}
-use Rattle.svnpath.specs.PathLaws.{same_component_is, same_component_refl, same_path_refl}
-use Rattle.repo_api.specs.Kinds.{node_properties, or_empty}
-use Rattle.repo_api.specs.Properties.{PropertyList, property_value}
-use Rattle.repo_api.specs.States.{RepoState}
-use Rattle.repo_api.specs.declared.entry.Entry.{Entry}
+use Rattle.std.proofs.Common.{◌≡◌, ℕ, Bool, true, false, cond, ◌&&◌, ◌||◌, not, List, [], ◌∷◌, map, Option, Some, None, option_map, refl, sym, ap, ◌∙◌}
+use Rattle.std.proofs.{Common.if◌then◌else◌, lemmas.Bool.false≢true, lemmas.List.map-append, lemmas.List.Sums.fold-append}
+use Rattle.std.specs.{Prelude.{filter, fold, codes}, List.{list_any, filter_map, cons_option}, Option.option_or}
+use Rattle.svnpath.specs.{PathLaws.{same_component_is, same_component_refl, same_path_refl}, Paths.{PathValue, same_path}}
+use Rattle.repo_api.specs.{Kinds.{node_properties, or_empty}, Properties.{property_value, PropertyList}, States.RepoState, declared.entry.Entry.Entry}
 use Rattle.wire_forms.specs.Forms.{is_name}
-use Rattle.drive_rules.specs.Steps.{Step, is_entry_property}
-use Rattle.drive_rules.specs.Steps.Step.{PropertyAt}
+use Rattle.drive_rules.specs.{Steps.{is_entry_property, Step}, Steps.Step.PropertyAt}
 use Rattle.drive_rules.proofs.Joined.{or_false, and_front}
 use Rattle.reporter.specs.Own.{Change, property_steps, text_steps}
 use Rattle.drive_reports.specs.declared.ask.Purpose.{Purpose}
 use Rattle.drive_wire.specs.EntryProperties.{entry_property, told_by}
-use Rattle.drive_news.specs.News.{entry_property_names, entry_changes, names_in_both, is_told, property_changes, news_of, news_steps}
-use Rattle.drive_news.specs.declared.news.News.{News}
+use Rattle.drive_news.specs.{News.{entry_property_names, entry_changes, names_in_both, is_told, property_changes, news_of, news_steps}, declared.news.News.News}
 
 turned_false : (a b : List ℕ) → is_name a b ≡ false → is_name b a ≡ false
 turned_false a b e = by (is_name b a) refl

@@ -4,14 +4,11 @@ use Rattle.repo_api.specs.States.{RepoState}
 use Rattle.wire_edits.specs.declared.editing.EditorCommand.{EditorCommand}
 use Rattle.wire_replies.proofs.Parts.{part_all}
 use Rattle.wire_replies.specs.Sinks.{WritesPart}
-use Rattle.reporter.specs.Visiting.{MayVisit}
-use Rattle.reporter.specs.declared.visit.Visit.{Visit}
-use Rattle.reporter.specs.declared.visitor.Visitor.{Visitor}
+use Rattle.reporter.specs.{Visiting.MayVisit, declared.visit.Visit.Visit, declared.visitor.Visitor.Visitor}
 use Rattle.drive_reports.specs.Targets.{WholeReport}
 use Rattle.drive_sides.proofs.Existing.{some_visits}
 use Rattle.drive_sides.specs.Plans.{drive_trees}
-use Rattle.drive_sending.specs.Commands.{around_after, plan_commands, visit_commands}
-use Rattle.drive_sending.specs.Driving.{Visiting, command_bytes}
+use Rattle.drive_sending.specs.{Commands.{around_after, plan_commands, visit_commands}, Driving.{Visiting, command_bytes}}
 use Rattle.drive_sending.proofs.Written.{behind_part, both, first_part}
 
 module _ (c : RepoState) (report : WholeReport) where

@@ -1,20 +1,15 @@
 -- Commands that are written one after another.
-use Rattle.std.proofs.Common.{arith, ◌≡◌, ◌<◌, ◌+◌, inl, inr, ℕ, zero, suc, List, [], ◌∷◌, ◌++◌, length, map, min, take, drop, get_or, refl, sym, ap, ◌∙◌, subst, append-nil, append_assoc}
-use Rattle.std.proofs.Math.ListN.{drop_of_length-le}
-use Rattle.std.proofs.Math.Seq.{drop-cons, drop-length}
+use Rattle.std.proofs.Common.{arith, ◌≡◌, ◌<◌, ◌+◌, inl, inr, ℕ, zero, suc, List, [], ◌∷◌, ◌++◌, length, map, min, take, drop, get_or, refl, sym, ap, ◌∙◌}
+use Rattle.std.proofs.{Common.{subst, append-nil, append_assoc}, Math.ListN.drop_of_length-le, Math.Seq.{drop-cons, drop-length}}
 use Rattle.std.proofs.lemmas.List.{map-append, take_min}
 use Rattle.std.specs.Prelude.{Result, Ok, Err, IfOk}
 use Rattle.svndiff0.specs.Full.{full_window}
 use Rattle.svndiff0.proofs.Documents.{below}
-use Rattle.wire_edits.specs.declared.editing.EditorCommand.TheVariants.{TextDeltaChunk}
-use Rattle.drive_sending.specs.Commands.{windows}
-use Rattle.wire_edits.specs.declared.editing.EditorCommand.{EditorCommand}
-use Rattle.wire_replies.specs.Replies.{print}
-use Rattle.wire_replies.specs.Sinks.{WritesPart, Writes}
-use Rattle.wire_replies.specs.declared.reply.Reply.{Reply}
+use Rattle.wire_edits.specs.{declared.editing.EditorCommand.TheVariants.TextDeltaChunk, declared.editing.EditorCommand.EditorCommand}
+use Rattle.drive_sending.specs.{Commands.windows, Driving.command_bytes}
+use Rattle.wire_replies.specs.{Replies.print, Sinks.{WritesPart, Writes}, declared.reply.Reply.Reply}
 use Rattle.wire_replies.specs.declared.reply.Reply.TheVariants as replies
 use Rattle.wire_replies.proofs.Parts.{both_written, part_all, part_first, part_behind}
-use Rattle.drive_sending.specs.Driving.{command_bytes}
 
 -- a part of what comes first is a part of all
 pub first_part : (writes : List ℕ → Type 0) (xs ys : List EditorCommand) → WritesPart writes (command_bytes xs) → WritesPart writes (command_bytes (xs ++ ys))

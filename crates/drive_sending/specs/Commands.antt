@@ -1,29 +1,21 @@
 -- The commands of a plan.
-use Rattle.std.specs.Prelude.{◌+◌, ◌-◌, zero, suc, ℕ, Bool, true, false, List, [], ◌∷◌, ◌++◌, length, map, take, drop, Option, Some, None, option_map, if◌then◌else◌}
-use Rattle.std.specs.Int.{div_ceil}
+use Rattle.std.specs.Prelude.{◌+◌, ◌-◌, zero, suc, ℕ, Bool, true, false, List, [], ◌∷◌, ◌++◌, length, map, take, drop, Option, Some, None, option_map}
+use Rattle.std.specs.{Prelude.if◌then◌else◌, Int.div_ceil}
 use Rattle.hex.specs.Hex.{encode_lower}
 use Rattle.md5.specs.Md5.{md5}
 use Rattle.svnpath.specs.Paths.{PathValue, same_path}
-use Rattle.svndiff0.specs.Document.{header}
-use Rattle.svndiff0.specs.Full.{full_window}
+use Rattle.svndiff0.specs.{Document.header, Full.full_window}
 use Rattle.repo_api.specs.States.{RepoState}
-use Rattle.wire_edits.specs.declared.editing.AddedEntry.{AddedEntry}
-use Rattle.wire_edits.specs.declared.editing.DeletedEntry.{DeletedEntry}
-use Rattle.wire_edits.specs.declared.editing.EditorCommand.{EditorCommand}
-use Rattle.wire_edits.specs.declared.editing.EditorCommand.TheVariants.{DeleteEntry, AddDirectory, AddFile, OpenDirectory, OpenFile, ChangeDirectoryProperty, ChangeFileProperty, ApplyTextDelta, TextDeltaChunk, TextDeltaEnd, CloseDirectory, CloseFile}
-use Rattle.wire_edits.specs.declared.editing.OpenedEntry.{OpenedEntry}
-use Rattle.drive_rules.specs.Steps.{EntryKind}
-use Rattle.drive_rules.specs.Steps.EntryKind.{DirectoryKind, FileKind}
-use Rattle.reporter.specs.Own.{Change}
-use Rattle.reporter.specs.Visits.{kind_if}
-use Rattle.reporter.specs.declared.visit.Visit.{Visit}
-use Rattle.reporter.specs.declared.visit.Visit.TheVariants.{Open, Add, Delete, Close}
-use Rattle.drive_reports.specs.Targets.{WholeReport, client_tree, new_tree}
-use Rattle.drive_reports.specs.declared.ask.Purpose.{Purpose}
+use Rattle.wire_edits.specs.{declared.editing.AddedEntry.AddedEntry, declared.editing.DeletedEntry.DeletedEntry, declared.editing.EditorCommand.EditorCommand}
+use Rattle.wire_edits.specs.declared.editing.EditorCommand.TheVariants.{DeleteEntry, AddDirectory, AddFile, OpenDirectory, OpenFile, ChangeDirectoryProperty}
+use Rattle.wire_edits.specs.declared.editing.EditorCommand.TheVariants.{ChangeFileProperty, ApplyTextDelta, TextDeltaChunk, TextDeltaEnd, CloseDirectory}
+use Rattle.wire_edits.specs.{declared.editing.EditorCommand.TheVariants.CloseFile, declared.editing.OpenedEntry.OpenedEntry}
+use Rattle.drive_rules.specs.{Steps.EntryKind, Steps.EntryKind.{DirectoryKind, FileKind}}
+use Rattle.reporter.specs.{Own.Change, Visits.kind_if, declared.visit.Visit.Visit, declared.visit.Visit.TheVariants.{Open, Add, Delete, Close}}
+use Rattle.drive_reports.specs.{Targets.{WholeReport, client_tree, new_tree}, declared.ask.Purpose.Purpose}
 use Rattle.drive_reports.specs.declared.ask.Purpose.TheVariants.{Update, Switch, Status}
 use Rattle.drive_wire.specs.Sent.{framed}
-use Rattle.drive_news.specs.News.{news_at}
-use Rattle.drive_news.specs.declared.news.News.{News}
+use Rattle.drive_news.specs.{News.news_at, declared.news.News.News}
 use Rattle.drive_sending.specs.Tokens.{token_of, relative_text}
 
 -- ---- what is told of an entry

@@ -2,14 +2,9 @@
 use Rattle.std.specs.Prelude.{ℕ, List, [], ◌∷◌, map, ◌⊎◌, Result, MatchResult}
 use Rattle.repo_api.specs.States.{RepoState}
 use Rattle.wire_edits.specs.declared.editing.EditorCommand.{EditorCommand}
-use Rattle.wire_replies.specs.Replies.{print}
-use Rattle.wire_replies.specs.Sinks.{WritesPart}
-use Rattle.wire_replies.specs.declared.reply.Reply.{Reply}
+use Rattle.wire_replies.specs.{Replies.print, Sinks.WritesPart, declared.reply.Reply.Reply}
 use Rattle.wire_replies.specs.declared.reply.Reply.TheVariants as replies
-use Rattle.reporter.specs.Visiting.{MayVisit}
-use Rattle.reporter.specs.Walks.{WalkedTrees}
-use Rattle.reporter.specs.declared.visit.Visit.{Visit}
-use Rattle.reporter.specs.declared.visitor.Visitor.{Visitor}
+use Rattle.reporter.specs.{Visiting.MayVisit, Walks.WalkedTrees, declared.visit.Visit.Visit, declared.visitor.Visitor.Visitor}
 use Rattle.drive_reports.specs.Targets.{WholeReport}
 use Rattle.drive_wire.specs.Sent.{IsDrive}
 

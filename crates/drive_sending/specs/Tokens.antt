@@ -1,10 +1,7 @@
 -- The names of what a drive opens: tokens, by how many entries are open, and the texts of paths.
-use Rattle.std.specs.Prelude.{ℕ, ◌^◌, List, ◌++◌, codes, drop, replicate, nat_lt, if◌then◌else◌}
-use Rattle.std.specs.Fmt.{decimal}
-use Rattle.svnpath.specs.Paths.{PathValue}
-use Rattle.svnpath.specs.Texts.{path_text}
-use Rattle.drive_rules.specs.Steps.{EntryKind}
-use Rattle.drive_rules.specs.Steps.EntryKind.{DirectoryKind, FileKind}
+use Rattle.std.specs.{Prelude.{ℕ, ◌^◌, List, ◌++◌, codes, drop, replicate, nat_lt, if◌then◌else◌}, Fmt.decimal}
+use Rattle.svnpath.specs.{Paths.PathValue, Texts.path_text}
+use Rattle.drive_rules.specs.{Steps.EntryKind, Steps.EntryKind.{DirectoryKind, FileKind}}
 
 -- the digits of a count, or as many zeros, where no number of the machine counts so far: the text of
 -- no other count

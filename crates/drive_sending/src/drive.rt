@@ -1,14 +1,11 @@
 //! A drive, written as it is made. Where one of these fails, a part of what it says was written.
 ghost use Rattle.std.specs.Prelude.{◌≡◌, ◌∷◌, ◌++◌, [], Ok, Some, IfOk};
 ghost use Rattle.repo_api.specs.Soundness.{AreTrees};
-ghost use Rattle.wire_edits.specs.declared.editing.EditorCommand.TheVariants.{CloseDirectory, CloseEdit, OpenRoot, TargetRevision};
 ghost use Rattle.drive_rules.specs.Steps.EntryKind.{DirectoryKind};
 ghost use Rattle.drive_reports.specs.Refusing.{finish_root};
-ghost use Rattle.drive_sides.specs.OnTrees.{on_trees};
-ghost use Rattle.drive_sides.specs.Plans.{drive_trees, whole};
+ghost use Rattle.drive_sides.specs.{OnTrees.on_trees, Plans.{drive_trees, whole}};
 ghost use Rattle.drive_sending.specs.Commands.{body_commands, drive_of, plan_commands, root_commands};
-ghost use Rattle.drive_sending.specs.Driving.{command_bytes, drive_replies, SaysDrive, Visiting};
-ghost use Rattle.drive_sending.specs.Tokens.{token_of};
+ghost use Rattle.drive_sending.specs.{Driving.{command_bytes, drive_replies, SaysDrive, Visiting}, Tokens.token_of};
 ghost use Rattle.wire_replies.specs.Sinks.{Says, Writes};
 
 use crate::naming::token;
@@ -26,7 +23,7 @@ use wire_replies::{Reply, ReplySink, say_new};
 /// Makes the command that opens the root.
 fn open_root(alloc: Global, root: ReportRoot) -> Result<EditorCommand, AllocError>
     ensures { IfOk result (λ command. command
-        ≡ OpenRoot (Some root.revision) (token_of DirectoryKind 0)) }
+        ≡ EditorCommand.OpenRoot (Some root.revision) (token_of DirectoryKind 0)) }
 {
     Ok(EditorCommand::OpenRoot(Some(root.revision), token(alloc, true, 0)?))
 }
@@ -39,7 +36,8 @@ fn say_beginning<S: ReplySink>(
     out: &mut S,
 ) -> Result<(), AllocError>
     ensures { Writes result (S.writes out.old out.new)
-        (command_bytes (TargetRevision revision ∷ OpenRoot (Some root.revision)
+        (command_bytes (EditorCommand.TargetRevision revision
+        ∷ EditorCommand.OpenRoot (Some root.revision)
         (token_of DirectoryKind 0) ∷ [])) }
 {
     say_made(Ok(EditorCommand::TargetRevision(revision)), out)?;
@@ -72,7 +70,7 @@ fn say_below<R: Repository, S: ReplySink>(
     ensures { Visiting (on_trees trees.now drive_trees) visitor.old
         (λ visits. Writes result (S.writes out.old out.new)
         (command_bytes (on_trees trees.now plan_commands 0 visits
-        ++ CloseDirectory (token_of DirectoryKind 0) ∷ []))) }
+        ++ EditorCommand.CloseDirectory (token_of DirectoryKind 0) ∷ []))) }
 {
     say_visits(alloc, trees, visitor, out)?;
     say_close(alloc, 0, out)
@@ -102,7 +100,7 @@ fn say_rest<R: Repository, S: ReplySink>(
 ) -> Result<(), AllocError>
     ensures { Visiting (on_trees trees.now drive_trees) visitor.old
         (λ visits. Writes result (S.writes out.old out.new)
-        (command_bytes (on_trees trees.now body_commands visits ++ CloseEdit ∷ []))) }
+        (command_bytes (on_trees trees.now body_commands visits ++ EditorCommand.CloseEdit ∷ []))) }
 {
     say_body(alloc, trees, visitor, out)?;
     say_made(Ok(EditorCommand::CloseEdit), out)

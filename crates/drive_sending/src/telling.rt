@@ -1,9 +1,7 @@
 //! What entries are told. Where one of these fails, a part of what it says was written.
 ghost use Rattle.std.specs.Prelude.{◌≡◌, ◌<◌, ◌+◌, ◌^◌, map, IfOk};
 ghost use Rattle.reporter.specs.Visits.{kind_if};
-ghost use Rattle.drive_sending.specs.Commands.{property_command, news_commands, or_no_news};
-ghost use Rattle.drive_sending.specs.Driving.{command_bytes};
-ghost use Rattle.drive_sending.specs.Tokens.{token_of};
+ghost use Rattle.drive_sending.specs.{Commands.{property_command, news_commands, or_no_news}, Driving.command_bytes, Tokens.token_of};
 ghost use Rattle.drive_rules.specs.Steps.EntryKind.{DirectoryKind, FileKind};
 ghost use Rattle.drive_reports.specs.declared.ask.Purpose.{Purpose};
 ghost use Rattle.wire_replies.specs.Sinks.{Writes};

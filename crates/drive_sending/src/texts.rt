@@ -1,11 +1,7 @@
 //! Texts, sent whole. Where one of these fails, a part of what it says was written.
-ghost use Rattle.std.specs.Prelude.{◌≡◌, ◌<◌, ◌^◌, ◌∷◌, ◌++◌, [], None, Some, map, length, IfOk};
-ghost use Rattle.std.specs.Int.{div_ceil};
-ghost use Rattle.svndiff0.specs.Document.{header};
-ghost use Rattle.svndiff0.specs.Full.{full_window};
-ghost use Rattle.wire_edits.specs.declared.editing.EditorCommand.TheVariants.{ApplyTextDelta, TextDeltaChunk, TextDeltaEnd, CloseFile};
-ghost use Rattle.drive_sending.specs.Commands.{windows, text_commands, checksum_sent};
-ghost use Rattle.drive_sending.specs.Driving.{command_bytes};
+ghost use Rattle.std.specs.{Prelude.{◌≡◌, ◌<◌, ◌^◌, ◌∷◌, ◌++◌, [], None, Some, map, length, IfOk}, Int.div_ceil};
+ghost use Rattle.svndiff0.specs.{Document.header, Full.full_window};
+ghost use Rattle.drive_sending.specs.{Commands.{windows, text_commands, checksum_sent}, Driving.command_bytes};
 ghost use Rattle.wire_replies.specs.Sinks.{Writes};
 
 use crate::saying::say_made;
@@ -22,7 +18,7 @@ const WINDOW: usize = 65_536;
 
 /// Makes the command with the next bytes of a delta.
 fn chunk(token: &ByteString, bytes: Vec<u8>) -> Result<EditorCommand, AllocError>
-    ensures { IfOk result (λ command. command ≡ TextDeltaChunk token.now bytes.items) }
+    ensures { IfOk result (λ command. command ≡ EditorCommand.TextDeltaChunk token.now bytes.items) }
 {
     let bytes = ByteString::new(bytes);
     Ok(EditorCommand::TextDeltaChunk(token.clone()?, bytes))
@@ -31,7 +27,8 @@ fn chunk(token: &ByteString, bytes: Vec<u8>) -> Result<EditorCommand, AllocError
 /// Makes the command with the window of a part of a text.
 fn window(alloc: Global, token: &ByteString, part: &[u8]) -> Result<EditorCommand, AllocError>
     requires { length part.now < 2 ^ 21 }
-    ensures { IfOk result (λ command. command ≡ TextDeltaChunk token.now (full_window part.now)) }
+    ensures { IfOk result (λ command. command
+        ≡ EditorCommand.TextDeltaChunk token.now (full_window part.now)) }
 {
     let mut bytes = Vec::new(alloc);
     put_window(&mut bytes, part)?;
@@ -40,21 +37,21 @@ fn window(alloc: Global, token: &ByteString, part: &[u8]) -> Result<EditorComman
 
 /// Makes the command that begins a delta.
 fn beginning(token: &ByteString) -> Result<EditorCommand, AllocError>
-    ensures { IfOk result (λ command. command ≡ ApplyTextDelta token.now None) }
+    ensures { IfOk result (λ command. command ≡ EditorCommand.ApplyTextDelta token.now None) }
 {
     Ok(EditorCommand::ApplyTextDelta(token.clone()?, None))
 }
 
 /// Makes the command that ends a delta.
 fn end(token: &ByteString) -> Result<EditorCommand, AllocError>
-    ensures { IfOk result (λ command. command ≡ TextDeltaEnd token.now) }
+    ensures { IfOk result (λ command. command ≡ EditorCommand.TextDeltaEnd token.now) }
 {
     Ok(EditorCommand::TextDeltaEnd(token.clone()?))
 }
 
 /// Makes the command with the header of a delta.
 fn header(alloc: Global, token: &ByteString) -> Result<EditorCommand, AllocError>
-    ensures { IfOk result (λ command. command ≡ TextDeltaChunk token.now header) }
+    ensures { IfOk result (λ command. command ≡ EditorCommand.TextDeltaChunk token.now header) }
 {
     chunk(token, Vec::from_slice(alloc, &HEADER)?)
 }
@@ -67,7 +64,7 @@ fn say_windows<S: ReplySink>(
     out: &mut S,
 ) -> Result<(), AllocError>
     ensures { Writes result (S.writes out.old out.new)
-        (command_bytes (map (TextDeltaChunk token.now)
+        (command_bytes (map (EditorCommand.TextDeltaChunk token.now)
         (windows (div_ceil (length text.now) 65536) text.now))) }
 {
     let mut rest = text;
@@ -120,7 +117,7 @@ fn close(
     text: &Option<FileText>,
 ) -> Result<EditorCommand, AllocError>
     ensures { IfOk result (λ command. command
-        ≡ CloseFile token.now (checksum_sent purpose text.now)) }
+        ≡ EditorCommand.CloseFile token.now (checksum_sent purpose text.now)) }
 {
     let checksum = checksum_sent(alloc, purpose, text)?;
     Ok(EditorCommand::CloseFile(token.clone()?, checksum))
@@ -135,7 +132,7 @@ pub(crate) fn say_file_end<S: ReplySink>(
     out: &mut S,
 ) -> Result<(), AllocError>
     ensures { Writes result (S.writes out.old out.new)
-        (command_bytes (text_commands token.now text.now ++ CloseFile token.now
+        (command_bytes (text_commands token.now text.now ++ EditorCommand.CloseFile token.now
         (checksum_sent purpose text.now) ∷ [])) }
 {
     say_sent(alloc, token, text, out)?;

@@ -1,14 +1,10 @@
 //! The commands of visits. Where one of these fails, a part of what it says was written.
 ghost use Rattle.std.specs.Prelude.{◌≡◌, ◌<◌, ◌≤◌, ◌+◌, ◌^◌, ◌∷◌, [], false, IfOk};
-ghost use Rattle.wire_edits.specs.declared.editing.EditorCommand.TheVariants.{CloseDirectory, DeleteEntry};
 ghost use Rattle.drive_rules.specs.Steps.EntryKind.{DirectoryKind};
 ghost use Rattle.reporter.specs.Visits.{kind_if};
-ghost use Rattle.reporter.specs.declared.visit.Visit.TheVariants.{Add, Open};
-ghost use Rattle.drive_sides.specs.OnTrees.{on_trees};
-ghost use Rattle.drive_sides.specs.Plans.{drive_trees};
-ghost use Rattle.drive_sending.specs.Commands.{add_command, added_entry, around_after, deeper_by, deleted_entry, news_told, open_command, opened_entry, plan_commands, visit_commands};
-ghost use Rattle.drive_sending.specs.Driving.{Visiting, command_bytes};
-ghost use Rattle.drive_sending.specs.Tokens.{token_of};
+ghost use Rattle.drive_sides.specs.{OnTrees.on_trees, Plans.drive_trees};
+ghost use Rattle.drive_sending.specs.Commands.{add_command, added_entry, around_after, deeper_by, deleted_entry, news_told, open_command, opened_entry};
+ghost use Rattle.drive_sending.specs.{Commands.{plan_commands, visit_commands}, Driving.{Visiting, command_bytes}, Tokens.token_of};
 ghost use Rattle.wire_replies.specs.Sinks.{Writes};
 
 use crate::naming::{relative_text, token};
@@ -69,7 +65,8 @@ fn add_command(alloc: Global, path: &Path, entrance: Entrance) -> Result<EditorC
 
 /// Makes the command that deletes an entry.
 fn delete_command(alloc: Global, path: &Path, around: u64) -> Result<EditorCommand, AllocError>
-    ensures { IfOk result (λ command. command ≡ DeleteEntry (deleted_entry around path.now)) }
+    ensures { IfOk result (λ command. command
+        ≡ EditorCommand.DeleteEntry (deleted_entry around path.now)) }
 {
     Ok(EditorCommand::DeleteEntry(DeletedEntry {
         path: relative_text(alloc, path)?,
@@ -81,7 +78,7 @@ fn delete_command(alloc: Global, path: &Path, around: u64) -> Result<EditorComma
 /// Makes the command that closes a directory.
 fn close_command(alloc: Global, around: u64) -> Result<EditorCommand, AllocError>
     ensures { IfOk result (λ command. command
-        ≡ CloseDirectory (token_of DirectoryKind around)) }
+        ≡ EditorCommand.CloseDirectory (token_of DirectoryKind around)) }
 {
     Ok(EditorCommand::CloseDirectory(token(alloc, true, around)?))
 }
@@ -119,7 +116,7 @@ fn say_open<R: Repository, S: ReplySink>(
 ) -> Result<(), AllocError>
     requires { entrance.around + 1 < 2 ^ 64 }
     ensures { Writes result (S.writes out.old out.new) (command_bytes
-        (on_trees trees.now visit_commands entrance.around (Open path.now entrance.is_directory))) }
+        (on_trees trees.now visit_commands entrance.around (Visit.Open path.now entrance.is_directory))) }
 {
     let news = news_told(alloc, trees, path, false)?;
     say_made(open_command(alloc, trees, path, entrance), out)?;
@@ -136,7 +133,7 @@ fn say_add<R: Repository, S: ReplySink>(
 ) -> Result<(), AllocError>
     requires { entrance.around + 1 < 2 ^ 64 }
     ensures { Writes result (S.writes out.old out.new) (command_bytes
-        (on_trees trees.now visit_commands entrance.around (Add path.now entrance.is_directory))) }
+        (on_trees trees.now visit_commands entrance.around (Visit.Add path.now entrance.is_directory))) }
 {
     let news = news_told(alloc, trees, path, true)?;
     say_made(add_command(alloc, path, entrance), out)?;
@@ -151,7 +148,7 @@ fn say_delete<S: ReplySink>(
     out: &mut S,
 ) -> Result<(), AllocError>
     ensures { Writes result (S.writes out.old out.new)
-        (command_bytes (DeleteEntry (deleted_entry around path.now) ∷ [])) }
+        (command_bytes (EditorCommand.DeleteEntry (deleted_entry around path.now) ∷ [])) }
 {
     say_made(delete_command(alloc, path, around), out)
 }
@@ -163,7 +160,7 @@ pub(crate) fn say_close<S: ReplySink>(
     out: &mut S,
 ) -> Result<(), AllocError>
     ensures { Writes result (S.writes out.old out.new)
-        (command_bytes (CloseDirectory (token_of DirectoryKind around) ∷ [])) }
+        (command_bytes (EditorCommand.CloseDirectory (token_of DirectoryKind around) ∷ [])) }
 {
     say_made(close_command(alloc, around), out)
 }

@@ -1,44 +1,25 @@
 -- That some plan exists of what is left of a drive: what the paths of a directory are, and whether an
 -- entry differs, can be told from the trees.
-use Rattle.std.proofs.Common.{◌≡◌, ◌==◌, ℕ, Bool, true, false, ◌&&◌, ◌||◌, List, [], ◌∷◌, ◌++◌, length, drop, Option, Some, None, refl, sym, ap, ◌∙◌, subst, ◌⊎◌, inl, inr, ⊎_elim, option_map, option_and_then, if◌then◌else◌, fold}
-use Rattle.std.proofs.lemmas.Bool.{false≢true}
-use Rattle.std.proofs.lemmas.List.{append_assoc}
+use Rattle.std.proofs.Common.{◌≡◌, ◌==◌, ℕ, Bool, true, false, ◌&&◌, ◌||◌, List, [], ◌∷◌, ◌++◌, length, drop, Option, Some, None, refl, sym, ap, ◌∙◌, subst}
+use Rattle.std.proofs.{Common.{◌⊎◌, inl, inr, ⊎_elim, option_map, option_and_then, if◌then◌else◌, fold}, lemmas.Bool.false≢true, lemmas.List.append_assoc}
 use Rattle.std.proofs.lemmas.Option.{same_Some}
 use Rattle.std.specs.Prelude.{IsSome, is_some}
-use Rattle.svnpath.specs.Paths.{PathValue, Component, is_at_or_under, same_component}
-use Rattle.svnpath.specs.PathLaws.{same_component_is, same_component_refl, under_append, under_is, rest_append}
-use Rattle.repo_api.specs.Kinds.{content_text}
-use Rattle.repo_api.specs.Properties.{PropertyList}
-use Rattle.repo_api.specs.Readings.{names_at}
-use Rattle.repo_api.specs.States.{RepoState, tree_at, trees_in}
-use Rattle.repo_api.specs.Trees.{Tree, revision_of}
-use Rattle.repo_api.specs.declared.entry.Content.{Content}
-use Rattle.repo_api.specs.declared.entry.Content.TheVariants.{Directory, File}
-use Rattle.repo_api.specs.declared.entry.Entry.{Entry}
+use Rattle.svnpath.specs.PathLaws.{rest_append, same_component_is, same_component_refl, under_append, under_is}
+use Rattle.svnpath.specs.Paths.{Component, is_at_or_under, PathValue, same_component}
+use Rattle.repo_api.specs.{Properties.PropertyList, Readings.names_at, States.{RepoState, tree_at, trees_in}, Trees.{content_text, revision_of, Tree}}
+use Rattle.repo_api.specs.{declared.entry.Content.Content, declared.entry.Content.TheVariants.{Directory, File}, declared.entry.Entry.Entry}
 use Rattle.drive_rules.proofs.Joined.{any_append, or_left, or_right, and_both}
-use Rattle.drive_rules.specs.Scopes.{below, depth_below}
-use Rattle.drive_rules.specs.Steps.{node_of, property_values}
-use Rattle.drive_rules.specs.declared.depth.Depth.{Depth}
+use Rattle.drive_rules.specs.{Scopes.{below, depth_below}, Steps.{node_of, property_values}, declared.depth.Depth.Depth}
 use Rattle.drive_rules.specs.declared.depth.Depth.TheVariants.{Empty, Files, Immediates, Infinity}
 use Rattle.drive_news.proofs.Changes.{none_changed}
-use Rattle.drive_news.specs.News.{property_changes}
-use Rattle.drive_news.specs.Places.{AreLike, AreUnlike}
-use Rattle.reporter.proofs.Children.{AreDistinct, children_all, children_are}
-use Rattle.reporter.proofs.Existing.{IsDecided, IsListed, some_left}
-use Rattle.reporter.specs.Left.{IsLeft}
-use Rattle.reporter.specs.declared.unvisited.Unvisited.{Unvisited}
-use Rattle.reporter.specs.declared.visit.Visit.{Visit}
+use Rattle.drive_news.specs.{News.property_changes, Places.{AreLike, AreUnlike}}
+use Rattle.reporter.proofs.{Children.{AreDistinct, children_all, children_are}, Existing.{IsDecided, IsListed, some_left}}
+use Rattle.reporter.specs.{Left.IsLeft, declared.unvisited.Unvisited.Unvisited, declared.visit.Visit.Visit}
 use Rattle.drive_reports.proofs.Holding.{comparable}
 use Rattle.drive_reports.specs.Reported.{ReportedTree, has_place, in_graft, in_subtree, left_by, reported_as, with_graft}
-use Rattle.drive_reports.specs.Targets.{WholeReport, goal_path, new_tree, old_tree, stale_in}
-use Rattle.drive_reports.specs.declared.graft.Graft.{Graft}
-use Rattle.drive_reports.specs.declared.graft.Subtree.{Subtree}
-use Rattle.drive_sides.proofs.Listing.{among_over, among_target, above_child, in_new, in_old, under_target}
-use Rattle.drive_sides.proofs.Naming.{among_there}
-use Rattle.drive_sides.specs.BoundLaws.{new_is_shorter}
-use Rattle.drive_sides.specs.Bounds.{path_bound}
-use Rattle.drive_sides.specs.LeadLaws.{news_leads}
-use Rattle.drive_sides.specs.Names.{children_of, graft_names, is_name_among}
+use Rattle.drive_reports.specs.{Targets.{WholeReport, goal_path, new_tree, old_tree, stale_in}, declared.graft.Graft.Graft, declared.graft.Subtree.Subtree}
+use Rattle.drive_sides.proofs.{Listing.{among_over, among_target, above_child, in_new, in_old, under_target}, Naming.among_there}
+use Rattle.drive_sides.specs.{BoundLaws.new_is_shorter, Bounds.path_bound, LeadLaws.news_leads, Names.{children_of, graft_names, is_name_among}}
 use Rattle.drive_sides.specs.Plans.{drive_trees}
 
 -- ---- whether entries differ

@@ -1,28 +1,16 @@
 -- That the names of what stands beneath a path are all.
-use Rattle.std.proofs.Common.{◌≡◌, arith, ℕ, ◌+◌, ◌<◌, Bool, true, false, cond, ◌&&◌, ◌||◌, List, [], ◌∷◌, ◌++◌, length, drop, Option, Some, None, Result, Ok, Err, refl, sym, ap, ◌∙◌, subst, option_map}
-use Rattle.std.proofs.lemmas.Bool.{false≢true}
-use Rattle.std.proofs.lemmas.List.{append_assoc, append-nil, length-append}
-use Rattle.std.specs.List.{list_any}
-use Rattle.std.specs.Prelude.{IsTrue, IsSome, IsSomeAnd, IfOk, OnOk, is_some, option_copied}
-use Rattle.std.specs.FinMap.{get}
-use Rattle.svnpath.specs.Paths.{PathValue, Component, is_at_or_under}
-use Rattle.svnpath.specs.PathLaws.{same_component_refl, under_is, under_append, rest_append}
-use Rattle.repo_api.specs.Readings.{name_in, names_at}
-use Rattle.repo_api.specs.States.{RepoState, tree_at, trees_in}
-use Rattle.repo_api.specs.Trees.{Tree, is_directory}
-use Rattle.repo_api.specs.declared.entry.Entry.{Entry}
-use Rattle.drive_rules.proofs.Joined.{or_left, or_right}
-use Rattle.drive_rules.proofs.Entries.{no_length}
-use Rattle.drive_rules.specs.Scopes.{below, depth_below, HoldsTogether}
-use Rattle.drive_rules.specs.declared.depth.Depth.{Depth}
+use Rattle.std.proofs.Common.{◌≡◌, arith, ℕ, ◌+◌, ◌<◌, Bool, true, false, cond, ◌&&◌, ◌||◌, List, [], ◌∷◌, ◌++◌, length, drop, Option, Some, None, Result, Ok}
+use Rattle.std.proofs.{Common.{Err, refl, sym, ap, ◌∙◌, subst, option_map}, lemmas.Bool.false≢true, lemmas.List.{append_assoc, append-nil, length-append}}
+use Rattle.std.specs.{List.list_any, Prelude.{IsTrue, IsSome, IsSomeAnd, IfOk, OnOk, is_some, option_copied}, FinMap.get}
+use Rattle.svnpath.specs.{PathLaws.{rest_append, same_component_refl, under_append, under_is}, Paths.{Component, is_at_or_under, PathValue}}
+use Rattle.repo_api.specs.{Readings.{name_in, names_at}, States.{RepoState, tree_at, trees_in}, Trees.{is_directory, Tree}, declared.entry.Entry.Entry}
+use Rattle.drive_rules.proofs.{Joined.{or_left, or_right}, Entries.no_length}
+use Rattle.drive_rules.specs.{Scopes.{below, depth_below, HoldsTogether}, declared.depth.Depth.Depth}
 use Rattle.drive_rules.specs.declared.depth.Depth.TheVariants.{Empty, Files, Immediates, Infinity}
 use Rattle.drive_reports.proofs.Holding.{below_longer, longer_below}
-use Rattle.drive_reports.specs.Places.{in_place, is_grafted_over, reported_subtree}
-use Rattle.drive_reports.specs.Reported.{ReportedEntry, left_by, reported_entries, reported_as}
-use Rattle.drive_reports.specs.Targets.{WholeReport, client_tree, drive_scope, goal_path, new_tree, old_tree, target_tree}
-use Rattle.drive_reports.specs.declared.ask.DriveAsk.{DriveAsk}
-use Rattle.drive_reports.specs.declared.graft.Graft.{Graft}
-use Rattle.drive_reports.specs.declared.reported.ReportedPlace.{ReportedPlace}
+use Rattle.drive_reports.specs.{Places.{in_place, is_grafted_over, reported_subtree}, Reported.{ReportedEntry, left_by, reported_entries, reported_as}}
+use Rattle.drive_reports.specs.{Targets.{WholeReport, client_tree, drive_scope, goal_path, new_tree, old_tree, target_tree}, declared.ask.DriveAsk.DriveAsk}
+use Rattle.drive_reports.specs.{declared.graft.Graft.Graft, declared.reported.ReportedPlace.ReportedPlace}
 use Rattle.drive_sides.specs.Names.{is_name_among, graft_names}
 use Rattle.drive_sides.proofs.Naming.{among_there, among_grafts, is_named, name_of_child}
 

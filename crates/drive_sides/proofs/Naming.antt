@@ -1,25 +1,15 @@
 -- The names of what stands straight beneath a path.
-use Rattle.std.proofs.Common.{◌≡◌, arith, ℕ, zero, suc, ◌<◌, ◌≤◌, take, get_or, Bool, true, false, cond, ◌||◌, List, [], ◌∷◌, ◌++◌, length, drop, map, Option, Some, None, refl, sym, ap, ◌∙◌}
-use Rattle.std.proofs.lemmas.Bool.{false≢true}
-use Rattle.std.specs.BTreeSet.{insert_key}
-use Rattle.std.specs.Cmp.Lexicographic.{slice_cmp, texts_ties}
-use Rattle.std.specs.List.{list_any, cons_option}
-use Rattle.std.specs.Ordering.{nat_cmp, is_eq, match_ordering}
-use Rattle.std.specs.Prelude.{IsSome, is_some}
-use Rattle.std.specs.FinMap.{get, keys}
-use Rattle.std.specs.declared.cmp.Ordering.{Ordering}
-use Rattle.std.specs.declared.cmp.Ordering.TheVariants.{Less, Equal, Greater}
-use Rattle.svnpath.specs.Paths.{PathValue, Component, same_path, same_component}
-use Rattle.svnpath.specs.PathLaws.{same_path_is, same_component_is, same_component_refl, under_append, rest_append}
+use Rattle.std.proofs.Common.{◌≡◌, arith, ℕ, zero, suc, ◌<◌, ◌≤◌, take, get_or, Bool, true, false, cond, ◌||◌, List, [], ◌∷◌, ◌++◌, length, drop, map, Option}
+use Rattle.std.proofs.{Common.{Some, None, refl, sym, ap, ◌∙◌}, lemmas.Bool.false≢true, lemmas.Map.Keys.{sorted_head, sorted_tail}}
+use Rattle.std.specs.{BTreeSet.insert_key, Cmp.Lexicographic.{slice_cmp, texts_ties}, List.{list_any, cons_option, AllByRecursion}}
+use Rattle.std.specs.{Ordering.{nat_cmp, is_eq, match_ordering}, Prelude.{IsSome, is_some}, FinMap.{get, keys}, declared.cmp.Ordering.Ordering}
+use Rattle.std.specs.{declared.cmp.Ordering.TheVariants.{Less, Equal, Greater}, List.Sorted.IsStrictlySortedBy}
+use Rattle.svnpath.specs.PathLaws.{rest_append, same_component_is, same_component_refl, same_path_is, under_append}
+use Rattle.svnpath.specs.Paths.{Component, PathValue, same_component, same_path}
 use Rattle.drive_rules.proofs.Joined.{or_left, or_right}
-use Rattle.repo_api.specs.Readings.{sole, name_in, names_among, names_in}
-use Rattle.repo_api.specs.States.{TreeMap}
-use Rattle.drive_sides.specs.BoundLaws.{key_found}
-use Rattle.drive_sides.specs.Names.{is_name_among, graft_names, AreDistinct}
+use Rattle.repo_api.specs.{Readings.{name_in, names_among, names_in, sole}, States.TreeMap}
+use Rattle.drive_sides.specs.{BoundLaws.key_found, Names.{is_name_among, graft_names, AreDistinct}}
 use Rattle.drive_reports.specs.declared.graft.Graft.{Graft}
-use Rattle.std.proofs.lemmas.Map.Keys.{sorted_head, sorted_tail}
-use Rattle.std.specs.List.{AllByRecursion}
-use Rattle.std.specs.List.Sorted.{IsStrictlySortedBy}
 use denote.Ref.{Bor}
 
 -- ---- a set of names

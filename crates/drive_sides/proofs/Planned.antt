@@ -1,31 +1,20 @@
 -- The plan of a drive.
-use Rattle.std.proofs.Common.{◌≡◌, ◌==◌, ◌+◌, ◌++◌, not, option_map, Bool, true, false, cond, ◌&&◌, List, [], ◌∷◌, length, drop, Option, Some, None, Ok, refl, sym, ap, ◌∙◌, subst}
-use Rattle.std.proofs.lemmas.Bool.{false≢true}
-use Rattle.std.proofs.lemmas.List.{append-nil}
+use Rattle.std.proofs.Common.{◌≡◌, ◌==◌, ◌+◌, ◌++◌, not, option_map, Bool, true, false, cond, ◌&&◌, List, [], ◌∷◌, length, drop, Option, Some, None, Ok, refl}
+use Rattle.std.proofs.{Common.{sym, ap, ◌∙◌, subst}, lemmas.Bool.false≢true, lemmas.List.append-nil}
 use Rattle.drive_rules.proofs.Joined.{or_right}
 use Rattle.std.specs.Prelude.{ok_or, IsSomeAnd, IsTrue}
-use Rattle.svnpath.specs.Paths.{PathValue, is_at_or_under, same_path}
-use Rattle.svnpath.specs.PathLaws.{same_path_refl}
+use Rattle.svnpath.specs.{PathLaws.same_path_refl, Paths.{is_at_or_under, PathValue, same_path}}
 use Rattle.refusals.specs.declared.Refusal.TheVariants as refusals
-use Rattle.repo_api.specs.Soundness.{AreTrees}
-use Rattle.repo_api.specs.States.{RepoState, trees_in}
-use Rattle.repo_api.specs.Trees.{is_directory, is_directory_there}
-use Rattle.repo_api.specs.declared.entry.Entry.{Entry}
-use Rattle.drive_rules.specs.Places.{is_in_directory}
-use Rattle.drive_rules.specs.Scopes.{scope_of, under}
+use Rattle.repo_api.specs.{Soundness.AreTrees, States.{RepoState, trees_in}, Trees.{is_directory, is_directory_there}, declared.entry.Entry.Entry}
+use Rattle.drive_rules.specs.{Places.is_in_directory, Scopes.{scope_of, under}}
 use Rattle.drive_wire.specs.Sent.{seen_by}
 use Rattle.drive_news.specs.News.{own_steps_of}
-use Rattle.reporter.specs.Nesting.{AreNested}
-use Rattle.reporter.specs.Visits.{IsRightPlan}
-use Rattle.reporter.specs.Walks.{BothHold}
-use Rattle.reporter.specs.declared.visit.Visit.{Visit}
-use Rattle.reporter.specs.declared.visit.Visit.TheVariants.{Open}
+use Rattle.reporter.specs.{Nesting.AreNested, Visits.IsRightPlan, Walks.BothHold, declared.visit.Visit.Visit, declared.visit.Visit.TheVariants.Open}
 use Rattle.drive_reports.proofs.Drives.{both_hold}
-use Rattle.drive_reports.specs.Refusing.{OpenState, ◌>>=◌, ok_if, has_goal, has_anchor, finish_root}
-use Rattle.drive_reports.specs.Reported.{ReportedEntry, reported_entries}
-use Rattle.drive_reports.specs.Reported as reported
+use Rattle.drive_reports.specs.{Refusing.{OpenState, ◌>>=◌, ok_if, has_goal, has_anchor, finish_root}, Reported.{ReportedEntry, reported_entries}}
 use Rattle.drive_reports.specs.Targets.{WholeReport, client_tree, drive_scope, limit_of, target_tree, reported_tree, old_tree, new_tree, stale_in}
 use Rattle.drive_reports.specs.declared.report.ReportRoot.{ReportRoot}
+use Rattle.drive_reports.specs.Reported as reported
 use Rattle.drive_sides.specs.Plans.{IsPlan, whole}
 
 -- ---- what is known of a report that has come to its end

@@ -1,28 +1,17 @@
 -- Which paths a drive is of.
-use Rattle.std.proofs.Common.{◌≡◌, arith, add-one, drop-cons, get_or, not, ◌+◌, ◌<◌, ◌≤◌, ℕ, zero, suc, Bool, true, false, ◌&&◌, List, [], ◌∷◌, ◌++◌, length, drop, refl, sym, ap, ◌∙◌}
-use Rattle.std.proofs.lemmas.Bool.{false≢true}
-use Rattle.svnpath.specs.Paths.{PathValue, Component, is_at_or_under}
-use Rattle.repo_api.specs.Trees.{Tree}
+use Rattle.std.proofs.Common.{◌≡◌, arith, add-one, drop-cons, get_or, not, ◌+◌, ◌<◌, ◌≤◌, ℕ, zero, suc, Bool, true, false, ◌&&◌, List, [], ◌∷◌, ◌++◌, length}
+use Rattle.std.proofs.{Common.{drop, refl, sym, ap, ◌∙◌}, lemmas.Bool.false≢true}
+use Rattle.svnpath.specs.Paths.{Component, is_at_or_under, PathValue}
+use Rattle.repo_api.specs.{States.{RepoState, trees_in}, Trees.Tree, declared.entry.Entry.Entry}
 use Rattle.drive_rules.specs.declared.depth.Depth.{Depth}
-use Rattle.drive_rules.specs.Scopes.{DepthLimit, stays_in_scope, includes, depth_said, own_or_inherited, scope_of, top_limit}
-use Rattle.drive_rules.specs.Scopes.DepthLimit.{Given}
-use Rattle.drive_rules.specs.declared.depth.Depth.TheVariants.{Empty, Files, Immediates, Infinity}
-use Rattle.repo_api.specs.States.{RepoState}
-use Rattle.repo_api.specs.States.{trees_in}
-use Rattle.repo_api.specs.declared.entry.Entry.{Entry}
-use Rattle.std.specs.Prelude.{Option, Some, None, cond, fold, option_map, option_and_then}
-use Rattle.drive_rules.specs.Scopes.{depth_below}
-use Rattle.drive_rules.specs.Scopes.DepthLimit.{Reported}
-use Rattle.drive_reports.specs.Reported.{ReportedEntry, ReportedTree, reported_entries, reported_as, top_entry, left_by}
-use Rattle.drive_reports.specs.Reported.{in_subtree, in_graft, with_graft, has_place, has_directory}
-use Rattle.drive_reports.specs.declared.graft.Graft.{Graft}
-use Rattle.drive_reports.specs.declared.graft.Subtree.{Subtree}
-use Rattle.drive_reports.specs.Targets.{WholeReport, client_tree, drive_scope, limit_of, reported_depth, target_tree}
-use Rattle.drive_reports.specs.Depths.{is_shallow, is_to_the_end}
+use Rattle.drive_rules.specs.Scopes.{depth_below, depth_said, DepthLimit, includes, own_or_inherited, scope_of, stays_in_scope, top_limit}
+use Rattle.drive_rules.specs.{Scopes.DepthLimit.{Given, Reported}, declared.depth.Depth.TheVariants.{Empty, Files, Immediates, Infinity}}
+use Rattle.std.specs.{Prelude.{Option, Some, None, cond, fold, option_map, option_and_then}, List.list_any, Option.option_map_or}
+use Rattle.drive_reports.specs.Reported.{ReportedEntry, ReportedTree, reported_entries, reported_as, top_entry, left_by, in_subtree, in_graft, with_graft}
+use Rattle.drive_reports.specs.{Reported.{has_place, has_directory}, declared.graft.Graft.Graft, declared.graft.Subtree.Subtree}
+use Rattle.drive_reports.specs.{Targets.{WholeReport, client_tree, drive_scope, limit_of, reported_depth, target_tree}, Depths.{is_shallow, is_to_the_end}}
 use Rattle.drive_sides.specs.Depths.{FollowsWholeReport}
 use Rattle.drive_rules.proofs.Joined.{or_false}
-use Rattle.std.specs.List.{list_any}
-use Rattle.std.specs.Option.{option_map_or}
 use Rattle.drive_reports.specs.declared.ask.DepthAsked.TheVariants as asks
 
 all_reached : (old new : Tree) (here : PathValue) (names : List Component) → stays_in_scope (Given Infinity) old new here Infinity names ≡ true

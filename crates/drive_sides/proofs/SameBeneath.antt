@@ -1,26 +1,16 @@
 -- Where both sides are the same.
-use Rattle.std.proofs.Common.{◌≡◌, ℕ, Bool, true, false, cond, ◌&&◌, ◌||◌, List, [], ◌∷◌, ◌++◌, length, drop, Option, Some, None, refl, sym, ap, ◌∙◌, subst, option_map}
-use Rattle.std.proofs.lemmas.List.{append_assoc, append-nil}
-use Rattle.std.specs.List.{list_any}
-use Rattle.std.specs.Prelude.{option_and_then, option_copied}
-use Rattle.svnpath.specs.Paths.{PathValue, Component, is_at_or_under}
-use Rattle.svnpath.specs.PathLaws.{under_is, under_append, rest_append}
-use Rattle.repo_api.specs.Readings.{IsSameAt}
-use Rattle.repo_api.specs.States.{RepoState, trees_in}
-use Rattle.repo_api.specs.Trees.{Tree}
-use Rattle.repo_api.specs.declared.entry.Entry.{Entry}
-use Rattle.drive_rules.proofs.Entries.{under_more}
-use Rattle.drive_rules.proofs.Joined.{or_false}
-use Rattle.drive_rules.specs.Scopes.{below, depth_below}
-use Rattle.drive_rules.specs.declared.depth.Depth.TheVariants.{Infinity}
+use Rattle.std.proofs.Common.{◌≡◌, ℕ, Bool, true, false, cond, ◌&&◌, ◌||◌, List, [], ◌∷◌, ◌++◌, length, drop, Option, Some, None, refl, sym, ap, ◌∙◌, subst}
+use Rattle.std.proofs.{Common.option_map, lemmas.List.{append_assoc, append-nil}}
+use Rattle.std.specs.{List.list_any, Prelude.{option_and_then, option_copied}}
+use Rattle.svnpath.specs.{PathLaws.{rest_append, under_append, under_is}, Paths.{Component, is_at_or_under, PathValue}}
+use Rattle.repo_api.specs.{Readings.IsSameAt, States.{RepoState, trees_in}, Trees.Tree, declared.entry.Entry.Entry}
+use Rattle.drive_rules.proofs.{Entries.under_more, Joined.or_false}
+use Rattle.drive_rules.specs.{Scopes.{below, depth_below}, declared.depth.Depth.TheVariants.Infinity}
 use Rattle.reporter.specs.Walks.{AreAlike}
 use Rattle.drive_reports.proofs.Whole.{in_whole}
-use Rattle.drive_reports.specs.Places.{in_place, is_grafted_over, reported_subtree}
-use Rattle.drive_reports.specs.Reported.{ReportedEntry, reported_entries, left_by, reported_as}
+use Rattle.drive_reports.specs.{Places.{in_place, is_grafted_over, reported_subtree}, Reported.{ReportedEntry, reported_entries, left_by, reported_as}}
 use Rattle.drive_reports.specs.Targets.{WholeReport, client_tree, drive_scope, goal_path, is_stale, is_stale_token, new_tree, old_tree, stale_in, target_tree}
-use Rattle.drive_reports.specs.declared.ask.DriveAsk.{DriveAsk}
-use Rattle.drive_reports.specs.declared.graft.Graft.{Graft}
-use Rattle.drive_reports.specs.declared.reported.ReportedPlace.{ReportedPlace}
+use Rattle.drive_reports.specs.{declared.ask.DriveAsk.DriveAsk, declared.graft.Graft.Graft, declared.reported.ReportedPlace.ReportedPlace}
 
 none_over : (grafts : List Graft) (p q : PathValue) → list_any (λ (g : Graft). below p g.path) grafts ≡ false → is_grafted_over grafts p q ≡ false
 none_over [] p q none = refl

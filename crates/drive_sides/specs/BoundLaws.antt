@@ -1,16 +1,11 @@
 -- No path of a target tree is as long as its bound.
 use Rattle.std.proofs.Common.{◌≡◌, arith, ◌+◌, ◌<◌, ◌≤◌, Bool, true, false, cond, ◌||◌, List, [], ◌∷◌, length, drop, None, refl, sym, ap, ◌∙◌}
-use Rattle.std.proofs.lemmas.Bool.{false≢true}
-use Rattle.std.proofs.lemmas.List.{length-append}
-use Rattle.std.specs.FinMap.{keys, get, contains_key-keys}
-use Rattle.std.specs.List.{list_any}
-use Rattle.std.specs.Prelude.{IsSome, is_some}
-use Rattle.svnpath.specs.Paths.{PathValue, is_at_or_under, same_path, path_ties}
-use Rattle.svnpath.specs.PathLaws.{same_path_is, under_is}
-use Rattle.repo_api.specs.States.{RepoState, TreeMap, tree_at}
+use Rattle.std.proofs.{lemmas.Bool.false≢true, lemmas.List.length-append}
+use Rattle.std.specs.{FinMap.{keys, get, contains_key-keys}, List.list_any, Prelude.{IsSome, is_some}}
+use Rattle.svnpath.specs.{PathLaws.{same_path_is, under_is}, Paths.{is_at_or_under, path_ties, PathValue, same_path}}
+use Rattle.repo_api.specs.States.{RepoState, tree_at, TreeMap}
 use Rattle.reporter.specs.Walks.{IsShorter}
-use Rattle.drive_reports.specs.Targets.{WholeReport, drive_scope, goal_path, new_tree}
-use Rattle.drive_reports.specs.declared.ask.DriveAsk.{DriveAsk}
+use Rattle.drive_reports.specs.{Targets.{WholeReport, drive_scope, goal_path, new_tree}, declared.ask.DriveAsk.DriveAsk}
 use Rattle.drive_sides.specs.Bounds.{names_altogether, path_bound}
 
 -- a map has something at its keys alone

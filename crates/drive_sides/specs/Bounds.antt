@@ -1,6 +1,5 @@
 -- How long the paths of a target tree are.
-use Rattle.std.specs.Prelude.{ℕ, ◌+◌, List, [], ◌∷◌, length}
-use Rattle.std.specs.FinMap.{keys}
+use Rattle.std.specs.{Prelude.{ℕ, ◌+◌, List, [], ◌∷◌, length}, FinMap.keys}
 use Rattle.svnpath.specs.Paths.{PathValue}
 use Rattle.repo_api.specs.States.{RepoState, tree_at}
 use Rattle.drive_reports.specs.declared.ask.DriveAsk.{DriveAsk}

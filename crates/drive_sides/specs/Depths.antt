@@ -1,9 +1,6 @@
 -- Reports of everything.
-use Rattle.std.specs.Prelude.{◌≡◌, true, false}
-use Rattle.std.specs.List.{list_any}
-use Rattle.drive_reports.specs.Depths.{is_shallow, is_to_the_end}
-use Rattle.drive_reports.specs.Targets.{WholeReport}
-use Rattle.drive_reports.specs.declared.ask.DepthAsked.TheVariants.{AsReported}
+use Rattle.std.specs.{Prelude.{◌≡◌, true, false}, List.list_any}
+use Rattle.drive_reports.specs.{Depths.{is_shallow, is_to_the_end}, Targets.WholeReport, declared.ask.DepthAsked.TheVariants.AsReported}
 
 -- as much is asked for as was reported, and everything was reported
 abbrev pub FollowsWholeReport : WholeReport → Type 0

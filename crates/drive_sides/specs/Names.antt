@@ -1,7 +1,6 @@
 -- Names of what stands straight beneath a path.
-use Rattle.std.specs.Prelude.{◌≡◌, Bool, false, List, [], ◌∷◌, ◌++◌, map}
-use Rattle.std.specs.List.{list_any}
-use Rattle.svnpath.specs.Paths.{PathValue, Component, same_component}
+use Rattle.std.specs.{Prelude.{◌≡◌, Bool, false, List, [], ◌∷◌, ◌++◌, map}, List.list_any}
+use Rattle.svnpath.specs.Paths.{Component, PathValue, same_component}
 use Rattle.repo_api.specs.Readings.{names_among}
 use Rattle.drive_reports.specs.declared.graft.Graft.{Graft}
 

@@ -1,9 +1,7 @@
 -- What definitions of drives say of the two trees that the code walks.
-use Rattle.repo_api.specs.States.{RepoState}
-use Rattle.repo_api.specs.declared.repository.Repository.{Ghosts}
+use Rattle.repo_api.specs.{States.RepoState, declared.repository.Repository.Ghosts}
 use Rattle.drive_reports.specs.Targets.{WholeReport}
-use Rattle.drive_sides.specs.Plans.{whole}
-use Rattle.drive_sides.specs.declared.two_trees.TwoTrees.{TwoTrees}
+use Rattle.drive_sides.specs.{Plans.whole, declared.two_trees.TwoTrees.TwoTrees}
 
 -- a definition of drives on two trees: over what the repository contains and the whole report
 abbrev pub on_trees {ℓ} : {V X : Type 0} {R : Ghosts V X} {T : Type ℓ} → TwoTrees V X R

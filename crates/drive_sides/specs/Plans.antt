@@ -3,14 +3,8 @@ use Rattle.std.specs.Prelude.{◌≡◌, true, List, [], ◌∷◌, Some, if◌t
 use Rattle.svnpath.specs.Paths.{PathValue, same_path}
 use Rattle.repo_api.specs.States.{RepoState}
 use Rattle.drive_rules.specs.Scopes.{under}
-use Rattle.reporter.specs.Nesting.{walk}
-use Rattle.reporter.specs.Visits.{IsRightPlan}
-use Rattle.reporter.specs.Walks.{WalkedTrees}
-use Rattle.reporter.specs.declared.visit.Visit.{Visit}
-use Rattle.reporter.specs.declared.visit.Visit.TheVariants.{Open}
-use Rattle.drive_reports.specs.Refusing.{OpenState}
-use Rattle.drive_reports.specs.Targets.{WholeReport, old_tree, new_tree, stale_in}
-use Rattle.drive_reports.specs.declared.ask.DriveAsk.{DriveAsk}
+use Rattle.reporter.specs.{Nesting.walk, Visits.IsRightPlan, Walks.WalkedTrees, declared.visit.Visit.Visit, declared.visit.Visit.TheVariants.Open}
+use Rattle.drive_reports.specs.{Refusing.OpenState, Targets.{WholeReport, old_tree, new_tree, stale_in}, declared.ask.DriveAsk.DriveAsk}
 use Rattle.drive_reports.specs.declared.report.ReportRoot.{ReportRoot}
 use Rattle.drive_wire.specs.Sent.{seen_by}
 use Rattle.drive_news.specs.News.{own_steps_of}

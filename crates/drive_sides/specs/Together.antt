@@ -1,10 +1,7 @@
 -- That trees hold together is a fact with one proof at most.
-use Rattle.std.proofs.Common.{◌≡◌, true, List, Option, Some, None}
-use Rattle.std.proofs.Math.Bool.{Bool-set}
+use Rattle.std.proofs.{Common.{◌≡◌, true, List, Option, Some, None}, Math.Bool.Bool-set}
 use Rattle.std.specs.Prelude.{IsTrue, IsSomeAnd}
-use Rattle.repo_api.specs.States.{Revision, trees_in}
-use Rattle.repo_api.specs.Trees.{is_directory}
-use Rattle.repo_api.specs.declared.entry.Entry.{Entry}
+use Rattle.repo_api.specs.{States.{Revision, trees_in}, Trees.is_directory, declared.entry.Entry.Entry}
 use Rattle.drive_reports.specs.Places.{AllHoldTogether}
 
 true_prop : (e : Entry) → IsProp (IsTrue (is_directory e))

@@ -1,7 +1,6 @@
 //! What a client has whole.
 ghost use Rattle.std.specs.Prelude.{◌≡◌, true, false};
 ghost use Rattle.repo_api.specs.Readings.{IsSameAt};
-ghost use Rattle.drive_rules.specs.declared.depth.Depth.TheVariants.{Infinity};
 
 use drive_reports::ReportedPlace;
 use drive_rules::Depth;
@@ -10,7 +9,7 @@ use svnpath::Path;
 
 /// Says whether a client has all that exists at a place and beneath it.
 fn is_whole(place: &ReportedPlace<'_>) -> bool
-    ensures { result ≡ true → (place.now.starts_empty ≡ false) × (place.now.depth ≡ Infinity) }
+    ensures { result ≡ true → (place.now.starts_empty ≡ false) × (place.now.depth ≡ Depth.Infinity) }
 {
     if place.starts_empty {
         return false;
@@ -32,7 +31,7 @@ pub(crate) fn has_same<R: Repository>(
     path: &Path,
 ) -> bool
     ensures whole { result ≡ true → (place.now.starts_empty ≡ false)
-        × (place.now.depth ≡ Infinity) }
+        × (place.now.depth ≡ Depth.Infinity) }
     ensures same { result ≡ true → IsSameAt (R.content view.now) place.now.revision
         place.now.path revision path.now }
 {

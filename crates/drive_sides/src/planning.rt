@@ -1,11 +1,9 @@
 //! The visits of a drive.
 ghost use Rattle.std.specs.Prelude.{◌≡◌, Ok, IfOk, List};
 ghost use Rattle.repo_api.specs.Soundness.{AreTrees};
-ghost use Rattle.reporter.specs.Visiting.{MayVisit};
-ghost use Rattle.reporter.specs.declared.visit.Visit.{Visit};
+ghost use Rattle.reporter.specs.{Visiting.MayVisit, declared.visit.Visit.Visit};
 ghost use Rattle.drive_reports.specs.Refusing.{finish_root};
-ghost use Rattle.drive_sides.specs.OnTrees.{on_trees};
-ghost use Rattle.drive_sides.specs.Plans.{IsPlan, drive_trees};
+ghost use Rattle.drive_sides.specs.{OnTrees.on_trees, Plans.{IsPlan, drive_trees}};
 
 use crate::two_trees::TwoTrees;
 use repo_api::Repository;

@@ -1,16 +1,10 @@
 //! The paths that a drive is of.
 ghost use Rattle.std.specs.Prelude.{◌≡◌, true, Option, IfOk};
 ghost use Rattle.svnpath.specs.Paths.{is_at_or_under};
-ghost use Rattle.repo_api.specs.Kinds.{kind_of};
-ghost use Rattle.repo_api.specs.declared.entry.Entry.{Entry};
-ghost use Rattle.drive_rules.specs.Scopes.{includes_child, keeps_reported, includes, depth_said, own_or_inherited, top_limit};
-ghost use Rattle.drive_rules.specs.declared.depth.Depth.TheVariants.{Infinity};
-ghost use Rattle.drive_reports.specs.Reported.{reported_entries};
-ghost use Rattle.drive_reports.specs.Targets.{client_tree, drive_scope, limit_of, reported_depth, target_tree};
-ghost use Rattle.drive_reports.specs.declared.ask.DepthAsked.TheVariants.{AsReported, Given};
-ghost use Rattle.drive_sides.specs.OnTrees.{on_trees};
-ghost use Rattle.drive_sides.specs.Plans.{whole};
-ghost use Rattle.drive_sides.specs.Depths.{FollowsWholeReport};
+ghost use Rattle.repo_api.specs.{Kinds.kind_of, declared.entry.Entry.Entry};
+ghost use Rattle.drive_rules.specs.Scopes.{depth_said, includes, includes_child, keeps_reported, own_or_inherited, top_limit};
+ghost use Rattle.drive_reports.specs.{Reported.reported_entries, Targets.{client_tree, drive_scope, limit_of, reported_depth, target_tree}};
+ghost use Rattle.drive_sides.specs.{OnTrees.on_trees, Plans.whole, Depths.FollowsWholeReport};
 
 use crate::two_trees::TwoTrees;
 use drive_reports::{DepthAsked, is_to_the_end};
@@ -48,7 +42,7 @@ fn own_or_inherited(said: Option<Depth>, above: Depth) -> Depth
 
 /// Says whether everything is asked for.
 fn asks_for_all(depth: DepthAsked) -> bool
-    ensures { result ≡ true → depth ≡ Given Infinity }
+    ensures { result ≡ true → depth ≡ DepthAsked.Given Depth.Infinity }
 {
     match depth {
         DepthAsked::AsReported => false,
@@ -63,7 +57,7 @@ fn asks_for_all(depth: DepthAsked) -> bool
 
 /// Says whether as much is asked for as was reported.
 fn asks_as_reported(depth: DepthAsked) -> bool
-    ensures { result ≡ true → depth ≡ AsReported }
+    ensures { result ≡ true → depth ≡ DepthAsked.AsReported }
 {
     match depth {
         DepthAsked::AsReported => true,

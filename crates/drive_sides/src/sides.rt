@@ -14,11 +14,9 @@ use svnpath::Path;
 impl<'a, R: Repository> TwoTrees<'a, R> {
     ghost use Rattle.std.specs.Prelude.{◌≡◌, ◌∷◌, ◌++◌, [], false, true, is_some, IfOk, OnOk};
     ghost use Rattle.svnpath.specs.Paths.{Component, is_at_or_under};
-    ghost use Rattle.drive_reports.specs.Places.{is_grafted_over};
-    ghost use Rattle.drive_reports.specs.Targets.{client_tree, drive_scope, new_tree, old_tree, target_tree};
-    ghost use Rattle.drive_sides.specs.Names.{is_name_among};
+    ghost use Rattle.drive_reports.specs.{Places.is_grafted_over, Targets.{client_tree, drive_scope, new_tree, old_tree, target_tree}};
+    ghost use Rattle.drive_sides.specs.{Names.is_name_among, OnTrees.on_trees};
     ghost use Rattle.drive_news.specs.Places.{Compares};
-    ghost use Rattle.drive_sides.specs.OnTrees.{on_trees};
 
     /// Finds the names of what is to exist straight beneath a path.
     fn target_names(&self, alloc: Global, path: &Path) -> Result<BTreeSet<ByteString>, AllocError>
@@ -83,11 +81,7 @@ impl<'a, R: Repository> TwoTrees<'a, R> {
 }
 
 impl<'a, R: Repository> Sides for TwoTrees<'a, R> {
-    ghost use Rattle.drive_sides.specs.Bounds.{path_bound};
-    ghost use Rattle.drive_sides.specs.BoundLaws.{new_is_shorter};
-    ghost use Rattle.drive_sides.specs.LeadLaws.{news_leads};
-    ghost use Rattle.drive_sides.specs.OnTrees.{on_trees};
-    ghost use Rattle.drive_sides.specs.Plans.{drive_trees, whole};
+    ghost use Rattle.drive_sides.specs.{Bounds.path_bound, BoundLaws.new_is_shorter, LeadLaws.news_leads, OnTrees.on_trees, Plans.{drive_trees, whole}};
 
     ghost trees = { λ s. on_trees s drive_trees };
 

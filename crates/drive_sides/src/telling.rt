@@ -1,8 +1,7 @@
 //! What the entries of a drive are told, and what else is to be known of them.
 ghost use Rattle.std.specs.Prelude.{◌≡◌, true, IfOk, option_and_then, option_map};
 ghost use Rattle.drive_reports.specs.Targets.{client_tree, drive_scope, is_stale, new_tree, stale_in};
-ghost use Rattle.drive_news.specs.News.{news_at, news_of};
-ghost use Rattle.drive_news.specs.Places.{entry_had};
+ghost use Rattle.drive_news.specs.{News.{news_at, news_of}, Places.entry_had};
 ghost use Rattle.drive_sides.specs.OnTrees.{on_trees};
 
 use crate::two_trees::TwoTrees;

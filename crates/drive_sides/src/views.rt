@@ -1,11 +1,8 @@
 //! What stands on either side, whether the drive is of it or not.
 ghost use Rattle.std.specs.Prelude.{◌≡◌, ◌++◌, [], true, false, List, option_and_then, is_some, IfOk, IfSome};
 ghost use Rattle.svnpath.specs.Paths.{Component, is_at_or_under};
-ghost use Rattle.repo_api.specs.Kinds.{kind_of};
-ghost use Rattle.repo_api.specs.States.{trees_in};
-ghost use Rattle.drive_reports.specs.Places.{in_place, is_grafted_over};
-ghost use Rattle.drive_reports.specs.Reported.{reported_entries};
-ghost use Rattle.drive_reports.specs.Targets.{client_tree, goal_path, target_tree};
+ghost use Rattle.repo_api.specs.{Kinds.kind_of, States.trees_in};
+ghost use Rattle.drive_reports.specs.{Places.{in_place, is_grafted_over}, Reported.reported_entries, Targets.{client_tree, goal_path, target_tree}};
 ghost use Rattle.drive_sides.specs.OnTrees.{on_trees};
 
 use crate::two_trees::TwoTrees;

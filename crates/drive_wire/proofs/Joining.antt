@@ -1,6 +1,5 @@
 -- Commands one after the other say their steps one after the other.
-use Rattle.std.proofs.Common.{ℕ, List, [], ◌∷◌, ◌++◌, sym, ap, ◌∙◌, subst}
-use Rattle.std.proofs.lemmas.List.{append_assoc}
+use Rattle.std.proofs.{Common.{ℕ, List, [], ◌∷◌, ◌++◌, sym, ap, ◌∙◌, subst}, lemmas.List.append_assoc}
 use Rattle.svnpath.specs.Paths.{PathValue}
 use Rattle.wire_edits.specs.declared.editing.EditorCommand.{EditorCommand}
 use Rattle.drive_rules.specs.Steps.{Step}

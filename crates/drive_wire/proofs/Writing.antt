@@ -2,15 +2,12 @@
 use Rattle.std.proofs.Common.{◌≡◌, ℕ, true, false, not, List, [], ◌∷◌, ◌++◌, map, Option, Some, None, refl, ap, ◌∙◌, subst, if◌then◌else◌}
 use Rattle.std.proofs.lemmas.List.{append-nil, append_assoc}
 use Rattle.std.specs.Prelude.{Ok}
-use Rattle.svnpath.specs.Paths.{PathValue}
-use Rattle.svnpath.specs.PathLaws.{same_component_refl}
+use Rattle.svnpath.specs.{PathLaws.same_component_refl, Paths.PathValue}
 use Rattle.svndiff0.specs.Document.{document_text}
 use Rattle.wire_forms.specs.Forms.{is_name}
-use Rattle.wire_edits.specs.declared.editing.EditorCommand.{EditorCommand}
-use Rattle.wire_edits.specs.declared.editing.EditorCommand.TheVariants.{ChangeDirectoryProperty, ChangeFileProperty, ApplyTextDelta, TextDeltaChunk, TextDeltaEnd, CloseDirectory}
-use Rattle.drive_rules.specs.Steps.{EntryKind, Step}
-use Rattle.drive_rules.specs.Steps.EntryKind.{DirectoryKind, FileKind}
-use Rattle.drive_rules.specs.Steps.Step.{PropertyAt, TextAt}
+use Rattle.wire_edits.specs.{declared.editing.EditorCommand.EditorCommand, declared.editing.EditorCommand.TheVariants.ChangeDirectoryProperty}
+use Rattle.wire_edits.specs.declared.editing.EditorCommand.TheVariants.{ChangeFileProperty, ApplyTextDelta, TextDeltaChunk, TextDeltaEnd, CloseDirectory}
+use Rattle.drive_rules.specs.{Steps.{EntryKind, Step}, Steps.EntryKind.{DirectoryKind, FileKind}, Steps.Step.{PropertyAt, TextAt}}
 use Rattle.drive_rules.proofs.Joined.{and_both}
 use Rattle.drive_reports.specs.declared.ask.Purpose.{Purpose}
 use Rattle.drive_wire.specs.Saying.{OpenEntry, TextState, Says, steps_said, same_kind, is_sent_delta, text_received, enters_entry, is_in_place, is_open_token}

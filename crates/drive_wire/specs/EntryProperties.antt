@@ -1,16 +1,10 @@
 -- The entry properties: what an entry is told of itself.
-use Rattle.std.specs.Prelude.{ℕ, Bool, ◌&&◌, List, Option, Some, None, option_map, option_and_then, fold, codes, if◌then◌else◌}
-use Rattle.std.specs.Fmt.{decimal}
+use Rattle.std.specs.{Prelude.{ℕ, Bool, ◌&&◌, List, Option, Some, None, option_map, option_and_then, fold, codes, if◌then◌else◌}, Fmt.decimal}
 use Rattle.svnpath.specs.Paths.{PathValue, same_path}
-use Rattle.repo_api.specs.Kinds.{properties_at}
-use Rattle.repo_api.specs.Properties.{property_value}
-use Rattle.repo_api.specs.States.{RepoState}
-use Rattle.repo_api.specs.Trees.{revision_of}
-use Rattle.repo_api.specs.declared.entry.Entry.{Entry}
+use Rattle.repo_api.specs.{Kinds.properties_at, Properties.property_value, States.RepoState, Trees.revision_of, declared.entry.Entry.Entry}
 use Rattle.wire_forms.specs.Forms.{is_name}
 use Rattle.wire_replies.specs.Replies.{uuid_text}
-use Rattle.drive_rules.specs.Steps.{Step}
-use Rattle.drive_rules.specs.Steps.Step.{PropertyAt}
+use Rattle.drive_rules.specs.{Steps.Step, Steps.Step.PropertyAt}
 
 -- the value of a property of the revision in which an entry was last changed
 abbrev pub changed_property : RepoState → List ℕ → Entry → Option (List ℕ)

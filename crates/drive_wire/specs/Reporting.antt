@@ -3,19 +3,15 @@ use Rattle.std.specs.Prelude.{◌≡◌, ℕ, Bool, true, false, List, Option, S
 use Rattle.items.specs.Values.{ItemValue, ItemValues}
 use Rattle.refusals.specs.declared.Refusal.{Refusal}
 use Rattle.refusals.specs.declared.Refusal.TheVariants as refusals
-use Rattle.repo_api.specs.Soundness.{AreTrees}
-use Rattle.repo_api.specs.States.{RepoState}
-use Rattle.wire_forms.specs.Forms.{is_name, command_form}
-use Rattle.wire_forms.specs.declared.fault.CommandFault.{CommandFault}
+use Rattle.repo_api.specs.{Soundness.AreTrees, States.RepoState}
+use Rattle.wire_forms.specs.{Forms.{is_name, command_form}, declared.fault.CommandFault.CommandFault}
 use Rattle.wire_forms.specs.declared.fault.CommandFault.TheVariants.{UnknownName, BadParameters, NoMemory}
 use Rattle.wire_edits.specs.declared.editing.EditorCommand.{EditorCommand}
-use Rattle.wire_reports.specs.Reporting.{report_command, name_of}
-use Rattle.wire_reports.specs.declared.report.ReportCommand.{ReportCommand}
+use Rattle.wire_reports.specs.{Reporting.{report_command, name_of}, declared.report.ReportCommand.ReportCommand}
 use Rattle.wire_reports.specs.declared.report.ReportCommand.TheVariants.{SetPath, DeletePath, LinkPath, FinishReport, AbortReport}
 use Rattle.wire_reports.specs.declared.report.ReportName.{ReportName}
 use Rattle.wire_reports.specs.declared.report.ReportName.TheVariants as names
-use Rattle.drive_reports.specs.Refusing.{OpenState, ReportState, set_path_answer, delete_path_answer, finish_answer, kept_report}
-use Rattle.drive_reports.specs.Targets.{WholeReport}
+use Rattle.drive_reports.specs.{Refusing.{OpenState, ReportState, set_path_answer, delete_path_answer, finish_answer, kept_report}, Targets.WholeReport}
 use Rattle.drive_reports.specs.declared.report.Report.TheVariants.{Refused, Open}
 use Rattle.drive_wire.specs.Sent.{IsDrive}
 

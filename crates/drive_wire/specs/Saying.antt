@@ -3,22 +3,18 @@ use Rattle.std.specs.Prelude.{◌≡◌, ℕ, Bool, true, false, not, ◌&&◌, 
 use Rattle.std.specs.List.{list_any}
 use Rattle.hex.specs.Hex.{encode_lower}
 use Rattle.md5.specs.Md5.{md5}
-use Rattle.svnpath.specs.Paths.{PathValue}
-use Rattle.svnpath.specs.Texts.{components_of}
-use Rattle.svndiff0.specs.Document.{header, document_text}
-use Rattle.svndiff0.specs.declared.fault.DiffFault.{DiffFault}
+use Rattle.svnpath.specs.{Paths.PathValue, Texts.components_of}
+use Rattle.svndiff0.specs.{Document.{header, document_text}, declared.fault.DiffFault.DiffFault}
 use Rattle.wire_forms.specs.Forms.{is_name}
-use Rattle.wire_edits.specs.declared.editing.AddedEntry.{AddedEntry}
-use Rattle.wire_edits.specs.declared.editing.EditorCommand.{EditorCommand}
-use Rattle.wire_edits.specs.declared.editing.EditorCommand.TheVariants.{TargetRevision, OpenRoot, DeleteEntry, AddDirectory, AddFile, OpenDirectory, OpenFile, AbsentDirectory, AbsentFile, ChangeDirectoryProperty, ChangeFileProperty, ApplyTextDelta, TextDeltaChunk, TextDeltaEnd, CloseDirectory, CloseFile, CloseEdit, AbortEdit}
-use Rattle.wire_edits.specs.declared.editing.OpenedEntry.{OpenedEntry}
+use Rattle.wire_edits.specs.{declared.editing.AddedEntry.AddedEntry, declared.editing.EditorCommand.EditorCommand}
+use Rattle.wire_edits.specs.declared.editing.EditorCommand.TheVariants.{TargetRevision, OpenRoot, DeleteEntry, AddDirectory, AddFile, OpenDirectory, OpenFile}
+use Rattle.wire_edits.specs.declared.editing.EditorCommand.TheVariants.{AbsentDirectory, AbsentFile, ChangeDirectoryProperty, ChangeFileProperty}
+use Rattle.wire_edits.specs.declared.editing.EditorCommand.TheVariants.{ApplyTextDelta, TextDeltaChunk, TextDeltaEnd, CloseDirectory, CloseFile, CloseEdit}
+use Rattle.wire_edits.specs.{declared.editing.EditorCommand.TheVariants.AbortEdit, declared.editing.OpenedEntry.OpenedEntry}
 use Rattle.wire_edits.specs.declared.editing.PropertyChange.{PropertyChange}
-use Rattle.drive_rules.specs.Places.{is_in_directory}
-use Rattle.drive_rules.specs.Steps.{EntryKind, Step}
-use Rattle.drive_rules.specs.Steps.EntryKind.{DirectoryKind, FileKind}
-use Rattle.drive_rules.specs.Steps.Step.{OpenAt, AddAt, DeleteAt, PropertyAt, TextAt}
-use Rattle.drive_reports.specs.declared.ask.Purpose.{Purpose}
-use Rattle.drive_reports.specs.declared.ask.Purpose.TheVariants.{Update, Switch, Status}
+use Rattle.drive_rules.specs.{Places.is_in_directory, Steps.{EntryKind, Step}, Steps.EntryKind.{DirectoryKind, FileKind}}
+use Rattle.drive_rules.specs.Steps.Step.{AddAt, DeleteAt, OpenAt, PropertyAt, TextAt}
+use Rattle.drive_reports.specs.{declared.ask.Purpose.Purpose, declared.ask.Purpose.TheVariants.{Update, Switch, Status}}
 
 -- what was sent of a file's text: nothing, some bytes of a delta, or a whole delta, with its text
 pub data TextState : Type 0 where

@@ -1,22 +1,13 @@
 -- The drives that may be sent.
 use Rattle.std.specs.Prelude.{◌≡◌, ℕ, Bool, ◌||◌, List, [], ◌∷◌, ◌++◌, Option, Some, None, IsTrue, IsSomeAnd, if◌then◌else◌}
 use Rattle.svnpath.specs.Paths.{PathValue, same_path}
-use Rattle.repo_api.specs.Kinds.{text_of}
-use Rattle.repo_api.specs.States.{RepoState}
-use Rattle.repo_api.specs.Trees.{Tree}
-use Rattle.wire_edits.specs.declared.editing.EditorCommand.{EditorCommand}
-use Rattle.wire_edits.specs.declared.editing.EditorCommand.TheVariants.{TargetRevision, OpenRoot, CloseEdit}
-use Rattle.drive_rules.specs.Drives.{IsRight}
-use Rattle.drive_rules.specs.Steps.{Step, Node, has_step, is_opening, is_adding, is_entry_property, as_it_is, but_text}
-use Rattle.drive_rules.specs.Steps.EntryKind.{DirectoryKind}
-use Rattle.drive_rules.specs.Steps.Step.{OpenAt}
-use Rattle.drive_reports.specs.Targets.{WholeReport, old_tree, new_tree, drive_scope, stale_in}
-use Rattle.drive_reports.specs.declared.ask.DriveAsk.{DriveAsk}
-use Rattle.drive_reports.specs.declared.ask.Purpose.{Purpose}
+use Rattle.repo_api.specs.{States.RepoState, Trees.{text_of, Tree}}
+use Rattle.wire_edits.specs.{declared.editing.EditorCommand.EditorCommand, declared.editing.EditorCommand.TheVariants.{TargetRevision, OpenRoot, CloseEdit}}
+use Rattle.drive_rules.specs.{Drives.IsRight, Steps.{as_it_is, but_text, has_step, is_adding, is_entry_property, is_opening, Node, Step}}
+use Rattle.drive_rules.specs.{Steps.EntryKind.DirectoryKind, Steps.Step.OpenAt}
+use Rattle.drive_reports.specs.{Targets.{WholeReport, old_tree, new_tree, drive_scope, stale_in}, declared.ask.DriveAsk.DriveAsk, declared.ask.Purpose.Purpose}
 use Rattle.drive_reports.specs.declared.ask.Purpose.TheVariants.{Update, Switch, Status}
-use Rattle.drive_wire.specs.EntryProperties.{entry_property, told}
-use Rattle.drive_wire.specs.Saying.{OpenEntry, Says}
-use Rattle.drive_wire.specs.Saying.TextState.{Unchanged}
+use Rattle.drive_wire.specs.{EntryProperties.{entry_property, told}, Saying.{OpenEntry, Says}, Saying.TextState.Unchanged}
 
 -- a status sends no texts
 abbrev pub seen_by : Purpose → Node → Node

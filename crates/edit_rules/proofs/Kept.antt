@@ -1,10 +1,7 @@
 -- What is open stays as it is.
-use Rattle.std.proofs.Common.{◌≡◌, ℕ, List, Some, Ok, sym, ap, ◌∙◌}
-use Rattle.std.proofs.lemmas.Map.Steps.{set_value_same}
-use Rattle.std.specs.Prelude.{Bool, Result, Err, IfErr}
-use Rattle.std.specs.Map.{lookup, set_value}
-use Rattle.refusals.specs.Faults.{IfNoMemory}
-use Rattle.refusals.specs.declared.fault.NotDone.{NotDone}
+use Rattle.std.proofs.{Common.{◌≡◌, ℕ, List, Some, Ok, sym, ap, ◌∙◌}, lemmas.Map.Steps.set_value_same}
+use Rattle.std.specs.{Prelude.{Bool, Result, Err, IfErr}, Map.{lookup, set_value}}
+use Rattle.refusals.specs.{Faults.IfNoMemory, declared.fault.NotDone.NotDone}
 use Rattle.refusals.specs.declared.fault.NotDone.TheVariants as faults
 
 -- what is written over itself is as it was

@@ -1,47 +1,27 @@
 -- What the commands of a sound edit make of its transaction may be made of it.
-use Rattle.std.proofs.Common.{◌≡◌, ℕ, ◌+◌, ◌-◌, ◌≤◌, Bool, true, false, not, ◌&&◌, is_some, List, [], ◌∷◌, ◌++◌, length, append-nil, length-append, Option, Some, None, refl, sym, ap, subst, arith, ◌∙◌}
-use Rattle.std.proofs.lemmas.Bool.{false≢true}
-use Rattle.std.proofs.lemmas.Bool.Decides.{nat_tests}
-use Rattle.std.proofs.lemmas.List.{append_assoc}
+use Rattle.std.proofs.Common.{◌≡◌, ℕ, ◌+◌, ◌-◌, ◌≤◌, Bool, true, false, not, ◌&&◌, is_some, List, [], ◌∷◌, ◌++◌, length, append-nil, length-append, Option}
+use Rattle.std.proofs.{Common.{Some, None, refl, sym, ap, subst, arith, ◌∙◌}, lemmas.Bool.false≢true, lemmas.Bool.Decides.nat_tests, lemmas.List.append_assoc}
 use Rattle.std.proofs.lemmas.List.Folds.{list_any_at}
-use Rattle.std.specs.Prelude.{IsSome, IsSomeAnd, Contains, Ok, nat_lt}
-use Rattle.std.specs.FinMap.{get, keys}
-use Rattle.std.specs.List.{list_any}
-use Rattle.svnpath.specs.Components.{IsRightPath}
-use Rattle.svnpath.specs.PathLaws.{under_append}
-use Rattle.svnpath.specs.Paths.{PathValue, Component, is_at_or_under}
-use Rattle.svnpath.specs.Texts.{joined, components_of, without_first_slash, without_last_slash}
-use Rattle.svnpath.specs.declared.component.TheConstants.{DEPTH_LIMIT}
+use Rattle.std.specs.{Prelude.{IsSome, IsSomeAnd, Contains, Ok, nat_lt}, FinMap.{get, keys}, List.list_any}
+use Rattle.svnpath.specs.{Components.IsRightPath, PathLaws.under_append, Paths.{Component, is_at_or_under, PathValue}}
+use Rattle.svnpath.specs.{Texts.{components_of, joined, without_first_slash, without_last_slash}, declared.component.TheConstants.DEPTH_LIMIT}
 use Rattle.svnpath.proofs.BeneathLemmas.{beneath_right}
-use Rattle.svndiff0.specs.Applying.{Applying, HasRead}
-use Rattle.svndiff0.specs.Document.{outcome}
+use Rattle.svndiff0.specs.{Applying.{Applying, HasRead}, Document.outcome}
 use Rattle.svndiff0.proofs.Limits.{text_short}
 use Rattle.refusals.specs.declared.Refusal.{Refusal}
 use Rattle.refusals.specs.declared.Refusal.TheVariants as refusals
-use Rattle.repo_api.specs.Trees.{Tree, IsTree, is_directory}
-use Rattle.repo_api.specs.RightEdits.{HasParent, IsThere, HasRoom, IsRightEdit}
-use Rattle.repo_api.specs.Kinds.{kind_of, content_kind, has_deeper, has_deeper_at}
-use Rattle.repo_api.specs.MergeLaws.{key_there}
-use Rattle.repo_api.specs.States.{TreeMap, RepoState, TxnState, tree_of, tree_at, trees_in}
-use Rattle.repo_api.specs.declared.change.Source.{Source}
-use Rattle.repo_api.specs.declared.entry.Content.{Content}
-use Rattle.repo_api.specs.declared.entry.Content.TheVariants as contents
-use Rattle.repo_api.specs.declared.entry.Entry.{Entry}
-use Rattle.repo_api.specs.declared.entry.NodeKind.{NodeKind}
-use Rattle.repo_api.specs.declared.edit.EditOp.{EditOp}
-use Rattle.repo_api.specs.declared.edit.EditOp.TheVariants as edits
+use Rattle.repo_api.specs.{Kinds.{content_kind, has_deeper, has_deeper_at, kind_of}, MergeLaws.key_there, RightEdits.{HasParent, HasRoom, IsRightEdit, IsThere}}
+use Rattle.repo_api.specs.{States.{RepoState, tree_at, tree_of, TreeMap, trees_in, TxnState}, Trees.{is_directory, IsTree, Tree}, declared.change.Source.Source}
+use Rattle.repo_api.specs.{declared.entry.Content.Content, declared.entry.Entry.Entry, declared.entry.NodeKind.NodeKind, declared.edit.EditOp.EditOp}
 use Rattle.repo_api.specs.declared.limits.TheConstants.{TEXT_LIMIT}
-use Rattle.wire_edits.specs.declared.editing.AddedEntry.{AddedEntry}
-use Rattle.wire_edits.specs.declared.editing.DeletedEntry.{DeletedEntry}
-use Rattle.edit_rules.specs.Tokens.{Tokens, directory_of, is_within, is_placed, path_of, copies_under}
-use Rattle.edit_rules.specs.Edits.{EditState, standing, created, open_in}
-use Rattle.edit_rules.specs.Refusing.{age_refusal, delete_refusal, add_refusal, place_refusal, parent_refusal, room_refusal, depth_refusal, source_refusal, adding_refusal, add_entry_refusal, delete_entry_refusal, open_under}
-use Rattle.edit_rules.specs.Editor.{added_edit, copy_edit, property_edit}
-use Rattle.edit_rules.specs.Texts.{SetsText}
-use Rattle.edit_rules.specs.Soundness.{StandsIn, IsSoundIn, IsSoundEdit, IsRightIn}
-use Rattle.edit_rules.specs.declared.opened.DeltaState.TheVariants.{Reading}
-use Rattle.edit_rules.specs.declared.opened.Opened.{Opened}
-use Rattle.edit_rules.specs.declared.opened.Opened.TheVariants.{Directory, File}
+use Rattle.repo_api.specs.declared.entry.Content.TheVariants as contents
+use Rattle.repo_api.specs.declared.edit.EditOp.TheVariants as edits
+use Rattle.wire_edits.specs.{declared.editing.AddedEntry.AddedEntry, declared.editing.DeletedEntry.DeletedEntry}
+use Rattle.edit_rules.specs.{Tokens.{Tokens, directory_of, is_within, is_placed, path_of, copies_under}, Edits.{EditState, standing, created, open_in}}
+use Rattle.edit_rules.specs.Refusing.{age_refusal, delete_refusal, add_refusal, place_refusal, parent_refusal, room_refusal, depth_refusal, source_refusal}
+use Rattle.edit_rules.specs.{Refusing.{adding_refusal, add_entry_refusal, delete_entry_refusal, open_under}, Editor.{added_edit, copy_edit, property_edit}}
+use Rattle.edit_rules.specs.{Texts.SetsText, Soundness.{StandsIn, IsSoundIn, IsSoundEdit, IsRightIn}, declared.opened.DeltaState.TheVariants.Reading}
+use Rattle.edit_rules.specs.{declared.opened.Opened.Opened, declared.opened.Opened.TheVariants.{Directory, File}}
 use Rattle.edit_rules.proofs.Standing.{first_none, found_under, beneath_there, placed_there, nothing_there, stands_some, right_source, holds, both_true}
 
 -- ---- trees

@@ -1,52 +1,40 @@
 -- What keeps an edit sound.
 use Rattle.std.proofs.Common.{◌≡◌, inl, inr, ◌||◌, ℕ, ◌==◌, Bool, true, false, not, is_some, List, [], ◌++◌, Option, Some, None, refl, sym, ap, subst, ◌∙◌}
 use Rattle.std.proofs.lemmas.List.Elements.{All-nil, All-weaker}
-use Rattle.std.specs.Prelude.{if◌then◌else◌, Ok}
-use Rattle.std.specs.List.{All}
-use Rattle.std.specs.BTreeMap.{is_at}
-use Rattle.std.specs.FinMap.{get}
-use Rattle.std.specs.Cmp.Lexicographic.{slice_cmp, pointwise, texts_ties}
-use Rattle.std.specs.Ordering.{nat_cmp}
-use Rattle.svnpath.specs.Paths.{PathValue, is_at_or_under}
-use Rattle.svnpath.specs.Texts.{joined}
+use Rattle.std.specs.{Prelude.{if◌then◌else◌, Ok}, List.All, BTreeMap.is_at, FinMap.get, Cmp.Lexicographic.{slice_cmp, pointwise, texts_ties}, Ordering.nat_cmp}
+use Rattle.svnpath.specs.{Paths.{is_at_or_under, PathValue}, Texts.joined}
 use Rattle.svndiff0.specs.Applying.{fed}
 use Rattle.refusals.specs.declared.Refusal.{Refusal}
 use Rattle.refusals.specs.declared.Refusal.TheVariants as refusals
-use Rattle.repo_api.specs.Trees.{Tree, IsTree, HasDirectory, HasFile}
-use Rattle.repo_api.specs.Edits.{with_text, with_value, without_value, grafted, copy_of, copied, edited, begun}
-use Rattle.repo_api.specs.EditLaws.{grafted_over}
-use Rattle.repo_api.specs.Marks.{AreMarked, HasSource}
-use Rattle.repo_api.specs.Transactions.{IsMarkedTxn}
-use Rattle.repo_api.specs.States.{RepoState, TxnState, Revision, IsBeginning, IsBegun, IsEdited, tree_of, tree_at, trees_in, youngest}
-use Rattle.repo_api.specs.Kinds.{kind_at}
-use Rattle.repo_api.specs.declared.change.Source.{Source}
-use Rattle.repo_api.specs.declared.entry.NodeKind.{NodeKind}
+use Rattle.repo_api.specs.{EditLaws.grafted_over, Edits.{begun, copied, copy_of, edited, grafted, with_text, with_value, without_value}, Kinds.kind_at}
+use Rattle.repo_api.specs.{Marks.{AreMarked, HasSource}, RightEdits.IsRightEdit, Soundness.{AreSound, AreTrees}}
+use Rattle.repo_api.specs.States.{IsBeginning, IsBegun, IsEdited, RepoState, Revision, tree_at, tree_of, trees_in, TxnState, youngest}
+use Rattle.repo_api.specs.{Transactions.IsMarkedTxn, Trees.{HasDirectory, HasFile, IsTree, Tree}, declared.change.Source.Source}
+use Rattle.repo_api.specs.{declared.entry.NodeKind.NodeKind, declared.edit.EditOp.EditOp}
 use Rattle.repo_api.specs.declared.entry.NodeKind.TheVariants as kinds
 use Rattle.repo_api.specs.declared.entry.Content.TheVariants as contents
-use Rattle.repo_api.specs.declared.edit.EditOp.{EditOp}
 use Rattle.repo_api.specs.declared.edit.EditOp.TheVariants as edits
-use Rattle.wire_edits.specs.declared.editing.EditorCommand.{EditorCommand}
-use Rattle.wire_edits.specs.declared.editing.EditorCommand.TheVariants.{TargetRevision, OpenRoot, DeleteEntry, AddDirectory, AddFile, OpenDirectory, OpenFile, AbsentDirectory, AbsentFile, ChangeDirectoryProperty, ChangeFileProperty, ApplyTextDelta, TextDeltaChunk, TextDeltaEnd, CloseDirectory, CloseFile, CloseEdit, AbortEdit}
-use Rattle.wire_edits.specs.declared.editing.AddedEntry.{AddedEntry}
-use Rattle.wire_edits.specs.declared.editing.OpenedEntry.{OpenedEntry}
-use Rattle.wire_edits.specs.declared.editing.DeletedEntry.{DeletedEntry}
+use Rattle.wire_edits.specs.{declared.editing.EditorCommand.EditorCommand, declared.editing.EditorCommand.TheVariants.{TargetRevision, OpenRoot, DeleteEntry}}
+use Rattle.wire_edits.specs.declared.editing.EditorCommand.TheVariants.{AddDirectory, AddFile, OpenDirectory, OpenFile, AbsentDirectory, AbsentFile}
+use Rattle.wire_edits.specs.declared.editing.EditorCommand.TheVariants.{ChangeDirectoryProperty, ChangeFileProperty, ApplyTextDelta, TextDeltaChunk}
+use Rattle.wire_edits.specs.declared.editing.EditorCommand.TheVariants.{TextDeltaEnd, CloseDirectory, CloseFile, CloseEdit, AbortEdit}
+use Rattle.wire_edits.specs.{declared.editing.AddedEntry.AddedEntry, declared.editing.OpenedEntry.OpenedEntry, declared.editing.DeletedEntry.DeletedEntry}
 use Rattle.wire_edits.specs.declared.editing.PropertyChange.{PropertyChange}
 use Rattle.edit_rules.specs.Tokens.{Tokens, with_token, without_token, with_change, opened_under, path_of, copies_under, closed_beneath}
-use Rattle.edit_rules.specs.Edits.{EditState, standing, created, open_in, file_text}
-use Rattle.edit_rules.specs.Refusing.{unless, directory_refusal, add_refusal, age_refusal, file_refusal, place_refusal, source_of, room_refusal, source_refusal, adding_refusal, open_root_refusal, before_root, delete_entry_refusal, add_entry_refusal, open_directory_refusal, open_file_refusal, begin_delta_refusal, edit_refusal, command_refusal}
-use Rattle.edit_rules.specs.Editor.{OpensRoot, Edits, Named, Opens, opened_directory, copy_edit, added_edit, added_opened, tokens_added, Adds, ChangesProperty, property_edit, unread, BeginsDelta, FeedsDelta, EndsDelta, Closes, Applies, RestsIn, RestsOn}
-use Rattle.repo_api.specs.Soundness.{AreTrees, AreSound}
-use Rattle.edit_rules.specs.Soundness.{StandsIn, IsSoundIn, IsSoundEdit}
-use Rattle.edit_rules.specs.declared.opened.OpenedDirectory.{OpenedDirectory}
-use Rattle.edit_rules.specs.declared.opened.Opened.{Opened}
-use Rattle.edit_rules.specs.declared.opened.Opened.TheVariants.{Directory, File}
+use Rattle.edit_rules.specs.{Edits.{EditState, standing, created, open_in, file_text}, Refusing.{unless, directory_refusal, add_refusal, age_refusal}}
+use Rattle.edit_rules.specs.Refusing.{file_refusal, place_refusal, source_of, room_refusal, source_refusal, adding_refusal, open_root_refusal, before_root}
+use Rattle.edit_rules.specs.Refusing.{delete_entry_refusal, add_entry_refusal, open_directory_refusal, open_file_refusal, begin_delta_refusal, edit_refusal}
+use Rattle.edit_rules.specs.{Refusing.command_refusal, Editor.{OpensRoot, Edits, Named, Opens, opened_directory, copy_edit, added_edit, added_opened}}
+use Rattle.edit_rules.specs.Editor.{tokens_added, Adds, ChangesProperty, property_edit, unread, BeginsDelta, FeedsDelta, EndsDelta, Closes, Applies, RestsIn}
+use Rattle.edit_rules.specs.{Editor.RestsOn, Soundness.{StandsIn, IsSoundIn, IsSoundEdit, IsRightIn}, declared.opened.OpenedDirectory.OpenedDirectory}
+use Rattle.edit_rules.specs.{declared.opened.Opened.Opened, declared.opened.Opened.TheVariants.{Directory, File}}
 use Rattle.edit_rules.specs.declared.opened.DeltaState.TheVariants.{NotBegun, Reading, Ended}
-use Rattle.repo_api.specs.RightEdits.{IsRightEdit}
 use Rattle.repo_laws.proofs.Standing.{source_there}
 use Rattle.svndiff0.proofs.Documents.{fed_more}
-use Rattle.edit_rules.specs.Soundness.{IsRightIn}
-use Rattle.edit_rules.proofs.Standing.{OfOpened, all_inserted, all_removed, all_changed, all_kept, IsNewOr, all_with_new, found_under, StandsAs, stays_same, stays_begun, stays_added, new_stands, stays_revised, stays_renewed, stays_written, stays_outside, copy_stands, directory_there, first_none, file_there, nothing_there, tree_there, stands_some, named_none, begins_at, new_token, right_source}
-use Rattle.edit_rules.proofs.Right.{right_delete, right_add, right_property, right_text}
+use Rattle.edit_rules.proofs.Standing.{OfOpened, all_inserted, all_removed, all_changed, all_kept, IsNewOr, all_with_new, found_under, StandsAs, stays_same}
+use Rattle.edit_rules.proofs.Standing.{stays_begun, stays_added, new_stands, stays_revised, stays_renewed, stays_written, stays_outside, copy_stands}
+use Rattle.edit_rules.proofs.Standing.{directory_there, first_none, file_there, nothing_there, tree_there, stands_some, named_none, begins_at, new_token}
+use Rattle.edit_rules.proofs.{Standing.right_source, Right.{right_delete, right_add, right_property, right_text}}
 
 -- ---- what each command keeps, where the transaction stays as it is
 

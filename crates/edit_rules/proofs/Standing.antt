@@ -1,37 +1,23 @@
 -- What is open in an edit, and what stands where.
-use Rattle.std.proofs.Common.{◌≡◌, ◌⊎◌, inl, inr, append-nil, ℕ, zero, suc, ◌+◌, ◌==◌, Bool, true, false, cond, not, ◌&&◌, is_some, List, [], ◌∷◌, ◌++◌, drop, length, Option, Some, None, option_map, refl, sym, ap, subst, ◌∙◌, arith}
-use Rattle.std.proofs.lemmas.Bool.{eqb-true}
-use Rattle.std.proofs.lemmas.List.{length-drop}
+use Rattle.std.proofs.Common.{◌≡◌, ◌⊎◌, inl, inr, append-nil, ℕ, zero, suc, ◌+◌, ◌==◌, Bool, true, false, cond, not, ◌&&◌, is_some, List, [], ◌∷◌, ◌++◌, drop}
+use Rattle.std.proofs.{Common.{length, Option, Some, None, option_map, refl, sym, ap, subst, ◌∙◌, arith}, lemmas.Bool.eqb-true, lemmas.List.length-drop}
 use Rattle.std.proofs.lemmas.List.Elements.{All-nil, All-cons, All-head, All-tail}
-use Rattle.std.specs.Prelude.{if◌then◌else◌, IsSome, IsSomeAnd, nat_le, Result, Ok, option_and_then, slice_get}
-use Rattle.std.specs.List.{All, filter}
-use Rattle.std.specs.BTreeMap.{insert_entry, is_at}
-use Rattle.std.specs.Map.{lookup, remove_entry, set_value}
-use Rattle.std.specs.FinMap.{get, get-empty}
-use Rattle.std.specs.Cmp.Lexicographic.{slice_cmp}
-use Rattle.std.specs.Ordering.{nat_cmp, match_ordering}
-use Rattle.std.specs.declared.cmp.Ordering.{Ordering}
-use Rattle.std.specs.declared.cmp.Ordering.TheVariants.{Less, Equal, Greater}
-use Rattle.svnpath.specs.Paths.{PathValue, Component, path_cmp, same_path, is_at_or_under}
-use Rattle.svnpath.specs.PathLaws.{under_is, under_itself, rest_append, same_path_is, same_path_refl}
-use Rattle.svnpath.specs.declared.fault.PathFault.{PathFault}
+use Rattle.std.specs.{Prelude.{if◌then◌else◌, IsSome, IsSomeAnd, nat_le, Result, Ok, option_and_then, slice_get}, List.{All, filter}}
+use Rattle.std.specs.{BTreeMap.{insert_entry, is_at}, Map.{lookup, remove_entry, set_value}, FinMap.{get, get-empty}, Cmp.Lexicographic.slice_cmp}
+use Rattle.std.specs.{Ordering.{nat_cmp, match_ordering}, declared.cmp.Ordering.Ordering, declared.cmp.Ordering.TheVariants.{Less, Equal, Greater}}
+use Rattle.svnpath.specs.PathLaws.{rest_append, same_path_is, same_path_refl, under_is, under_itself}
+use Rattle.svnpath.specs.{Paths.{Component, is_at_or_under, path_cmp, PathValue, same_path}, declared.fault.PathFault.PathFault}
 use Rattle.refusals.specs.declared.Refusal.{Refusal}
 use Rattle.refusals.specs.declared.Refusal.TheVariants as refusals
-use Rattle.repo_api.specs.Trees.{Tree, IsTree, HasDirectory, HasFile, is_directory, is_directory_content}
-use Rattle.repo_api.specs.Edits.{touched, with_open_mark, touched_above, new_entry, added, revised, with_text, grafted, copy_of, copied, begun}
-use Rattle.repo_api.specs.RightEdits.{HasParent}
-use Rattle.repo_api.specs.States.{RepoState, Revision, tree_of, tree_in, tree_at, trees_in, youngest}
-use Rattle.repo_api.specs.Kinds.{kind_of, kind_at, content_kind}
-use Rattle.repo_api.specs.declared.change.Source.{Source}
-use Rattle.repo_api.specs.declared.entry.Entry.{Entry}
-use Rattle.repo_api.specs.declared.entry.Content.{Content}
+use Rattle.repo_api.specs.Edits.{added, begun, copied, copy_of, grafted, new_entry, revised, touched, touched_above, with_open_mark, with_text}
+use Rattle.repo_api.specs.{Kinds.{content_kind, kind_at, kind_of}, RightEdits.HasParent, Soundness.AreTrees}
+use Rattle.repo_api.specs.States.{RepoState, Revision, tree_at, tree_in, tree_of, trees_in, youngest}
+use Rattle.repo_api.specs.{Trees.{HasDirectory, HasFile, is_directory, is_directory_content, IsTree, Tree}, declared.change.Source.Source}
+use Rattle.repo_api.specs.{declared.entry.Entry.Entry, declared.entry.Content.Content}
 use Rattle.repo_api.specs.declared.entry.Content.TheVariants as contents
-use Rattle.edit_rules.specs.Tokens.{Tokens, opened_under, path_of, directory_path, directory_of, is_within, is_placed}
-use Rattle.edit_rules.specs.Edits.{EditState}
-use Rattle.edit_rules.specs.Refusing.{first, unless, directory_refusal, add_refusal, age_refusal, file_refusal, place_refusal, parent_refusal, source_kind_refusal, depth_refusal, source_refusal, begin_delta_refusal}
-use Rattle.repo_api.specs.Soundness.{AreTrees}
-use Rattle.edit_rules.specs.Soundness.{StandsIn}
-use Rattle.edit_rules.specs.declared.opened.Opened.{Opened}
+use Rattle.edit_rules.specs.{Tokens.{Tokens, opened_under, path_of, directory_path, directory_of, is_within, is_placed}, Edits.EditState, Refusing.first}
+use Rattle.edit_rules.specs.Refusing.{unless, directory_refusal, add_refusal, age_refusal, file_refusal, place_refusal, parent_refusal, source_kind_refusal}
+use Rattle.edit_rules.specs.{Refusing.{depth_refusal, source_refusal, begin_delta_refusal}, Soundness.StandsIn, declared.opened.Opened.Opened}
 use Rattle.edit_rules.specs.declared.opened.Opened.TheVariants.{Directory, File}
 
 -- ---- what is open

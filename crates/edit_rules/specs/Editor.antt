@@ -1,30 +1,23 @@
 -- The editor of a commit: an edit, and what each command makes of it.
 use Rattle.std.specs.Prelude.{◌≡◌, ℕ, Bool, true, false, is_some, List, [], Option, Some, None, Result, Ok, Err, if◌then◌else◌}
-use Rattle.svnpath.specs.Paths.{PathValue}
-use Rattle.svnpath.specs.Texts.{joined}
-use Rattle.refusals.specs.declared.Refusal.{Refusal}
+use Rattle.svnpath.specs.{Paths.PathValue, Texts.joined}
+use Rattle.refusals.specs.{declared.Refusal.Refusal, declared.fault.NotDone.NotDone}
 use Rattle.refusals.specs.declared.Refusal.TheVariants as refusals
-use Rattle.repo_api.specs.States.{RepoState, TxnState, IsBegun, IsEdited, IsBeginning}
-use Rattle.repo_api.specs.declared.change.Source.{Source}
-use Rattle.repo_api.specs.declared.entry.NodeKind.{NodeKind}
-use Rattle.repo_api.specs.declared.entry.NodeKind.TheVariants as kinds
+use Rattle.repo_api.specs.{States.{IsBeginning, IsBegun, IsEdited, RepoState, TxnState}, declared.change.Source.Source, declared.entry.NodeKind.NodeKind}
 use Rattle.repo_api.specs.declared.edit.EditOp.{EditOp}
+use Rattle.repo_api.specs.declared.entry.NodeKind.TheVariants as kinds
 use Rattle.repo_api.specs.declared.edit.EditOp.TheVariants as edits
-use Rattle.svndiff0.specs.Applying.{Applying, fed}
-use Rattle.svndiff0.specs.Document.{read_document, outcome}
-use Rattle.wire_edits.specs.declared.editing.EditorCommand.{EditorCommand}
-use Rattle.wire_edits.specs.declared.editing.EditorCommand.TheVariants.{TargetRevision, OpenRoot, DeleteEntry, AddDirectory, AddFile, OpenDirectory, OpenFile, AbsentDirectory, AbsentFile, ChangeDirectoryProperty, ChangeFileProperty, ApplyTextDelta, TextDeltaChunk, TextDeltaEnd, CloseDirectory, CloseFile, CloseEdit, AbortEdit}
-use Rattle.wire_edits.specs.declared.editing.AddedEntry.{AddedEntry}
-use Rattle.wire_edits.specs.declared.editing.PropertyChange.{PropertyChange}
-use Rattle.edit_rules.specs.Tokens.{Tokens, with_token, without_token, with_change, opened_under, path_of, copies_under, closed_beneath, others_closed_beneath, has_unfinished}
-use Rattle.edit_rules.specs.Edits.{EditState, standing, file_text}
-use Rattle.edit_rules.specs.Refusing.{source_of, edit_refusal}
-use Rattle.refusals.specs.declared.fault.NotDone.{NotDone}
+use Rattle.svndiff0.specs.{Applying.{Applying, fed}, Document.{read_document, outcome}}
+use Rattle.wire_edits.specs.{declared.editing.EditorCommand.EditorCommand, declared.editing.EditorCommand.TheVariants.{TargetRevision, OpenRoot, DeleteEntry}}
+use Rattle.wire_edits.specs.declared.editing.EditorCommand.TheVariants.{AddDirectory, AddFile, OpenDirectory, OpenFile, AbsentDirectory, AbsentFile}
+use Rattle.wire_edits.specs.declared.editing.EditorCommand.TheVariants.{ChangeDirectoryProperty, ChangeFileProperty, ApplyTextDelta, TextDeltaChunk}
+use Rattle.wire_edits.specs.declared.editing.EditorCommand.TheVariants.{TextDeltaEnd, CloseDirectory, CloseFile, CloseEdit, AbortEdit}
+use Rattle.wire_edits.specs.{declared.editing.AddedEntry.AddedEntry, declared.editing.PropertyChange.PropertyChange}
+use Rattle.edit_rules.specs.Tokens.{Tokens, with_token, without_token, with_change, opened_under, path_of, copies_under, closed_beneath, others_closed_beneath}
+use Rattle.edit_rules.specs.{Tokens.has_unfinished, Edits.{EditState, standing, file_text}, Refusing.{source_of, edit_refusal}}
+use Rattle.edit_rules.specs.{declared.opened.OpenedDirectory.OpenedDirectory, declared.opened.Opened.Opened}
+use Rattle.edit_rules.specs.{declared.opened.Opened.TheVariants.{Directory, File}, declared.opened.DeltaState.TheVariants.{NotBegun, Reading, Ended}}
 use Rattle.refusals.specs.declared.fault.NotDone.TheVariants as faults
-use Rattle.edit_rules.specs.declared.opened.OpenedDirectory.{OpenedDirectory}
-use Rattle.edit_rules.specs.declared.opened.Opened.{Opened}
-use Rattle.edit_rules.specs.declared.opened.Opened.TheVariants.{Directory, File}
-use Rattle.edit_rules.specs.declared.opened.DeltaState.TheVariants.{NotBegun, Reading, Ended}
 
 -- an edit that is refused: its transaction is dropped
 abbrev pub given_up : EditState → EditState

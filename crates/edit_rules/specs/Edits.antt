@@ -1,12 +1,9 @@
 -- An edit, and what stands in its transaction.
 use Rattle.std.specs.Prelude.{ℕ, Bool, false, List, [], Option, Some, None}
 use Rattle.svnpath.specs.Paths.{PathValue}
-use Rattle.repo_api.specs.States.{TxnState}
-use Rattle.repo_api.specs.Kinds.{kind_in, created_in, text_in}
-use Rattle.repo_api.specs.declared.entry.NodeKind.{NodeKind}
+use Rattle.repo_api.specs.{Kinds.{created_in, kind_in, text_in}, States.TxnState, declared.entry.NodeKind.NodeKind}
 use Rattle.repo_api.specs.declared.entry.NodeKind.TheVariants as kinds
-use Rattle.edit_rules.specs.Tokens.{Tokens, opened_under}
-use Rattle.edit_rules.specs.declared.opened.Opened.{Opened}
+use Rattle.edit_rules.specs.{Tokens.{Tokens, opened_under}, declared.opened.Opened.Opened}
 
 -- an edit: the path of its root, the repository's name, its transaction once the root is open, what
 -- is open, and

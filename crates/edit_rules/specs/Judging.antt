@@ -1,13 +1,9 @@
 -- What the judging of a command answers.
 use Rattle.std.specs.Prelude.{◌≡◌, Option, Some, None, Result, Ok, Err}
 use Rattle.svnpath.specs.declared.fault.PathFault.{PathFault}
-use Rattle.refusals.specs.declared.Refusal.{Refusal}
-use Rattle.refusals.specs.Faults.{IfRefusedBy}
-use Rattle.refusals.specs.declared.fault.NotDone.{NotDone}
+use Rattle.refusals.specs.{declared.Refusal.Refusal, Faults.IfRefusedBy, declared.fault.NotDone.NotDone}
 use Rattle.refusals.specs.declared.fault.NotDone.TheVariants as faults
-use Rattle.edit_rules.specs.Edits.{EditState}
-use Rattle.edit_rules.specs.Refusing.{path_fault}
-use Rattle.edit_rules.specs.Editor.{given_up}
+use Rattle.edit_rules.specs.{Edits.EditState, Refusing.path_fault, Editor.given_up}
 
 -- it goes on where nothing is refused, and ends by what is
 abbrev pub Judges : {T : Type 0} → Result T NotDone → Option Refusal → Type 0

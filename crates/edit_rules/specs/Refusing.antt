@@ -1,37 +1,25 @@
 -- Which commands of an edit are refused.
-use Rattle.std.specs.Prelude.{ℕ, ◌-◌, Bool, true, false, not, ◌&&◌, ◌||◌, ◌==◌, nat_le, is_some, List, length, Option, Some, None, Result, Ok, Err, if◌then◌else◌, codes}
-use Rattle.std.specs.List.{starts_with}
+use Rattle.std.specs.Prelude.{ℕ, ◌-◌, Bool, true, false, not, ◌&&◌, ◌||◌, ◌==◌, nat_le, is_some, List, length, Option, Some, None, Result, Ok, Err}
+use Rattle.std.specs.{Prelude.{if◌then◌else◌, codes}, List.starts_with}
 use Rattle.md5.specs.Md5.{md5}
 use Rattle.hex.specs.Hex.{encode_lower}
-use Rattle.svnpath.specs.declared.component.TheConstants.{DEPTH_LIMIT}
-use Rattle.repo_api.specs.Judging.{is_older, is_property_name}
-use Rattle.svnpath.specs.Paths.{PathValue}
-use Rattle.svnpath.specs.Texts.{parsed, joined, starts_with_slash}
-use Rattle.svnpath.specs.Urls.{path_of_text}
+use Rattle.svnpath.specs.{declared.component.TheConstants.DEPTH_LIMIT, Paths.PathValue, Texts.{joined, parsed, starts_with_slash}, Urls.path_of_text}
 use Rattle.svnpath.specs.declared.fault.PathFault.{PathFault}
-use Rattle.refusals.specs.Refusing.{path_refusal}
-use Rattle.refusals.specs.declared.Refusal.{Refusal}
+use Rattle.repo_api.specs.{Judging.{is_older, is_property_name}, Kinds.{has_deeper_at, is_present, kind_at}, States.{RepoState, TxnState, youngest}}
+use Rattle.repo_api.specs.{declared.change.Source.Source, declared.entry.NodeKind.NodeKind}
+use Rattle.refusals.specs.{Refusing.path_refusal, declared.Refusal.Refusal}
 use Rattle.refusals.specs.declared.Refusal.TheVariants as refusals
-use Rattle.repo_api.specs.States.{RepoState, TxnState, youngest}
-use Rattle.repo_api.specs.Kinds.{kind_at, has_deeper_at, is_present}
-use Rattle.repo_api.specs.declared.change.Source.{Source}
-use Rattle.repo_api.specs.declared.entry.NodeKind.{NodeKind}
 use Rattle.repo_api.specs.declared.entry.NodeKind.TheVariants as kinds
-use Rattle.svndiff0.specs.Applying.{fed}
-use Rattle.svndiff0.specs.Document.{Reading, opening, going, broken, outcome}
-use Rattle.svndiff0.specs.declared.fault.DiffFault.{DiffFault}
+use Rattle.svndiff0.specs.{Applying.fed, Document.{Reading, opening, going, broken, outcome}, declared.fault.DiffFault.DiffFault}
 use Rattle.wire_forms.specs.Forms.{is_name}
-use Rattle.wire_edits.specs.declared.editing.EditorCommand.{EditorCommand}
-use Rattle.wire_edits.specs.declared.editing.EditorCommand.TheVariants.{TargetRevision, OpenRoot, DeleteEntry, AddDirectory, AddFile, OpenDirectory, OpenFile, AbsentDirectory, AbsentFile, ChangeDirectoryProperty, ChangeFileProperty, ApplyTextDelta, TextDeltaChunk, TextDeltaEnd, CloseDirectory, CloseFile, CloseEdit, AbortEdit}
-use Rattle.wire_edits.specs.declared.editing.AddedEntry.{AddedEntry}
-use Rattle.wire_edits.specs.declared.editing.OpenedEntry.{OpenedEntry}
-use Rattle.wire_edits.specs.declared.editing.DeletedEntry.{DeletedEntry}
+use Rattle.wire_edits.specs.{declared.editing.EditorCommand.EditorCommand, declared.editing.EditorCommand.TheVariants.{TargetRevision, OpenRoot, DeleteEntry}}
+use Rattle.wire_edits.specs.declared.editing.EditorCommand.TheVariants.{AddDirectory, AddFile, OpenDirectory, OpenFile, AbsentDirectory, AbsentFile}
+use Rattle.wire_edits.specs.declared.editing.EditorCommand.TheVariants.{ChangeDirectoryProperty, ChangeFileProperty, ApplyTextDelta, TextDeltaChunk}
+use Rattle.wire_edits.specs.declared.editing.EditorCommand.TheVariants.{TextDeltaEnd, CloseDirectory, CloseFile, CloseEdit, AbortEdit}
+use Rattle.wire_edits.specs.{declared.editing.AddedEntry.AddedEntry, declared.editing.OpenedEntry.OpenedEntry, declared.editing.DeletedEntry.DeletedEntry}
 use Rattle.wire_edits.specs.declared.editing.AbsentEntry.{AbsentEntry}
-use Rattle.edit_rules.specs.Tokens.{directory_of, copies_under, is_within, is_placed}
-use Rattle.edit_rules.specs.Edits.{EditState, standing, created, file_text, open_in}
-use Rattle.edit_rules.specs.declared.opened.Opened.{Opened}
-use Rattle.edit_rules.specs.declared.opened.Opened.TheVariants.{Directory, File}
-use Rattle.edit_rules.specs.declared.opened.DeltaState.{DeltaState}
+use Rattle.edit_rules.specs.{Tokens.{directory_of, copies_under, is_within, is_placed}, Edits.{EditState, standing, created, file_text, open_in}}
+use Rattle.edit_rules.specs.{declared.opened.Opened.Opened, declared.opened.Opened.TheVariants.{Directory, File}, declared.opened.DeltaState.DeltaState}
 use Rattle.edit_rules.specs.declared.opened.DeltaState.TheVariants as deltas
 
 -- the first refusal, if there is one

@@ -1,19 +1,11 @@
 -- An edit whose transaction is a tree.
-use Rattle.std.specs.Prelude.{◌≡◌, ℕ, List, [], Option, Some, None}
-use Rattle.std.specs.List.{All}
+use Rattle.std.specs.{Prelude.{◌≡◌, ℕ, List, [], Option, Some, None}, List.All}
 use Rattle.svndiff0.specs.Applying.{HasRead}
-use Rattle.svnpath.specs.Components.{IsRightPath}
-use Rattle.svnpath.specs.Paths.{PathValue}
-use Rattle.repo_api.specs.Trees.{Tree, IsTree, HasDirectory, HasFile}
-use Rattle.repo_api.specs.Transactions.{IsMarkedTxn}
-use Rattle.repo_api.specs.RightEdits.{IsRightEdit}
-use Rattle.repo_api.specs.States.{RepoState, TxnState, tree_of, trees_in}
-use Rattle.repo_api.specs.declared.edit.EditOp.{EditOp}
-use Rattle.edit_rules.specs.Tokens.{Tokens}
-use Rattle.edit_rules.specs.Edits.{EditState}
-use Rattle.edit_rules.specs.declared.opened.DeltaState.{DeltaState}
-use Rattle.edit_rules.specs.declared.opened.DeltaState.TheVariants.{NotBegun, Reading, Ended}
-use Rattle.edit_rules.specs.declared.opened.Opened.{Opened}
+use Rattle.svnpath.specs.{Components.IsRightPath, Paths.PathValue}
+use Rattle.repo_api.specs.{RightEdits.IsRightEdit, States.{RepoState, tree_of, trees_in, TxnState}, Transactions.IsMarkedTxn}
+use Rattle.repo_api.specs.{Trees.{HasDirectory, HasFile, IsTree, Tree}, declared.edit.EditOp.EditOp}
+use Rattle.edit_rules.specs.{Tokens.Tokens, Edits.EditState, declared.opened.DeltaState.DeltaState}
+use Rattle.edit_rules.specs.{declared.opened.DeltaState.TheVariants.{NotBegun, Reading, Ended}, declared.opened.Opened.Opened}
 use Rattle.edit_rules.specs.declared.opened.Opened.TheVariants.{Directory, File}
 
 -- what is being read of a text delta is what has come of a document

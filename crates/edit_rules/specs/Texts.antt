@@ -1,13 +1,9 @@
 -- The edit of a text.
 use Rattle.std.specs.Prelude.{◌≡◌, ℕ, List, Option, Some, Ok}
 use Rattle.svnpath.specs.Paths.{PathValue}
-use Rattle.svndiff0.specs.Applying.{Applying}
-use Rattle.svndiff0.specs.Document.{outcome}
-use Rattle.repo_api.specs.declared.edit.EditOp.{EditOp}
-use Rattle.repo_api.specs.declared.edit.EditOp.TheVariants.{SetText}
-use Rattle.edit_rules.specs.declared.opened.Opened.{Opened}
-use Rattle.edit_rules.specs.declared.opened.Opened.TheVariants.{File}
-use Rattle.edit_rules.specs.declared.opened.DeltaState.TheVariants.{Reading}
+use Rattle.svndiff0.specs.{Applying.Applying, Document.outcome}
+use Rattle.repo_api.specs.{declared.edit.EditOp.EditOp, declared.edit.EditOp.TheVariants.SetText}
+use Rattle.edit_rules.specs.{declared.opened.Opened.Opened, declared.opened.Opened.TheVariants.File, declared.opened.DeltaState.TheVariants.Reading}
 
 -- a file is open whose delta is being read, and the document's text is what the edit makes the
 -- file's

@@ -1,14 +1,9 @@
 -- What is open in an edit, by its tokens.
 use Rattle.std.specs.Prelude.{ℕ, Bool, true, false, ◌+◌, ◌==◌, ◌&&◌, ◌||◌, not, is_some, List, length, Option, Some, None, option_and_then}
-use Rattle.std.specs.List.{filter, list_any}
-use Rattle.std.specs.BTreeMap.{insert_entry, is_at}
-use Rattle.std.specs.Map.{lookup, remove_entry, set_value, values_of}
-use Rattle.std.specs.Cmp.Lexicographic.{slice_cmp, pointwise}
-use Rattle.std.specs.Ordering.{nat_cmp}
-use Rattle.svnpath.specs.Paths.{PathValue, is_at_or_under}
-use Rattle.edit_rules.specs.declared.opened.Opened.{Opened}
-use Rattle.edit_rules.specs.declared.opened.Opened.TheVariants.{Directory, File}
-use Rattle.edit_rules.specs.declared.opened.DeltaState.{DeltaState}
+use Rattle.std.specs.{List.{filter, list_any}, BTreeMap.{insert_entry, is_at}, Map.{lookup, remove_entry, set_value, values_of}}
+use Rattle.std.specs.{Cmp.Lexicographic.{slice_cmp, pointwise}, Ordering.nat_cmp}
+use Rattle.svnpath.specs.Paths.{is_at_or_under, PathValue}
+use Rattle.edit_rules.specs.{declared.opened.Opened.Opened, declared.opened.Opened.TheVariants.{Directory, File}, declared.opened.DeltaState.DeltaState}
 use Rattle.edit_rules.specs.declared.opened.DeltaState.TheVariants.{NotBegun, Reading, Ended}
 
 -- a token with what is open under it, by the tokens' bytes

@@ -3,8 +3,7 @@ ghost use Rattle.std.specs.Prelude.{◌≡◌, IfOk};
 ghost use Rattle.hex.specs.Hex.{encode_lower};
 ghost use Rattle.md5.specs.Md5.{md5};
 ghost use Rattle.wire_forms.specs.Forms.{is_name};
-ghost use Rattle.edit_rules.specs.Refusing.{checksum_refusal};
-ghost use Rattle.edit_rules.specs.Judging.{Judges};
+ghost use Rattle.edit_rules.specs.{Refusing.checksum_refusal, Judging.Judges};
 
 use crate::judging::judge;
 use byte_string::ByteString;

@@ -1,21 +1,12 @@
 //! What holds of every edit. The functions do nothing: their contracts are the laws.
 ghost use Rattle.std.specs.Prelude.{◌≡◌, ℕ, Bool, List, Option, Some, None, Ok};
-ghost use Rattle.svnpath.specs.Paths.{PathValue};
-ghost use Rattle.svnpath.specs.Texts.{joined};
-ghost use Rattle.repo_api.specs.States.{RepoState};
-ghost use Rattle.wire_edits.specs.declared.editing.EditorCommand.{EditorCommand};
-ghost use Rattle.wire_edits.specs.declared.editing.AddedEntry.{AddedEntry};
-ghost use Rattle.wire_edits.specs.declared.editing.DeletedEntry.{DeletedEntry};
-ghost use Rattle.repo_api.specs.declared.change.Source.{Source};
-ghost use Rattle.repo_api.specs.declared.edit.EditOp.{EditOp};
+ghost use Rattle.svnpath.specs.{Paths.PathValue, Texts.joined};
+ghost use Rattle.repo_api.specs.{Soundness.AreSound, States.RepoState, declared.change.Source.Source, declared.edit.EditOp.EditOp};
 ghost use Rattle.repo_api.specs.declared.edit.EditOp.TheVariants.{Delete};
-ghost use Rattle.edit_rules.specs.Edits.{EditState, new_edit, standing};
-ghost use Rattle.edit_rules.specs.Refusing.{edit_refusal, add_entry_refusal, delete_entry_refusal, open_under};
-ghost use Rattle.edit_rules.specs.Editor.{Applies, RestsOn, added_edit, property_edit};
-ghost use Rattle.repo_api.specs.Soundness.{AreSound};
-ghost use Rattle.edit_rules.specs.Soundness.{IsSoundEdit, IsRightIn};
-ghost use Rattle.edit_rules.specs.Texts.{SetsText};
-ghost use Rattle.edit_rules.specs.Tokens.{path_of};
+ghost use Rattle.wire_edits.specs.{declared.editing.EditorCommand.EditorCommand, declared.editing.AddedEntry.AddedEntry};
+ghost use Rattle.wire_edits.specs.declared.editing.DeletedEntry.{DeletedEntry};
+ghost use Rattle.edit_rules.specs.{Edits.{EditState, new_edit, standing}, Refusing.{edit_refusal, add_entry_refusal, delete_entry_refusal, open_under}};
+ghost use Rattle.edit_rules.specs.{Editor.{Applies, RestsOn, added_edit, property_edit}, Soundness.{IsSoundEdit, IsRightIn}, Texts.SetsText, Tokens.path_of};
 ghost use Rattle.edit_rules.specs.declared.opened.Opened.{Opened};
 
 /// Shows that an edit that has heard nothing is sound, and so is an edit after each command that is not refused, where

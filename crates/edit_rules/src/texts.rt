@@ -1,14 +1,8 @@
 //! Texts that deltas make.
 ghost use Rattle.std.specs.Prelude.{◌≡◌, Some, Ok, IfOk};
 ghost use Rattle.svnpath.specs.Paths.{PathValue};
-ghost use Rattle.svndiff0.specs.Applying.{Applying};
-ghost use Rattle.svndiff0.specs.Document.{outcome};
-ghost use Rattle.edit_rules.specs.Texts.{SetsText};
-ghost use Rattle.edit_rules.specs.Tokens.{opened_under};
-ghost use Rattle.edit_rules.specs.Refusing.{end_delta_refusal};
-ghost use Rattle.edit_rules.specs.Judging.{Judges};
-ghost use Rattle.edit_rules.specs.declared.opened.Opened.TheVariants.{File};
-ghost use Rattle.edit_rules.specs.declared.opened.DeltaState.TheVariants.{Reading};
+ghost use Rattle.svndiff0.specs.{Applying.Applying, Document.outcome};
+ghost use Rattle.edit_rules.specs.{Texts.SetsText, Tokens.opened_under, Refusing.end_delta_refusal, Judging.Judges};
 
 use crate::opened::{DeltaState, Opened};
 use byte_string::ByteString;
@@ -51,8 +45,8 @@ fn text_edit(opened: &mut Opened) -> Result<EditOp, NotDone>
 
 /// Gives the text that a delta makes.
 fn shared_text(delta: &mut DeltaState) -> Result<FileText, NotDone>
-    ensures judged { (p : PathValue) → Judges result (end_delta_refusal (Some (File p delta.old))) }
-    ensures text { IfOk result (λ text. (a : Applying) × (delta.old ≡ Reading a)
+    ensures judged { (p : PathValue) → Judges result (end_delta_refusal (Some (Opened.File p delta.old))) }
+    ensures text { IfOk result (λ text. (a : Applying) × (delta.old ≡ DeltaState.Reading a)
         × (outcome a.reading ≡ Ok text)) }
     ensures same { delta.new ≡ delta.old }
 {

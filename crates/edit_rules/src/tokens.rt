@@ -3,11 +3,8 @@ ghost use Rattle.std.specs.Prelude.{◌≡◌, Some, OnOk, IfErr, option_copied}
 ghost use Rattle.svnpath.specs.Paths.{PathValue};
 ghost use Rattle.svndiff0.specs.Applying.{Applying, fed};
 ghost use Rattle.edit_rules.specs.Tokens.{opened_under, directory_of, copies_under, with_change, closed_beneath, others_closed_beneath, has_unfinished};
-ghost use Rattle.edit_rules.specs.Refusing.{chunk_refusal};
-ghost use Rattle.edit_rules.specs.Judging.{Judges};
+ghost use Rattle.edit_rules.specs.{Refusing.chunk_refusal, Judging.Judges};
 ghost use Rattle.refusals.specs.Faults.{IfNoMemory};
-ghost use Rattle.edit_rules.specs.declared.opened.Opened.TheVariants.{File};
-ghost use Rattle.edit_rules.specs.declared.opened.DeltaState.TheVariants.{Reading};
 
 use crate::opened::{DeltaState, Opened};
 use byte_string::ByteString;
@@ -64,8 +61,8 @@ pub fn close_others_beneath(
 /// Sets another delta of the file that is open under the token. It takes no memory.
 pub fn set_delta(tokens: &mut BTreeMap<ByteString, Opened>, token: &ByteString, delta: DeltaState)
     ensures { (p : PathValue) (old : DeltaState)
-        → opened_under tokens.old.entries token.now ≡ Some (File p old)
-        → tokens.new.entries ≡ with_change tokens.old.entries token.now (File p delta) }
+        → opened_under tokens.old.entries token.now ≡ Some (Opened.File p old)
+        → tokens.new.entries ≡ with_change tokens.old.entries token.now (Opened.File p delta) }
 {
     if let Some(opened) = tokens.get_mut(token) {
         replace_delta(opened, delta);
@@ -74,7 +71,8 @@ pub fn set_delta(tokens: &mut BTreeMap<ByteString, Opened>, token: &ByteString, 
 
 /// Sets another delta of a file.
 fn replace_delta(opened: &mut Opened, delta: DeltaState)
-    ensures { (p : PathValue) (old : DeltaState) → opened.old ≡ File p old → opened.new ≡ File p delta }
+    ensures { (p : PathValue) (old : DeltaState) → opened.old ≡ Opened.File p old
+        → opened.new ≡ Opened.File p delta }
 {
     if let Opened::File(_, slot) = opened {
         *slot = delta;
@@ -90,8 +88,9 @@ pub fn feed_under(
     ensures judged { Judges result (chunk_refusal bytes.now
         (opened_under tokens.old.entries token.now)) }
     ensures ok { OnOk result ((p : PathValue) × (a : Applying)
-        × (opened_under tokens.old.entries token.now ≡ Some (File p (Reading a)))
-        × (tokens.new.entries ≡ with_change tokens.old.entries token.now (File p (Reading (fed a bytes.now))))) }
+        × (opened_under tokens.old.entries token.now ≡ Some (Opened.File p (DeltaState.Reading a)))
+        × (tokens.new.entries ≡ with_change tokens.old.entries token.now
+        (Opened.File p (DeltaState.Reading (fed a bytes.now))))) }
     ensures err { IfErr result (λ fault. IfNoMemory fault
         (tokens.new.entries ≡ tokens.old.entries)) }
 {
@@ -105,8 +104,9 @@ pub fn feed_under(
 /// Reads the next bytes of a file's text delta.
 fn feed_opened(opened: &mut Opened, bytes: &[u8]) -> Result<(), NotDone>
     ensures judged { Judges result (chunk_refusal bytes.now (Some opened.old)) }
-    ensures ok { OnOk result ((p : PathValue) × (a : Applying) × (opened.old ≡ File p (Reading a))
-        × (opened.new ≡ File p (Reading (fed a bytes.now)))) }
+    ensures ok { OnOk result ((p : PathValue) × (a : Applying)
+        × (opened.old ≡ Opened.File p (DeltaState.Reading a))
+        × (opened.new ≡ Opened.File p (DeltaState.Reading (fed a bytes.now)))) }
     ensures err { IfErr result (λ fault. IfNoMemory fault (opened.new ≡ opened.old)) }
 {
     match opened {
@@ -118,9 +118,9 @@ fn feed_opened(opened: &mut Opened, bytes: &[u8]) -> Result<(), NotDone>
 /// Reads the next bytes of a text delta.
 fn feed(delta: &mut DeltaState, bytes: &[u8]) -> Result<(), NotDone>
     ensures judged { (p : PathValue) → Judges result
-        (chunk_refusal bytes.now (Some (File p delta.old))) }
-    ensures ok { OnOk result ((a : Applying) × (delta.old ≡ Reading a)
-        × (delta.new ≡ Reading (fed a bytes.now))) }
+        (chunk_refusal bytes.now (Some (Opened.File p delta.old))) }
+    ensures ok { OnOk result ((a : Applying) × (delta.old ≡ DeltaState.Reading a)
+        × (delta.new ≡ DeltaState.Reading (fed a bytes.now))) }
     ensures err { IfErr result (λ fault. IfNoMemory fault (delta.new ≡ delta.old)) }
 {
     match delta {

@@ -1,24 +1,16 @@
 -- The steps of an edit: what is put in, and what is taken out again.
 use Rattle.std.proofs.Common.{◌≡◌, ℕ, Bool, true, false, cond, not, ◌&&◌, List, [], ◌∷◌, Option, Some, None, is_some, Ok, refl, ap, subst, ◌∙◌}
-use Rattle.std.specs.Prelude.{Result, Err, OnOk}
-use Rattle.std.specs.BTreeMap.{insert_entry, is_at}
-use Rattle.std.specs.Map.{lookup, remove_entry}
-use Rattle.std.specs.Cmp.Lexicographic.{slice_cmp, nat_list_cmp_total}
-use Rattle.std.specs.Ordering.{nat_cmp, match_ordering, is_eq, ordering_reverse}
-use Rattle.std.specs.declared.cmp.Ordering.{Ordering}
-use Rattle.std.specs.declared.cmp.Ordering.TheVariants.{Less, Equal, Greater}
+use Rattle.std.specs.{Prelude.{Result, Err, OnOk}, BTreeMap.{insert_entry, is_at}, Map.{lookup, remove_entry}}
+use Rattle.std.specs.{Cmp.Lexicographic.{slice_cmp, nat_list_cmp_total}, Ordering.{nat_cmp, match_ordering, is_eq, ordering_reverse}}
+use Rattle.std.specs.{declared.cmp.Ordering.Ordering, declared.cmp.Ordering.TheVariants.{Less, Equal, Greater}}
 use Rattle.svnpath.specs.Paths.{PathValue}
-use Rattle.repo_api.specs.States.{RepoState, TxnState, IsBegun, IsEdited}
-use Rattle.repo_api.specs.declared.change.Source.{Source}
-use Rattle.repo_api.specs.declared.edit.EditOp.{EditOp}
+use Rattle.repo_api.specs.{States.{IsBegun, IsEdited, RepoState, TxnState}, declared.change.Source.Source, declared.edit.EditOp.EditOp}
 use Rattle.refusals.specs.declared.Refusal.{Refusal}
 use Rattle.refusals.specs.declared.Refusal.TheVariants as refusals
-use Rattle.edit_rules.specs.declared.opened.Opened.{Opened}
-use Rattle.edit_rules.specs.declared.opened.Opened.TheVariants.{Directory}
-use Rattle.edit_rules.specs.Tokens.{Tokens, with_token, without_token, path_of, opened_under, directory_of, is_placed, is_within}
-use Rattle.edit_rules.specs.Edits.{EditState}
-use Rattle.edit_rules.specs.Refusing.{first, unless, place_refusal, parent_refusal}
-use Rattle.edit_rules.specs.Editor.{OpensRoot, Edits, Opens, Closes, opened_directory, added_opened}
+use Rattle.edit_rules.specs.{declared.opened.Opened.Opened, declared.opened.Opened.TheVariants.Directory}
+use Rattle.edit_rules.specs.{Editor.{added_opened, Closes, Edits, opened_directory, Opens, OpensRoot}, Edits.EditState}
+use Rattle.edit_rules.specs.Refusing.{first, parent_refusal, place_refusal, unless}
+use Rattle.edit_rules.specs.Tokens.{directory_of, is_placed, is_within, opened_under, path_of, Tokens, with_token, without_token}
 
 pub on_ok : {T E : Type 0} {P Q : Type 0} (r : Result T E) → (P → Q) → OnOk r P → OnOk r Q
 on_ok (Ok x) f p = f p

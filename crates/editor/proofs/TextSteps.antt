@@ -1,18 +1,12 @@
 -- The steps of a text delta.
 use Rattle.std.proofs.Common.{◌≡◌, ℕ, List, [], Option, Some, None, Ok, ap, subst, ◌∙◌}
 use Rattle.svnpath.specs.Paths.{PathValue}
-use Rattle.svndiff0.specs.Applying.{Applying}
-use Rattle.svndiff0.specs.Document.{read_document, outcome}
-use Rattle.repo_api.specs.States.{RepoState, TxnState}
-use Rattle.repo_api.specs.declared.edit.EditOp.{EditOp}
+use Rattle.svndiff0.specs.{Applying.Applying, Document.{read_document, outcome}}
+use Rattle.repo_api.specs.{States.{RepoState, TxnState}, declared.edit.EditOp.EditOp}
 use Rattle.repo_api.specs.declared.edit.EditOp.TheVariants as edits
-use Rattle.edit_rules.specs.declared.opened.Opened.{Opened}
-use Rattle.edit_rules.specs.declared.opened.Opened.TheVariants.{File}
-use Rattle.edit_rules.specs.declared.opened.DeltaState.TheVariants.{NotBegun, Reading, Ended}
-use Rattle.edit_rules.specs.Tokens.{Tokens, opened_under, with_change}
-use Rattle.edit_rules.specs.Edits.{EditState, file_text, open_in}
-use Rattle.edit_rules.specs.Refusing.{open_under}
-use Rattle.edit_rules.specs.Editor.{Edits, BeginsDelta, EndsDelta, unread}
+use Rattle.edit_rules.specs.{declared.opened.Opened.Opened, declared.opened.Opened.TheVariants.File}
+use Rattle.edit_rules.specs.{declared.opened.DeltaState.TheVariants.{NotBegun, Reading, Ended}, Editor.{BeginsDelta, Edits, EndsDelta, unread}}
+use Rattle.edit_rules.specs.{Edits.{EditState, file_text, open_in}, Refusing.open_under, Tokens.{opened_under, Tokens, with_change}}
 use Rattle.editor.proofs.Steps.{reopened}
 
 -- what is open in a transaction is open

@@ -1,16 +1,10 @@
 //! Texts of files.
-ghost use Rattle.std.specs.Prelude.{◌≡◌, Some, OnOk, OnErr, IfOk, IfErr, Ok, is_some, true};
-ghost use Rattle.std.specs.Arc.{arc_value};
+ghost use Rattle.std.specs.{Prelude.{◌≡◌, Some, OnOk, OnErr, IfOk, IfErr, Ok, is_some, true}, Arc.arc_value};
 ghost use Rattle.svnpath.specs.Paths.{PathValue};
-ghost use Rattle.edit_rules.specs.Edits.{file_text};
-ghost use Rattle.edit_rules.specs.Refusing.{begin_delta_refusal, checksum_refusal, chunk_refusal, end_delta_refusal, close_file_refusal, closed_text_refusal, open_under};
-ghost use Rattle.edit_rules.specs.Texts.{SetsText};
-ghost use Rattle.edit_rules.specs.Tokens.{opened_under, with_change, path_of};
-ghost use Rattle.edit_rules.specs.Editor.{BeginsDelta, FeedsDelta, EndsDelta, Closes, ReadsUnder, Under, unread, RestsOn};
-ghost use Rattle.edit_rules.specs.Judging.{Judges, Leaves};
-ghost use Rattle.edit_rules.specs.Soundness.{IsSoundEdit};
-ghost use Rattle.edit_rules.specs.declared.opened.Opened.TheVariants.{File};
-ghost use Rattle.edit_rules.specs.declared.opened.DeltaState.TheVariants as deltas;
+ghost use Rattle.edit_rules.specs.{Editor.{BeginsDelta, Closes, EndsDelta, FeedsDelta, ReadsUnder, RestsOn, Under, unread}, Edits.file_text};
+ghost use Rattle.edit_rules.specs.{Judging.{Judges, Leaves}, Refusing.{begin_delta_refusal, checksum_refusal, chunk_refusal, close_file_refusal}};
+ghost use Rattle.edit_rules.specs.{Refusing.{closed_text_refusal, end_delta_refusal, open_under}, Soundness.IsSoundEdit, Texts.SetsText};
+ghost use Rattle.edit_rules.specs.Tokens.{opened_under, path_of, with_change};
 
 use crate::editor::CommitEditor;
 use byte_string::ByteString;
@@ -56,7 +50,8 @@ impl<R: Repository> CommitEditor<R> {
         requires { RestsOn self.now (R.content repository.now) }
         ensures judged { Judges result (begin_delta_refusal self.now checksum.now
             (open_under self.now token.now)) }
-        ensures base { IfOk result (λ base. (p : PathValue) × (open_under self.now token.now ≡ Some (File p deltas.NotBegun))
+        ensures base { IfOk result (λ base. (p : PathValue)
+            × (open_under self.now token.now ≡ Some (Opened.File p DeltaState.NotBegun))
             × ((arc_value base).items ≡ file_text self.now p)) }
     {
         match self.open_under(token) {

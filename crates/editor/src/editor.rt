@@ -1,12 +1,7 @@
 //! The editor of a commit.
-ghost use Rattle.std.specs.Prelude.{◌≡◌, Ok, Err, None, OnOk, IfOk, IfErr, MatchResult, string_bytes};
-ghost use Rattle.std.specs.Arc.{arc_value};
-ghost use Rattle.edit_rules.specs.Edits.{new_edit, standing, created, file_text};
-ghost use Rattle.edit_rules.specs.Refusing.{before_root, edit_refusal};
-ghost use Rattle.edit_rules.specs.Editor.{given_up, Applies, NotApplied, finished, RestsOn};
-ghost use Rattle.edit_rules.specs.Judging.{Judges, Leaves};
-ghost use Rattle.edit_rules.specs.Soundness.{IsSoundEdit};
-ghost use Rattle.refusals.specs.declared.fault.NotDone.TheVariants.{Refused};
+ghost use Rattle.std.specs.{Prelude.{◌≡◌, Ok, Err, None, OnOk, IfOk, IfErr, MatchResult, string_bytes}, Arc.arc_value};
+ghost use Rattle.edit_rules.specs.{Editor.{Applies, finished, given_up, NotApplied, RestsOn}, Edits.{created, file_text, new_edit, standing}};
+ghost use Rattle.edit_rules.specs.{Judging.{Judges, Leaves}, Refusing.{before_root, edit_refusal}, Soundness.IsSoundEdit};
 
 use crate::room::EDIT_LIMIT;
 use byte_string::ByteString;
@@ -34,9 +29,7 @@ pub struct CommitEditor<R: Repository> {
 }
 
 impl<R: Repository> Model for CommitEditor<R> {
-    ghost use Rattle.std.specs.Prelude.{option_map, string_bytes};
-    ghost use Rattle.std.specs.Coded.{codes};
-    ghost use Rattle.std.specs.FinMap.{code as map_code};
+    ghost use Rattle.std.specs.{Prelude.{option_map, string_bytes}, Coded.codes, FinMap.code as map_code};
     ghost use Rattle.edit_rules.specs.Edits.{EditState};
 
     ghost Value = { EditState };
@@ -90,7 +83,7 @@ impl<R: Repository> CommitEditor<R> {
     /// Gives the edit up.
     fn give_up(&mut self, refusal: Refusal) -> NotDone
         ensures state { self.new ≡ given_up self.old }
-        ensures fault { result ≡ Refused refusal }
+        ensures fault { result ≡ NotDone.Refused refusal }
     {
         self.txn = None;
         self.tokens = BTreeMap::new(self.alloc);

@@ -1,15 +1,11 @@
 //! Entries of a commit: what is opened, added, deleted and closed.
 ghost use Rattle.std.specs.Prelude.{◌≡◌, Ok, None, Some, OnOk, OnErr, IfOk, IfErr, is_some, true, option_copied, if◌then◌else◌};
 ghost use Rattle.svnpath.specs.Texts.{joined};
-ghost use Rattle.repo_api.specs.declared.edit.EditOp.TheVariants as edits;
-ghost use Rattle.edit_rules.specs.Tokens.{opened_under, directory_of, copies_under, with_token, closed_beneath, is_placed, is_within};
-ghost use Rattle.edit_rules.specs.Edits.{standing};
-ghost use Rattle.edit_rules.specs.Refusing.{first, source_of, source_refusal, add_refusal, open_root_refusal, delete_entry_refusal, add_entry_refusal, open_directory_refusal, open_file_refusal, absent_refusal, place_refusal, parent_refusal, close_directory_refusal, open_under};
-ghost use Rattle.edit_rules.specs.Editor.{OpensRoot, Edits, Named, Opens, Adds, opened_directory, copy_edit, added_edit, added_opened, tokens_added, Closes, RestsOn};
-ghost use Rattle.edit_rules.specs.Judging.{Judges, Leaves};
-ghost use Rattle.edit_rules.specs.Soundness.{IsSoundEdit, IsRightIn};
-ghost use Rattle.edit_rules.specs.declared.opened.Opened.TheVariants.{Directory, File};
-ghost use Rattle.edit_rules.specs.declared.opened.DeltaState.TheVariants.{NotBegun};
+ghost use Rattle.edit_rules.specs.Editor.{added_edit, added_opened, Adds, Closes, copy_edit, Edits, Named, opened_directory, Opens, OpensRoot, RestsOn};
+ghost use Rattle.edit_rules.specs.{Editor.tokens_added, Edits.standing, Judging.{Judges, Leaves}, Refusing.{absent_refusal, add_entry_refusal, add_refusal}};
+ghost use Rattle.edit_rules.specs.Refusing.{close_directory_refusal, delete_entry_refusal, first, open_directory_refusal, open_file_refusal, open_root_refusal};
+ghost use Rattle.edit_rules.specs.{Refusing.{open_under, parent_refusal, place_refusal, source_of, source_refusal}, Soundness.{IsRightIn, IsSoundEdit}};
+ghost use Rattle.edit_rules.specs.Tokens.{closed_beneath, copies_under, directory_of, is_placed, is_within, opened_under, with_token};
 
 use crate::editor::CommitEditor;
 use byte_string::ByteString;
@@ -26,7 +22,7 @@ use wire_edits::{AbsentEntry, AddedEntry, DeletedEntry, OpenedEntry};
 
 /// Makes a directory that is open.
 fn opened_directory(path: Path, revision: Option<u64>, in_copy: bool) -> Opened
-    ensures { result ≡ Directory (opened_directory path revision in_copy) }
+    ensures { result ≡ Opened.Directory (opened_directory path revision in_copy) }
 {
     Opened::Directory(OpenedDirectory {
         path,
@@ -37,8 +33,8 @@ fn opened_directory(path: Path, revision: Option<u64>, in_copy: bool) -> Opened
 
 /// Makes what is open once it is added, new or a copy.
 fn added_opened(is_file: bool, path: Path, in_copy: bool) -> Opened
-    ensures { result ≡ (if is_file then File path NotBegun
-        else Directory (opened_directory path None in_copy)) }
+    ensures { result ≡ (if is_file then Opened.File path DeltaState.NotBegun
+        else Opened.Directory (opened_directory path None in_copy)) }
 {
     if is_file {
         Opened::File(path, DeltaState::NotBegun)
@@ -49,7 +45,7 @@ fn added_opened(is_file: bool, path: Path, in_copy: bool) -> Opened
 
 /// Makes the edit that adds something new.
 fn new_edit(is_file: bool, path: Path) -> EditOp
-    ensures { result ≡ (if is_file then edits.AddFile path else edits.AddDirectory path) }
+    ensures { result ≡ (if is_file then EditOp.AddFile path else EditOp.AddDirectory path) }
 {
     if is_file {
         EditOp::AddFile(path)
@@ -348,7 +344,7 @@ impl<R: Repository> CommitEditor<R> {
         ensures judged { Judges result (delete_entry_refusal self.old entry.now
             (joined self.old.path entry.now.path)) }
         ensures ok { OnOk result (Named self.old entry.now.path (λ p. Edits
-            (R.content repository.now) self.old (edits.Delete p)
+            (R.content repository.now) self.old (EditOp.Delete p)
             (closed_beneath self.old.tokens p) self.new)) }
         ensures err { OnErr result (self.new ≡ self.old) }
     {
@@ -368,7 +364,7 @@ impl<R: Repository> CommitEditor<R> {
         requires rests { RestsOn self.old (R.content repository.now) }
         requires sound { IsSoundEdit self.old }
         ensures judged { Judges result (delete_entry_refusal self.old entry.now (Ok path.now)) }
-        ensures ok { OnOk result (Edits (R.content repository.now) self.old (edits.Delete path.now)
+        ensures ok { OnOk result (Edits (R.content repository.now) self.old (EditOp.Delete path.now)
             (closed_beneath self.old.tokens path.now) self.new) }
         ensures err { OnErr result (self.new ≡ self.old) }
     {
@@ -405,7 +401,8 @@ impl<R: Repository> CommitEditor<R> {
         ensures judged { Judges result (open_directory_refusal self.old entry.now
             (joined self.old.path entry.now.path)) }
         ensures ok { OnOk result (Named self.old entry.now.path (λ p. Opens self.old entry.now.token
-            (Directory (opened_directory p entry.now.revision (copies_under self.old.tokens entry.now.parent)))
+            (Opened.Directory (opened_directory p entry.now.revision
+            (copies_under self.old.tokens entry.now.parent)))
             self.new)) }
         ensures err { OnErr result (self.new ≡ self.old) }
     {
@@ -440,7 +437,7 @@ impl<R: Repository> CommitEditor<R> {
         ensures judged { Judges result (open_file_refusal self.old entry.now
             (joined self.old.path entry.now.path)) }
         ensures ok { OnOk result (Named self.old entry.now.path
-            (λ p. Opens self.old entry.now.token (File p NotBegun) self.new)) }
+            (λ p. Opens self.old entry.now.token (Opened.File p DeltaState.NotBegun) self.new)) }
         ensures err { OnErr result (self.new ≡ self.old) }
     {
         let path = path_named(self.alloc, &self.path, &entry.path)?;

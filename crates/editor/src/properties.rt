@@ -1,10 +1,7 @@
 //! Properties of entries.
 ghost use Rattle.std.specs.Prelude.{◌≡◌, Some, OnOk, OnErr, IfOk, option_copied};
-ghost use Rattle.edit_rules.specs.Refusing.{directory_property_refusal, file_property_refusal, open_under};
-ghost use Rattle.edit_rules.specs.Tokens.{path_of};
-ghost use Rattle.edit_rules.specs.Editor.{ChangesProperty, property_edit, RestsOn};
-ghost use Rattle.edit_rules.specs.Judging.{Judges};
-ghost use Rattle.edit_rules.specs.Soundness.{IsSoundEdit};
+ghost use Rattle.edit_rules.specs.{Editor.{ChangesProperty, property_edit, RestsOn}, Judging.Judges};
+ghost use Rattle.edit_rules.specs.{Refusing.{directory_property_refusal, file_property_refusal, open_under}, Soundness.IsSoundEdit, Tokens.path_of};
 
 use crate::editor::CommitEditor;
 use byte_string::ByteString;

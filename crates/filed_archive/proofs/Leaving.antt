@@ -1,13 +1,10 @@
 -- What a save leaves of an archive.
-use Rattle.std.proofs.Common.{◌≡◌, ◌⊎◌, inl, inr, ⊎_elim, ℕ, Bool, true, false, Ok, Err, refl, sym, ◌∙◌, subst}
-use Rattle.std.proofs.lemmas.Bool.{false≢true}
-use Rattle.repo_api.specs.States.{RepoState}
-use Rattle.repo_api.specs.Accepted.{Accepted, changed}
+use Rattle.std.proofs.{Common.{◌≡◌, ◌⊎◌, inl, inr, ⊎_elim, ℕ, Bool, true, false, Ok, Err, refl, sym, ◌∙◌, subst}, lemmas.Bool.false≢true}
+use Rattle.repo_api.specs.{Accepted.{Accepted, changed}, States.RepoState}
 use Rattle.access.specs.Points.{HasRisen}
 use Rattle.store_files.specs.declared.fault.StoreFault.{StoreFault}
 use Rattle.store_files.specs.declared.fault.StoreFault.TheVariants as store
-use Rattle.sharedrepo.specs.Archives.{Kept, SaveLeaves, is_commit}
-use Rattle.sharedrepo.specs.declared.archive.SaveFault.{SaveFault}
+use Rattle.sharedrepo.specs.{Archives.{Kept, SaveLeaves, is_commit}, declared.archive.SaveFault.SaveFault}
 use Rattle.sharedrepo.specs.declared.archive.SaveFault.TheVariants as told_as
 
 abbrev pub at : RepoState → Bool → ℕ → Kept

@@ -1,13 +1,9 @@
 -- What a change writes, and what that makes of the files.
 use Rattle.std.specs.Prelude.{◌≡◌, ◌+◌, ◌<◌, ℕ, Bool, true, false, Some, length}
-use Rattle.repo_api.specs.States.{RepoState}
-use Rattle.repo_api.specs.Accepted.{Accepted, changed}
-use Rattle.repostore.specs.Current.{count_in}
-use Rattle.repostore.specs.Files.{Files, with_revision, with_locks, with_properties}
-use Rattle.repostore.specs.declared.saves.Saves.{Saves}
+use Rattle.repo_api.specs.{Accepted.{Accepted, changed}, States.RepoState}
+use Rattle.repostore.specs.{Current.count_in, Files.{Files, with_locks, with_properties, with_revision}, declared.saves.Saves.Saves}
 use Rattle.sharedrepo.specs.Archives.{Kept, is_commit}
-use Rattle.filed_archive.specs.declared.unsaved.ChangedFiles.{ChangedFiles}
-use Rattle.filed_archive.specs.declared.unsaved.ChangedFiles.TheVariants.{Revision, Locks, Properties}
+use Rattle.filed_archive.specs.{declared.unsaved.ChangedFiles.ChangedFiles, declared.unsaved.ChangedFiles.TheVariants.{Revision, Locks, Properties}}
 use Rattle.filed_archive.specs.declared.unsaved.Unsaved.{Unsaved}
 
 -- the files once it is written

@@ -1,10 +1,9 @@
 //! What a change writes is saved, and then the repository is the next one.
 ghost use Rattle.std.specs.Prelude.{◌≡◌, ◌⊎◌, ◌↔◌, false, true, OnOk, IsErr, IsErrOf};
-ghost use Rattle.store_files.specs.Moments.{LeavesOnly, HasRisen};
+ghost use Rattle.store_files.specs.Moments.{HasRisen, LeavesOnly};
 ghost use Rattle.filed_archive.specs.Writing.{Fits, Writes, is_revision, kept_in, written};
 ghost use Rattle.repo_api.specs.Accepted.{Accepted, changed};
-ghost use Rattle.repostore.specs.Files.{Files, HasEither};
-ghost use Rattle.repostore.specs.Saving.{IsSaved};
+ghost use Rattle.repostore.specs.{Files.{Files, HasEither}, Saving.IsSaved};
 ghost use Rattle.sharedrepo.specs.Archives.{SaveLeaves};
 ghost use Rattle.store_access.specs.Keeping.{LeavesEither};
 
@@ -75,8 +74,7 @@ impl<F: Filed, S: Store> FiledArchive<F, S> {
     /// of the call leaves the files of the repository from before the change, or behind it.
     pub fn save_change(&mut self, unsaved: Unsaved<F>) -> Result<(), SaveFault>
         requires running { self.old.saves.is_halted ≡ false }
-        requires writes { (e : Accepted)
-            × Writes F.content F.is_of self.old.repository unsaved e }
+        requires writes { (e : Accepted) × Writes F.content F.is_of self.old.repository unsaved e }
         ensures leaves { (e : Accepted)
             → Writes F.content F.is_of self.old.repository unsaved e
             → SaveLeaves e (kept_in F.content S.failed self.old.repository self.old.saves) result

@@ -1,8 +1,7 @@
 //! A repository in files that threads share.
 ghost use Rattle.std.specs.Prelude.{◌≡◌, false, true, None, ◌∷◌, [], All, IfOk, IsErrOf};
 ghost use Rattle.access.specs.Points.{content_of};
-ghost use Rattle.published.specs.Events.{point_of};
-ghost use Rattle.published.specs.Events.Event.{Opened};
+ghost use Rattle.published.specs.{Events.point_of, Events.Event.Opened};
 ghost use Rattle.repo_api.specs.Soundness.{AreSound};
 
 use crate::filed_archive::FiledArchive;

@@ -1,28 +1,19 @@
 -- The files of a repository are not faulty.
-use Rattle.std.proofs.Common.{◌≡◌, ◌≤◌, ◌<◌, ℕ, zero, suc, List, [], ◌∷◌, ◌++◌, map, take, length, Option, Some, None, option_map, option_and_then, refl, sym, ap, subst, ◌∙◌, arith, ⊎_elim, length-append, ◌⊎◌, inl, inr}
-use Rattle.std.proofs.lemmas.Bool.{cases_eq}
-use Rattle.std.proofs.lemmas.List.{length-map, map-append, take-append-le, take_all}
-use Rattle.std.proofs.lemmas.Option.{none-some, same_Some}
-use Rattle.std.specs.Prelude.{IfErr, IsSome, Result, Ok, Err, slice_get}
-use Rattle.std.specs.Result.{result_ok}
-use Rattle.repo_api.specs.Properties.{PropertyList}
-use Rattle.store_files.specs.Folders.{Folder, text_of}
-use Rattle.store_files.specs.declared.name.FileName.TheVariants.{Current}
-use Rattle.repostore.specs.Current.{count_in}
-use Rattle.repostore.specs.Files.{Files, HasFiles, RevisionFiles, reached, revision_files, revisions_below}
-use Rattle.repostore.specs.Reading.{HasFaultyRevision, IfFaulty, IsFaulty}
-use Rattle.fsfs_folder.specs.Properties.{properties_of}
-use Rattle.filed_trees.specs.StandsFor.{revision_bytes, locks_in}
-use Rattle.held.specs.declared.held.Held.{Held}
-use Rattle.filed_world.specs.Files.{IsOf, filed_content}
-use Rattle.store_access.specs.Keeping.{HasRepository}
-use Rattle.store_files.specs.declared.fault.StoreFault.{StoreFault}
+use Rattle.std.proofs.Common.{◌≡◌, ◌≤◌, ◌<◌, ℕ, zero, suc, List, [], ◌∷◌, ◌++◌, map, take, length, Option, Some, None, option_map, option_and_then, refl, sym}
+use Rattle.std.proofs.{Common.{ap, subst, ◌∙◌, arith, ⊎_elim, length-append, ◌⊎◌, inl, inr}, lemmas.Bool.cases_eq}
+use Rattle.std.proofs.{lemmas.List.{length-map, map-append, take-append-le, take_all}, lemmas.Option.{none-some, same_Some}}
+use Rattle.std.specs.{Prelude.{IfErr, IsSome, Result, Ok, Err, slice_get}, Result.result_ok}
+use Rattle.repo_api.specs.{Properties.PropertyList, States.RepoState}
+use Rattle.store_files.specs.{Folders.{Folder, text_of}, declared.name.FileName.TheVariants.Current, declared.fault.StoreFault.StoreFault}
 use Rattle.store_files.specs.declared.fault.StoreFault.TheVariants.{Device, File, Halted, NoMemory, Exists}
-use Rattle.repo_api.specs.States.{RepoState}
-use Rattle.filed_world.specs.Histories.{ComesNext, HasHistory, History, IsHistory, AreSaid, first, held_history}
+use Rattle.repostore.specs.{Current.count_in, Files.{Files, HasFiles, reached, revision_files, RevisionFiles, revisions_below}}
+use Rattle.repostore.specs.Reading.{HasFaultyRevision, IfFaulty, IsFaulty}
+use Rattle.fsfs_folder.specs.{Current.current_of, Identity.uuid_of, Properties.properties_of}
+use Rattle.filed_trees.specs.StandsFor.{locks_in, revision_bytes}
+use Rattle.held.specs.declared.held.Held.{Held}
+use Rattle.filed_world.specs.{Files.{IsOf, filed_content}, Histories.{ComesNext, HasHistory, History, IsHistory, AreSaid, first, held_history}}
 use Rattle.filed_world.specs.declared.filed_world.FiledWorld.{FiledWorld}
-use Rattle.fsfs_folder.specs.Current.{current_of}
-use Rattle.fsfs_folder.specs.Identity.{uuid_of}
+use Rattle.store_access.specs.Keeping.{HasRepository}
 use Rattle.filed_world.proofs.Changed.{said_is}
 use Rattle.filed_opening.specs.Faults.{folder_faults}
 use Rattle.noderevs.proofs.Pushing.{last_place, other_place}

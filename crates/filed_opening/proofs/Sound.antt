@@ -1,18 +1,9 @@
 -- Trees that are known to be sound are shown to be.
-use Rattle.std.proofs.Common.{Bool, ℕ, List, [], ◌∷◌, Option}
-use Rattle.std.proofs.Math.Logic.{∥∥₁_elim, ∥∥₁_map}
+use Rattle.std.proofs.{Common.{Bool, ℕ, List, [], ◌∷◌, Option}, Math.Logic.{∥∥₁_elim, ∥∥₁_map}}
 use native.Mathlib.Bridge.{le_prop}
-use Rattle.std.specs.Coded.{codes, Coded, Coded-set}
-use Rattle.std.specs.Option.{IsSomeAnd-prop}
-use Rattle.std.specs.FinMap.{keys}
-use Rattle.repo_api.specs.MergeLaws.{key_there}
-use Rattle.repo_api.specs.Marks.{AreMarked}
-use Rattle.repo_api.specs.Properties.{PropertyList}
-use Rattle.repo_api.specs.Soundness.{AreTrees, AreSound}
-use Rattle.repo_api.specs.States.{Revision, TreeMap, tree_of, trees_in}
-use Rattle.repo_api.specs.Trees.{IsTree, Tree}
-use Rattle.repo_api.specs.declared.entry.Content.{Content}
-use Rattle.repo_api.specs.declared.entry.Entry.{Entry}
+use Rattle.std.specs.{Coded.{codes, Coded, Coded-set}, Option.IsSomeAnd-prop, FinMap.keys}
+use Rattle.repo_api.specs.{Marks.AreMarked, MergeLaws.key_there, Properties.PropertyList, Soundness.{AreSound, AreTrees}}
+use Rattle.repo_api.specs.{States.{Revision, tree_of, TreeMap, trees_in}, Trees.{IsTree, Tree}, declared.entry.Content.Content, declared.entry.Entry.Entry}
 
 bool_coded : Coded Bool
 bool_coded = hlevel codes

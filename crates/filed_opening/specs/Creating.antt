@@ -1,8 +1,7 @@
 -- A new repository in a folder.
 use Rattle.std.specs.Prelude.{◌≡◌, ◌⊎◌, ℕ, List, None}
 use Rattle.dates.specs.Dates.{IsDateText}
-use Rattle.store_files.specs.Folders.{Folder}
-use Rattle.store_files.specs.declared.name.FileName.TheVariants.{Format}
+use Rattle.store_files.specs.{Folders.Folder, declared.name.FileName.TheVariants.Format}
 use Rattle.repo_api.specs.Opening.{new_repository}
 use Rattle.store_access.specs.Keeping.{HasRepository}
 use Rattle.filed_world.specs.Files.{IsOf, filed_content}

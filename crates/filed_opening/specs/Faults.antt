@@ -1,14 +1,9 @@
 -- Which files of a folder are faulty.
-use Rattle.std.specs.Prelude.{◌≡◌, ℕ, suc, List, None, Some, IsSome, ◌++◌, ◌∷◌, [], map}
-use Rattle.std.specs.Result.{result_ok}
-use Rattle.repostore.specs.Current.{count_in}
-use Rattle.repostore.specs.Reading.{Faulty, with_head}
-use Rattle.fsfs_folder.specs.Current.{current_of}
-use Rattle.fsfs_folder.specs.declared.current.Current.{Current}
+use Rattle.std.specs.{Prelude.{◌≡◌, ℕ, suc, List, None, Some, IsSome, ◌++◌, ◌∷◌, [], map}, Result.result_ok}
+use Rattle.repostore.specs.{Current.count_in, Reading.{Faulty, with_head}}
+use Rattle.fsfs_folder.specs.{Current.current_of, Properties.properties_of, declared.current.Current.Current}
 use Rattle.filed_trees.specs.StandsFor.{locks_in}
-use Rattle.fsfs_folder.specs.Properties.{properties_of}
-use Rattle.filed_world.specs.Histories.{HasHistory}
-use Rattle.filed_world.specs.Reading.{SayHead}
+use Rattle.filed_world.specs.{Histories.HasHistory, Reading.SayHead}
 
 -- the file `current` says this
 pub record SaysCurrent (bytes : List ℕ) (current : Current) : Type 0 where

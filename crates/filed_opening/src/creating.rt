@@ -1,12 +1,8 @@
 //! A new repository in a folder.
 ghost use Rattle.std.specs.Prelude.{◌≡◌, ◌≤◌, ℕ, List, Option, None, IsSome, OnOk, IsErr, IsErrOf};
 ghost use Rattle.dates.specs.declared.TheConstants.{LAST_MOMENT};
-ghost use Rattle.store_files.specs.Folders.{IsSame};
-ghost use Rattle.store_files.specs.Moments.{LeavesOnly, HasRisen};
-ghost use Rattle.store_files.specs.declared.fault.StoreFault.TheVariants as faults;
-ghost use Rattle.store_files.specs.declared.name.FileName.TheVariants.{Format, Locks};
-ghost use Rattle.repostore.specs.Creating.{IsFreeWith};
-ghost use Rattle.repostore.specs.Saving.{Stands};
+ghost use Rattle.store_files.specs.{Folders.IsSame, Moments.{HasRisen, LeavesOnly}, declared.name.FileName.TheVariants.{Format, Locks}};
+ghost use Rattle.repostore.specs.{Creating.IsFreeWith, Saving.Stands};
 ghost use Rattle.filed_opening.specs.Creating.{HasNew, IsFreeOrNew};
 
 use filed_world::new_filed;
@@ -27,7 +23,7 @@ pub fn create<S: Store>(
     moment: u64,
 ) -> Result<(), StoreFault>
     requires { moment ≤ LAST_MOMENT }
-    ensures exists { S.is_honest store.new → IsErrOf result faults.Exists
+    ensures exists { S.is_honest store.new → IsErrOf result StoreFault.Exists
         → IsSome (S.holds store.old Format) × IsSame (S.holds store.old) (S.holds store.new) }
     ensures free { S.is_honest store.new → OnOk result (S.holds store.old Format ≡ None) }
     ensures made { S.is_honest store.new → S.holds store.old Locks ≡ None
@@ -46,7 +42,7 @@ pub fn create<S: Store>(
         → Stands S.is_honest S.holds S.may_leave store.old (IsFreeWith locks)
         → IsErr result → S.in_doubt store.new ≡ S.in_doubt store.old
         → Stands S.is_honest S.holds S.may_leave store.new (IsFreeWith locks) }
-    ensures device { IsErrOf result faults.Device
+    ensures device { IsErrOf result StoreFault.Device
         → HasRisen (S.failed store.old) (S.failed store.new) }
 {
     let (filed, files) = new_filed(alloc, uuid, moment)?;

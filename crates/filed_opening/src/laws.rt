@@ -1,10 +1,8 @@
 //! What holds of repositories over files. The functions do nothing: their contracts are the laws.
 ghost use Rattle.repo_api.specs.Soundness.{AreSound};
 ghost use Rattle.store_files.specs.Folders.{Folder};
-ghost use Rattle.repostore.specs.Files.{Files, HasFiles};
-ghost use Rattle.repostore.specs.Reading.{IsFaulty};
-ghost use Rattle.filed_world.specs.Files.{IsOf, filed_content};
-ghost use Rattle.filed_world.specs.declared.filed_world.FiledWorld.{FiledWorld};
+ghost use Rattle.repostore.specs.{Files.{Files, HasFiles}, Reading.IsFaulty};
+ghost use Rattle.filed_world.specs.{Files.{IsOf, filed_content}, declared.filed_world.FiledWorld.FiledWorld};
 ghost use Rattle.filed_opening.specs.Faults.{folder_faults};
 
 use filed_world::FiledWorld;

@@ -1,10 +1,8 @@
 //! A repository opened from its files.
 ghost use Rattle.std.specs.Prelude.{◌≡◌, ◌⊎◌, IfOk, IfErr};
 ghost use Rattle.repo_api.specs.States.{RepoState};
-ghost use Rattle.store_files.specs.Folders.{Folder, IsSame};
-ghost use Rattle.store_files.specs.Moments.{HasRisen};
-ghost use Rattle.repostore.specs.Reading.{IsFaulty, IfFaulty};
-ghost use Rattle.repostore.specs.Saving.{OnlyReads};
+ghost use Rattle.store_files.specs.{Folders.{Folder, IsSame}, Moments.HasRisen};
+ghost use Rattle.repostore.specs.{Reading.{IfFaulty, IsFaulty}, Saving.OnlyReads};
 ghost use Rattle.store_access.specs.Keeping.{HasRepository, StandsFor};
 ghost use Rattle.filed_trees.specs.StandsFor as files;
 ghost use Rattle.filed_world.specs.Files.{IsOf, filed_content};

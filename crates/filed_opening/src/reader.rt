@@ -2,8 +2,7 @@
 ghost use Rattle.std.specs.Prelude.{◌≡◌, None, Some, IfOk, OnOk, OnErr, codes};
 ghost use Rattle.store_files.specs.Folders.{bytes_of};
 ghost use Rattle.fsfs_folder.specs.declared.current.Current.{Current};
-ghost use Rattle.repostore.specs.Files.{Files};
-ghost use Rattle.repostore.specs.Reading.{IfFindsFaulty, with_read_locks};
+ghost use Rattle.repostore.specs.{Files.Files, Reading.{IfFindsFaulty, with_read_locks}};
 ghost use Rattle.filed_trees.specs.StandsFor.{locks_in};
 ghost use Rattle.filed_world.specs.Reading.{AreFirst, HasRead};
 ghost use Rattle.filed_opening.specs.Faults.{SaysCurrent};

@@ -1,32 +1,20 @@
 -- What is said of a node revision, and what is asked of what was found.
-use Rattle.std.proofs.Common.{◌≡◌, ℕ, true, false, List, [], Option, Some, None, option_map, is_some, refl, sym, ap, subst, ◌∙◌}
-use Rattle.std.proofs.lemmas.Bool.{false≢true}
+use Rattle.std.proofs.{Common.{◌≡◌, ℕ, true, false, List, [], Option, Some, None, option_map, is_some, refl, sym, ap, subst, ◌∙◌}, lemmas.Bool.false≢true}
 use Rattle.std.proofs.lemmas.Option.{none-some, same_Some}
-use Rattle.std.specs.Arc.{arc_value}
-use Rattle.std.specs.Prelude.{Bool, IsSome, IsSomeAnd, option_and_then}
-use Rattle.std.specs.Result.{result_ok}
-use Rattle.repo_api.specs.Trees.{is_directory_content}
-use Rattle.repo_api.specs.declared.entry.Content.{Content}
+use Rattle.std.specs.{Arc.arc_value, Prelude.{Bool, IsSome, IsSomeAnd, option_and_then}, Result.result_ok}
+use Rattle.repo_api.specs.{Trees.is_directory_content, declared.entry.Content.Content}
 use Rattle.repo_api.specs.declared.entry.Content.TheVariants as contents
-use Rattle.fsfs_ids.specs.declared.id.FileId.{FileId}
-use Rattle.fsfs_ids.specs.declared.representation.Representation.{Representation}
-use Rattle.fsfs_nodes.specs.declared.entries.DirectoryEntry.{DirectoryEntry}
-use Rattle.fsfs_nodes.specs.declared.entries.EntryKind.{EntryKind}
-use Rattle.fsfs_nodes.specs.declared.entries.EntryKind.TheVariants.{File, Directory}
-use Rattle.fsfs_nodes.specs.declared.node.FileNode.{FileNode}
+use Rattle.fsfs_ids.specs.{declared.id.FileId.FileId, declared.representation.Representation.Representation}
+use Rattle.fsfs_nodes.specs.{declared.entries.DirectoryEntry.DirectoryEntry, declared.entries.EntryKind.EntryKind}
+use Rattle.fsfs_nodes.specs.{declared.entries.EntryKind.TheVariants.{File, Directory}, declared.node.FileNode.FileNode}
 use Rattle.fsfs_reading.specs.Pieces as reading
 use Rattle.fsfs_reading.specs.declared.piece.FilePiece.{FilePiece}
-use Rattle.filed_trees.specs.Pieces.{RevisionBytes, content_by, entries_at, piece_in, text_in}
-use Rattle.filed_trees.specs.Changes.{ChangeRows}
-use Rattle.filed_trees.specs.Comparing.{AreFor, IsEarlier, IsHere, earlier_properties, earlier_text, tables_of}
-use Rattle.filed_trees.specs.Tables.{IsFiled}
-use Rattle.filed_trees.specs.Readable.{AreEntries, AreRightKids, AreRightProperties, IsKept, IsOfKind, IsReadable, IsRightContent, IsRightText, IsSaid, kind_before, properties_before, text_before}
-use Rattle.filed_trees.specs.declared.body.Body.{Body}
-use Rattle.filed_trees.specs.declared.body.Body.TheVariants.{Empty, New, Kept}
-use Rattle.filed_trees.specs.declared.places.Earlier.{Earlier}
-use Rattle.filed_trees.specs.declared.places.Places.{Places}
+use Rattle.filed_trees.specs.{Pieces.{RevisionBytes, content_by, entries_at, piece_in, text_in}, Changes.ChangeRows}
+use Rattle.filed_trees.specs.{Comparing.{AreFor, IsEarlier, IsHere, earlier_properties, earlier_text, tables_of}, Tables.IsFiled, Readable.AreEntries}
+use Rattle.filed_trees.specs.Readable.{AreRightKids, AreRightProperties, IsKept, IsOfKind, IsReadable, IsRightContent, IsRightText, IsSaid, kind_before}
+use Rattle.filed_trees.specs.{Readable.{properties_before, text_before}, declared.body.Body.Body, declared.body.Body.TheVariants.{Empty, New, Kept}}
+use Rattle.filed_trees.specs.{declared.places.Earlier.Earlier, declared.places.Places.Places, declared.table.Table.Table}
 use Rattle.filed_trees.proofs.Compared.{filed_earlier}
-use Rattle.filed_trees.specs.declared.table.Table.{Table}
 
 -- ---- the node before
 

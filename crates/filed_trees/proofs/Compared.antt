@@ -1,27 +1,17 @@
 -- A node that was compared with a node revision is filed as it.
-use Rattle.std.proofs.Common.{◌≡◌, ◌==◌, ℕ, ◌<◌, Bool, true, false, List, [], ◌∷◌, Option, Some, None, option_map, is_some, refl, sym, ap, subst, ◌∙◌, arith, rules}
-use Rattle.std.proofs.lemmas.Option.{none-some, same_Some, slice_get_within}
-use Rattle.std.specs.Arc.{arc_value}
-use Rattle.std.specs.Prelude.{IsSomeAnd, option_and_then, slice_get, if◌then◌else◌}
+use Rattle.std.proofs.Common.{◌≡◌, ◌==◌, ℕ, ◌<◌, Bool, true, false, List, [], ◌∷◌, Option, Some, None, option_map, is_some, refl, sym, ap, subst, ◌∙◌, arith}
+use Rattle.std.proofs.{Common.rules, lemmas.Option.{none-some, same_Some, slice_get_within}}
+use Rattle.std.specs.{Arc.arc_value, Prelude.{IsSomeAnd, option_and_then, slice_get, if◌then◌else◌}}
 use Rattle.svnpath.specs.Paths.{PathValue}
-use Rattle.repo_api.specs.declared.entry.Mark.{Mark}
-use Rattle.repo_api.specs.declared.entry.Mark.TheVariants.{Made}
+use Rattle.repo_api.specs.{declared.entry.Mark.Mark, declared.entry.Mark.TheVariants.Made}
 use Rattle.revision_data.specs.Found.{found}
-use Rattle.noderevs.specs.Held.{node_at}
-use Rattle.noderevs.specs.Nodes.{mark_of}
-use Rattle.noderevs.specs.declared.node_rev.NodeId.{NodeId}
-use Rattle.noderevs.specs.declared.node_rev.NodeRev.{NodeRev}
+use Rattle.noderevs.specs.{Held.node_at, Nodes.mark_of, declared.node_rev.NodeId.NodeId, declared.node_rev.NodeRev.NodeRev}
 use Rattle.fsfs_ids.specs.declared.id.FileId.{FileId}
 use Rattle.fsfs_reading.specs.declared.piece.FilePiece.{FilePiece}
-use Rattle.filed_trees.specs.Pieces.{RevisionBytes, piece_in, path_in, properties_in}
-use Rattle.filed_trees.specs.Changes.{ChangeRows}
-use Rattle.filed_trees.specs.Trees.{own_from, own_at, own_below, own_in, first_id}
-use Rattle.filed_trees.specs.Tables.{placed_in, placed_of, IsFiled, IsPlaced}
+use Rattle.filed_trees.specs.{Pieces.{RevisionBytes, piece_in, path_in, properties_in}, Changes.ChangeRows}
+use Rattle.filed_trees.specs.{Trees.{own_from, own_at, own_below, own_in, first_id}, Tables.{placed_in, placed_of, IsFiled, IsPlaced}}
 use Rattle.filed_trees.specs.Comparing.{AreFor, HasContent, IsEarlier, IsOfLast, WasFiled, earlier_own, revision_in, tables_of}
-use Rattle.filed_trees.specs.declared.places.Earlier.{Earlier}
-use Rattle.filed_trees.specs.declared.places.Places.{Places}
-use Rattle.filed_trees.specs.declared.table.Placed.{Placed}
-use Rattle.filed_trees.specs.declared.table.Table.{Table}
+use Rattle.filed_trees.specs.{declared.places.Earlier.Earlier, declared.places.Places.Places, declared.table.Placed.Placed, declared.table.Table.Table}
 use Rattle.filed_trees.proofs.Growing.{own_earlier}
 
 same_number : (n : ℕ) → (n == n) ≡ true

@@ -1,20 +1,14 @@
 -- The entries of a directory, put and removed one after another.
 use Rattle.std.proofs.Common.{◌≡◌, ◌<◌, ℕ, suc, length, Bool, true, false, cond, List, [], ◌∷◌, Option, Some, None, refl, sym, ap, subst, ◌∙◌, arith}
-use Rattle.std.proofs.lemmas.Bool.{false≢true}
-use Rattle.std.proofs.lemmas.Cmp.{nat_list_cmp_total}
-use Rattle.std.proofs.lemmas.Option.{none-some, same_Some, slice_get_within}
+use Rattle.std.proofs.{lemmas.Bool.false≢true, lemmas.Cmp.nat_list_cmp_total, lemmas.Option.{none-some, same_Some, slice_get_within}}
 use Rattle.std.specs.FinMap.{empty, get-empty, insert, remove, get-insert, get-remove}
 use Rattle.std.specs.Prelude.{Result, Ok, Err, IfOk, All, IsSome, IsSomeAnd, slice_get, if◌then◌else◌}
-use Rattle.svnpath.specs.PathLaws.{same_component_is, same_component_refl}
-use Rattle.svnpath.specs.Paths.{Component, same_component}
+use Rattle.svnpath.specs.{PathLaws.{same_component_is, same_component_refl}, Paths.{Component, same_component}}
 use Rattle.shared_map.specs.Entries.{by_bytes}
-use Rattle.noderevs.specs.Nodes.{Kids, kid_named}
-use Rattle.noderevs.specs.declared.node_rev.NodeId.{NodeId}
+use Rattle.noderevs.specs.{Nodes.{kid_named, Kids}, declared.node_rev.NodeId.NodeId}
 use Rattle.fsfs_ids.specs.declared.id.FileId.{FileId}
 use Rattle.fsfs_nodes.specs.declared.entries.DirectoryEntry.{DirectoryEntry}
-use Rattle.filed_trees.specs.Pieces.{entry_named}
-use Rattle.filed_trees.specs.Tables.{IsAt}
-use Rattle.filed_trees.specs.declared.table.Table.{Table}
+use Rattle.filed_trees.specs.{Pieces.entry_named, Tables.IsAt, declared.table.Table.Table}
 use Rattle.filed_trees.proofs.Named.{at_name}
 
 pub put_named : (kids : Kids) (key : Component) (id : NodeId) (n : Component)

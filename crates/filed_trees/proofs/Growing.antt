@@ -1,34 +1,21 @@
 -- What is said of files and tables is said of more of them.
-use Rattle.std.proofs.Common.{◌≡◌, ◌≢◌, ◌==◌, ℕ, zero, suc, ◌<◌, Bool, true, false, List, [], ◌∷◌, ◌++◌, length, Option, Some, None, option_map, option_and_then, is_some, Ok, refl, sym, ap, subst, ◌∙◌, arith, length-append, rules, ⊎_elim, IsSomeAnd}
-use Rattle.std.proofs.lemmas.Bool.{cases_eq, cases_lt, eqb-true}
-use Rattle.std.proofs.lemmas.List.{get_or_append_left}
-use Rattle.std.proofs.lemmas.Option.{none-some, slice_get_within, slice_get_past, slice_get-get_or, same_Some}
-use Rattle.std.proofs.Math.Seq.{get_or-append_seam}
-use Rattle.std.specs.FinMap.{entries}
-use Rattle.std.specs.Prelude.{slice_get, if◌then◌else◌}
-use Rattle.repo_api.specs.States.{ChangeMap}
-use Rattle.repo_api.specs.declared.entry.Mark.{Mark}
-use Rattle.repo_api.specs.declared.entry.Mark.TheVariants.{Made}
+use Rattle.std.proofs.Common.{◌≡◌, ◌≢◌, ◌==◌, ℕ, zero, suc, ◌<◌, Bool, true, false, List, [], ◌∷◌, ◌++◌, length, Option, Some, None, option_map}
+use Rattle.std.proofs.Common.{option_and_then, is_some, Ok, refl, sym, ap, subst, ◌∙◌, arith, length-append, rules, ⊎_elim, IsSomeAnd}
+use Rattle.std.proofs.{lemmas.Bool.{cases_eq, cases_lt, eqb-true}, lemmas.List.get_or_append_left}
+use Rattle.std.proofs.{lemmas.Option.{none-some, slice_get_within, slice_get_past, slice_get-get_or, same_Some}, Math.Seq.get_or-append_seam}
+use Rattle.std.specs.{FinMap.entries, Prelude.{slice_get, if◌then◌else◌}}
+use Rattle.repo_api.specs.{States.ChangeMap, declared.entry.Mark.Mark, declared.entry.Mark.TheVariants.Made}
 use Rattle.repo_api.specs.declared.entry.Content.TheVariants as contents
 use Rattle.revision_data.specs.Found.{found}
 use Rattle.noderevs.specs.Nodes as nodes
-use Rattle.noderevs.specs.Nodes.{node_in}
-use Rattle.noderevs.specs.declared.node_rev.Block.{Block}
-use Rattle.noderevs.specs.declared.node_rev.NodeId.{NodeId}
-use Rattle.noderevs.specs.declared.node_rev.NodeRev.{NodeRev}
-use Rattle.fsfs_ids.specs.declared.id.FileId.{FileId}
-use Rattle.fsfs_ids.specs.declared.representation.Representation.{Representation}
-use Rattle.fsfs_nodes.specs.declared.entries.EntryKind.{EntryKind}
-use Rattle.fsfs_nodes.specs.declared.entries.EntryKind.TheVariants.{File, Directory}
+use Rattle.noderevs.specs.{Nodes.node_in, declared.node_rev.Block.Block, declared.node_rev.NodeId.NodeId, declared.node_rev.NodeRev.NodeRev}
+use Rattle.fsfs_ids.specs.{declared.id.FileId.FileId, declared.representation.Representation.Representation}
+use Rattle.fsfs_nodes.specs.{declared.entries.EntryKind.EntryKind, declared.entries.EntryKind.TheVariants.{File, Directory}}
 use Rattle.fsfs_parts.specs.declared.change.FileChange.{FileChange}
-use Rattle.fsfs_reading.specs.Pieces.{revision_of}
-use Rattle.fsfs_reading.specs.declared.piece.FilePiece.{FilePiece}
+use Rattle.fsfs_reading.specs.{Pieces.revision_of, declared.piece.FilePiece.FilePiece}
 use Rattle.filed_trees.specs.Pieces.{RevisionBytes, piece_in, body_at_line, text_in, properties_in, entries_at, entries_by, entry_named, content_by, path_in}
-use Rattle.filed_trees.specs.Changes.{ChangeRows, revision_in, changes_by, changes_in}
-use Rattle.filed_trees.specs.Trees.{own_from, own_at, own_below, own_in, first_id, root_in}
-use Rattle.filed_trees.specs.Tables.{placed_in, IsAt, IsFiled, IsPlaced, AreTabled, HasRows}
-use Rattle.filed_trees.specs.declared.table.Placed.{Placed}
-use Rattle.filed_trees.specs.declared.table.Table.{Table}
+use Rattle.filed_trees.specs.{Changes.{ChangeRows, revision_in, changes_by, changes_in}, Trees.{own_from, own_at, own_below, own_in, first_id, root_in}}
+use Rattle.filed_trees.specs.{Tables.{placed_in, IsAt, IsFiled, IsPlaced, AreTabled, HasRows}, declared.table.Placed.Placed, declared.table.Table.Table}
 use Rattle.noderevs.proofs.Pushing.{last_place, other_place}
 
 -- ---- lists with one more

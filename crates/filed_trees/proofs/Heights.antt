@@ -1,43 +1,27 @@
 -- The heights of nodes that are read: each entry of a directory is read before it.
-use Rattle.std.proofs.Common.{◌≡◌, ◌==◌, ◌||◌, ◌&&◌, ◌<◌, ◌-◌, ℕ, zero, suc, Bool, true, false, List, [], ◌∷◌, ◌++◌, take, length, Option, Some, None, option_map, option_and_then, refl, sym, ap, subst, ◌∙◌, arith, ⊎_elim, if◌then◌else◌}
-use Rattle.std.proofs.Math.Seq.{take-append_seam}
-use Rattle.std.proofs.lemmas.Bool.{cases_eq, cases_lt, eqb-true, false≢true, ltb-true}
-use Rattle.std.proofs.lemmas.List.{take-append-le}
+use Rattle.std.proofs.Common.{◌≡◌, ◌==◌, ◌||◌, ◌&&◌, ◌<◌, ◌-◌, ℕ, zero, suc, Bool, true, false, List, [], ◌∷◌, ◌++◌, take, length, Option, Some, None}
+use Rattle.std.proofs.{Common.{option_map, option_and_then, refl, sym, ap, subst, ◌∙◌, arith, ⊎_elim, if◌then◌else◌}, Math.Seq.take-append_seam}
+use Rattle.std.proofs.{lemmas.Bool.{cases_eq, cases_lt, eqb-true, false≢true, ltb-true}, lemmas.List.take-append-le}
 use Rattle.std.proofs.lemmas.Option.{none-some, same_Some, slice_get_within, get_or_from_slice_get}
-use Rattle.std.specs.Prelude.{Result, Ok, IfSome, IsSome, IsSomeAnd, is_some, nat_lt, slice_get}
-use Rattle.std.specs.Result.{result_ok}
+use Rattle.std.specs.{Prelude.{Result, Ok, IfSome, IsSome, IsSomeAnd, is_some, nat_lt, slice_get}, Result.result_ok}
 use Rattle.svnpath.specs.Paths.{Component, same_component}
 use Rattle.repo_api.specs.States.{ChangeMap}
 use Rattle.fsfs_lines.specs.declared.fault.FileFault.{FileFault}
-use Rattle.noderevs.specs.Heights.{AreHigh, IsHeight}
-use Rattle.noderevs.specs.Held.{blocks_of, node_at}
-use Rattle.noderevs.specs.Nodes.{Look, kid_named, kid_of, node_in, with_block}
-use Rattle.noderevs.specs.declared.node_rev.Block.{Block}
-use Rattle.noderevs.specs.declared.node_rev.NodeId.{NodeId}
-use Rattle.noderevs.specs.declared.node_rev.NodeRev.{NodeRev}
-use Rattle.noderevs.specs.declared.nodes.Nodes.{Nodes}
+use Rattle.noderevs.specs.{Heights.{AreHigh, IsHeight}, Held.{blocks_of, node_at}, Nodes.{kid_named, kid_of, Look, node_in, with_block}}
+use Rattle.noderevs.specs.{declared.node_rev.Block.Block, declared.node_rev.NodeId.NodeId, declared.node_rev.NodeRev.NodeRev, declared.nodes.Nodes.Nodes}
 use Rattle.noderevs.proofs.Pushing.{last_place, next_is_free, other_place}
-use Rattle.fsfs_ids.specs.declared.id.FileId.{FileId}
-use Rattle.fsfs_ids.specs.declared.representation.Representation.{Representation}
-use Rattle.fsfs_nodes.specs.Entries.{entries_of}
-use Rattle.fsfs_nodes.specs.declared.entries.DirectoryEntry.{DirectoryEntry}
-use Rattle.fsfs_nodes.specs.declared.entries.EntryKind.{EntryKind}
-use Rattle.fsfs_nodes.specs.declared.entries.EntryKind.TheVariants.{File, Directory}
-use Rattle.fsfs_nodes.specs.declared.node.FileNode.{FileNode}
+use Rattle.fsfs_ids.specs.{declared.id.FileId.FileId, declared.representation.Representation.Representation}
+use Rattle.fsfs_nodes.specs.{Entries.entries_of, declared.entries.DirectoryEntry.DirectoryEntry, declared.entries.EntryKind.EntryKind}
+use Rattle.fsfs_nodes.specs.{declared.entries.EntryKind.TheVariants.{File, Directory}, declared.node.FileNode.FileNode}
 use Rattle.fsfs_parts.specs.declared.change.FileChange.{FileChange}
 use Rattle.fsfs_reading.specs.Pieces as reading
-use Rattle.fsfs_reading.specs.Pieces.{is_before, revision_of}
-use Rattle.fsfs_reading.specs.declared.piece.FilePiece.{FilePiece}
+use Rattle.fsfs_reading.specs.{Pieces.{is_before, revision_of}, declared.piece.FilePiece.FilePiece}
 use Rattle.filed_trees.specs.Comparing.{HaveHeights, IsOfLast, IsHere}
 use Rattle.filed_trees.specs.Pieces.{RevisionBytes, body_at_line, entries_at, entries_by, entries_in, entry_named, piece_in}
 use Rattle.filed_trees.specs.Readable.{AreReadable, IsReadable, IsTabled, kind_before, text_before, IsKept}
-use Rattle.filed_trees.specs.Tables.{AreTabled, HasRows, IsAt, IsFiled, IsPlaced, placed_in}
-use Rattle.filed_trees.specs.declared.table.Placed.{Placed}
-use Rattle.filed_trees.specs.declared.table.Table.{Table}
-use Rattle.filed_trees.proofs.Growing.{filed_more_files, last_file, last_revision}
-use Rattle.filed_trees.proofs.OneRepository.{of_revision, piece_at_place, rising}
-use Rattle.filed_trees.proofs.Read.{LieBefore, entries_lie_before, pieces_of_last}
-use Rattle.filed_trees.proofs.Rows.{forwards}
+use Rattle.filed_trees.specs.{Tables.{AreTabled, HasRows, IsAt, IsFiled, IsPlaced, placed_in}, declared.table.Placed.Placed, declared.table.Table.Table}
+use Rattle.filed_trees.proofs.{Growing.{filed_more_files, last_file, last_revision}, OneRepository.{of_revision, piece_at_place, rising}}
+use Rattle.filed_trees.proofs.{Read.{LieBefore, entries_lie_before, pieces_of_last}, Rows.forwards}
 
 -- ---- one node more
 

@@ -1,8 +1,6 @@
 -- Where a fault of a file is answered.
-use Rattle.std.proofs.Common.{◌≡◌, sym, ap, subst, ◌∙◌, ⊎_elim}
-use Rattle.std.proofs.lemmas.Bool.{false≢true}
-use Rattle.std.specs.Prelude.{◌⊎◌, Result, Ok, Err, IsSome, is_some}
-use Rattle.std.specs.Result.{result_ok}
+use Rattle.std.proofs.{Common.{◌≡◌, sym, ap, subst, ◌∙◌, ⊎_elim}, lemmas.Bool.false≢true}
+use Rattle.std.specs.{Prelude.{◌⊎◌, Result, Ok, Err, IsSome, is_some}, Result.result_ok}
 use Rattle.fsfs_lines.specs.declared.fault.FileFault.{FileFault}
 use Rattle.fsfs_lines.specs.declared.fault.FileFault.TheVariants.{Truncated, BadLine, Delta, Digest, Dangling, NoMemory, WrongFormat}
 use Rattle.repostore.specs.Reading.{IfFileFaulty}

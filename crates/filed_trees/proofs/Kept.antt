@@ -1,23 +1,15 @@
 -- What a line gives that a predecessor had, and what a node revision gives then.
-use Rattle.std.proofs.Common.{◌≡◌, ℕ, List, [], Option, Some, None, option_map, sym, ap, subst, ◌∙◌}
-use Rattle.std.proofs.lemmas.Option.{none-some, same_Some}
-use Rattle.std.specs.Arc.{arc_value}
-use Rattle.std.specs.Prelude.{Result, Ok, Err, IfOk}
+use Rattle.std.proofs.{Common.{◌≡◌, ℕ, List, [], Option, Some, None, option_map, sym, ap, subst, ◌∙◌}, lemmas.Option.{none-some, same_Some}}
+use Rattle.std.specs.{Arc.arc_value, Prelude.{Result, Ok, Err, IfOk}}
 use Rattle.svnpath.specs.Paths.{Component}
-use Rattle.repo_api.specs.Trees.{content_text}
-use Rattle.repo_api.specs.declared.entry.Content.{Content}
+use Rattle.repo_api.specs.{Trees.content_text, declared.entry.Content.Content}
 use Rattle.repo_api.specs.declared.entry.Content.TheVariants as contents
-use Rattle.noderevs.specs.Nodes.{Kids, kid_named, kid_of}
+use Rattle.noderevs.specs.Nodes.{kid_named, kid_of, Kids}
 use Rattle.fsfs_ids.specs.declared.representation.Representation.{Representation}
-use Rattle.fsfs_nodes.specs.declared.entries.DirectoryEntry.{DirectoryEntry}
-use Rattle.fsfs_nodes.specs.declared.entries.EntryKind.{EntryKind}
-use Rattle.fsfs_nodes.specs.declared.entries.EntryKind.TheVariants.{File, Directory}
-use Rattle.fsfs_nodes.specs.declared.node.FileNode.{FileNode}
-use Rattle.filed_trees.specs.Pieces.{RevisionBytes, text_in, entries_at, entries_by, entry_named, content_by}
-use Rattle.filed_trees.specs.Tables.{IsAt}
-use Rattle.filed_trees.specs.Comparing.{WasFiled, HasEntries, HasContent, tables_of}
-use Rattle.filed_trees.specs.declared.places.Earlier.{Earlier}
-use Rattle.filed_trees.specs.declared.places.Places.{Places}
+use Rattle.fsfs_nodes.specs.{declared.entries.DirectoryEntry.DirectoryEntry, declared.entries.EntryKind.EntryKind}
+use Rattle.fsfs_nodes.specs.{declared.entries.EntryKind.TheVariants.{File, Directory}, declared.node.FileNode.FileNode}
+use Rattle.filed_trees.specs.{Pieces.{RevisionBytes, text_in, entries_at, entries_by, entry_named, content_by}, Tables.IsAt}
+use Rattle.filed_trees.specs.{Comparing.{WasFiled, HasEntries, HasContent, tables_of}, declared.places.Earlier.Earlier, declared.places.Places.Places}
 use Rattle.filed_trees.specs.declared.table.Table.{Table}
 
 pub if_ok : {T E : Type 0} (r : Result T E) {P Q : T → Type 0} → IfOk r P → ((x : T) → P x → Q x) → IfOk r Q

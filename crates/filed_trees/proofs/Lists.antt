@@ -1,6 +1,5 @@
 -- Lists whose items are the same one after another.
-use Rattle.std.proofs.Common.{◌≡◌, ℕ, ◌+◌, ◌<◌, ◌≤◌, List, [], ◌∷◌, ◌++◌, take, length, get_or, sym, ap, ◌∙◌}
-use Rattle.std.proofs.lemmas.List.{take_more, take_all}
+use Rattle.std.proofs.{Common.{◌≡◌, ℕ, ◌+◌, ◌<◌, ◌≤◌, List, [], ◌∷◌, ◌++◌, take, length, get_or, sym, ap, ◌∙◌}, lemmas.List.{take_more, take_all}}
 
 -- items are the same as far as this, and the next ones are
 pub same_more : {X : Type 0} (xs ys : List X) (i : ℕ) (x y : X)

@@ -1,39 +1,19 @@
 -- The entries of a node and those that a file says.
-use Rattle.std.proofs.Common.{◌≡◌, ℕ, suc, Bool, true, false, cond, List, [], ◌∷◌, map, Option, Some, None, option_map, refl, sym, ap, subst, ◌∙◌, arith, ◌&&◌, get_or}
-use Rattle.std.proofs.lemmas.Bool.{false≢true}
-use Rattle.std.proofs.lemmas.Map.Entries.{place_from_lookup}
-use Rattle.std.proofs.lemmas.Option.{none-some, same_Some, slice_get-map, slice_get_within, get_or_from_slice_get}
-use Rattle.std.specs.Borrow.{Bor}
-use Rattle.std.specs.BTreeMap.{is_at}
-use Rattle.std.specs.Cmp.Lexicographic.{slice_cmp, texts_ties}
-use Rattle.std.specs.FinMap.{find, get, entries, get-entries, entries_sorted}
-use Rattle.std.specs.Map.{lookup, keys_of}
-use Rattle.std.specs.Option.{option_or}
-use Rattle.std.specs.Ordering.{nat_cmp, is_lt}
-use Rattle.std.specs.Prelude.{All, IsSome, slice_get, T, Contains}
-use Rattle.svnpath.specs.PathLaws.{same_component_is}
-use Rattle.svnpath.specs.Paths.{Component, same_component}
-use Rattle.noderevs.specs.Nodes.{Kids}
-use Rattle.noderevs.specs.declared.node_rev.NodeId.{NodeId}
+use Rattle.std.proofs.Common.{◌≡◌, ℕ, suc, Bool, true, false, cond, List, [], ◌∷◌, map, Option, Some, None, option_map, refl, sym, ap, subst, ◌∙◌, arith, ◌&&◌}
+use Rattle.std.proofs.{Common.get_or, lemmas.Bool.false≢true, lemmas.Map.Entries.place_from_lookup}
+use Rattle.std.proofs.{lemmas.Option.{none-some, same_Some, slice_get-map, slice_get_within, get_or_from_slice_get}, lemmas.Map.Keys.IsDistinct-from_sorted}
+use Rattle.std.proofs.{lemmas.Map.Views.lookup-from_Contains, lemmas.Cmp.nat_list_cmp_total, lemmas.List.Elements.Contains-get_or, lemmas.List.length-map}
+use Rattle.std.proofs.Math.ListN.{get_or-map}
+use Rattle.std.specs.{Borrow.Bor, BTreeMap.is_at, Cmp.Lexicographic.{slice_cmp, texts_ties}, FinMap.{find, get, entries, get-entries, entries_sorted}}
+use Rattle.std.specs.{Map.{lookup, keys_of}, Option.option_or, Ordering.{nat_cmp, is_lt}, Prelude.{All, IsSome, slice_get, T, Contains}, Cmp.eq_by_cmp_equiv}
+use Rattle.std.specs.{FinMap.Entries.{is_sorted, below_all}, List.AllByRecursion, List.Sorted.IsStrictlySortedBy, declared.cmp.Ordering.Ordering}
+use Rattle.std.specs.declared.cmp.Ordering.TheVariants.{Less, Equal, Greater}
+use Rattle.svnpath.specs.{PathLaws.same_component_is, Paths.{Component, same_component}}
+use Rattle.noderevs.specs.{Nodes.Kids, declared.node_rev.NodeId.NodeId}
 use Rattle.fsfs_ids.specs.declared.id.FileId.{FileId}
 use Rattle.fsfs_nodes.specs.declared.entries.DirectoryEntry.{DirectoryEntry}
-use Rattle.filed_trees.specs.Pieces.{entry_named}
-use Rattle.filed_trees.specs.Tables.{IsAt}
-use Rattle.filed_trees.specs.Comparing.{named_kid, IsAmong}
-use Rattle.std.proofs.lemmas.Map.Keys.{IsDistinct-from_sorted}
-use Rattle.std.proofs.lemmas.Map.Views.{lookup-from_Contains}
-use Rattle.std.specs.Cmp.{eq_by_cmp_equiv}
-use Rattle.std.specs.FinMap.Entries.{is_sorted, below_all}
-use Rattle.std.specs.List.{AllByRecursion}
-use Rattle.std.specs.List.Sorted.{IsStrictlySortedBy}
-use Rattle.std.specs.declared.cmp.Ordering.{Ordering}
-use Rattle.std.specs.declared.cmp.Ordering.TheVariants.{Less, Equal, Greater}
-use Rattle.std.proofs.lemmas.Cmp.{nat_list_cmp_total}
+use Rattle.filed_trees.specs.{Pieces.entry_named, Tables.IsAt, Comparing.{named_kid, IsAmong}, declared.table.Table.Table}
 use Rattle.shared_map.specs.Entries.{by_bytes}
-use Rattle.std.proofs.lemmas.List.Elements.{Contains-get_or}
-use Rattle.std.proofs.lemmas.List.{length-map}
-use Rattle.std.proofs.Math.ListN.{get_or-map}
-use Rattle.filed_trees.specs.declared.table.Table.{Table}
 
 pub at_name : (name n : Component) → is_at (slice_cmp nat_cmp name) n ≡ same_component name n
 at_name name n = sym (texts_ties name n)

@@ -1,19 +1,12 @@
 -- Entries whose names come once.
-use Rattle.std.proofs.Common.{◌≡◌, ◌+◌, ◌<◌, ◌≤◌, ℕ, zero, suc, Bool, true, false, cond, List, [], ◌∷◌, length, get_or, Option, Some, None, is_some, refl, sym, ap, subst, ◌∙◌, arith, ⊎_elim}
-use Rattle.std.proofs.lemmas.Bool.{cases_lt, false≢true}
-use Rattle.std.proofs.lemmas.Option.{same_Some, slice_get_within}
-use Rattle.std.specs.BTreeMap.{is_at}
-use Rattle.std.specs.Cmp.Lexicographic.{slice_cmp}
-use Rattle.std.specs.Ordering.{nat_cmp}
-use Rattle.std.specs.Prelude.{All, IfSome, IsSome, IsSomeAnd, slice_get}
-use Rattle.svnpath.specs.PathLaws.{same_component_is, same_component_refl}
-use Rattle.svnpath.specs.Paths.{Component, same_component}
+use Rattle.std.proofs.Common.{◌≡◌, ◌+◌, ◌<◌, ◌≤◌, ℕ, zero, suc, Bool, true, false, cond, List, [], ◌∷◌, length, get_or, Option, Some, None, is_some, refl, sym}
+use Rattle.std.proofs.{Common.{ap, subst, ◌∙◌, arith, ⊎_elim}, lemmas.Bool.{cases_lt, false≢true}, lemmas.Option.{same_Some, slice_get_within}}
+use Rattle.std.specs.{BTreeMap.is_at, Cmp.Lexicographic.slice_cmp, Ordering.nat_cmp, Prelude.{All, IfSome, IsSome, IsSomeAnd, slice_get}}
+use Rattle.svnpath.specs.{PathLaws.{same_component_is, same_component_refl}, Paths.{Component, same_component}}
 use Rattle.fsfs_ids.specs.declared.id.FileId.{FileId}
 use Rattle.fsfs_nodes.specs.declared.entries.DirectoryEntry.{DirectoryEntry}
-use Rattle.filed_trees.specs.Pieces.{entry_named}
-use Rattle.filed_trees.specs.Readable.{AreEntries, AreOnce}
-use Rattle.filed_trees.proofs.Entering.{at_entry, of_some}
-use Rattle.filed_trees.proofs.Named.{at_name}
+use Rattle.filed_trees.specs.{Pieces.entry_named, Readable.{AreEntries, AreOnce}}
+use Rattle.filed_trees.proofs.{Entering.{at_entry, of_some}, Named.at_name}
 
 -- the ids so far are at the names of the entries so far, each of which came once
 pub record HaveNames (entries : List DirectoryEntry) (ids : Component → Option FileId) (k : ℕ) : Type 0 where

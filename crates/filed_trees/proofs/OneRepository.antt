@@ -1,36 +1,22 @@
 -- Files say one repository at most: nodes that are tabled in them have the same.
-use Rattle.std.proofs.Common.{◌≡◌, ◌-◌, ◌<◌, ℕ, List, reverse, length, get_or, Option, Some, None, option_map, option_and_then, refl, sym, ap, subst, ◌∙◌, arith, ⊎_elim, inl, inr, ◌++◌, length-append, ◌∷◌, []}
-use Rattle.std.proofs.lemmas.Bool.{cases_lt}
-use Rattle.std.proofs.lemmas.List.{length-reverse}
+use Rattle.std.proofs.Common.{◌≡◌, ◌-◌, ◌<◌, ℕ, List, reverse, length, get_or, Option, Some, None, option_map, option_and_then, refl, sym, ap, subst, ◌∙◌}
+use Rattle.std.proofs.{Common.{arith, ⊎_elim, inl, inr, ◌++◌, length-append, ◌∷◌, []}, lemmas.Bool.cases_lt, lemmas.List.length-reverse}
 use Rattle.std.proofs.lemmas.Option.{none-some, same_Some, slice_get-get_or, slice_get-map, slice_get_within}
-use Rattle.std.specs.Arc.{arc_value}
-use Rattle.std.specs.Prelude.{Result, Ok, Err, IsSomeAnd, slice_get, ◌⊎◌, IfSome}
-use Rattle.std.specs.Result.{result_ok}
+use Rattle.std.specs.{Arc.arc_value, Prelude.{Result, Ok, Err, IsSomeAnd, slice_get, ◌⊎◌, IfSome}, Result.result_ok, FinMap.entries}
 use Rattle.repo_api.specs.States.{ChangeMap}
 use Rattle.fsfs_lines.specs.declared.fault.FileFault.{FileFault}
-use Rattle.noderevs.specs.Nodes.{kid_of, mark_of, node_in, root_in}
-use Rattle.noderevs.specs.declared.node_rev.Block.{Block}
-use Rattle.noderevs.specs.declared.node_rev.NodeId.{NodeId}
-use Rattle.noderevs.specs.declared.node_rev.NodeRev.{NodeRev}
+use Rattle.noderevs.specs.{Held.{blocks_of, node_at, root_at}, Nodes.{kid_of, mark_of, node_in, root_in}, declared.node_rev.Block.Block}
+use Rattle.noderevs.specs.{declared.node_rev.NodeId.NodeId, declared.node_rev.NodeRev.NodeRev, declared.nodes.Nodes.Nodes}
 use Rattle.fsfs_ids.specs.declared.id.FileId.{FileId}
 use Rattle.fsfs_parts.specs.declared.change.FileChange.{FileChange}
-use Rattle.fsfs_reading.specs.Pieces.{revision_of}
-use Rattle.fsfs_reading.specs.declared.piece.FilePiece.{FilePiece}
-use Rattle.filed_trees.specs.Pieces.{RevisionBytes, content_in, entries_in, entry_named, path_in, properties_in}
-use Rattle.filed_trees.specs.Changes.{revision_in}
-use Rattle.filed_trees.specs.Comparing.{AreSame, IsSameNode}
-use Rattle.filed_trees.specs.Tables.{AreTabled, HasRows, IsAt, IsFiled, IsPlaced, placed_in, placed_of}
-use Rattle.filed_trees.specs.Trees as trees
-use Rattle.filed_trees.specs.Values.{AreSameRevisions}
-use Rattle.filed_trees.specs.declared.table.Placed.{Placed}
-use Rattle.filed_trees.specs.declared.table.Table.{Table}
-use Rattle.filed_trees.proofs.Read.{offsets_fall}
+use Rattle.fsfs_reading.specs.{Pieces.revision_of, declared.piece.FilePiece.FilePiece}
+use Rattle.filed_trees.specs.{Pieces.{RevisionBytes, content_in, entries_in, entry_named, path_in, properties_in}, Changes.revision_in}
+use Rattle.filed_trees.specs.{Comparing.{AreSame, IsSameNode}, Tables.{AreTabled, HasRows, IsAt, IsFiled, IsPlaced, placed_in, placed_of}}
+use Rattle.filed_trees.specs.{Values.AreSameRevisions, declared.table.Placed.Placed, declared.table.Table.Table}
 use Rattle.filed_trees.specs.Readable.{AreEntries, IsOneOf, IsReadable, IsReadableFile, IsTabled}
+use Rattle.filed_trees.specs.Trees as trees
+use Rattle.filed_trees.proofs.{Read.offsets_fall, Rows.forwards}
 use Rattle.fsfs_nodes.specs.declared.entries.DirectoryEntry.{DirectoryEntry}
-use Rattle.std.specs.FinMap.{entries}
-use Rattle.noderevs.specs.Held.{blocks_of, node_at, root_at}
-use Rattle.noderevs.specs.declared.nodes.Nodes.{Nodes}
-use Rattle.filed_trees.proofs.Rows.{forwards}
 use Rattle.noderevs.proofs.Pushing.{last_place}
 
 -- a file that is there says what it says

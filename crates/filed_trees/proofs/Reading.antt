@@ -1,29 +1,17 @@
 -- The nodes of a revision, read one after another.
-use Rattle.std.proofs.Common.{◌≡◌, ℕ, zero, suc, ◌+◌, ◌<◌, ◌≤◌, List, [], ◌∷◌, ◌++◌, length, Option, Some, None, refl, sym, ap, subst, ◌∙◌, arith, length-append, ⊎_elim}
-use Rattle.std.proofs.lemmas.Bool.{cases_eq, cases_lt}
-use Rattle.std.proofs.lemmas.List.{get_or_append_left}
+use Rattle.std.proofs.Common.{◌≡◌, ℕ, zero, suc, ◌+◌, ◌<◌, ◌≤◌, List, [], ◌∷◌, ◌++◌, length, Option, Some, None, refl, sym, ap, subst, ◌∙◌, arith}
+use Rattle.std.proofs.{Common.{length-append, ⊎_elim}, lemmas.Bool.{cases_eq, cases_lt}, lemmas.List.get_or_append_left}
 use Rattle.std.proofs.lemmas.Option.{none-some, same_Some, slice_get-get_or, slice_get_past}
-use Rattle.std.specs.FinMap.{entries}
-use Rattle.std.specs.Prelude.{All, IsSomeAnd, Ok, option_and_then, option_map, slice_get}
+use Rattle.std.specs.{FinMap.entries, Prelude.{All, IsSomeAnd, Ok, option_and_then, option_map, slice_get}}
 use Rattle.repo_api.specs.States.{ChangeMap}
-use Rattle.noderevs.specs.Held.{blocks_of, node_at, root_at}
-use Rattle.noderevs.specs.Nodes.{node_in, root_in}
-use Rattle.noderevs.specs.declared.node_rev.Block.{Block}
-use Rattle.noderevs.specs.declared.node_rev.NodeId.{NodeId}
-use Rattle.noderevs.specs.declared.node_rev.NodeRev.{NodeRev}
-use Rattle.noderevs.specs.declared.nodes.Nodes.{Nodes}
+use Rattle.noderevs.specs.{Held.{blocks_of, node_at, root_at}, Nodes.{node_in, root_in}, declared.node_rev.Block.Block, declared.node_rev.NodeId.NodeId}
+use Rattle.noderevs.specs.{declared.node_rev.NodeRev.NodeRev, declared.nodes.Nodes.Nodes}
 use Rattle.fsfs_parts.specs.declared.change.FileChange.{FileChange}
-use Rattle.fsfs_reading.specs.Pieces.{revision_of}
-use Rattle.fsfs_reading.specs.declared.piece.FilePiece.{FilePiece}
-use Rattle.filed_trees.specs.Pieces.{RevisionBytes, entry_named}
-use Rattle.filed_trees.specs.Changes.{ChangeRows, changes_by}
+use Rattle.fsfs_reading.specs.{Pieces.revision_of, declared.piece.FilePiece.FilePiece}
+use Rattle.filed_trees.specs.{Pieces.{RevisionBytes, entry_named}, Changes.{ChangeRows, changes_by}, Comparing.{AreForAll, AreNew, AreSame, IsSameNode}}
+use Rattle.filed_trees.specs.{Tables.{AreTabled, HasRows, IsAt, IsFiled, IsPlaced, placed_in}, declared.table.Placed.Placed, declared.table.Table.Table}
 use Rattle.filed_trees.specs.Trees as trees
-use Rattle.filed_trees.specs.Comparing.{AreForAll, AreNew, AreSame, IsSameNode}
-use Rattle.filed_trees.specs.Tables.{AreTabled, HasRows, IsAt, IsFiled, IsPlaced, placed_in}
-use Rattle.filed_trees.specs.declared.table.Placed.{Placed}
-use Rattle.filed_trees.specs.declared.table.Table.{Table}
-use Rattle.filed_trees.proofs.Growing.{last_changes, last_file, last_revision, last_root, length_more, old_placed, tabled_more}
-use Rattle.filed_trees.proofs.Read.{pieces_of_last}
+use Rattle.filed_trees.proofs.{Growing.{last_changes, last_file, last_revision, last_root, length_more, old_placed, tabled_more}, Read.pieces_of_last}
 use Rattle.noderevs.proofs.Pushing.{last_place, other_place}
 
 module _ (files : RevisionBytes) (tables : List Table) (revision : ℕ) (rows : List Placed) where

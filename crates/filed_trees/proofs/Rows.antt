@@ -1,17 +1,12 @@
 -- The node revisions of a file by their offsets, and the table of these.
-use Rattle.std.proofs.Common.{◌≡◌, ◌-◌, ◌<◌, ℕ, List, [], ◌∷◌, ◌++◌, map, length, get_or, reverse, Option, Some, None, option_map, refl, sym, ap, subst, ◌∙◌, arith, inl, inr, ⊎_elim}
-use Rattle.std.proofs.lemmas.Bool.{cases_eq, false≢true}
-use Rattle.std.proofs.lemmas.List.{get_or-reverse, length-reverse}
+use Rattle.std.proofs.Common.{◌≡◌, ◌-◌, ◌<◌, ℕ, List, [], ◌∷◌, ◌++◌, map, length, get_or, reverse, Option, Some, None, option_map, refl, sym, ap, subst, ◌∙◌}
+use Rattle.std.proofs.{Common.{arith, inl, inr, ⊎_elim}, lemmas.Bool.{cases_eq, false≢true}, lemmas.List.{get_or-reverse, length-reverse}}
 use Rattle.std.proofs.lemmas.Option.{none-some, same_Some, slice_get-get_or, slice_get-map, slice_get_within, get_or_from_slice_get}
-use Rattle.std.specs.Borrow.{Bor}
-use Rattle.std.specs.Prelude.{◌⊎◌, All, IfSome, IsSome, IsSomeAnd, slice_get}
+use Rattle.std.specs.{Borrow.Bor, Prelude.{◌⊎◌, All, IfSome, IsSome, IsSomeAnd, slice_get}}
 use Rattle.fsfs_ids.specs.declared.id.FileId.{FileId}
 use Rattle.fsfs_reading.specs.declared.piece.FilePiece.{FilePiece}
-use Rattle.filed_trees.specs.Pieces.{RevisionBytes}
-use Rattle.filed_trees.specs.Trees.{first_id}
-use Rattle.filed_trees.specs.Tables.{placed_of}
-use Rattle.filed_trees.specs.Readable.{AreEntries, AreReadable, HasPlaced, IsOneOf, IsReadable, IsTabled}
-use Rattle.filed_trees.specs.declared.table.Table.{Table}
+use Rattle.filed_trees.specs.{Pieces.RevisionBytes, Trees.first_id, Tables.placed_of}
+use Rattle.filed_trees.specs.{Readable.{AreEntries, AreReadable, HasPlaced, IsOneOf, IsReadable, IsTabled}, declared.table.Table.Table}
 use Rattle.noderevs.proofs.Pushing.{last_place, other_place}
 
 -- what a table has of rows is what it has of their node revisions

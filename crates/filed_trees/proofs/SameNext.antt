@@ -1,29 +1,19 @@
 -- What may come next depends on what nodes have, and on nothing else.
-use Rattle.std.proofs.Common.{rules, ◌≡◌, ◌==◌, ◌≤◌, ◌<◌, ◌+◌, ◌-◌, ◌⊎◌, ℕ, zero, suc, Bool, true, false, List, [], ◌∷◌, ◌++◌, Option, Some, None, option_and_then, take, length, inl, inr, refl, sym, ap, subst, ◌∙◌, arith, ⊎_elim, if◌then◌else◌}
-use Rattle.std.proofs.Math.Nat.{min-le_left, min-le_right, min-eq_left, min-eq_right}
-use Rattle.std.proofs.lemmas.Bool.{cases_lt, false≢true}
-use Rattle.std.specs.List.{list_all, range_with_len}
-use Rattle.std.specs.Prelude.{IsSome, IsSomeAnd, slice_get}
+use Rattle.std.proofs.Common.{rules, ◌≡◌, ◌==◌, ◌≤◌, ◌<◌, ◌+◌, ◌-◌, ◌⊎◌, ℕ, zero, suc, Bool, true, false, List, [], ◌∷◌, ◌++◌, Option, Some, None}
+use Rattle.std.proofs.Common.{option_and_then, take, length, inl, inr, refl, sym, ap, subst, ◌∙◌, arith, ⊎_elim, if◌then◌else◌}
+use Rattle.std.proofs.{Math.Nat.{min-le_left, min-le_right, min-eq_left, min-eq_right}, lemmas.Bool.{cases_lt, false≢true}}
+use Rattle.std.specs.{List.{list_all, range_with_len}, Prelude.{IsSome, IsSomeAnd, slice_get}}
 use Rattle.svnpath.specs.Paths.{Component, PathValue}
-use Rattle.repo_api.specs.Histories.{Changed}
-use Rattle.repo_api.specs.Marks.{shown}
-use Rattle.repo_api.specs.Trees.{is_directory_content}
-use Rattle.repo_api.specs.declared.entry.Mark.{Mark}
-use Rattle.repo_api.specs.declared.entry.Mark.TheVariants.{Open, Made}
+use Rattle.repo_api.specs.{Histories.Changed, Marks.shown, Trees.is_directory_content, declared.entry.Mark.Mark, declared.entry.Mark.TheVariants.{Open, Made}}
 use Rattle.history_marks.specs.Quiet.{own_revision}
-use Rattle.noderevs.specs.Heights.{higher, AreHigh}
-use Rattle.noderevs.specs.Held.{count, node_at, root_at}
-use Rattle.noderevs.specs.Nodes.{Look, kid_at, kid_of}
-use Rattle.noderevs.specs.Views.{entry_at, find_id, shared_entry, shared_tree}
-use Rattle.noderevs.specs.declared.node_rev.Block.{Block}
-use Rattle.noderevs.specs.declared.node_rev.NodeId.{NodeId}
-use Rattle.noderevs.specs.declared.node_rev.NodeRev.{NodeRev}
-use Rattle.noderevs.specs.declared.nodes.Nodes.{Nodes}
+use Rattle.noderevs.specs.{Heights.{AreHigh, higher}, Held.{count, node_at, root_at}, Nodes.{kid_at, kid_of, Look}}
+use Rattle.noderevs.specs.{Views.{entry_at, find_id, shared_entry, shared_tree}, declared.node_rev.Block.Block, declared.node_rev.NodeId.NodeId}
+use Rattle.noderevs.specs.{declared.node_rev.NodeRev.NodeRev, declared.nodes.Nodes.Nodes}
 use Rattle.noderevs.proofs.Pushing.{next_is_free}
-use Rattle.next_blocks.specs.Rules.{Before, IsMarked, IsNewKid, IsNextRevision, IsOldKid, IsRightFile, IsRightKid, IsRightNode, IsRightRoot, KeepsOwn, NamesOwn, beside, id_before, id_in, is_made, is_new, past_of, tree_before}
+use Rattle.next_blocks.specs.Rules.{Before, IsMarked, IsNewKid, IsNextRevision, IsOldKid, IsRightFile, IsRightKid, IsRightNode, IsRightRoot, KeepsOwn, NamesOwn}
+use Rattle.next_blocks.specs.Rules.{beside, id_before, id_in, is_made, is_new, past_of, tree_before}
 use Rattle.next_blocks.proofs.Next.{high_now}
-use Rattle.filed_trees.specs.Comparing.{AreSame, IsSameNode}
-use Rattle.filed_trees.specs.Values.{AreSameNext}
+use Rattle.filed_trees.specs.{Comparing.{AreSame, IsSameNode}, Values.AreSameNext}
 
 -- ---- what is found, and what trees show
 

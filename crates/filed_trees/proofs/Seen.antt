@@ -1,26 +1,16 @@
 -- The trees of the files are those of the nodes that are placed there.
 use Rattle.std.proofs.Common.{◌≡◌, ℕ, List, [], ◌∷◌, Option, Some, None, option_map, option_and_then, refl, sym, ap, subst, ◌∙◌}
 use Rattle.std.proofs.lemmas.Option.{none-some, same_Some}
-use Rattle.std.specs.FinMap.{get, entries}
-use Rattle.std.specs.Prelude.{slice_get}
+use Rattle.std.specs.{FinMap.{get, entries}, Prelude.slice_get, Arc.arc_value}
 use Rattle.svnpath.specs.Paths.{Component, PathValue}
-use Rattle.repo_api.specs.States.{ChangeMap, Revision}
-use Rattle.repo_api.specs.declared.entry.Mark.TheVariants.{Made}
+use Rattle.repo_api.specs.{States.{ChangeMap, Revision}, declared.entry.Mark.TheVariants.Made}
 use Rattle.noderevs.specs.Nodes as nodes
-use Rattle.noderevs.specs.Nodes.{kid_at, node_in, mark_of}
-use Rattle.noderevs.specs.Views.{find_id, shared_entry, entry_at, shared_tree}
-use Rattle.noderevs.specs.declared.node_rev.Block.{Block}
-use Rattle.noderevs.specs.declared.node_rev.NodeId.{NodeId}
-use Rattle.noderevs.specs.declared.node_rev.NodeRev.{NodeRev}
+use Rattle.noderevs.specs.{Nodes.{kid_at, mark_of, node_in}, Views.{entry_at, find_id, shared_entry, shared_tree}, declared.node_rev.Block.Block}
+use Rattle.noderevs.specs.{declared.node_rev.NodeId.NodeId, declared.node_rev.NodeRev.NodeRev}
 use Rattle.fsfs_ids.specs.declared.id.FileId.{FileId}
-use Rattle.filed_trees.specs.Pieces.{RevisionBytes}
-use Rattle.filed_trees.specs.Changes.{revision_in, changes_in}
-use Rattle.filed_trees.specs.StandsFor.{IsRevision}
-use Rattle.filed_trees.specs.Trees.{entry_in, kid_of, find_in, tree_in, root_in}
-use Rattle.filed_trees.specs.Tables.{placed_in, IsAt, IsFiled, IsPlaced, AreTabled}
-use Rattle.filed_trees.specs.declared.table.Placed.{Placed}
-use Rattle.filed_trees.specs.declared.table.Table.{Table}
-use Rattle.std.specs.Arc.{arc_value}
+use Rattle.filed_trees.specs.{Pieces.RevisionBytes, Changes.{revision_in, changes_in}, StandsFor.IsRevision}
+use Rattle.filed_trees.specs.{Trees.{entry_in, kid_of, find_in, tree_in, root_in}, Tables.{placed_in, IsAt, IsFiled, IsPlaced, AreTabled}}
+use Rattle.filed_trees.specs.{declared.table.Placed.Placed, declared.table.Table.Table}
 
 module _ (files : RevisionBytes) (tables : List Table) where
   same_entry : (id : NodeId) (node : NodeRev) (placed : Placed) → IsFiled files tables id node placed

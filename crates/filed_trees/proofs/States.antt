@@ -1,11 +1,8 @@
 -- Files stand for one state at most.
-use Rattle.std.proofs.Common.{◌≡◌, ℕ, suc, List, [], ◌∷◌, length, Some, refl, sym, ap, ◌∙◌, arith}
-use Rattle.std.proofs.lemmas.Option.{none-some, same_Some}
-use Rattle.std.specs.FinMap.{entries, same_map, same_entries_map}
-use Rattle.std.specs.Prelude.{slice_get}
-use Rattle.svnpath.specs.Paths.{path_cmp_total, path_cmp-IsAntisymmetric}
-use Rattle.repo_api.specs.StateLaws.{same_tree}
-use Rattle.repo_api.specs.States.{RepoState, Revision}
+use Rattle.std.proofs.{Common.{◌≡◌, ℕ, suc, List, [], ◌∷◌, length, Some, refl, sym, ap, ◌∙◌, arith}, lemmas.Option.{none-some, same_Some}}
+use Rattle.std.specs.{FinMap.{entries, same_map, same_entries_map}, Prelude.slice_get}
+use Rattle.svnpath.specs.Paths.{path_cmp-IsAntisymmetric, path_cmp_total}
+use Rattle.repo_api.specs.{StateLaws.same_tree, States.{RepoState, Revision}}
 use Rattle.repostore.specs.Files.{Files}
 use Rattle.filed_trees.specs.StandsFor.{StandsFor, IsRevision, revision_bytes, lock_of}
 

@@ -1,21 +1,13 @@
 -- The changes of a revision, by its file.
-use Rattle.std.specs.Prelude.{ℕ, List, [], ◌∷◌, Option, Some, None, option_map, slice_get}
-use Rattle.std.specs.BTreeMap.{insert_entry}
-use Rattle.std.specs.Result.{result_ok}
-use Rattle.svnpath.specs.Paths.{PathValue, path_cmp}
-use Rattle.svnpath.specs.Texts.{parsed}
-use Rattle.repo_api.specs.declared.change.Action.{Action}
+use Rattle.std.specs.{Prelude.{ℕ, List, [], ◌∷◌, Option, Some, None, option_map, slice_get}, BTreeMap.insert_entry, Result.result_ok}
+use Rattle.svnpath.specs.{Paths.{path_cmp, PathValue}, Texts.parsed}
+use Rattle.repo_api.specs.{declared.change.Action.Action, declared.change.Change.Change, declared.change.Source.Source}
 use Rattle.repo_api.specs.declared.change.Action.TheVariants as actions
-use Rattle.repo_api.specs.declared.change.Change.{Change}
-use Rattle.repo_api.specs.declared.change.Source.{Source}
 use Rattle.revision_data.specs.Found.{found}
-use Rattle.fsfs_ids.specs.Maybe.{◌>>=◌}
-use Rattle.fsfs_ids.specs.declared.place.Place.{Place}
-use Rattle.fsfs_parts.specs.declared.change.FileAction.{FileAction}
-use Rattle.fsfs_parts.specs.declared.change.FileAction.TheVariants.{Add, Delete, Replace, Modify}
+use Rattle.fsfs_ids.specs.{Maybe.◌>>=◌, declared.place.Place.Place}
+use Rattle.fsfs_parts.specs.{declared.change.FileAction.FileAction, declared.change.FileAction.TheVariants.{Add, Delete, Replace, Modify}}
 use Rattle.fsfs_parts.specs.declared.change.FileChange.{FileChange}
-use Rattle.fsfs_reading.specs.Pieces.{revision_of}
-use Rattle.fsfs_reading.specs.declared.piece.FilePiece.{FilePiece}
+use Rattle.fsfs_reading.specs.{Pieces.revision_of, declared.piece.FilePiece.FilePiece}
 use Rattle.filed_trees.specs.Pieces.{RevisionBytes}
 
 abbrev pub action_in : FileAction → Action

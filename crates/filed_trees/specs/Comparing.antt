@@ -1,38 +1,17 @@
 -- Comparing the nodes of a revision with its file.
-use Rattle.std.specs.Prelude.{◌≡◌, ◌<◌, ℕ, List, [], ◌∷◌, ◌++◌, Option, Some, None, IfSome, IsSome, IsSomeAnd, slice_get, suc, length, take}
-use Rattle.std.specs.Borrow.{Bor}
-use Rattle.std.specs.Arc.{arc_value}
-use Rattle.std.specs.BTreeMap.{is_at}
-use Rattle.std.specs.Cmp.Lexicographic.{slice_cmp}
-use Rattle.std.specs.Map.{lookup}
-use Rattle.std.specs.Ordering.{nat_cmp}
+use Rattle.std.specs.{Prelude.{◌≡◌, ◌<◌, ℕ, List, [], ◌∷◌, ◌++◌, Option, Some, None, IfSome, IsSome, IsSomeAnd, slice_get, suc, length, take}, Borrow.Bor}
+use Rattle.std.specs.{Arc.arc_value, BTreeMap.is_at, Cmp.Lexicographic.slice_cmp, Map.lookup, Ordering.nat_cmp, FinMap.entries}
 use Rattle.svnpath.specs.Paths.{Component}
-use Rattle.std.specs.FinMap.{entries}
-use Rattle.repo_api.specs.Histories.{Changed}
-use Rattle.noderevs.specs.Held.{node_at, root_at}
-use Rattle.noderevs.specs.Heights.{IsHeight}
-use Rattle.noderevs.specs.Nodes.{Kids, Look, kid_named, kid_of, mark_of, with_block}
-use Rattle.noderevs.specs.declared.node_rev.Block.{Block}
-use Rattle.noderevs.specs.declared.node_rev.NodeId.{NodeId}
-use Rattle.noderevs.specs.declared.node_rev.NodeRev.{NodeRev}
-use Rattle.noderevs.specs.declared.nodes.Nodes.{Nodes}
-use Rattle.repo_api.specs.declared.entry.Content.{Content}
-use Rattle.repo_api.specs.declared.entry.Mark.{Mark}
-use Rattle.fsfs_ids.specs.declared.id.FileId.{FileId}
-use Rattle.fsfs_ids.specs.declared.representation.Representation.{Representation}
-use Rattle.fsfs_nodes.specs.declared.entries.DirectoryEntry.{DirectoryEntry}
-use Rattle.fsfs_nodes.specs.declared.node.FileNode.{FileNode}
+use Rattle.repo_api.specs.{Histories.Changed, declared.entry.Content.Content, declared.entry.Mark.Mark}
+use Rattle.noderevs.specs.{Heights.IsHeight, Held.{node_at, root_at}, Nodes.{kid_named, kid_of, Kids, Look, mark_of, with_block}, declared.node_rev.Block.Block}
+use Rattle.noderevs.specs.{declared.node_rev.NodeId.NodeId, declared.node_rev.NodeRev.NodeRev, declared.nodes.Nodes.Nodes}
+use Rattle.fsfs_ids.specs.{declared.id.FileId.FileId, declared.representation.Representation.Representation}
+use Rattle.fsfs_nodes.specs.{declared.entries.DirectoryEntry.DirectoryEntry, declared.node.FileNode.FileNode}
 use Rattle.fsfs_reading.specs.declared.piece.FilePiece.{FilePiece}
-use Rattle.filed_trees.specs.Pieces.{RevisionBytes, piece_in, body_at_line, content_in, entries_in, entries_at, entry_named}
-use Rattle.filed_trees.specs.Changes.{ChangeRows, changes_in}
-use Rattle.filed_trees.specs.Trees.{first_id}
-use Rattle.filed_trees.specs.Tables.{placed_in, IsAt, IsFiled, IsPlaced}
-use Rattle.filed_trees.specs.declared.table.Table.{Table}
-use Rattle.filed_trees.specs.declared.blocks.ReadRevision.{ReadRevision}
-use Rattle.filed_trees.specs.declared.body.Body.{Body}
-use Rattle.filed_trees.specs.declared.body.Body.TheVariants.{Empty, New, Kept}
-use Rattle.filed_trees.specs.declared.places.Earlier.{Earlier}
-use Rattle.filed_trees.specs.declared.places.Places.{Places}
+use Rattle.filed_trees.specs.{Pieces.{RevisionBytes, piece_in, body_at_line, content_in, entries_in, entries_at, entry_named}, Changes.{ChangeRows, changes_in}}
+use Rattle.filed_trees.specs.{Trees.first_id, Tables.{placed_in, IsAt, IsFiled, IsPlaced}, declared.table.Table.Table}
+use Rattle.filed_trees.specs.{declared.blocks.ReadRevision.ReadRevision, declared.body.Body.Body, declared.body.Body.TheVariants.{Empty, New, Kept}}
+use Rattle.filed_trees.specs.{declared.places.Earlier.Earlier, declared.places.Places.Places}
 
 -- the name and the id of an entry that was listed
 abbrev pub named_kid : Bor Component × NodeId → Component × NodeId

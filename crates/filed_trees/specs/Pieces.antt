@@ -1,23 +1,13 @@
 -- Node revisions in the files of revisions, and what they contain.
-use Rattle.std.specs.Prelude.{ℕ, Bool, true, false, ◌==◌, ◌&&◌, List, [], ◌∷◌, Option, Some, None, option_map, slice_get, if◌then◌else◌}
-use Rattle.std.specs.Result.{result_ok}
-use Rattle.svnpath.specs.Paths.{Component, PathValue, same_component}
-use Rattle.svnpath.specs.Texts.{parsed}
-use Rattle.repo_api.specs.Properties.{PropertyList}
-use Rattle.repo_api.specs.declared.entry.Content.{Content}
+use Rattle.std.specs.{Prelude.{ℕ, Bool, true, false, ◌==◌, ◌&&◌, List, [], ◌∷◌, Option, Some, None, option_map, slice_get, if◌then◌else◌}, Result.result_ok}
+use Rattle.svnpath.specs.{Paths.{Component, PathValue, same_component}, Texts.parsed}
+use Rattle.repo_api.specs.{Properties.PropertyList, declared.entry.Content.Content}
 use Rattle.repo_api.specs.declared.entry.Content.TheVariants as contents
-use Rattle.fsfs_ids.specs.Maybe.{◌>>=◌}
-use Rattle.fsfs_ids.specs.declared.id.FileId.{FileId}
-use Rattle.fsfs_ids.specs.declared.id.IdPart.{IdPart}
-use Rattle.fsfs_ids.specs.declared.representation.Representation.{Representation}
-use Rattle.fsfs_nodes.specs.Entries.{entries_of}
-use Rattle.fsfs_nodes.specs.declared.entries.DirectoryEntry.{DirectoryEntry}
-use Rattle.fsfs_nodes.specs.declared.entries.EntryKind.{EntryKind}
-use Rattle.fsfs_nodes.specs.declared.entries.EntryKind.TheVariants.{File, Directory}
-use Rattle.fsfs_nodes.specs.declared.node.FileNode.{FileNode}
+use Rattle.fsfs_ids.specs.{Maybe.◌>>=◌, declared.id.FileId.FileId, declared.id.IdPart.IdPart, declared.representation.Representation.Representation}
+use Rattle.fsfs_nodes.specs.{Entries.entries_of, declared.entries.DirectoryEntry.DirectoryEntry, declared.entries.EntryKind.EntryKind}
+use Rattle.fsfs_nodes.specs.{declared.entries.EntryKind.TheVariants.{File, Directory}, declared.node.FileNode.FileNode}
 use Rattle.fsfs_parts.specs.Bodies.{body_at}
-use Rattle.fsfs_reading.specs.Pieces.{piece_at}
-use Rattle.fsfs_reading.specs.declared.piece.FilePiece.{FilePiece}
+use Rattle.fsfs_reading.specs.{Pieces.piece_at, declared.piece.FilePiece.FilePiece}
 use Rattle.fsfs_folder.specs.Properties.{properties_of}
 
 -- the file of each revision, from revision 0 on

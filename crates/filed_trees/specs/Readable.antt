@@ -1,31 +1,20 @@
 -- Which file of a revision can be read, behind those of the revisions before.
-use Rattle.std.specs.Prelude.{◌≡◌, ◌⊎◌, ℕ, true, false, List, Option, Some, None, Result, Ok, Err, All, IfSome, IsSome, IsSomeAnd, option_and_then, option_map, slice_get}
-use Rattle.std.specs.Arc.{arc_value}
-use Rattle.std.specs.Result.{result_ok}
+use Rattle.std.specs.Prelude.{◌≡◌, ◌⊎◌, ℕ, true, false, List, Option, Some, None, Result, Ok, Err, All, IfSome, IsSome, IsSomeAnd, option_and_then, option_map}
+use Rattle.std.specs.{Prelude.slice_get, Arc.arc_value, Result.result_ok}
 use Rattle.svnpath.specs.Paths.{Component}
 use Rattle.repo_api.specs.Trees.{is_directory_content}
 use Rattle.fsfs_lines.specs.declared.fault.FileFault.{FileFault}
-use Rattle.fsfs_ids.specs.declared.id.FileId.{FileId}
-use Rattle.fsfs_ids.specs.declared.representation.Representation.{Representation}
-use Rattle.fsfs_nodes.specs.Entries.{entries_of}
-use Rattle.fsfs_nodes.specs.declared.entries.DirectoryEntry.{DirectoryEntry}
-use Rattle.fsfs_nodes.specs.declared.entries.EntryKind.{EntryKind}
-use Rattle.fsfs_nodes.specs.declared.entries.EntryKind.TheVariants.{File, Directory}
-use Rattle.fsfs_nodes.specs.declared.node.FileNode.{FileNode}
+use Rattle.fsfs_ids.specs.{declared.id.FileId.FileId, declared.representation.Representation.Representation}
+use Rattle.fsfs_nodes.specs.{Entries.entries_of, declared.entries.DirectoryEntry.DirectoryEntry, declared.entries.EntryKind.EntryKind}
+use Rattle.fsfs_nodes.specs.{declared.entries.EntryKind.TheVariants.{File, Directory}, declared.node.FileNode.FileNode}
 use Rattle.fsfs_parts.specs.declared.change.FileChange.{FileChange}
 use Rattle.fsfs_reading.specs.Pieces as reading
 use Rattle.fsfs_reading.specs.declared.piece.FilePiece.{FilePiece}
 use Rattle.fsfs_folder.specs.Properties.{properties_of}
 use Rattle.repostore.specs.Reading.{IfFileFaulty}
-use Rattle.filed_trees.specs.Pieces.{RevisionBytes, piece_in, entry_named, path_in}
-use Rattle.filed_trees.specs.Changes.{changes_by}
-use Rattle.filed_trees.specs.Trees.{first_id}
-use Rattle.filed_trees.specs.Comparing.{earlier_text, earlier_properties}
-use Rattle.filed_trees.specs.declared.body.Body.{Body}
-use Rattle.filed_trees.specs.declared.body.Body.TheVariants.{Empty, New, Kept}
-use Rattle.filed_trees.specs.declared.places.Earlier.{Earlier}
-use Rattle.filed_trees.specs.declared.table.Placed.{Placed}
-use Rattle.filed_trees.specs.declared.table.Table.{Table}
+use Rattle.filed_trees.specs.{Pieces.{RevisionBytes, piece_in, entry_named, path_in}, Changes.changes_by, Trees.first_id}
+use Rattle.filed_trees.specs.{Comparing.{earlier_text, earlier_properties}, declared.body.Body.Body, declared.body.Body.TheVariants.{Empty, New, Kept}}
+use Rattle.filed_trees.specs.{declared.places.Earlier.Earlier, declared.table.Placed.Placed, declared.table.Table.Table}
 
 -- something is answered only where this holds, and a fault of the file only where it does not
 abbrev pub Judges : {T : Type 0} → Result T FileFault → Type 0 → Type 0

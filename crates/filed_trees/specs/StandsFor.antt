@@ -1,20 +1,11 @@
 -- The state of a repository that its files stand for.
 use Rattle.std.specs.Prelude.{◌≡◌, ℕ, suc, List, [], ◌∷◌, map, codes, Option, Some, None, option_and_then, length, slice_get, if◌then◌else◌}
-use Rattle.std.specs.FinMap.{get, entries}
-use Rattle.std.specs.Result.{result_ok}
+use Rattle.std.specs.{FinMap.{get, entries}, Result.result_ok}
 use Rattle.svnpath.specs.Paths.{PathValue, same_path}
-use Rattle.repo_api.specs.Properties.{PropertyList}
-use Rattle.repo_api.specs.States.{RepoState, Revision}
-use Rattle.repo_api.specs.declared.lock.Lock.{Lock}
-use Rattle.fsfs_folder.specs.Current.{current_of}
-use Rattle.fsfs_folder.specs.Identity.{uuid_of}
-use Rattle.fsfs_folder.specs.Locks.{locks_of}
-use Rattle.fsfs_folder.specs.Properties.{properties_of}
-use Rattle.fsfs_folder.specs.declared.current.Current.{Current}
+use Rattle.repo_api.specs.{Properties.PropertyList, States.{RepoState, Revision}, declared.lock.Lock.Lock}
+use Rattle.fsfs_folder.specs.{Current.current_of, Identity.uuid_of, Locks.locks_of, Properties.properties_of, declared.current.Current.Current}
 use Rattle.repostore.specs.Files.{Files}
-use Rattle.filed_trees.specs.Pieces.{RevisionBytes}
-use Rattle.filed_trees.specs.Changes.{changes_in}
-use Rattle.filed_trees.specs.Trees.{tree_in}
+use Rattle.filed_trees.specs.{Pieces.RevisionBytes, Changes.changes_in, Trees.tree_in}
 
 -- the files of the revisions, without those of their properties
 abbrev pub revision_bytes : Files → RevisionBytes

@@ -1,24 +1,16 @@
 -- Which node revision of the files each node of a repository is.
-use Rattle.std.specs.Prelude.{◌≡◌, ℕ, List, Option, Some, None, option_and_then, option_map, slice_get, length, map, reverse, IsSomeAnd}
-use Rattle.std.specs.Arc.{arc_value}
+use Rattle.std.specs.{Prelude.{◌≡◌, ℕ, List, Option, Some, None, option_and_then, option_map, slice_get, length, map, reverse, IsSomeAnd}, Arc.arc_value}
 use Rattle.std.specs.FinMap.{entries}
 use Rattle.svnpath.specs.Paths.{Component}
 use Rattle.repo_api.specs.States.{ChangeMap}
-use Rattle.noderevs.specs.Nodes.{kid_of, node_in, root_in, mark_of}
-use Rattle.noderevs.specs.declared.node_rev.Block.{Block}
-use Rattle.noderevs.specs.declared.node_rev.NodeId.{NodeId}
+use Rattle.noderevs.specs.{Nodes.{kid_of, mark_of, node_in, root_in}, declared.node_rev.Block.Block, declared.node_rev.NodeId.NodeId}
 use Rattle.noderevs.specs.declared.node_rev.NodeRev.{NodeRev}
-use Rattle.fsfs_ids.specs.declared.id.FileId.{FileId}
-use Rattle.fsfs_ids.specs.declared.place.Place.{Place}
-use Rattle.fsfs_nodes.specs.declared.entries.DirectoryEntry.{DirectoryEntry}
-use Rattle.fsfs_nodes.specs.declared.node.FileNode.{FileNode}
+use Rattle.fsfs_ids.specs.{declared.id.FileId.FileId, declared.place.Place.Place}
+use Rattle.fsfs_nodes.specs.{declared.entries.DirectoryEntry.DirectoryEntry, declared.node.FileNode.FileNode}
 use Rattle.fsfs_reading.specs.declared.piece.FilePiece.{FilePiece}
-use Rattle.filed_trees.specs.Pieces.{RevisionBytes, piece_in, content_in, properties_in, entries_in, entry_named, path_in}
-use Rattle.filed_trees.specs.Changes.{changes_in, revision_in}
+use Rattle.filed_trees.specs.{Pieces.{RevisionBytes, piece_in, content_in, properties_in, entries_in, entry_named, path_in}, Changes.{changes_in, revision_in}}
+use Rattle.filed_trees.specs.{Trees.own_in, declared.table.Placed.Placed, declared.table.Table.Table}
 use Rattle.filed_trees.specs.Trees as files_trees
-use Rattle.filed_trees.specs.Trees.{own_in}
-use Rattle.filed_trees.specs.declared.table.Placed.{Placed}
-use Rattle.filed_trees.specs.declared.table.Table.{Table}
 
 -- the root of the copy that a node revision is of: its own place, where no line says another
 abbrev pub copyroot_of : Place → Option Place → Place

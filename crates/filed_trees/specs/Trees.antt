@@ -1,16 +1,11 @@
 -- The tree of each revision, by the files.
 use Rattle.std.specs.Prelude.{ℕ, zero, suc, ◌==◌, List, [], ◌∷◌, Option, Some, None, option_and_then, is_some, length, if◌then◌else◌}
 use Rattle.svnpath.specs.Paths.{Component, PathValue}
-use Rattle.repo_api.specs.Trees.{Tree}
-use Rattle.repo_api.specs.declared.entry.Entry.{Entry}
-use Rattle.repo_api.specs.declared.entry.Mark.{Mark}
-use Rattle.repo_api.specs.declared.entry.Mark.TheVariants.{Made}
+use Rattle.repo_api.specs.{Trees.Tree, declared.entry.Entry.Entry, declared.entry.Mark.Mark, declared.entry.Mark.TheVariants.Made}
 use Rattle.revision_data.specs.Found.{found}
-use Rattle.fsfs_ids.specs.Maybe.{◌>>=◌}
-use Rattle.fsfs_ids.specs.declared.id.FileId.{FileId}
+use Rattle.fsfs_ids.specs.{Maybe.◌>>=◌, declared.id.FileId.FileId}
 use Rattle.fsfs_reading.specs.declared.piece.FilePiece.{FilePiece}
-use Rattle.filed_trees.specs.Pieces.{RevisionBytes, piece_in, content_in, properties_in, entries_in, entry_named, path_in}
-use Rattle.filed_trees.specs.Changes.{revision_in, changes_in}
+use Rattle.filed_trees.specs.{Pieces.{RevisionBytes, piece_in, content_in, properties_in, entries_in, entry_named, path_in}, Changes.{revision_in, changes_in}}
 
 -- made in this revision at this path, or else where the predecessor's was made
 abbrev pub own_from : (FileId → Option Mark) → Mark → Option FileId → Option Mark

@@ -1,20 +1,11 @@
 -- Nodes and a block that have what other nodes and another block have.
-use Rattle.std.specs.Prelude.{◌≡◌, ℕ, List, option_map, slice_get, ◌++◌, ◌∷◌, [], Ok, length}
-use Rattle.std.specs.FinMap.{entries}
+use Rattle.std.specs.{Prelude.{◌≡◌, ℕ, List, option_map, slice_get, ◌++◌, ◌∷◌, [], Ok, length}, FinMap.entries}
 use Rattle.repo_api.specs.States.{ChangeMap}
-use Rattle.noderevs.specs.Held.{count, node_at, root_at}
-use Rattle.noderevs.specs.Nodes.{node_in, root_in}
-use Rattle.noderevs.specs.declared.node_rev.Block.{Block}
-use Rattle.noderevs.specs.declared.node_rev.NodeId.{NodeId}
+use Rattle.noderevs.specs.{Held.{count, node_at, root_at}, Nodes.{node_in, root_in}, declared.node_rev.Block.Block, declared.node_rev.NodeId.NodeId}
 use Rattle.noderevs.specs.declared.nodes.Nodes.{Nodes}
 use Rattle.fsfs_parts.specs.declared.change.FileChange.{FileChange}
-use Rattle.fsfs_reading.specs.Pieces.{revision_of}
-use Rattle.fsfs_reading.specs.declared.piece.FilePiece.{FilePiece}
-use Rattle.filed_trees.specs.Pieces.{RevisionBytes}
-use Rattle.filed_trees.specs.Readable.{IsReadableFile}
-use Rattle.filed_trees.specs.Tables.{AreTabled}
-use Rattle.filed_trees.specs.declared.table.Table.{Table}
-use Rattle.filed_trees.specs.Comparing.{AreSame}
+use Rattle.fsfs_reading.specs.{Pieces.revision_of, declared.piece.FilePiece.FilePiece}
+use Rattle.filed_trees.specs.{Pieces.RevisionBytes, Readable.IsReadableFile, Tables.AreTabled, declared.table.Table.Table, Comparing.AreSame}
 
 -- the nodes of all revisions have the same at the same places, and so have those of the blocks
 pub record AreSameNext (past other : Nodes) (b c : Block) : Type 0 where

@@ -1,25 +1,18 @@
 //! The nodes of a revision, read from its file.
-ghost use Rattle.std.specs.Prelude.{◌≡◌, ◌++◌, ◌∷◌, [], ℕ, List, Option, Some, None, Ok, All, Contains, length, map, slice_get, is_some, if◌then◌else◌, IfOk, option_copied, option_map, IsSomeAnd, reverse};
-ghost use Rattle.std.specs.Arc.{arc_value};
+ghost use Rattle.std.specs.Prelude.{◌≡◌, ◌++◌, ◌∷◌, [], ℕ, List, Option, Some, None, Ok, All, Contains, length, map, slice_get, is_some, if◌then◌else◌, IfOk};
+ghost use Rattle.std.specs.{Prelude.{option_copied, option_map, IsSomeAnd, reverse}, Arc.arc_value};
 ghost use Rattle.repo_api.specs.States.{ChangeMap};
-ghost use Rattle.repo_api.specs.declared.entry.Content.TheVariants as contents;
 ghost use Rattle.repo_api.specs.declared.entry.Mark.TheVariants as marks;
-ghost use Rattle.noderevs.specs.Held.{blocks_of, node_at};
-ghost use Rattle.noderevs.specs.Nodes.{mark_of, with_block};
-ghost use Rattle.noderevs.specs.declared.node_rev.Block.{Block};
+ghost use Rattle.noderevs.specs.{Heights.{AreHigh, IsHeight}, Held.{blocks_of, node_at}, Nodes.{mark_of, with_block}, declared.node_rev.Block.Block};
 ghost use Rattle.noderevs.specs.declared.node_rev.NodeId.{NodeId};
 ghost use Rattle.revision_data.specs.Found.{found};
-ghost use Rattle.fsfs_ids.specs.declared.id.FileId.{FileId};
-ghost use Rattle.fsfs_ids.specs.declared.representation.Representation.{Representation};
+ghost use Rattle.fsfs_ids.specs.{declared.id.FileId.FileId, declared.representation.Representation.Representation};
 ghost use Rattle.fsfs_reading.specs.Pieces.{revision_of};
-ghost use Rattle.filed_trees.specs.Pieces.{RevisionBytes, properties_in, text_in};
-ghost use Rattle.filed_trees.specs.Tables.{AreTabled, HasRows, IsAt, IsFiled, IsPlaced, placed_of};
-ghost use Rattle.filed_trees.specs.Trees.{own_from};
-ghost use Rattle.filed_trees.specs.declared.places.Places.{Places};
-ghost use Rattle.filed_trees.specs.Comparing.{AreFor, AreForAll, AreNew, CameWith, HasContent, HasEntries, IsBody, IsEarlier, IsOfLast, WasFiled, earlier_own, earlier_text, revision_in, tables_of, IsHere, HaveHeights};
-ghost use Rattle.filed_trees.specs.Readable.{AreReadable, AreRightKids, AreRightProperties, IsOfKind, IsReadable, IsReadableFile, IsRightContent, IsRightText, IsTabled, Judges};
-ghost use Rattle.noderevs.specs.Heights.{AreHigh, IsHeight};
-ghost use Rattle.fsfs_nodes.specs.declared.entries.EntryKind.TheVariants.{File};
+ghost use Rattle.filed_trees.specs.{Pieces.{RevisionBytes, properties_in, text_in}, Tables.{AreTabled, HasRows, IsAt, IsFiled, IsPlaced, placed_of}};
+ghost use Rattle.filed_trees.specs.{Trees.own_from, declared.places.Places.Places, Comparing.{AreFor, AreForAll, AreNew, CameWith, HasContent, HasEntries}};
+ghost use Rattle.filed_trees.specs.Comparing.{IsBody, IsEarlier, IsOfLast, WasFiled, earlier_own, earlier_text, revision_in, tables_of, IsHere, HaveHeights};
+ghost use Rattle.filed_trees.specs.Readable.{AreReadable, AreRightKids, AreRightProperties, IsOfKind, IsReadable, IsReadableFile, IsRightContent, IsRightText};
+ghost use Rattle.filed_trees.specs.Readable.{IsTabled, Judges};
 
 use crate::body::{Body, body_of};
 use crate::changes::{changes_by_path, note_order, read_path};
@@ -51,7 +44,7 @@ struct Reading<'a> {
 
 /// Makes the content of a file with this text, which is shared.
 fn file_of(alloc: Global, text: &FileText) -> Result<Arc<Content>, AllocError>
-    ensures { IfOk result (λ content. arc_value content ≡ contents.File text.now) }
+    ensures { IfOk result (λ content. arc_value content ≡ Content.File text.now) }
 {
     Ok(Arc::new(alloc, Content::File(text.clone()?))?)
 }
@@ -64,9 +57,9 @@ fn file_of(alloc: Global, text: &FileText) -> Result<Arc<Content>, AllocError>
 fn text_before(earlier: Option<Earlier<'_>>) -> Result<Arc<Content>, FileFault>
     ensures text { IfOk result (λ content. (files : RevisionBytes) (places : Places)
         → WasFiled files places earlier.entry → (t : List ℕ)
-        × ((arc_value content ≡ contents.File t)
+        × ((arc_value content ≡ Content.File t)
         × (text_in files (earlier_text earlier.entry) ≡ Some t))) }
-    ensures judges { Judges result (IsOfKind File earlier.entry) }
+    ensures judges { Judges result (IsOfKind EntryKind.File earlier.entry) }
 {
     match earlier {
         Some(earlier) if !is_directory(earlier.node) => {
@@ -89,7 +82,7 @@ impl Reading<'_> {
         ensures text { IfOk result (λ content. (files : RevisionBytes) (line : Option Representation)
             → IsBody files line (earlier_text earlier.entry) body.entry
             → WasFiled files self.entry.places earlier.entry → (t : List ℕ)
-            × ((arc_value content ≡ contents.File t) × (text_in files line ≡ Some t))) }
+            × ((arc_value content ≡ Content.File t) × (text_in files line ≡ Some t))) }
         ensures judges { Judges result (IsRightText earlier.entry body.entry) }
     {
         match body {

@@ -1,8 +1,6 @@
 //! What a line of a node revision gives.
 ghost use Rattle.std.specs.Prelude.{◌≡◌, true, IfOk, Decides};
-ghost use Rattle.filed_trees.specs.Pieces.{RevisionBytes};
-ghost use Rattle.filed_trees.specs.Comparing.{CameWith, IsBody, IsHere};
-ghost use Rattle.filed_trees.specs.Readable.{IsKept, IsSaid, Judges};
+ghost use Rattle.filed_trees.specs.{Pieces.RevisionBytes, Comparing.{CameWith, IsBody, IsHere}, Readable.{IsKept, IsSaid, Judges}};
 
 use fsfs_ids::Representation;
 use fsfs_lines::FileFault;

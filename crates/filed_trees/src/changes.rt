@@ -1,12 +1,7 @@
 //! The changes that a revision's file says.
-ghost use Rattle.std.specs.Prelude.{◌≡◌, true, IfOk, Some, IsSome, Decides};
-ghost use Rattle.std.specs.List.Sorted.{IsStrictlySortedBy};
-ghost use Rattle.std.specs.Map.{keys_of};
-ghost use Rattle.std.specs.Result.{result_ok};
-ghost use Rattle.svnpath.specs.Paths.{path_cmp};
-ghost use Rattle.svnpath.specs.Texts.{parsed};
-ghost use Rattle.filed_trees.specs.Changes.{action_in, source_in, change_in, changes_by};
-ghost use Rattle.filed_trees.specs.Readable.{Judges};
+ghost use Rattle.std.specs.{Prelude.{◌≡◌, true, IfOk, Some, IsSome, Decides}, List.Sorted.IsStrictlySortedBy, Map.keys_of, Result.result_ok};
+ghost use Rattle.svnpath.specs.{Paths.path_cmp, Texts.parsed};
+ghost use Rattle.filed_trees.specs.{Changes.{action_in, source_in, change_in, changes_by}, Readable.Judges};
 
 use byte_string::ByteString;
 use fsfs_ids::Place;

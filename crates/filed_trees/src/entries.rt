@@ -1,19 +1,13 @@
 //! The entries of a directory, read from a file.
-ghost use Rattle.std.specs.Prelude.{◌≡◌, ◌⊎◌, Option, Some, All, Contains, IsSome, IsSomeAnd, IfOk, if◌then◌else◌};
-ghost use Rattle.std.specs.Arc.{arc_value};
+ghost use Rattle.std.specs.{Prelude.{◌≡◌, ◌⊎◌, Option, Some, All, Contains, IsSome, IsSomeAnd, IfOk, if◌then◌else◌}, Arc.arc_value, Result.result_ok};
 ghost use Rattle.svnpath.specs.Paths.{Component, same_component};
 ghost use Rattle.repo_api.specs.Trees.{is_directory_content};
-ghost use Rattle.noderevs.specs.Nodes.{kid_named};
-ghost use Rattle.noderevs.specs.declared.node_rev.NodeId.{NodeId};
+ghost use Rattle.noderevs.specs.{Nodes.kid_named, declared.node_rev.NodeId.NodeId};
 ghost use Rattle.fsfs_ids.specs.declared.representation.Representation.{Representation};
-ghost use Rattle.filed_trees.specs.Pieces.{RevisionBytes, body_at_line, entry_named};
-ghost use Rattle.filed_trees.specs.Tables.{IsAt};
-ghost use Rattle.filed_trees.specs.Comparing.{AreNamed, HasEntries, WasFiled, earlier_text, id_at, tables_of};
-ghost use Rattle.filed_trees.specs.declared.places.Places.{Places};
+ghost use Rattle.filed_trees.specs.{Pieces.{RevisionBytes, body_at_line, entry_named}, Tables.IsAt};
+ghost use Rattle.filed_trees.specs.{Comparing.{AreNamed, HasEntries, WasFiled, earlier_text, id_at, tables_of}, declared.places.Places.Places};
 ghost use Rattle.filed_trees.specs.Readable.{AreEntries, IsOfKind, IsTabled, Judges};
-ghost use Rattle.fsfs_nodes.specs.Entries.{entries_of};
-ghost use Rattle.std.specs.Result.{result_ok};
-ghost use Rattle.fsfs_nodes.specs.declared.entries.EntryKind.TheVariants.{Directory};
+ghost use Rattle.fsfs_nodes.specs.{Entries.entries_of, declared.entries.EntryKind.TheVariants.Directory};
 
 use crate::kids::ids_by_name;
 use crate::places::{Earlier, Places, node_of};

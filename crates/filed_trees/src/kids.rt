@@ -1,12 +1,8 @@
 //! The entries of nodes, and the ids that a file says of entries.
 ghost use Rattle.std.specs.Prelude.{◌≡◌, ◌++◌, ◌∷◌, [], true, All, IfOk, IsSome, None, Some, Decides};
 ghost use Rattle.svnpath.specs.Paths.{Component};
-ghost use Rattle.noderevs.specs.Nodes.{kid_of};
-ghost use Rattle.noderevs.specs.declared.node_rev.NodeId.{NodeId};
-ghost use Rattle.filed_trees.specs.Pieces.{entry_named};
-ghost use Rattle.filed_trees.specs.Tables.{IsAt};
-ghost use Rattle.filed_trees.specs.Comparing.{IsAmong, id_at};
-ghost use Rattle.filed_trees.specs.Readable.{AreOnce, Judges};
+ghost use Rattle.noderevs.specs.{Nodes.kid_of, declared.node_rev.NodeId.NodeId};
+ghost use Rattle.filed_trees.specs.{Pieces.entry_named, Tables.IsAt, Comparing.{IsAmong, id_at}, Readable.{AreOnce, Judges}};
 
 use byte_string::ByteString;
 use fsfs_ids::FileId;

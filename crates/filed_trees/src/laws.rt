@@ -1,23 +1,13 @@
 //! What holds of files. The functions do nothing: their contracts are the laws.
-ghost use Rattle.std.specs.Prelude.{◌≡◌, ℕ, List, [], Some, slice_get};
-ghost use Rattle.std.specs.FinMap.{get};
+ghost use Rattle.std.specs.{Prelude.{◌≡◌, ℕ, List, [], Some, slice_get}, FinMap.get};
 ghost use Rattle.svnpath.specs.Paths.{PathValue};
-ghost use Rattle.repo_api.specs.Histories.{Changed};
-ghost use Rattle.repo_api.specs.States.{ChangeMap, RepoState, Revision};
-ghost use Rattle.noderevs.specs.Heights.{AreHigh};
-ghost use Rattle.noderevs.specs.Held.{count, node_at};
-ghost use Rattle.noderevs.specs.Nodes.{node_in, root_in, with_block};
-ghost use Rattle.noderevs.specs.Views.{shared_tree};
-ghost use Rattle.noderevs.specs.declared.node_rev.Block.{Block};
-ghost use Rattle.noderevs.specs.declared.nodes.Nodes.{Nodes};
+ghost use Rattle.repo_api.specs.{Histories.Changed, States.{ChangeMap, RepoState, Revision}};
+ghost use Rattle.noderevs.specs.{Heights.AreHigh, Held.{count, node_at}, Nodes.{node_in, root_in, with_block}, Views.shared_tree};
+ghost use Rattle.noderevs.specs.{declared.node_rev.Block.Block, declared.nodes.Nodes.Nodes};
 ghost use Rattle.next_blocks.specs.Rules.{IsNextRevision, past_of};
 ghost use Rattle.repostore.specs.Files.{Files};
-ghost use Rattle.filed_trees.specs.Pieces.{RevisionBytes};
-ghost use Rattle.filed_trees.specs.Trees.{tree_in};
-ghost use Rattle.filed_trees.specs.Tables.{AreTabled};
-ghost use Rattle.filed_trees.specs.StandsFor.{StandsFor, IsRevision};
-ghost use Rattle.filed_trees.specs.Values.{AreSameNext, AreSameRevisions};
-ghost use Rattle.filed_trees.specs.declared.table.Table.{Table};
+ghost use Rattle.filed_trees.specs.{Pieces.RevisionBytes, Trees.tree_in, Tables.AreTabled, StandsFor.{StandsFor, IsRevision}};
+ghost use Rattle.filed_trees.specs.{Values.{AreSameNext, AreSameRevisions}, declared.table.Table.Table};
 
 /// Shows that where tables say which node revision of the files each node is, the trees of the files
 /// are those of the nodes.

@@ -1,10 +1,7 @@
 //! Where nodes stand in the files, as far as that is known.
 ghost use Rattle.std.specs.Prelude.{◌≡◌, ◌≤◌, ◌∷◌, ◌++◌, [], true, IfOk, IfSome, IsSomeAnd, length, option_copied, option_map, slice_get, Some, Decides};
-ghost use Rattle.filed_trees.specs.Comparing.{IsEarlier, earlier_text, earlier_properties, tables_of, AreFor};
-ghost use Rattle.filed_trees.specs.Tables.{IsAt, placed_in};
-ghost use Rattle.filed_trees.specs.Readable.{Finds, HasPlaced, IsTabled, Judges};
-ghost use Rattle.filed_trees.specs.Pieces.{RevisionBytes};
-ghost use Rattle.filed_trees.specs.Changes.{ChangeRows};
+ghost use Rattle.filed_trees.specs.{Comparing.{IsEarlier, earlier_text, earlier_properties, tables_of, AreFor}, Tables.{IsAt, placed_in}};
+ghost use Rattle.filed_trees.specs.{Readable.{Finds, HasPlaced, IsTabled, Judges}, Pieces.RevisionBytes, Changes.ChangeRows};
 
 use crate::table::{Placed, Table};
 use fsfs_ids::{FileId, Representation};

@@ -1,16 +1,8 @@
 //! The nodes of the last revision, compared with those that its file says.
-ghost use Rattle.std.specs.Prelude.{◌≡◌, ◌++◌, ◌∷◌, [], true, List, length, slice_get, IfOk, Decides};
-ghost use Rattle.std.specs.FinMap.{entries};
+ghost use Rattle.std.specs.{Prelude.{◌≡◌, ◌++◌, ◌∷◌, [], true, List, length, slice_get, IfOk, Decides}, FinMap.entries};
 ghost use Rattle.repo_api.specs.States.{ChangeMap};
-ghost use Rattle.noderevs.specs.Held.{blocks_of, node_at};
-ghost use Rattle.noderevs.specs.Nodes.{mark_of};
-ghost use Rattle.noderevs.specs.declared.node_rev.Block.{Block};
-ghost use Rattle.noderevs.specs.declared.node_rev.NodeId.{NodeId};
-ghost use Rattle.filed_trees.specs.Pieces.{RevisionBytes};
-ghost use Rattle.filed_trees.specs.Tables.{AreTabled};
-ghost use Rattle.filed_trees.specs.Readable.{Judges};
-ghost use Rattle.filed_trees.specs.Values.{IsFiledNext};
-ghost use Rattle.filed_trees.specs.Comparing.{AreSame, IsLast, IsSameNode};
+ghost use Rattle.noderevs.specs.{Held.{blocks_of, node_at}, Nodes.mark_of, declared.node_rev.Block.Block, declared.node_rev.NodeId.NodeId};
+ghost use Rattle.filed_trees.specs.{Pieces.RevisionBytes, Tables.AreTabled, Readable.Judges, Values.IsFiledNext, Comparing.{AreSame, IsLast, IsSameNode}};
 
 use crate::blocks::{ReadRevision, read_next};
 use crate::changes::{are_same_changes, is_same_path};

@@ -1,24 +1,14 @@
 -- The files behind a change are those of the repository behind it.
 use Rattle.std.proofs.Common.{◌≡◌, ◌<◌, ℕ, zero, suc, List, [], ◌∷◌, ◌++◌, Option, Some, None, length, map, refl, sym, ap, subst, ◌∙◌, arith}
-use Rattle.std.specs.Prelude.{option_and_then, is_some, slice_get, slice_set}
-use Rattle.std.proofs.lemmas.Bool.{false≢true}
-use Rattle.std.proofs.lemmas.Option.{same_Some}
-use Rattle.std.specs.Result.{result_ok}
-use Rattle.std.proofs.lemmas.List.{length_push, map-append, length-map, length-set}
-use Rattle.repo_api.specs.Properties.{PropertyList}
-use Rattle.repo_api.specs.States.{LockMap}
+use Rattle.std.proofs.{lemmas.Bool.false≢true, lemmas.Option.same_Some, lemmas.List.{length_push, map-append, length-map, length-set}}
+use Rattle.std.specs.{Prelude.{option_and_then, is_some, slice_get, slice_set}, Result.result_ok}
+use Rattle.repo_api.specs.{Properties.PropertyList, States.LockMap}
 use Rattle.noderevs.specs.Held.{blocks_of}
-use Rattle.held.specs.Growing.{HasSame}
-use Rattle.held.specs.declared.held.Held.{Held}
+use Rattle.held.specs.{Growing.HasSame, declared.held.Held.Held}
 use Rattle.repostore.specs.Files.{Files, RevisionFiles, with_locks, with_properties, with_revision, with_second}
-use Rattle.fsfs_folder.specs.Current.{current_of}
-use Rattle.fsfs_folder.specs.Properties.{properties_of}
-use Rattle.fsfs_folder.specs.declared.current.Current.{Current}
-use Rattle.filed_trees.specs.StandsFor.{revision_bytes, revision_properties}
-use Rattle.filed_trees.specs.Tables.{AreTabled}
-use Rattle.filed_trees.specs.declared.table.Table.{Table}
-use Rattle.filed_world.specs.Histories.{IsHistory, held_history}
-use Rattle.filed_world.specs.Files.{AreFilesOf, AreLocks, HasOneMoreList, HasOtherList}
+use Rattle.fsfs_folder.specs.{Current.current_of, Properties.properties_of, declared.current.Current.Current}
+use Rattle.filed_trees.specs.{StandsFor.{revision_bytes, revision_properties}, Tables.AreTabled, declared.table.Table.Table}
+use Rattle.filed_world.specs.{Histories.{IsHistory, held_history}, Files.{AreFilesOf, AreLocks, HasOneMoreList, HasOtherList}}
 
 -- ---- properties, revision by revision
 

@@ -1,8 +1,7 @@
 -- The number that digits spell, as far as it is a number of revisions.
-use Rattle.std.proofs.Common.{◌≡◌, ◌<◌, ◌+◌, ◌*◌, ◌-◌, ℕ, Bool, true, false, List, [], ◌∷◌, Some, None, refl, arith}
+use Rattle.std.proofs.{Common.{◌≡◌, ◌<◌, ◌+◌, ◌*◌, ◌-◌, ℕ, Bool, true, false, List, [], ◌∷◌, Some, None, refl, arith}, lemmas.Bool.Decides.nat_tests}
 use Rattle.std.specs.Prelude.{if◌then◌else◌}
-use Rattle.std.proofs.lemmas.Bool.Decides.{nat_tests}
-use Rattle.repostore.specs.Current.{counted, number_behind, is_digit, is_end}
+use Rattle.repostore.specs.Current.{counted, is_digit, is_end, number_behind}
 
 past_last : (n : ℕ) → 262143 < n → counted (Some n) ≡ None
 past_last n more = grind (arith, nat_tests)

@@ -1,32 +1,18 @@
 -- Revision 0 of a new repository, in its file.
 use Rattle.std.proofs.Common.{◌≡◌, ◌++◌, ℕ, zero, suc, List, [], ◌∷◌, length, Some, option_and_then, refl, sym, ap, subst, ◌∙◌, arith}
 use Rattle.std.proofs.lemmas.Option.{same_Some}
-use Rattle.std.specs.FinMap.{same_entries_map}
-use Rattle.std.specs.Prelude.{slice_get, slice_set}
+use Rattle.std.specs.{FinMap.same_entries_map, Prelude.{slice_get, slice_set}}
 use Rattle.svnpath.specs.Paths.{PathValue}
-use Rattle.repo_api.specs.States.{ChangeMap}
-use Rattle.repo_api.specs.declared.entry.Entry.{Entry}
-use Rattle.repo_api.specs.declared.entry.Mark.{Mark}
+use Rattle.repo_api.specs.{Properties.PropertyList, States.ChangeMap, declared.entry.Entry.Entry, declared.entry.Mark.Mark}
 use Rattle.repo_api.specs.declared.entry.Mark.TheVariants.{Open, Made}
-use Rattle.noderevs.specs.Held.{blocks_of, node_at}
-use Rattle.noderevs.specs.Nodes.{node_in, root_in}
-use Rattle.noderevs.specs.OpeningBlocks.{IsOpeningBlock, IsOpeningNode, AreOpening}
-use Rattle.noderevs.specs.declared.node_rev.Block.{Block}
-use Rattle.noderevs.specs.declared.node_rev.NodeId.{NodeId}
-use Rattle.noderevs.specs.declared.node_rev.NodeRev.{NodeRev}
+use Rattle.noderevs.specs.{Held.{blocks_of, node_at}, Nodes.{node_in, root_in}, OpeningBlocks.{AreOpening, IsOpeningBlock, IsOpeningNode}}
+use Rattle.noderevs.specs.{declared.node_rev.Block.Block, declared.node_rev.NodeId.NodeId, declared.node_rev.NodeRev.NodeRev}
 use Rattle.held.specs.declared.held.Held.{Held}
-use Rattle.filed_trees.specs.Comparing.{AreSame, IsSameNode}
-use Rattle.filed_trees.specs.Tables.{AreTabled}
-use Rattle.filed_trees.specs.Values.{IsFiledNext}
-use Rattle.filed_trees.specs.declared.table.Table.{Table}
-use Rattle.filed_trees.proofs.Reading.{tabled_same}
-use Rattle.filed_trees.proofs.Seen.{none_tabled}
-use Rattle.filed_world.specs.Histories.{ComesFirst, HasHistory, with_next}
-use Rattle.filed_world.specs.Reading.{IsNew}
-use Rattle.filed_world.proofs.Histories.{history_more, no_history}
-use Rattle.repo_api.specs.Properties.{PropertyList}
+use Rattle.filed_trees.specs.{Comparing.{AreSame, IsSameNode}, Tables.AreTabled, Values.IsFiledNext, declared.table.Table.Table}
+use Rattle.filed_trees.proofs.{Reading.tabled_same, Seen.none_tabled}
+use Rattle.filed_world.specs.{Histories.{ComesFirst, HasHistory, with_next}, Reading.IsNew}
+use Rattle.filed_world.proofs.{Histories.{history_more, no_history}, Opened.one_of}
 use Rattle.world.specs.Adding.{HasFirstList}
-use Rattle.filed_world.proofs.Opened.{one_of}
 
 abbrev path_of : Mark → PathValue
 path_of Open = []

@@ -1,32 +1,20 @@
 -- A further revision that was read comes next where the files are those of a history, and nowhere else.
 use Rattle.std.proofs.Common.{◌≡◌, ◌<◌, List, [], ◌∷◌, ◌++◌, length, Ok, ℕ, sym, ap, subst, ◌∙◌, arith, length-append, ◌+◌, refl}
-use Rattle.std.specs.FinMap.{entries}
-use Rattle.std.specs.Prelude.{Result, Err, IfOk}
-use Rattle.repo_api.specs.States.{ChangeMap}
-use Rattle.repo_api.specs.declared.limits.TheConstants.{REVISION_LIMIT}
-use Rattle.noderevs.specs.Heights.{AreHigh}
-use Rattle.noderevs.specs.Held.{blocks_of, count, node_at}
-use Rattle.noderevs.specs.Nodes.{with_block, node_in}
-use Rattle.noderevs.specs.declared.node_rev.Block.{Block}
+use Rattle.std.specs.{FinMap.entries, Prelude.{Result, Err, IfOk}}
+use Rattle.repo_api.specs.{States.ChangeMap, declared.limits.TheConstants.REVISION_LIMIT}
+use Rattle.noderevs.specs.{Heights.AreHigh, Held.{blocks_of, count, node_at}, Nodes.{node_in, with_block}, declared.node_rev.Block.Block}
 use Rattle.next_blocks.specs.Rules.{IsNextRevision, past_of}
-use Rattle.held.specs.declared.held.Held.{Held}
+use Rattle.held.specs.{declared.held.Held.Held, Growing.HasOneMore}
 use Rattle.held.proofs.Seen.{held_many}
 use Rattle.world.specs.Adding.{MayComeNext}
 use Rattle.fsfs_judging.specs.Judging.{judged_revision}
 use Rattle.fsfs_lines.specs.declared.fault.FileFault.{FileFault}
 use Rattle.fsfs_parts.specs.declared.change.FileChange.{FileChange}
-use Rattle.fsfs_reading.specs.Pieces.{revision_of}
-use Rattle.fsfs_reading.specs.declared.piece.FilePiece.{FilePiece}
-use Rattle.filed_trees.specs.Pieces.{RevisionBytes}
-use Rattle.filed_trees.specs.Readable.{IsReadableFile, Judges}
-use Rattle.filed_trees.specs.Tables.{AreTabled}
-use Rattle.filed_trees.specs.declared.table.Table.{Table}
-use Rattle.filed_world.specs.Histories.{ComesNext, HasHistory, IsHistory, with_next, first, held_history}
-use Rattle.filed_world.specs.Reading.{read_history, so_far}
-use Rattle.filed_world.proofs.Histories.{comes, history_more, keeps_rules, reads, past_many, comes_here}
-use Rattle.held.specs.Growing.{HasOneMore}
+use Rattle.fsfs_reading.specs.{Pieces.revision_of, declared.piece.FilePiece.FilePiece}
+use Rattle.filed_trees.specs.{Pieces.RevisionBytes, Readable.{IsReadableFile, Judges}, Tables.AreTabled, declared.table.Table.Table}
+use Rattle.filed_world.specs.{Histories.{ComesNext, HasHistory, IsHistory, with_next, first, held_history}, Reading.{read_history, so_far}}
+use Rattle.filed_world.proofs.{Histories.{comes, history_more, keeps_rules, reads, past_many, comes_here}, Next.whole}
 use Rattle.noderevs.proofs.Pushing.{pushed_look}
-use Rattle.filed_world.proofs.Next.{whole}
 
 pub if_judged : {T : Type 0} (P : Type 0) (r : Result T FileFault) → Judges r P → IfOk r (λ x. P)
 if_judged P (Ok x) is = is

@@ -1,28 +1,15 @@
 -- Revisions that come one after another.
-use Rattle.std.proofs.Common.{◌≡◌, ◌≤◌, ◌<◌, ℕ, zero, suc, List, [], ◌∷◌, ◌++◌, take, length, Some, option_map, option_and_then, refl, sym, ap, subst, ◌∙◌, arith, length-append, ⊎_elim}
-use Rattle.std.proofs.Math.Seq.{take-append_seam}
-use Rattle.std.proofs.lemmas.Bool.{cases_eq, cases_lt}
-use Rattle.std.proofs.lemmas.List.{take-append-le, take_all}
-use Rattle.std.proofs.lemmas.Option.{none-some, same_Some, slice_get_within}
-use Rattle.std.specs.FinMap.{entries}
-use Rattle.std.specs.Prelude.{slice_get}
-use Rattle.repo_api.specs.States.{ChangeMap}
-use Rattle.repo_api.specs.declared.limits.TheConstants.{REVISION_LIMIT}
-use Rattle.noderevs.specs.Heights.{AreHigh}
-use Rattle.noderevs.specs.Held.{blocks_of, count, node_at}
-use Rattle.noderevs.specs.Nodes.{node_in, root_in, with_block}
-use Rattle.noderevs.specs.declared.node_rev.Block.{Block}
-use Rattle.noderevs.specs.declared.node_rev.NodeId.{NodeId}
-use Rattle.noderevs.specs.declared.nodes.Nodes.{Nodes}
+use Rattle.std.proofs.Common.{◌≡◌, ◌≤◌, ◌<◌, ℕ, zero, suc, List, [], ◌∷◌, ◌++◌, take, length, Some, option_map, option_and_then, refl, sym, ap, subst, ◌∙◌}
+use Rattle.std.proofs.{Common.{arith, length-append, ⊎_elim}, Math.Seq.take-append_seam, lemmas.Bool.{cases_eq, cases_lt}}
+use Rattle.std.proofs.{lemmas.List.{take-append-le, take_all}, lemmas.Option.{none-some, same_Some, slice_get_within}}
+use Rattle.std.specs.{FinMap.entries, Prelude.slice_get}
+use Rattle.repo_api.specs.{States.ChangeMap, declared.limits.TheConstants.REVISION_LIMIT}
+use Rattle.noderevs.specs.{Heights.AreHigh, Held.{blocks_of, count, node_at}, Nodes.{node_in, root_in, with_block}, declared.node_rev.Block.Block}
+use Rattle.noderevs.specs.{declared.node_rev.NodeId.NodeId, declared.nodes.Nodes.Nodes}
 use Rattle.next_blocks.specs.Rules.{IsNextRevision, past_of}
-use Rattle.filed_trees.specs.Comparing.{AreSame}
-use Rattle.filed_trees.specs.Pieces.{RevisionBytes}
-use Rattle.filed_trees.specs.Readable.{IsReadableFile}
-use Rattle.filed_trees.specs.Tables.{AreTabled}
-use Rattle.filed_trees.specs.Values.{AreSameNext, AreSameRevisions}
+use Rattle.filed_trees.specs.{Comparing.AreSame, Pieces.RevisionBytes, Readable.IsReadableFile, Tables.AreTabled, Values.{AreSameNext, AreSameRevisions}}
 use Rattle.filed_trees.specs.declared.table.Table.{Table}
-use Rattle.filed_trees.proofs.OneRepository.{readable_same, same_revisions}
-use Rattle.filed_trees.proofs.SameNext.{same_next}
+use Rattle.filed_trees.proofs.{OneRepository.{readable_same, same_revisions}, SameNext.same_next}
 use Rattle.filed_world.specs.Histories.{AreSaid, ComesNext, History, IsHistory, first, with_next, ComesFirst}
 use Rattle.fsfs_reading.specs.Pieces.{revision_of}
 use Rattle.fsfs_judging.specs.Judging.{judged_revision}

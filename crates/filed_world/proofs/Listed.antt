@@ -1,22 +1,11 @@
 -- A listing of all locks finds what their map does.
 use Rattle.std.proofs.Common.{◌≡◌, true, List, [], ◌∷◌, Option, Some, None, refl, sym, ap, ◌∙◌}
-use Rattle.std.specs.Cmp.{eq_by_cmp_equiv}
-use Rattle.std.specs.BTreeMap.{is_at}
-use Rattle.std.specs.FinMap.{get, entries}
-use Rattle.std.specs.List.{IsDistinct, filter}
-use Rattle.std.specs.List.Sorted.{IsPermutation}
-use Rattle.std.specs.Map.{lookup, keys_of}
-use Rattle.std.specs.Ordering.{eq_by_cmp}
 use Rattle.std.proofs.lemmas.List.Sorted.{Contains-permutation, IsPermutation-sym, IsPermutation-map}
-use Rattle.std.proofs.lemmas.Map.Keys.{IsDistinct-from_sorted, IsDistinct-IsPermutation}
-use Rattle.std.proofs.lemmas.Map.Views.{lookup-from_Contains, Contains-from_lookup}
-use Rattle.svnpath.specs.Paths.{PathValue, same_path, path_cmp, path_cmp_total, path_ties}
-use Rattle.svnpath.specs.PathLaws.{at_is}
-use Rattle.svnpath.specs.Listings.{listing, listing_permutation}
-use Rattle.repo_api.specs.StateLaws.{get_entries}
-use Rattle.repo_api.specs.Locking.{at_or_under}
-use Rattle.repo_api.specs.States.{LockMap}
-use Rattle.repo_api.specs.declared.lock.Lock.{Lock}
+use Rattle.std.proofs.{lemmas.Map.Keys.{IsDistinct-from_sorted, IsDistinct-IsPermutation}, lemmas.Map.Views.{lookup-from_Contains, Contains-from_lookup}}
+use Rattle.std.specs.{Cmp.eq_by_cmp_equiv, BTreeMap.is_at, FinMap.{get, entries}, List.{IsDistinct, filter}, List.Sorted.IsPermutation, Map.{lookup, keys_of}}
+use Rattle.std.specs.Ordering.{eq_by_cmp}
+use Rattle.svnpath.specs.{Listings.{listing, listing_permutation}, PathLaws.at_is, Paths.{path_cmp, path_cmp_total, path_ties, PathValue, same_path}}
+use Rattle.repo_api.specs.{Locking.at_or_under, StateLaws.get_entries, States.LockMap, declared.lock.Lock.Lock}
 use Rattle.filed_trees.specs.StandsFor.{lock_of}
 use Rattle.next_blocks.proofs.Ordered.{in_order}
 

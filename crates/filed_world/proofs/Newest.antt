@@ -1,13 +1,8 @@
 -- The youngest of one revision more.
-use Rattle.std.proofs.Common.{◌≡◌, ◌+◌, List, length, ap, ◌∙◌, arith}
-use Rattle.std.specs.Prelude.{slice_get}
-use Rattle.std.specs.FinMap.{entries}
-use Rattle.std.proofs.lemmas.List.{length_push}
-use Rattle.repo_api.specs.Histories.{Changed, history_of}
-use Rattle.repo_api.specs.States.{LockMap, youngest}
-use Rattle.held.specs.Contents.{state_of}
-use Rattle.held.specs.Growing.{HasOneMore}
-use Rattle.held.specs.declared.held.Held.{Held}
+use Rattle.std.proofs.{Common.{◌≡◌, ◌+◌, List, length, ap, ◌∙◌, arith}, lemmas.List.length_push}
+use Rattle.std.specs.{Prelude.slice_get, FinMap.entries}
+use Rattle.repo_api.specs.{Histories.{Changed, history_of}, States.{LockMap, youngest}}
+use Rattle.held.specs.{Contents.state_of, Growing.HasOneMore, declared.held.Held.Held}
 use Rattle.held.proofs.Seen.{held_many, held_changes}
 use Rattle.noderevs.proofs.Pushing.{last_place}
 

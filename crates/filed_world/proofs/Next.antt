@@ -1,13 +1,10 @@
 -- The world of the next revision comes behind those of the revisions that were read.
 use Rattle.std.proofs.Common.{◌≡◌, List, [], ◌∷◌, length, refl, sym, ap, subst, ◌∙◌, arith, ◌++◌}
 use Rattle.std.specs.Prelude.{slice_set}
-use Rattle.repo_api.specs.Properties.{PropertyList}
-use Rattle.repo_api.specs.States.{ChangeMap}
-use Rattle.noderevs.specs.Held.{blocks_of}
-use Rattle.noderevs.specs.declared.node_rev.Block.{Block}
-use Rattle.world.specs.declared.world.World.{World}
+use Rattle.repo_api.specs.{Properties.PropertyList, States.ChangeMap}
+use Rattle.noderevs.specs.{Held.blocks_of, declared.node_rev.Block.Block}
+use Rattle.world.specs.{declared.world.World.World, Adding.{HasAdded, HasFirstList}}
 use Rattle.filed_trees.specs.declared.table.Table.{Table}
-use Rattle.world.specs.Adding.{HasAdded, HasFirstList}
 use Rattle.filed_world.specs.Reading.{IsNext, so_far}
 use Rattle.filed_world.proofs.Opened.{one_of}
 

@@ -1,27 +1,15 @@
 -- What is held of a new repository.
 use Rattle.std.proofs.Common.{◌≡◌, ℕ, List, [], ◌∷◌, length, Option, Some, None, option_map, option_and_then, is_some, refl, sym, ap, ◌∙◌, arith}
-use Rattle.std.proofs.lemmas.Bool.{false≢true}
-use Rattle.std.proofs.lemmas.Option.{none-some, same_Some}
-use Rattle.std.specs.FinMap.{entries, find, get, get-from_entries, empty, len-entries, len-empty}
-use Rattle.std.specs.Prelude.{IsSome, slice_get}
-use Rattle.svnpath.specs.Paths.{Component, PathValue, path_cmp, path_cmp_total}
-use Rattle.repo_api.specs.Opening.{new_repository, opening_root}
-use Rattle.repo_api.specs.Histories.{changes_in}
-use Rattle.repo_api.specs.States.{ChangeMap, LockMap, RepoState, tree_in}
-use Rattle.repo_api.specs.declared.entry.Entry.{Entry}
-use Rattle.repo_api.specs.declared.entry.Mark.{Mark}
-use Rattle.repo_api.specs.declared.entry.Mark.TheVariants.{Open, Made}
-use Rattle.noderevs.specs.Held.{blocks_of, node_at, root_at}
-use Rattle.noderevs.specs.Nodes.{Look, kid_of, node_in, root_in}
-use Rattle.noderevs.specs.OpeningBlocks.{AreOpening, opening_id}
-use Rattle.noderevs.specs.Views.{entry_at, find_id, shared_entry, shared_tree}
-use Rattle.noderevs.specs.declared.node_rev.Block.{Block}
-use Rattle.noderevs.specs.declared.node_rev.NodeId.{NodeId}
+use Rattle.std.proofs.{lemmas.Bool.false≢true, lemmas.Option.{none-some, same_Some}}
+use Rattle.std.specs.{FinMap.{entries, find, get, get-from_entries, empty, len-entries, len-empty}, Prelude.{IsSome, slice_get}}
+use Rattle.svnpath.specs.Paths.{Component, path_cmp, path_cmp_total, PathValue}
+use Rattle.repo_api.specs.{Histories.changes_in, Opening.{new_repository, opening_root}, States.{ChangeMap, LockMap, RepoState, tree_in}}
+use Rattle.repo_api.specs.{declared.entry.Entry.Entry, declared.entry.Mark.Mark, declared.entry.Mark.TheVariants.{Open, Made}, declared.change.Change.Change}
+use Rattle.noderevs.specs.{Held.{blocks_of, node_at, root_at}, Nodes.{kid_of, Look, node_in, root_in}, OpeningBlocks.{AreOpening, opening_id}}
+use Rattle.noderevs.specs.{Views.{entry_at, find_id, shared_entry, shared_tree}, declared.node_rev.Block.Block, declared.node_rev.NodeId.NodeId}
 use Rattle.noderevs.specs.declared.node_rev.NodeRev.{NodeRev}
-use Rattle.held.specs.Contents.{revisions_of, state_of}
-use Rattle.held.specs.declared.held.Held.{Held}
+use Rattle.held.specs.{Contents.{revisions_of, state_of}, declared.held.Held.Held}
 use Rattle.held.proofs.Seen.{held_changes, held_many, held_seen}
-use Rattle.repo_api.specs.declared.change.Change.{Change}
 use Rattle.filed_world.specs.Reading.{IsNew}
 
 pub one_of : {X : Type 0} (xs : List X) → length xs ≡ 1 → (x : X) × (xs ≡ x ∷ [])

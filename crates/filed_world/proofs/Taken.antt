@@ -1,41 +1,21 @@
 -- What is read of the files, revision by revision, is what is held.
 use Rattle.std.proofs.Common.{◌≡◌, ◌⊎◌, inl, inr, ℕ, suc, List, [], ◌∷◌, ◌++◌, Option, Some, None, length, map, refl, sym, ap, subst, ◌∙◌, arith, ◌<◌}
-use Rattle.std.specs.Prelude.{option_and_then, slice_get, Result, Ok, Err, IfOk}
-use Rattle.std.specs.FinMap.{get, empty, entries, from_entries, get-empty}
-use Rattle.std.specs.Result.{result_ok}
-use Rattle.std.proofs.lemmas.List.{length_push, map-append, length-map}
-use Rattle.std.proofs.lemmas.Option.{same_Some}
-use Rattle.svnpath.specs.Paths.{PathValue, path_cmp}
-use Rattle.repo_api.specs.Histories.{Changed, history_of}
-use Rattle.repo_api.specs.Opening.{new_repository}
-use Rattle.repo_api.specs.Properties.{PropertyList}
-use Rattle.repo_api.specs.StateLaws.{get_path}
-use Rattle.repo_api.specs.States.{ChangeMap, LockMap, RepoState}
-use Rattle.repo_api.specs.declared.lock.Lock.{Lock}
-use Rattle.noderevs.specs.Held.{blocks_of}
-use Rattle.noderevs.specs.declared.node_rev.Block.{Block}
-use Rattle.held.specs.Contents.{state_of}
-use Rattle.held.specs.declared.held.Held.{Held}
+use Rattle.std.proofs.{lemmas.List.{length_push, map-append, length-map}, lemmas.Option.same_Some}
+use Rattle.std.specs.{Prelude.{option_and_then, slice_get, Result, Ok, Err, IfOk}, FinMap.{get, empty, entries, from_entries, get-empty}, Result.result_ok}
+use Rattle.svnpath.specs.Paths.{path_cmp, PathValue}
+use Rattle.repo_api.specs.{Histories.{Changed, history_of}, Opening.new_repository, Properties.PropertyList, StateLaws.get_path}
+use Rattle.repo_api.specs.{States.{ChangeMap, LockMap, RepoState}, declared.lock.Lock.Lock, declared.limits.TheConstants.REVISION_LIMIT}
+use Rattle.noderevs.specs.{Held.blocks_of, declared.node_rev.Block.Block}
+use Rattle.held.specs.{Contents.state_of, declared.held.Held.Held}
 use Rattle.held.proofs.Seen.{held_many, held_changes}
-use Rattle.repostore.specs.Current.{count_in}
-use Rattle.repostore.specs.Files.{Files}
+use Rattle.repostore.specs.{Current.count_in, Files.Files, Reading.{IfFileFaulty, with_one_more, with_read_locks}}
 use Rattle.fsfs_lines.specs.declared.fault.FileFault.{FileFault}
 use Rattle.fsfs_lines.specs.declared.fault.FileFault.TheVariants as faults
-use Rattle.repostore.specs.Reading.{with_one_more, with_read_locks, IfFileFaulty}
-use Rattle.fsfs_folder.specs.Properties.{properties_of}
-use Rattle.fsfs_folder.specs.declared.current.Current.{Current}
-use Rattle.filed_trees.specs.Pieces.{RevisionBytes}
-use Rattle.filed_trees.specs.StandsFor.{revision_bytes, revision_properties, locks_in}
-use Rattle.filed_trees.specs.Tables.{AreTabled}
-use Rattle.filed_trees.specs.declared.table.Table.{Table}
-use Rattle.filed_world.specs.Files.{AreFilesOf, AreLocks}
-use Rattle.filed_world.specs.Reading.{SayHead, AreFirst, AreRead, IsNext, so_far, read_history}
-use Rattle.filed_world.proofs.Changed.{AreSaid, said, said_is, one_more_said}
-use Rattle.filed_world.proofs.Listed.{looked_up}
+use Rattle.fsfs_folder.specs.{Properties.properties_of, declared.current.Current.Current}
+use Rattle.filed_trees.specs.{Pieces.RevisionBytes, StandsFor.{locks_in, revision_bytes, revision_properties}, Tables.AreTabled, declared.table.Table.Table}
+use Rattle.filed_world.specs.{Files.{AreFilesOf, AreLocks}, Reading.{SayHead, AreFirst, AreRead, IsNext, so_far, read_history}}
 use Rattle.filed_world.specs.Histories.{ComesNext, IsHistory, held_history, ComesFirst}
-use Rattle.filed_world.proofs.Histories.{history_more, no_history}
-use Rattle.repo_api.specs.declared.limits.TheConstants.{REVISION_LIMIT}
-use Rattle.filed_world.proofs.Opened.{is_new, one_of}
+use Rattle.filed_world.proofs.{Changed.{AreSaid, said, said_is, one_more_said}, Listed.looked_up, Histories.{history_more, no_history}, Opened.{is_new, one_of}}
 use Rattle.noderevs.proofs.Pushing.{last_place}
 
 -- ---- before the first revision

@@ -1,23 +1,14 @@
 -- The files of a repository that shares what did not change.
-use Rattle.std.specs.Prelude.{◌≡◌, ℕ, suc, List, [], ◌∷◌, ◌++◌, Option, Some, codes, length, slice_get, slice_set}
-use Rattle.std.specs.FinMap.{get}
-use Rattle.std.specs.Result.{result_ok}
+use Rattle.std.specs.{Prelude.{◌≡◌, ℕ, suc, List, [], ◌∷◌, ◌++◌, Option, Some, codes, length, slice_get, slice_set}, FinMap.get, Result.result_ok}
 use Rattle.svnpath.specs.Paths.{PathValue}
-use Rattle.repo_api.specs.Properties.{PropertyList}
-use Rattle.repo_api.specs.States.{RepoState, LockMap}
-use Rattle.repo_api.specs.declared.lock.Lock.{Lock}
+use Rattle.repo_api.specs.{Properties.PropertyList, States.{LockMap, RepoState}, declared.lock.Lock.Lock}
 use Rattle.noderevs.specs.Held.{blocks_of}
 use Rattle.held.specs.declared.held.Held.{Held}
 use Rattle.world.specs.Whole.{world_content}
 use Rattle.repostore.specs.Files.{Files}
-use Rattle.fsfs_folder.specs.Current.{current_of}
-use Rattle.fsfs_folder.specs.Identity.{uuid_of}
-use Rattle.fsfs_folder.specs.declared.current.Current.{Current}
-use Rattle.filed_trees.specs.StandsFor.{revision_bytes, revision_properties, locks_in, lock_of}
-use Rattle.filed_trees.specs.Tables.{AreTabled}
-use Rattle.filed_trees.specs.declared.table.Table.{Table}
-use Rattle.filed_world.specs.Histories.{IsHistory, held_history}
-use Rattle.filed_world.specs.declared.filed_world.FiledWorld.{FiledWorld}
+use Rattle.fsfs_folder.specs.{Current.current_of, Identity.uuid_of, declared.current.Current.Current}
+use Rattle.filed_trees.specs.{StandsFor.{lock_of, locks_in, revision_bytes, revision_properties}, Tables.AreTabled, declared.table.Table.Table}
+use Rattle.filed_world.specs.{Histories.{IsHistory, held_history}, declared.filed_world.FiledWorld.FiledWorld}
 
 abbrev pub filed_content : FiledWorld → RepoState
 filed_content f = world_content f.world

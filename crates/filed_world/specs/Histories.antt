@@ -1,22 +1,13 @@
 -- What the files of revisions say, one revision after another, as opening a folder reads them.
-use Rattle.std.specs.Prelude.{◌≡◌, ◌≤◌, ◌<◌, ◌++◌, ◌∷◌, [], ℕ, List, Some, Ok, length, slice_get, take}
-use Rattle.std.specs.FinMap.{entries}
-use Rattle.repo_api.specs.States.{ChangeMap}
-use Rattle.repo_api.specs.declared.limits.TheConstants.{REVISION_LIMIT}
-use Rattle.noderevs.specs.Held.{blocks_of}
-use Rattle.noderevs.specs.declared.node_rev.Block.{Block}
-use Rattle.noderevs.specs.declared.nodes.Nodes.{Nodes}
+use Rattle.std.specs.{Prelude.{◌≡◌, ◌≤◌, ◌<◌, ◌++◌, ◌∷◌, [], ℕ, List, Some, Ok, length, slice_get, take}, FinMap.entries}
+use Rattle.repo_api.specs.{States.ChangeMap, declared.limits.TheConstants.REVISION_LIMIT}
+use Rattle.noderevs.specs.{Held.blocks_of, OpeningBlocks.IsOpeningBlock, declared.node_rev.Block.Block, declared.nodes.Nodes.Nodes}
 use Rattle.next_blocks.specs.Rules.{IsNextRevision, past_of}
 use Rattle.fsfs_judging.specs.Judging.{judged_revision}
 use Rattle.fsfs_parts.specs.declared.change.FileChange.{FileChange}
-use Rattle.fsfs_reading.specs.Pieces.{revision_of}
-use Rattle.fsfs_reading.specs.declared.piece.FilePiece.{FilePiece}
-use Rattle.filed_trees.specs.Pieces.{RevisionBytes}
-use Rattle.filed_trees.specs.Readable.{IsReadableFile}
-use Rattle.filed_trees.specs.Tables.{AreTabled}
+use Rattle.fsfs_reading.specs.{Pieces.revision_of, declared.piece.FilePiece.FilePiece}
+use Rattle.filed_trees.specs.{Pieces.RevisionBytes, Readable.IsReadableFile, Tables.AreTabled, declared.table.Table.Table}
 use Rattle.held.specs.declared.held.Held.{Held}
-use Rattle.noderevs.specs.OpeningBlocks.{IsOpeningBlock}
-use Rattle.filed_trees.specs.declared.table.Table.{Table}
 
 -- the files of revisions, and the nodes, the table and the changes of each
 pub record History : Type 0 where

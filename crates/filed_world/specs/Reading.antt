@@ -1,36 +1,17 @@
 -- The files of a repository that are read, one revision after another.
-use Rattle.std.specs.Prelude.{◌≡◌, ℕ, suc, List, [], ◌∷◌, ◌++◌, None, Some, Ok, codes, length, slice_get}
-use Rattle.std.specs.Result.{result_ok}
-use Rattle.repo_api.specs.Properties.{PropertyList}
-use Rattle.repo_api.specs.States.{ChangeMap, LockMap}
-use Rattle.noderevs.specs.Held.{blocks_of}
-use Rattle.noderevs.specs.declared.node_rev.Block.{Block}
+use Rattle.std.specs.{Prelude.{◌≡◌, ℕ, suc, List, [], ◌∷◌, ◌++◌, None, Some, Ok, codes, length, slice_get}, Result.result_ok, FinMap.entries}
+use Rattle.repo_api.specs.{Properties.PropertyList, States.{ChangeMap, LockMap}}
+use Rattle.noderevs.specs.{Heights.AreHigh, Held.{blocks_of, count, node_at}, Nodes.with_block, OpeningBlocks.AreOpening, declared.node_rev.Block.Block}
 use Rattle.held.specs.declared.held.Held.{Held}
-use Rattle.world.specs.Adding.{HasAdded}
-use Rattle.world.specs.declared.world.World.{World}
-use Rattle.repostore.specs.Current.{count_in}
-use Rattle.repostore.specs.Files.{Files}
-use Rattle.fsfs_folder.specs.Current.{current_of}
-use Rattle.fsfs_folder.specs.Identity.{uuid_of}
-use Rattle.fsfs_folder.specs.declared.current.Current.{Current}
-use Rattle.filed_trees.specs.StandsFor.{revision_bytes, revision_properties}
-use Rattle.filed_trees.specs.Tables.{AreTabled}
-use Rattle.filed_trees.specs.declared.blocks.ReadRevision.{ReadRevision}
-use Rattle.filed_trees.specs.declared.table.Table.{Table}
-use Rattle.filed_world.specs.Files.{AreLocks}
-use Rattle.noderevs.specs.Heights.{AreHigh}
-use Rattle.noderevs.specs.Held.{count, node_at}
-use Rattle.noderevs.specs.Nodes.{with_block}
+use Rattle.world.specs.{Adding.HasAdded, declared.world.World.World}
+use Rattle.repostore.specs.{Current.count_in, Files.Files}
+use Rattle.fsfs_folder.specs.{Current.current_of, Identity.uuid_of, declared.current.Current.Current}
+use Rattle.filed_trees.specs.{Pieces.RevisionBytes, Readable.IsReadableFile, StandsFor.{revision_bytes, revision_properties}, Tables.AreTabled}
+use Rattle.filed_trees.specs.{declared.blocks.ReadRevision.ReadRevision, declared.table.Table.Table}
+use Rattle.filed_world.specs.{Files.AreLocks, Histories.{HasHistory, History, IsHistory, held_history}, declared.filed_world.FiledWorld.FiledWorld}
 use Rattle.fsfs_judging.specs.Judging.{judged_revision}
 use Rattle.fsfs_parts.specs.declared.change.FileChange.{FileChange}
-use Rattle.fsfs_reading.specs.Pieces.{revision_of}
-use Rattle.fsfs_reading.specs.declared.piece.FilePiece.{FilePiece}
-use Rattle.filed_trees.specs.Readable.{IsReadableFile}
-use Rattle.filed_world.specs.Histories.{HasHistory, History, IsHistory, held_history}
-use Rattle.filed_trees.specs.Pieces.{RevisionBytes}
-use Rattle.noderevs.specs.OpeningBlocks.{AreOpening}
-use Rattle.std.specs.FinMap.{entries}
-use Rattle.filed_world.specs.declared.filed_world.FiledWorld.{FiledWorld}
+use Rattle.fsfs_reading.specs.{Pieces.revision_of, declared.piece.FilePiece.FilePiece}
 
 -- the first files say a format, the name of the repository, and the youngest of its revisions
 pub record SayHead (uuid : ℕ) (current : Current) (files : Files) : Type 0 where

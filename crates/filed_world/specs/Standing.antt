@@ -1,20 +1,13 @@
 -- The files of a repository stand for what it contains.
-use Rattle.std.proofs.Common.{◌≡◌, ℕ, zero, suc, List, [], ◌∷◌, Some, sym, ap, ◌∙◌}
-use Rattle.std.specs.FinMap.{get, entries}
-use Rattle.std.specs.Prelude.{slice_get, option_map}
-use Rattle.std.proofs.lemmas.List.{length-map}
-use Rattle.std.proofs.lemmas.Option.{none-some, same_Some}
-use Rattle.repo_api.specs.States.{ChangeMap, LockMap, Revision, tree_in}
-use Rattle.repo_api.specs.Trees.{Tree}
+use Rattle.std.proofs.{Common.{◌≡◌, ℕ, zero, suc, List, [], ◌∷◌, Some, sym, ap, ◌∙◌}, lemmas.List.length-map, lemmas.Option.{none-some, same_Some}}
+use Rattle.std.specs.{FinMap.{get, entries}, Prelude.{slice_get, option_map}}
+use Rattle.repo_api.specs.{States.{ChangeMap, LockMap, Revision, tree_in}, Trees.Tree}
 use Rattle.noderevs.specs.Held.{blocks_of, trees_of}
-use Rattle.held.specs.Contents.{revisions_of, state_of}
-use Rattle.held.specs.Shown.{AreShownAs, the_shown}
-use Rattle.held.specs.declared.held.Held.{Held}
+use Rattle.held.specs.{Contents.{revisions_of, state_of}, Shown.{AreShownAs, the_shown}, declared.held.Held.Held}
 use Rattle.held.proofs.Seen.{held_many, held_seen}
 use Rattle.repostore.specs.Files.{Files}
 use Rattle.fsfs_folder.specs.declared.current.Current.{Current}
-use Rattle.filed_trees.specs.StandsFor.{StandsFor, IsRevision, revision_bytes}
-use Rattle.filed_trees.specs.declared.table.Table.{Table}
+use Rattle.filed_trees.specs.{StandsFor.{IsRevision, revision_bytes, StandsFor}, declared.table.Table.Table}
 use Rattle.filed_trees.proofs.Seen.{trees_agree}
 use Rattle.filed_world.specs.Files.{AreFilesOf}
 

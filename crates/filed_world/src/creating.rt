@@ -1,17 +1,10 @@
 //! A new repository, and its files.
-ghost use Rattle.std.specs.Prelude.{◌≡◌, ◌≤◌, List, ℕ, IfOk, None, Some, []};
-ghost use Rattle.dates.specs.Dates.{IsDateText};
-ghost use Rattle.dates.specs.declared.TheConstants.{LAST_MOMENT};
+ghost use Rattle.std.specs.{Prelude.{◌≡◌, ◌≤◌, List, ℕ, IfOk, None, Some, []}, Result.result_ok};
+ghost use Rattle.dates.specs.{Dates.IsDateText, declared.TheConstants.LAST_MOMENT};
 ghost use Rattle.repo_api.specs.Opening.{new_repository};
-ghost use Rattle.repostore.specs.Creating.{opening_files};
-ghost use Rattle.repostore.specs.Current.{count_in};
-ghost use Rattle.std.specs.Result.{result_ok};
-ghost use Rattle.fsfs_folder.specs.Identity.{uuid_of};
-ghost use Rattle.filed_world.specs.Files.{IsOf, filed_content};
-ghost use Rattle.repostore.specs.Files.{Files};
-ghost use Rattle.filed_world.specs.Creating.{new_files};
-ghost use Rattle.filed_world.specs.Reading.{AreFirst, HasRead, IsNextOf};
-ghost use Rattle.fsfs_folder.specs.Current.{current_of};
+ghost use Rattle.repostore.specs.{Creating.opening_files, Current.count_in, Files.Files};
+ghost use Rattle.fsfs_folder.specs.{Current.current_of, Identity.uuid_of};
+ghost use Rattle.filed_world.specs.{Files.{IsOf, filed_content}, Creating.new_files, Reading.{AreFirst, HasRead, IsNextOf}};
 ghost use Rattle.world.specs.Whole.{world_content};
 
 use crate::filed_world::FiledWorld;

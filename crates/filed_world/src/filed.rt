@@ -10,8 +10,7 @@ use world::WorldTxn;
 impl Filed for FiledWorld {
     ghost use Rattle.filed_trees.specs.StandsFor.{StandsFor};
     ghost use Rattle.filed_trees.proofs.States.{one_state};
-    ghost use Rattle.filed_world.specs.Files.{IsOf};
-    ghost use Rattle.filed_world.specs.Standing.{stand_for};
+    ghost use Rattle.filed_world.specs.{Files.IsOf, Standing.stand_for};
 
     ghost stands_for = { StandsFor };
 

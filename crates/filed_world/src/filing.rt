@@ -1,10 +1,8 @@
 //! The repository behind each change, with its files.
 ghost use Rattle.std.specs.Prelude.{◌≡◌, ◌+◌, ◌<◌, ◌++◌, ◌∷◌, [], Some, IfOk, length};
 ghost use Rattle.held.specs.Growing.{HasOneMore, HasSame};
-ghost use Rattle.repostore.specs.Current.{count_in};
-ghost use Rattle.repostore.specs.Files.{Files, with_locks, with_properties, with_revision};
-ghost use Rattle.filed_world.specs.Reading.{IsReadBack};
-ghost use Rattle.filed_world.specs.Files.{AreLocks, HasOneMoreList, HasOtherList, IsOf, filed_content};
+ghost use Rattle.repostore.specs.{Current.count_in, Files.{Files, with_locks, with_properties, with_revision}};
+ghost use Rattle.filed_world.specs.{Reading.IsReadBack, Files.{AreLocks, HasOneMoreList, HasOtherList, IsOf, filed_content}};
 
 use crate::filed_world::FiledWorld;
 use crate::written::{current_file, locks_file, properties_file};

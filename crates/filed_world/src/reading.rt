@@ -1,20 +1,12 @@
 //! A repository whose files are read, one revision after another.
 ghost use Rattle.std.specs.Prelude.{◌≡◌, ◌<◌, ◌≤◌, ◌++◌, ◌∷◌, [], ℕ, List, Option, Some, length, slice_get, IfOk, None, option_copied, IsSome};
-ghost use Rattle.std.specs.Result.{result_ok};
-ghost use Rattle.repo_api.specs.Opening.{new_repository};
-ghost use Rattle.repo_api.specs.Properties.{PropertyList};
-ghost use Rattle.world.specs.Whole.{world_content};
-ghost use Rattle.repostore.specs.Current.{count_in};
-ghost use Rattle.repostore.specs.Files.{Files};
-ghost use Rattle.repostore.specs.Reading.{IfFindsFaulty, with_one_more, with_read_locks};
+ghost use Rattle.std.specs.{Result.result_ok, FinMap.entries};
+ghost use Rattle.repo_api.specs.{Opening.new_repository, Properties.PropertyList};
+ghost use Rattle.world.specs.{Whole.world_content, Adding.MayComeNext};
+ghost use Rattle.repostore.specs.{Current.count_in, Files.Files, Reading.{IfFindsFaulty, with_one_more, with_read_locks}};
 ghost use Rattle.fsfs_folder.specs.Properties.{properties_of};
-ghost use Rattle.filed_trees.specs.StandsFor.{locks_in};
-ghost use Rattle.filed_world.specs.Files.{IsOf};
-ghost use Rattle.std.specs.FinMap.{entries};
-ghost use Rattle.world.specs.Adding.{MayComeNext};
-ghost use Rattle.filed_trees.specs.Pieces.{RevisionBytes};
-ghost use Rattle.filed_trees.specs.Readable.{Judges};
-ghost use Rattle.filed_world.specs.Histories.{HasHistory, IsHistory};
+ghost use Rattle.filed_trees.specs.{Pieces.RevisionBytes, Readable.Judges, StandsFor.locks_in};
+ghost use Rattle.filed_world.specs.{Files.IsOf, Histories.{HasHistory, IsHistory}};
 ghost use Rattle.filed_world.specs.Reading.{AreFirst, AreRead, HasRead, HasTaken, IsNew, IsNextOf, IsSaidNext, read_history};
 
 use crate::filed_world::FiledWorld;

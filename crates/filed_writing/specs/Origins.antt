@@ -1,17 +1,10 @@
 -- Which node each node of a revision is made from.
 use Rattle.std.specs.Prelude.{ℕ, zero, suc, List, [], ◌∷◌, ◌++◌, Option, Some, None}
 use Rattle.svnpath.specs.Paths.{PathValue}
-use Rattle.repo_api.specs.Histories.{Changed}
-use Rattle.repo_api.specs.declared.change.Action.{Action}
-use Rattle.repo_api.specs.declared.change.Action.TheVariants.{Add, Delete, Replace, Modify}
-use Rattle.repo_api.specs.declared.change.Change.{Change}
-use Rattle.repo_api.specs.declared.change.Source.{Source}
+use Rattle.repo_api.specs.{Histories.Changed, declared.change.Action.Action, declared.change.Action.TheVariants.{Add, Delete, Replace, Modify}}
+use Rattle.repo_api.specs.{declared.change.Change.Change, declared.change.Source.Source}
 use Rattle.revision_data.specs.Found.{found}
-use Rattle.noderevs.specs.Held.{node_at, root_at}
-use Rattle.noderevs.specs.Nodes.{kid_at}
-use Rattle.noderevs.specs.Views.{find_id}
-use Rattle.noderevs.specs.declared.node_rev.NodeId.{NodeId}
-use Rattle.noderevs.specs.declared.nodes.Nodes.{Nodes}
+use Rattle.noderevs.specs.{Held.{node_at, root_at}, Nodes.kid_at, Views.find_id, declared.node_rev.NodeId.NodeId, declared.nodes.Nodes.Nodes}
 
 -- the node that was copied; nothing was, where there is no source
 abbrev pub source_of : Nodes → Option Source → Option NodeId

@@ -1,10 +1,7 @@
 -- Whether some key of a list of entries passes a test.
 use Rattle.std.proofs.Common.{◌≡◌, Bool, true, false, cond, ◌||◌, List, [], ◌∷◌, Some, is_some, refl, sym, ap, ◌∙◌}
-use Rattle.std.specs.BTreeMap.{is_at}
-use Rattle.std.specs.List.{list_any}
-use Rattle.std.specs.Map.{keys_of}
-use Rattle.svnpath.specs.Paths.{PathValue, path_cmp}
-use Rattle.svnpath.specs.PathLaws.{at_is}
+use Rattle.std.specs.{BTreeMap.is_at, List.list_any, Map.keys_of}
+use Rattle.svnpath.specs.{PathLaws.at_is, Paths.{path_cmp, PathValue}}
 use Rattle.revision_data.specs.Found.{found}
 
 pub or_right : (a b : Bool) → b ≡ true → (a || b) ≡ true

@@ -1,16 +1,10 @@
 -- A copy as a loop over the entries of its source makes it.
-use Rattle.std.proofs.Common.{◌≡◌, Bool, true, false, ◌||◌, ◌&&◌, List, [], ◌∷◌, ◌++◌, length, drop, Option, Some, None, is_some, option_map, refl, sym, ap, ◌∙◌}
-use Rattle.std.proofs.lemmas.Bool.{false≢true}
-use Rattle.std.proofs.lemmas.List.{append-nil}
-use Rattle.std.specs.Prelude.{if◌then◌else◌}
-use Rattle.std.specs.Option.{option_or}
-use Rattle.std.specs.List.{list_any}
-use Rattle.std.specs.Map.{keys_of}
-use Rattle.svnpath.specs.Paths.{PathValue, same_path, is_at_or_under}
-use Rattle.svnpath.specs.PathLaws.{same_path_is, same_path_refl, same_path-append, under_is, under_append, rest_append}
-use Rattle.repo_api.specs.Edits.{with_open_mark, copy_of}
-use Rattle.repo_api.specs.Trees.{Tree}
-use Rattle.repo_api.specs.declared.entry.Entry.{Entry}
+use Rattle.std.proofs.Common.{◌≡◌, Bool, true, false, ◌||◌, ◌&&◌, List, [], ◌∷◌, ◌++◌, length, drop, Option, Some, None, is_some, option_map, refl, sym, ap}
+use Rattle.std.proofs.{Common.◌∙◌, lemmas.Bool.false≢true, lemmas.List.append-nil}
+use Rattle.std.specs.{Prelude.if◌then◌else◌, Option.option_or, List.list_any, Map.keys_of}
+use Rattle.svnpath.specs.PathLaws.{rest_append, same_path-append, same_path_is, same_path_refl, under_append, under_is}
+use Rattle.svnpath.specs.Paths.{is_at_or_under, PathValue, same_path}
+use Rattle.repo_api.specs.{Edits.{copy_of, with_open_mark}, Trees.Tree, declared.entry.Entry.Entry}
 use Rattle.revision_data.specs.Found.{found}
 use Rattle.flatrepo.specs.EntryChanges.{copied_entry, landed}
 use Rattle.flatrepo.proofs.Anys.{any_at, found_key}

@@ -1,12 +1,7 @@
 -- Whether some key of a map passes a test, by the entries that make it.
-use Rattle.std.proofs.Common.{◌≡◌, Bool, true, false, ◌||◌, List, [], ◌∷◌, is_some, refl, sym, ap, ◌∙◌}
-use Rattle.std.proofs.lemmas.Bool.{false≢true}
-use Rattle.std.specs.BTreeMap.{is_at}
-use Rattle.std.specs.List.{list_any}
-use Rattle.std.specs.Map.{keys_of}
-use Rattle.std.specs.FinMap.{FinMap, keys, from_entries, contains_key-keys}
-use Rattle.svnpath.specs.Paths.{PathValue, path_cmp}
-use Rattle.svnpath.specs.PathLaws.{at_is_same, same_path_refl}
+use Rattle.std.proofs.{Common.{◌≡◌, Bool, true, false, ◌||◌, List, [], ◌∷◌, is_some, refl, sym, ap, ◌∙◌}, lemmas.Bool.false≢true}
+use Rattle.std.specs.{BTreeMap.is_at, List.list_any, Map.keys_of, FinMap.{FinMap, keys, from_entries, contains_key-keys}}
+use Rattle.svnpath.specs.{PathLaws.{at_is_same, same_path_refl}, Paths.{path_cmp, PathValue}}
 use Rattle.flatrepo.proofs.Anys.{or_right, any_at, found_key}
 use Rattle.revision_data.proofs.Seen.{seen_at}
 

@@ -1,11 +1,8 @@
 -- A copy as the trees of maps have it.
 use Rattle.std.proofs.Common.{◌≡◌, Bool, true, false, [], ◌∷◌, ◌++◌, length, drop, Option, Some, None, option_map, refl, ap}
-use Rattle.std.specs.Prelude.{if◌then◌else◌}
-use Rattle.std.specs.Option.{option_or}
-use Rattle.svnpath.specs.Paths.{PathValue, is_at_or_under}
-use Rattle.repo_api.specs.Edits.{with_open_mark, touched_above, copy_of, copied, deleted}
-use Rattle.repo_api.specs.Trees.{Tree}
-use Rattle.repo_api.specs.declared.entry.Entry.{Entry}
+use Rattle.std.specs.{Prelude.if◌then◌else◌, Option.option_or}
+use Rattle.svnpath.specs.Paths.{is_at_or_under, PathValue}
+use Rattle.repo_api.specs.{Edits.{copied, copy_of, deleted, touched_above, with_open_mark}, Trees.Tree, declared.entry.Entry.Entry}
 use Rattle.flatrepo.specs.EntryChanges.{landed}
 
 copy_of_same : (s t : Tree) (from r : PathValue) → ((p : PathValue) → s p ≡ t p) → copy_of s from r ≡ copy_of t from r

@@ -1,13 +1,9 @@
 -- The edits of the entries, as those of the maps that they make.
 use Rattle.std.proofs.Common.{◌≡◌, List, Some, option_map, sym, ap, ◌∙◌}
-use Rattle.std.specs.Prelude.{if◌then◌else◌}
-use Rattle.std.specs.FinMap.{get, from_entries}
-use Rattle.svnpath.specs.Paths.{PathValue, path_cmp, same_path, is_at_or_under}
-use Rattle.repo_api.specs.Edits.{added, new_entry, touched, touched_above, revised}
-use Rattle.repo_api.specs.States.{TreeMap, tree_of}
-use Rattle.repo_api.specs.StateLaws.{get_path}
-use Rattle.repo_api.specs.declared.entry.Content.{Content}
-use Rattle.repo_api.specs.declared.entry.Entry.{Entry}
+use Rattle.std.specs.{Prelude.if◌then◌else◌, FinMap.{get, from_entries}}
+use Rattle.svnpath.specs.Paths.{is_at_or_under, path_cmp, PathValue, same_path}
+use Rattle.repo_api.specs.{Edits.{added, new_entry, revised, touched, touched_above}, StateLaws.get_path, States.{tree_of, TreeMap}}
+use Rattle.repo_api.specs.{declared.entry.Content.Content, declared.entry.Entry.Entry}
 use Rattle.revision_data.specs.Found.{found}
 use Rattle.revision_data.proofs.Seen.{seen_at}
 use Rattle.flatrepo.specs.EntryChanges.{part_at}

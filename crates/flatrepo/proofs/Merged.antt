@@ -1,14 +1,8 @@
 -- A merge as loops over paths make it.
-use Rattle.std.proofs.Common.{◌≡◌, ℕ, Bool, true, false, ◌||◌, Option, Some, None, is_some, refl, sym, ap, ◌∙◌}
-use Rattle.std.proofs.lemmas.Bool.{false≢true}
-use Rattle.std.specs.BTreeMap.{is_at}
-use Rattle.std.specs.Prelude.{if◌then◌else◌}
-use Rattle.std.specs.Option.{option_or}
-use Rattle.svnpath.specs.Paths.{PathValue, path_cmp, same_path}
-use Rattle.svnpath.specs.PathLaws.{at_is}
-use Rattle.repo_api.specs.Merge.{is_untouched, merged_entry}
-use Rattle.repo_api.specs.Trees.{Tree}
-use Rattle.repo_api.specs.declared.entry.Entry.{Entry}
+use Rattle.std.proofs.{Common.{◌≡◌, ℕ, Bool, true, false, ◌||◌, Option, Some, None, is_some, refl, sym, ap, ◌∙◌}, lemmas.Bool.false≢true}
+use Rattle.std.specs.{BTreeMap.is_at, Prelude.if◌then◌else◌, Option.option_or}
+use Rattle.svnpath.specs.{PathLaws.at_is, Paths.{path_cmp, PathValue, same_path}}
+use Rattle.repo_api.specs.{Merge.{is_untouched, merged_entry}, Trees.Tree, declared.entry.Entry.Entry}
 use Rattle.revision_data.proofs.Seen.{at_is_same_back}
 
 or_twice : (a : Bool) (l o : Option Entry) → option_or (if a then l else None) (option_or l o) ≡ option_or l o

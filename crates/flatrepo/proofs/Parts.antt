@@ -1,12 +1,8 @@
 -- An entry of a map that has a part changed in its place.
 use Rattle.std.proofs.Common.{◌≡◌, ℕ, cond, List, Option, Some, None, ap, ◌∙◌}
-use Rattle.std.specs.BTreeMap.{is_at}
-use Rattle.svnpath.specs.Paths.{PathValue, path_cmp}
-use Rattle.std.specs.Option.{unwrap_or}
-use Rattle.repo_api.specs.Properties.{PropertyList}
-use Rattle.repo_api.specs.RevisionProperties.{property_changed}
-use Rattle.repo_api.specs.Edits.{with_open_mark}
-use Rattle.repo_api.specs.declared.entry.Entry.{Entry}
+use Rattle.std.specs.{BTreeMap.is_at, Option.unwrap_or}
+use Rattle.svnpath.specs.Paths.{path_cmp, PathValue}
+use Rattle.repo_api.specs.{Edits.with_open_mark, Properties.PropertyList, RevisionProperties.property_changed, declared.entry.Entry.Entry}
 use Rattle.revision_data.specs.Found.{found}
 use Rattle.revision_data.proofs.Written.{written, missing}
 use Rattle.flatrepo.specs.EntryChanges.{part_at, with_properties, with_change}

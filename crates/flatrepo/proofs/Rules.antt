@@ -1,11 +1,8 @@
 -- The rules at one path, in the forms that the code gives and those of the definitions.
 use Rattle.std.proofs.Common.{◌≡◌, Bool, true, false, Option, Some, None, option_map, refl, ap, subst}
 use Rattle.std.specs.Prelude.{if◌then◌else◌}
-use Rattle.svnpath.specs.Paths.{PathValue, same_path, is_at_or_under}
-use Rattle.svnpath.specs.PathLaws.{same_path_is}
-use Rattle.repo_api.specs.Edits.{added, new_entry, touched, with_open_mark, touched_above, revised}
-use Rattle.repo_api.specs.Trees.{Tree}
-use Rattle.repo_api.specs.declared.entry.Content.{Content}
+use Rattle.svnpath.specs.{PathLaws.same_path_is, Paths.{is_at_or_under, PathValue, same_path}}
+use Rattle.repo_api.specs.{Edits.{added, new_entry, revised, touched, touched_above, with_open_mark}, Trees.Tree, declared.entry.Content.Content}
 use Rattle.repo_api.specs.declared.entry.Entry.{Entry}
 use Rattle.flatrepo.specs.EntryChanges.{part_at}
 

@@ -1,11 +1,7 @@
 -- What is held, as the state of a repository.
-use Rattle.std.specs.Prelude.{List, map}
-use Rattle.std.specs.FinMap.{empty}
-use Rattle.std.specs.declared.sync.Arc.{Arc}
-use Rattle.repo_api.specs.Properties.{PropertyList}
-use Rattle.repo_api.specs.States.{Revision, RepoState}
-use Rattle.flatrepo.specs.declared.flat_content.FlatRevision.{FlatRevision}
-use Rattle.flatrepo.specs.declared.flat_content.FlatContent.{FlatContent}
+use Rattle.std.specs.{Prelude.{List, map}, FinMap.empty, declared.sync.Arc.Arc}
+use Rattle.repo_api.specs.{Properties.PropertyList, States.{RepoState, Revision}}
+use Rattle.flatrepo.specs.{declared.flat_content.FlatRevision.FlatRevision, declared.flat_content.FlatContent.FlatContent}
 
 abbrev pub fixed_of : FlatRevision → Revision
 fixed_of r = record { tree = r.tree; changes = r.changes }

@@ -1,10 +1,7 @@
 -- The steps of an edit in the entries of a tree.
 use Rattle.std.specs.Prelude.{ℕ, List, length, drop, option_map, Option, None, Bool, true, false, if◌then◌else◌}
-use Rattle.svnpath.specs.Paths.{PathValue, same_path, is_at_or_under}
-use Rattle.repo_api.specs.Edits.{with_open_mark, copy_of}
-use Rattle.repo_api.specs.Properties.{PropertyList}
-use Rattle.repo_api.specs.RevisionProperties.{property_changed}
-use Rattle.repo_api.specs.Trees.{Tree}
+use Rattle.svnpath.specs.Paths.{is_at_or_under, PathValue, same_path}
+use Rattle.repo_api.specs.{Edits.{copy_of, with_open_mark}, Properties.PropertyList, RevisionProperties.property_changed, Trees.Tree}
 use Rattle.repo_api.specs.declared.entry.Entry.{Entry}
 
 -- the entry at q once the one at p has a part changed

@@ -1,11 +1,7 @@
 -- A merge of maps, path by path.
-use Rattle.std.specs.Prelude.{ℕ, Bool, None, is_some, if◌then◌else◌}
-use Rattle.std.specs.FinMap.{get}
-use Rattle.std.specs.Option.{option_or}
+use Rattle.std.specs.{Prelude.{ℕ, Bool, None, is_some, if◌then◌else◌}, FinMap.get, Option.option_or}
 use Rattle.svnpath.specs.Paths.{PathValue}
-use Rattle.repo_api.specs.Merge.{is_in_conflict, merged}
-use Rattle.repo_api.specs.States.{TreeMap, tree_of}
-use Rattle.repo_api.specs.Trees.{Tree}
+use Rattle.repo_api.specs.{Merge.{is_in_conflict, merged}, States.{tree_of, TreeMap}, Trees.Tree}
 
 -- whether p of the transaction's map is in conflict
 abbrev pub conflict_at : TreeMap → TreeMap → TreeMap → PathValue → Bool

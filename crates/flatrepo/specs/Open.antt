@@ -1,8 +1,7 @@
 -- A transaction by its parts.
 use Rattle.std.specs.Prelude.{ℕ}
-use Rattle.repo_api.specs.States.{TreeMap, ChangeMap, TxnState}
-use Rattle.flatrepo.specs.Contents.{revisions_of}
-use Rattle.flatrepo.specs.declared.flat_content.FlatContent.{FlatContent}
+use Rattle.repo_api.specs.States.{ChangeMap, TreeMap, TxnState}
+use Rattle.flatrepo.specs.{Contents.revisions_of, declared.flat_content.FlatContent.FlatContent}
 
 -- with this base, tree and changes, and what it was last shown
 abbrev pub txn_of : FlatContent → ℕ → TreeMap → ChangeMap → TxnState

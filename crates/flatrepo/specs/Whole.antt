@@ -1,9 +1,6 @@
 -- What the values of this crate stand for.
 use Rattle.repo_api.specs.States.{LockMap, RepoState, TxnState}
-use Rattle.flatrepo.specs.Contents.{flat_state}
-use Rattle.flatrepo.specs.declared.flat_content.FlatContent.{FlatContent}
-use Rattle.flatrepo.specs.Open.{txn_of}
-use Rattle.flatrepo.specs.declared.flat_repo.FlatRepo.{FlatRepo}
+use Rattle.flatrepo.specs.{Contents.flat_state, declared.flat_content.FlatContent.FlatContent, Open.txn_of, declared.flat_repo.FlatRepo.FlatRepo}
 use Rattle.flatrepo.specs.declared.flat_txn.FlatTxn.{FlatTxn}
 
 abbrev pub with_locks : RepoState → LockMap → RepoState

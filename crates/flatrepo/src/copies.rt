@@ -1,6 +1,5 @@
 //! What a delete takes out of the entries of a tree, and what a copy puts there.
-ghost use Rattle.std.specs.Prelude.{◌≡◌, IfOk, OnOk, if◌then◌else◌, Some};
-ghost use Rattle.std.specs.Option.{option_or};
+ghost use Rattle.std.specs.{Prelude.{◌≡◌, IfOk, OnOk, if◌then◌else◌, Some}, Option.option_or};
 ghost use Rattle.svnpath.specs.Paths.{PathValue, same_path};
 ghost use Rattle.repo_api.specs.Edits.{deleted};
 ghost use Rattle.revision_data.specs.Found.{found};

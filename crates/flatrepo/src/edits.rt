@@ -1,9 +1,7 @@
 //! The edits of a transaction's tree. An edit that lacks memory changes nothing.
-ghost use Rattle.std.specs.Prelude.{◌≡◌, IfOk, OnOk, OnErr};
-ghost use Rattle.std.specs.FinMap.{get};
+ghost use Rattle.std.specs.{Prelude.{◌≡◌, IfOk, OnOk, OnErr}, FinMap.get};
 ghost use Rattle.svnpath.specs.Paths.{PathValue};
-ghost use Rattle.repo_api.specs.Edits.{copied, edited};
-ghost use Rattle.repo_api.specs.States.{tree_of, trees_in};
+ghost use Rattle.repo_api.specs.{Edits.{copied, edited}, States.{tree_of, trees_in}};
 ghost use Rattle.flatrepo.specs.Contents.{revisions_of};
 
 use crate::flat_content::FlatContent;

@@ -1,8 +1,7 @@
 //! The entries of a tree: new ones, and changes in their places.
 ghost use Rattle.std.specs.Prelude.{◌≡◌, ◌+◌, ◌&&◌, nat_lt, length, IfOk};
-ghost use Rattle.svnpath.specs.Paths.{PathValue, is_at_or_under};
-ghost use Rattle.repo_api.specs.Edits.{new_entry, with_text};
-ghost use Rattle.repo_api.specs.Opening.{opening_root};
+ghost use Rattle.svnpath.specs.Paths.{is_at_or_under, PathValue};
+ghost use Rattle.repo_api.specs.{Edits.{new_entry, with_text}, Opening.opening_root};
 ghost use Rattle.revision_data.specs.Found.{found};
 ghost use Rattle.flatrepo.specs.EntryChanges.{part_at, with_properties};
 

@@ -1,6 +1,5 @@
 //! What a repository holds.
-ghost use Rattle.std.specs.Prelude.{◌≡◌};
-ghost use Rattle.std.specs.FinMap.{empty};
+ghost use Rattle.std.specs.{Prelude.◌≡◌, FinMap.empty};
 
 use crate::flat_tree::FlatTree;
 use repo_api::Properties;

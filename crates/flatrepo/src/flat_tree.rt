@@ -1,18 +1,10 @@
 //! A tree as one ordered map.
-ghost use Rattle.std.specs.Prelude.{◌≡◌, IfOk, OnOk, OnErr, map, option_copied};
-ghost use Rattle.std.specs.FinMap.{get, empty, keys};
-ghost use Rattle.std.specs.List.{list_any};
-ghost use Rattle.std.specs.Map.Iter.{deref};
+ghost use Rattle.std.specs.{Prelude.{◌≡◌, IfOk, OnOk, OnErr, map, option_copied}, FinMap.{get, empty, keys}, List.list_any, Map.Iter.deref};
 ghost use Rattle.svnpath.specs.Paths.{PathValue};
-ghost use Rattle.repo_api.specs.Edits.{added, touched_above, revised, with_text, deleted, copied, begun};
-ghost use Rattle.repo_api.specs.Kinds.{has_deeper};
-ghost use Rattle.repo_api.specs.Readings.{names_in};
-ghost use Rattle.repo_api.specs.MergedMaps.{has_conflict, merged_map};
-ghost use Rattle.repo_api.specs.Opening.{opening_tree};
-ghost use Rattle.repo_api.specs.States.{tree_of};
+ghost use Rattle.repo_api.specs.{Edits.{added, begun, copied, deleted, revised, touched_above, with_text}, Kinds.has_deeper};
+ghost use Rattle.repo_api.specs.{MergedMaps.{has_conflict, merged_map}, Opening.opening_tree, Readings.names_in, States.tree_of};
 ghost use Rattle.revision_data.specs.Found.{found};
-ghost use Rattle.flatrepo.specs.EntryChanges.{with_change};
-ghost use Rattle.flatrepo.specs.Merging.{conflict_at, merged_at, put_over};
+ghost use Rattle.flatrepo.specs.{EntryChanges.with_change, Merging.{conflict_at, merged_at, put_over}};
 
 use crate::copies::{cut_subtree, put_copies};
 use crate::entries::{is_deeper, new_entry, opening_root, put_properties, put_text};
@@ -36,8 +28,7 @@ pub(crate) struct FlatTree {
 }
 
 impl Model for FlatTree {
-    ghost use Rattle.std.specs.Coded.{codes};
-    ghost use Rattle.std.specs.FinMap.{from_entries, code as map_code};
+    ghost use Rattle.std.specs.{Coded.codes, FinMap.{from_entries, code as map_code}};
     ghost use Rattle.repo_api.specs.States.{TreeMap};
 
     ghost Value = { TreeMap };
@@ -182,17 +173,14 @@ impl FlatTree {
 
     /// Says whether a path of the base or of this tree, the transaction's, is in conflict.
     pub(crate) fn has_conflict(&self, base: &FlatTree, youngest: &FlatTree) -> bool
-        ensures { result ≡ has_conflict base.now self.now
-            youngest.now }
+        ensures { result ≡ has_conflict base.now self.now youngest.now }
     {
         self.conflicts_among(base, base, youngest) || self.conflicts_among(self, base, youngest)
     }
 
     /// Says whether one of the paths is in conflict.
     fn conflicts_among(&self, paths: &FlatTree, base: &FlatTree, youngest: &FlatTree) -> bool
-        ensures { result ≡ list_any
-            (conflict_at base.now self.now youngest.now)
-            (keys paths.now) }
+        ensures { result ≡ list_any (conflict_at base.now self.now youngest.now) (keys paths.now) }
     {
         paths
             .entries
@@ -202,8 +190,7 @@ impl FlatTree {
 
     /// Says whether the path is in conflict.
     fn conflicts_at(&self, path: &Path, base: &FlatTree, youngest: &FlatTree) -> bool
-        ensures { result ≡ conflict_at base.now self.now
-            youngest.now path.now }
+        ensures { result ≡ conflict_at base.now self.now youngest.now path.now }
     {
         is_in_conflict(base.get(path), self.get(path), youngest.get(path))
     }
@@ -216,9 +203,7 @@ impl FlatTree {
         base: &FlatTree,
         youngest: &FlatTree,
     ) -> Result<FlatTree, AllocError>
-        ensures { IfOk result (λ t. t
-            ≡ merged_map revision base.now self.now
-            youngest.now) }
+        ensures { IfOk result (λ t. t ≡ merged_map revision base.now self.now youngest.now) }
     {
         let mut entries = BTreeMap::new(alloc);
         self.put_merged(&mut entries, self, revision, base, youngest)?;

@@ -1,6 +1,6 @@
 //! What is seen of an entry that there may be none of.
 ghost use Rattle.std.specs.Prelude.{◌≡◌, option_copied};
-ghost use Rattle.repo_api.specs.Kinds.{kind_of, created_of, node_properties, text_of};
+ghost use Rattle.repo_api.specs.{Kinds.{created_of, kind_of, node_properties}, Trees.text_of};
 
 use repo_api::{Content, Entry, FileText, Mark, NodeKind, Properties};
 

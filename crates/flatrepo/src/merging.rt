@@ -1,7 +1,7 @@
 //! A commit, path by path: what conflicts, and the entry that comes out.
 ghost use Rattle.std.specs.Prelude.{◌≡◌, IfOk, option_copied};
-ghost use Rattle.repo_api.specs.Merge.{is_changed, is_one_directory, is_in_conflict, is_untouched, has_open_last, closed, sealed, changed_beneath, merged_entry};
-ghost use Rattle.repo_api.specs.declared.entry.Mark.TheVariants.{Made};
+ghost use Rattle.repo_api.specs.Merge.{changed_beneath, closed, has_open_last, is_changed, is_in_conflict, is_one_directory, is_untouched, merged_entry};
+ghost use Rattle.repo_api.specs.Merge.{sealed};
 
 use crate::entries::with_marks;
 use repo_api::{Entry, Mark};
@@ -110,7 +110,7 @@ fn with_joined_last(
 
 /// Gives the entry with its `last` made by the revision at the path.
 fn with_last(revision: u32, path: &Path, entry: &Entry) -> Result<Entry, AllocError>
-    ensures { IfOk result (λ e. e ≡ record entry.now { last = Made revision path.now }) }
+    ensures { IfOk result (λ e. e ≡ record entry.now { last = Mark.Made revision path.now }) }
 {
     let own = entry.own.clone()?;
     with_marks(entry, own, Mark::Made(revision, path.clone()?))

@@ -1,8 +1,5 @@
 //! The names of what stands straight beneath a path.
-ghost use Rattle.std.specs.Prelude.{◌≡◌, IfOk, map, option_copied};
-ghost use Rattle.std.specs.List.Sorted.{IsStrictlySortedBy};
-ghost use Rattle.std.specs.Map.{keys_of};
-ghost use Rattle.std.specs.Map.Iter.{deref};
+ghost use Rattle.std.specs.{Prelude.{◌≡◌, IfOk, map, option_copied}, List.Sorted.IsStrictlySortedBy, Map.keys_of, Map.Iter.deref};
 ghost use Rattle.svnpath.specs.Paths.{path_cmp};
 ghost use Rattle.repo_api.specs.Readings.{name_in, names_among};
 

@@ -1,6 +1,5 @@
 //! Maps from paths.
-ghost use Rattle.std.specs.Prelude.{◌≡◌, OnOk, if◌then◌else◌};
-ghost use Rattle.std.specs.Option.{option_or};
+ghost use Rattle.std.specs.{Prelude.{◌≡◌, OnOk, if◌then◌else◌}, Option.option_or};
 ghost use Rattle.svnpath.specs.Paths.{PathValue, same_path};
 ghost use Rattle.revision_data.specs.Found.{found};
 

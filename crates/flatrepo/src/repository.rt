@@ -1,24 +1,12 @@
 //! The repository and its transactions.
-ghost use Rattle.std.specs.Prelude.{◌≡◌, ◌≤◌, ◌<◌, ◌++◌, ◌∷◌, [], List, ℕ, length, IfOk, OnOk, OnErr, Some, None};
-ghost use Rattle.std.specs.FinMap.{get};
-ghost use Rattle.dates.specs.Dates.{IsDateText};
-ghost use Rattle.dates.specs.declared.TheConstants.{LAST_MOMENT};
+ghost use Rattle.std.specs.{Prelude.{◌≡◌, ◌≤◌, ◌<◌, ◌++◌, ◌∷◌, [], List, ℕ, length, IfOk, OnOk, OnErr, Some, None}, FinMap.get};
+ghost use Rattle.dates.specs.{Dates.IsDateText, declared.TheConstants.LAST_MOMENT};
 ghost use Rattle.svnpath.specs.Paths.{PathValue};
-ghost use Rattle.repo_api.specs.Changes.{changes_after};
-ghost use Rattle.repo_api.specs.declared.limits.TheConstants.{REVISION_LIMIT};
-ghost use Rattle.repo_api.specs.Commits.{commit_refusal, committed, revision_properties};
-ghost use Rattle.repo_api.specs.Accepted.{IfRefused, IsOfMemory};
-ghost use Rattle.repo_api.specs.Kinds.{kind_at, created_at};
-ghost use Rattle.repo_api.specs.Locking.{check_refusal, with_lock};
-ghost use Rattle.repo_api.specs.RevisionProperties.{property_refusal, with_changed_property};
-ghost use Rattle.repo_api.specs.Edits.{edited};
-ghost use Rattle.repo_api.specs.Opening.{new_repository};
-ghost use Rattle.repo_api.specs.MergedMaps.{has_conflict, merged_map};
-ghost use Rattle.repo_api.specs.declared.ask.CommitAsk.{CommitAsk};
-ghost use Rattle.repo_api.specs.States.{IsBeginning, IsEdited, tree_of, tree_at, trees_in, changes_of, youngest};
-ghost use Rattle.repo_api.specs.RightEdits.{IsRightEdit};
-ghost use Rattle.flatrepo.specs.Contents.{fixed_of, flat_state, revisions_of, properties_of};
-ghost use Rattle.flatrepo.specs.Whole.{state_of, repo_content, txn_state_of};
+ghost use Rattle.repo_api.specs.{Accepted.{IfRefused, IsOfMemory}, Changes.changes_after, Commits.{commit_refusal, committed, revision_properties}};
+ghost use Rattle.repo_api.specs.{Edits.edited, Kinds.{created_at, kind_at}, Locking.{check_refusal, with_lock}, MergedMaps.{has_conflict, merged_map}};
+ghost use Rattle.repo_api.specs.{Opening.new_repository, RevisionProperties.{property_refusal, with_changed_property}, RightEdits.IsRightEdit};
+ghost use Rattle.repo_api.specs.States.{changes_of, IsBeginning, IsEdited, tree_at, tree_of, trees_in, youngest};
+ghost use Rattle.flatrepo.specs.{Contents.{fixed_of, flat_state, revisions_of, properties_of}, Whole.{state_of, repo_content, txn_state_of}};
 
 use crate::edits::edit_tree;
 use crate::flat_content::{FlatContent, FlatRevision};

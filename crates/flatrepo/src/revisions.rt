@@ -1,11 +1,7 @@
 //! What is seen of what a repository holds, and what is held after a change.
-ghost use Rattle.std.specs.Prelude.{◌≡◌, ◌<◌, ◌∷◌, [], ◌++◌, ◌-◌, length, IfOk, slice_get, slice_set, option_copied};
-ghost use Rattle.std.specs.FinMap.{empty};
-ghost use Rattle.repo_api.specs.Histories.{changes_in};
-ghost use Rattle.repo_api.specs.Kinds.{or_empty};
-ghost use Rattle.repo_api.specs.States.{tree_at};
-ghost use Rattle.repo_api.specs.RevisionProperties.{property_changed, with_changed_property};
-ghost use Rattle.repo_api.specs.Opening.{new_repository, opening_tree};
+ghost use Rattle.std.specs.{Prelude.{◌≡◌, ◌<◌, ◌∷◌, [], ◌++◌, ◌-◌, length, IfOk, slice_get, slice_set, option_copied}, FinMap.empty};
+ghost use Rattle.repo_api.specs.{Histories.changes_in, Kinds.or_empty, Opening.{new_repository, opening_tree}};
+ghost use Rattle.repo_api.specs.{RevisionProperties.{property_changed, with_changed_property}, States.tree_at};
 ghost use Rattle.flatrepo.specs.Contents.{fixed_of, values, revisions_of, properties_of, flat_state};
 
 use crate::flat_content::{FlatContent, FlatRevision};

@@ -4,7 +4,7 @@ use Rattle.repo_api.specs.States.{RepoState}
 use Rattle.store_files.specs.Folders.{Folder}
 use Rattle.access.specs.Points.{Point}
 use Rattle.machine.specs.Settings.{Settings}
-use Rattle.hub_runs.specs.State.{HubState, hub_at}
+use Rattle.hub_runs.specs.State.{hub_at, HubState}
 use Rattle.store_access.specs.Keeping.{HasRepository, StandsFor}
 use Rattle.filed_trees.specs.StandsFor as files
 use Rattle.filed_world.specs.Files.{IsOf, filed_content}

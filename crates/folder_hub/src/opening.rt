@@ -1,10 +1,8 @@
 //! A hub over a repository that is opened from its files.
 ghost use Rattle.std.specs.Prelude.{◌≡◌, ◌⊎◌, IfOk, IfErr, false};
 ghost use Rattle.repo_api.specs.States.{RepoState};
-ghost use Rattle.store_files.specs.Folders.{Folder, IsSame};
-ghost use Rattle.store_files.specs.Moments.{HasRisen};
-ghost use Rattle.repostore.specs.Reading.{IsFaulty, IfFaulty};
-ghost use Rattle.repostore.specs.Saving.{OnlyReads};
+ghost use Rattle.store_files.specs.{Folders.{Folder, IsSame}, Moments.HasRisen};
+ghost use Rattle.repostore.specs.{Reading.{IfFaulty, IsFaulty}, Saving.OnlyReads};
 ghost use Rattle.store_access.specs.Keeping.{HasRepository};
 ghost use Rattle.filed_world.specs.Files.{IsOf, filed_content};
 ghost use Rattle.filed_opening.specs.Faults.{folder_faults};

@@ -1,6 +1,5 @@
 -- The bytes of a dump.
-use Rattle.std.specs.Prelude.{ℕ, List, [], ◌∷◌, ◌++◌, length, codes}
-use Rattle.std.specs.List.{flat_map}
+use Rattle.std.specs.{Prelude.{ℕ, List, [], ◌∷◌, ◌++◌, length, codes}, List.flat_map}
 use Rattle.fsfs_lines.specs.Numerals.{numeral}
 use Rattle.fsfs_dumps.specs.declared.pair.DumpPair.{DumpPair}
 

@@ -1,11 +1,8 @@
 -- Reading a dump, from left to right.
-use Rattle.std.specs.Prelude.{ℕ, zero, suc, ◌+◌, ◌-◌, ◌^◌, ◌==◌, nat_le, List, [], ◌∷◌, length, take, drop, slice_index, codes, Option, Some, None, Result, Ok, Err, if◌then◌else◌}
-use Rattle.std.specs.Cmp.Lexicographic.{pointwise}
-use Rattle.fsfs_lines.specs.declared.fault.FileFault.{FileFault}
-use Rattle.fsfs_lines.specs.declared.fault.FileFault.TheVariants.{Truncated, BadLine}
-use Rattle.fsfs_lines.specs.Reading.{◌>>=◌, or_bad}
-use Rattle.fsfs_lines.specs.Splits.{split_once, line_at}
-use Rattle.fsfs_lines.specs.Numerals.{decimal_of}
+use Rattle.std.specs.Prelude.{ℕ, zero, suc, ◌+◌, ◌-◌, ◌^◌, ◌==◌, nat_le, List, [], ◌∷◌, length, take, drop, slice_index, codes, Option, Some, None, Result, Ok}
+use Rattle.std.specs.{Prelude.{Err, if◌then◌else◌}, Cmp.Lexicographic.pointwise}
+use Rattle.fsfs_lines.specs.{declared.fault.FileFault.FileFault, declared.fault.FileFault.TheVariants.{Truncated, BadLine}, Numerals.decimal_of}
+use Rattle.fsfs_lines.specs.{Reading.{or_bad, ◌>>=◌}, Splits.{line_at, split_once}}
 use Rattle.fsfs_dumps.specs.declared.pair.DumpPair.{DumpPair}
 
 -- the number behind a letter and a space

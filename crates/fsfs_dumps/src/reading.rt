@@ -1,9 +1,7 @@
 //! Reading a dump.
 ghost use Rattle.std.specs.Prelude.{◌≡◌, List, Ok, IfOk};
-ghost use Rattle.fsfs_lines.specs.Reading.{Gives, Answers};
-ghost use Rattle.fsfs_dumps.specs.Dumps.{dump};
-ghost use Rattle.fsfs_dumps.specs.Reading.{length_of, text_of, sized_behind, pair_behind, dump_of};
-ghost use Rattle.fsfs_dumps.specs.declared.pair.DumpPair.{DumpPair};
+ghost use Rattle.fsfs_lines.specs.Reading.{Answers, Gives};
+ghost use Rattle.fsfs_dumps.specs.{Dumps.dump, Reading.{length_of, text_of, sized_behind, pair_behind, dump_of}, declared.pair.DumpPair.DumpPair};
 
 use crate::pair::DumpPair;
 use byte_string::ByteString;

@@ -1,18 +1,12 @@
 -- The file `current` that was written is read again.
-use Rattle.std.proofs.Common.{◌≡◌, ℕ, ◌+◌, ◌-◌, ◌*◌, ◌^◌, ◌<◌, ◌≤◌, Bool, true, false, cond, eqb, leb, List, [], ◌∷◌, ◌++◌, length, map, Option, Some, None, Result, Ok, refl, sym, ap, ◌∙◌, append_assoc, arith, lit≤}
-use Rattle.std.specs.Int.Digits.{digits_of}
-use Rattle.std.proofs.lemmas.Bool.{le-leb}
-use Rattle.std.proofs.lemmas.List.{length-map}
+use Rattle.std.proofs.Common.{◌≡◌, ℕ, ◌+◌, ◌-◌, ◌*◌, ◌^◌, ◌<◌, ◌≤◌, Bool, true, false, cond, eqb, leb, List, [], ◌∷◌, ◌++◌, length, map, Option, Some, None}
+use Rattle.std.proofs.{Common.{Result, Ok, refl, sym, ap, ◌∙◌, append_assoc, arith, lit≤}, lemmas.Bool.le-leb, lemmas.List.length-map}
 use Rattle.std.proofs.lemmas.Int.Digits.{length-digits_of-le}
-use Rattle.fsfs_lines.specs.declared.fault.FileFault.{FileFault}
-use Rattle.fsfs_lines.specs.Reading.{◌>>=◌, or_bad}
-use Rattle.fsfs_lines.specs.Splits.{line_of, is_free}
-use Rattle.fsfs_lines.specs.Numerals.{glyph, numeral, number_of}
-use Rattle.fsfs_lines.proofs.Splits.{split_again}
-use Rattle.fsfs_lines.proofs.Numbers.{number_again, numeral_free}
+use Rattle.std.specs.Int.Digits.{digits_of}
+use Rattle.fsfs_lines.specs.{declared.fault.FileFault.FileFault, Reading.{or_bad, ◌>>=◌}, Splits.{is_free, line_of}, Numerals.{glyph, numeral, number_of}}
+use Rattle.fsfs_lines.proofs.{Splits.split_again, Numbers.{number_again, numeral_free}}
 use Rattle.fsfs_ids.proofs.Again.{free-join, decimal_free}
-use Rattle.fsfs_folder.specs.declared.current.Current.{Current}
-use Rattle.fsfs_folder.specs.Current.{CurrentFits, current_bytes, next_of, current_line, only_line, line_alone, current_of}
+use Rattle.fsfs_folder.specs.{declared.current.Current.Current, Current.{CurrentFits, current_bytes, next_of, current_line, only_line, line_alone, current_of}}
 
 numeral_length : (n : ℕ) → n < 36 ^ 24 → length (numeral 36 n) ≤ 24
 unfolding numeral

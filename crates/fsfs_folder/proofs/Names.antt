@@ -1,7 +1,6 @@
 -- Lines that name no repository.
 use Rattle.std.proofs.Common.{◌≡◌, Bool, true, false, cond, eqb, List, length, Option, Some, None, refl, ap, ◌∙◌}
-use Rattle.std.specs.Prelude.{ℕ, option_map}
-use Rattle.std.specs.Int.{from_be_bytes, w128}
+use Rattle.std.specs.{Prelude.{ℕ, option_map}, Int.{from_be_bytes, w128}}
 use Rattle.uuid.specs.Text.{parsed}
 use Rattle.fsfs_folder.specs.Identity.{uuid_line}
 

@@ -1,11 +1,8 @@
 -- The file `current`: the youngest revision, and the ids that come next.
 use Rattle.std.specs.Prelude.{◌<◌, ◌≤◌, ℕ, ◌+◌, ◌-◌, ◌*◌, ◌^◌, nat_le, List, [], ◌∷◌, ◌++◌, length, Option, Some, None, Result, Ok, Err, if◌then◌else◌}
-use Rattle.fsfs_lines.specs.declared.fault.FileFault.{FileFault}
-use Rattle.fsfs_lines.specs.declared.fault.FileFault.TheVariants.{BadLine}
+use Rattle.fsfs_lines.specs.{declared.fault.FileFault.FileFault, declared.fault.FileFault.TheVariants.BadLine, Numerals.{number_of, numeral}, Reading.or_bad}
+use Rattle.fsfs_lines.specs.Splits.{line_at, split_once}
 use Rattle.fsfs_lines.specs.Reading as reading
-use Rattle.fsfs_lines.specs.Reading.{or_bad}
-use Rattle.fsfs_lines.specs.Splits.{split_once, line_at}
-use Rattle.fsfs_lines.specs.Numerals.{numeral, number_of}
 use Rattle.fsfs_ids.specs.Maybe.{◌>>=◌}
 use Rattle.fsfs_folder.specs.declared.current.Current.{Current}
 

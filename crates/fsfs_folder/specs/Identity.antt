@@ -1,9 +1,7 @@
 -- The files `format`, `fs-type` and `uuid`.
-use Rattle.std.specs.Prelude.{ℕ, ◌==◌, List, [], ◌∷◌, ◌++◌, length, Option, None, option_map, Result, if◌then◌else◌}
-use Rattle.std.specs.Int.{to_be_bytes, from_be_bytes, w128}
+use Rattle.std.specs.{Prelude.{ℕ, ◌==◌, List, [], ◌∷◌, ◌++◌, length, Option, None, option_map, Result, if◌then◌else◌}, Int.{to_be_bytes, from_be_bytes, w128}}
 use Rattle.uuid.specs.Text.{hyphenated_text, lower, parsed}
-use Rattle.fsfs_lines.specs.declared.fault.FileFault.{FileFault}
-use Rattle.fsfs_lines.specs.Reading.{◌>>=◌, or_bad}
+use Rattle.fsfs_lines.specs.{declared.fault.FileFault.FileFault, Reading.{or_bad, ◌>>=◌}}
 use Rattle.fsfs_folder.specs.Current.{line_alone}
 
 -- the text of a repository's 128 bits: `8-4-4-4-12` lower-case hexadecimal digits, and a line feed

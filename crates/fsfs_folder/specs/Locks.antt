@@ -1,16 +1,9 @@
 -- The file of locks.
 use Rattle.std.specs.Prelude.{ℕ, zero, suc, List, [], ◌∷◌, ◌++◌, map, codes, Option, Some, None, Result, Ok, Err}
-use Rattle.svnpath.specs.Paths.{PathValue}
-use Rattle.svnpath.specs.Texts.{path_text, parsed}
-use Rattle.svnpath.specs.declared.fault.PathFault.{PathFault}
-use Rattle.repo_api.specs.declared.limits.TheConstants.{LOCK_LIMIT}
-use Rattle.repo_api.specs.declared.lock.Lock.{Lock}
-use Rattle.repo_api.specs.Properties.{PropertyList}
-use Rattle.fsfs_lines.specs.declared.fault.FileFault.{FileFault}
-use Rattle.fsfs_lines.specs.declared.fault.FileFault.TheVariants.{BadLine}
-use Rattle.fsfs_lines.specs.Reading.{◌>>=◌, or_bad}
-use Rattle.fsfs_dumps.specs.declared.pair.DumpPair.{DumpPair}
-use Rattle.fsfs_dumps.specs.Dumps.{dump}
+use Rattle.svnpath.specs.{Paths.PathValue, Texts.{parsed, path_text}, declared.fault.PathFault.PathFault}
+use Rattle.repo_api.specs.{declared.limits.TheConstants.LOCK_LIMIT, declared.lock.Lock.Lock, Properties.PropertyList}
+use Rattle.fsfs_lines.specs.{declared.fault.FileFault.FileFault, declared.fault.FileFault.TheVariants.BadLine, Reading.{or_bad, ◌>>=◌}}
+use Rattle.fsfs_dumps.specs.{declared.pair.DumpPair.DumpPair, Dumps.dump}
 use Rattle.fsfs_folder.specs.Rows.{value_at, rows_of}
 
 abbrev pub field_pair : List ℕ → List ℕ → DumpPair

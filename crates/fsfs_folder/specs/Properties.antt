@@ -1,14 +1,8 @@
 -- The files of properties of revisions.
-use Rattle.std.specs.Prelude.{ℕ, Bool, ◌&&◌, nat_le, List, length, map, Result, Ok, Err, if◌then◌else◌}
-use Rattle.std.specs.List.{list_all}
-use Rattle.repo_api.specs.declared.limits.TheConstants.{TEXT_LIMIT}
-use Rattle.repo_api.specs.Judging.{is_property_name}
-use Rattle.repo_api.specs.Properties.{PropertyList}
-use Rattle.fsfs_lines.specs.declared.fault.FileFault.{FileFault}
-use Rattle.fsfs_lines.specs.declared.fault.FileFault.TheVariants.{BadLine}
-use Rattle.fsfs_lines.specs.Reading.{◌>>=◌}
-use Rattle.fsfs_dumps.specs.declared.pair.DumpPair.{DumpPair}
-use Rattle.fsfs_dumps.specs.Dumps.{dump}
+use Rattle.std.specs.{Prelude.{ℕ, Bool, ◌&&◌, nat_le, List, length, map, Result, Ok, Err, if◌then◌else◌}, List.list_all}
+use Rattle.repo_api.specs.{declared.limits.TheConstants.TEXT_LIMIT, Judging.is_property_name, Properties.PropertyList}
+use Rattle.fsfs_lines.specs.{declared.fault.FileFault.FileFault, declared.fault.FileFault.TheVariants.BadLine, Reading.◌>>=◌}
+use Rattle.fsfs_dumps.specs.{declared.pair.DumpPair.DumpPair, Dumps.dump}
 use Rattle.fsfs_folder.specs.Rows.{rows_of}
 
 abbrev pub row_pair : List ℕ × List ℕ → DumpPair

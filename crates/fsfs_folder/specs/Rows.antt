@@ -1,15 +1,9 @@
 -- A dump whose keys are all different, by its keys' bytes.
-use Rattle.std.specs.Prelude.{ℕ, List, [], ◌∷◌, Option, Some, None, Result, Ok, Err}
-use Rattle.std.specs.BTreeMap.{is_at}
-use Rattle.std.specs.Cmp.Lexicographic.{slice_cmp}
-use Rattle.std.specs.Map.{lookup}
+use Rattle.std.specs.{Prelude.{ℕ, List, [], ◌∷◌, Option, Some, None, Result, Ok, Err}, BTreeMap.is_at, Cmp.Lexicographic.slice_cmp, Map.lookup}
 use Rattle.std.specs.Ordering.{nat_cmp}
 use Rattle.repo_api.specs.Properties.{PropertyList, with_property}
-use Rattle.fsfs_lines.specs.declared.fault.FileFault.{FileFault}
-use Rattle.fsfs_lines.specs.declared.fault.FileFault.TheVariants.{BadLine}
-use Rattle.fsfs_lines.specs.Reading.{◌>>=◌}
-use Rattle.fsfs_dumps.specs.declared.pair.DumpPair.{DumpPair}
-use Rattle.fsfs_dumps.specs.Reading.{dump_of}
+use Rattle.fsfs_lines.specs.{declared.fault.FileFault.FileFault, declared.fault.FileFault.TheVariants.BadLine, Reading.◌>>=◌}
+use Rattle.fsfs_dumps.specs.{declared.pair.DumpPair.DumpPair, Reading.dump_of}
 
 -- the value of a key
 abbrev pub value_at : List ℕ → PropertyList → Option (List ℕ)

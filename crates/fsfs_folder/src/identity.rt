@@ -1,6 +1,5 @@
 //! The files `format` and `uuid`.
 ghost use Rattle.std.specs.Prelude.{◌≡◌, ◌++◌, ◌↔◌, OnOk, IsOk, IfErr, codes};
-ghost use Rattle.fsfs_lines.specs.declared.fault.FileFault.TheVariants.{WrongFormat};
 ghost use Rattle.fsfs_lines.specs.Reading.{Gives};
 ghost use Rattle.fsfs_folder.specs.Identity.{uuid_bytes, uuid_line, uuid_of};
 
@@ -19,7 +18,7 @@ pub const FORMAT_BYTES: &[u8] = b"2\n";
 /// `WrongFormat` where it is of any other format.
 pub fn check_format(bytes: &[u8]) -> Result<(), FileFault>
     ensures ok { IsOk result ↔ (bytes.now ≡ codes "2\n") }
-    ensures err { IfErr result (λ fault. fault ≡ WrongFormat) }
+    ensures err { IfErr result (λ fault. fault ≡ FileFault.WrongFormat) }
 {
     if bytes == FORMAT_BYTES {
         Ok(())

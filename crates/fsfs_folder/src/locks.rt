@@ -1,10 +1,8 @@
 //! The file of locks.
 ghost use Rattle.std.specs.Prelude.{◌≡◌, ◌++◌, map, IfOk, OnOk};
-ghost use Rattle.repo_api.specs.declared.limits.TheConstants.{LOCK_LIMIT};
 ghost use Rattle.fsfs_lines.specs.Reading.{Answers, or_bad};
 ghost use Rattle.fsfs_dumps.specs.Dumps.{pair_bytes};
-ghost use Rattle.fsfs_folder.specs.Rows.{value_at};
-ghost use Rattle.fsfs_folder.specs.Locks.{lock_bytes, lock_pair, locks_bytes, lock_with, lock_of, locked_of, locks_of, locks_within};
+ghost use Rattle.fsfs_folder.specs.{Rows.value_at, Locks.{lock_bytes, lock_pair, locks_bytes, lock_with, lock_of, locked_of, locks_of, locks_within}};
 
 use crate::rows::read_rows;
 use byte_string::ByteString;

@@ -1,25 +1,15 @@
 -- What was written is read again.
-use Rattle.std.proofs.Common.{◌≡◌, ℕ, suc, ◌+◌, ◌-◌, ◌^◌, ◌<◌, ◌≤◌, Bool, true, false, not, ◌&&◌, cond, eqb, List, [], ◌∷◌, ◌++◌, length, Option, Some, None, Result, Ok, Err, refl, sym, ap, ◌∙◌, subst, arith, lit≤, lit<}
-use Rattle.std.specs.Prelude.{IfSome}
-use Rattle.std.specs.Result.{result_ok}
-use Rattle.std.specs.List.{AllByRecursion, AllPass}
-use Rattle.std.proofs.lemmas.Bool.{ne_eqb}
-use Rattle.std.proofs.lemmas.List.Elements.{recursion_from_All}
+use Rattle.std.proofs.Common.{◌≡◌, ℕ, suc, ◌+◌, ◌-◌, ◌^◌, ◌<◌, ◌≤◌, Bool, true, false, not, ◌&&◌, cond, eqb, List, [], ◌∷◌, ◌++◌, length, Option, Some, None}
+use Rattle.std.proofs.{Common.{Result, Ok, Err, refl, sym, ap, ◌∙◌, subst, arith, lit≤, lit<}, lemmas.Bool.ne_eqb, lemmas.List.Elements.recursion_from_All}
+use Rattle.std.specs.{Prelude.IfSome, Result.result_ok, List.{AllByRecursion, AllPass}}
 use Rattle.hex.specs.Hex.{encode_lower, decode_sized, is_hex_digit, IsBytes}
 use Rattle.hex.proofs.HexLemmas.{decode_sized-encode_lower, decode_of-encode_lower, decode_of-ok}
-use Rattle.fsfs_lines.specs.Splits.{split_once, without_prefix, is_free}
-use Rattle.fsfs_lines.specs.Numerals.{numeral, number_of, decimal_of, digit_of}
-use Rattle.fsfs_lines.proofs.Splits.{split_again, split_none, is_free-append, prefix_again}
-use Rattle.fsfs_lines.proofs.Numbers.{number_again, numeral_free}
-use Rattle.fsfs_ids.specs.Maybe.{◌>>=◌}
-use Rattle.fsfs_ids.specs.Ids.{in_revision, part_text, id_text, part_from, part_of, id_of}
-use Rattle.fsfs_ids.specs.Representations.{representation_text, representation_of, digest_of}
-use Rattle.fsfs_ids.specs.Places.{place_text, place_of}
-use Rattle.fsfs_ids.specs.Fits.{PartFits, IdFits, RepresentationFits}
-use Rattle.fsfs_ids.specs.declared.id.IdPart.{IdPart}
-use Rattle.fsfs_ids.specs.declared.id.FileId.{FileId}
-use Rattle.fsfs_ids.specs.declared.representation.Representation.{Representation}
-use Rattle.fsfs_ids.specs.declared.place.Place.{Place}
+use Rattle.fsfs_lines.specs.{Numerals.{decimal_of, digit_of, number_of, numeral}, Splits.{is_free, split_once, without_prefix}}
+use Rattle.fsfs_lines.proofs.{Splits.{split_again, split_none, is_free-append, prefix_again}, Numbers.{number_again, numeral_free}}
+use Rattle.fsfs_ids.specs.{Maybe.◌>>=◌, Ids.{in_revision, part_text, id_text, part_from, part_of, id_of}}
+use Rattle.fsfs_ids.specs.{Representations.{representation_text, representation_of, digest_of}, Places.{place_text, place_of}}
+use Rattle.fsfs_ids.specs.{Fits.{PartFits, IdFits, RepresentationFits}, declared.id.IdPart.IdPart, declared.id.FileId.FileId}
+use Rattle.fsfs_ids.specs.{declared.representation.Representation.Representation, declared.place.Place.Place}
 
 -- ---- separators
 

@@ -1,9 +1,7 @@
 -- What a line can say.
 use Rattle.std.specs.Prelude.{◌≡◌, ℕ, ◌<◌, ◌^◌, length, IfSome}
 use Rattle.hex.specs.Hex.{IsBytes}
-use Rattle.fsfs_ids.specs.declared.id.IdPart.{IdPart}
-use Rattle.fsfs_ids.specs.declared.id.FileId.{FileId}
-use Rattle.fsfs_ids.specs.declared.representation.Representation.{Representation}
+use Rattle.fsfs_ids.specs.{declared.id.IdPart.IdPart, declared.id.FileId.FileId, declared.representation.Representation.Representation}
 
 pub record PartFits (part : IdPart) : Type 0 where
   pub number : part.number < 2 ^ 128

@@ -1,10 +1,7 @@
 -- Ids of node revisions.
 use Rattle.std.specs.Prelude.{ℕ, ◌-◌, ◌^◌, List, ◌∷◌, ◌++◌, codes, Option, Some, None, option_map}
-use Rattle.fsfs_lines.specs.Splits.{split_once, without_prefix}
-use Rattle.fsfs_lines.specs.Numerals.{numeral, number_of, decimal_of}
-use Rattle.fsfs_ids.specs.Maybe.{◌>>=◌}
-use Rattle.fsfs_ids.specs.declared.id.IdPart.{IdPart}
-use Rattle.fsfs_ids.specs.declared.id.FileId.{FileId}
+use Rattle.fsfs_lines.specs.{Numerals.{decimal_of, number_of, numeral}, Splits.{split_once, without_prefix}}
+use Rattle.fsfs_ids.specs.{Maybe.◌>>=◌, declared.id.IdPart.IdPart, declared.id.FileId.FileId}
 
 -- the number in base 36, and behind `-` the revision that it is counted in
 abbrev pub in_revision : List ℕ → Option ℕ → List ℕ

@@ -1,9 +1,7 @@
 -- A path in a revision, as lines name it.
 use Rattle.std.specs.Prelude.{ℕ, ◌-◌, ◌^◌, List, ◌∷◌, ◌++◌, Option, Some, None}
-use Rattle.fsfs_lines.specs.Splits.{split_once}
-use Rattle.fsfs_lines.specs.Numerals.{numeral, decimal_of}
-use Rattle.fsfs_ids.specs.Maybe.{◌>>=◌}
-use Rattle.fsfs_ids.specs.declared.place.Place.{Place}
+use Rattle.fsfs_lines.specs.{Numerals.{decimal_of, numeral}, Splits.split_once}
+use Rattle.fsfs_ids.specs.{Maybe.◌>>=◌, declared.place.Place.Place}
 
 -- `<revision> <path>`
 abbrev pub place_text : Place → List ℕ

@@ -1,11 +1,8 @@
 -- Lines that say where a representation stands.
-use Rattle.std.specs.Prelude.{ℕ, ◌-◌, ◌^◌, List, ◌∷◌, ◌++◌, Option, Some, None, Result, Ok, Err}
-use Rattle.std.specs.Result.{result_ok}
+use Rattle.std.specs.{Prelude.{ℕ, ◌-◌, ◌^◌, List, ◌∷◌, ◌++◌, Option, Some, None, Result, Ok, Err}, Result.result_ok}
 use Rattle.hex.specs.Hex.{encode_lower, decode_sized}
-use Rattle.fsfs_lines.specs.Splits.{split_once}
-use Rattle.fsfs_lines.specs.Numerals.{numeral, decimal_of}
-use Rattle.fsfs_ids.specs.Maybe.{◌>>=◌}
-use Rattle.fsfs_ids.specs.declared.representation.Representation.{Representation}
+use Rattle.fsfs_lines.specs.{Numerals.{decimal_of, numeral}, Splits.split_once}
+use Rattle.fsfs_ids.specs.{Maybe.◌>>=◌, declared.representation.Representation.Representation}
 
 -- `<revision> <offset> <length> <size> <digest>`
 abbrev pub representation_text : Representation → List ℕ

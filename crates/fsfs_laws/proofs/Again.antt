@@ -1,18 +1,14 @@
 -- A whole revision file that was written is read again.
-use Rattle.std.proofs.Common.{◌≡◌, ℕ, suc, ◌+◌, ◌^◌, ◌<◌, ◌≤◌, ◌⊎◌, inl, inr, Bool, true, false, cond, ltb, List, [], ◌∷◌, ◌++◌, length, map, reverse, get_or, set, replicate, Ok, Err, refl, sym, ap, subst, ◌∙◌, append_assoc, arith}
-use Rattle.std.proofs.lemmas.Bool.{false≢true, cases_eq, lt-ltb}
+use Rattle.std.proofs.Common.{◌≡◌, ℕ, suc, ◌+◌, ◌^◌, ◌<◌, ◌≤◌, ◌⊎◌, inl, inr, Bool, true, false, cond, ltb, List, [], ◌∷◌, ◌++◌, length, map, reverse, get_or}
+use Rattle.std.proofs.{Common.{set, replicate, Ok, Err, refl, sym, ap, subst, ◌∙◌, append_assoc, arith}, lemmas.Bool.{false≢true, cases_eq, lt-ltb}}
 use Rattle.std.proofs.lemmas.List.{length-append, length-set, length-replicate, get_or-set_same, get_or-set_other, get_or-replicate}
 use Rattle.fsfs_lines.specs.declared.fault.FileFault.TheVariants.{Dangling}
-use Rattle.fsfs_parts.specs.declared.change.FileChange.{FileChange}
-use Rattle.fsfs_parts.specs.Changes.{changes_bytes}
-use Rattle.fsfs_parts.specs.Trailers.{trailer_bytes}
+use Rattle.fsfs_parts.specs.{declared.change.FileChange.FileChange, Changes.changes_bytes, Trailers.trailer_bytes}
 use Rattle.fsfs_writing.specs.Files.{Piece, pieces_bytes, file_bytes, ArePlaced, AreFound, PiecesFit, ChangesFit}
 use Rattle.fsfs_writing.proofs.Again.{pieces_found}
 use Rattle.fsfs_reading.specs.Pieces.{pieces_below, pieces_of, revision_of}
-use Rattle.fsfs_laws.specs.Whole.{file_piece}
-use Rattle.fsfs_laws.specs.Reached.{AreReached, KeepOthers}
-use Rattle.fsfs_laws.proofs.Parts.{by_parts}
-use Rattle.fsfs_laws.proofs.Descent.{Agrees, AreFalling, falling, all_read, descent}
+use Rattle.fsfs_laws.specs.{Whole.file_piece, Reached.{AreReached, KeepOthers}}
+use Rattle.fsfs_laws.proofs.{Parts.by_parts, Descent.{Agrees, AreFalling, falling, all_read, descent}}
 
 -- the table in which the root is marked
 abbrev first_table : ℕ → List Bool

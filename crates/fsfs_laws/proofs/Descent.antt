@@ -1,19 +1,15 @@
 -- What a root leads to is read by falling offsets.
-use Rattle.std.proofs.Common.{◌≡◌, ℕ, zero, suc, ◌+◌, ◌<◌, ◌≤◌, ◌⊎◌, inl, inr, Bool, true, false, ◌&&◌, ◌||◌, cond, eqb, ltb, List, [], ◌∷◌, ◌++◌, length, map, reverse, get_or, set, Result, Ok, Err, refl, sym, ap, subst, ◌∙◌, arith}
+use Rattle.std.proofs.Common.{◌≡◌, ℕ, zero, suc, ◌+◌, ◌<◌, ◌≤◌, ◌⊎◌, inl, inr, Bool, true, false, ◌&&◌, ◌||◌, cond, eqb, ltb, List, [], ◌∷◌, ◌++◌, length, map}
+use Rattle.std.proofs.Common.{reverse, get_or, set, Result, Ok, Err, refl, sym, ap, subst, ◌∙◌, arith}
 use Rattle.std.proofs.lemmas.Bool.{cases_eq, cases_lt, eqb-true, eqb-false, le-ltb, ltb-true}
 use Rattle.std.proofs.lemmas.List.{length-append, length-set, get_or-set_same, get_or-set_other, reverse-append}
-use Rattle.fsfs_lines.specs.declared.fault.FileFault.{FileFault}
-use Rattle.fsfs_lines.specs.declared.fault.FileFault.TheVariants.{Dangling}
-use Rattle.fsfs_lines.specs.Reading.{◌>>=◌}
+use Rattle.fsfs_lines.specs.{declared.fault.FileFault.FileFault, declared.fault.FileFault.TheVariants.Dangling, Reading.◌>>=◌}
 use Rattle.fsfs_ids.specs.declared.id.FileId.{FileId}
-use Rattle.fsfs_nodes.specs.declared.node.FileNode.{FileNode}
-use Rattle.fsfs_nodes.specs.Nodes.{identity_lines, content_lines, origin_lines, node_bytes}
+use Rattle.fsfs_nodes.specs.{declared.node.FileNode.FileNode, Nodes.{identity_lines, content_lines, origin_lines, node_bytes}}
 use Rattle.fsfs_nodes.specs.declared.entries.DirectoryEntry.{DirectoryEntry}
-use Rattle.fsfs_reading.specs.declared.piece.FilePiece.{FilePiece}
-use Rattle.fsfs_reading.specs.Pieces.{is_before, entries_in, marked, step_of, before, pieces_below, piece_at}
+use Rattle.fsfs_reading.specs.{declared.piece.FilePiece.FilePiece, Pieces.{is_before, entries_in, marked, step_of, before, pieces_below, piece_at}}
 use Rattle.fsfs_writing.specs.Files.{Piece, brought, piece_bytes, pieces_bytes, ArePlaced, AreFound}
-use Rattle.fsfs_laws.specs.Whole.{file_piece}
-use Rattle.fsfs_laws.specs.Reached.{NamesIn, LieBefore, WantedAfter, AreReached, KeepOthers}
+use Rattle.fsfs_laws.specs.{Whole.file_piece, Reached.{NamesIn, LieBefore, WantedAfter, AreReached, KeepOthers}}
 use Rattle.fsfs_laws.proofs.Parts.{piece_read}
 
 -- ---- marks

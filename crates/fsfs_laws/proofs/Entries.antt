@@ -1,19 +1,13 @@
 -- The entries of a directory that were written are read again.
 use Rattle.std.proofs.Common.{◌≡◌, ◌^◌, ◌<◌, true, List, [], ◌∷◌, length, Option, Some, Result, Ok, refl, ap, ◌∙◌}
-use Rattle.fsfs_lines.specs.declared.fault.FileFault.{FileFault}
-use Rattle.fsfs_lines.specs.Reading.{◌>>=◌}
-use Rattle.fsfs_lines.specs.Splits.{is_free}
+use Rattle.fsfs_lines.specs.{declared.fault.FileFault.FileFault, Reading.◌>>=◌, Splits.is_free}
 use Rattle.fsfs_lines.proofs.Splits.{split_again}
-use Rattle.fsfs_dumps.specs.declared.pair.DumpPair.{DumpPair}
-use Rattle.fsfs_dumps.specs.Dumps.{dump}
+use Rattle.fsfs_dumps.specs.{declared.pair.DumpPair.DumpPair, Dumps.dump}
 use Rattle.fsfs_dumps.proofs.Again.{dump_again}
-use Rattle.fsfs_ids.specs.Ids.{id_text, id_of}
+use Rattle.fsfs_ids.specs.{Ids.{id_text, id_of}, declared.id.FileId.FileId}
 use Rattle.fsfs_ids.proofs.Again.{id_again}
-use Rattle.fsfs_ids.specs.declared.id.FileId.{FileId}
-use Rattle.fsfs_nodes.specs.declared.entries.EntryKind.{EntryKind}
-use Rattle.fsfs_nodes.specs.declared.entries.EntryKind.TheVariants.{File, Directory}
-use Rattle.fsfs_nodes.specs.declared.entries.DirectoryEntry.{DirectoryEntry}
-use Rattle.fsfs_nodes.specs.Nodes.{kind_text, kind_of}
+use Rattle.fsfs_nodes.specs.{declared.entries.EntryKind.EntryKind, declared.entries.EntryKind.TheVariants.{File, Directory}}
+use Rattle.fsfs_nodes.specs.{declared.entries.DirectoryEntry.DirectoryEntry, Nodes.{kind_text, kind_of}}
 use Rattle.fsfs_nodes.specs.Entries.{entry_text, entry_pairs, kind_and_id_from, kind_and_id, before, with_others, entries_in, entries_of}
 use Rattle.fsfs_laws.specs.Whole.{EntriesFit}
 

@@ -1,17 +1,12 @@
 -- A whole revision file that was written is read.
 use Rattle.std.proofs.Common.{◌≡◌, ℕ, ◌^◌, ◌<◌, false, cond, ltb, List, ◌++◌, length, Option, Some, None, Ok, refl, ap, ◌∙◌, arith}
-use Rattle.std.proofs.lemmas.Bool.{eq-eqb, le-ltb}
-use Rattle.std.proofs.lemmas.List.{length-append, drop_at}
+use Rattle.std.proofs.{lemmas.Bool.{eq-eqb, le-ltb}, lemmas.List.{length-append, drop_at}}
 use Rattle.fsfs_ids.specs.declared.representation.Representation.{Representation}
-use Rattle.fsfs_parts.specs.declared.change.FileChange.{FileChange}
-use Rattle.fsfs_parts.specs.declared.trailer.Trailer.{Trailer}
-use Rattle.fsfs_parts.specs.Bodies.{body_at}
-use Rattle.fsfs_parts.specs.Changes.{changes_bytes}
+use Rattle.fsfs_parts.specs.{declared.change.FileChange.FileChange, declared.trailer.Trailer.Trailer, Bodies.body_at, Changes.changes_bytes}
 use Rattle.fsfs_parts.specs.Trailers.{trailer_of}
 use Rattle.fsfs_writing.specs.Files.{Piece, pieces_bytes, file_bytes, IsBody, IsFound, ChangesFit}
 use Rattle.fsfs_writing.proofs.Again.{trailer_again, changes_again}
-use Rattle.fsfs_reading.specs.declared.piece.FilePiece.{FilePiece}
-use Rattle.fsfs_reading.specs.Pieces.{some_of, new_body, piece_at, pieces_of, part_behind, revision_of}
+use Rattle.fsfs_reading.specs.{declared.piece.FilePiece.FilePiece, Pieces.{some_of, new_body, piece_at, pieces_of, part_behind, revision_of}}
 use Rattle.fsfs_laws.specs.Whole.{file_piece, IsLineOf, KeepsOthers}
 
 pub by_parts : (revision root : ℕ) (pieces : List Piece) (changes : List FileChange) (found : List FilePiece) → ChangesFit changes → root < 2 ^ 64 → length (pieces_bytes pieces) < 2 ^ 64

@@ -1,7 +1,6 @@
 -- What was written, as it is read.
 use Rattle.std.specs.Prelude.{◌≡◌, ◌==◌, ℕ, false, List, [], ◌∷◌, Option, Some, None, IfSome}
-use Rattle.fsfs_ids.specs.declared.representation.Representation.{Representation}
-use Rattle.fsfs_ids.specs.Fits.{IdFits}
+use Rattle.fsfs_ids.specs.{declared.representation.Representation.Representation, Fits.IdFits}
 use Rattle.fsfs_nodes.specs.declared.entries.DirectoryEntry.{DirectoryEntry}
 use Rattle.fsfs_writing.specs.Files.{Piece}
 use Rattle.fsfs_reading.specs.declared.piece.FilePiece.{FilePiece}

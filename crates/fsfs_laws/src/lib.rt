@@ -3,13 +3,11 @@
 
 ghost use Rattle.std.specs.Prelude.{◌≡◌, ◌<◌, ◌^◌, ℕ, List, Ok, length, map, reverse};
 ghost use Rattle.fsfs_dumps.specs.Dumps.{dump};
-ghost use Rattle.fsfs_nodes.specs.declared.entries.DirectoryEntry.{DirectoryEntry};
-ghost use Rattle.fsfs_nodes.specs.Entries.{entry_pairs, entries_of};
+ghost use Rattle.fsfs_nodes.specs.{declared.entries.DirectoryEntry.DirectoryEntry, Entries.{entry_pairs, entries_of}};
 ghost use Rattle.fsfs_parts.specs.declared.change.FileChange.{FileChange};
 ghost use Rattle.fsfs_writing.specs.Files.{Piece, file_bytes, ArePlaced, PiecesFit, ChangesFit};
 ghost use Rattle.fsfs_reading.specs.Pieces.{revision_of};
-ghost use Rattle.fsfs_laws.specs.Whole.{file_piece, EntriesFit};
-ghost use Rattle.fsfs_laws.specs.Reached.{AreReached, KeepOthers};
+ghost use Rattle.fsfs_laws.specs.{Whole.{file_piece, EntriesFit}, Reached.{AreReached, KeepOthers}};
 
 /// Shows that a file that was written is read again: its node revisions, each where its id and its
 /// lines say, by falling offsets, and its changes. The root leads to each of them and nowhere else.

@@ -1,15 +1,10 @@
 -- Numbers as text.
-use Rattle.std.proofs.Common.{◌≡◌, ℕ, zero, suc, ◌+◌, ◌-◌, ◌*◌, ◌/◌, ◌%◌, ◌<◌, ◌≤◌, Bool, true, false, not, ◌&&◌, cond, eqb, ltb, leb, List, [], ◌∷◌, ◌++◌, length, map, Option, Some, None, refl, sym, ap, ◌∙◌, append_assoc, arith, inl, inr, ◌⊎◌, lit<}
-use Rattle.std.specs.Option.{option_and_then}
-use Rattle.std.specs.Int.Digits.{digits_of}
-use Rattle.std.proofs.lemmas.Bool.{cases_lt, ne_eqb}
-use Rattle.std.proofs.Math.Nat.{mod-lt, div-lt_self, div-add-mod, mul_comm}
-use Rattle.std.proofs.lemmas.Bool.Decides.{nat_tests}
-use Rattle.std.proofs.lemmas.List.{map-append, length-append, length-map}
-use Rattle.std.specs.Int.Digits.{AllBelowBase}
-use Rattle.std.proofs.lemmas.Int.Digits.{digits_of_step, length-digits_of_step, all_below_base_digits_of}
-use Rattle.fsfs_lines.specs.Splits.{is_free}
-use Rattle.fsfs_lines.specs.Numerals.{glyph, numeral, digit_of, with_digit, with_byte, digits_behind, number_of}
+use Rattle.std.proofs.Common.{◌≡◌, ℕ, zero, suc, ◌+◌, ◌-◌, ◌*◌, ◌/◌, ◌%◌, ◌<◌, ◌≤◌, Bool, true, false, not, ◌&&◌, cond, eqb, ltb, leb, List, [], ◌∷◌, ◌++◌}
+use Rattle.std.proofs.{Common.{length, map, Option, Some, None, refl, sym, ap, ◌∙◌, append_assoc, arith, inl, inr, ◌⊎◌, lit<}, lemmas.Bool.{cases_lt, ne_eqb}}
+use Rattle.std.proofs.{Math.Nat.{mod-lt, div-lt_self, div-add-mod, mul_comm}, lemmas.Bool.Decides.nat_tests}
+use Rattle.std.proofs.{lemmas.List.{map-append, length-append, length-map}, lemmas.Int.Digits.{digits_of_step, length-digits_of_step, all_below_base_digits_of}}
+use Rattle.std.specs.{Option.option_and_then, Int.Digits.{digits_of, AllBelowBase}}
+use Rattle.fsfs_lines.specs.{Splits.is_free, Numerals.{glyph, numeral, digit_of, with_digit, with_byte, digits_behind, number_of}}
 
 pub digits_behind-push : (base limit n : ℕ) (bytes : List ℕ) (b : ℕ)
     → digits_behind base limit n (bytes ++ b ∷ []) ≡ option_and_then (λ m. with_byte base limit m b) (digits_behind base limit n bytes)

@@ -1,9 +1,8 @@
 -- Parts of a text round a separator.
-use Rattle.std.proofs.Common.{◌≡◌, ℕ, suc, ◌+◌, ◌<◌, ◌≤◌, Bool, true, false, not, ◌&&◌, cond, eqb, ltb, List, [], ◌∷◌, ◌++◌, length, take, drop, get_or, Option, Some, None, refl, sym, ap, ◌∙◌, append_assoc, arith}
-use Rattle.std.specs.List.{list_all}
-use Rattle.std.specs.Cmp.Lexicographic.{pointwise}
-use Rattle.std.proofs.lemmas.Bool.{eq-eqb, eqb-true, le-ltb}
+use Rattle.std.proofs.Common.{◌≡◌, ℕ, suc, ◌+◌, ◌<◌, ◌≤◌, Bool, true, false, not, ◌&&◌, cond, eqb, ltb, List, [], ◌∷◌, ◌++◌, length, take, drop, get_or, Option}
+use Rattle.std.proofs.{Common.{Some, None, refl, sym, ap, ◌∙◌, append_assoc, arith}, lemmas.Bool.{eq-eqb, eqb-true, le-ltb}}
 use Rattle.std.proofs.lemmas.List.{append-nil, drop_more, take_more, take_at, drop_at, length-append, take-append-drop}
+use Rattle.std.specs.{List.list_all, Cmp.Lexicographic.pointwise}
 use Rattle.fsfs_lines.specs.Splits.{split_once, split_last, in_front, later, without_prefix, is_free}
 
 -- what was passed stands in front

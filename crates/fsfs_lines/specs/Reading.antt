@@ -1,7 +1,6 @@
 -- What a reading answers.
 use Rattle.std.specs.Prelude.{◌≡◌, ◌⊎◌, Option, Some, None, Result, Ok, Err, MatchResult, option_and_then}
-use Rattle.fsfs_lines.specs.declared.fault.FileFault.{FileFault}
-use Rattle.fsfs_lines.specs.declared.fault.FileFault.TheVariants.{BadLine, NoMemory}
+use Rattle.fsfs_lines.specs.{declared.fault.FileFault.FileFault, declared.fault.FileFault.TheVariants.{BadLine, NoMemory}}
 
 infixl 10 ◌>>=◌
 -- What is read after it, if it could be read. The first fault is the fault of all.

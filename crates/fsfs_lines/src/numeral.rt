@@ -1,6 +1,5 @@
 //! Numbers as text, in a base from 2 to 36.
-ghost use Rattle.std.specs.Prelude.{◌≡◌, ◌<◌, ◌≤◌, ◌^◌, ◌-◌, ◌++◌, map, IfSome, OnOk};
-ghost use Rattle.std.specs.Int.Digits.{digits_of};
+ghost use Rattle.std.specs.{Prelude.{◌≡◌, ◌<◌, ◌≤◌, ◌^◌, ◌-◌, ◌++◌, map, IfSome, OnOk}, Int.Digits.digits_of};
 ghost use Rattle.fsfs_lines.specs.Numerals.{glyph, numeral, digit_of, with_digit, number_of, decimal_of};
 
 use std::alloc::AllocError;

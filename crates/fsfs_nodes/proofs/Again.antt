@@ -1,29 +1,19 @@
 -- The lines of a node revision that was written are read again.
-use Rattle.std.proofs.Common.{◌≡◌, ℕ, zero, suc, ◌-◌, ◌^◌, ◌<◌, true, false, ◌&&◌, cond, eqb, ltb, List, [], ◌∷◌, ◌++◌, length, drop, Option, Some, None, Result, Ok, Err, refl, sym, ap, ◌∙◌, append_assoc, arith, lit≤, lit<}
-use Rattle.std.specs.Prelude.{codes, option_map, if◌then◌else◌, IfSome}
-use Rattle.std.specs.List.{flat_map}
-use Rattle.std.specs.Cmp.Lexicographic.{pointwise}
-use Rattle.std.proofs.lemmas.Bool.{eq-eqb, le-ltb}
+use Rattle.std.proofs.Common.{◌≡◌, ℕ, zero, suc, ◌-◌, ◌^◌, ◌<◌, true, false, ◌&&◌, cond, eqb, ltb, List, [], ◌∷◌, ◌++◌, length, drop, Option, Some, None}
+use Rattle.std.proofs.{Common.{Result, Ok, Err, refl, sym, ap, ◌∙◌, append_assoc, arith, lit≤, lit<}, lemmas.Bool.{eq-eqb, le-ltb}}
 use Rattle.std.proofs.lemmas.List.{length-append, drop_at}
-use Rattle.fsfs_lines.specs.declared.fault.FileFault.{FileFault}
-use Rattle.fsfs_lines.specs.declared.fault.FileFault.TheVariants.{Dangling}
-use Rattle.fsfs_lines.specs.Reading.{◌>>=◌, or_bad}
-use Rattle.fsfs_lines.specs.Splits.{split_once, line_at, line_of, is_free}
-use Rattle.fsfs_lines.specs.Numerals.{numeral}
-use Rattle.fsfs_lines.proofs.Splits.{split_again, prefix_again, same_bytes}
-use Rattle.fsfs_lines.proofs.Numbers.{number_again}
-use Rattle.fsfs_ids.specs.Ids.{id_text, id_of}
-use Rattle.fsfs_ids.specs.Representations.{representation_text, representation_of}
-use Rattle.fsfs_ids.specs.Places.{place_text, place_of}
-use Rattle.fsfs_ids.specs.Fits.{IdFits, RepresentationFits}
-use Rattle.fsfs_ids.proofs.Again.{free-cons, free-join, feed_apart, decimal_free, id_free, id_again, representation_free, representation_again, place_free, place_again}
-use Rattle.fsfs_ids.specs.declared.id.FileId.{FileId}
-use Rattle.fsfs_ids.specs.declared.representation.Representation.{Representation}
+use Rattle.std.specs.{Prelude.{codes, option_map, if◌then◌else◌, IfSome}, List.flat_map, Cmp.Lexicographic.pointwise}
+use Rattle.fsfs_lines.specs.{declared.fault.FileFault.FileFault, declared.fault.FileFault.TheVariants.Dangling, Numerals.numeral, Reading.{or_bad, ◌>>=◌}}
+use Rattle.fsfs_lines.specs.Splits.{is_free, line_at, line_of, split_once}
+use Rattle.fsfs_lines.proofs.{Splits.{split_again, prefix_again, same_bytes}, Numbers.number_again}
+use Rattle.fsfs_ids.specs.{Ids.{id_text, id_of}, Representations.{representation_text, representation_of}, Places.{place_text, place_of}}
+use Rattle.fsfs_ids.specs.{Fits.{IdFits, RepresentationFits}, declared.id.FileId.FileId, declared.representation.Representation.Representation}
 use Rattle.fsfs_ids.specs.declared.place.Place.{Place}
-use Rattle.fsfs_nodes.specs.declared.entries.EntryKind.{EntryKind}
-use Rattle.fsfs_nodes.specs.declared.entries.EntryKind.TheVariants.{File, Directory}
-use Rattle.fsfs_nodes.specs.declared.node.FileNode.{FileNode}
-use Rattle.fsfs_nodes.specs.Headers.{Line, line_bytes, optional_line, name_value, named, with_name, before, with_others, block_within, block_of, value_of, optional, there, field}
+use Rattle.fsfs_ids.proofs.Again.{free-cons, free-join, feed_apart, decimal_free, id_free, id_again, representation_free, representation_again, place_free}
+use Rattle.fsfs_ids.proofs.Again.{place_again}
+use Rattle.fsfs_nodes.specs.{declared.entries.EntryKind.EntryKind, declared.entries.EntryKind.TheVariants.{File, Directory}, declared.node.FileNode.FileNode}
+use Rattle.fsfs_nodes.specs.Headers.{Line, line_bytes, optional_line, name_value, named, with_name, before, with_others, block_within, block_of, value_of}
+use Rattle.fsfs_nodes.specs.Headers.{optional, there, field}
 use Rattle.fsfs_nodes.specs.Nodes.{kind_text, kind_of, node_bytes, id_first, id_line, standing, own_id, count_of, path_of, node_of, node_at}
 use Rattle.fsfs_nodes.specs.Fits.{NodeFits, PlaceFits}
 

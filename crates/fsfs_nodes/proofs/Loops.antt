@@ -1,14 +1,11 @@
 -- Reading one after the other, as a loop does.
-use Rattle.std.proofs.Common.{◌≡◌, ℕ, suc, ◌-◌, ◌+◌, ◌≤◌, ◌<◌, List, [], ◌∷◌, ◌++◌, length, drop, get_or, Option, Some, None, Result, Ok, Err, refl, sym, ap, ◌∙◌, append_assoc, arith}
-use Rattle.std.proofs.lemmas.List.{append-nil, drop_more, drop_all}
-use Rattle.fsfs_lines.specs.declared.fault.FileFault.{FileFault}
-use Rattle.fsfs_lines.specs.declared.fault.FileFault.TheVariants.{Truncated, BadLine}
-use Rattle.fsfs_lines.specs.Reading.{◌>>=◌, or_bad}
+use Rattle.std.proofs.Common.{◌≡◌, ℕ, suc, ◌-◌, ◌+◌, ◌≤◌, ◌<◌, List, [], ◌∷◌, ◌++◌, length, drop, get_or, Option, Some, None, Result, Ok, Err, refl, sym, ap}
+use Rattle.std.proofs.{Common.{◌∙◌, append_assoc, arith}, lemmas.List.{append-nil, drop_more, drop_all}}
+use Rattle.fsfs_lines.specs.{declared.fault.FileFault.FileFault, declared.fault.FileFault.TheVariants.{Truncated, BadLine}, Reading.{or_bad, ◌>>=◌}}
 use Rattle.fsfs_lines.specs.Splits.{line_at}
 use Rattle.fsfs_dumps.specs.declared.pair.DumpPair.{DumpPair}
 use Rattle.fsfs_ids.specs.declared.id.FileId.{FileId}
-use Rattle.fsfs_nodes.specs.declared.entries.EntryKind.{EntryKind}
-use Rattle.fsfs_nodes.specs.declared.entries.DirectoryEntry.{DirectoryEntry}
+use Rattle.fsfs_nodes.specs.{declared.entries.EntryKind.EntryKind, declared.entries.DirectoryEntry.DirectoryEntry}
 use Rattle.fsfs_nodes.specs.Headers.{Line, name_value, before, with_others, block_within}
 use Rattle.fsfs_nodes.specs.Entries as entries
 

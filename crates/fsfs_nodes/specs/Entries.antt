@@ -1,16 +1,9 @@
 -- The entries of a directory.
 use Rattle.std.specs.Prelude.{ℕ, List, [], ◌∷◌, ◌++◌, map, Option, Some, None, Result, Ok, Err}
-use Rattle.fsfs_lines.specs.declared.fault.FileFault.{FileFault}
-use Rattle.fsfs_lines.specs.declared.fault.FileFault.TheVariants.{BadLine}
-use Rattle.fsfs_lines.specs.Reading.{◌>>=◌}
-use Rattle.fsfs_lines.specs.Splits.{split_once}
-use Rattle.fsfs_dumps.specs.declared.pair.DumpPair.{DumpPair}
-use Rattle.fsfs_dumps.specs.Reading.{dump_of}
-use Rattle.fsfs_ids.specs.Ids.{id_text, id_of}
-use Rattle.fsfs_nodes.specs.Nodes.{kind_text, kind_of}
-use Rattle.fsfs_ids.specs.declared.id.FileId.{FileId}
-use Rattle.fsfs_nodes.specs.declared.entries.EntryKind.{EntryKind}
-use Rattle.fsfs_nodes.specs.declared.entries.DirectoryEntry.{DirectoryEntry}
+use Rattle.fsfs_lines.specs.{declared.fault.FileFault.FileFault, declared.fault.FileFault.TheVariants.BadLine, Reading.◌>>=◌, Splits.split_once}
+use Rattle.fsfs_dumps.specs.{declared.pair.DumpPair.DumpPair, Reading.dump_of}
+use Rattle.fsfs_ids.specs.{Ids.{id_text, id_of}, declared.id.FileId.FileId}
+use Rattle.fsfs_nodes.specs.{Nodes.{kind_text, kind_of}, declared.entries.EntryKind.EntryKind, declared.entries.DirectoryEntry.DirectoryEntry}
 
 -- `<kind> <id>`
 abbrev pub entry_text : DirectoryEntry → List ℕ

@@ -1,12 +1,9 @@
 //! Node revisions, as lines.
 ghost use Rattle.std.specs.Prelude.{◌≡◌, ◌++◌, OnOk, IfOk, Option, option_map, codes};
-ghost use Rattle.fsfs_lines.specs.Reading.{Gives, Answers};
-ghost use Rattle.fsfs_nodes.specs.Headers.{line_bytes, optional_line, line_pairs, value_of, field};
-ghost use Rattle.fsfs_ids.specs.Ids.{id_text};
-ghost use Rattle.fsfs_ids.specs.Representations.{representation_text};
-ghost use Rattle.fsfs_ids.specs.Places.{place_text};
-ghost use Rattle.fsfs_nodes.specs.Nodes.{kind_text, kind_of, count_of, path_of, identity_lines, content_lines, origin_lines, node_bytes, id_line, own_id, node_of, node_at};
-ghost use Rattle.fsfs_lines.specs.Numerals.{numeral};
+ghost use Rattle.fsfs_lines.specs.{Numerals.numeral, Reading.{Answers, Gives}};
+ghost use Rattle.fsfs_nodes.specs.{Headers.{line_bytes, optional_line, line_pairs, value_of, field}, Nodes.{kind_text, kind_of, count_of, path_of}};
+ghost use Rattle.fsfs_nodes.specs.Nodes.{identity_lines, content_lines, origin_lines, node_bytes, id_line, own_id, node_of, node_at};
+ghost use Rattle.fsfs_ids.specs.{Ids.id_text, Representations.representation_text, Places.place_text};
 
 use crate::entries::{EntryKind, append_kind, parse_kind};
 use crate::header::{

@@ -1,11 +1,8 @@
 -- Reading changes one after the other, as a loop does.
 use Rattle.std.proofs.Common.{◌≡◌, ℕ, zero, suc, ◌-◌, ◌+◌, ◌≤◌, ◌<◌, List, [], ◌∷◌, ◌++◌, Result, Ok, Err, refl, sym, ap, ◌∙◌, append_assoc, arith}
 use Rattle.std.proofs.lemmas.List.{append-nil}
-use Rattle.fsfs_lines.specs.declared.fault.FileFault.{FileFault}
-use Rattle.fsfs_lines.specs.declared.fault.FileFault.TheVariants.{BadLine}
-use Rattle.fsfs_lines.specs.Reading.{◌>>=◌}
-use Rattle.fsfs_parts.specs.declared.change.FileChange.{FileChange}
-use Rattle.fsfs_parts.specs.Changes.{change_of, before, changes_within}
+use Rattle.fsfs_lines.specs.{declared.fault.FileFault.FileFault, declared.fault.FileFault.TheVariants.BadLine, Reading.◌>>=◌}
+use Rattle.fsfs_parts.specs.{declared.change.FileChange.FileChange, Changes.{change_of, before, changes_within}}
 
 abbrev Found : Type 0
 Found = Result (List FileChange) FileFault

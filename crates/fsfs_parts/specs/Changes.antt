@@ -1,20 +1,12 @@
 -- The changed paths of a revision.
 use Rattle.std.specs.Prelude.{ℕ, zero, suc, ◌==◌, Bool, true, false, List, [], ◌∷◌, ◌++◌, length, codes, Option, Some, None, Result, Ok, Err, if◌then◌else◌}
-use Rattle.std.specs.List.{flat_map}
-use Rattle.std.specs.Cmp.Lexicographic.{pointwise}
-use Rattle.fsfs_lines.specs.declared.fault.FileFault.{FileFault}
-use Rattle.fsfs_lines.specs.declared.fault.FileFault.TheVariants.{BadLine}
-use Rattle.fsfs_lines.specs.Reading.{or_bad}
+use Rattle.std.specs.{List.flat_map, Cmp.Lexicographic.pointwise}
+use Rattle.fsfs_lines.specs.{declared.fault.FileFault.FileFault, declared.fault.FileFault.TheVariants.BadLine, Reading.or_bad, Splits.{line_at, split_once}}
 use Rattle.fsfs_lines.specs.Reading as reading
-use Rattle.fsfs_lines.specs.Splits.{split_once, line_at}
-use Rattle.fsfs_ids.specs.Maybe.{◌>>=◌}
-use Rattle.fsfs_ids.specs.Places.{place_text, place_of}
+use Rattle.fsfs_ids.specs.{Maybe.◌>>=◌, Places.{place_text, place_of}, declared.place.Place.Place}
 use Rattle.fsfs_nodes.specs.Headers.{optional}
-use Rattle.fsfs_ids.specs.declared.place.Place.{Place}
-use Rattle.fsfs_parts.specs.declared.change.FileAction.{FileAction}
-use Rattle.fsfs_parts.specs.declared.change.FileAction.TheVariants.{Add, Delete, Replace, Modify}
-use Rattle.fsfs_parts.specs.declared.change.FileChange.{FileChange}
-use Rattle.fsfs_parts.specs.declared.change.ChangeLine.{ChangeLine}
+use Rattle.fsfs_parts.specs.{declared.change.FileAction.FileAction, declared.change.FileAction.TheVariants.{Add, Delete, Replace, Modify}}
+use Rattle.fsfs_parts.specs.{declared.change.FileChange.FileChange, declared.change.ChangeLine.ChangeLine}
 
 abbrev pub action_text : FileAction → List ℕ
 action_text Add = codes "add"

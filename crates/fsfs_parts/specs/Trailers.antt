@@ -1,10 +1,7 @@
 -- The last line of a revision file.
 use Rattle.std.specs.Prelude.{ℕ, ◌-◌, ◌^◌, List, [], ◌∷◌, ◌++◌, Option, Some, None, Result, Err}
-use Rattle.fsfs_lines.specs.declared.fault.FileFault.{FileFault}
-use Rattle.fsfs_lines.specs.declared.fault.FileFault.TheVariants.{Truncated}
-use Rattle.fsfs_lines.specs.Reading.{or_bad}
-use Rattle.fsfs_lines.specs.Splits.{split_once, split_last}
-use Rattle.fsfs_lines.specs.Numerals.{numeral, decimal_of}
+use Rattle.fsfs_lines.specs.{declared.fault.FileFault.FileFault, declared.fault.FileFault.TheVariants.Truncated, Numerals.{decimal_of, numeral}, Reading.or_bad}
+use Rattle.fsfs_lines.specs.Splits.{split_last, split_once}
 use Rattle.fsfs_ids.specs.Maybe.{◌>>=◌}
 use Rattle.fsfs_parts.specs.declared.trailer.Trailer.{Trailer}
 

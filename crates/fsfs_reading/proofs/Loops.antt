@@ -1,10 +1,8 @@
 -- Reading node revisions one after the other, as a loop does.
-use Rattle.std.proofs.Common.{◌≡◌, ℕ, zero, suc, ◌-◌, ◌+◌, ◌≤◌, ◌<◌, Bool, true, false, cond, List, [], ◌∷◌, ◌++◌, length, get_or, Result, Ok, Err, refl, sym, ap, ◌∙◌, append_assoc, arith}
-use Rattle.std.proofs.lemmas.List.{append-nil}
-use Rattle.fsfs_lines.specs.declared.fault.FileFault.{FileFault}
-use Rattle.fsfs_lines.specs.Reading.{◌>>=◌}
-use Rattle.fsfs_reading.specs.declared.piece.FilePiece.{FilePiece}
-use Rattle.fsfs_reading.specs.Pieces.{step_of, before, pieces_below}
+use Rattle.std.proofs.Common.{◌≡◌, ℕ, zero, suc, ◌-◌, ◌+◌, ◌≤◌, ◌<◌, Bool, true, false, cond, List, [], ◌∷◌, ◌++◌, length, get_or, Result, Ok, Err, refl, sym}
+use Rattle.std.proofs.{Common.{ap, ◌∙◌, append_assoc, arith}, lemmas.List.append-nil}
+use Rattle.fsfs_lines.specs.{declared.fault.FileFault.FileFault, Reading.◌>>=◌}
+use Rattle.fsfs_reading.specs.{declared.piece.FilePiece.FilePiece, Pieces.{step_of, before, pieces_below}}
 
 abbrev Found : Type 0
 Found = Result (List FilePiece) FileFault

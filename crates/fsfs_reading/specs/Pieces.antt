@@ -1,19 +1,11 @@
 -- Reading a revision file as a whole.
-use Rattle.std.specs.Prelude.{ℕ, zero, suc, ◌==◌, ◌&&◌, ◌||◌, nat_lt, Bool, true, false, List, [], ◌∷◌, length, drop, replicate, slice_index_or, slice_set, Option, Some, None, Result, Ok, Err, if◌then◌else◌}
-use Rattle.fsfs_lines.specs.declared.fault.FileFault.{FileFault}
-use Rattle.fsfs_lines.specs.declared.fault.FileFault.TheVariants.{BadLine, Dangling}
-use Rattle.fsfs_lines.specs.Reading.{◌>>=◌}
-use Rattle.fsfs_ids.specs.declared.id.FileId.{FileId}
-use Rattle.fsfs_ids.specs.declared.representation.Representation.{Representation}
-use Rattle.fsfs_nodes.specs.declared.entries.EntryKind.{EntryKind}
-use Rattle.fsfs_nodes.specs.declared.entries.EntryKind.TheVariants.{File, Directory}
-use Rattle.fsfs_nodes.specs.declared.entries.DirectoryEntry.{DirectoryEntry}
-use Rattle.fsfs_nodes.specs.Nodes.{node_at}
-use Rattle.fsfs_nodes.specs.Entries.{entries_of}
-use Rattle.fsfs_parts.specs.declared.change.FileChange.{FileChange}
-use Rattle.fsfs_parts.specs.Bodies.{body_at}
-use Rattle.fsfs_parts.specs.Changes.{changes_of}
-use Rattle.fsfs_parts.specs.Trailers.{trailer_of}
+use Rattle.std.specs.Prelude.{ℕ, zero, suc, ◌==◌, ◌&&◌, ◌||◌, nat_lt, Bool, true, false, List, [], ◌∷◌, length, drop, replicate, slice_index_or, slice_set}
+use Rattle.std.specs.Prelude.{Option, Some, None, Result, Ok, Err, if◌then◌else◌}
+use Rattle.fsfs_lines.specs.{declared.fault.FileFault.FileFault, declared.fault.FileFault.TheVariants.{BadLine, Dangling}, Reading.◌>>=◌}
+use Rattle.fsfs_ids.specs.{declared.id.FileId.FileId, declared.representation.Representation.Representation}
+use Rattle.fsfs_nodes.specs.{declared.entries.EntryKind.EntryKind, declared.entries.EntryKind.TheVariants.{File, Directory}}
+use Rattle.fsfs_nodes.specs.{declared.entries.DirectoryEntry.DirectoryEntry, Nodes.node_at, Entries.entries_of}
+use Rattle.fsfs_parts.specs.{declared.change.FileChange.FileChange, Bodies.body_at, Changes.changes_of, Trailers.trailer_of}
 use Rattle.fsfs_reading.specs.declared.piece.FilePiece.{FilePiece}
 
 abbrev pub some_of : Result (List ℕ) FileFault → Result (Option (List ℕ)) FileFault

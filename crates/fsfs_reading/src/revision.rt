@@ -1,6 +1,6 @@
 //! A whole revision.
 ghost use Rattle.std.specs.Prelude.{◌≡◌};
-ghost use Rattle.fsfs_lines.specs.Reading.{Gives, Answers};
+ghost use Rattle.fsfs_lines.specs.Reading.{Answers, Gives};
 ghost use Rattle.fsfs_reading.specs.Pieces.{part_behind, revision_of};
 
 use crate::piece::FilePiece;

@@ -1,15 +1,9 @@
 -- The bytes of a revision file, as a whole.
-use Rattle.std.specs.Prelude.{◌≡◌, ℕ, ◌+◌, ◌<◌, ◌^◌, true, List, [], ◌∷◌, ◌++◌, length, Option, Some, None, Result, Ok, IfSome}
-use Rattle.std.specs.List.{flat_map}
+use Rattle.std.specs.{Prelude.{◌≡◌, ℕ, ◌+◌, ◌<◌, ◌^◌, true, List, [], ◌∷◌, ◌++◌, length, Option, Some, None, Result, Ok, IfSome}, List.flat_map}
 use Rattle.fsfs_lines.specs.Splits.{is_free}
-use Rattle.fsfs_ids.specs.declared.id.FileId.{FileId}
-use Rattle.fsfs_ids.specs.declared.representation.Representation.{Representation}
-use Rattle.fsfs_nodes.specs.declared.node.FileNode.{FileNode}
-use Rattle.fsfs_nodes.specs.Nodes.{node_bytes, node_at}
-use Rattle.fsfs_nodes.specs.Fits.{NodeFits, PlaceFits}
-use Rattle.fsfs_parts.specs.declared.change.FileChange.{FileChange}
-use Rattle.fsfs_parts.specs.Bodies.{body_bytes, representation_at, body_at}
-use Rattle.fsfs_parts.specs.Changes.{changes_bytes}
+use Rattle.fsfs_ids.specs.{declared.id.FileId.FileId, declared.representation.Representation.Representation}
+use Rattle.fsfs_nodes.specs.{declared.node.FileNode.FileNode, Nodes.{node_bytes, node_at}, Fits.{NodeFits, PlaceFits}}
+use Rattle.fsfs_parts.specs.{declared.change.FileChange.FileChange, Bodies.{body_bytes, representation_at, body_at}, Changes.changes_bytes}
 use Rattle.fsfs_parts.specs.Trailers.{trailer_bytes}
 
 -- a node revision, and the new text (or entries) and the new properties that come with it

@@ -1,8 +1,6 @@
 //! What was written is found again.
 ghost use Rattle.std.specs.Prelude.{◌≡◌, ◌<◌, ◌^◌, ◌++◌, ℕ, List, Ok};
-ghost use Rattle.fsfs_parts.specs.Changes.{changes_bytes, changes_of};
-ghost use Rattle.fsfs_parts.specs.Trailers.{trailer_bytes, trailer_of};
-ghost use Rattle.fsfs_parts.specs.declared.change.FileChange.{FileChange};
+ghost use Rattle.fsfs_parts.specs.{Changes.{changes_bytes, changes_of}, Trailers.{trailer_bytes, trailer_of}, declared.change.FileChange.FileChange};
 ghost use Rattle.fsfs_parts.specs.declared.trailer.Trailer.{Trailer};
 ghost use Rattle.fsfs_writing.specs.Files.{Piece, pieces_bytes, ArePlaced, AreFound, PiecesFit, ChangesFit};
 

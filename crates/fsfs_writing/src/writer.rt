@@ -1,7 +1,6 @@
 //! Writing a revision file.
 ghost use Rattle.std.specs.Prelude.{◌≡◌, ◌++◌, length, IfOk, option_copied};
-ghost use Rattle.fsfs_parts.specs.Changes.{changes_bytes};
-ghost use Rattle.fsfs_parts.specs.Trailers.{trailer_bytes};
+ghost use Rattle.fsfs_parts.specs.{Changes.changes_bytes, Trailers.trailer_bytes};
 ghost use Rattle.fsfs_writing.specs.Files.{brought, named_line, placed_node, piece_bytes};
 
 use fsfs_ids::Representation;

@@ -1,14 +1,8 @@
 -- The same blocks and lists of changes show the same revisions.
-use Rattle.std.proofs.Common.{◌≡◌, ℕ, zero, suc, List, [], ◌∷◌, None, refl, sym, ap, subst}
-use Rattle.std.proofs.lemmas.Option.{none-some}
-use Rattle.std.specs.FinMap.{empty}
-use Rattle.std.specs.Prelude.{slice_get, slice_set}
-use Rattle.repo_api.specs.Properties.{PropertyList}
-use Rattle.repo_api.specs.States.{ChangeMap, Revision, RepoState}
-use Rattle.repo_api.specs.Trees.{Tree}
-use Rattle.noderevs.specs.Nodes.{node_in, root_in}
-use Rattle.noderevs.specs.Views.{shared_tree}
-use Rattle.noderevs.specs.declared.node_rev.Block.{Block}
+use Rattle.std.proofs.{Common.{◌≡◌, ℕ, zero, suc, List, [], ◌∷◌, None, refl, sym, ap, subst}, lemmas.Option.none-some}
+use Rattle.std.specs.{FinMap.empty, Prelude.{slice_get, slice_set}}
+use Rattle.repo_api.specs.{Properties.PropertyList, States.{ChangeMap, RepoState, Revision}, Trees.Tree}
+use Rattle.noderevs.specs.{Nodes.{node_in, root_in}, Views.shared_tree, declared.node_rev.Block.Block}
 use Rattle.held.specs.Shown.{AreShownAs, Shown, same_shown, the_shown}
 
 abbrev trees_by : List Block → ℕ → Tree

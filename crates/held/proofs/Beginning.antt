@@ -1,18 +1,12 @@
 -- What is held of revisions that go on.
-use Rattle.std.proofs.Common.{◌≡◌, ◌<◌, ℕ, List, Option, Some, None, option_and_then, refl, sym, ap, subst, ◌∙◌, length}
-use Rattle.std.proofs.lemmas.Bool.{false≢true}
+use Rattle.std.proofs.{Common.{◌≡◌, ◌<◌, ℕ, List, Option, Some, None, option_and_then, refl, sym, ap, subst, ◌∙◌, length}, lemmas.Bool.false≢true}
 use Rattle.std.proofs.lemmas.Option.{slice_get_within}
-use Rattle.std.specs.FinMap.{get}
-use Rattle.std.specs.Prelude.{IsSome, slice_get}
+use Rattle.std.specs.{FinMap.get, Prelude.{IsSome, slice_get}}
 use Rattle.svnpath.specs.Paths.{PathValue}
 use Rattle.repo_api.specs.States.{IsBeginning, tree_in}
-use Rattle.noderevs.specs.Held.{blocks_of, node_at, trees_of}
-use Rattle.noderevs.specs.Nodes.{node_in}
-use Rattle.noderevs.specs.declared.node_rev.Block.{Block}
-use Rattle.noderevs.specs.declared.node_rev.NodeId.{NodeId}
+use Rattle.noderevs.specs.{Held.{blocks_of, node_at, trees_of}, Nodes.node_in, declared.node_rev.Block.Block, declared.node_rev.NodeId.NodeId}
 use Rattle.pvec.proofs.Even.{get_left}
-use Rattle.held.specs.Contents.{revisions_of}
-use Rattle.held.specs.declared.held.Held.{Held}
+use Rattle.held.specs.{Contents.revisions_of, declared.held.Held.Held}
 use Rattle.held.proofs.Seen.{held_seen, held_many}
 
 -- a node that is there is of a revision that is there

@@ -1,30 +1,16 @@
 -- Whether something stands more than so many names beneath a path.
-use Rattle.std.proofs.Common.{◌≡◌, ◌≤◌, ◌<◌, ◌+◌, ℕ, zero, suc, Bool, true, false, ◌&&◌, ◌||◌, List, [], ◌∷◌, ◌++◌, drop, length, Option, Some, None, is_some, refl, sym, ap, arith, ◌∙◌}
-use Rattle.std.proofs.lemmas.Bool.{false≢true, ltb-true}
-use Rattle.std.proofs.lemmas.Bool.Decides.{nat_tests}
-use Rattle.std.proofs.lemmas.Cmp.{tied_itself}
-use Rattle.std.proofs.lemmas.List.{length-append}
-use Rattle.std.proofs.lemmas.List.Folds.{list_any_at}
-use Rattle.std.proofs.Math.Logic.{∥∥₁_elim}
+use Rattle.std.proofs.Common.{◌≡◌, ◌≤◌, ◌<◌, ◌+◌, ℕ, zero, suc, Bool, true, false, ◌&&◌, ◌||◌, List, [], ◌∷◌, ◌++◌, drop, length, Option, Some, None, is_some}
+use Rattle.std.proofs.{Common.{refl, sym, ap, arith, ◌∙◌}, lemmas.Bool.{false≢true, ltb-true}, lemmas.Bool.Decides.nat_tests, lemmas.Cmp.tied_itself}
+use Rattle.std.proofs.{lemmas.List.length-append, lemmas.List.Folds.list_any_at, Math.Logic.∥∥₁_elim}
 use mathlib.Core.HLevel.{⊥_prop}
-use Rattle.std.specs.FinMap.{get, get-empty, keys, contains_key-keys}
-use Rattle.std.specs.List.{list_any}
-use Rattle.std.specs.Ordering.{is_eq, eq_by_cmp}
-use Rattle.std.specs.Prelude.{IsSome, nat_lt, slice_get}
-use Rattle.svnpath.specs.Components.{IsRightPath}
-use Rattle.svnpath.specs.PathLaws.{under_is, under_append}
-use Rattle.svnpath.specs.Paths.{PathValue, is_at_or_under, path_cmp, path_cmp_total}
+use Rattle.std.specs.{FinMap.{get, get-empty, keys, contains_key-keys}, List.list_any, Ordering.{is_eq, eq_by_cmp}, Prelude.{IsSome, nat_lt, slice_get}}
+use Rattle.svnpath.specs.{Components.IsRightPath, PathLaws.{under_append, under_is}, Paths.{is_at_or_under, path_cmp, path_cmp_total, PathValue}}
 use Rattle.svnpath.specs.declared.component.TheConstants.{DEPTH_LIMIT}
-use Rattle.repo_api.specs.Kinds.{has_deeper, has_deeper_at}
-use Rattle.repo_api.specs.MergeLaws.{key_there}
-use Rattle.repo_api.specs.Soundness.{AreTrees}
-use Rattle.repo_api.specs.States.{TreeMap, Revision, tree_at, tree_in, tree_of}
+use Rattle.repo_api.specs.{Kinds.{has_deeper, has_deeper_at}, MergeLaws.key_there, Soundness.AreTrees, States.{Revision, tree_at, tree_in, tree_of, TreeMap}}
 use Rattle.repo_api.specs.declared.entry.Entry.{Entry}
 use Rattle.history_marks.specs.Sound.{IsSoundRepo}
-use Rattle.noderevs.specs.Beneath.{IsShallow}
-use Rattle.noderevs.specs.Held.{trees_of}
-use Rattle.held.specs.Contents.{held_state}
-use Rattle.held.specs.declared.held.Held.{Held}
+use Rattle.noderevs.specs.{Beneath.IsShallow, Held.trees_of}
+use Rattle.held.specs.{Contents.held_state, declared.held.Held.Held}
 use Rattle.held.proofs.Seen.{held_seen}
 
 -- ---- by the paths of a map

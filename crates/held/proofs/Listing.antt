@@ -1,23 +1,13 @@
 -- The names of what stands straight beneath a path, by what stands there.
 use Rattle.std.proofs.Common.{◌≡◌, Bool, true, false, ◌&&◌, ◌||◌, List, [], ◌∷◌, ◌++◌, drop, map, length, Option, Some, None, is_some, refl, sym, ap, ◌∙◌}
-use Rattle.std.proofs.lemmas.Bool.{false≢true}
-use Rattle.std.proofs.lemmas.Cmp.{tied_itself}
-use Rattle.std.proofs.lemmas.List.{drop_at}
+use Rattle.std.proofs.{lemmas.Bool.false≢true, lemmas.Cmp.tied_itself, lemmas.List.drop_at}
 use Rattle.std.specs.Cmp.Lexicographic.{slice_cmp, nat_list_cmp_total}
 use Rattle.std.specs.FinMap.{get, keys, entries, entries_sorted, contains_key-keys, slice_cmp-IsAntisymmetric, nat_cmp-IsAntisymmetric}
-use Rattle.std.specs.FinMap.Entries.{is_sorted, below_all}
-use Rattle.std.specs.List.{AllByRecursion, cons_option, list_any}
-use Rattle.std.specs.List.Sorted.{IsStrictlySortedBy}
-use Rattle.std.specs.Option.{unwrap_or}
-use Rattle.std.specs.Ordering.{nat_cmp, is_eq, is_lt, ordering_then, eq_by_cmp}
-use Rattle.std.specs.Prelude.{if◌then◌else◌, T}
-use Rattle.std.specs.declared.cmp.Ordering.{Ordering}
+use Rattle.std.specs.{FinMap.Entries.{is_sorted, below_all}, List.{AllByRecursion, cons_option, list_any}, List.Sorted.IsStrictlySortedBy, Option.unwrap_or}
+use Rattle.std.specs.{Ordering.{nat_cmp, is_eq, is_lt, ordering_then, eq_by_cmp}, Prelude.{if◌then◌else◌, T}, declared.cmp.Ordering.Ordering}
 use Rattle.std.specs.declared.cmp.Ordering.TheVariants.{Less, Equal, Greater}
-use Rattle.svnpath.specs.Paths.{PathValue, Component, is_at_or_under, path_cmp}
-use Rattle.svnpath.specs.PathLaws.{at_is, under_is, under_append}
-use Rattle.repo_api.specs.Readings.{sole, rest_beneath, name_in, names_among, names_in}
-use Rattle.repo_api.specs.States.{TreeMap}
-use Rattle.repo_api.specs.declared.entry.Entry.{Entry}
+use Rattle.svnpath.specs.{PathLaws.{at_is, under_append, under_is}, Paths.{Component, is_at_or_under, path_cmp, PathValue}}
+use Rattle.repo_api.specs.{Readings.{name_in, names_among, names_in, rest_beneath, sole}, States.TreeMap, declared.entry.Entry.Entry}
 use Rattle.held.proofs.Ordered.{one_order}
 
 beneath_cmp : (p x y : PathValue) → path_cmp (p ++ x) (p ++ y) ≡ path_cmp x y

@@ -1,29 +1,16 @@
 -- The marks at a path and above it, by the nodes that its names lead to.
-use Rattle.std.proofs.Common.{◌≡◌, ◌≤◌, ◌+◌, ℕ, zero, suc, Bool, true, false, [], length, take, max, Option, Some, None, option_map, option_and_then, refl, sym, ap, subst, arith, ◌∙◌}
-use Rattle.std.proofs.lemmas.Bool.{false≢true}
-use Rattle.std.proofs.lemmas.List.{take_all}
-use Rattle.std.proofs.Math.Logic.{∥∥₁_elim}
-use Rattle.std.proofs.Math.Nat.{le-max_left, le-max_right}
+use Rattle.std.proofs.Common.{◌≡◌, ◌≤◌, ◌+◌, ℕ, zero, suc, Bool, true, false, [], length, take, max, Option, Some, None, option_map, option_and_then, refl, sym}
+use Rattle.std.proofs.{Common.{ap, subst, arith, ◌∙◌}, lemmas.Bool.false≢true, lemmas.List.take_all, Math.Logic.∥∥₁_elim, Math.Nat.{le-max_left, le-max_right}}
 use mathlib.Core.HLevel.{⊥_prop}
 use borrow.Author.Tests.{eqb-true, eqb-false}
 use Rattle.std.specs.Prelude.{IsSome, ◌==◌}
 use Rattle.svnpath.specs.Paths.{PathValue}
-use Rattle.repo_api.specs.Histories.{history_of, IsQuiet, IsQuietSince}
-use Rattle.repo_api.specs.Kinds.{created_of}
-use Rattle.repo_api.specs.States.{tree_of, tree_at}
-use Rattle.repo_api.specs.Trees.{Tree}
-use Rattle.history_marks.specs.Quiet.{own_revision}
-use Rattle.history_marks.specs.Settling.{or_zero}
-use Rattle.history_marks.specs.Sound.{IsSoundRepo}
+use Rattle.repo_api.specs.{Histories.{history_of, IsQuiet, IsQuietSince}, Kinds.created_of, States.{tree_at, tree_of}, Trees.Tree}
+use Rattle.history_marks.specs.{Quiet.own_revision, Settling.or_zero, Sound.IsSoundRepo}
 use Rattle.history_marks.proofs.Settling.{marks_settle, walked}
-use Rattle.noderevs.specs.Held.{trees_of}
-use Rattle.noderevs.specs.Nodes.{Look}
-use Rattle.noderevs.specs.Views.{find_id, shared_entry, entry_at, shared_tree}
-use Rattle.noderevs.specs.declared.node_rev.NodeId.{NodeId}
+use Rattle.noderevs.specs.{Held.trees_of, Nodes.Look, Views.{entry_at, find_id, shared_entry, shared_tree}, declared.node_rev.NodeId.NodeId}
 use Rattle.noderevs.specs.declared.node_rev.NodeRev.{NodeRev}
-use Rattle.held.specs.Contents.{held_state}
-use Rattle.held.specs.Settling.{IsSettledFrom}
-use Rattle.held.specs.declared.held.Held.{Held}
+use Rattle.held.specs.{Contents.held_state, Settling.IsSettledFrom, declared.held.Held.Held}
 use Rattle.held.proofs.Seen.{held_seen}
 
 -- what a node that a path leads to shows

@@ -1,30 +1,18 @@
 -- What a commit of a transaction's tree makes, as the map of the definitions.
-use Rattle.std.proofs.Common.{◌≡◌, ℕ, Bool, true, false, ◌&&◌, ◌||◌, Option, Some, None, option_map, refl, sym, ap, ◌∙◌}
-use Rattle.std.proofs.lemmas.Bool.{false≢true}
+use Rattle.std.proofs.{Common.{◌≡◌, ℕ, Bool, true, false, ◌&&◌, ◌||◌, Option, Some, None, option_map, refl, sym, ap, ◌∙◌}, lemmas.Bool.false≢true}
 use Rattle.std.proofs.Math.Logic.{∥∥₁_map}
 use Rattle.std.specs.Prelude.{if◌then◌else◌, IsErrOf, Result, Ok, Err}
 use Rattle.svnpath.specs.Paths.{PathValue}
-use Rattle.repo_api.specs.Edits.{touched}
-use Rattle.repo_api.specs.Marks.{shown, own_of, AreMarked, IsTransactionOf}
-use Rattle.repo_api.specs.Merge.{is_in_conflict, is_untouched, has_open_last, merged_entry, merged, HasNoConflict}
-use Rattle.repo_api.specs.MergedMaps.{has_conflict, merged_map}
-use Rattle.repo_api.specs.MergeLaws.{get_merged_map, no_conflict_is, conflict_is}
-use Rattle.repo_api.specs.Properties.{PropertyList}
-use Rattle.repo_api.specs.States.{TreeMap}
-use Rattle.repo_api.specs.Trees.{Tree, same_mark, is_open_mark}
-use Rattle.repo_api.specs.declared.entry.Content.{Content}
-use Rattle.repo_api.specs.declared.entry.Entry.{Entry}
-use Rattle.repo_api.specs.declared.entry.Mark.{Mark}
-use Rattle.repo_api.specs.declared.entry.Mark.TheVariants.{Open, Made}
-use Rattle.repo_laws.proofs.MergeLaws.{untouched_own, same_look}
-use Rattle.repo_laws.proofs.Naming.{same_mark_is}
-use Rattle.treemerge.specs.Merges.{IsTold, IfConflict}
-use Rattle.treemerge.specs.declared.merging.MergeFault.{MergeFault}
+use Rattle.repo_api.specs.{Edits.touched, Marks.{AreMarked, IsTransactionOf, own_of, shown}}
+use Rattle.repo_api.specs.Merge.{has_open_last, HasNoConflict, is_in_conflict, is_untouched, merged, merged_entry}
+use Rattle.repo_api.specs.{MergeLaws.{conflict_is, get_merged_map, no_conflict_is}, MergedMaps.{has_conflict, merged_map}, Properties.PropertyList}
+use Rattle.repo_api.specs.{States.TreeMap, Trees.{is_open_mark, same_mark, Tree}, declared.entry.Content.Content, declared.entry.Entry.Entry}
+use Rattle.repo_api.specs.{declared.entry.Mark.Mark, declared.entry.Mark.TheVariants.{Open, Made}}
+use Rattle.repo_laws.proofs.{MergeLaws.{untouched_own, same_look}, Naming.same_mark_is}
+use Rattle.treemerge.specs.{Merges.{IsTold, IfConflict}, declared.merging.MergeFault.MergeFault}
 use Rattle.treemerge.specs.declared.merging.MergeFault.TheVariants as merges
-use Rattle.held.specs.Committing.{commit_fault}
-use Rattle.held.specs.declared.committing.CommitFault.{CommitFault}
+use Rattle.held.specs.{Committing.commit_fault, declared.committing.CommitFault.CommitFault, Maps.{IsMapOf, Mapped}}
 use Rattle.held.specs.declared.committing.CommitFault.TheVariants as commits
-use Rattle.held.specs.Maps.{IsMapOf, Mapped}
 
 -- maps of three trees
 module _ (n : ℕ) (a s t : Tree) (ma ms mt : TreeMap) (isa : IsMapOf a ma) (iss : IsMapOf s ms)

@@ -1,24 +1,13 @@
 -- The names of a directory's entries.
 use Rattle.std.proofs.Common.{◌≡◌, true, false, ℕ, [], ◌∷◌, ◌++◌, Option, Some, None, is_some, option_map, option_and_then, refl, sym, ap, ◌∙◌}
-use Rattle.std.specs.Cmp.Lexicographic.{slice_cmp}
-use Rattle.std.specs.FinMap.{get, keys, contains_key-keys}
-use Rattle.std.specs.List.{list_any}
-use Rattle.std.specs.List.Sorted.{IsStrictlySortedBy}
-use Rattle.std.specs.Ordering.{nat_cmp, is_eq}
-use Rattle.std.specs.Prelude.{slice_get}
-use Rattle.svnpath.specs.Paths.{PathValue, Component}
-use Rattle.repo_api.specs.Readings.{names_in}
-use Rattle.repo_api.specs.States.{tree_in}
-use Rattle.noderevs.specs.Nodes.{Look, Kids, kid_at, kid_named, kid_of, IsThere}
-use Rattle.noderevs.specs.Views.{find_id, shared_entry, entry_at, shared_tree}
-use Rattle.noderevs.specs.Held.{node_at, root_at}
-use Rattle.noderevs.specs.Soundness.{AreKidsThere}
-use Rattle.noderevs.specs.declared.node_rev.NodeId.{NodeId}
-use Rattle.noderevs.specs.declared.node_rev.NodeRev.{NodeRev}
-use Rattle.held.specs.Contents.{revisions_of}
-use Rattle.held.specs.declared.held.Held.{Held}
-use Rattle.held.proofs.Listing.{names_are}
-use Rattle.held.proofs.Seen.{held_seen, shared_on}
+use Rattle.std.specs.{Cmp.Lexicographic.slice_cmp, FinMap.{get, keys, contains_key-keys}, List.list_any, List.Sorted.IsStrictlySortedBy}
+use Rattle.std.specs.{Ordering.{nat_cmp, is_eq}, Prelude.slice_get}
+use Rattle.svnpath.specs.Paths.{Component, PathValue}
+use Rattle.repo_api.specs.{Readings.names_in, States.tree_in}
+use Rattle.noderevs.specs.{Held.{node_at, root_at}, Nodes.{IsThere, kid_at, kid_named, kid_of, Kids, Look}, Soundness.AreKidsThere}
+use Rattle.noderevs.specs.{Views.{entry_at, find_id, shared_entry, shared_tree}, declared.node_rev.NodeId.NodeId, declared.node_rev.NodeRev.NodeRev}
+use Rattle.held.specs.{Contents.revisions_of, declared.held.Held.Held}
+use Rattle.held.proofs.{Listing.names_are, Seen.{held_seen, shared_on}}
 
 none_sorted : IsStrictlySortedBy (slice_cmp nat_cmp) []
 unfolding IsStrictlySortedBy

@@ -1,11 +1,8 @@
 -- One revision more.
-use Rattle.std.proofs.Common.{◌≡◌, ◌<◌, ℕ, List, [], ◌∷◌, ◌++◌, length, refl, sym, subst, ◌∙◌}
-use Rattle.std.proofs.Math.Logic.{∥∥₁_map₂}
+use Rattle.std.proofs.{Common.{◌≡◌, ◌<◌, ℕ, List, [], ◌∷◌, ◌++◌, length, refl, sym, subst, ◌∙◌}, Math.Logic.∥∥₁_map₂}
 use Rattle.svnpath.specs.Paths.{PathValue}
-use Rattle.repo_api.specs.States.{TreeMap, ChangeMap, Revision}
-use Rattle.repo_api.specs.Trees.{Tree}
-use Rattle.held.specs.Maps.{IsMapOf, Mapped}
-use Rattle.held.specs.Shown.{AreShownAs, Shown, same_shown, the_shown}
+use Rattle.repo_api.specs.{States.{ChangeMap, Revision, TreeMap}, Trees.Tree}
+use Rattle.held.specs.{Maps.{IsMapOf, Mapped}, Shown.{AreShownAs, Shown, same_shown, the_shown}}
 use Rattle.held.proofs.Showing.{shown_and, shown_still}
 
 module _ (old new : ℕ → Tree) (cs more : List ChangeMap) (c : ChangeMap) (t : Tree)

@@ -1,22 +1,12 @@
 -- A new repository.
-use Rattle.std.proofs.Common.{◌≡◌, ℕ, zero, suc, List, [], ◌∷◌, Option, Some, None, is_some, refl, sym, ap, subst, ◌∙◌}
-use Rattle.std.proofs.lemmas.Bool.{false≢true}
-use Rattle.std.specs.FinMap.{empty}
-use Rattle.std.specs.Prelude.{slice_get}
+use Rattle.std.proofs.{Common.{◌≡◌, ℕ, zero, suc, List, [], ◌∷◌, Option, Some, None, is_some, refl, sym, ap, subst, ◌∙◌}, lemmas.Bool.false≢true}
+use Rattle.std.specs.{FinMap.empty, Prelude.slice_get}
 use Rattle.svnpath.specs.Paths.{PathValue}
-use Rattle.repo_api.specs.Opening.{opening_tree}
-use Rattle.repo_api.specs.States.{ChangeMap, Revision, tree_of}
-use Rattle.repo_api.specs.Trees.{Tree}
-use Rattle.repo_api.specs.declared.entry.Mark.{Mark}
+use Rattle.repo_api.specs.{Opening.opening_tree, States.{ChangeMap, Revision, tree_of}, Trees.Tree, declared.entry.Mark.Mark}
 use Rattle.repo_api.specs.declared.entry.Mark.TheVariants.{Open, Made}
-use Rattle.noderevs.specs.Nodes.{node_in, root_in, with_block}
-use Rattle.noderevs.specs.OpeningBlocks.{IsOpeningBlock, AreOpening}
-use Rattle.noderevs.specs.Soundness.{AreKidsThere, AreRootsThere}
-use Rattle.noderevs.specs.Views.{find_id}
-use Rattle.noderevs.specs.declared.node_rev.Block.{Block}
-use Rattle.noderevs.specs.declared.node_rev.NodeRev.{NodeRev}
-use Rattle.held.specs.Placed.{ArePlaced, IsPlacedBlock}
-use Rattle.held.specs.Shown.{AreShownAs, Shown, same_shown, the_shown}
+use Rattle.noderevs.specs.{Nodes.{node_in, root_in, with_block}, OpeningBlocks.{AreOpening, IsOpeningBlock}, Soundness.{AreKidsThere, AreRootsThere}}
+use Rattle.noderevs.specs.{Views.find_id, declared.node_rev.Block.Block, declared.node_rev.NodeRev.NodeRev}
+use Rattle.held.specs.{Placed.{ArePlaced, IsPlacedBlock}, Shown.{AreShownAs, Shown, same_shown, the_shown}}
 use Rattle.held.proofs.Placing.{placed_pushed}
 
 -- ---- its node stands at its path

@@ -1,23 +1,15 @@
 -- The nodes of a sealed block stand at their paths.
-use Rattle.std.proofs.Common.{◌≡◌, ◌==◌, ℕ, [], Option, Some, None, is_some, option_map, option_and_then, refl, sym, ap, ◌∙◌}
-use Rattle.std.proofs.lemmas.Bool.{false≢true}
-use Rattle.std.specs.Prelude.{if◌then◌else◌, slice_get}
+use Rattle.std.proofs.{Common.{◌≡◌, ◌==◌, ℕ, [], Option, Some, None, is_some, option_map, option_and_then, refl, sym, ap, ◌∙◌}, lemmas.Bool.false≢true}
 use Rattle.std.proofs.Math.Logic.{∥∥₁_map}
+use Rattle.std.specs.Prelude.{if◌then◌else◌, slice_get}
 use Rattle.svnpath.specs.Paths.{PathValue}
-use Rattle.repo_api.specs.Trees.{Tree}
-use Rattle.repo_api.specs.declared.entry.Entry.{Entry}
-use Rattle.repo_api.specs.declared.entry.Mark.{Mark}
-use Rattle.repo_api.specs.declared.entry.Mark.TheVariants.{Open, Made}
-use Rattle.noderevs.specs.Nodes.{Look, with_block}
-use Rattle.noderevs.specs.Views.{find_id, shared_entry, entry_at}
-use Rattle.noderevs.specs.declared.node_rev.Block.{Block}
-use Rattle.noderevs.specs.declared.node_rev.NodeId.{NodeId}
+use Rattle.repo_api.specs.{Trees.Tree, declared.entry.Entry.Entry, declared.entry.Mark.Mark, declared.entry.Mark.TheVariants.{Open, Made}}
+use Rattle.noderevs.specs.{Nodes.{Look, with_block}, Views.{entry_at, find_id, shared_entry}, declared.node_rev.Block.Block, declared.node_rev.NodeId.NodeId}
 use Rattle.noderevs.specs.declared.node_rev.NodeRev.{NodeRev}
 use Rattle.noderevs.proofs.Pushing.{same_number}
 use Rattle.txntree.specs.Sealing.{IsBlockOf}
 use Rattle.txntree.proofs.Sharing.{shared_flat}
-use Rattle.held.specs.Maps.{Mapped}
-use Rattle.held.specs.Placed.{IsPlacedBlock}
+use Rattle.held.specs.{Maps.Mapped, Placed.IsPlacedBlock}
 
 abbrev last_or : Option Entry → Mark
 last_or None = Open

@@ -1,13 +1,10 @@
 -- Nodes stand at their paths, with a further revision too.
-use Rattle.std.proofs.Common.{◌≡◌, ◌≢◌, ◌==◌, ℕ, Bool, true, false, List, [], ◌∷◌, ◌++◌, length, Option, Some, None, option_and_then, refl, sym, ap, subst, arith, rules, ◌∙◌}
-use Rattle.std.proofs.lemmas.Bool.{false≢true}
+use Rattle.std.proofs.Common.{◌≡◌, ◌≢◌, ◌==◌, ℕ, Bool, true, false, List, [], ◌∷◌, ◌++◌, length, Option, Some, None, option_and_then, refl, sym, ap, subst}
+use Rattle.std.proofs.{Common.{arith, rules, ◌∙◌}, lemmas.Bool.false≢true}
 use Rattle.std.specs.Prelude.{if◌then◌else◌, slice_get}
 use Rattle.svnpath.specs.Paths.{PathValue}
-use Rattle.noderevs.specs.Nodes.{Look, node_in, root_in, kid_of, kid_at, IsThere, IsBefore, Grows, with_block}
-use Rattle.noderevs.specs.Soundness.{AreKidsThere, AreRootsThere}
-use Rattle.noderevs.specs.Views.{find_id}
-use Rattle.noderevs.specs.declared.node_rev.Block.{Block}
-use Rattle.noderevs.specs.declared.node_rev.NodeId.{NodeId}
+use Rattle.noderevs.specs.{Nodes.{Grows, IsBefore, IsThere, kid_at, kid_of, Look, node_in, root_in, with_block}, Soundness.{AreKidsThere, AreRootsThere}}
+use Rattle.noderevs.specs.{Views.find_id, declared.node_rev.Block.Block, declared.node_rev.NodeId.NodeId}
 use Rattle.noderevs.proofs.Pushing.{same_number, behind, next_is_free, pushed_look, last_root, other_root}
 use Rattle.held.specs.Placed.{ArePlaced, IsPlacedBlock}
 

@@ -1,21 +1,12 @@
 -- What is held, seen by paths and ids.
-use Rattle.std.proofs.Common.{◌≡◌, ◌≤◌, ◌<◌, ℕ, zero, suc, List, [], ◌∷◌, ◌++◌, length, arith, Option, Some, None, is_some, option_map, option_and_then, refl, sym, ap, subst, ◌∙◌}
-use Rattle.std.proofs.lemmas.Bool.{false≢true}
-use Rattle.std.proofs.lemmas.Option.{slice_get_past}
-use Rattle.std.specs.FinMap.{entries}
-use Rattle.std.specs.Prelude.{IsSome, slice_get}
+use Rattle.std.proofs.Common.{◌≡◌, ◌≤◌, ◌<◌, ℕ, zero, suc, List, [], ◌∷◌, ◌++◌, length, arith, Option, Some, None, is_some, option_map, option_and_then, refl}
+use Rattle.std.proofs.{Common.{sym, ap, subst, ◌∙◌}, lemmas.Bool.false≢true, lemmas.Option.slice_get_past}
+use Rattle.std.specs.{FinMap.entries, Prelude.{IsSome, slice_get}}
 use Rattle.svnpath.specs.Paths.{PathValue}
-use Rattle.repo_api.specs.Readings.{IsSameAt}
-use Rattle.repo_api.specs.Histories.{changes_in}
-use Rattle.repo_api.specs.States.{ChangeMap, trees_in}
-use Rattle.noderevs.specs.Nodes.{Look, kid_at}
-use Rattle.noderevs.specs.Views.{find_id, entry_at, shared_tree}
-use Rattle.noderevs.specs.Held.{blocks_of, node_at, root_at, trees_of}
-use Rattle.noderevs.specs.declared.node_rev.Block.{Block}
-use Rattle.noderevs.specs.declared.node_rev.NodeId.{NodeId}
-use Rattle.held.specs.Shown.{the_shown}
-use Rattle.held.specs.Contents.{revisions_of, held_state, tree_held}
-use Rattle.held.specs.declared.held.Held.{Held}
+use Rattle.repo_api.specs.{Histories.changes_in, Readings.IsSameAt, States.{ChangeMap, trees_in}}
+use Rattle.noderevs.specs.{Held.{blocks_of, node_at, root_at, trees_of}, Nodes.{kid_at, Look}, Views.{entry_at, find_id, shared_tree}}
+use Rattle.noderevs.specs.{declared.node_rev.Block.Block, declared.node_rev.NodeId.NodeId}
+use Rattle.held.specs.{Shown.the_shown, Contents.{revisions_of, held_state, tree_held}, declared.held.Held.Held}
 use Rattle.held.proofs.Showing.{as_many, seen_at, listed_at, listed_is, listed_none}
 
 lost : (look : Look) (p : PathValue) → find_id look p None ≡ None

@@ -1,12 +1,9 @@
 -- Revisions that are shown, one by one and with one more.
 use Rattle.std.proofs.Common.{◌≡◌, ◌≤◌, ◌<◌, ℕ, zero, suc, List, [], ◌∷◌, ◌++◌, length, Option, Some, None, refl, sym, ap, arith, ◌∙◌}
 use Rattle.std.proofs.lemmas.Option.{none-some}
-use Rattle.std.specs.FinMap.{get, entries, get-empty}
-use Rattle.std.specs.Prelude.{slice_get}
-use Rattle.svnpath.specs.Paths.{PathValue, path_cmp}
-use Rattle.repo_api.specs.Histories.{Changed, changes_in}
-use Rattle.repo_api.specs.States.{ChangeMap, Revision, tree_in}
-use Rattle.repo_api.specs.Trees.{Tree}
+use Rattle.std.specs.{FinMap.{get, entries, get-empty}, Prelude.slice_get}
+use Rattle.svnpath.specs.Paths.{path_cmp, PathValue}
+use Rattle.repo_api.specs.{Histories.{Changed, changes_in}, States.{ChangeMap, Revision, tree_in}, Trees.Tree}
 use Rattle.held.specs.Shown.{IsShownAs, AreShownAs}
 
 pub as_many : (trees : ℕ → Tree) (cs : List ChangeMap) (rs : List Revision) → AreShownAs trees cs rs

@@ -1,21 +1,14 @@
 -- A sound transaction, over what is held now.
 use Rattle.std.proofs.Common.{◌≡◌, true, option_map, subst}
-use Rattle.std.specs.FinMap.{get}
-use Rattle.std.specs.Prelude.{if◌then◌else◌}
+use Rattle.std.specs.{FinMap.get, Prelude.if◌then◌else◌}
 use Rattle.svnpath.specs.Paths.{PathValue}
-use Rattle.repo_api.specs.Edits.{touched}
-use Rattle.repo_api.specs.Merge.{is_untouched, has_open_last}
-use Rattle.repo_api.specs.States.{TxnState, IsBeginning, tree_of, trees_in}
-use Rattle.repo_api.specs.Trees.{Tree}
-use Rattle.repo_laws.proofs.Marking.{transaction_later}
-use Rattle.repo_laws.proofs.Revisions.{beginning_keeps}
+use Rattle.repo_api.specs.{Edits.touched, Merge.{has_open_last, is_untouched}, States.{IsBeginning, tree_of, trees_in, TxnState}, Trees.Tree}
+use Rattle.repo_laws.proofs.{Marking.transaction_later, Revisions.beginning_keeps}
 use Rattle.history_marks.specs.Sound.{IsSoundRepo, IsSoundTxn}
 use Rattle.noderevs.specs.Held.{trees_of}
 use Rattle.treemerge.specs.Merges.{IsTold}
-use Rattle.held.specs.Contents.{held_state, revisions_of}
-use Rattle.held.specs.declared.held.Held.{Held}
-use Rattle.held.proofs.Merging.{told}
-use Rattle.held.proofs.Seen.{held_seen}
+use Rattle.held.specs.{Contents.{held_state, revisions_of}, declared.held.Held.Held}
+use Rattle.held.proofs.{Merging.told, Seen.held_seen}
 
 told_same : (a b s t : Tree) → ((q : PathValue) → b q ≡ a q) → ((q : PathValue) → t q ≡ s q)
     → IsTold b t → IsTold a s

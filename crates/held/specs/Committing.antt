@@ -1,13 +1,10 @@
 -- What a commit makes, and why it was not made.
 use Rattle.std.specs.Prelude.{ℕ, Bool, length}
-use Rattle.repo_api.specs.MergedMaps.{has_conflict, merged_map}
-use Rattle.repo_api.specs.States.{TreeMap, tree_at, youngest}
+use Rattle.repo_api.specs.{MergedMaps.{has_conflict, merged_map}, States.{tree_at, TreeMap, youngest}}
 use Rattle.treemerge.specs.declared.merging.MergeFault.{MergeFault}
 use Rattle.treemerge.specs.declared.merging.MergeFault.TheVariants as merges
-use Rattle.held.specs.declared.committing.CommitFault.{CommitFault}
+use Rattle.held.specs.{declared.committing.CommitFault.CommitFault, declared.held.Held.Held, Contents.{revisions_of, held_state}}
 use Rattle.held.specs.declared.committing.CommitFault.TheVariants as commits
-use Rattle.held.specs.declared.held.Held.{Held}
-use Rattle.held.specs.Contents.{revisions_of, held_state}
 
 -- the tree of the revision that comes next, of a transaction from this base that has this tree
 abbrev pub next_map : Held → ℕ → TreeMap → TreeMap

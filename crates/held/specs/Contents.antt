@@ -1,15 +1,8 @@
 -- What is held, as the state of a repository.
-use Rattle.std.specs.Prelude.{ℕ, List, Some}
-use Rattle.std.specs.FinMap.{empty}
-use Rattle.repo_api.specs.States.{Revision, RepoState, LockMap, trees_in}
-use Rattle.repo_api.specs.Trees.{Tree}
-use Rattle.noderevs.specs.Held.{node_at, count, trees_of}
-use Rattle.noderevs.specs.Nodes.{with_block}
-use Rattle.noderevs.specs.Views.{shared_tree}
-use Rattle.noderevs.specs.declared.node_rev.Block.{Block}
-use Rattle.noderevs.specs.declared.nodes.Nodes.{Nodes}
-use Rattle.held.specs.Shown.{the_shown}
-use Rattle.held.specs.declared.held.Held.{Held}
+use Rattle.std.specs.{Prelude.{ℕ, List, Some}, FinMap.empty}
+use Rattle.repo_api.specs.{States.{LockMap, RepoState, Revision, trees_in}, Trees.Tree}
+use Rattle.noderevs.specs.{Held.{count, node_at, trees_of}, Nodes.with_block, Views.shared_tree, declared.node_rev.Block.Block, declared.nodes.Nodes.Nodes}
+use Rattle.held.specs.{Shown.the_shown, declared.held.Held.Held}
 
 abbrev pub revisions_of : Held → List Revision
 revisions_of h = (the_shown (trees_of h.nodes) h.changes h.shown).0

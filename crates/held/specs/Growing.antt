@@ -1,8 +1,7 @@
 -- What a further revision adds.
 use Rattle.std.specs.Prelude.{◌≡◌, [], ◌∷◌, ◌++◌}
 use Rattle.repo_api.specs.States.{ChangeMap}
-use Rattle.noderevs.specs.Held.{blocks_of}
-use Rattle.noderevs.specs.declared.node_rev.Block.{Block}
+use Rattle.noderevs.specs.{Held.blocks_of, declared.node_rev.Block.Block}
 use Rattle.held.specs.declared.held.Held.{Held}
 
 -- behind what was held come one block and one list of changes

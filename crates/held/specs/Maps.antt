@@ -1,16 +1,9 @@
 -- A tree as the one finite map that has the same at each path.
-use Rattle.std.proofs.Common.{◌≡◌, Option, sym, ◌∙◌}
-use Rattle.std.proofs.Math.Logic.{∥∥₁_elim}
+use Rattle.std.proofs.{Common.{◌≡◌, Option, sym, ◌∙◌}, Math.Logic.∥∥₁_elim}
 use mathlib.Core.HLevel.{Σ_prop_path}
-use Rattle.std.specs.Coded.{codes, Coded, Coded-set, Π_prop}
-use Rattle.std.specs.FinMap.{get}
+use Rattle.std.specs.{Coded.{codes, Coded, Coded-set, Π_prop}, FinMap.get}
 use Rattle.svnpath.specs.Paths.{PathValue}
-use Rattle.repo_api.specs.MergeLaws.{map_of_is}
-use Rattle.repo_api.specs.MergedMaps.{map_of}
-use Rattle.repo_api.specs.StateLaws.{same_tree}
-use Rattle.repo_api.specs.States.{TreeMap}
-use Rattle.repo_api.specs.Trees.{Tree, IsTree}
-use Rattle.repo_api.specs.declared.entry.Entry.{Entry}
+use Rattle.repo_api.specs.{MergeLaws.map_of_is, MergedMaps.map_of, StateLaws.same_tree, States.TreeMap, Trees.{IsTree, Tree}, declared.entry.Entry.Entry}
 
 entries_coded : Coded (Option Entry)
 entries_coded = hlevel codes

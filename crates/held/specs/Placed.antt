@@ -1,9 +1,6 @@
 -- Nodes stand at their paths in the trees of their revisions.
 use Rattle.std.specs.Prelude.{◌≡◌, ℕ, Option, Some, slice_get}
-use Rattle.noderevs.specs.Nodes.{Look, with_block}
-use Rattle.noderevs.specs.Views.{find_id}
-use Rattle.noderevs.specs.declared.node_rev.Block.{Block}
-use Rattle.noderevs.specs.declared.node_rev.NodeId.{NodeId}
+use Rattle.noderevs.specs.{Nodes.{Look, with_block}, Views.find_id, declared.node_rev.Block.Block, declared.node_rev.NodeId.NodeId}
 use Rattle.noderevs.specs.declared.node_rev.NodeRev.{NodeRev}
 
 abbrev pub ArePlaced : Look → (ℕ → Option NodeId) → Type 0

@@ -1,12 +1,8 @@
 -- The revisions that trees and lists of changes show.
-use Rattle.std.proofs.Common.{◌≡◌, ℕ, suc, List, [], ◌∷◌, refl, sym, ◌∙◌}
-use Rattle.std.proofs.Math.Logic.{∥∥₁_elim}
+use Rattle.std.proofs.{Common.{◌≡◌, ℕ, suc, List, [], ◌∷◌, refl, sym, ◌∙◌}, Math.Logic.∥∥₁_elim}
 use mathlib.Core.HLevel.{Σ_prop_path}
-use Rattle.std.specs.Coded.{codes, Coded, Coded-set, ×_prop, Unit-prop}
-use Rattle.std.specs.FinMap.{code as map_code}
-use Rattle.repo_api.specs.StateLaws.{same_tree}
-use Rattle.repo_api.specs.States.{ChangeMap, Revision}
-use Rattle.repo_api.specs.Trees.{Tree}
+use Rattle.std.specs.{Coded.{codes, Coded, Coded-set, ×_prop, Unit-prop}, FinMap.code as map_code}
+use Rattle.repo_api.specs.{StateLaws.same_tree, States.{ChangeMap, Revision}, Trees.Tree}
 use Rattle.held.specs.Maps.{IsMapOf, IsMapOf-prop}
 
 changes_coded : Coded ChangeMap

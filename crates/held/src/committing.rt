@@ -2,11 +2,9 @@
 ghost use Rattle.std.specs.Prelude.{◌≡◌, true, false, IfOk, IsErrOf};
 ghost use Rattle.repo_api.specs.States.{TreeMap};
 ghost use Rattle.noderevs.specs.Held.{node_at, root_at, trees_of};
-ghost use Rattle.txntree.specs.Whole.{txn_tree, IsSound};
+ghost use Rattle.txntree.specs.Whole.{IsSound, txn_tree};
 ghost use Rattle.treemerge.specs.Merges.{IsTold};
-ghost use Rattle.held.specs.Committing.{commit_fault, conflicts, next_map};
-ghost use Rattle.held.specs.Maps.{IsMapOf};
-ghost use Rattle.held.specs.Sealed.{sealed_tree};
+ghost use Rattle.held.specs.{Committing.{commit_fault, conflicts, next_map}, Maps.IsMapOf, Sealed.sealed_tree};
 
 use crate::held::Held;
 use std::alloc::{AllocError, Global};

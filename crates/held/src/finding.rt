@@ -1,13 +1,9 @@
 //! What is found in what is held. It takes no memory but for a list of names.
-ghost use Rattle.std.specs.Prelude.{◌≡◌, ◌<◌, true, length, map, IfOk, option_copied, slice_get};
-ghost use Rattle.std.specs.Map.Iter.{deref};
-ghost use Rattle.repo_api.specs.Histories.{changes_in};
+ghost use Rattle.std.specs.{Prelude.{◌≡◌, ◌<◌, true, length, map, IfOk, option_copied, slice_get}, Map.Iter.deref};
+ghost use Rattle.repo_api.specs.{Histories.changes_in, Kinds.{created_of, has_deeper_at, kind_of, node_properties}, Readings.{IsSameAt, names_in}};
+ghost use Rattle.repo_api.specs.{States.{tree_in, youngest}, Trees.text_of};
 ghost use Rattle.history_marks.specs.Sound.{IsSoundRepo};
-ghost use Rattle.repo_api.specs.Kinds.{kind_of, created_of, has_deeper_at, node_properties, text_of};
-ghost use Rattle.repo_api.specs.Readings.{names_in, IsSameAt};
-ghost use Rattle.repo_api.specs.States.{tree_in, youngest};
-ghost use Rattle.noderevs.specs.Held.{node_at, root_at};
-ghost use Rattle.noderevs.specs.Views.{find_id};
+ghost use Rattle.noderevs.specs.{Held.{node_at, root_at}, Views.find_id};
 ghost use Rattle.held.specs.Contents.{revisions_of, held_state, tree_held};
 
 use crate::held::Held;

@@ -1,11 +1,8 @@
 //! A further revision.
 ghost use Rattle.std.specs.Prelude.{◌≡◌, ◌<◌, ◌++◌, ◌∷◌, [], length, IfOk};
 ghost use Rattle.repo_api.specs.States.{TreeMap};
-ghost use Rattle.noderevs.specs.Held.{blocks_of, node_at, count};
-ghost use Rattle.noderevs.specs.Soundness.{IsNext};
-ghost use Rattle.held.specs.Contents.{revisions_of, block_tree};
-ghost use Rattle.held.specs.Maps.{IsMapOf, Mapped};
-ghost use Rattle.held.specs.Placed.{IsPlacedBlock};
+ghost use Rattle.noderevs.specs.{Held.{blocks_of, count, node_at}, Soundness.IsNext};
+ghost use Rattle.held.specs.{Contents.{revisions_of, block_tree}, Maps.{IsMapOf, Mapped}, Placed.IsPlacedBlock};
 
 use crate::held::Held;
 use noderevs::Block;

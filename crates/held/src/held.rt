@@ -1,8 +1,7 @@
 //! What a repository holds.
 ghost use Rattle.std.specs.Prelude.{◌≡◌, ◌<◌, length};
-ghost use Rattle.noderevs.specs.Held.{node_at, root_at, count, trees_of};
-ghost use Rattle.held.specs.Placed.{ArePlaced};
-ghost use Rattle.held.specs.Shown.{Shown};
+ghost use Rattle.noderevs.specs.Held.{count, node_at, root_at, trees_of};
+ghost use Rattle.held.specs.{Placed.ArePlaced, Shown.Shown};
 
 use noderevs::Nodes;
 use pvec::PVec;

@@ -1,15 +1,11 @@
 //! What holds of what is held. The functions do nothing: their contracts are the laws.
-ghost use Rattle.std.specs.Prelude.{◌≡◌, IsSome};
+ghost use Rattle.std.specs.{Prelude.{◌≡◌, IsSome}, FinMap.get};
 ghost use Rattle.svnpath.specs.Paths.{PathValue};
-ghost use Rattle.std.specs.FinMap.{get};
-ghost use Rattle.repo_api.specs.States.{TxnState, IsBeginning};
-ghost use Rattle.repo_api.specs.Trees.{Tree};
+ghost use Rattle.repo_api.specs.{States.{IsBeginning, TxnState}, Trees.Tree};
 ghost use Rattle.history_marks.specs.Sound.{IsSoundRepo, IsSoundTxn};
 ghost use Rattle.treemerge.specs.Merges.{IsTold};
-ghost use Rattle.noderevs.specs.Held.{node_at, trees_of};
-ghost use Rattle.noderevs.specs.declared.node_rev.NodeId.{NodeId};
-ghost use Rattle.held.specs.Contents.{held_state, revisions_of};
-ghost use Rattle.held.specs.declared.held.Held.{Held};
+ghost use Rattle.noderevs.specs.{Held.{node_at, trees_of}, declared.node_rev.NodeId.NodeId};
+ghost use Rattle.held.specs.{Contents.{held_state, revisions_of}, declared.held.Held.Held};
 
 /// Shows that where the revisions of one begin those of another, the other shows the tree of each node's revision too,
 /// whatever ids it has.

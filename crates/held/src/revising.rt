@@ -1,9 +1,7 @@
 //! A changed property of a revision.
 ghost use Rattle.std.specs.Prelude.{◌≡◌, ◌<◌, length, IfOk, slice_get, slice_set};
-ghost use Rattle.repo_api.specs.Kinds.{or_empty};
-ghost use Rattle.repo_api.specs.RevisionProperties.{property_changed, with_changed_property};
-ghost use Rattle.held.specs.Contents.{held_state};
-ghost use Rattle.held.specs.Growing.{HasSame};
+ghost use Rattle.repo_api.specs.{Kinds.or_empty, RevisionProperties.{property_changed, with_changed_property}};
+ghost use Rattle.held.specs.{Contents.held_state, Growing.HasSame};
 
 use crate::held::Held;
 use byte_string::ByteString;

@@ -1,10 +1,7 @@
 //! The revision that a transaction's tree makes.
 ghost use Rattle.std.specs.Prelude.{◌≡◌, ◌<◌, ◌++◌, ◌∷◌, [], length, IfOk};
 ghost use Rattle.repo_api.specs.States.{TreeMap};
-ghost use Rattle.held.specs.Contents.{revisions_of};
-ghost use Rattle.held.specs.Growing.{HasOneMore};
-ghost use Rattle.held.specs.Maps.{IsMapOf, Mapped};
-ghost use Rattle.held.specs.Sealed.{sealed_tree};
+ghost use Rattle.held.specs.{Contents.revisions_of, Growing.HasOneMore, Maps.{IsMapOf, Mapped}, Sealed.sealed_tree};
 
 use crate::held::Held;
 use repo_api::Properties;

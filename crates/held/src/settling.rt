@@ -2,10 +2,8 @@
 ghost use Rattle.std.specs.Prelude.{◌≡◌, ◌≤◌, IfSome};
 ghost use Rattle.repo_api.specs.Histories.{history_of, IsQuietSince};
 ghost use Rattle.history_marks.specs.Sound.{IsSoundRepo};
-ghost use Rattle.noderevs.specs.Held.{node_at};
-ghost use Rattle.noderevs.specs.Views.{shared_tree};
-ghost use Rattle.held.specs.Contents.{held_state};
-ghost use Rattle.held.specs.Settling.{IsSettledFrom};
+ghost use Rattle.noderevs.specs.{Held.node_at, Views.shared_tree};
+ghost use Rattle.held.specs.{Contents.held_state, Settling.IsSettledFrom};
 
 use crate::held::Held;
 use byte_string::ByteString;

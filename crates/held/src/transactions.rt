@@ -2,13 +2,10 @@
 //! over the nodes of what is held now.
 ghost use Rattle.std.specs.Prelude.{◌≡◌, ◌<◌, IfOk, OnOk, OnErr, Option, length, option_copied};
 ghost use Rattle.svnpath.specs.Paths.{PathValue};
-ghost use Rattle.repo_api.specs.Edits.{begun, edited};
-ghost use Rattle.repo_api.specs.Kinds.{kind_of, created_of, text_of};
-ghost use Rattle.repo_api.specs.RightEdits.{IsRightEdit};
-ghost use Rattle.repo_api.specs.States.{IsBeginning, trees_in, youngest};
-ghost use Rattle.noderevs.specs.Held.{node_at, root_at, trees_of};
-ghost use Rattle.noderevs.specs.declared.node_rev.NodeId.{NodeId};
-ghost use Rattle.txntree.specs.Whole.{txn_tree, IsSound};
+ghost use Rattle.repo_api.specs.{Edits.{begun, edited}, Kinds.{created_of, kind_of}, RightEdits.IsRightEdit, States.{IsBeginning, trees_in, youngest}};
+ghost use Rattle.repo_api.specs.Trees.{text_of};
+ghost use Rattle.noderevs.specs.{Held.{node_at, root_at, trees_of}, declared.node_rev.NodeId.NodeId};
+ghost use Rattle.txntree.specs.Whole.{IsSound, txn_tree};
 ghost use Rattle.held.specs.Contents.{revisions_of, held_state};
 
 use crate::held::Held;

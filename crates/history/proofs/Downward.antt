@@ -1,6 +1,5 @@
 -- Revisions downward, those that pass a test.
-use Rattle.std.proofs.Common.{◌≡◌, ◌<◌, ◌≤◌, ℕ, zero, suc, Bool, true, false, [], ◌∷◌, arith, refl, sym, ap, ◌∙◌}
-use Rattle.std.proofs.lemmas.Bool.{leb-true, leb-false}
+use Rattle.std.proofs.{Common.{◌≡◌, ◌<◌, ◌≤◌, ℕ, zero, suc, Bool, true, false, [], ◌∷◌, arith, refl, sym, ap, ◌∙◌}, lemmas.Bool.{leb-true, leb-false}}
 use Rattle.std.specs.Prelude.{◌==◌, if◌then◌else◌, nat_le, filter}
 use borrow.Author.Tests.{le-leb, lt-leb, eqb-true, eqb-false}
 use Rattle.history.specs.Logs.{revisions_down}

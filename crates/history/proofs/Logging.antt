@@ -1,13 +1,11 @@
 -- Logs in both directions, with a limit.
-use Rattle.std.proofs.Common.{◌≡◌, ◌<◌, ℕ, zero, suc, Bool, true, false, List, [], ◌∷◌, ◌++◌, Option, Some, None, arith, refl, sym, ap, ◌∙◌, reverse, take, ◌-◌, Result, Ok, Err, IfOk}
-use Rattle.std.proofs.lemmas.List.{append-nil, reverse-append}
-use Rattle.std.proofs.lemmas.List.Elements.{filter-append}
+use Rattle.std.proofs.Common.{◌≡◌, ◌<◌, ℕ, zero, suc, Bool, true, false, List, [], ◌∷◌, ◌++◌, Option, Some, None, arith, refl, sym, ap, ◌∙◌, reverse, take, ◌-◌}
+use Rattle.std.proofs.{Common.{Result, Ok, Err, IfOk}, lemmas.List.{append-nil, reverse-append}, lemmas.List.Elements.filter-append}
 use Rattle.std.specs.Prelude.{if◌then◌else◌, filter}
 use borrow.Author.Tests.{lt-leb}
 use Rattle.svnpath.specs.Paths.{PathValue}
 use Rattle.repo_api.specs.Histories.{History}
-use Rattle.history.specs.Logs.{revisions_down, revisions_from, is_of_log, oldest_asked, newest_asked}
-use Rattle.history.specs.Walks.{next_then, is_spent, one_less, up_to}
+use Rattle.history.specs.{Logs.{revisions_down, revisions_from, is_of_log, oldest_asked, newest_asked}, Walks.{next_then, is_spent, one_less, up_to}}
 use Rattle.history.specs.declared.log_ask.LogAsk.{LogAsk}
 
 reverse_first : (n : ℕ) (ns : List ℕ) → reverse (n ∷ ns) ≡ reverse ns ++ n ∷ []

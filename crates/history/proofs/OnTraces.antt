@@ -1,20 +1,13 @@
 -- Locations are on traces, and the dated revision is the greatest.
-use Rattle.std.proofs.Common.{◌≡◌, ◌<◌, ◌≤◌, ◌⊎◌, inl, inr, ℕ, zero, suc, Bool, true, false, List, [], ◌∷◌, Option, Some, None, arith, refl, sym, ap, ◌∙◌, subst}
+use Rattle.std.proofs.Common.{◌≡◌, ◌<◌, ◌≤◌, ◌⊎◌, inl, inr, ℕ, zero, suc, Bool, true, false, List, [], ◌∷◌, Option, Some, None, arith, refl, sym, ap, ◌∙◌}
+use Rattle.std.proofs.Common.{subst}
 use Rattle.std.specs.Prelude.{if◌then◌else◌, ◌==◌, Contains}
 use borrow.Author.Tests.{eqb-true, le-leb, lt-leb}
-use Rattle.svnpath.specs.Paths.{PathValue, same_path}
-use Rattle.svnpath.specs.PathLaws.{same_path_is}
-use Rattle.repo_api.specs.States.{RepoState, youngest}
-use Rattle.repo_api.specs.Kinds.{kind_at}
-use Rattle.repo_api.specs.declared.entry.NodeKind.{NodeKind}
+use Rattle.svnpath.specs.{PathLaws.same_path_is, Paths.{PathValue, same_path}}
+use Rattle.repo_api.specs.{Histories.history_of, Kinds.kind_at, States.{RepoState, youngest}, declared.entry.NodeKind.NodeKind}
 use Rattle.repo_api.specs.declared.entry.NodeKind.TheVariants as kinds
-use Rattle.repo_api.specs.Histories.{history_of}
-use Rattle.history.specs.Traces.{trace}
-use Rattle.history.specs.Logs.{place_at}
-use Rattle.history.specs.Locations.{path_in, location, location_back, location_on, only_same, if_present}
-use Rattle.history.specs.Dates.{is_dated, greatest, dated_rev}
-use Rattle.history.specs.Laws.{AreOnTraces, IsGreatestDated}
-use Rattle.history.specs.declared.place.Place.{Place}
+use Rattle.history.specs.{Traces.trace, Logs.place_at, Locations.{path_in, location, location_back, location_on, only_same, if_present}}
+use Rattle.history.specs.{Dates.{is_dated, greatest, dated_rev}, Laws.{AreOnTraces, IsGreatestDated}, declared.place.Place.Place}
 
 -- the place at a path that a list of places has in a revision
 path_is_there : (n : ℕ) (p : PathValue) (places : List Place) → path_in n places ≡ Some p → Contains places (place_at n p)

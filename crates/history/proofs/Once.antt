@@ -1,21 +1,14 @@
 -- Each number once.
-use Rattle.std.proofs.Common.{◌≡◌, ◌<◌, ◌+◌, ℕ, Bool, true, false, not, List, [], ◌∷◌, ◌++◌, length, take, get_or, Option, Some, None, refl, sym, ap, ◌∙◌, eq-eqb}
-use Rattle.std.proofs.lemmas.List.{append-nil, take_more}
-use Rattle.std.proofs.lemmas.List.Elements.{filter-append, filter_map-append}
+use Rattle.std.proofs.Common.{◌≡◌, ◌<◌, ◌+◌, ℕ, Bool, true, false, not, List, [], ◌∷◌, ◌++◌, length, take, get_or, Option, Some, None, refl, sym, ap, ◌∙◌}
+use Rattle.std.proofs.{Common.eq-eqb, lemmas.List.{append-nil, take_more}, lemmas.List.Elements.{filter-append, filter_map-append}}
 use Rattle.std.proofs.lemmas.List.Folds.{list_any_more}
-use Rattle.std.specs.BTreeMap.{is_at}
-use Rattle.std.specs.Cmp.{unsigned_tied}
-use Rattle.std.specs.Ordering.{nat_cmp}
-use Rattle.std.specs.List.{filter_map}
-use Rattle.std.specs.Option.{option_map, option_to_list}
+use Rattle.std.specs.{BTreeMap.is_at, Cmp.unsigned_tied, Ordering.nat_cmp, List.filter_map, Option.{option_map, option_to_list}}
 use Rattle.std.specs.Prelude.{◌==◌, ◌||◌, if◌then◌else◌, filter, cond}
 use borrow.Author.Tests.{eqb-true}
 use Rattle.svnpath.specs.Paths.{PathValue}
 use Rattle.repo_api.specs.States.{RepoState}
 use Rattle.history.proofs.Steps.{not_equal}
-use Rattle.history.specs.Logs.{is_among}
-use Rattle.history.specs.Locations.{each_once, located_in, location}
-use Rattle.history.specs.declared.place.Place.{Place}
+use Rattle.history.specs.{Logs.is_among, Locations.{each_once, located_in, location}, declared.place.Place.Place}
 
 same_turned : (m n : ℕ) (b : Bool) → (m == n) ≡ b → (n == m) ≡ b
 same_turned m n true same = eq-eqb n m (sym (eqb-true m n same))

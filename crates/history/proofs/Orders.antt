@@ -1,19 +1,13 @@
 -- The order of traces and logs.
-use Rattle.std.proofs.Common.{◌≡◌, ◌<◌, ◌≤◌, ℕ, zero, suc, Bool, true, false, List, [], ◌∷◌, ◌++◌, Option, Some, None, arith, refl, sym, ap, subst, reverse, take, length, get_or, min}
-use Rattle.std.proofs.lemmas.Bool.{leb-true}
-use Rattle.std.proofs.lemmas.List.{reverse-append, get_or-take, length-take}
+use Rattle.std.proofs.Common.{◌≡◌, ◌<◌, ◌≤◌, ℕ, zero, suc, Bool, true, false, List, [], ◌∷◌, ◌++◌, Option, Some, None, arith, refl, sym, ap, subst, reverse}
+use Rattle.std.proofs.{Common.{take, length, get_or, min}, lemmas.Bool.leb-true, lemmas.List.{reverse-append, get_or-take, length-take}}
 use Rattle.std.proofs.lemmas.List.Elements.{All-nil, All-cons, All-head, All-tail, All-same, All-push, All-weaker, All-take, All-filter, filter_passes}
-use Rattle.std.proofs.lemmas.List.Kept.{AllPairs-cons, AllPairs-filter}
-use Rattle.std.proofs.lemmas.List.Quantifiers.{all_pairs_push}
-use Rattle.std.specs.List.{AllPairs, All}
-use Rattle.std.specs.Prelude.{if◌then◌else◌, filter, nat_le, ◌==◌}
+use Rattle.std.proofs.{lemmas.List.Kept.{AllPairs-cons, AllPairs-filter}, lemmas.List.Quantifiers.all_pairs_push}
+use Rattle.std.specs.{List.{AllPairs, All}, Prelude.{if◌then◌else◌, filter, nat_le, ◌==◌}}
 use borrow.Author.Tests.{eqb-true, le-leb, lt-leb}
 use Rattle.repo_api.specs.Histories.{History}
-use Rattle.history.specs.Traces.{trace_below, next_place}
-use Rattle.history.specs.Logs.{limited, is_of_log, newest_asked, oldest_asked, revisions_down, revisions_from}
-use Rattle.history.specs.Laws.{TracesFall, LogsAreRight}
-use Rattle.history.specs.declared.place.Place.{Place}
-use Rattle.history.specs.declared.log_ask.LogAsk.{LogAsk}
+use Rattle.history.specs.{Traces.{trace_below, next_place}, Logs.{limited, is_of_log, newest_asked, oldest_asked, revisions_down, revisions_from}}
+use Rattle.history.specs.{Laws.{TracesFall, LogsAreRight}, declared.place.Place.Place, declared.log_ask.LogAsk.LogAsk}
 use Rattle.history.proofs.Steps.{at_one}
 
 no_pairs : {X : Type 0} (R : X → X → Type 0) → AllPairs R []

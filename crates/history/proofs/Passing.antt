@@ -1,18 +1,13 @@
 -- Revisions in which nothing happens to a place are passed over.
 use Rattle.std.proofs.Common.{◌≡◌, ◌≤◌, ◌-◌, ℕ, zero, suc, Bool, true, false, List, [], ◌∷◌, ◌++◌, Some, None, arith, refl, sym, ap, ◌∙◌, reverse, max}
-use Rattle.std.proofs.lemmas.List.{reverse-append}
-use Rattle.std.proofs.lemmas.List.Elements.{All-nil, All-head, All-tail, All-same, All-push, All-weaker, All-contains_itself}
+use Rattle.std.proofs.{lemmas.List.reverse-append, lemmas.List.Elements.{All-nil, All-head, All-tail, All-same, All-push, All-weaker, All-contains_itself}}
 use Rattle.std.proofs.lemmas.List.Folds.{list_any_none}
-use Rattle.std.specs.List.{All, Contains, find}
-use Rattle.std.specs.Prelude.{if◌then◌else◌, nat_le, ◌==◌, ◌&&◌, ◌||◌}
+use Rattle.std.specs.{List.{All, Contains, find}, Prelude.{if◌then◌else◌, nat_le, ◌==◌, ◌&&◌, ◌||◌}}
 use borrow.Author.Tests.{eqb-true, eqb-false}
-use Rattle.svnpath.specs.Paths.{PathValue, Component, is_at_or_under}
-use Rattle.repo_api.specs.Histories.{Changed, History}
+use Rattle.svnpath.specs.Paths.{Component, is_at_or_under, PathValue}
+use Rattle.repo_api.specs.Histories.{Changed, History, IsQuiet, IsQuietSince}
 use Rattle.history.specs.Traces.{makes, decides, deciding_change, earlier, place_by, is_from, is_copy_by, next_place, trace, trace_below}
-use Rattle.history.specs.Logs.{listed, is_touched, touches, place_at}
-use Rattle.history.specs.Locations.{path_in, location_back}
-use Rattle.repo_api.specs.Histories.{IsQuiet, IsQuietSince}
-use Rattle.history.specs.declared.place.Place.{Place}
+use Rattle.history.specs.{Logs.{listed, is_touched, touches, place_at}, Locations.{path_in, location_back}, declared.place.Place.Place}
 use Rattle.history.proofs.Steps.{trace_is, listed_by, not_equal, path_past}
 
 reversed : {X : Type 0} (P : X → Type 0) (xs : List X) → All P xs → All P (reverse xs)

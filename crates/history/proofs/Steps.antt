@@ -3,9 +3,7 @@ use Rattle.std.proofs.Common.{◌≡◌, ◌<◌, ◌≤◌, ℕ, zero, suc, Boo
 use Rattle.std.specs.Prelude.{◌==◌, ◌&&◌, if◌then◌else◌}
 use borrow.Author.Tests.{eqb-true, eqb-false, le-leb, lt-leb}
 use Rattle.repo_api.specs.Histories.{History}
-use Rattle.history.specs.Traces.{trace_below, trace, traced, next_place}
-use Rattle.history.specs.Logs.{listed, is_listed, is_touched}
-use Rattle.history.specs.Locations.{path_in, location_back}
+use Rattle.history.specs.{Traces.{trace_below, trace, traced, next_place}, Logs.{listed, is_listed, is_touched}, Locations.{path_in, location_back}}
 use Rattle.history.specs.declared.place.Place.{Place}
 
 -- one revision of a trace

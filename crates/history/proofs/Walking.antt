@@ -1,17 +1,12 @@
 -- Walks that begin, and that go on.
-use Rattle.std.proofs.Common.{◌≡◌, ◌<◌, ◌≤◌, ℕ, suc, Bool, true, false, List, [], ◌∷◌, ◌++◌, Option, Some, None, arith, refl, sym, ap, ◌∙◌, eq-eqb, map, length, take, get_or, ◌+◌, subst, Result, Ok, Err, IfOk}
-use Rattle.std.proofs.lemmas.List.{take_more, map_more}
-use Rattle.std.proofs.lemmas.List.Folds.{list_any-append}
+use Rattle.std.proofs.Common.{◌≡◌, ◌<◌, ◌≤◌, ℕ, suc, Bool, true, false, List, [], ◌∷◌, ◌++◌, Option, Some, None, arith, refl, sym, ap, ◌∙◌, eq-eqb, map, length}
+use Rattle.std.proofs.{Common.{take, get_or, ◌+◌, subst, Result, Ok, Err, IfOk}, lemmas.List.{take_more, map_more}, lemmas.List.Folds.list_any-append}
 use Rattle.std.specs.Prelude.{◌==◌, ◌||◌, max}
 use Rattle.repo_api.specs.Histories.{History}
-use Rattle.history.specs.Traces.{trace, traced}
+use Rattle.history.specs.{Traces.{trace, traced}, Logs.{place_at, listed, is_among, is_logged, found_from, IsNext}}
+use Rattle.history.specs.{Walks.{above_head, above_heads, is_coming, IsPast, AreFirst}, declared.place.Place.Place, declared.listed.Listed.Listed}
 use Rattle.svnpath.specs.Paths.{PathValue}
-use Rattle.history.specs.Logs.{place_at, listed, is_among, is_logged, found_from, IsNext}
-use Rattle.history.specs.Walks.{above_head, above_heads, is_coming, IsPast, AreFirst}
-use Rattle.history.specs.declared.place.Place.{Place}
-use Rattle.history.specs.declared.listed.Listed.{Listed}
-use Rattle.history.proofs.Steps.{not_equal}
-use Rattle.history.proofs.Among.{none_from_below, none_above_place}
+use Rattle.history.proofs.{Steps.not_equal, Among.{none_from_below, none_above_place}}
 
 -- one walk more
 pub above_push : (heads : List (Option Listed)) (head : Option Listed) → above_heads (heads ++ head ∷ []) ≡ max (above_heads heads) (above_head head)

@@ -1,11 +1,7 @@
 -- Dates of revisions.
 use Rattle.std.specs.Prelude.{ℕ, zero, suc, ◌==◌, Bool, false, ◌&&◌, List, Option, Some, None, length, if◌then◌else◌, nat_le, codes, option_map}
-use Rattle.std.specs.Cmp.Lexicographic.{slice_cmp, pointwise}
-use Rattle.std.specs.List.{find, list_all, zip}
-use Rattle.std.specs.Ordering.{nat_cmp, is_le}
-use Rattle.repo_api.specs.Properties.{PropertyList}
-use Rattle.repo_api.specs.States.{RepoState, youngest}
-use Rattle.repo_api.specs.Kinds.{properties_at}
+use Rattle.std.specs.{Cmp.Lexicographic.{slice_cmp, pointwise}, List.{find, list_all, zip}, Ordering.{nat_cmp, is_le}}
+use Rattle.repo_api.specs.{Kinds.properties_at, Properties.PropertyList, States.{RepoState, youngest}}
 
 -- a `0` of the form stands for any digit, and every other byte for itself
 abbrev pub fits : ℕ → ℕ → Bool

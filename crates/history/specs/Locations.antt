@@ -1,17 +1,10 @@
 -- Where a place was or went, and the kinds that a log shows.
-use Rattle.std.specs.Prelude.{ℕ, not, ◌==◌, false, List, [], ◌∷◌, Option, Some, None, if◌then◌else◌, nat_le}
-use Rattle.std.specs.List.{filter, filter_map}
-use Rattle.std.specs.Option.{option_map}
+use Rattle.std.specs.{Prelude.{ℕ, not, ◌==◌, false, List, [], ◌∷◌, Option, Some, None, if◌then◌else◌, nat_le}, List.{filter, filter_map}, Option.option_map}
 use Rattle.svnpath.specs.Paths.{PathValue, same_path}
-use Rattle.repo_api.specs.declared.entry.NodeKind.{NodeKind}
+use Rattle.repo_api.specs.{declared.entry.NodeKind.NodeKind, declared.change.Action.Action, declared.change.Action.TheVariants.{Add, Delete, Replace, Modify}}
+use Rattle.repo_api.specs.{Histories.{Changed, History, history_of}, Kinds.kind_at, States.RepoState}
 use Rattle.repo_api.specs.declared.entry.NodeKind.TheVariants as kinds
-use Rattle.repo_api.specs.declared.change.Action.{Action}
-use Rattle.repo_api.specs.declared.change.Action.TheVariants.{Add, Delete, Replace, Modify}
-use Rattle.repo_api.specs.States.{RepoState}
-use Rattle.repo_api.specs.Kinds.{kind_at}
-use Rattle.repo_api.specs.Histories.{Changed, History, history_of}
-use Rattle.history.specs.Traces.{trace, place_before}
-use Rattle.history.specs.declared.place.Place.{Place}
+use Rattle.history.specs.{Traces.{trace, place_before}, declared.place.Place.Place}
 
 abbrev pub kind_in_place : RepoState → Option Place → NodeKind
 kind_in_place c None = kinds.Absent

@@ -1,12 +1,9 @@
 -- Which revisions a log lists.
-use Rattle.std.specs.Prelude.{◌≡◌, ℕ, zero, suc, ◌==◌, Bool, true, ◌&&◌, ◌||◌, List, [], ◌∷◌, Option, Some, None, if◌then◌else◌, map, filter, take, max, min, nat_le, reverse}
-use Rattle.std.specs.List.{list_any}
-use Rattle.svnpath.specs.Paths.{PathValue, is_at_or_under}
+use Rattle.std.specs.Prelude.{◌≡◌, ℕ, zero, suc, ◌==◌, Bool, true, ◌&&◌, ◌||◌, List, [], ◌∷◌, Option, Some, None, if◌then◌else◌, map, filter, take, max, min}
+use Rattle.std.specs.{Prelude.{nat_le, reverse}, List.list_any}
+use Rattle.svnpath.specs.Paths.{is_at_or_under, PathValue}
 use Rattle.repo_api.specs.Histories.{Changed, History}
-use Rattle.history.specs.Traces.{is_from, trace, traced}
-use Rattle.history.specs.declared.place.Place.{Place}
-use Rattle.history.specs.declared.listed.Listed.{Listed}
-use Rattle.history.specs.declared.log_ask.LogAsk.{LogAsk}
+use Rattle.history.specs.{Traces.{is_from, trace, traced}, declared.place.Place.Place, declared.listed.Listed.Listed, declared.log_ask.LogAsk.LogAsk}
 
 -- a change at or under the path, or a copy at or above it
 abbrev pub touches : PathValue → Changed → Bool

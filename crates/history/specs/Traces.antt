@@ -1,11 +1,8 @@
 -- Where what stands at a place was before, by the lists of changes alone.
-use Rattle.std.specs.Prelude.{ℕ, zero, suc, ◌==◌, Bool, true, false, ◌&&◌, List, [], ◌∷◌, ◌++◌, Option, Some, None, if◌then◌else◌, length, drop, reverse, ◌-◌, ◌<◌}
-use Rattle.std.specs.List.{find}
-use Rattle.std.specs.Option.{ForSome}
-use Rattle.svnpath.specs.Paths.{PathValue, is_at_or_under}
-use Rattle.repo_api.specs.declared.change.Action.{Action}
-use Rattle.repo_api.specs.declared.change.Action.TheVariants.{Add, Delete, Replace, Modify}
-use Rattle.repo_api.specs.declared.change.Source.{Source}
+use Rattle.std.specs.Prelude.{ℕ, zero, suc, ◌==◌, Bool, true, false, ◌&&◌, List, [], ◌∷◌, ◌++◌, Option, Some, None, if◌then◌else◌, length, drop, reverse, ◌-◌}
+use Rattle.std.specs.{Prelude.◌<◌, List.find, Option.ForSome}
+use Rattle.svnpath.specs.Paths.{is_at_or_under, PathValue}
+use Rattle.repo_api.specs.{declared.change.Action.Action, declared.change.Action.TheVariants.{Add, Delete, Replace, Modify}, declared.change.Source.Source}
 use Rattle.repo_api.specs.Histories.{Changed, History}
 use Rattle.history.specs.declared.place.Place.{Place}
 

@@ -1,9 +1,7 @@
 //! What the changes of one revision say of a path.
-ghost use Rattle.std.specs.Prelude.{◌≡◌, ◌≤◌, length, IfOk, option_copied, Some, drop};
-ghost use Rattle.std.specs.List.{list_any};
+ghost use Rattle.std.specs.{Prelude.{◌≡◌, ◌≤◌, length, IfOk, option_copied, Some, drop}, List.list_any};
 ghost use Rattle.repo_api.specs.Histories.{Changed};
-ghost use Rattle.history.specs.Traces.{decides, deciding_change, earlier, source_place, place_before, is_copied, next_place};
-ghost use Rattle.history.specs.Logs.{touches, is_touched};
+ghost use Rattle.history.specs.{Traces.{decides, deciding_change, earlier, source_place, place_before, is_copied, next_place}, Logs.{touches, is_touched}};
 
 use crate::place::Place;
 use repo_api::{Action, Change, Source};
@@ -20,8 +18,7 @@ fn decides(path: &Path, at: &Path, change: &Change) -> bool
 /// Finds the change at the longest path, at or above this one, that was added or replaced.
 fn deciding_change<'a>(changes: &'a [(Path, Change)], path: &Path) -> Option<&'a (Path, Change)>
     ensures value { option_copied result ≡ deciding_change changes.now path.now }
-    ensures above { (e : Changed) → option_copied result ≡ Some e
-        → length e.0 ≤ length path.now }
+    ensures above { (e : Changed) → option_copied result ≡ Some e → length e.0 ≤ length path.now }
 {
     changes
         .iter()

@@ -1,9 +1,7 @@
 //! What holds of histories. The functions do nothing: their contracts are the laws.
 ghost use Rattle.std.specs.Prelude.{ℕ, List};
-ghost use Rattle.repo_api.specs.Histories.{History};
-ghost use Rattle.repo_api.specs.States.{RepoState};
-ghost use Rattle.history.specs.Dates.{dated_rev};
-ghost use Rattle.history.specs.Laws.{TracesFall, LogsAreRight, AreOnTraces, IsGreatestDated};
+ghost use Rattle.repo_api.specs.{Histories.History, States.RepoState};
+ghost use Rattle.history.specs.{Dates.dated_rev, Laws.{TracesFall, LogsAreRight, AreOnTraces, IsGreatestDated}};
 
 /// Shows that along a trace the revisions fall.
 pub fn traces_fall()

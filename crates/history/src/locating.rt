@@ -1,6 +1,5 @@
 //! Where a place was, or went.
-ghost use Rattle.std.specs.Prelude.{◌≡◌, ◌≤◌, IfOk};
-ghost use Rattle.std.specs.List.{filter_map};
+ghost use Rattle.std.specs.{Prelude.{◌≡◌, ◌≤◌, IfOk}, List.filter_map};
 ghost use Rattle.repo_api.specs.Histories.{history_of};
 ghost use Rattle.history.specs.Locations.{each_once, location, location_back, location_on, located_in, locations, only_same};
 
@@ -19,8 +18,7 @@ pub fn location<R: Repository>(
     place: &Place,
     revision: u64,
 ) -> Result<Option<Path>, AllocError>
-    ensures { IfOk result (λ path. path ≡ location (R.content repository.now) place.now
-        revision) }
+    ensures { IfOk result (λ path. path ≡ location (R.content repository.now) place.now revision) }
 {
     if revision <= place.revision {
         return location_back(alloc, repository, place, revision);

@@ -1,8 +1,7 @@
 //! Logs that go out revision by revision.
 ghost use Rattle.std.specs.Prelude.{◌≡◌, ℕ, List, filter, IfOk, OnErr, []};
 ghost use Rattle.repo_api.specs.Histories.{history_of};
-ghost use Rattle.history.specs.Logs.{is_of_log, limited, log, revisions_from};
-ghost use Rattle.history.specs.Walks.{next_then, of_coming, is_spent, one_less, to_come, up_to};
+ghost use Rattle.history.specs.{Logs.{is_of_log, limited, log, revisions_from}, Walks.{next_then, of_coming, is_spent, one_less, to_come, up_to}};
 
 use crate::coming::Coming;
 use crate::log_ask::LogAsk;

@@ -1,8 +1,7 @@
 //! A walk along the trace of a place.
 ghost use Rattle.std.specs.Prelude.{◌≡◌, ◌≤◌, ◌∷◌, ℕ, Bool, IfOk};
 ghost use Rattle.repo_api.specs.Histories.{History, history_of};
-ghost use Rattle.history.specs.Traces.{trace_below, trace, traced, IsBelow};
-ghost use Rattle.history.specs.Logs.{IsNext, listed};
+ghost use Rattle.history.specs.{Traces.{trace_below, trace, traced, IsBelow}, Logs.{IsNext, listed}};
 
 use crate::changes::{is_touched, next_place};
 use crate::listed::Listed;

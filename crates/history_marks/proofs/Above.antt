@@ -1,15 +1,10 @@
 -- Which paths lie beneath which, and what stands above what is there.
-use Rattle.std.proofs.Common.{◌≡◌, ◌≢◌, ◌+◌, ◌⊎◌, inl, inr, ⊎_elim, Bool, true, false, [], ◌∷◌, ◌++◌, length, drop, Option, Some, None, is_some, refl, sym, ap, arith, append-nil, length-append, ◌∙◌}
-use Rattle.std.proofs.Math.ListN.{drop_of_length-le}
-use Rattle.std.proofs.lemmas.Bool.{false≢true}
+use Rattle.std.proofs.Common.{◌≡◌, ◌≢◌, ◌+◌, ◌⊎◌, inl, inr, ⊎_elim, Bool, true, false, [], ◌∷◌, ◌++◌, length, drop, Option, Some, None, is_some, refl, sym, ap}
+use Rattle.std.proofs.{Common.{arith, append-nil, length-append, ◌∙◌}, Math.ListN.drop_of_length-le, lemmas.Bool.false≢true}
 use Rattle.std.specs.Prelude.{IsSome, IsSomeAnd, IsTrue}
-use Rattle.svnpath.specs.Paths.{PathValue, Component, same_path, is_at_or_under}
-use Rattle.svnpath.specs.PathLaws.{same_path_is, same_path_refl, under_is, under_append}
-use Rattle.repo_api.specs.Trees.{Tree, IsTree, is_directory}
-use Rattle.repo_api.specs.RightEdits.{HasParent}
-use Rattle.repo_api.specs.declared.entry.Entry.{Entry}
-use Rattle.repo_laws.proofs.Naming.{nothing_beneath}
-use Rattle.repo_laws.proofs.Under.{not_true, under_by, head_or, tail_of}
+use Rattle.svnpath.specs.{PathLaws.{same_path_is, same_path_refl, under_append, under_is}, Paths.{Component, is_at_or_under, PathValue, same_path}}
+use Rattle.repo_api.specs.{RightEdits.HasParent, Trees.{is_directory, IsTree, Tree}, declared.entry.Entry.Entry}
+use Rattle.repo_laws.proofs.{Naming.nothing_beneath, Under.{not_true, under_by, head_or, tail_of}}
 use Rattle.history_marks.specs.Transactions.{IsBeneath}
 
 -- two paths that lie under one another are one

@@ -1,24 +1,11 @@
 -- A map's entries are what it has.
-use Rattle.std.proofs.Common.{◌≡◌, ◌&&◌, Bool, true, false, List, [], ◌∷◌, Some, refl, sym, ◌∙◌}
-use Rattle.std.proofs.lemmas.Bool.{false≢true}
-use Rattle.std.proofs.lemmas.Map.Keys.{IsDistinct-from_sorted}
-use Rattle.std.proofs.lemmas.Map.Views.{Contains-from_lookup, lookup-from_Contains}
-use Rattle.std.specs.Cmp.{eq_by_cmp_equiv}
-use Rattle.std.specs.FinMap.{get, entries, entries_sorted}
-use Rattle.std.specs.FinMap.Entries.{is_sorted, below_all}
-use Rattle.std.specs.List.{AllByRecursion}
-use Rattle.std.specs.List.Sorted.{IsStrictlySortedBy}
-use Rattle.std.specs.Map.{keys_of}
-use Rattle.std.specs.Ordering.{is_lt}
-use Rattle.std.specs.Prelude.{T, Contains}
-use Rattle.std.specs.declared.cmp.Ordering.{Ordering}
+use Rattle.std.proofs.{Common.{◌≡◌, ◌&&◌, Bool, true, false, List, [], ◌∷◌, Some, refl, sym, ◌∙◌}, lemmas.Bool.false≢true}
+use Rattle.std.proofs.{lemmas.Map.Keys.IsDistinct-from_sorted, lemmas.Map.Views.{Contains-from_lookup, lookup-from_Contains}}
+use Rattle.std.specs.{Cmp.eq_by_cmp_equiv, FinMap.{get, entries, entries_sorted}, FinMap.Entries.{is_sorted, below_all}, List.AllByRecursion}
+use Rattle.std.specs.{List.Sorted.IsStrictlySortedBy, Map.keys_of, Ordering.is_lt, Prelude.{T, Contains}, declared.cmp.Ordering.Ordering}
 use Rattle.std.specs.declared.cmp.Ordering.TheVariants.{Less, Equal, Greater}
-use Rattle.svnpath.specs.Paths.{PathValue, path_cmp, path_cmp_total}
-use Rattle.svnpath.specs.PathLaws.{at_is}
-use Rattle.repo_api.specs.StateLaws.{get_entries}
-use Rattle.repo_api.specs.States.{ChangeMap}
-use Rattle.repo_api.specs.Histories.{Changed}
-use Rattle.repo_api.specs.declared.change.Change.{Change}
+use Rattle.svnpath.specs.{PathLaws.at_is, Paths.{path_cmp, path_cmp_total, PathValue}}
+use Rattle.repo_api.specs.{Histories.Changed, StateLaws.get_entries, States.ChangeMap, declared.change.Change.Change}
 
 is_true : (b : Bool) → T b → b ≡ true
 is_true true h = refl

@@ -1,31 +1,16 @@
 -- The marks of a repository's trees tell of its lists of changes, whatever is accepted.
-use Rattle.std.proofs.Common.{◌≡◌, ◌⊎◌, ℕ, zero, suc, ◌-◌, Bool, true, false, List, [], ◌∷◌, ◌++◌, length, Option, Some, None, is_some, refl, sym, ap, subst, arith, ◌∙◌}
-use Rattle.std.proofs.lemmas.Bool.{false≢true, eqb-true, eq-eqb}
-use Rattle.std.proofs.lemmas.Option.{slice_get_past}
-use Rattle.std.specs.FinMap.{get, empty, entries, get-empty}
-use Rattle.std.specs.Prelude.{IsSome, Contains, ◌==◌, slice_get}
-use Rattle.svnpath.specs.Paths.{PathValue, path_cmp, is_at_or_under}
-use Rattle.repo_api.specs.Trees.{Tree, IsTree}
-use Rattle.repo_api.specs.Kinds.{created_of}
-use Rattle.repo_api.specs.Merge.{merged}
-use Rattle.repo_api.specs.MergeLaws.{get_merged_map}
-use Rattle.repo_api.specs.Marks.{AreMarked, MeetWell}
-use Rattle.repo_api.specs.Transactions.{IsMarkedTxn}
-use Rattle.repo_api.specs.Histories.{Changed, changes_in}
-use Rattle.repo_api.specs.States.{Revision, RepoState, TxnState, IsBeginning, tree_of, tree_in, tree_at, trees_in, changes_of, youngest}
-use Rattle.repo_api.specs.Commits.{commit_refusal, next_tree, committed}
-use Rattle.repo_api.specs.Opening.{new_repository}
-use Rattle.repo_api.specs.declared.ask.CommitAsk.{CommitAsk}
-use Rattle.repo_api.specs.declared.change.Change.{Change}
+use Rattle.std.proofs.Common.{◌≡◌, ◌⊎◌, ℕ, zero, suc, ◌-◌, Bool, true, false, List, [], ◌∷◌, ◌++◌, length, Option, Some, None, is_some, refl, sym, ap, subst}
+use Rattle.std.proofs.{Common.{arith, ◌∙◌}, lemmas.Bool.{false≢true, eqb-true, eq-eqb}, lemmas.Option.slice_get_past}
+use Rattle.std.specs.{FinMap.{get, empty, entries, get-empty}, Prelude.{IsSome, Contains, ◌==◌, slice_get}}
+use Rattle.svnpath.specs.{PathLaws.under_itself, Paths.{is_at_or_under, path_cmp, PathValue}}
+use Rattle.repo_api.specs.{Commits.{commit_refusal, committed, next_tree}, Histories.{Changed, changes_in}, Kinds.created_of, Marks.{AreMarked, MeetWell}}
+use Rattle.repo_api.specs.{Merge.merged, MergeLaws.get_merged_map, Opening.new_repository}
+use Rattle.repo_api.specs.States.{changes_of, IsBeginning, RepoState, Revision, tree_at, tree_in, tree_of, trees_in, TxnState, youngest}
+use Rattle.repo_api.specs.{Transactions.IsMarkedTxn, Trees.{IsTree, Tree}, declared.ask.CommitAsk.CommitAsk, declared.change.Change.Change}
 use Rattle.repo_api.specs.declared.entry.Entry.{Entry}
-use Rattle.repo_laws.proofs.Revisions.{accepted_meets}
-use Rattle.repo_laws.proofs.Under.{under_through}
-use Rattle.svnpath.specs.PathLaws.{under_itself}
-use Rattle.history_marks.specs.Quiet.{own_revision, IsNotMade, IsMarkedBy}
-use Rattle.history_marks.specs.Transactions.{has_made, IsMade, TellsChanges, IsToldTxn}
-use Rattle.history_marks.specs.Sound.{IsMarkedRepo}
-use Rattle.history_marks.proofs.Entries.{listed_is, is_listed}
-use Rattle.history_marks.proofs.Sealing.{merged_by_last, merged_by_own, merged_keeps_last, merged_keeps_own}
+use Rattle.repo_laws.proofs.{Revisions.accepted_meets, Under.under_through}
+use Rattle.history_marks.specs.{Quiet.{own_revision, IsNotMade, IsMarkedBy}, Transactions.{has_made, IsMade, TellsChanges, IsToldTxn}, Sound.IsMarkedRepo}
+use Rattle.history_marks.proofs.{Entries.{listed_is, is_listed}, Sealing.{merged_by_last, merged_by_own, merged_keeps_last, merged_keeps_own}}
 use Rattle.history_marks.proofs.Told.{tells_alike, same_base}
 
 -- ---- lists of revisions

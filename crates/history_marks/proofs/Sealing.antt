@@ -1,25 +1,17 @@
 -- A merge makes of marks that tell of changes the marks of a revision.
-use Rattle.std.proofs.Common.{◌≡◌, ◌⊎◌, inl, inr, ℕ, Bool, true, false, not, ◌&&◌, ◌||◌, length, drop, Option, Some, None, option_map, is_some, refl, sym, ap, subst, ◌∙◌}
-use Rattle.std.proofs.lemmas.Bool.{false≢true}
+use Rattle.std.proofs.Common.{◌≡◌, ◌⊎◌, inl, inr, ℕ, Bool, true, false, not, ◌&&◌, ◌||◌, length, drop, Option, Some, None, option_map, is_some, refl, sym, ap}
+use Rattle.std.proofs.{Common.{subst, ◌∙◌}, lemmas.Bool.false≢true}
 use Rattle.std.specs.Prelude.{if◌then◌else◌, IsSome}
-use Rattle.svnpath.specs.Paths.{PathValue, same_path, is_at_or_under}
-use Rattle.svnpath.specs.PathLaws.{same_path_is, under_is}
-use Rattle.repo_api.specs.Trees.{Tree, same_mark, is_open_mark, revision_of}
-use Rattle.repo_api.specs.Kinds.{created_of}
-use Rattle.repo_api.specs.Changes.{Changes}
-use Rattle.repo_api.specs.Merge.{closed, sealed, is_changed, is_untouched, has_open_last, changed_beneath, merged}
-use Rattle.repo_api.specs.Marks.{own_of, last_of, has_open_own, MeetWell}
-use Rattle.repo_api.specs.declared.entry.Entry.{Entry}
-use Rattle.repo_api.specs.declared.entry.Mark.{Mark}
-use Rattle.repo_api.specs.declared.entry.Mark.TheVariants.{Open, Made}
-use Rattle.repo_api.specs.declared.change.Action.{Action}
-use Rattle.repo_api.specs.declared.change.Action.TheVariants.{Add, Delete, Replace, Modify}
-use Rattle.repo_api.specs.declared.change.Change.{Change}
+use Rattle.svnpath.specs.{PathLaws.{same_path_is, under_is}, Paths.{is_at_or_under, PathValue, same_path}}
+use Rattle.repo_api.specs.{Changes.Changes, Kinds.created_of, Marks.{has_open_own, last_of, MeetWell, own_of}}
+use Rattle.repo_api.specs.Merge.{changed_beneath, closed, has_open_last, is_changed, is_untouched, merged, sealed}
+use Rattle.repo_api.specs.{Trees.{is_open_mark, revision_of, same_mark, Tree}, declared.entry.Entry.Entry, declared.entry.Mark.Mark}
+use Rattle.repo_api.specs.{declared.entry.Mark.TheVariants.{Open, Made}, declared.change.Action.Action}
+use Rattle.repo_api.specs.{declared.change.Action.TheVariants.{Add, Delete, Replace, Modify}, declared.change.Change.Change}
 use Rattle.repo_laws.proofs.Naming.{same_mark_refl}
 use Rattle.repo_laws.proofs.Merged.{apart, merged_if, to_txn, to_youngest, here, untouched_refl, joined_left, joined_own, sealed_last_open}
 use Rattle.history.specs.Traces.{makes}
-use Rattle.history_marks.specs.Quiet.{own_revision}
-use Rattle.history_marks.specs.Transactions.{has_made, IsMade, IsMadeAbove, is_left_by, is_add, HasMarksOf, TellsChanges}
+use Rattle.history_marks.specs.{Quiet.own_revision, Transactions.{has_made, IsMade, IsMadeAbove, is_left_by, is_add, HasMarksOf, TellsChanges}}
 use Rattle.history_marks.proofs.Above.{false_apart}
 
 -- ---- one entry

@@ -3,12 +3,8 @@ use Rattle.std.proofs.Common.{◌≡◌, ◌<◌, ◌≤◌, ℕ, zero, suc, Opt
 use Rattle.std.specs.Prelude.{IsSome, ◌==◌}
 use borrow.Author.Tests.{eqb-true, eqb-false}
 use Rattle.svnpath.specs.Paths.{PathValue}
-use Rattle.repo_api.specs.Trees.{Tree}
-use Rattle.repo_api.specs.Kinds.{created_of}
-use Rattle.repo_api.specs.declared.entry.Entry.{Entry}
-use Rattle.repo_api.specs.Histories.{History}
+use Rattle.repo_api.specs.{Histories.{History, IsQuiet}, Kinds.created_of, Trees.Tree, declared.entry.Entry.Entry}
 use Rattle.history_marks.specs.Quiet.{own_revision, IsMarkedBy, IsUpTo, IsSettled, MarksLeadBack}
-use Rattle.repo_api.specs.Histories.{IsQuiet}
 
 there_last : (o : Option Entry) (m : ℕ) → created_of o ≡ Some m → IsSome o
 there_last None m is = cc

@@ -1,24 +1,13 @@
 -- What stands at a path has settled in the newest of the marks there and above.
 use Rattle.std.proofs.Common.{◌≡◌, ◌≤◌, ◌+◌, ℕ, true, false, Option, Some, None, length, take, drop, min, refl, sym, ap, subst, arith, length-append, ◌∙◌}
 use Rattle.std.proofs.lemmas.Bool.{false≢true}
-use Rattle.std.specs.FinMap.{get}
-use Rattle.std.specs.Prelude.{IsSome}
-use Rattle.svnpath.specs.Paths.{PathValue, is_at_or_under}
-use Rattle.svnpath.specs.PathLaws.{same_path_is, under_is}
-use Rattle.repo_api.specs.Trees.{Tree, IsTree, is_open_mark, revision_of}
-use Rattle.repo_api.specs.Kinds.{created_of}
-use Rattle.repo_api.specs.Merge.{has_open_last}
-use Rattle.repo_api.specs.Marks.{IsClosed, has_open_own}
-use Rattle.repo_api.specs.States.{RepoState, tree_at, tree_of, trees_in}
-use Rattle.repo_api.specs.Histories.{history_of, IsQuietSince}
-use Rattle.repo_api.specs.declared.entry.Entry.{Entry}
-use Rattle.repo_api.specs.declared.entry.Mark.{Mark}
-use Rattle.repo_api.specs.declared.entry.Mark.TheVariants.{Open, Made}
-use Rattle.history_marks.specs.Quiet.{own_revision, IsUpTo, IsSettled}
-use Rattle.history_marks.specs.Settling.{or_zero, HasNoLaterMark}
-use Rattle.history_marks.specs.Sound.{IsSoundRepo}
-use Rattle.history_marks.proofs.Above.{stands_above}
-use Rattle.history_marks.proofs.Settled.{lead_back}
+use Rattle.std.specs.{FinMap.get, Prelude.IsSome}
+use Rattle.svnpath.specs.{PathLaws.{same_path_is, under_is}, Paths.{is_at_or_under, PathValue}}
+use Rattle.repo_api.specs.{Histories.{history_of, IsQuietSince}, Kinds.created_of, Marks.{has_open_own, IsClosed}, Merge.has_open_last}
+use Rattle.repo_api.specs.{States.{RepoState, tree_at, tree_of, trees_in}, Trees.{is_open_mark, IsTree, revision_of, Tree}, declared.entry.Entry.Entry}
+use Rattle.repo_api.specs.{declared.entry.Mark.Mark, declared.entry.Mark.TheVariants.{Open, Made}}
+use Rattle.history_marks.specs.{Quiet.{own_revision, IsUpTo, IsSettled}, Settling.{or_zero, HasNoLaterMark}, Sound.IsSoundRepo}
+use Rattle.history_marks.proofs.{Above.stands_above, Settled.lead_back}
 use Rattle.repo_laws.proofs.Standing.{tree_where}
 
 mark_up_to : (k : ℕ) (m : Mark) → is_open_mark m ≡ false → or_zero (revision_of m) ≤ k → IsUpTo k (revision_of m)

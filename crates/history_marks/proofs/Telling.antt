@@ -1,23 +1,14 @@
 -- Edits keep what marks tell of changes.
-use Rattle.std.proofs.Common.{◌≡◌, ◌⊎◌, inl, inr, Bool, true, false, not, [], ◌++◌, length, drop, Option, Some, None, option_map, is_some, refl, sym, ap, subst, append-nil, ◌∙◌}
-use Rattle.std.proofs.lemmas.Bool.{false≢true}
-use Rattle.std.specs.Prelude.{if◌then◌else◌, IsSome}
-use Rattle.std.specs.Option.{unwrap_or}
-use Rattle.svnpath.specs.Paths.{PathValue, same_path, is_at_or_under}
-use Rattle.svnpath.specs.PathLaws.{same_path_is, same_path_refl, under_append, under_itself, rest_append}
-use Rattle.repo_api.specs.Trees.{Tree}
-use Rattle.repo_api.specs.Edits.{touched, with_open_mark, touched_above, new_entry, added, revised, grafted, deleted, copy_of, copied, begun}
-use Rattle.repo_api.specs.Changes.{Changes, after_add, after_delete, after_delete_of, noted, noted_delete, noted_copy}
-use Rattle.repo_api.specs.Merge.{has_open_last}
-use Rattle.repo_api.specs.Marks.{has_open_own}
-use Rattle.repo_api.specs.declared.entry.Entry.{Entry}
-use Rattle.repo_api.specs.declared.entry.Content.{Content}
-use Rattle.repo_api.specs.declared.change.Action.{Action}
-use Rattle.repo_api.specs.declared.change.Action.TheVariants.{Add, Delete, Replace, Modify}
-use Rattle.repo_api.specs.declared.change.Change.{Change}
+use Rattle.std.proofs.Common.{◌≡◌, ◌⊎◌, inl, inr, Bool, true, false, not, [], ◌++◌, length, drop, Option, Some, None, option_map, is_some, refl, sym, ap, subst}
+use Rattle.std.proofs.{Common.{append-nil, ◌∙◌}, lemmas.Bool.false≢true}
+use Rattle.std.specs.{Prelude.{if◌then◌else◌, IsSome}, Option.unwrap_or}
+use Rattle.svnpath.specs.{PathLaws.{rest_append, same_path_is, same_path_refl, under_append, under_itself}, Paths.{is_at_or_under, PathValue, same_path}}
+use Rattle.repo_api.specs.Changes.{after_add, after_delete, after_delete_of, Changes, noted, noted_copy, noted_delete}
+use Rattle.repo_api.specs.Edits.{added, begun, copied, copy_of, deleted, grafted, new_entry, revised, touched, touched_above, with_open_mark}
+use Rattle.repo_api.specs.{Marks.has_open_own, Merge.has_open_last, Trees.Tree, declared.entry.Entry.Entry, declared.entry.Content.Content}
+use Rattle.repo_api.specs.{declared.change.Action.Action, declared.change.Action.TheVariants.{Add, Delete, Replace, Modify}, declared.change.Change.Change}
 use Rattle.repo_api.specs.declared.change.Source.{Source}
-use Rattle.repo_laws.proofs.Edited.{renewed}
-use Rattle.repo_laws.proofs.Under.{not_true, under_through}
+use Rattle.repo_laws.proofs.{Edited.renewed, Under.{not_true, under_through}}
 use Rattle.history.specs.Traces.{makes}
 use Rattle.history_marks.specs.Transactions.{IsBeneath, has_made, IsMade, IsMadeAbove, is_left_by, is_add, HasMarksOf, TellsChanges}
 use Rattle.history_marks.proofs.Above.{not_over, apart_false, false_apart}

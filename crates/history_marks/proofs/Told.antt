@@ -1,21 +1,16 @@
 -- The marks of open transactions tell of their changes.
 use Rattle.std.proofs.Common.{◌≡◌, ℕ, Bool, true, false, [], Option, Some, None, option_map, refl, sym, ap, subst, append-nil, ◌∙◌}
 use Rattle.std.specs.Prelude.{List, if◌then◌else◌, IsSome, IsSomeAnd, IsTrue}
-use Rattle.svnpath.specs.Paths.{PathValue, is_at_or_under}
-use Rattle.svnpath.specs.PathLaws.{under_itself}
-use Rattle.repo_api.specs.Trees.{Tree, IsTree, is_directory}
-use Rattle.repo_api.specs.Edits.{touched, touched_above, edited, begun, deleted, with_value, without_value, with_text}
-use Rattle.repo_api.specs.Changes.{Changes, changes_after, after_property, after_text, noted_delete}
-use Rattle.repo_api.specs.RightEdits.{IsVacant, IsRightEdit}
-use Rattle.repo_api.specs.States.{Revision, RepoState, TxnState, IsBeginning, IsBegun, IsEdited, tree_of, trees_in, changes_of, youngest}
-use Rattle.repo_api.specs.declared.entry.Entry.{Entry}
-use Rattle.repo_api.specs.declared.entry.Content.TheVariants as contents
-use Rattle.repo_api.specs.declared.edit.EditOp.{EditOp}
+use Rattle.svnpath.specs.{PathLaws.under_itself, Paths.{is_at_or_under, PathValue}}
+use Rattle.repo_api.specs.Changes.{after_property, after_text, Changes, changes_after, noted_delete}
+use Rattle.repo_api.specs.{Edits.{begun, deleted, edited, touched, touched_above, with_text, with_value, without_value}, RightEdits.{IsRightEdit, IsVacant}}
+use Rattle.repo_api.specs.States.{changes_of, IsBeginning, IsBegun, IsEdited, RepoState, Revision, tree_of, trees_in, TxnState, youngest}
+use Rattle.repo_api.specs.{Trees.{is_directory, IsTree, Tree}, declared.entry.Entry.Entry, declared.edit.EditOp.EditOp}
 use Rattle.repo_api.specs.declared.edit.EditOp.TheVariants.{AddDirectory, AddFile, Copy, Replace, Delete, SetProperty, RemoveProperty, SetText}
+use Rattle.repo_api.specs.declared.entry.Content.TheVariants as contents
 use Rattle.repo_laws.proofs.Revisions.{beginning_keeps}
 use Rattle.history_marks.specs.Transactions.{IsBeneath, TellsChanges, IsToldTxn}
-use Rattle.history_marks.proofs.Above.{not_over, stands_above, parents_stand}
-use Rattle.history_marks.proofs.Telling.{begun_tells, added_tells, revised_tells, deleted_tells, copied_tells}
+use Rattle.history_marks.proofs.{Above.{not_over, stands_above, parents_stand}, Telling.{begun_tells, added_tells, revised_tells, deleted_tells, copied_tells}}
 
 -- ---- edits of trees
 

@@ -1,10 +1,7 @@
 -- What the marks of a tree tell of the lists of changes.
 use Rattle.std.specs.Prelude.{◌≡◌, ◌≤◌, ℕ, suc, true, List, Option, Some, None, IsSome, Contains, ◌⊎◌}
-use Rattle.svnpath.specs.Paths.{PathValue, is_at_or_under}
-use Rattle.repo_api.specs.Trees.{Tree, revision_of}
-use Rattle.repo_api.specs.Kinds.{created_of}
-use Rattle.repo_api.specs.declared.entry.Entry.{Entry}
-use Rattle.repo_api.specs.Histories.{Changed, History, IsQuietSince}
+use Rattle.svnpath.specs.Paths.{is_at_or_under, PathValue}
+use Rattle.repo_api.specs.{Histories.{Changed, History, IsQuietSince}, Kinds.created_of, Trees.{revision_of, Tree}, declared.entry.Entry.Entry}
 use Rattle.history.specs.Traces.{makes}
 
 -- the revision that last changed the entry itself

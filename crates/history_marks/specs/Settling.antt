@@ -1,8 +1,7 @@
 -- How far back the marks at and above a path go.
 use Rattle.std.specs.Prelude.{◌≡◌, ◌≤◌, ℕ, true, Option, Some, None}
-use Rattle.svnpath.specs.Paths.{PathValue, is_at_or_under}
-use Rattle.repo_api.specs.Trees.{Tree}
-use Rattle.repo_api.specs.Kinds.{created_of}
+use Rattle.svnpath.specs.Paths.{is_at_or_under, PathValue}
+use Rattle.repo_api.specs.{Kinds.created_of, Trees.Tree}
 use Rattle.history_marks.specs.Quiet.{own_revision}
 
 abbrev pub or_zero : Option ℕ → ℕ

@@ -1,14 +1,8 @@
 -- What a representation keeps of a repository and of its open transactions.
 use Rattle.std.specs.Prelude.{◌<◌, length}
-use Rattle.repo_api.specs.Trees.{IsTree}
-use Rattle.repo_api.specs.Soundness.{AreSound}
-use Rattle.repo_api.specs.Transactions.{IsMarkedTxn}
-use Rattle.repo_api.specs.States.{RepoState, TxnState, IsBeginning, tree_of, trees_in}
-use Rattle.repo_api.specs.Accepted.{Accepted}
-use Rattle.repo_api.specs.Accepted.Accepted.{Commits, Locks, Unlocks, Releases, ChangesProperty}
-use Rattle.repo_api.specs.Histories.{history_of}
-use Rattle.history_marks.specs.Quiet.{IsMarkedBy}
-use Rattle.history_marks.specs.Transactions.{IsToldTxn}
+use Rattle.repo_api.specs.{Accepted.Accepted, Accepted.Accepted.{ChangesProperty, Commits, Locks, Releases, Unlocks}, Histories.history_of, Soundness.AreSound}
+use Rattle.repo_api.specs.{States.{IsBeginning, RepoState, tree_of, trees_in, TxnState}, Transactions.IsMarkedTxn, Trees.IsTree}
+use Rattle.history_marks.specs.{Quiet.IsMarkedBy, Transactions.IsToldTxn}
 
 -- the marks of a repository's trees tell of its lists of changes
 abbrev pub IsMarkedRepo : RepoState → Type 0

@@ -1,15 +1,9 @@
 -- What the marks of an open transaction tell of its changes.
 use Rattle.std.specs.Prelude.{◌≡◌, ◌≢◌, ◌⊎◌, Bool, true, false, not, Option, Some, None, IsSome, is_some}
-use Rattle.svnpath.specs.Paths.{PathValue, is_at_or_under}
-use Rattle.repo_api.specs.Trees.{Tree}
-use Rattle.repo_api.specs.Changes.{Changes}
-use Rattle.repo_api.specs.Merge.{has_open_last}
-use Rattle.repo_api.specs.Marks.{own_of, last_of, has_open_own}
-use Rattle.repo_api.specs.States.{TxnState, tree_of, trees_in, changes_of}
-use Rattle.repo_api.specs.declared.change.Action.{Action}
-use Rattle.repo_api.specs.declared.change.Action.TheVariants.{Add, Delete, Replace, Modify}
-use Rattle.repo_api.specs.declared.change.Change.{Change}
-use Rattle.repo_api.specs.declared.entry.Entry.{Entry}
+use Rattle.svnpath.specs.Paths.{is_at_or_under, PathValue}
+use Rattle.repo_api.specs.{Changes.Changes, Marks.{has_open_own, last_of, own_of}, Merge.has_open_last, States.{changes_of, tree_of, trees_in, TxnState}}
+use Rattle.repo_api.specs.{Trees.Tree, declared.change.Action.Action, declared.change.Action.TheVariants.{Add, Delete, Replace, Modify}}
+use Rattle.repo_api.specs.{declared.change.Change.Change, declared.entry.Entry.Entry}
 use Rattle.history.specs.Traces.{makes}
 
 -- under the other path, and not that path itself

@@ -1,24 +1,12 @@
 //! What marks tell of histories. The functions do nothing: their contracts are the laws.
-ghost use Rattle.std.specs.Prelude.{◌≡◌, ◌≤◌, ℕ, List, None, IsSome, length, min, take};
-ghost use Rattle.std.specs.FinMap.{get};
+ghost use Rattle.std.specs.{Prelude.{◌≡◌, ◌≤◌, ℕ, List, None, IsSome, length, min, take}, FinMap.get};
 ghost use Rattle.svnpath.specs.Paths.{PathValue};
-ghost use Rattle.repo_api.specs.Trees.{Tree, IsTree};
-ghost use Rattle.repo_api.specs.Histories.{History, history_of, IsQuietSince};
-ghost use Rattle.repo_api.specs.States.{Revision, RepoState, TxnState, IsBeginning, IsBegun, IsEdited, tree_of, tree_at, trees_in, youngest};
-ghost use Rattle.repo_api.specs.Accepted.{Accepted, IsAccepted, changed};
-ghost use Rattle.repo_api.specs.Kinds.{created_of};
-ghost use Rattle.repo_api.specs.Commits.{commit_refusal, committed};
-ghost use Rattle.repo_api.specs.Marks.{AreMarked};
-ghost use Rattle.repo_api.specs.Opening.{new_repository};
-ghost use Rattle.repo_api.specs.RightEdits.{IsRightEdit};
-ghost use Rattle.repo_api.specs.Soundness.{AreSound};
-ghost use Rattle.repo_api.specs.Transactions.{IsMarkedTxn};
-ghost use Rattle.repo_api.specs.declared.ask.CommitAsk.{CommitAsk};
-ghost use Rattle.repo_api.specs.declared.edit.EditOp.{EditOp};
-ghost use Rattle.history_marks.specs.Quiet.{own_revision, IsMarkedBy, MarksLeadBack};
-ghost use Rattle.history_marks.specs.Settling.{HasNoLaterMark, or_zero};
-ghost use Rattle.history_marks.specs.Sound.{IsMarkedRepo, IsSoundRepo, IsSoundTxn, IsSoundChange};
-ghost use Rattle.history_marks.specs.Transactions.{IsToldTxn};
+ghost use Rattle.repo_api.specs.{Accepted.{Accepted, changed, IsAccepted}, Commits.{commit_refusal, committed}, Histories.{History, history_of, IsQuietSince}};
+ghost use Rattle.repo_api.specs.{Kinds.created_of, Marks.AreMarked, Opening.new_repository, RightEdits.IsRightEdit, Soundness.AreSound};
+ghost use Rattle.repo_api.specs.States.{IsBeginning, IsBegun, IsEdited, RepoState, Revision, tree_at, tree_of, trees_in, TxnState, youngest};
+ghost use Rattle.repo_api.specs.{Transactions.IsMarkedTxn, Trees.{IsTree, Tree}, declared.ask.CommitAsk.CommitAsk, declared.edit.EditOp.EditOp};
+ghost use Rattle.history_marks.specs.{Quiet.{own_revision, IsMarkedBy, MarksLeadBack}, Settling.{HasNoLaterMark, or_zero}};
+ghost use Rattle.history_marks.specs.{Sound.{IsMarkedRepo, IsSoundRepo, IsSoundTxn, IsSoundChange}, Transactions.IsToldTxn};
 
 /// Shows that from the newest revision of the marks at and above a place up to the place's own revision nothing is
 /// listed at, under or above it: a walk may go there at once.

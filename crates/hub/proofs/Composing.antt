@@ -1,23 +1,16 @@
 -- A session's run is a run of the hub.
 use Rattle.std.specs.Prelude.{if◌then◌else◌}
 use Rattle.std.proofs.Common.{◌≡◌, ℕ, List, [], ◌∷◌, ◌++◌, map, Option, Some, None, ◌||◌, Bool, true, false, refl, sym, ap, subst, ◌∙◌, append_assoc}
-use Rattle.repo_api.specs.States.{RepoState}
-use Rattle.repo_api.specs.Accepted.{Accepted, changed, changed_all}
+use Rattle.repo_api.specs.{Accepted.{Accepted, changed, changed_all}, States.RepoState}
 use Rattle.wire_replies.specs.declared.reply.Reply.{Reply}
-use Rattle.access.specs.Points.{Point, AccessRules, content_of}
-use Rattle.machine.specs.Settings.{Settings}
-use Rattle.machine.specs.Hearing.{Input}
-use Rattle.machine.specs.Stages.{Stage, SessionState, is_open}
-use Rattle.machine.specs.Answers.{Verdict, Effect, Answer, Step, Counts, no_effect, is_halt, says, content_after, halted_after, pending_by, pending_after}
-use Rattle.machine.specs.Machine.{InputStep, UnreleasedStep}
-use Rattle.machine.specs.Answers.Verdict.{Written, NotWritten, Unknown}
-use Rattle.machine.specs.Steps.{AddsAll, Stores, EffectAt, StepAt, SessionRun, Leaves as LeavesAt}
+use Rattle.access.specs.Points.{AccessRules, content_of, Point}
+use Rattle.machine.specs.Answers.{Answer, content_after, Counts, Effect, halted_after, is_halt, no_effect, pending_after, pending_by, says, Step, Verdict}
+use Rattle.machine.specs.{Answers.Verdict.{NotWritten, Unknown, Written}, Hearing.Input, Machine.{InputStep, UnreleasedStep}, Settings.Settings}
+use Rattle.machine.specs.{Stages.{is_open, SessionState, Stage}, Steps.{AddsAll, EffectAt, Leaves as LeavesAt, SessionRun, StepAt, Stores}}
 use Rattle.machine.specs.declared.env.Env.{Env}
 use Rattle.machine.specs.declared.phase.Phase.TheVariants.{Greeted, LoggingIn, Challenged, Serving, Editing, Skipping, Reporting, Driven, Ended}
-use Rattle.hub_runs.specs.State.{HubState, hub_at, session_of, updated, without, kept}
-use Rattle.hub_runs.specs.Runs.{Event, InputHappens, CommitLeaves, HubStep, HubRun, InputsAre, ends_of, answered}
-use Rattle.hub_runs.specs.Runs.Event.{Hears, Leaves, Drops}
-use Rattle.hub_runs.specs.SessionLaws.{session_of-updated, session_of-without}
+use Rattle.hub_runs.specs.{Runs.{answered, CommitLeaves, ends_of, Event, HubRun, HubStep, InputHappens, InputsAre}, Runs.Event.{Drops, Hears, Leaves}}
+use Rattle.hub_runs.specs.{SessionLaws.{session_of-updated, session_of-without}, State.{hub_at, HubState, kept, session_of, updated, without}}
 use Rattle.hub_runs.proofs.Failing.{or_false, or_true}
 use Rattle.hub.proofs.Places.{updated_same, without_none, kept_kept, kept_ended, without-kept}
 

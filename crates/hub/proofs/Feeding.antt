@@ -1,23 +1,17 @@
 -- What one piece does to the hub.
-use Rattle.std.proofs.Common.{◌≡◌, ℕ, List, ◌++◌, Option, Some, Bool, true, false, refl, sym, ap, subst, ◌∙◌}
+use Rattle.std.proofs.{Common.{◌≡◌, ℕ, List, ◌++◌, Option, Some, Bool, true, false, refl, sym, ap, subst, ◌∙◌}, lemmas.Option.get_or_from_slice_get}
 use Rattle.std.specs.Prelude.{if◌then◌else◌, get_or, slice_set}
-use Rattle.std.proofs.lemmas.Option.{get_or_from_slice_get}
 use Rattle.repo_api.specs.States.{IsBeginning}
 use Rattle.wire_replies.specs.Replies.{print}
 use Rattle.wire_replies.proofs.Parts.{part_first}
-use Rattle.access.specs.Points.{Point, AccessRules, content_of}
-use Rattle.machine.specs.Settings.{Settings}
-use Rattle.machine.specs.Hearing.{HasNoMore}
-use Rattle.machine.specs.Stages.{SessionState, StandsOn, is_open}
-use Rattle.machine.specs.Steps.{FeedWritten, FeedLost}
-use Rattle.machine.specs.declared.env.Env.{Env}
-use Rattle.hub_runs.specs.State.{HubState, AllOpen, HasTrees, Finds, hub_at, session_of, updated, without, kept}
-use Rattle.hub_runs.specs.Runs.{HubRun, IfOpen, ends_of, with_rest, Feeds, BreaksOff}
-use Rattle.hub_runs.specs.SessionLaws.{session_of-updated, session_of-without, kept-updated, without-updated}
+use Rattle.access.specs.Points.{AccessRules, content_of, Point}
+use Rattle.machine.specs.{Hearing.HasNoMore, Settings.Settings, Stages.{is_open, SessionState, StandsOn}, Steps.{FeedLost, FeedWritten}, declared.env.Env.Env}
+use Rattle.hub_runs.specs.Runs.{BreaksOff, ends_of, Feeds, HubRun, IfOpen, with_rest}
+use Rattle.hub_runs.specs.SessionLaws.{kept-updated, session_of-updated, session_of-without, without-updated}
+use Rattle.hub_runs.specs.State.{AllOpen, Finds, HasTrees, hub_at, HubState, kept, session_of, updated, without}
 use Rattle.hub.proofs.Places.{without-kept, settled, kept_ended}
-use Rattle.hub_runs.proofs.Everywhere.{AllOpen-at, AllOpen-kept, HasTrees-at, HasTrees-kept}
-use Rattle.hub_runs.proofs.Staying.{feeds_keep, breaks_keep}
 use Rattle.hub.proofs.Composing.{StandsAlone, AddsOwn, holds_open, holds_kept, events_of, inputs_are, composed, ends, runs_on}
+use Rattle.hub_runs.proofs.{Everywhere.{AllOpen-at, AllOpen-kept, HasTrees-at, HasTrees-kept}, Staying.{feeds_keep, breaks_keep}}
 
 if_open : (xs : List (ℕ × SessionState)) (n : ℕ) (session s' : SessionState) (rest : List ℕ) → session_of xs n ≡ Some session
     → (is_open s'.phase ≡ true → HasNoMore rest) → IfOpen (session_of (kept xs n s') n) rest

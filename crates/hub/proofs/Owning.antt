@@ -1,35 +1,18 @@
 -- What events do is what their sessions have asked for.
-use Rattle.std.proofs.Common.{◌≡◌, ℕ, List, [], ◌∷◌, ◌++◌, true, Some, refl, sym, ap, subst, ◌∙◌}
-use Rattle.std.proofs.lemmas.Bool.{true≢false}
+use Rattle.std.proofs.{Common.{◌≡◌, ℕ, List, [], ◌∷◌, ◌++◌, true, Some, refl, sym, ap, subst, ◌∙◌}, lemmas.Bool.true≢false}
 use Rattle.std.specs.FinMap.{get}
 use Rattle.svnpath.specs.Paths.{PathValue}
-use Rattle.repo_api.specs.States.{RepoState, TxnState, tree_of, tree_at, trees_in, youngest}
-use Rattle.repo_api.specs.Merge.{is_changed}
-use Rattle.repo_api.specs.Marks.{shown, own_of, MeetWell}
-use Rattle.repo_api.specs.Commits.{next_tree}
-use Rattle.repo_api.specs.Accepted.{Accepted, changed, changed_all}
-use Rattle.repo_api.specs.Accepted.Accepted.{Commits, Locks, Unlocks, Releases, ChangesProperty}
+use Rattle.repo_api.specs.{Accepted.{Accepted, changed, changed_all}, Accepted.Accepted.{ChangesProperty, Commits, Locks, Releases, Unlocks}, Commits.next_tree}
+use Rattle.repo_api.specs.{Marks.{MeetWell, own_of, shown}, Merge.is_changed, States.{RepoState, tree_at, tree_of, trees_in, TxnState, youngest}}
 use Rattle.wire_replies.specs.declared.reply.Reply.{Reply}
-use Rattle.machine.specs.Soundness.{MeetBy}
-use Rattle.machine.specs.Stages.{SessionState}
-use Rattle.machine.specs.declared.env.Env.{Env}
-use Rattle.hub_runs.specs.State.{HubState, HasTrees, session_of, updated}
-use Rattle.hub_runs.specs.Runs.{Event, HubStep, HubRun, ends_of, with_rest}
-use Rattle.hub_runs.specs.Runs.Event.{Connects, Drops}
-use Rattle.hub.specs.Calls.{CallStep, CallRun}
-use Rattle.hub_runs.specs.Laws.{AllKeepSides}
-use Rattle.hub_runs.specs.Done.{GoesOnBy, HasDone, HaveDone}
-use Rattle.hub.specs.CallLaws.{CallHasDone, CallsHaveDone}
-use Rattle.hub.specs.declared.hub.HubFault.TheVariants.{NoSession, NoMemory, Halted, Full}
-use Rattle.hub.specs.declared.calls.Call.{Call}
-use Rattle.hub.specs.declared.calls.Call.TheVariants.{Connect, Feed, Disconnect}
-use Rattle.hub.specs.declared.calls.Outcome.{Outcome}
+use Rattle.machine.specs.{Soundness.MeetBy, Stages.SessionState, declared.env.Env.Env}
+use Rattle.hub_runs.specs.{Done.{GoesOnBy, HasDone, HaveDone}, Laws.AllKeepSides, Runs.{ends_of, Event, HubRun, HubStep, with_rest}}
+use Rattle.hub_runs.specs.{Runs.Event.{Connects, Drops}, State.{HasTrees, HubState, session_of, updated}}
+use Rattle.hub.specs.{Calls.{CallStep, CallRun}, CallLaws.{CallHasDone, CallsHaveDone}, declared.hub.HubFault.TheVariants.{NoSession, NoMemory, Halted, Full}}
+use Rattle.hub.specs.{declared.calls.Call.Call, declared.calls.Call.TheVariants.{Connect, Feed, Disconnect}, declared.calls.Outcome.Outcome}
 use Rattle.hub.specs.declared.calls.Outcome.TheVariants.{Connected, Wrote, Dropped, Failed}
-use Rattle.hub_runs.proofs.Acting.{KeepTrees, acts}
+use Rattle.hub_runs.proofs.{Acting.{KeepTrees, acts}, Everywhere.HasTrees-with_rest, Staying.{goes_nowhere, goes_on}, Trees.event_keeps}
 use Rattle.hub.proofs.Calling.{with_sessions, some_words}
-use Rattle.hub_runs.proofs.Everywhere.{HasTrees-with_rest}
-use Rattle.hub_runs.proofs.Staying.{goes_nowhere, goes_on}
-use Rattle.hub_runs.proofs.Trees.{event_keeps}
 
 module _ (keeps : KeepTrees)
     (theirs : (c : RepoState) (t : TxnState) → MeetWell (trees_in c.revisions) t.base (tree_of t.tree) (youngest c) → (p : PathValue) → is_changed (get (tree_at c t.base) p) (get (tree_at c (youngest c)) p) ≡ true → (shown (get (next_tree c t) p) ≡ shown (get (tree_at c (youngest c)) p)) × (own_of (get (next_tree c t) p) ≡ own_of (get (tree_at c (youngest c)) p)))

@@ -1,14 +1,9 @@
 -- Sessions in a list.
-use Rattle.std.proofs.Common.{◌≡◌, ℕ, List, [], ◌∷◌, Some, None, Bool, true, false, refl, ap, ◌∙◌, arith}
-use Rattle.std.specs.Prelude.{if◌then◌else◌}
-use Rattle.std.proofs.lemmas.Bool.Decides.{nat_tests}
-use Rattle.machine.specs.Stages.{SessionState, is_open}
-use Rattle.std.proofs.Common.{◌<◌, ◌≤◌, ◌+◌, below_more, length, suc, zero}
-use Rattle.std.proofs.lemmas.Option.{slice_get_within}
-use Rattle.std.specs.List.{slice_get}
-use Rattle.std.specs.Prelude.{slice_set}
-use Rattle.hub_runs.specs.State.{session_of, updated, without, kept, Finds}
-use Rattle.hub_runs.specs.SessionLaws.{updated_updated, without-updated, session_of-without}
+use Rattle.std.proofs.Common.{◌≡◌, ℕ, List, [], ◌∷◌, Some, None, Bool, true, false, refl, ap, ◌∙◌, arith, ◌<◌, ◌≤◌, ◌+◌, below_more, length, suc, zero}
+use Rattle.std.proofs.{lemmas.Bool.Decides.nat_tests, lemmas.Option.slice_get_within}
+use Rattle.std.specs.{Prelude.{if◌then◌else◌, slice_set}, List.slice_get}
+use Rattle.machine.specs.Stages.{is_open, SessionState}
+use Rattle.hub_runs.specs.{SessionLaws.{session_of-without, updated_updated, without-updated}, State.{Finds, kept, session_of, updated, without}}
 
 pub updated_same : (xs : List (ℕ × SessionState)) (n : ℕ) (s : SessionState) → session_of xs n ≡ Some s → updated xs n s ≡ xs
 updated_same [] n s h = refl

@@ -1,32 +1,19 @@
 -- Accepted changes respect locks.
 use Rattle.std.proofs.Common.{◌≡◌, ℕ, ◌&&◌, not, List, [], ◌∷◌, ◌++◌, Bool, true, false, Option, Some, None, ap, sym, subst, ◌∙◌}
-use Rattle.std.specs.Prelude.{IsTrue, if◌then◌else◌}
-use Rattle.std.specs.FinMap.{get, empty, get-empty}
-use Rattle.std.specs.List.{list_any}
-use Rattle.svnpath.specs.Paths.{PathValue, path_cmp}
+use Rattle.std.specs.{Prelude.{IsTrue, if◌then◌else◌}, FinMap.{get, empty, get-empty}, List.list_any}
+use Rattle.svnpath.specs.Paths.{path_cmp, PathValue}
 use Rattle.access.specs.Changing.{wants_release}
-use Rattle.repo_api.specs.States.{RepoState, TxnState}
-use Rattle.repo_api.specs.Commits.{commit_refusal, committed}
-use Rattle.repo_api.specs.Locking.{is_in_the_way, is_handed_in}
-use Rattle.repo_api.specs.LockRuns.{names_lock, HaveOwnTokens, IsNewToken, HaveNewTokens}
-use Rattle.repo_api.specs.Accepted.{Accepted, AreAccepted, changed, changed_all}
-use Rattle.repo_api.specs.Accepted.Accepted.{Commits, Locks, Unlocks, Releases, ChangesProperty}
-use Rattle.repo_api.specs.declared.ask.CommitAsk.{CommitAsk}
+use Rattle.repo_api.specs.{Accepted.{Accepted, AreAccepted, changed, changed_all}, Accepted.Accepted.{ChangesProperty, Commits, Locks, Releases, Unlocks}}
+use Rattle.repo_api.specs.{Commits.{commit_refusal, committed}, LockRuns.{HaveNewTokens, HaveOwnTokens, IsNewToken, names_lock}}
+use Rattle.repo_api.specs.{Locking.{is_handed_in, is_in_the_way}, States.{RepoState, TxnState}, declared.ask.CommitAsk.CommitAsk}
 use Rattle.repo_api.specs.declared.lock.Lock.{Lock as LockValue}
 use Rattle.wire_replies.specs.declared.reply.Reply.{Reply}
-use Rattle.machine.specs.Hearing.{Input}
-use Rattle.machine.specs.declared.env.Env.{Env}
-use Rattle.hub_runs.specs.State.{HubState}
-use Rattle.hub_runs.specs.Runs.{Event, HubStep, HubRun, ends_of, with_rest}
-use Rattle.hub_runs.specs.Runs.Event.{Connects, HandsIn, Hears, Leaves, Drops}
-use Rattle.hub.specs.Calls.{CallStep, CallRun}
-use Rattle.hub_runs.specs.Laws.{IsTold, UsesWord, AllHoldLocks, RespectLocks, IsNewWord, MakesNewTokens}
-use Rattle.hub.specs.CallLaws.{CallMakesNewTokens, CallsMakeNewTokens}
-use Rattle.hub_runs.specs.Done.{GoesOnBy}
-use Rattle.hub.specs.declared.hub.HubFault.TheVariants.{NoSession, NoMemory, Halted, Full}
-use Rattle.hub.specs.declared.calls.Call.{Call}
-use Rattle.hub.specs.declared.calls.Call.TheVariants.{Connect, Feed, Disconnect}
-use Rattle.hub.specs.declared.calls.Outcome.{Outcome}
+use Rattle.machine.specs.{Hearing.Input, declared.env.Env.Env}
+use Rattle.hub_runs.specs.{Done.GoesOnBy, Laws.{AllHoldLocks, IsNewWord, IsTold, MakesNewTokens, RespectLocks, UsesWord}}
+use Rattle.hub_runs.specs.{Runs.{ends_of, Event, HubRun, HubStep, with_rest}, Runs.Event.{Connects, Drops, HandsIn, Hears, Leaves}, State.HubState}
+use Rattle.hub.specs.{Calls.{CallStep, CallRun}, CallLaws.{CallMakesNewTokens, CallsMakeNewTokens}}
+use Rattle.hub.specs.{declared.hub.HubFault.TheVariants.{NoSession, NoMemory, Halted, Full}, declared.calls.Call.Call}
+use Rattle.hub.specs.{declared.calls.Call.TheVariants.{Connect, Feed, Disconnect}, declared.calls.Outcome.Outcome}
 use Rattle.hub.specs.declared.calls.Outcome.TheVariants.{Connected, Wrote, Dropped, Failed}
 use Rattle.hub_runs.proofs.Acting.{Acts, acts}
 use Rattle.hub.proofs.Calling.{some_words}

@@ -3,13 +3,8 @@ use Rattle.std.specs.Prelude.{List}
 use Rattle.repo_api.specs.Accepted.{Accepted}
 use Rattle.wire_replies.specs.declared.reply.Reply.{Reply}
 use Rattle.machine.specs.declared.env.Env.{Env}
-use Rattle.hub_runs.specs.Done.{HasDone, HaveDone}
-use Rattle.hub_runs.specs.Runs.{Event, HubRun}
-use Rattle.hub_runs.specs.State.{HubState}
-use Rattle.hub.specs.Calls.{CallRun}
-use Rattle.hub.specs.CallLaws.{CallsHaveDone}
-use Rattle.hub.specs.declared.calls.Call.{Call}
-use Rattle.hub.specs.declared.calls.Outcome.{Outcome}
+use Rattle.hub_runs.specs.{Done.{HasDone, HaveDone}, Runs.{Event, HubRun}, State.HubState}
+use Rattle.hub.specs.{Calls.CallRun, CallLaws.CallsHaveDone, declared.calls.Call.Call, declared.calls.Outcome.Outcome}
 
 -- this holds of the hub before events and the hub after them, whatever happens
 abbrev pub WhateverHappens : (HubState → HubState → Type 0) → Type 0

@@ -1,16 +1,10 @@
 -- Words of the laws of calls of a hub.
-use Rattle.hub.specs.Calls.{CallStep, CallRun}
-use Rattle.hub_runs.specs.Runs.{ends_of, with_rest}
-use Rattle.hub_runs.specs.State.{HubState}
-use Rattle.hub.specs.declared.calls.Call.TheVariants.{Connect, Feed, Disconnect}
-use Rattle.hub.specs.declared.calls.Call.{Call}
-use Rattle.hub.specs.declared.calls.Outcome.TheVariants.{Connected, Wrote, Dropped, Failed}
-use Rattle.hub.specs.declared.calls.Outcome.{Outcome}
+use Rattle.hub.specs.{Calls.{CallStep, CallRun}, declared.calls.Call.TheVariants.{Connect, Feed, Disconnect}, declared.calls.Call.Call}
+use Rattle.hub.specs.{declared.calls.Outcome.TheVariants.{Connected, Wrote, Dropped, Failed}, declared.calls.Outcome.Outcome}
 use Rattle.hub.specs.declared.hub.HubFault.TheVariants.{NoSession, NoMemory, Halted, Full}
+use Rattle.hub_runs.specs.{Done.HaveDone, Laws.MakesNewTokens, Runs.{ends_of, with_rest}, State.HubState}
 use Rattle.repo_api.specs.Accepted.{Accepted}
 use Rattle.std.specs.Prelude.{◌≡◌, List, [], ◌∷◌, ◌++◌}
-use Rattle.hub_runs.specs.Laws.{MakesNewTokens}
-use Rattle.hub_runs.specs.Done.{HaveDone}
 
 -- at each event of a call that uses up a word, its token is one that none of the locks has which
 -- stand then

@@ -1,18 +1,12 @@
 -- What the calls of a hub do.
 use Rattle.std.specs.Prelude.{◌≡◌, ◌⊎◌, ℕ, ◌+◌, ◌<◌, ◌≤◌, ◌^◌, true, false, List, [], ◌∷◌, ◌++◌, length, None}
-use Rattle.wire_replies.specs.declared.reply.Reply.{Reply}
-use Rattle.wire_replies.specs.Replies.{print}
+use Rattle.wire_replies.specs.{declared.reply.Reply.Reply, Replies.print}
 use Rattle.machine.specs.declared.env.Env.{Env}
-use Rattle.hub.specs.declared.hub.TheConstants.{MAX_SESSIONS}
-use Rattle.hub.specs.declared.hub.HubFault.{HubFault}
-use Rattle.hub.specs.declared.hub.HubFault.TheVariants.{NoSession, NoMemory, Halted, Full}
-use Rattle.hub.specs.declared.calls.Call.{Call}
-use Rattle.hub.specs.declared.calls.Call.TheVariants.{Connect, Feed, Disconnect}
-use Rattle.hub.specs.declared.calls.Outcome.{Outcome}
+use Rattle.hub.specs.{declared.hub.TheConstants.MAX_SESSIONS, declared.hub.HubFault.HubFault}
+use Rattle.hub.specs.{declared.hub.HubFault.TheVariants.{NoSession, NoMemory, Halted, Full}, declared.calls.Call.Call}
+use Rattle.hub.specs.{declared.calls.Call.TheVariants.{Connect, Feed, Disconnect}, declared.calls.Outcome.Outcome}
 use Rattle.hub.specs.declared.calls.Outcome.TheVariants.{Connected, Wrote, Dropped, Failed}
-use Rattle.hub_runs.specs.State.{HubState, session_of}
-use Rattle.hub_runs.specs.Runs.{HubStep, Feeds, Breaks, BreaksOff}
-use Rattle.hub_runs.specs.Runs.Event.{Connects, Drops}
+use Rattle.hub_runs.specs.{Runs.{Breaks, BreaksOff, Feeds, HubStep}, Runs.Event.{Connects, Drops}, State.{HubState, session_of}}
 
 -- there was room for a new session, which is greeted so
 pub record ConnectsAs (old : HubState) (n : ℕ) (out : List ℕ) (new : HubState) : Type 0 where

@@ -1,7 +1,6 @@
 //! Any calls of any sessions.
 ghost use Rattle.std.specs.Prelude.{◌≡◌, ◌++◌, [], ◌∷◌, IfOk, OnOk, OnErr};
-ghost use Rattle.hub.specs.declared.calls.Outcome.{Outcome};
-ghost use Rattle.hub.specs.Calls.{CallStep, CallRun, BeginsCalls};
+ghost use Rattle.hub.specs.{declared.calls.Outcome.Outcome, Calls.{CallStep, CallRun, BeginsCalls}};
 
 use crate::hub::{Hub, HubFault, SessionId};
 use access::SoleAccess;

@@ -1,16 +1,10 @@
 //! Many sessions over one repository.
-ghost use Rattle.std.specs.Prelude.{◌≡◌, if◌then◌else◌, ◌+◌, ◌<◌, ◌≤◌, ◌++◌, [], ◌∷◌, ℕ, List, Bool, true, false, not, ◌&&◌};
-ghost use Rattle.std.specs.Prelude.{length, MatchOption, IfOk, IfErr, OnOk, OnErr, None, is_some};
-ghost use Rattle.repo_api.specs.Opening.{new_repository};
-ghost use Rattle.repo_api.specs.Soundness.{AreSound};
-ghost use Rattle.access.specs.Points.{content_of};
+ghost use Rattle.std.specs.Prelude.{◌≡◌, if◌then◌else◌, ◌+◌, ◌<◌, ◌≤◌, ◌++◌, [], ◌∷◌, ℕ, List, Bool, true, false, not, ◌&&◌, length, MatchOption, IfOk, IfErr};
+ghost use Rattle.std.specs.Prelude.{OnOk, OnErr, None, is_some};
+ghost use Rattle.repo_api.specs.{Opening.new_repository, Soundness.AreSound};
+ghost use Rattle.access.specs.{Points.content_of, Sole.point_at};
 ghost use Rattle.wire_replies.specs.Replies.{print};
-ghost use Rattle.wire_replies.specs.declared.reply.Reply.TheVariants.{Greeting};
-ghost use Rattle.hub.specs.declared.hub.TheConstants.{MAX_SESSIONS};
-ghost use Rattle.hub_runs.specs.State.{hub_at, session_of, without, Finds};
-ghost use Rattle.access.specs.Sole.{point_at};
-ghost use Rattle.hub_runs.specs.Runs.{HubStep, Feeds, BreaksOff, new_session};
-ghost use Rattle.hub_runs.specs.Runs.Event.{Drops};
+ghost use Rattle.hub_runs.specs.{Runs.{BreaksOff, Feeds, HubStep, new_session}, Runs.Event.Drops, State.{Finds, hub_at, session_of, without}};
 ghost use Rattle.hub.specs.Calls.{IsFull, ConnectsAs, ConnectFails, FeedsAs, FeedFails, FeedsTo, FeedBreaks};
 
 use crate::laws::new_repositories_are_sound;
@@ -96,7 +90,7 @@ fn add_session<R: Repository>(
 
 /// Makes the greeting.
 fn greeting(alloc: Global) -> Result<Vec<u8>, AllocError>
-    ensures { IfOk result (λ out. out.items ≡ print (Greeting ∷ [])) }
+    ensures { IfOk result (λ out. out.items ≡ print (Reply.Greeting ∷ [])) }
 {
     let mut out = Vec::new(alloc);
     Reply::Greeting.write(alloc, &mut out)?;
@@ -114,9 +108,8 @@ pub struct Hub<A: SoleAccess> {
 }
 
 impl<A: SoleAccess> Model for Hub<A> {
-    ghost use Rattle.std.specs.Coded.{codes};
-    ghost use Rattle.std.specs.FinMap.{code as map_code};
-    ghost use Rattle.hub_runs.specs.State.{HubState, hub_at, AllOpen, HasTrees};
+    ghost use Rattle.std.specs.{Coded.codes, FinMap.code as map_code};
+    ghost use Rattle.hub_runs.specs.State.{AllOpen, HasTrees, hub_at, HubState};
 
     ghost Value = { HubState };
 

@@ -1,27 +1,15 @@
 -- What an event does to the repository.
 use Rattle.std.proofs.Common.{◌≡◌, ◌⊎◌, inl, inr, ℕ, ◌||◌, List, [], ◌∷◌, Bool, true, false, Option, Some, None, refl, sym, ap, subst, ◌∙◌}
 use Rattle.std.proofs.lemmas.Bool.{true≢false}
-use Rattle.repo_api.specs.States.{RepoState}
-use Rattle.repo_api.specs.Accepted.{Accepted, IsAccepted, changed_all}
-use Rattle.repo_api.specs.Accepted.Accepted.{Commits}
+use Rattle.repo_api.specs.{Accepted.{Accepted, changed_all, IsAccepted}, Accepted.Accepted.Commits, States.RepoState}
 use Rattle.wire_replies.specs.declared.reply.Reply.{Reply}
-use Rattle.machine.specs.Hearing.{Input}
-use Rattle.machine.specs.Settings.{Settings}
-use Rattle.machine.specs.Stages.{Stage, SessionState, StandsOn}
-use Rattle.machine.specs.Soundness.{MeetBy}
-use Rattle.machine.specs.Answers.{Verdict, Answer, content_after, is_halt, pending_by}
-use Rattle.machine.specs.Answers.Verdict.{Written, NotWritten, Unknown}
-use Rattle.machine.specs.Machine.{InputStep, UnreleasedStep}
+use Rattle.machine.specs.{Answers.{Answer, content_after, is_halt, pending_by, Verdict}, Answers.Verdict.{NotWritten, Unknown, Written}, Hearing.Input}
+use Rattle.machine.specs.{Machine.{InputStep, UnreleasedStep}, Settings.Settings, Soundness.MeetBy, Stages.{SessionState, Stage, StandsOn}}
 use Rattle.machine.specs.declared.env.Env.{Env}
-use Rattle.hub_runs.specs.State.{HubState, HasTrees, session_of}
-use Rattle.hub_runs.specs.Runs.{Event, InputHappens, CommitLeaves, HubStep}
-use Rattle.hub_runs.specs.Runs.Event.{Connects, HandsIn, Hears, Leaves, Drops}
-use Rattle.hub_runs.specs.Asked.{IsAsked, IsAskedIn, IsAskedAt, AreAll}
-use Rattle.hub_runs.specs.Laws.{IsTold, UsesWord}
+use Rattle.hub_runs.specs.{State.{HubState, HasTrees, session_of}, Runs.{Event, InputHappens, CommitLeaves, HubStep}}
+use Rattle.hub_runs.specs.{Runs.Event.{Connects, HandsIn, Hears, Leaves, Drops}, Asked.{IsAsked, IsAskedIn, IsAskedAt, AreAll}, Laws.{IsTold, UsesWord}}
 use Rattle.hub_runs.specs.Done.{GoesOnBy, LeavesWords, Tells, NamesHalt}
-use Rattle.hub_runs.proofs.Effects.{ArePlain, Halts, all_on, halts_as, does, leaves}
-use Rattle.hub_runs.proofs.Everywhere.{HasTrees-at}
-use Rattle.hub_runs.proofs.Revising.{AreOthers}
+use Rattle.hub_runs.proofs.{Effects.{ArePlain, Halts, all_on, halts_as, does, leaves}, Everywhere.HasTrees-at, Revising.AreOthers}
 
 -- each step of a session keeps what it stands on, and its changes meet the trees well
 abbrev pub StepsKeepTrees : Type 0

@@ -1,62 +1,38 @@
 -- What an input does to the repository: what its session asks for by it.
-use Rattle.std.proofs.Common.{◌≡◌, ◌⊎◌, inl, inr, ℕ, zero, suc, ◌&&◌, not, List, [], ◌∷◌, ◌++◌, Contains, Bool, true, false, Option, Some, None, refl, ap, subst, sym, ◌∙◌, length, append_assoc, arith}
+use Rattle.std.proofs.Common.{◌≡◌, ◌⊎◌, inl, inr, ℕ, zero, suc, ◌&&◌, not, List, [], ◌∷◌, ◌++◌, Contains, Bool, true, false, Option, Some, None, refl, ap}
+use Rattle.std.proofs.{Common.{subst, sym, ◌∙◌, length, append_assoc, arith}, lemmas.Bool.true≢false}
 use Rattle.std.specs.Prelude.{Result, Ok, Err, if◌then◌else◌}
-use Rattle.std.proofs.lemmas.Bool.{true≢false}
-use Rattle.svnpath.specs.Paths.{PathValue}
-use Rattle.svnpath.specs.Texts.{joined}
-use Rattle.svnpath.specs.Urls.{path_of_text, root_of_text}
-use Rattle.svnpath.specs.declared.fault.PathFault.{PathFault}
+use Rattle.svnpath.specs.{Paths.PathValue, Texts.joined, Urls.{path_of_text, root_of_text}, declared.fault.PathFault.PathFault}
 use Rattle.dates.specs.Dates.{IsDateText}
 use Rattle.items.specs.Values.{ItemValue}
 use Rattle.refusals.specs.declared.Refusal.{Refusal}
 use Rattle.access.specs.Changing.{wants_release}
-use Rattle.repo_api.specs.States.{RepoState, TxnState}
-use Rattle.repo_api.specs.Commits.{commit_refusal, committed}
-use Rattle.repo_api.specs.Locking.{lock_refusal, unlock_refusal, releases}
-use Rattle.repo_api.specs.RevisionProperties.{property_refusal}
-use Rattle.repo_api.specs.Accepted.{Accepted, IsAccepted, AreAccepted, changed_all}
-use Rattle.repo_api.specs.Accepted.Accepted.{Commits, Locks, Unlocks, Releases, ChangesProperty}
-use Rattle.repo_api.specs.declared.ask.CommitAsk.{CommitAsk}
-use Rattle.wire_forms.specs.declared.fault.CommandFault.{CommandFault}
-use Rattle.wire_forms.specs.declared.fault.CommandFault.TheVariants.{UnknownName, BadParameters, NoMemory}
-use Rattle.commands.specs.Commands.{main_command}
-use Rattle.commands.specs.Logins.{client_greeting, auth_response, challenge_answer}
-use Rattle.commands.specs.declared.command.MainCommand.{MainCommand}
-use Rattle.commands.specs.declared.command.MainCommand.TheVariants.{Read, Drive, Commit, AbortEdit, Lock as LockPath, Unlock as UnlockPath, ChangeRevProp, Reparent}
-use Rattle.repo_api.specs.declared.property_ask.PropertyAsk.{PropertyAsk}
-use Rattle.commands.specs.declared.command.LockCommand.{LockCommand}
-use Rattle.commands.specs.declared.command.UnlockCommand.{UnlockCommand}
-use Rattle.commands.specs.declared.login.AuthResponse.{AuthResponse}
-use Rattle.commands.specs.declared.login.ClientGreeting.{ClientGreeting}
-use Rattle.wire_edits.specs.Editing.{editor_command, ends_edit}
-use Rattle.wire_edits.specs.declared.editing.EditorCommand.{EditorCommand}
+use Rattle.repo_api.specs.{Accepted.{Accepted, AreAccepted, changed_all, IsAccepted}, Accepted.Accepted.{ChangesProperty, Commits, Locks, Releases, Unlocks}}
+use Rattle.repo_api.specs.{Commits.{commit_refusal, committed}, Locking.{lock_refusal, releases, unlock_refusal}, RevisionProperties.property_refusal}
+use Rattle.repo_api.specs.{States.{RepoState, TxnState}, declared.ask.CommitAsk.CommitAsk, declared.property_ask.PropertyAsk.PropertyAsk}
+use Rattle.wire_forms.specs.{declared.fault.CommandFault.CommandFault, declared.fault.CommandFault.TheVariants.{UnknownName, BadParameters, NoMemory}}
+use Rattle.commands.specs.{Commands.main_command, Logins.{client_greeting, auth_response, challenge_answer}, declared.command.MainCommand.MainCommand}
+use Rattle.commands.specs.declared.command.MainCommand.TheVariants.{Read, Drive, Commit, AbortEdit, Lock as LockPath, Unlock as UnlockPath, ChangeRevProp}
+use Rattle.commands.specs.{declared.command.MainCommand.TheVariants.Reparent, declared.command.LockCommand.LockCommand}
+use Rattle.commands.specs.{declared.command.UnlockCommand.UnlockCommand, declared.login.AuthResponse.AuthResponse, declared.login.ClientGreeting.ClientGreeting}
+use Rattle.wire_edits.specs.{Editing.{editor_command, ends_edit}, declared.editing.EditorCommand.EditorCommand}
 use Rattle.wire_edits.specs.declared.editing.EditorCommand.TheVariants as edits
-use Rattle.drive_wire.specs.Reporting.{Drawn, client_answer}
-use Rattle.drive_wire.specs.Reporting.Drawn.{GoesOn, GivenUp, Fails as Draws, Drives, Malformed}
+use Rattle.drive_wire.specs.{Reporting.{Drawn, client_answer}, Reporting.Drawn.{GoesOn, GivenUp, Fails as Draws, Drives, Malformed}}
 use Rattle.edit_rules.specs.Editor.{finished}
-use Rattle.wire_replies.specs.declared.reply.Reply.{Reply}
-use Rattle.wire_replies.specs.declared.reply.Reply.TheVariants.{Success, NoLogin, CommitInfo, Failure}
-use Rattle.machine.specs.Settings.{Settings}
-use Rattle.machine.specs.Stages.{Stage}
-use Rattle.machine.specs.Hearing.{Input}
-use Rattle.machine.specs.Hearing.Input.{Whole, Broken}
-use Rattle.machine.specs.Answers.{Verdict, Answer, Step, content_after, is_halt, change_answer, IsOfReplace, ChangeStep, behind, Behind, says}
-use Rattle.machine.specs.Answers.Verdict.{Written, NotWritten, Unknown}
-use Rattle.machine.specs.Commands.{asked_by, lock_tokens, commit_begins, lock_ask, unlock_ask, lock_answer, LockStep, UnlockStep, PropertyStep, reparented, login_request, OwnStep}
-use Rattle.machine.specs.Logins.{offer, chosen, wants_user, speaks, url_answer, greeting_answer, LoggedIn, ChoiceStep, LoginStep, with_user, ChallengeStep}
-use Rattle.machine.specs.Machine.{InputStep, UnreleasedStep, unreleased_answer, KnownCommand, MainStep, MachineEdit, JudgedEdit, CommitStep, CloseStep, CommandStep, EditingStep, ending_of, commit_ask, Release, IsReleaseOf, release_fails, release_effect, CommittedStep, skipping_answer}
-use Rattle.machine.specs.Reports.{drawn_answer, driven_answer}
-use Rattle.machine.specs.Machine.Release.{Stays, Released, Fails}
-use Rattle.machine.specs.declared.commit_parameters.CommitParameters.{CommitParameters}
-use Rattle.machine.specs.declared.env.Env.{Env}
-use Rattle.machine.specs.declared.login.Mechanism.{Mechanism}
-use Rattle.machine.specs.declared.login.Mechanism.TheVariants as mechanisms
-use Rattle.machine.specs.declared.login.OpenLogin.{OpenLogin}
-use Rattle.machine.specs.declared.login.OpenChallenge.{OpenChallenge}
+use Rattle.wire_replies.specs.{declared.reply.Reply.Reply, declared.reply.Reply.TheVariants.{Success, NoLogin, CommitInfo, Failure}}
+use Rattle.machine.specs.Answers.{Answer, Behind, behind, change_answer, ChangeStep, content_after, is_halt, IsOfReplace, says, Step, Verdict}
+use Rattle.machine.specs.{Answers.Verdict.{NotWritten, Unknown, Written}, Commands.{asked_by, commit_begins, lock_answer, lock_ask, lock_tokens, LockStep}}
+use Rattle.machine.specs.{Commands.{login_request, OwnStep, PropertyStep, reparented, unlock_ask, UnlockStep}, Hearing.Input, Hearing.Input.{Broken, Whole}}
+use Rattle.machine.specs.Logins.{ChallengeStep, ChoiceStep, chosen, greeting_answer, LoggedIn, LoginStep, offer, speaks, url_answer, wants_user, with_user}
+use Rattle.machine.specs.Machine.{CloseStep, CommandStep, commit_ask, CommitStep, CommittedStep, EditingStep, ending_of, InputStep, IsReleaseOf, JudgedEdit}
+use Rattle.machine.specs.Machine.{KnownCommand, MachineEdit, MainStep, Release, release_effect, release_fails, skipping_answer, unreleased_answer}
+use Rattle.machine.specs.{Machine.UnreleasedStep, Machine.Release.{Fails, Released, Stays}, Reports.{drawn_answer, driven_answer}, Settings.Settings}
+use Rattle.machine.specs.{Stages.Stage, declared.commit_parameters.CommitParameters.CommitParameters, declared.env.Env.Env, declared.login.Mechanism.Mechanism}
+use Rattle.machine.specs.{declared.login.OpenLogin.OpenLogin, declared.login.OpenChallenge.OpenChallenge}
 use Rattle.machine.specs.declared.phase.Phase.TheVariants.{Greeted, LoggingIn, Challenged, Serving, Editing, Skipping, Reporting, Driven, Ended}
 use Rattle.machine.specs.declared.phase.Client.{Client}
-use Rattle.hub_runs.specs.Asked.{IsAskedBy, IsOfEdit, IsWaiting, IsAsked, AreAll}
-use Rattle.hub_runs.specs.Laws.{EndsWith, release_behind, IsTold, UsesWord}
+use Rattle.machine.specs.declared.login.Mechanism.TheVariants as mechanisms
+use Rattle.hub_runs.specs.{Asked.{IsAskedBy, IsOfEdit, IsWaiting, IsAsked, AreAll}, Laws.{EndsWith, release_behind, IsTold, UsesWord}}
 use Rattle.hub_runs.proofs.Revising.{AreOthers}
 
 -- ---- replies without a failure

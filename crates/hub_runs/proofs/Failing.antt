@@ -1,17 +1,12 @@
 -- The store's failures, and what comes to a halt.
 use Rattle.std.proofs.Common.{◌≡◌, ◌⊎◌, inl, inr, ℕ, ◌+◌, ◌<◌, ◌≤◌, ◌||◌, List, Option, Some, None, Bool, true, false, refl, sym, ap, subst, ◌∙◌, arith}
 use Rattle.wire_replies.specs.declared.reply.Reply.{Reply}
-use Rattle.access.specs.Points.{last_count, HasRisen}
-use Rattle.machine.specs.Hearing.{Input}
-use Rattle.machine.specs.Stages.{SessionState}
-use Rattle.machine.specs.Answers.{Verdict, Answer, Counts, is_halt}
-use Rattle.machine.specs.Answers.Verdict.{Written, NotWritten, Unknown}
+use Rattle.access.specs.Points.{HasRisen, last_count}
+use Rattle.machine.specs.{Answers.{Answer, Counts, is_halt, Verdict}, Answers.Verdict.{NotWritten, Unknown, Written}, Hearing.Input, Stages.SessionState}
 use Rattle.machine.specs.declared.env.Env.{Env}
-use Rattle.hub_runs.specs.State.{HubState, session_of}
-use Rattle.hub_runs.specs.Runs.{Event, InputHappens, CommitLeaves, HubStep, HubRun, answered}
+use Rattle.hub_runs.specs.{State.{HubState, session_of}, Runs.{Event, InputHappens, CommitLeaves, HubStep, HubRun, answered}}
 use Rattle.hub_runs.specs.Runs.Event.{Connects, HandsIn, Hears, Leaves, Drops}
-use Rattle.hub_runs.proofs.Running.{through_run}
-use Rattle.hub_runs.proofs.Staying.{event_halted}
+use Rattle.hub_runs.proofs.{Running.through_run, Staying.event_halted}
 
 pub or_false : (b : Bool) → (b || false) ≡ b
 or_false true = refl

@@ -1,30 +1,17 @@
 -- What a session asks of the repository by an input.
 use Rattle.std.specs.Prelude.{◌≡◌, ℕ, List, [], ◌∷◌, Option, Some, None, Ok}
-use Rattle.svnpath.specs.Paths.{PathValue}
-use Rattle.svnpath.specs.Texts.{joined}
+use Rattle.svnpath.specs.{Paths.PathValue, Texts.joined}
 use Rattle.dates.specs.Dates.{IsDateText}
-use Rattle.repo_api.specs.Accepted.{Accepted}
-use Rattle.repo_api.specs.Accepted.Accepted.{Commits, Locks, Unlocks, Releases, ChangesProperty}
-use Rattle.commands.specs.Commands.{main_command}
-use Rattle.commands.specs.declared.command.MainCommand.{MainCommand}
-use Rattle.commands.specs.declared.command.MainCommand.TheVariants.{Lock, Unlock, ChangeRevProp}
-use Rattle.commands.specs.declared.command.LockCommand.{LockCommand}
+use Rattle.repo_api.specs.{Accepted.Accepted, Accepted.Accepted.{ChangesProperty, Commits, Locks, Releases, Unlocks}}
+use Rattle.commands.specs.{Commands.main_command, declared.command.MainCommand.MainCommand}
+use Rattle.commands.specs.{declared.command.MainCommand.TheVariants.{Lock, Unlock, ChangeRevProp}, declared.command.LockCommand.LockCommand}
 use Rattle.commands.specs.declared.command.UnlockCommand.{UnlockCommand}
-use Rattle.wire_edits.specs.Editing.{editor_command}
-use Rattle.wire_edits.specs.declared.editing.EditorCommand.TheVariants.{CloseEdit}
+use Rattle.wire_edits.specs.{Editing.editor_command, declared.editing.EditorCommand.TheVariants.CloseEdit}
 use Rattle.edit_rules.specs.Editor.{finished}
-use Rattle.machine.specs.Commands.{lock_ask, unlock_ask}
-use Rattle.machine.specs.Hearing.{Input}
-use Rattle.machine.specs.Hearing.Input.{Whole, Broken}
-use Rattle.machine.specs.Logins.{with_user}
-use Rattle.machine.specs.Machine.{MachineEdit, commit_ask}
-use Rattle.machine.specs.Stages.{Stage, SessionState}
-use Rattle.machine.specs.declared.env.Env.{Env}
-use Rattle.machine.specs.declared.phase.Client.{Client}
+use Rattle.machine.specs.{Commands.{lock_ask, unlock_ask}, Hearing.Input, Hearing.Input.{Broken, Whole}, Logins.with_user, Machine.{commit_ask, MachineEdit}}
+use Rattle.machine.specs.{Stages.{SessionState, Stage}, declared.env.Env.Env, declared.phase.Client.Client}
 use Rattle.machine.specs.declared.phase.Phase.TheVariants.{Greeted, LoggingIn, Challenged, Serving, Editing, Skipping, Reporting, Driven, Ended}
-use Rattle.hub_runs.specs.State.{HubState, session_of}
-use Rattle.hub_runs.specs.Runs.{Event}
-use Rattle.hub_runs.specs.Runs.Event.{Connects, HandsIn, Hears, Leaves, Drops}
+use Rattle.hub_runs.specs.{State.{HubState, session_of}, Runs.Event, Runs.Event.{Connects, HandsIn, Hears, Leaves, Drops}}
 
 -- a client asks for the change by a command, at the moment and with the word that are handed in
 abbrev pub IsAskedBy : Env → Client → MainCommand → Accepted → Type 0

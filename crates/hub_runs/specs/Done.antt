@@ -1,17 +1,11 @@
 -- What events do to the repository, and what their sessions have asked for.
 use Rattle.std.specs.Prelude.{◌≡◌, Bool, true, false, List, [], ◌∷◌, ◌++◌, Some}
 use Rattle.access.specs.Changing.{wants_release}
-use Rattle.repo_api.specs.States.{RepoState, TxnState}
-use Rattle.repo_api.specs.Commits.{committed}
-use Rattle.repo_api.specs.Accepted.{Accepted, IsAccepted, AreAccepted, changed_all}
-use Rattle.repo_api.specs.Accepted.Accepted.{Commits}
-use Rattle.repo_api.specs.declared.ask.CommitAsk.{CommitAsk}
+use Rattle.repo_api.specs.{Accepted.{Accepted, AreAccepted, changed_all, IsAccepted}, Accepted.Accepted.Commits, Commits.committed}
+use Rattle.repo_api.specs.{States.{RepoState, TxnState}, declared.ask.CommitAsk.CommitAsk}
 use Rattle.wire_replies.specs.declared.reply.Reply.{Reply}
 use Rattle.machine.specs.declared.env.Env.{Env}
-use Rattle.hub_runs.specs.State.{HubState, HasTrees}
-use Rattle.hub_runs.specs.Runs.{Event, HubRun}
-use Rattle.hub_runs.specs.Runs.Event.{Connects, HandsIn, Hears, Leaves, Drops}
-use Rattle.hub_runs.specs.Asked.{IsAskedAt, AreAll}
+use Rattle.hub_runs.specs.{State.{HubState, HasTrees}, Runs.{Event, HubRun}, Runs.Event.{Connects, HandsIn, Hears, Leaves, Drops}, Asked.{IsAskedAt, AreAll}}
 use Rattle.hub_runs.specs.Laws.{IsTold, UsesWord, AllKeepSides}
 
 -- the repository has gone on by these changes, each accepted in the state that those before it make

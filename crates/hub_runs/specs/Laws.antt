@@ -1,33 +1,18 @@
 -- Words of the laws of a hub.
 use Rattle.std.specs.Prelude.{◌≡◌, ◌&&◌, ◌==◌, ◌<◌, not, if◌then◌else◌, Bool, true, false, ℕ, List, [], ◌∷◌, ◌++◌, Some, Contains, None, length, IsTrue}
-use Rattle.std.specs.FinMap.{get}
-use Rattle.std.specs.List.{list_any}
+use Rattle.std.specs.{FinMap.get, List.list_any}
 use Rattle.svnpath.specs.Paths.{PathValue}
 use Rattle.access.specs.Changing.{wants_release}
-use Rattle.repo_api.specs.Accepted.{Accepted, changed}
-use Rattle.repo_api.specs.Accepted.Accepted.{Commits, Locks, Unlocks, Releases, ChangesProperty}
-use Rattle.repo_api.specs.Locking.{lock_of, is_in_the_way, is_handed_in}
-use Rattle.repo_api.specs.LockRuns.{names_lock, HaveOwnTokens, IsNewToken, HaveNewTokens}
-use Rattle.repo_api.specs.declared.lock.Lock.{Lock as LockValue}
-use Rattle.repo_api.specs.Merge.{is_changed}
-use Rattle.repo_api.specs.Marks.{shown, own_of}
-use Rattle.repo_api.specs.Commits.{next_tree, committed}
-use Rattle.repo_api.specs.Properties.{PropertyList}
-use Rattle.repo_api.specs.declared.ask.CommitAsk.{CommitAsk}
-use Rattle.repo_api.specs.States.{RepoState, TxnState, LockMap, tree_at, youngest}
-use Rattle.repo_api.specs.Opening.{new_repository}
+use Rattle.repo_api.specs.{Accepted.{Accepted, changed}, Accepted.Accepted.{ChangesProperty, Commits, Locks, Releases, Unlocks}, Commits.{committed, next_tree}}
+use Rattle.repo_api.specs.{LockRuns.{HaveNewTokens, HaveOwnTokens, IsNewToken, names_lock}, Locking.{is_handed_in, is_in_the_way, lock_of}}
+use Rattle.repo_api.specs.{Marks.{own_of, shown}, Merge.is_changed, Opening.new_repository, Properties.PropertyList}
+use Rattle.repo_api.specs.{States.{LockMap, RepoState, tree_at, TxnState, youngest}, declared.lock.Lock.Lock as LockValue, declared.ask.CommitAsk.CommitAsk}
 use Rattle.refusals.specs.declared.Refusal.{Refusal}
 use Rattle.wire_forms.specs.Forms.{is_name}
-use Rattle.wire_replies.specs.declared.reply.Reply.{Reply}
-use Rattle.wire_replies.specs.declared.reply.Reply.TheVariants.{Success, Lock, CommitInfo, Failure}
-use Rattle.machine.specs.Settings.{Settings}
-use Rattle.machine.specs.Commands.{token_text, env_without_token}
-use Rattle.machine.specs.Readings.{revision_value}
+use Rattle.wire_replies.specs.{declared.reply.Reply.Reply, declared.reply.Reply.TheVariants.{Success, Lock, CommitInfo, Failure}}
+use Rattle.machine.specs.{Commands.{env_without_token, token_text}, Hearing.Input, Hearing.Input.{Broken, Whole}, Readings.revision_value, Settings.Settings}
 use Rattle.machine.specs.declared.env.Env.{Env}
-use Rattle.hub_runs.specs.State.{HubState}
-use Rattle.hub_runs.specs.Runs.{Event, HubRun}
-use Rattle.machine.specs.Hearing.{Input}
-use Rattle.machine.specs.Hearing.Input.{Whole, Broken}
+use Rattle.hub_runs.specs.{State.HubState, Runs.{Event, HubRun}}
 
 -- a hub over a new repository, to which nobody has connected yet
 abbrev pub new_hub : Settings → ℕ → List ℕ → HubState

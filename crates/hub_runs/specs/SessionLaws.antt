@@ -1,11 +1,8 @@
 -- Laws of a hub's sessions and of their streams, for the crates above.
 use Rattle.std.proofs.Common.{◌≡◌, ℕ, List, [], ◌∷◌, ◌++◌, Option, Some, None, Bool, true, false, refl, ap, subst, ◌∙◌, append_assoc}
 use Rattle.std.specs.Prelude.{if◌then◌else◌, ◌==◌, not}
-use Rattle.machine.specs.Hearing.{Input, Yields}
-use Rattle.machine.specs.Hearing.Input.{Whole, Broken}
-use Rattle.machine.specs.Stages.{SessionState, is_open}
-use Rattle.hub_runs.specs.State.{session_of, updated, without, kept}
-use Rattle.hub_runs.specs.Laws.{IsUnbroken}
+use Rattle.machine.specs.{Hearing.{Input, Yields}, Hearing.Input.{Broken, Whole}, Stages.{is_open, SessionState}}
+use Rattle.hub_runs.specs.{State.{session_of, updated, without, kept}, Laws.IsUnbroken}
 
 abbrev IsNone : Option SessionState → Type 0
 IsNone None = Unit {0}

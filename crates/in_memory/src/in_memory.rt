@@ -1,9 +1,7 @@
 //! What repositories in memory have beside what every repository has.
 ghost use Rattle.std.specs.Prelude.{◌≡◌, ◌≤◌, ℕ, List, IfOk, OnOk, OnErr};
-ghost use Rattle.dates.specs.Dates.{IsDateText};
-ghost use Rattle.dates.specs.declared.TheConstants.{LAST_MOMENT};
-ghost use Rattle.repo_api.specs.Locking.{with_lock};
-ghost use Rattle.repo_api.specs.Opening.{new_repository};
+ghost use Rattle.dates.specs.{Dates.IsDateText, declared.TheConstants.LAST_MOMENT};
+ghost use Rattle.repo_api.specs.{Locking.with_lock, Opening.new_repository};
 
 use repo_api::{Lock, Repository};
 use std::alloc::{AllocError, Global};

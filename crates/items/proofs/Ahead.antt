@@ -1,10 +1,8 @@
 -- What the bytes ahead of the scanner are, where it comes to the end of an item and the bytes behind that meet Q.
 use Rattle.std.proofs.Common.{◌≡◌, ℕ, zero, suc, ◌≤◌, ◌⊎◌, List, [], ◌∷◌, ◌++◌, length, IsTrue, refl, sym, ap, ◌∙◌, subst, append_assoc}
-use Rattle.items.specs.declared.scan.Lex.{Lex}
+use Rattle.items.specs.{declared.scan.Lex.Lex, Word.{EachPasses, IsSpace, IsDigit, is_word_byte}}
+use Rattle.items.specs.{Values.{ItemValue, ItemValues, none, more, Limits, IsWithin, AreWithin}, Spelling.{value_behind, Spaced, IsBody, AreSpelled}}
 use Rattle.items.specs.declared.scan.Lex.TheVariants as lexes
-use Rattle.items.specs.Word.{EachPasses, IsSpace, IsDigit, is_word_byte}
-use Rattle.items.specs.Values.{ItemValue, ItemValues, none, more, Limits, IsWithin, AreWithin}
-use Rattle.items.specs.Spelling.{value_behind, Spaced, IsBody, AreSpelled}
 
 -- the other items of a list, its end, and then P
 pub record Inside (P : List ℕ → Type 0) (l : Limits) (d : ℕ) (bytes : List ℕ) : Type 0 where

@@ -1,11 +1,13 @@
 -- From bytes that spell an item within the limits that very item is built.
-use Rattle.std.proofs.Common.{◌≡◌, ℕ, zero, suc, ◌+◌, ◌-◌, ◌*◌, ◌≤◌, ◌<◌, min, List, [], ◌∷◌, ◌++◌, length, take, drop, true, false, ◌==◌, IsTrue, refl, sym, ap, ap₂, ◌∙◌, subst, append_assoc, length-append, le_trans, le_of_eq, arith}
+use Rattle.std.proofs.Common.{◌≡◌, ℕ, zero, suc, ◌+◌, ◌-◌, ◌*◌, ◌≤◌, ◌<◌, min, List, [], ◌∷◌, ◌++◌, length, take, drop, true, false, ◌==◌, IsTrue, refl, sym}
+use Rattle.std.proofs.Common.{ap, ap₂, ◌∙◌, subst, append_assoc, length-append, le_trans, le_of_eq, arith}
 use Rattle.std.specs.Char.{is_ascii_digit, is_ascii_alphabetic}
 use Rattle.items.specs.Word.{EachPasses, IsSpace, IsDigit, IsWord, is_space, is_word_byte}
 use Rattle.items.specs.Values.{ItemValue, word, number, string, list, ItemValues, none, more, limits, IsWithin, AreWithin}
 use Rattle.items.specs.Spelling.{value_behind, IsNumeral, Spaced, IsBody, AreSpelled}
 use Rattle.items.specs.Build.{behind_spaces, word_len, numeral_at, behind_numeral, as_list, read_with, with_item, row_turn, row_with, read, row_reader}
-use Rattle.items.proofs.Classes.{space-no_word, space-no_digit, space-no_colon, digit-no_space, digit-no_opening, digit-no_closing, letter-no_space, letter-no_opening, letter-no_closing, letter-no_digit, value-grows}
+use Rattle.items.proofs.Classes.{space-no_word, space-no_digit, space-no_colon, digit-no_space, digit-no_opening, digit-no_closing, letter-no_space}
+use Rattle.items.proofs.Classes.{letter-no_opening, letter-no_closing, letter-no_digit, value-grows}
 
 pub take-front : (xs ys : List ℕ) → take (length xs) (xs ++ ys) ≡ xs
 take-front [] ys = refl

@@ -1,9 +1,7 @@
 -- The classes of bytes lie apart.
-use Rattle.std.proofs.Common.{◌≡◌, ℕ, ◌≤◌, ◌*◌, ◌+◌, ◌-◌, List, [], ◌∷◌, true, false, ◌==◌, nat_le, arith}
-use Rattle.std.proofs.lemmas.Bool.Decides.{nat_tests}
+use Rattle.std.proofs.{Common.{◌≡◌, ℕ, ◌≤◌, ◌*◌, ◌+◌, ◌-◌, List, [], ◌∷◌, true, false, ◌==◌, nat_le, arith}, lemmas.Bool.Decides.nat_tests}
 use Rattle.std.specs.Char.{is_ascii_digit, is_ascii_alphabetic}
-use Rattle.items.specs.Word.{is_space, is_word_byte}
-use Rattle.items.specs.Spelling.{value_behind}
+use Rattle.items.specs.{Word.{is_space, is_word_byte}, Spelling.value_behind}
 
 pub space-no_word : (b : ℕ) → is_space b ≡ true → is_word_byte b ≡ false
 space-no_word b h = grind (arith, nat_tests)

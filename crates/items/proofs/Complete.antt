@@ -1,16 +1,15 @@
 -- Bytes that spell an item within the limits bring the scanner to its end, and no further.
-use Rattle.std.proofs.Common.{◌≡◌, ℕ, suc, ◌+◌, ◌-◌, ◌*◌, ◌≤◌, ◌<◌, List, [], ◌∷◌, ◌++◌, length, true, false, cond, ◌==◌, nat_le, nat_lt, IsTrue, refl, ap, ◌∙◌, append_assoc, arith}
-use Rattle.std.proofs.Math.Dec.{eqb-suc-zero}
-use Rattle.std.proofs.lemmas.Bool.Decides.{nat_tests}
+use Rattle.std.proofs.Common.{◌≡◌, ℕ, suc, ◌+◌, ◌-◌, ◌*◌, ◌≤◌, ◌<◌, List, [], ◌∷◌, ◌++◌, length, true, false, cond, ◌==◌, nat_le, nat_lt, IsTrue, refl, ap, ◌∙◌}
+use Rattle.std.proofs.{Common.{append_assoc, arith}, Math.Dec.eqb-suc-zero, lemmas.Bool.Decides.nat_tests}
 use Rattle.std.specs.Char.{is_ascii_digit, is_ascii_alphabetic}
 use Rattle.items.specs.declared.scan.Lex.TheVariants as lexes
 use Rattle.items.specs.declared.scan.Step.TheVariants as steps
 use Rattle.items.specs.Word.{EachPasses, IsSpace, IsDigit, IsWord, is_space, is_word_byte}
 use Rattle.items.specs.Values.{ItemValue, word, number, string, list, ItemValues, none, more, Limits, IsWithin, AreWithin}
-use Rattle.items.specs.Spelling.{value_behind, IsNumeral, Spaced, IsBody, AreSpelled}
-use Rattle.items.specs.Scan.{at, on, step_in, gap_step, number_step, behind_body}
+use Rattle.items.specs.{Spelling.{value_behind, IsNumeral, Spaced, IsBody, AreSpelled}, Scan.{at, on, step_in, gap_step, number_step, behind_body}}
 use Rattle.items.specs.Run.{Outcome, whole, outcome_of, run}
-use Rattle.items.proofs.Classes.{space-no_word, space-no_digit, space-no_colon, digit-no_space, digit-no_opening, digit-no_closing, letter-no_space, letter-no_opening, letter-no_closing, letter-no_digit, le-test, value-grows}
+use Rattle.items.proofs.Classes.{space-no_word, space-no_digit, space-no_colon, digit-no_space, digit-no_opening, digit-no_closing, letter-no_space}
+use Rattle.items.proofs.Classes.{letter-no_opening, letter-no_closing, letter-no_digit, le-test, value-grows}
 
 -- the whitespace behind a body is taken
 abbrev pub onward : Limits → ℕ → List ℕ → Outcome

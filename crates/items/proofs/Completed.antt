@@ -1,13 +1,9 @@
 -- Each unfinished scan can be brought to an end.
 use Rattle.std.proofs.Common.{◌≡◌, ℕ, zero, suc, List, [], ◌∷◌, ◌++◌, length, refl, sym, ap, ◌∙◌}
-use Rattle.items.specs.declared.scan.Lex.{Lex}
-use Rattle.items.specs.declared.scan.Lex.TheVariants as lexes
-use Rattle.items.specs.declared.scan.Step.{Step}
-use Rattle.items.specs.declared.scan.Step.TheVariants as steps
-use Rattle.items.specs.declared.scan.Scan.{Scan}
-use Rattle.items.specs.Values.{Limits}
-use Rattle.items.specs.Scan.{at, step, step_in}
+use Rattle.items.specs.{declared.scan.Lex.Lex, declared.scan.Step.Step, declared.scan.Scan.Scan, Values.Limits, Scan.{at, step, step_in}}
 use Rattle.items.specs.Run.{unfinished, whole, outcome_of, run}
+use Rattle.items.specs.declared.scan.Lex.TheVariants as lexes
+use Rattle.items.specs.declared.scan.Step.TheVariants as steps
 use Rattle.items.proofs.Complete.{onward, onward-suc, run-letters, run-number, run-string, run-closing, run-word}
 
 -- `) ` for each open list

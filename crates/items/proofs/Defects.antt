@@ -1,17 +1,11 @@
 -- Where a stream is faulty, and what is wrong there.
-use Rattle.std.proofs.Common.{◌≡◌, ℕ, zero, suc, ◌+◌, ◌≤◌, ◌<◌, ◌⊎◌, inl, inr, Bool, true, false, cond, nat_le, nat_lt, List, [], ◌∷◌, ◌++◌, take, refl, sym, ap, ◌∙◌, subst, le_refl, le_trans, le-add_right, le-add_left, lit≤, arith}
-use Rattle.std.proofs.lemmas.Bool.Decides.{nat_tests}
-use Rattle.items.specs.declared.scan.Defect.{Defect}
+use Rattle.std.proofs.Common.{◌≡◌, ℕ, zero, suc, ◌+◌, ◌≤◌, ◌<◌, ◌⊎◌, inl, inr, Bool, true, false, cond, nat_le, nat_lt, List, [], ◌∷◌, ◌++◌, take, refl, sym}
+use Rattle.std.proofs.{Common.{ap, ◌∙◌, subst, le_refl, le_trans, le-add_right, le-add_left, lit≤, arith}, lemmas.Bool.Decides.nat_tests}
+use Rattle.items.specs.{declared.scan.Defect.Defect, declared.scan.Scan.Scan, declared.scan.Step.Step, Values.{Limits, limits}}
+use Rattle.items.specs.{Stream.{Begins, IsFaulty, IsDefect}, Scan.{step, step_in}, Run.start}
 use Rattle.items.specs.declared.scan.Defect.TheVariants as defects
-use Rattle.items.specs.declared.scan.Scan.{Scan}
-use Rattle.items.specs.declared.scan.Step.{Step}
 use Rattle.items.specs.declared.scan.Step.TheVariants as steps
-use Rattle.items.specs.Values.{Limits, limits}
-use Rattle.items.specs.Stream.{Begins, IsFaulty, IsDefect}
-use Rattle.items.specs.Scan.{step, step_in}
-use Rattle.items.specs.Run.{start}
-use Rattle.items.proofs.Shapes.{Shape, shape}
-use Rattle.items.proofs.Flow.{going, stopped, flow_of, flow, flow-append, flow-front, begins-flow, flow-begins}
+use Rattle.items.proofs.{Shapes.{Shape, shape}, Flow.{going, stopped, flow_of, flow, flow-append, flow-front, begins-flow, flow-begins}}
 
 -- the scan comes to a byte that is wrong
 pub record Stops (n : ℕ) (stream : List ℕ) (d : Defect) : Type 0 where

@@ -1,22 +1,12 @@
 -- A fault behind whole items is the stream's.
-use Rattle.std.proofs.Common.{◌≡◌, ℕ, suc, ◌+◌, List, [], ◌∷◌, ◌++◌, length, take, drop, flat_map, refl, sym, ap, ◌∙◌, subst, append_assoc, append-nil, take-append-drop, length-append, add_assoc, ◌<◌, get_or, arith}
-use Rattle.std.proofs.lemmas.List.{take_more}
-use Rattle.items.specs.declared.scan.Defect.{Defect}
-use Rattle.items.specs.declared.scan.Defect.TheVariants as defects
-use Rattle.items.specs.declared.reader.ItemFault.{ItemFault}
-use Rattle.items.specs.declared.reader.ItemFault.TheVariants as faults
-use Rattle.items.specs.declared.item.Item.{Item}
-use Rattle.items.specs.Values.{ItemValues, limits}
-use Rattle.items.specs.Stream.{IsRow}
-use Rattle.items.specs.View.{values_of}
-use Rattle.items.specs.Run.{start}
-use Rattle.items.specs.Unread.{Unread}
-use Rattle.items.specs.Reading.{counted, IsWrongAt, IsFaultOf}
+use Rattle.std.proofs.Common.{◌≡◌, ℕ, suc, ◌+◌, List, [], ◌∷◌, ◌++◌, length, take, drop, flat_map, refl, sym, ap, ◌∙◌, subst, append_assoc, append-nil}
+use Rattle.std.proofs.{Common.{take-append-drop, length-append, add_assoc, ◌<◌, get_or, arith}, lemmas.List.take_more}
+use Rattle.items.specs.{declared.scan.Defect.Defect, declared.reader.ItemFault.ItemFault, declared.item.Item.Item, Values.{ItemValues, limits}, Stream.IsRow}
+use Rattle.items.specs.{View.values_of, Run.start, Unread.Unread, Reading.{counted, IsWrongAt, IsFaultOf}}
 use Rattle.items.specs.Decoding.{Fails, DecodedSoFar, IsWrongStream, IsFaultOfStream}
-use Rattle.items.proofs.Flow.{flow, flow-append, flow-row}
-use Rattle.items.proofs.Defects.{Stops, stops, one_defect, is_faulty, is_defect}
-use Rattle.items.proofs.Faults.{stays}
-use Rattle.items.proofs.Rows.{counted_twice}
+use Rattle.items.specs.declared.scan.Defect.TheVariants as defects
+use Rattle.items.specs.declared.reader.ItemFault.TheVariants as faults
+use Rattle.items.proofs.{Flow.{flow, flow-append, flow-row}, Defects.{Stops, stops, one_defect, is_faulty, is_defect}, Faults.stays, Rows.counted_twice}
 
 take-behind : (n : ℕ) (a b : List ℕ) → take (length a + n) (a ++ b) ≡ a ++ take n b
 take-behind n [] b = let e : 0 + n ≡ n = omega arith in ap (λ k. take k b) e

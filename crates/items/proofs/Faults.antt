@@ -1,25 +1,14 @@
 -- A fault is one, and it stays.
-use Rattle.std.proofs.Common.{◌≡◌, ℕ, ◌+◌, ◌-◌, ◌<◌, ◌⊎◌, inl, inr, List, [], ◌∷◌, ◌++◌, length, take, drop, refl, sym, ap, ap₂, ◌∙◌, subst, append_assoc, take-append-drop, take-add, length-append, length-take, arith}
-use Rattle.std.proofs.lemmas.List.{take-append-le}
-use Rattle.items.specs.declared.scan.Defect.{Defect}
-use Rattle.items.specs.declared.scan.Defect.TheVariants as defects
-use Rattle.items.specs.declared.scan.Scan.{Scan}
-use Rattle.items.specs.declared.scan.Step.{Step}
-use Rattle.items.specs.declared.scan.Step.TheVariants as steps
-use Rattle.items.specs.declared.reader.ItemFault.{ItemFault}
-use Rattle.items.specs.declared.reader.ItemFault.TheVariants as faults
-use Rattle.items.specs.Values.{ItemValue, Limits, limits}
-use Rattle.items.specs.Stream.{IsRow, HasNoItem, Begins, IsFaulty, IsDefect}
-use Rattle.items.specs.Scan.{step}
-use Rattle.items.specs.Run.{Outcome, unfinished, whole, bad, outcome_of, run, start}
-use Rattle.items.specs.Unread.{Unread}
-use Rattle.items.specs.Faults.{fault_of}
+use Rattle.std.proofs.Common.{◌≡◌, ℕ, ◌+◌, ◌-◌, ◌<◌, ◌⊎◌, inl, inr, List, [], ◌∷◌, ◌++◌, length, take, drop, refl, sym, ap, ap₂, ◌∙◌, subst, append_assoc}
+use Rattle.std.proofs.{Common.{take-append-drop, take-add, length-append, length-take, arith}, lemmas.List.take-append-le}
+use Rattle.items.specs.{declared.scan.Defect.Defect, declared.scan.Scan.Scan, declared.scan.Step.Step, declared.reader.ItemFault.ItemFault}
+use Rattle.items.specs.{Values.{ItemValue, Limits, limits}, Stream.{IsRow, HasNoItem, Begins, IsFaulty, IsDefect}, Scan.step}
+use Rattle.items.specs.{Run.{Outcome, unfinished, whole, bad, outcome_of, run, start}, Unread.Unread, Faults.fault_of}
 use Rattle.items.specs.Reading.{counted, Takes, HasNone, IsWrongAt, IsFaultOf}
-use Rattle.items.proofs.Ahead.{First}
-use Rattle.items.proofs.Sound.{ends_item}
-use Rattle.items.proofs.Flow.{unfinished-begins}
-use Rattle.items.proofs.Defects.{stops, is_defect, one_defect, nine_fits}
-use Rattle.items.proofs.Scanned.{no_item}
+use Rattle.items.specs.declared.scan.Defect.TheVariants as defects
+use Rattle.items.specs.declared.scan.Step.TheVariants as steps
+use Rattle.items.specs.declared.reader.ItemFault.TheVariants as faults
+use Rattle.items.proofs.{Ahead.First, Sound.ends_item, Flow.unfinished-begins, Defects.{stops, is_defect, one_defect, nine_fits}, Scanned.no_item}
 
 begins-front : (l : Limits) (a b : List ℕ) → Begins l (a ++ b) → Begins l a
 begins-front l a b h =

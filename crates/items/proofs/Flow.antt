@@ -1,18 +1,11 @@
 -- The scanner over a whole stream, item after item.
-use Rattle.std.proofs.Common.{◌≡◌, ℕ, zero, suc, ◌≤◌, ◌<◌, List, [], ◌∷◌, ◌++◌, length, refl, sym, ap, ◌∙◌, subst, append_assoc, append-nil, length-append, arith}
-use Rattle.items.specs.declared.scan.Defect.{Defect}
-use Rattle.items.specs.declared.scan.Scan.{Scan}
-use Rattle.items.specs.declared.scan.Step.{Step}
+use Rattle.std.proofs.Common.{◌≡◌, ℕ, zero, suc, ◌≤◌, ◌<◌, List, [], ◌∷◌, ◌++◌, length, refl, sym, ap, ◌∙◌, subst, append_assoc, append-nil, length-append}
+use Rattle.std.proofs.Common.{arith}
+use Rattle.items.specs.{declared.scan.Defect.Defect, declared.scan.Scan.Scan, declared.scan.Step.Step}
+use Rattle.items.specs.{Values.{ItemValue, ItemValues, none, more, Limits, IsWithin, AreWithin}, Spelling.{Spaced, IsBody, AreSpelled}, Stream.{IsRow, Begins}}
+use Rattle.items.specs.{Scan.step, Run.{Outcome, unfinished, whole, bad, outcome_of, run, start}}
 use Rattle.items.specs.declared.scan.Step.TheVariants as steps
-use Rattle.items.specs.Values.{ItemValue, ItemValues, none, more, Limits, IsWithin, AreWithin}
-use Rattle.items.specs.Spelling.{Spaced, IsBody, AreSpelled}
-use Rattle.items.specs.Stream.{IsRow, Begins}
-use Rattle.items.specs.Scan.{step}
-use Rattle.items.specs.Run.{Outcome, unfinished, whole, bad, outcome_of, run, start}
-use Rattle.items.proofs.Complete.{run-item}
-use Rattle.items.proofs.Ahead.{First}
-use Rattle.items.proofs.Sound.{ends_item}
-use Rattle.items.proofs.Completed.{end_of, run-append}
+use Rattle.items.proofs.{Complete.run-item, Ahead.First, Sound.ends_item, Completed.{end_of, run-append}}
 
 pub data Flow : Type 0 where
   going : Scan → Flow

@@ -1,13 +1,10 @@
 -- What the builder reads at a byte.
-use Rattle.std.proofs.Common.{◌≡◌, ◌≢◌, ℕ, zero, suc, ◌+◌, ◌-◌, ◌<◌, ◌⊎◌, min, List, [], ◌∷◌, length, get_or, take, drop, true, false, ◌==◌, cond, Bool, IsTrue, refl, sym, ap, ap₂, ◌∙◌, subst, append-nil, take_all, drop-drop, length-drop, arith}
-use Rattle.std.proofs.lemmas.Bool.Decides.{nat_tests}
+use Rattle.std.proofs.Common.{◌≡◌, ◌≢◌, ℕ, zero, suc, ◌+◌, ◌-◌, ◌<◌, ◌⊎◌, min, List, [], ◌∷◌, length, get_or, take, drop, true, false, ◌==◌, cond, Bool, IsTrue}
+use Rattle.std.proofs.{Common.{refl, sym, ap, ap₂, ◌∙◌, subst, append-nil, take_all, drop-drop, length-drop, arith}, lemmas.Bool.Decides.nat_tests}
 use Rattle.std.specs.Char.{is_ascii_digit, is_ascii_alphabetic}
-use Rattle.items.specs.Word.{EachPasses, IsWord, is_word_byte}
-use Rattle.items.specs.Values.{ItemValue, word, number, string, list, ItemValues, limits}
-use Rattle.items.specs.Stream.{IsItem}
+use Rattle.items.specs.{Word.{EachPasses, IsWord, is_word_byte}, Values.{ItemValue, word, number, string, list, ItemValues, limits}, Stream.IsItem}
 use Rattle.items.specs.Build.{behind_spaces, word_len, numeral_at, behind_numeral, as_list, word_at, read_with, read, row_reader, StartsWord}
-use Rattle.items.proofs.Classes.{letter-no_opening, letter-no_digit}
-use Rattle.items.proofs.Built.{read-is, read-item}
+use Rattle.items.proofs.{Classes.{letter-no_opening, letter-no_digit}, Built.{read-is, read-item}}
 
 pub all_dropped : (n : ℕ) (l : List ℕ) → take (length l - n) (drop n l) ≡ drop n l
 all_dropped n l = take_all (length l - n) (drop n l) (omega (arith, length-drop n l))

@@ -1,8 +1,6 @@
 -- What is printed for rows.
 use Rattle.std.proofs.Common.{◌≡◌, ℕ, List, [], ◌∷◌, ◌++◌, refl, sym, ap, ◌∙◌, append_assoc, append-nil}
-use Rattle.items.specs.declared.item.Item.{Item}
-use Rattle.items.specs.View.{value_of, values_of}
-use Rattle.items.specs.Print.{printed, row_printed, Grows}
+use Rattle.items.specs.{declared.item.Item.Item, View.{value_of, values_of}, Print.{printed, row_printed, Grows}}
 
 pub row_printed-snoc : (items : List Item) (i : Item) → row_printed (values_of (items ++ (i ∷ []))) ≡ row_printed (values_of items) ++ printed (value_of i)
 row_printed-snoc [] i = append-nil (printed (value_of i))

@@ -1,14 +1,9 @@
 -- Rows that grow by an item.
-use Rattle.std.proofs.Common.{◌≡◌, ℕ, ◌+◌, List, [], ◌∷◌, ◌++◌, map, refl, sym, ap, ◌∙◌, subst, length, append_assoc, append-nil, add-zero, add_assoc, length-append, arith}
-use Rattle.items.specs.declared.item.Item.{Item}
-use Rattle.items.specs.Values.{ItemValue, none, more, limits, AreWithin}
-use Rattle.items.specs.Spelling.{AreSpelled}
-use Rattle.items.specs.Stream.{IsItem, IsRow, HasNoItem}
-use Rattle.items.specs.View.{row_of, value_of, values_of}
-use Rattle.items.specs.Unread.{Unread}
-use Rattle.items.specs.Reading.{counted, Takes}
+use Rattle.std.proofs.Common.{◌≡◌, ℕ, ◌+◌, List, [], ◌∷◌, ◌++◌, map, refl, sym, ap, ◌∙◌, subst, length, append_assoc, append-nil, add-zero, add_assoc}
+use Rattle.std.proofs.Common.{length-append, arith}
+use Rattle.items.specs.{declared.item.Item.Item, Values.{ItemValue, none, more, limits, AreWithin}, Spelling.AreSpelled, Stream.{IsItem, IsRow, HasNoItem}}
+use Rattle.items.specs.{View.{row_of, value_of, values_of}, Unread.Unread, Reading.{counted, Takes}, Decoding.{TakesSome, TakesAll, DecodedSoFar}}
 use Rattle.items.proofs.Scanned.{no_item_in_none}
-use Rattle.items.specs.Decoding.{TakesSome, TakesAll, DecodedSoFar}
 
 row-snoc : (ts : List ItemValue) (t : ItemValue) (a b : List ℕ) → IsRow limits (row_of ts) a → IsItem limits t b → IsRow limits (row_of (ts ++ (t ∷ []))) (a ++ b)
 row-snoc [] t a b r i =

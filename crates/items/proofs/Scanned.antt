@@ -1,24 +1,14 @@
 -- What the scan of the bytes so far says of them.
-use Rattle.std.proofs.Common.{◌≡◌, ℕ, zero, suc, ◌+◌, ◌-◌, ◌≤◌, ◌<◌, List, [], ◌∷◌, ◌++◌, length, take, drop, slice_index, refl, sym, ap, ◌∙◌, subst, append-nil, take-append-drop, take_all, take-add, drop-cons, length-take-le, length-drop, le_trans, le_of_eq, lit≤, arith}
-use Rattle.std.proofs.lemmas.List.{take_more}
-use Rattle.std.proofs.Math.Dec.{eqb-suc-zero}
+use Rattle.std.proofs.Common.{◌≡◌, ℕ, zero, suc, ◌+◌, ◌-◌, ◌≤◌, ◌<◌, List, [], ◌∷◌, ◌++◌, length, take, drop, slice_index, refl, sym, ap, ◌∙◌, subst}
+use Rattle.std.proofs.Common.{append-nil, take-append-drop, take_all, take-add, drop-cons, length-take-le, length-drop, le_trans, le_of_eq, lit≤, arith}
+use Rattle.std.proofs.{lemmas.List.take_more, Math.Dec.eqb-suc-zero}
 use Rattle.items.specs.declared.scan.Lex.TheVariants as lexes
-use Rattle.items.specs.declared.scan.Defect.{Defect}
-use Rattle.items.specs.declared.scan.Defect.TheVariants as defects
-use Rattle.items.specs.declared.scan.Scan.{Scan}
-use Rattle.items.specs.declared.scan.Step.TheVariants as steps
-use Rattle.items.specs.Values.{ItemValue, limits}
-use Rattle.items.specs.Stream.{IsItem, HasNoItem}
-use Rattle.items.specs.Scan.{at, step, step_in}
-use Rattle.items.specs.Run.{unfinished, whole, bad, outcome_of, run, start, IsScanned, Skips}
-use Rattle.items.specs.Unread.{Unread}
-use Rattle.items.specs.Faults.{fault_of}
+use Rattle.items.specs.{declared.scan.Defect.Defect, declared.scan.Scan.Scan, Values.{ItemValue, limits}, Stream.{IsItem, HasNoItem}, Scan.{at, step, step_in}}
+use Rattle.items.specs.{Run.{unfinished, whole, bad, outcome_of, run, start, IsScanned, Skips}, Unread.Unread, Faults.fault_of}
 use Rattle.items.specs.Reading.{counted, IsWrongAt, IsFaultOf, HasNone}
-use Rattle.items.proofs.Complete.{run-item}
-use Rattle.items.proofs.Ahead.{First}
-use Rattle.items.proofs.Sound.{ends_item}
-use Rattle.items.proofs.Completed.{run-append}
-use Rattle.items.proofs.Flow.{going, flow, Tells, told, unfinished-begins}
+use Rattle.items.specs.declared.scan.Defect.TheVariants as defects
+use Rattle.items.specs.declared.scan.Step.TheVariants as steps
+use Rattle.items.proofs.{Complete.run-item, Ahead.First, Sound.ends_item, Completed.run-append, Flow.{going, flow, Tells, told, unfinished-begins}}
 use Rattle.items.proofs.Defects.{Stops, nine_fits, is_faulty, is_defect}
 
 run-one : (s : Scan) (b : ℕ) (bs : List ℕ) → run limits (b ∷ bs) s ≡ outcome_of (run limits bs) (step limits s b) b bs

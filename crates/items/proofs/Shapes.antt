@@ -1,15 +1,11 @@
 -- What a step has to do with the limits: nothing, or one of them decides.
 use Rattle.std.proofs.Common.{◌≡◌, ℕ, ◌+◌, ◌-◌, ◌*◌, Bool, true, false, cond, ◌==◌, nat_le, nat_lt, refl}
 use Rattle.std.specs.Char.{is_ascii_digit, is_ascii_alphabetic}
-use Rattle.items.specs.declared.scan.Lex.{Lex}
+use Rattle.items.specs.{declared.scan.Lex.Lex, declared.scan.Scan.Scan, declared.scan.Step.Step, Word.{is_space, is_word_byte}, Values.Limits}
+use Rattle.items.specs.Scan.{at, step_in, gap_step, number_step, behind_body}
 use Rattle.items.specs.declared.scan.Lex.TheVariants as lexes
 use Rattle.items.specs.declared.scan.Defect.TheVariants as defects
-use Rattle.items.specs.declared.scan.Scan.{Scan}
-use Rattle.items.specs.declared.scan.Step.{Step}
 use Rattle.items.specs.declared.scan.Step.TheVariants as steps
-use Rattle.items.specs.Word.{is_space, is_word_byte}
-use Rattle.items.specs.Values.{Limits}
-use Rattle.items.specs.Scan.{at, step_in, gap_step, number_step, behind_body}
 
 pub data Shape (f : Limits → Step) : Type 0 where
   goes : (t : Scan) → ((l : Limits) → f l ≡ steps.On t) → Shape f

@@ -1,15 +1,11 @@
 -- Where the scanner comes to the end of an item, the bytes up to there spell one within the limits.
-use Rattle.std.proofs.Common.{◌≡◌, ℕ, suc, ◌+◌, ◌-◌, ◌*◌, ◌≤◌, ◌<◌, inl, inr, List, [], ◌∷◌, ◌++◌, length, ◌==◌, refl, sym, ap, ap₂, ◌∙◌, subst, append_assoc, arith}
-use Rattle.std.proofs.lemmas.Bool.Decides.{nat_tests}
-use Rattle.items.specs.declared.scan.Lex.{Lex}
+use Rattle.std.proofs.Common.{◌≡◌, ℕ, suc, ◌+◌, ◌-◌, ◌*◌, ◌≤◌, ◌<◌, inl, inr, List, [], ◌∷◌, ◌++◌, length, ◌==◌, refl, sym, ap, ap₂, ◌∙◌, subst, append_assoc}
+use Rattle.std.proofs.{Common.arith, lemmas.Bool.Decides.nat_tests}
+use Rattle.items.specs.{declared.scan.Lex.Lex, declared.scan.Step.Step, Word.{IsDigit, is_space, is_word_byte}}
+use Rattle.items.specs.{Values.{word, number, string, list, none, Limits}, Spelling.{value_behind, Bracketed, Counted, AreSpelled}}
+use Rattle.items.specs.{Scan.{at, on, step_in, gap_step, number_step, behind_body}, Run.{whole, outcome_of, run}}
 use Rattle.items.specs.declared.scan.Lex.TheVariants as lexes
-use Rattle.items.specs.declared.scan.Step.{Step}
 use Rattle.items.specs.declared.scan.Step.TheVariants as steps
-use Rattle.items.specs.Word.{IsDigit, is_space, is_word_byte}
-use Rattle.items.specs.Values.{word, number, string, list, none, Limits}
-use Rattle.items.specs.Spelling.{value_behind, Bracketed, Counted, AreSpelled}
-use Rattle.items.specs.Scan.{at, on, step_in, gap_step, number_step, behind_body}
-use Rattle.items.specs.Run.{whole, outcome_of, run}
 use Rattle.items.proofs.Steps.{split, AfterCase, GapCase, NumberCase, after-case, gap-case, number-case}
 use Rattle.items.proofs.Ahead.{Inside, After, First, Gaps, Ends, Opened, Letters, Strings, Digits, Goes, gap-space, next-body}
 

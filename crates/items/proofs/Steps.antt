@@ -4,11 +4,8 @@ use Rattle.std.proofs.lemmas.Bool.Decides.{nat_tests}
 use Rattle.std.specs.Char.{is_ascii_digit, is_ascii_alphabetic}
 use Rattle.items.specs.declared.scan.Lex.TheVariants as lexes
 use Rattle.items.specs.declared.scan.Defect.TheVariants as defects
-use Rattle.items.specs.declared.scan.Step.{Step}
+use Rattle.items.specs.{declared.scan.Step.Step, Word.{IsSpace, IsDigit, is_space}, Values.Limits, Scan.{on, gap_step, number_step, behind_body}}
 use Rattle.items.specs.declared.scan.Step.TheVariants as steps
-use Rattle.items.specs.Word.{IsSpace, IsDigit, is_space}
-use Rattle.items.specs.Values.{Limits}
-use Rattle.items.specs.Scan.{on, gap_step, number_step, behind_body}
 
 pub split : (P : Step → Type 0) {x y : Step} (v : Bool) → (v ≡ true → P x) → (v ≡ false → P y) → P (cond v x y)
 split P true f g = f refl

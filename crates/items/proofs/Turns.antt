@@ -1,10 +1,8 @@
 -- The turns of the loops over bytes, and over the items of a list.
-use Rattle.std.proofs.Common.{◌≡◌, ◌≢◌, ℕ, zero, suc, ◌+◌, ◌-◌, ◌*◌, ◌<◌, min, List, [], ◌∷◌, ◌++◌, length, get_or, drop, map, true, false, ◌==◌, refl, sym, ap, ap₂, ◌∙◌, drop-cons, drop_of_length-le, le_refl, arith}
+use Rattle.std.proofs.Common.{◌≡◌, ◌≢◌, ℕ, zero, suc, ◌+◌, ◌-◌, ◌*◌, ◌<◌, min, List, [], ◌∷◌, ◌++◌, length, get_or, drop, map, true, false, ◌==◌, refl, sym, ap}
+use Rattle.std.proofs.Common.{ap₂, ◌∙◌, drop-cons, drop_of_length-le, le_refl, arith}
 use Rattle.std.specs.Char.{is_ascii_digit}
-use Rattle.items.specs.declared.item.Item.{Item}
-use Rattle.items.specs.Word.{is_space, is_word_byte}
-use Rattle.items.specs.Values.{ItemValue, ItemValues, none, more}
-use Rattle.items.specs.View.{row_of, value_of, values_of}
+use Rattle.items.specs.{declared.item.Item.Item, Word.{is_space, is_word_byte}, Values.{ItemValue, ItemValues, none, more}, View.{row_of, value_of, values_of}}
 use Rattle.items.specs.Build.{read, behind_spaces, word_len, numeral_at, with_item, row_turn, row_with, row_reader}
 
 drop-at : (bytes : List ℕ) (i : ℕ) → i < length bytes → drop i bytes ≡ get_or bytes i 0 ∷ drop (i + 1) bytes

@@ -1,9 +1,6 @@
 -- Bytes are read in one way only.
 use Rattle.std.proofs.Common.{◌≡◌, ℕ, List, ◌++◌, refl, sym, ap, ap₂, ◌∙◌, append_assoc}
-use Rattle.items.specs.Values.{ItemValue, ItemValues, none, more, limits, AreWithin}
-use Rattle.items.specs.Spelling.{AreSpelled}
-use Rattle.items.specs.Stream.{IsItem, HasNoItem, Splits}
-use Rattle.items.specs.Build.{read}
+use Rattle.items.specs.{Values.{ItemValue, ItemValues, none, more, limits, AreWithin}, Spelling.AreSpelled, Stream.{IsItem, HasNoItem, Splits}, Build.read}
 use Rattle.items.proofs.Built.{read-item}
 
 pub one_item : (t u : ItemValue) (a b x y : List ℕ) → IsItem limits t a → IsItem limits u b → a ++ x ≡ b ++ y → (t ≡ u) × (x ≡ y)

@@ -1,10 +1,8 @@
 -- The tree of an item, by its variant.
 use Rattle.std.proofs.Common.{◌≡◌, ℕ, Vec, Global, rules}
-use Rattle.items.specs.declared.item.Item.{Item, Word, Number, Str, List as Listed, the_lemmas}
-use Rattle.items.specs.declared.item.Name.{Name}
-use Rattle.byte_string.specs.declared.ByteString.{ByteString}
-use Rattle.items.specs.Values.{word, number, string, list}
+use Rattle.items.specs.{declared.item.Item.{Item, Word, Number, Str, List as Listed, the_lemmas}, declared.item.Name.Name, Values.{word, number, string, list}}
 use Rattle.items.specs.View.{value_of, values_of}
+use Rattle.byte_string.specs.declared.ByteString.{ByteString}
 
 pub view-Word : (w : Name) → value_of (Word w) ≡ word w
 view-Word w = search (rules, the_lemmas)

@@ -1,15 +1,10 @@
 -- What is written is a spelling.
-use Rattle.std.proofs.Common.{◌≡◌, ℕ, suc, ◌+◌, ◌-◌, ◌*◌, ◌/◌, ◌%◌, ◌≤◌, ◌<◌, List, [], ◌∷◌, ◌++◌, length, true, refl, sym, ap, ◌∙◌, append_assoc, lit<, lt_of_le_of_lt, mod-lt, arith, decimal}
-use Rattle.std.proofs.lemmas.Fmt.{decimal_by_steps}
-use Rattle.std.proofs.lemmas.Bool.Decides.{nat_tests}
+use Rattle.std.proofs.Common.{◌≡◌, ℕ, suc, ◌+◌, ◌-◌, ◌*◌, ◌/◌, ◌%◌, ◌≤◌, ◌<◌, List, [], ◌∷◌, ◌++◌, length, true, refl, sym, ap, ◌∙◌, append_assoc, lit<}
+use Rattle.std.proofs.{Common.{lt_of_le_of_lt, mod-lt, arith, decimal}, lemmas.Fmt.decimal_by_steps, lemmas.Bool.Decides.nat_tests}
 use Rattle.std.specs.Char.{is_ascii_digit}
-use Rattle.items.specs.declared.item.Item.{Item}
-use Rattle.items.specs.Word.{EachPasses, IsDigit}
+use Rattle.items.specs.{declared.item.Item.Item, Word.{EachPasses, IsDigit}}
 use Rattle.items.specs.Values.{ItemValue, word, number, string, list, ItemValues, none, more, limits, IsWithin, AreWithin}
-use Rattle.items.specs.Spelling.{value_behind, IsNumeral, Spaced, IsBody, AreSpelled}
-use Rattle.items.specs.Stream.{IsItem}
-use Rattle.items.specs.View.{value_of, values_of}
-use Rattle.items.specs.Print.{printed, row_printed}
+use Rattle.items.specs.{Spelling.{value_behind, IsNumeral, Spaced, IsBody, AreSpelled}, Stream.IsItem, View.{value_of, values_of}, Print.{printed, row_printed}}
 use Rattle.items.specs.Written.{HasWords, HaveWords}
 
 digit_byte : (d : ℕ) → d < 10 → IsDigit (48 + d)

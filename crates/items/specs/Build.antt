@@ -1,8 +1,7 @@
 -- The item that bytes spell, read from the front, where they spell one.
 use Rattle.std.specs.Prelude.{ℕ, zero, suc, ◌+◌, ◌-◌, ◌*◌, ◌==◌, if◌then◌else◌, min, IsTrue, List, [], ◌∷◌, take, drop, length}
 use Rattle.std.specs.Char.{is_ascii_digit, is_ascii_alphabetic}
-use Rattle.items.specs.Word.{is_space, is_word_byte}
-use Rattle.items.specs.Values.{ItemValue, word, number, string, list, ItemValues, none, more}
+use Rattle.items.specs.{Word.{is_space, is_word_byte}, Values.{ItemValue, word, number, string, list, ItemValues, none, more}}
 
 -- what lies behind the whitespace at the front
 unfoldable pub behind_spaces : List ℕ → List ℕ

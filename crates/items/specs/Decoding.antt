@@ -1,14 +1,8 @@
 -- Items taken one after another.
 use Rattle.std.specs.Prelude.{◌≡◌, ℕ, ◌+◌, List, ◌++◌, length}
-use Rattle.items.specs.declared.item.Item.{Item}
-use Rattle.items.specs.Values.{limits}
-use Rattle.items.specs.Stream.{IsRow, HasNoItem, IsFaulty, IsDefect}
-use Rattle.items.specs.View.{values_of}
-use Rattle.items.specs.Unread.{Unread}
-use Rattle.items.specs.Reading.{counted, IsFaultOf}
-use Rattle.items.specs.declared.scan.Defect.{Defect}
+use Rattle.items.specs.{declared.item.Item.Item, Values.limits, Stream.{IsRow, HasNoItem, IsFaulty, IsDefect}, View.values_of, Unread.Unread}
+use Rattle.items.specs.{Reading.{counted, IsFaultOf}, declared.scan.Defect.Defect, declared.reader.ItemFault.ItemFault}
 use Rattle.items.specs.declared.scan.Defect.TheVariants as defects
-use Rattle.items.specs.declared.reader.ItemFault.{ItemFault}
 use Rattle.items.specs.declared.reader.ItemFault.TheVariants as faults
 
 -- some items go from the front of the bytes to the end of the list

@@ -1,8 +1,7 @@
 -- The faults of a reader.
 use Rattle.std.specs.Prelude.{ℕ}
-use Rattle.items.specs.declared.scan.Defect.{Defect}
+use Rattle.items.specs.{declared.scan.Defect.Defect, declared.reader.ItemFault.ItemFault}
 use Rattle.items.specs.declared.scan.Defect.TheVariants as defects
-use Rattle.items.specs.declared.reader.ItemFault.{ItemFault}
 use Rattle.items.specs.declared.reader.ItemFault.TheVariants as faults
 
 abbrev pub fault_of : Defect → ℕ → ItemFault

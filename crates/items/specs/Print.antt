@@ -1,6 +1,5 @@
 -- The bytes that are written for an item.
-use Rattle.std.specs.Prelude.{◌≡◌, ℕ, List, [], ◌∷◌, ◌++◌, length}
-use Rattle.std.specs.Fmt.{decimal}
+use Rattle.std.specs.{Prelude.{◌≡◌, ℕ, List, [], ◌∷◌, ◌++◌, length}, Fmt.decimal}
 use Rattle.items.specs.Values.{ItemValue, word, number, string, list, ItemValues, none, more}
 
 -- each token, and each bracket, with one space behind it

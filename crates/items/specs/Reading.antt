@@ -1,12 +1,9 @@
 -- What a reader answers.
 use Rattle.std.specs.Prelude.{◌≡◌, ℕ, ◌+◌, ◌-◌, ◌^◌, min, List, ◌++◌, length}
-use Rattle.items.specs.declared.scan.Defect.{Defect}
+use Rattle.items.specs.{declared.scan.Defect.Defect, declared.reader.ItemFault.ItemFault, Values.{ItemValue, limits}}
+use Rattle.items.specs.{Stream.{IsItem, HasNoItem, Begins, IsFaulty, IsDefect}, Unread.Unread}
 use Rattle.items.specs.declared.scan.Defect.TheVariants as defects
-use Rattle.items.specs.declared.reader.ItemFault.{ItemFault}
 use Rattle.items.specs.declared.reader.ItemFault.TheVariants as faults
-use Rattle.items.specs.Values.{ItemValue, limits}
-use Rattle.items.specs.Stream.{IsItem, HasNoItem, Begins, IsFaulty, IsDefect}
-use Rattle.items.specs.Unread.{Unread}
 
 -- a count of bytes, as far as a u64 counts
 abbrev pub counted : ℕ → ℕ

@@ -1,15 +1,10 @@
 -- The scanner over a list of bytes.
 use Rattle.std.specs.Prelude.{◌≡◌, ℕ, ◌-◌, ◌≤◌, ◌<◌, List, [], ◌∷◌, take, length, slice_index}
 use Rattle.items.specs.declared.scan.Lex.TheVariants as lexes
-use Rattle.items.specs.declared.scan.Defect.{Defect}
-use Rattle.items.specs.declared.scan.End.{End}
+use Rattle.items.specs.{declared.scan.Defect.Defect, declared.scan.End.End, declared.scan.Scan.Scan, declared.scan.Step.Step, Scan.{at, step}}
+use Rattle.items.specs.{Values.{Limits, limits}, declared.scan.TheConstants.MAX_DEPTH}
 use Rattle.items.specs.declared.scan.End.TheVariants as ends
-use Rattle.items.specs.declared.scan.Scan.{Scan}
-use Rattle.items.specs.declared.scan.Step.{Step}
 use Rattle.items.specs.declared.scan.Step.TheVariants as steps
-use Rattle.items.specs.Scan.{at, step}
-use Rattle.items.specs.Values.{Limits, limits}
-use Rattle.items.specs.declared.scan.TheConstants.{MAX_DEPTH}
 
 -- the bytes end before the item does; or the item ends, and these come after it; or these begin
 -- with a byte that is wrong

@@ -1,14 +1,9 @@
 -- The scanner's step.
-use Rattle.std.specs.Prelude.{ℕ, ◌≤◌, ◌+◌, ◌-◌, ◌*◌, ◌==◌, nat_lt, nat_le, if◌then◌else◌}
-use Rattle.std.specs.Char.{is_ascii_digit, is_ascii_alphabetic}
-use Rattle.items.specs.declared.scan.Lex.{Lex}
+use Rattle.std.specs.{Prelude.{ℕ, ◌≤◌, ◌+◌, ◌-◌, ◌*◌, ◌==◌, nat_lt, nat_le, if◌then◌else◌}, Char.{is_ascii_digit, is_ascii_alphabetic}}
+use Rattle.items.specs.{declared.scan.Lex.Lex, declared.scan.Scan.Scan, declared.scan.Step.Step, Values.Limits, declared.scan.TheConstants.MAX_DEPTH}
 use Rattle.items.specs.declared.scan.Lex.TheVariants as lexes
 use Rattle.items.specs.declared.scan.Defect.TheVariants as defects
-use Rattle.items.specs.declared.scan.Scan.{Scan}
-use Rattle.items.specs.declared.scan.Step.{Step}
 use Rattle.items.specs.declared.scan.Step.TheVariants as steps
-use Rattle.items.specs.Values.{Limits}
-use Rattle.items.specs.declared.scan.TheConstants.{MAX_DEPTH}
 pub use Rattle.items.specs.Word.{is_space, is_word_byte}
 
 abbrev pub at : ℕ → Lex → Scan

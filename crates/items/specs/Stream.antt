@@ -1,9 +1,7 @@
 -- The items of a stream, and where it is faulty.
 use Rattle.std.specs.Prelude.{◌≡◌, ℕ, ◌+◌, List, ◌++◌, take}
-use Rattle.items.specs.declared.scan.Defect.{Defect}
+use Rattle.items.specs.{declared.scan.Defect.Defect, Values.{ItemValue, ItemValues, Limits, limits, IsWithin, AreWithin}, Spelling.{IsSpelled, AreSpelled}}
 use Rattle.items.specs.declared.scan.Defect.TheVariants as defects
-use Rattle.items.specs.Values.{ItemValue, ItemValues, Limits, limits, IsWithin, AreWithin}
-use Rattle.items.specs.Spelling.{IsSpelled, AreSpelled}
 
 -- these bytes spell the item, which is within the limits
 pub record IsItem (l : Limits) (t : ItemValue) (bytes : List ℕ) : Type 0 where

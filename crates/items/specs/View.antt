@@ -1,7 +1,6 @@
 -- The tree that an `Item` stands for.
 use Rattle.std.specs.Prelude.{List, [], ◌∷◌, map}
-use Rattle.items.specs.Values.{ItemValue, word, number, string, list, ItemValues, none, more}
-use Rattle.items.specs.declared.item.Item.{Item, fold-Item}
+use Rattle.items.specs.{Values.{ItemValue, word, number, string, list, ItemValues, none, more}, declared.item.Item.{Item, fold-Item}}
 use Rattle.items.specs.declared.item.Item.TheOpen.{Item-F}
 
 abbrev pub row_of : List ItemValue → ItemValues

@@ -1,6 +1,5 @@
 -- The classes of bytes, and words.
-use Rattle.std.specs.Prelude.{ℕ, Bool, ◌||◌, ◌==◌, List, [], ◌∷◌, IsTrue}
-use Rattle.std.specs.Char.{is_ascii_digit, is_ascii_alphabetic, is_ascii_alphanumeric}
+use Rattle.std.specs.{Prelude.{ℕ, Bool, ◌||◌, ◌==◌, List, [], ◌∷◌, IsTrue}, Char.{is_ascii_digit, is_ascii_alphabetic, is_ascii_alphanumeric}}
 
 abbrev pub is_space : ℕ → Bool
 is_space b = (b == 32) || (b == 10)

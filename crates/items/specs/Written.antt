@@ -1,7 +1,6 @@
 -- Items whose words are words.
-use Rattle.items.specs.Word.{IsWord}
+use Rattle.items.specs.{Word.IsWord, Values.{ItemValue, word, number, string, list, ItemValues}}
 use Rattle.items.specs.Values as tree
-use Rattle.items.specs.Values.{ItemValue, word, number, string, list, ItemValues}
 
 -- each word is one
 abbrev mutual

@@ -1,13 +1,7 @@
 // Laws of the definitions, each on a function that does nothing.
 ghost use Rattle.std.specs.Prelude.{◌≡◌, ◌⊎◌, ◌++◌, List, ℕ};
-ghost use Rattle.items.specs.Values.{ItemValue, limits, IsWithin};
-ghost use Rattle.items.specs.Stream.{IsItem, IsFaulty, IsDefect};
-ghost use Rattle.items.specs.Print.{printed};
-ghost use Rattle.items.specs.Written.{HasWords};
-ghost use Rattle.items.specs.Unread.{Unread};
-ghost use Rattle.items.specs.Reading.{Takes, HasNone, IsFaultOf};
-ghost use Rattle.items.specs.declared.scan.Defect.{Defect};
-ghost use Rattle.items.specs.declared.reader.ItemFault.{ItemFault};
+ghost use Rattle.items.specs.{Values.{ItemValue, limits, IsWithin}, Stream.{IsItem, IsFaulty, IsDefect}, Print.printed, Written.HasWords, Unread.Unread};
+ghost use Rattle.items.specs.{Reading.{Takes, HasNone, IsFaultOf}, declared.scan.Defect.Defect, declared.reader.ItemFault.ItemFault};
 ghost use Rattle.items.specs.declared.reader.ItemFault.TheVariants.{NoMemory};
 
 /// Shows that no spelling begins another, and none spells two items.

@@ -54,8 +54,7 @@ pub struct ItemReader {
 
 impl Model for ItemReader {
     ghost use Rattle.std.specs.Prelude.{◌^◌, ◌<◌};
-    ghost use Rattle.items.specs.Unread.{Unread};
-    ghost use Rattle.items.specs.Run.{IsScanned};
+    ghost use Rattle.items.specs.{Unread.Unread, Run.IsScanned};
 
     ghost Value = { Unread };
 
@@ -84,8 +83,7 @@ const START: Progress = Progress {
 };
 
 impl ItemReader {
-    ghost use Rattle.items.specs.Reading.{Takes, IsFaultOf, HasNone};
-    ghost use Rattle.items.specs.View.{value_of};
+    ghost use Rattle.items.specs.{Reading.{Takes, IsFaultOf, HasNone}, View.value_of};
 
     /// Makes a reader of a stream from its beginning.
     pub fn new(alloc: Global) -> ItemReader

@@ -1,10 +1,6 @@
 // The items of a stream that comes in pieces.
-ghost use Rattle.std.specs.Prelude.{◌≡◌, ◌++◌, List, ℕ, IfOk, IfErr, OnOk};
-ghost use Rattle.std.specs.List.{flat_map};
-ghost use Rattle.items.specs.Stream.{Splits};
-ghost use Rattle.items.specs.Values.{ItemValues};
-ghost use Rattle.items.specs.View.{values_of};
-ghost use Rattle.items.specs.Decoding.{TakesAll, Fails, IsFaultOfStream};
+ghost use Rattle.std.specs.{Prelude.{◌≡◌, ◌++◌, List, ℕ, IfOk, IfErr, OnOk}, List.flat_map};
+ghost use Rattle.items.specs.{Stream.Splits, Values.ItemValues, View.values_of, Decoding.{TakesAll, Fails, IsFaultOfStream}};
 
 use crate::item::Item;
 use crate::reader::{ItemFault, ItemReader};

@@ -1,10 +1,6 @@
 // An item as bytes.
-ghost use Rattle.std.specs.Prelude.{◌≡◌, ◌++◌, OnOk, OnErr};
-ghost use Rattle.std.specs.Fmt.{decimal};
-ghost use Rattle.items.specs.View.{value_of, values_of};
-ghost use Rattle.items.specs.Values.{limits, number, string, word, IsWithin};
-ghost use Rattle.items.specs.Stream.{IsItem};
-ghost use Rattle.items.specs.Written.{HasWords, HaveWords};
+ghost use Rattle.std.specs.{Prelude.{◌≡◌, ◌++◌, OnOk, OnErr}, Fmt.decimal};
+ghost use Rattle.items.specs.{View.{value_of, values_of}, Values.{limits, number, string, word, IsWithin}, Stream.IsItem, Written.{HasWords, HaveWords}};
 ghost use Rattle.items.specs.Print.{printed, list_printed, Grows};
 
 use crate::item::Item;

@@ -1,15 +1,10 @@
 -- A stream brings its inputs in one way.
 use Rattle.std.proofs.Common.{◌≡◌, ℕ, ◌+◌, List, [], ◌∷◌, ◌++◌, refl, sym, subst, ◌∙◌}
-use Rattle.items.specs.Values.{ItemValue, limits}
-use Rattle.items.specs.Stream.{IsItem, IsFaulty, IsDefect}
-use Rattle.items.specs.Unread.{Unread}
-use Rattle.items.specs.Reading.{HasNone, IsFaultOf, counted}
-use Rattle.items.specs.declared.scan.Defect.{Defect}
+use Rattle.items.specs.{Reading.{counted, HasNone, IsFaultOf}, Stream.{IsDefect, IsFaulty, IsItem}, Unread.Unread, Values.{ItemValue, limits}}
+use Rattle.items.specs.{declared.scan.Defect.Defect, declared.reader.ItemFault.ItemFault}
 use Rattle.items.specs.declared.scan.Defect.TheVariants as defects
-use Rattle.items.specs.declared.reader.ItemFault.{ItemFault}
 use Rattle.items.specs.declared.reader.ItemFault.TheVariants as faults
-use Rattle.machine.specs.Hearing.{Input, IsBroken, Yields, HasNoMore, EndsBroken}
-use Rattle.machine.specs.Hearing.Input.{Whole, Broken}
+use Rattle.machine.specs.{Hearing.{Input, IsBroken, Yields, HasNoMore, EndsBroken}, Hearing.Input.{Whole, Broken}}
 
 abbrev pub unread : List ℕ → Unread
 unread stream = record { place = 0; rest = stream }

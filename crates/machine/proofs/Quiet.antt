@@ -1,52 +1,31 @@
 -- Answers that keep all revisions, and begin no edit but a new one.
 use Rattle.std.proofs.Common.{◌≡◌, ℕ, List, [], ◌∷◌, Bool, true, false, Option, Some, None, refl, sym, subst}
 use Rattle.std.specs.Prelude.{Result, Ok, Err, if◌then◌else◌}
-use Rattle.svnpath.specs.Paths.{PathValue}
-use Rattle.svnpath.specs.Urls.{path_of_text, root_of_text}
-use Rattle.svnpath.specs.declared.fault.PathFault.{PathFault}
+use Rattle.svnpath.specs.{Paths.PathValue, Texts.joined, Urls.{path_of_text, root_of_text}, declared.fault.PathFault.PathFault}
 use Rattle.refusals.specs.declared.Refusal.{Refusal}
-use Rattle.repo_api.specs.States.{RepoState}
-use Rattle.repo_api.specs.Accepted.{Accepted}
-use Rattle.repo_api.specs.Accepted.Accepted.{Commits, Locks, Unlocks, Releases, ChangesProperty}
-use Rattle.repo_api.specs.RevisionProperties.{property_refusal}
-use Rattle.repo_api.specs.Locking.{lock_refusal, unlock_refusal}
-use Rattle.repo_api.specs.declared.lock_ask.LockAsk.{LockAsk}
-use Rattle.commands.specs.Commands.{main_command}
-use Rattle.commands.specs.Logins.{client_greeting, auth_response, challenge_answer}
+use Rattle.repo_api.specs.{Accepted.Accepted, Accepted.Accepted.{ChangesProperty, Commits, Locks, Releases, Unlocks}, Locking.{lock_refusal, unlock_refusal}}
+use Rattle.repo_api.specs.{RevisionProperties.property_refusal, States.RepoState, declared.lock_ask.LockAsk.LockAsk}
 use Rattle.repo_api.specs.declared.property_ask.PropertyAsk.{PropertyAsk}
-use Rattle.commands.specs.declared.command.LockCommand.{LockCommand}
-use Rattle.commands.specs.declared.command.UnlockCommand.{UnlockCommand}
-use Rattle.wire_edits.specs.Editing.{ends_edit}
-use Rattle.svnpath.specs.Texts.{joined}
-use Rattle.machine.specs.Hearing.{Input}
-use Rattle.machine.specs.Hearing.Input.{Whole, Broken}
-use Rattle.machine.specs.Answers.Verdict.{Written, NotWritten, Unknown}
-use Rattle.machine.specs.declared.login.OpenChallenge.{OpenChallenge}
-use Rattle.wire_forms.specs.declared.fault.CommandFault.{CommandFault}
-use Rattle.wire_forms.specs.declared.fault.CommandFault.TheVariants.{UnknownName, BadParameters, NoMemory}
-use Rattle.commands.specs.declared.command.MainCommand.{MainCommand}
+use Rattle.commands.specs.{Commands.main_command, Logins.{client_greeting, auth_response, challenge_answer}, declared.command.LockCommand.LockCommand}
+use Rattle.commands.specs.{declared.command.UnlockCommand.UnlockCommand, declared.command.MainCommand.MainCommand}
 use Rattle.commands.specs.declared.command.MainCommand.TheVariants.{Read, Drive, Commit, AbortEdit, Lock, Unlock, ChangeRevProp, Reparent}
-use Rattle.commands.specs.declared.login.ClientGreeting.{ClientGreeting}
-use Rattle.commands.specs.declared.login.AuthResponse.{AuthResponse}
+use Rattle.commands.specs.{declared.login.ClientGreeting.ClientGreeting, declared.login.AuthResponse.AuthResponse}
+use Rattle.wire_edits.specs.Editing.{ends_edit}
+use Rattle.machine.specs.{Hearing.Input, Hearing.Input.{Whole, Broken}, Answers.Verdict.{Written, NotWritten, Unknown}}
+use Rattle.machine.specs.{declared.login.OpenChallenge.OpenChallenge, Settings.Settings, Stages.Stage}
+use Rattle.machine.specs.{Answers.{Verdict, Answer, Step, says, change_answer, ChangeStep, behind, Behind}, Commands.{OwnStep, asked_by, lock_tokens}}
+use Rattle.machine.specs.Commands.{commit_begins, env_without_token, lock_ask, unlock_ask, lock_answer, LockStep, UnlockStep, PropertyStep, reparented}
+use Rattle.machine.specs.{Commands.login_request, Reports.{drawn_answer, driven_answer}, Logins.{offer, chosen, wants_user, speaks, url_answer}}
+use Rattle.machine.specs.Logins.{greeting_answer, LoggedIn, ChoiceStep, LoginStep, with_user, OutcomeStep, ChallengeStep}
+use Rattle.machine.specs.{Machine.{InputStep, KnownCommand, MainStep, skipping_answer}, declared.commit_parameters.CommitParameters.CommitParameters}
+use Rattle.machine.specs.{declared.env.Env.Env, declared.login.Mechanism.Mechanism, declared.login.OpenLogin.OpenLogin, declared.phase.Client.Client}
+use Rattle.machine.specs.declared.phase.Phase.TheVariants.{Greeted, LoggingIn, Challenged, Serving, Editing, Skipping, Reporting, Driven, Ended}
+use Rattle.wire_forms.specs.{declared.fault.CommandFault.CommandFault, declared.fault.CommandFault.TheVariants.{UnknownName, BadParameters, NoMemory}}
 use Rattle.wire_replies.specs.declared.reply.Reply.{Reply}
 use Rattle.wire_replies.specs.declared.reply.Reply.TheVariants as replies
-use Rattle.drive_wire.specs.Reporting.{Drawn, client_answer}
-use Rattle.drive_wire.specs.Reporting.Drawn.{GoesOn, GivenUp, Fails, Drives, Malformed}
+use Rattle.drive_wire.specs.{Reporting.{Drawn, client_answer}, Reporting.Drawn.{GoesOn, GivenUp, Fails, Drives, Malformed}}
 use Rattle.edit_rules.specs.Edits.{new_edit}
-use Rattle.machine.specs.Settings.{Settings}
-use Rattle.machine.specs.Stages.{Stage}
-use Rattle.machine.specs.Answers.{Verdict, Answer, Step, says, change_answer, ChangeStep, behind, Behind}
-use Rattle.machine.specs.Commands.{OwnStep, asked_by, lock_tokens, commit_begins, env_without_token, lock_ask, unlock_ask, lock_answer, LockStep, UnlockStep, PropertyStep, reparented, login_request}
-use Rattle.machine.specs.Reports.{drawn_answer, driven_answer}
-use Rattle.machine.specs.Logins.{offer, chosen, wants_user, speaks, url_answer, greeting_answer, LoggedIn, ChoiceStep, LoginStep, with_user, OutcomeStep, ChallengeStep}
-use Rattle.machine.specs.Machine.{InputStep, KnownCommand, MainStep, skipping_answer}
-use Rattle.machine.specs.declared.commit_parameters.CommitParameters.{CommitParameters}
-use Rattle.machine.specs.declared.env.Env.{Env}
-use Rattle.machine.specs.declared.login.Mechanism.{Mechanism}
 use Rattle.machine.specs.declared.login.Mechanism.TheVariants as mechanisms
-use Rattle.machine.specs.declared.login.OpenLogin.{OpenLogin}
-use Rattle.machine.specs.declared.phase.Client.{Client}
-use Rattle.machine.specs.declared.phase.Phase.TheVariants.{Greeted, LoggingIn, Challenged, Serving, Editing, Skipping, Reporting, Driven, Ended}
 
 -- an edit, if the session has one, is one of which nothing has been made
 abbrev pub HasNewEdit : Settings → Stage → Type 0

@@ -1,8 +1,7 @@
 -- What an item is that was refused.
 use Rattle.std.proofs.Common.{◌≡◌, ◌⊎◌, inl, inr, refl, Bool, true, false}
 use Rattle.std.specs.Prelude.{Result, Err, not}
-use Rattle.wire_forms.specs.declared.fault.CommandFault.{CommandFault}
-use Rattle.wire_forms.specs.declared.fault.CommandFault.TheVariants.{UnknownName, BadParameters, NoMemory}
+use Rattle.wire_forms.specs.{declared.fault.CommandFault.CommandFault, declared.fault.CommandFault.TheVariants.{UnknownName, BadParameters, NoMemory}}
 
 pub bad : {T : Type 0} (wanted : Result T CommandFault) → (wanted ≡ Err BadParameters) ⊎ (BadParameters ≡ NoMemory) → wanted ≡ Err BadParameters
 bad wanted (inl e) = e

@@ -2,35 +2,21 @@
 use Rattle.std.proofs.Common.{◌≡◌, inl, inr, ℕ, List, [], ◌∷◌, ◌++◌, Bool, true, false, Option, Some, None, refl, sym, ap, subst, ◌∙◌, append-nil, append_assoc}
 use Rattle.std.specs.Prelude.{Result, Ok, Err}
 use Rattle.refusals.specs.declared.Refusal.{Refusal}
-use Rattle.repo_api.specs.States.{RepoState, TxnState, Revision, IsBeginning}
-use Rattle.repo_api.specs.Commits.{commit_refusal}
-use Rattle.repo_api.specs.Accepted.{Accepted, changed, changed_all}
-use Rattle.repo_api.specs.Accepted.Accepted.{Commits, Locks, Unlocks, Releases, ChangesProperty}
-use Rattle.repo_api.specs.declared.edit.EditOp.{EditOp}
+use Rattle.repo_api.specs.{Accepted.{Accepted, changed, changed_all}, Accepted.Accepted.{ChangesProperty, Commits, Locks, Releases, Unlocks}}
+use Rattle.repo_api.specs.{Commits.commit_refusal, Soundness.AreSound, States.{IsBeginning, RepoState, Revision, TxnState}, declared.edit.EditOp.EditOp}
 use Rattle.repo_api.specs.declared.ask.CommitAsk.{CommitAsk}
-use Rattle.wire_edits.specs.Editing.{editor_command}
-use Rattle.wire_edits.specs.declared.editing.EditorCommand.{EditorCommand}
-use Rattle.wire_edits.specs.declared.editing.EditorCommand.TheVariants.{TargetRevision, OpenRoot, DeleteEntry, AddDirectory, AddFile, OpenDirectory, OpenFile, AbsentDirectory, AbsentFile, ChangeDirectoryProperty, ChangeFileProperty, ApplyTextDelta, TextDeltaChunk, TextDeltaEnd, CloseDirectory, CloseFile, CloseEdit, AbortEdit}
-use Rattle.wire_forms.specs.declared.fault.CommandFault.{CommandFault}
-use Rattle.wire_forms.specs.declared.fault.CommandFault.TheVariants.{UnknownName, BadParameters, NoMemory}
-use Rattle.edit_rules.specs.Tokens.{Tokens}
-use Rattle.edit_rules.specs.Edits.{EditState}
-use Rattle.edit_rules.specs.Refusing.{edit_refusal}
-use Rattle.edit_rules.specs.Editor.{RestsIn, RestsOn, Edits as EditsTxn, Applies, finished}
-use Rattle.repo_api.specs.Soundness.{AreSound}
-use Rattle.access.specs.Points.{Point, AccessRules, content_of}
-use Rattle.machine.specs.Settings.{Settings}
-use Rattle.machine.specs.Stages.{Stage, EditRests, StandsOn}
-use Rattle.machine.specs.Soundness.{MeetBy}
-use Rattle.machine.specs.Hearing.{Input}
-use Rattle.machine.specs.Hearing.Input.{Whole, Broken}
-use Rattle.machine.specs.Answers.{Verdict, Effect, Answer, Step, content_after}
-use Rattle.machine.specs.Machine.{InputStep, UnreleasedStep, MachineEdit, JudgedEdit, CommitStep, CloseStep, CommandStep, EditingStep, ending_of, commit_ask, release_effect, phase_after, CommittedStep}
-use Rattle.machine.specs.Answers.Verdict.{Written, NotWritten, Unknown}
-use Rattle.machine.specs.Steps.{StepAt, StepWritten, StepOrPart, AddsAll, Stores, EffectAt}
-use Rattle.machine.specs.declared.commit_parameters.CommitParameters.{CommitParameters}
-use Rattle.machine.specs.declared.env.Env.{Env}
-use Rattle.machine.specs.declared.ending.Ending.{Ending}
+use Rattle.wire_edits.specs.{Editing.editor_command, declared.editing.EditorCommand.EditorCommand, declared.editing.EditorCommand.TheVariants.TargetRevision}
+use Rattle.wire_edits.specs.declared.editing.EditorCommand.TheVariants.{OpenRoot, DeleteEntry, AddDirectory, AddFile, OpenDirectory, OpenFile, AbsentDirectory}
+use Rattle.wire_edits.specs.declared.editing.EditorCommand.TheVariants.{AbsentFile, ChangeDirectoryProperty, ChangeFileProperty, ApplyTextDelta, TextDeltaChunk}
+use Rattle.wire_edits.specs.declared.editing.EditorCommand.TheVariants.{TextDeltaEnd, CloseDirectory, CloseFile, CloseEdit, AbortEdit}
+use Rattle.wire_forms.specs.{declared.fault.CommandFault.CommandFault, declared.fault.CommandFault.TheVariants.{UnknownName, BadParameters, NoMemory}}
+use Rattle.edit_rules.specs.{Editor.{Applies, Edits as EditsTxn, finished, RestsIn, RestsOn}, Edits.EditState, Refusing.edit_refusal, Tokens.Tokens}
+use Rattle.access.specs.Points.{AccessRules, content_of, Point}
+use Rattle.machine.specs.{Settings.Settings, Stages.{Stage, EditRests, StandsOn}, Soundness.MeetBy, Hearing.Input, Hearing.Input.{Whole, Broken}}
+use Rattle.machine.specs.{Answers.{Verdict, Effect, Answer, Step, content_after}, Machine.{InputStep, UnreleasedStep, MachineEdit, JudgedEdit, CommitStep}}
+use Rattle.machine.specs.Machine.{CloseStep, CommandStep, EditingStep, ending_of, commit_ask, release_effect, phase_after, CommittedStep}
+use Rattle.machine.specs.{Answers.Verdict.{Written, NotWritten, Unknown}, Steps.{StepAt, StepWritten, StepOrPart, AddsAll, Stores, EffectAt}}
+use Rattle.machine.specs.{declared.commit_parameters.CommitParameters.CommitParameters, declared.env.Env.Env, declared.ending.Ending.Ending}
 use Rattle.machine.specs.declared.ending.Ending.TheVariants.{Commits as ToCommit, GivesUp}
 use Rattle.machine.specs.declared.phase.Phase.TheVariants.{Greeted, LoggingIn, Challenged, Serving, Editing, Skipping, Reporting, Driven, Ended}
 use Rattle.machine.specs.declared.phase.Client.{Client}

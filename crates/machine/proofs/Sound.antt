@@ -1,46 +1,27 @@
 -- A session's edit stays sound, and the repository's trees stay trees.
-use Rattle.std.proofs.Common.{◌≡◌, ◌<◌, ◌+◌, ℕ, zero, suc, List, [], ◌∷◌, ◌++◌, length, Bool, true, false, Option, Some, None, refl, sym, ap, subst, arith, length-append, ◌∙◌}
-use Rattle.std.specs.Prelude.{Result, Ok, Err, if◌then◌else◌, IsSomeAnd, IsTrue}
-use Rattle.std.specs.FinMap.{get, get-empty}
-use Rattle.svnpath.specs.Paths.{PathValue, path_cmp}
+use Rattle.std.proofs.Common.{◌≡◌, ◌<◌, ◌+◌, ℕ, zero, suc, List, [], ◌∷◌, ◌++◌, length, Bool, true, false, Option, Some, None, refl, sym, ap, subst, arith}
+use Rattle.std.proofs.Common.{length-append, ◌∙◌}
+use Rattle.std.specs.{Prelude.{Result, Ok, Err, if◌then◌else◌, IsSomeAnd, IsTrue}, FinMap.{get, get-empty}}
+use Rattle.svnpath.specs.Paths.{path_cmp, PathValue}
 use Rattle.refusals.specs.declared.Refusal.{Refusal}
 use Rattle.refusals.specs.declared.Refusal.TheVariants as refusals
-use Rattle.repo_api.specs.Trees.{IsTree, is_directory}
-use Rattle.repo_api.specs.Marks.{AreMarked, MeetWell}
-use Rattle.repo_api.specs.Transactions.{IsMarkedTxn}
-use Rattle.repo_api.specs.declared.entry.Entry.{Entry}
-use Rattle.repo_api.specs.declared.ask.CommitAsk.{CommitAsk}
-use Rattle.repo_api.specs.States.{RepoState, TxnState, Revision, IsBeginning, tree_of, tree_in, trees_in, youngest}
-use Rattle.repo_api.specs.Commits.{commit_refusal, next_tree, committed}
-use Rattle.repo_api.specs.Accepted.{Accepted, changed, changed_all}
-use Rattle.repo_api.specs.Accepted.Accepted.{Commits, Locks, Unlocks, Releases, ChangesProperty}
-use Rattle.wire_edits.specs.Editing.{editor_command}
-use Rattle.wire_edits.specs.declared.editing.EditorCommand.{EditorCommand}
-use Rattle.wire_forms.specs.declared.fault.CommandFault.{CommandFault}
-use Rattle.wire_forms.specs.declared.fault.CommandFault.TheVariants.{UnknownName, BadParameters, NoMemory}
-use Rattle.edit_rules.specs.Tokens.{Tokens, has_unfinished}
-use Rattle.edit_rules.specs.Edits.{EditState, new_edit}
-use Rattle.edit_rules.specs.Refusing.{edit_refusal}
-use Rattle.edit_rules.specs.Editor.{Applies, finished, finished_txn, RestsIn, RestsOn}
-use Rattle.repo_api.specs.Soundness.{AreTrees, AreSound}
-use Rattle.edit_rules.specs.Soundness.{IsSoundEdit, IsSoundIn}
-use Rattle.machine.specs.Settings.{Settings}
-use Rattle.machine.specs.Stages.{Stage, EditRests, EditIsSound, StandsOn}
-use Rattle.machine.specs.Soundness.{MeetBy}
-use Rattle.machine.specs.Hearing.{Input}
-use Rattle.machine.specs.Hearing.Input.{Whole, Broken}
-use Rattle.machine.specs.Answers.{Verdict, Answer, content_after}
-use Rattle.machine.specs.Machine.{InputStep, UnreleasedStep, MachineEdit, JudgedEdit, CommitStep, CloseStep, UnreleasedClose, CommandStep, EditingStep, ending_of, commit_ask, Release, release_effect, phase_after, made_answer, unreleased_answer, CommittedStep}
-use Rattle.machine.specs.Machine.Release.{Stays, Released, Fails}
-use Rattle.machine.specs.Answers.Verdict.{Written, NotWritten, Unknown}
-use Rattle.machine.specs.declared.commit_parameters.CommitParameters.{CommitParameters}
-use Rattle.machine.specs.declared.env.Env.{Env}
-use Rattle.machine.specs.declared.ending.Ending.{Ending}
+use Rattle.repo_api.specs.{Accepted.{Accepted, changed, changed_all}, Accepted.Accepted.{ChangesProperty, Commits, Locks, Releases, Unlocks}}
+use Rattle.repo_api.specs.{Commits.{commit_refusal, committed, next_tree}, Marks.{AreMarked, MeetWell}, Soundness.{AreSound, AreTrees}}
+use Rattle.repo_api.specs.{States.{IsBeginning, RepoState, Revision, tree_in, tree_of, trees_in, TxnState, youngest}, Transactions.IsMarkedTxn}
+use Rattle.repo_api.specs.{Trees.{is_directory, IsTree}, declared.entry.Entry.Entry, declared.ask.CommitAsk.CommitAsk}
+use Rattle.wire_edits.specs.{Editing.editor_command, declared.editing.EditorCommand.EditorCommand}
+use Rattle.wire_forms.specs.{declared.fault.CommandFault.CommandFault, declared.fault.CommandFault.TheVariants.{UnknownName, BadParameters, NoMemory}}
+use Rattle.edit_rules.specs.{Editor.{Applies, finished, finished_txn, RestsIn, RestsOn}, Edits.{EditState, new_edit}, Refusing.edit_refusal}
+use Rattle.edit_rules.specs.{Soundness.{IsSoundEdit, IsSoundIn}, Tokens.{has_unfinished, Tokens}}
+use Rattle.machine.specs.{Settings.Settings, Stages.{Stage, EditRests, EditIsSound, StandsOn}, Soundness.MeetBy, Hearing.Input, Hearing.Input.{Whole, Broken}}
+use Rattle.machine.specs.{Answers.{Verdict, Answer, content_after}, Machine.{InputStep, UnreleasedStep, MachineEdit, JudgedEdit, CommitStep, CloseStep}}
+use Rattle.machine.specs.Machine.{UnreleasedClose, CommandStep, EditingStep, ending_of, commit_ask, Release, release_effect, phase_after, made_answer}
+use Rattle.machine.specs.{Machine.{unreleased_answer, CommittedStep}, Machine.Release.{Stays, Released, Fails}, Answers.Verdict.{Written, NotWritten, Unknown}}
+use Rattle.machine.specs.{declared.commit_parameters.CommitParameters.CommitParameters, declared.env.Env.Env, declared.ending.Ending.Ending}
 use Rattle.machine.specs.declared.ending.Ending.TheVariants.{Commits as ToCommit, GivesUp}
 use Rattle.machine.specs.declared.phase.Phase.TheVariants.{Greeted, LoggingIn, Challenged, Serving, Editing, Skipping, Reporting, Driven, Ended}
 use Rattle.machine.specs.declared.phase.Client.{Client}
-use Rattle.machine.proofs.Quiet.{HasNewEdit, KeepRevisions, IsQuiet, quiet_input}
-use Rattle.machine.proofs.Resting.{rests_on}
+use Rattle.machine.proofs.{Quiet.{HasNewEdit, KeepRevisions, IsQuiet, quiet_input}, Resting.rests_on}
 
 trees_more : (rs : List Revision) (r : Revision) → AreTrees rs → IsTree (tree_of r.tree) → AreTrees (rs ++ r ∷ [])
 trees_more [] r trees one = (one, tt)

@@ -3,15 +3,11 @@
 use Rattle.std.specs.Prelude.{◌≡◌, ℕ, Bool, true, false, ◌||◌, List, [], ◌∷◌, ◌++◌, Option, Some, None}
 use Rattle.refusals.specs.declared.Refusal.{Refusal}
 use Rattle.refusals.specs.declared.Refusal.TheVariants as refusals
-use Rattle.repo_api.specs.States.{RepoState}
-use Rattle.repo_api.specs.Accepted.{Accepted, changed_all}
+use Rattle.repo_api.specs.{Accepted.{Accepted, changed_all}, States.RepoState}
 use Rattle.wire_replies.specs.declared.reply.Reply.{Reply}
 use Rattle.wire_replies.specs.declared.reply.Reply.TheVariants as replies
 use Rattle.access.specs.Points.{HasRisen}
-use Rattle.machine.specs.Stages.{Stage}
-use Rattle.machine.specs.declared.env.Env.{Env}
-use Rattle.machine.specs.declared.phase.Phase.TheVariants.{Serving, Ended}
-use Rattle.machine.specs.declared.phase.Client.{Client}
+use Rattle.machine.specs.{Stages.Stage, declared.env.Env.Env, declared.phase.Phase.TheVariants.{Serving, Ended}, declared.phase.Client.Client}
 
 -- what the store did with a change: it wrote it; it failed, and nothing is written; or it failed as
 -- this change was being saved, nobody knows whether it is written, and no change is made any more

@@ -1,50 +1,29 @@
 -- What commands are answered, once nothing has to come before.
-use Rattle.std.specs.Prelude.{◌≡◌, ℕ, ◌+◌, ◌%◌, ◌^◌, Bool, true, false, nat_lt, List, [], ◌∷◌, ◌++◌, Option, Some, None, option_map, Result, Ok, Err, if◌then◌else◌, codes}
-use Rattle.std.specs.FinMap.{get}
-use Rattle.std.specs.Option.{option_to_list}
-use Rattle.std.specs.List.{list_all}
-use Rattle.svnpath.specs.Paths.{PathValue}
-use Rattle.svnpath.specs.Texts.{joined}
-use Rattle.svnpath.specs.Urls.{path_of_text}
-use Rattle.svnpath.specs.declared.fault.PathFault.{PathFault}
-use Rattle.refusals.specs.declared.Refusal.{Refusal}
+use Rattle.std.specs.Prelude.{◌≡◌, ℕ, ◌+◌, ◌%◌, ◌^◌, Bool, true, false, nat_lt, List, [], ◌∷◌, ◌++◌, Option, Some, None, option_map, Result, Ok, Err}
+use Rattle.std.specs.{Prelude.{if◌then◌else◌, codes}, FinMap.get, Option.option_to_list, List.list_all}
+use Rattle.svnpath.specs.{Paths.PathValue, Texts.joined, Urls.path_of_text, declared.fault.PathFault.PathFault}
+use Rattle.refusals.specs.{declared.Refusal.Refusal, Refusing.path_refusal}
 use Rattle.refusals.specs.declared.Refusal.TheVariants as refusals
-use Rattle.refusals.specs.Refusing.{path_refusal}
-use Rattle.repo_api.specs.Properties.{PropertyList, with_property}
-use Rattle.repo_api.specs.States.{RepoState, youngest}
-use Rattle.repo_api.specs.Kinds.{kind_at, properties_at}
-use Rattle.repo_api.specs.RevisionProperties.{property_refusal}
-use Rattle.repo_api.specs.Accepted.Accepted.{Locks, Unlocks, ChangesProperty}
-use Rattle.repo_api.specs.Locking.{LockList, at_or_under, lock_refusal, lock_of, unlock_refusal}
-use Rattle.repo_api.specs.declared.lock_ask.LockAsk.{LockAsk}
-use Rattle.repo_api.specs.declared.lock_ask.UnlockAsk.{UnlockAsk}
-use Rattle.repo_api.specs.declared.property_ask.PropertyAsk.{PropertyAsk}
+use Rattle.repo_api.specs.{Accepted.Accepted.{ChangesProperty, Locks, Unlocks}, Judging.is_property_name, Kinds.{kind_at, properties_at}}
+use Rattle.repo_api.specs.{Locking.{at_or_under, lock_of, lock_refusal, LockList, unlock_refusal}, Properties.{PropertyList, with_property}}
+use Rattle.repo_api.specs.{RevisionProperties.property_refusal, States.{RepoState, youngest}, declared.lock_ask.LockAsk.LockAsk}
+use Rattle.repo_api.specs.{declared.lock_ask.UnlockAsk.UnlockAsk, declared.property_ask.PropertyAsk.PropertyAsk}
 use Rattle.dates.specs.Dates.{IsDateText}
-use Rattle.commands.specs.declared.command.CommitCommand.{CommitCommand}
-use Rattle.commands.specs.declared.command.DriveCommand.{DriveCommand}
-use Rattle.commands.specs.declared.command.DriveCommand.TheVariants.{Update, Switch, Status}
-use Rattle.commands.specs.declared.command.MainCommand.{MainCommand}
+use Rattle.commands.specs.{declared.command.CommitCommand.CommitCommand, declared.command.DriveCommand.DriveCommand}
+use Rattle.commands.specs.{declared.command.DriveCommand.TheVariants.{Update, Switch, Status}, declared.command.MainCommand.MainCommand}
 use Rattle.commands.specs.declared.command.MainCommand.TheVariants.{Read, Drive, Commit, AbortEdit, Lock, Unlock, ChangeRevProp, Reparent}
-use Rattle.commands.specs.declared.command.ReadCommand.{ReadCommand}
-use Rattle.commands.specs.declared.command.ReadCommand.TheVariants.{GetLatestRev, CheckPath, RevProplist, GetLock, GetLocks, GetFile, GetDir, Stat, GetDatedRev, RevProp, Log, GetLocations}
-use Rattle.commands.specs.declared.command.LockCommand.{LockCommand}
-use Rattle.commands.specs.declared.command.UnlockCommand.{UnlockCommand}
-use Rattle.wire_replies.specs.Replies.{uuid_text}
-use Rattle.wire_replies.specs.declared.reply.Reply.{Reply}
+use Rattle.commands.specs.{declared.command.ReadCommand.ReadCommand, declared.command.ReadCommand.TheVariants.{GetLatestRev, CheckPath, RevProplist, GetLock}}
+use Rattle.commands.specs.declared.command.ReadCommand.TheVariants.{GetLocks, GetFile, GetDir, Stat, GetDatedRev, RevProp, Log, GetLocations}
+use Rattle.commands.specs.{declared.command.LockCommand.LockCommand, declared.command.UnlockCommand.UnlockCommand}
+use Rattle.wire_replies.specs.{Replies.uuid_text, declared.reply.Reply.Reply}
 use Rattle.wire_replies.specs.declared.reply.Reply.TheVariants as replies
-use Rattle.drive_reports.specs.Refusing.{ask_of, begun_report}
-use Rattle.drive_reports.specs.declared.ask.DriveAsk.{DriveAsk}
+use Rattle.drive_reports.specs.{Refusing.{ask_of, begun_report}, declared.ask.DriveAsk.DriveAsk}
 use Rattle.drive_reports.specs.declared.ask.Purpose.TheVariants as purposes
 use Rattle.edit_rules.specs.Edits.{new_edit}
-use Rattle.repo_api.specs.Judging.{is_property_name}
-use Rattle.machine.specs.Settings.{Settings}
-use Rattle.machine.specs.Answers.{Verdict, Answer, Step, says, serves, change_answer, ChangeStep, Always, Shows}
-use Rattle.machine.specs.Answers.Verdict.{Written, NotWritten, Unknown}
-use Rattle.machine.specs.Histories.{all_joined, log_replies, locations_replies}
-use Rattle.machine.specs.Readings.{place_read, file_replies, directory_reply, stat_reply, dated_reply, property_reply}
-use Rattle.machine.specs.declared.env.Env.{Env}
-use Rattle.machine.specs.declared.commit_parameters.CommitParameters.{CommitParameters}
-use Rattle.machine.specs.declared.phase.Phase.TheVariants.{Serving, Editing, Reporting}
+use Rattle.machine.specs.{Settings.Settings, Answers.{Verdict, Answer, Step, says, serves, change_answer, ChangeStep, Always, Shows}}
+use Rattle.machine.specs.{Answers.Verdict.{Written, NotWritten, Unknown}, Histories.{all_joined, log_replies, locations_replies}}
+use Rattle.machine.specs.{Readings.{place_read, file_replies, directory_reply, stat_reply, dated_reply, property_reply}, declared.env.Env.Env}
+use Rattle.machine.specs.{declared.commit_parameters.CommitParameters.CommitParameters, declared.phase.Phase.TheVariants.{Serving, Editing, Reporting}}
 use Rattle.machine.specs.declared.phase.Client.{Client}
 
 -- paths with the tokens of the locks that stand there

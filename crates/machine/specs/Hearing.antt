@@ -1,7 +1,6 @@
 -- What a stream of bytes brings.
 use Rattle.std.specs.Prelude.{◌≡◌, ℕ, List, [], ◌∷◌, ◌++◌}
-use Rattle.items.specs.Values.{ItemValue, limits}
-use Rattle.items.specs.Stream.{IsItem, HasNoItem, Begins, IsFaulty}
+use Rattle.items.specs.{Stream.{Begins, HasNoItem, IsFaulty, IsItem}, Values.{ItemValue, limits}}
 
 -- an item, or a byte that goes on to none
 pub data Input : Type 0 where

@@ -1,25 +1,13 @@
 -- What the commands are answered that read the history of paths.
 use Rattle.std.specs.Prelude.{ℕ, Bool, true, false, nat_lt, List, [], ◌∷◌, ◌++◌, map, Option, Some, None, Result, Ok, Err, if◌then◌else◌, codes}
 use Rattle.std.specs.List.{list_all, list_any}
-use Rattle.svnpath.specs.Listings.{listing}
-use Rattle.svnpath.specs.Paths.{PathValue}
-use Rattle.svnpath.specs.Texts.{joined}
-use Rattle.svnpath.specs.declared.fault.PathFault.{PathFault}
-use Rattle.refusals.specs.declared.Refusal.{Refusal}
+use Rattle.svnpath.specs.{Listings.listing, Paths.PathValue, Texts.joined, declared.fault.PathFault.PathFault}
+use Rattle.refusals.specs.{declared.Refusal.Refusal, Refusing.path_refusal}
 use Rattle.refusals.specs.declared.Refusal.TheVariants as refusals
-use Rattle.refusals.specs.Refusing.{path_refusal}
-use Rattle.repo_api.specs.Histories.{Changed, history_of}
-use Rattle.repo_api.specs.Kinds.{is_present, kind_at}
-use Rattle.repo_api.specs.States.{RepoState, youngest}
-use Rattle.history.specs.Locations.{kind_shown, locations}
-use Rattle.history.specs.Logs.{log, newest_asked, place_at}
-use Rattle.history.specs.declared.log_ask.LogAsk.{LogAsk}
-use Rattle.history.specs.declared.place.Place.{Place}
-use Rattle.commands.specs.declared.command.GetLocationsCommand.{GetLocationsCommand}
-use Rattle.commands.specs.declared.command.LogCommand.{LogCommand}
-use Rattle.wire_replies.specs.Replies.{logged_change}
-use Rattle.wire_replies.specs.declared.histories.LoggedChange.{LoggedChange}
-use Rattle.wire_replies.specs.declared.reply.Reply.{Reply}
+use Rattle.repo_api.specs.{Histories.{Changed, history_of}, Kinds.{is_present, kind_at}, States.{RepoState, youngest}}
+use Rattle.history.specs.{Locations.{kind_shown, locations}, Logs.{log, newest_asked, place_at}, declared.log_ask.LogAsk.LogAsk, declared.place.Place.Place}
+use Rattle.commands.specs.{declared.command.GetLocationsCommand.GetLocationsCommand, declared.command.LogCommand.LogCommand}
+use Rattle.wire_replies.specs.{Replies.logged_change, declared.histories.LoggedChange.LoggedChange, declared.reply.Reply.Reply}
 use Rattle.wire_replies.specs.declared.reply.Reply.TheVariants as replies
 use Rattle.machine.specs.Readings.{author_of, revision_date, revision_value}
 

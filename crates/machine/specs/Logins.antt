@@ -1,30 +1,17 @@
 -- Logins: what is offered, and what is answered while a login is under way.
-use Rattle.std.specs.Prelude.{◌≡◌, ◌+◌, ◌%◌, ◌^◌, ℕ, Bool, true, false, ◌&&◌, ◌==◌, List, [], ◌∷◌, Option, Some, None, is_some, Result, Ok, Err, if◌then◌else◌, codes}
-use Rattle.std.specs.Option.{is_none}
-use Rattle.svnpath.specs.Paths.{PathValue}
-use Rattle.svnpath.specs.Urls.{path_of_text, root_of_text}
-use Rattle.svnpath.specs.declared.fault.PathFault.{PathFault}
+use Rattle.std.specs.Prelude.{◌≡◌, ◌+◌, ◌%◌, ◌^◌, ℕ, Bool, true, false, ◌&&◌, ◌==◌, List, [], ◌∷◌, Option, Some, None, is_some, Result, Ok, Err, if◌then◌else◌}
+use Rattle.std.specs.{Prelude.codes, Option.is_none}
+use Rattle.svnpath.specs.{Paths.PathValue, Urls.{path_of_text, root_of_text}, declared.fault.PathFault.PathFault}
 use Rattle.refusals.specs.Refusing.{path_refusal}
-use Rattle.cram.specs.Login.{Login}
-use Rattle.cram.specs.Answer.{challenge_text, IsAnswerOf}
-use Rattle.wire_forms.specs.Forms.{is_name}
-use Rattle.wire_forms.specs.declared.fault.CommandFault.{CommandFault}
-use Rattle.commands.specs.declared.command.MainCommand.{MainCommand}
-use Rattle.commands.specs.declared.login.ClientGreeting.{ClientGreeting}
-use Rattle.commands.specs.declared.login.AuthResponse.{AuthResponse}
-use Rattle.wire_replies.specs.declared.reply.Offer.{Offer}
-use Rattle.wire_replies.specs.declared.reply.Offer.TheVariants.{Anonymous, AnonymousOrUser, User}
+use Rattle.cram.specs.{Login.Login, Answer.{challenge_text, IsAnswerOf}}
+use Rattle.wire_forms.specs.{Forms.is_name, declared.fault.CommandFault.CommandFault}
+use Rattle.commands.specs.{declared.command.MainCommand.MainCommand, declared.login.ClientGreeting.ClientGreeting, declared.login.AuthResponse.AuthResponse}
+use Rattle.wire_replies.specs.{declared.reply.Offer.Offer, declared.reply.Offer.TheVariants.{Anonymous, AnonymousOrUser, User}}
 use Rattle.wire_replies.specs.declared.reply.Reply.TheVariants as replies
-use Rattle.machine.specs.Settings.{Settings}
-use Rattle.machine.specs.Answers.{Answer, Step, says, Behind, malformed, Always, Shows}
-use Rattle.machine.specs.Commands.{is_write, OwnStep}
-use Rattle.machine.specs.declared.env.Env.{Env}
-use Rattle.machine.specs.declared.login.Mechanism.{Mechanism}
+use Rattle.machine.specs.{Settings.Settings, Answers.{Answer, Step, says, Behind, malformed, Always, Shows}, Commands.{is_write, OwnStep}, declared.env.Env.Env}
+use Rattle.machine.specs.{declared.login.Mechanism.Mechanism, declared.phase.Client.Client, declared.login.OpenLogin.OpenLogin}
+use Rattle.machine.specs.{declared.login.OpenChallenge.OpenChallenge, declared.phase.Phase.TheVariants.{LoggingIn, Challenged, Serving, Ended}}
 use Rattle.machine.specs.declared.login.Mechanism.TheVariants as mechanisms
-use Rattle.machine.specs.declared.phase.Client.{Client}
-use Rattle.machine.specs.declared.login.OpenLogin.{OpenLogin}
-use Rattle.machine.specs.declared.login.OpenChallenge.{OpenChallenge}
-use Rattle.machine.specs.declared.phase.Phase.TheVariants.{LoggingIn, Challenged, Serving, Ended}
 
 -- ---- what is offered
 

@@ -4,38 +4,24 @@ use Rattle.refusals.specs.declared.Refusal.{Refusal}
 use Rattle.refusals.specs.declared.Refusal.TheVariants as refusals
 use Rattle.dates.specs.Dates.{IsDateText}
 use Rattle.access.specs.Changing.{wants_release}
-use Rattle.repo_api.specs.States.{RepoState, TxnState}
-use Rattle.repo_api.specs.Commits.{commit_refusal, committed}
-use Rattle.repo_api.specs.Accepted.Accepted.{Commits, Releases}
+use Rattle.repo_api.specs.{Accepted.Accepted.{Commits, Releases}, Commits.{commit_refusal, committed}, States.{RepoState, TxnState}}
 use Rattle.repo_api.specs.declared.ask.CommitAsk.{CommitAsk}
-use Rattle.commands.specs.Commands.{main_command}
-use Rattle.commands.specs.Logins.{client_greeting, auth_response, challenge_answer}
-use Rattle.commands.specs.declared.command.MainCommand.{MainCommand}
-use Rattle.wire_edits.specs.Editing.{editor_command, ends_edit}
-use Rattle.wire_edits.specs.declared.editing.EditorCommand.{EditorCommand}
-use Rattle.wire_edits.specs.declared.editing.EditorCommand.TheVariants.{TargetRevision, OpenRoot, DeleteEntry, AddDirectory, AddFile, OpenDirectory, OpenFile, AbsentDirectory, AbsentFile, ChangeDirectoryProperty, ChangeFileProperty, ApplyTextDelta, TextDeltaChunk, TextDeltaEnd, CloseDirectory, CloseFile, CloseEdit}
+use Rattle.commands.specs.{Commands.main_command, Logins.{client_greeting, auth_response, challenge_answer}, declared.command.MainCommand.MainCommand}
+use Rattle.wire_edits.specs.{Editing.{editor_command, ends_edit}, declared.editing.EditorCommand.EditorCommand}
+use Rattle.wire_edits.specs.declared.editing.EditorCommand.TheVariants.{TargetRevision, OpenRoot, DeleteEntry, AddDirectory, AddFile, OpenDirectory, OpenFile}
+use Rattle.wire_edits.specs.declared.editing.EditorCommand.TheVariants.{AbsentDirectory, AbsentFile, ChangeDirectoryProperty, ChangeFileProperty}
+use Rattle.wire_edits.specs.declared.editing.EditorCommand.TheVariants.{ApplyTextDelta, TextDeltaChunk, TextDeltaEnd, CloseDirectory, CloseFile, CloseEdit}
 use Rattle.wire_edits.specs.declared.editing.EditorCommand.TheVariants as edits
-use Rattle.wire_forms.specs.declared.fault.CommandFault.{CommandFault}
-use Rattle.wire_forms.specs.declared.fault.CommandFault.TheVariants.{UnknownName, BadParameters, NoMemory}
+use Rattle.wire_forms.specs.{declared.fault.CommandFault.CommandFault, declared.fault.CommandFault.TheVariants.{UnknownName, BadParameters, NoMemory}}
 use Rattle.wire_replies.specs.declared.reply.Reply.TheVariants as replies
 use Rattle.drive_wire.specs.Reporting.{client_answer}
-use Rattle.edit_rules.specs.Edits.{EditState}
-use Rattle.edit_rules.specs.Refusing.{edit_refusal}
-use Rattle.edit_rules.specs.Editor.{Applies, finished}
-use Rattle.machine.specs.Settings.{Settings}
-use Rattle.machine.specs.Hearing.{Input}
-use Rattle.machine.specs.Hearing.Input.{Whole, Broken}
-use Rattle.machine.specs.Stages.{Stage}
+use Rattle.edit_rules.specs.{Editor.{Applies, finished}, Edits.EditState, Refusing.edit_refusal}
+use Rattle.machine.specs.{Settings.Settings, Hearing.Input, Hearing.Input.{Whole, Broken}, Stages.Stage}
 use Rattle.machine.specs.Answers.{Verdict, Effect, no_effect, Answer, Step, says, serves, change_answer, Behind, malformed, Always}
-use Rattle.machine.specs.Answers.Verdict.{Written, NotWritten, Unknown}
-use Rattle.machine.specs.Commands.{login_request, OwnStep}
-use Rattle.machine.specs.Reports.{ReportingStep, driven_answer}
-use Rattle.machine.specs.Logins.{asks, wants_user, greeting_answer, LoginStep, ChallengeStep}
-use Rattle.machine.specs.declared.env.Env.{Env}
-use Rattle.machine.specs.declared.commit_parameters.CommitParameters.{CommitParameters}
-use Rattle.machine.specs.declared.ending.Ending.{Ending}
-use Rattle.machine.specs.declared.ending.Ending.TheVariants.{Commits, GivesUp}
-use Rattle.machine.specs.declared.phase.OpenEdit.{OpenEdit}
+use Rattle.machine.specs.{Answers.Verdict.{Written, NotWritten, Unknown}, Commands.{login_request, OwnStep}, Reports.{ReportingStep, driven_answer}}
+use Rattle.machine.specs.{Logins.{asks, wants_user, greeting_answer, LoginStep, ChallengeStep}, declared.env.Env.Env}
+use Rattle.machine.specs.{declared.commit_parameters.CommitParameters.CommitParameters, declared.ending.Ending.Ending}
+use Rattle.machine.specs.{declared.ending.Ending.TheVariants.{Commits, GivesUp}, declared.phase.OpenEdit.OpenEdit}
 use Rattle.machine.specs.declared.phase.Phase.TheVariants.{Greeted, LoggingIn, Challenged, Serving, Editing, Skipping, Reporting, Driven, Ended}
 use Rattle.machine.specs.declared.phase.Client.{Client}
 

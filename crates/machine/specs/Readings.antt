@@ -1,29 +1,19 @@
 -- What the commands are answered that read entries, and properties of revisions.
-use Rattle.std.specs.Prelude.{ℕ, Bool, true, false, List, [], ◌∷◌, ◌++◌, length, map, Option, Some, None, option_map, Result, Ok, Err, if◌then◌else◌, codes, decimal}
-use Rattle.std.specs.List.{find}
-use Rattle.std.specs.Option.{option_map_or}
+use Rattle.std.specs.Prelude.{ℕ, Bool, true, false, List, [], ◌∷◌, ◌++◌, length, map, Option, Some, None, option_map, Result, Ok, Err, if◌then◌else◌, codes}
+use Rattle.std.specs.{Prelude.decimal, List.find, Option.option_map_or}
 use Rattle.md5.specs.Md5.{md5}
 use Rattle.hex.specs.Hex.{encode_lower}
-use Rattle.svnpath.specs.Paths.{PathValue, Component}
-use Rattle.svnpath.specs.declared.fault.PathFault.{PathFault}
-use Rattle.refusals.specs.declared.Refusal.{Refusal}
+use Rattle.svnpath.specs.{Paths.{Component, PathValue}, declared.fault.PathFault.PathFault}
+use Rattle.refusals.specs.{declared.Refusal.Refusal, Refusing.path_refusal}
 use Rattle.refusals.specs.declared.Refusal.TheVariants as refusals
-use Rattle.refusals.specs.Refusing.{path_refusal}
-use Rattle.repo_api.specs.Properties.{PropertyList, with_property}
-use Rattle.repo_api.specs.States.{RepoState}
-use Rattle.repo_api.specs.Kinds.{kind_at, created_at, text_at, node_properties_at, or_empty, properties_at}
-use Rattle.repo_api.specs.Readings.{names_at}
-use Rattle.repo_api.specs.declared.entry.NodeKind.{NodeKind}
+use Rattle.repo_api.specs.{Kinds.{created_at, kind_at, node_properties_at, or_empty, properties_at, text_at}, Properties.{PropertyList, with_property}}
+use Rattle.repo_api.specs.{Readings.names_at, States.RepoState, declared.entry.NodeKind.NodeKind}
 use Rattle.repo_api.specs.declared.entry.NodeKind.TheVariants as kinds
-use Rattle.history.specs.Dates.{is_date_text, dated_rev}
-use Rattle.history.specs.declared.place.Place.{Place}
+use Rattle.history.specs.{Dates.{is_date_text, dated_rev}, declared.place.Place.Place}
 use Rattle.wire_forms.specs.Forms.{is_name}
-use Rattle.commands.specs.declared.command.GetFileCommand.{GetFileCommand}
-use Rattle.commands.specs.declared.command.GetDirCommand.{GetDirCommand}
+use Rattle.commands.specs.{declared.command.GetFileCommand.GetFileCommand, declared.command.GetDirCommand.GetDirCommand}
 use Rattle.drive_reports.specs.Refusing.{revision_read}
-use Rattle.wire_replies.specs.Replies.{contents, uuid_text}
-use Rattle.wire_replies.specs.declared.entries.NodeInfo.{NodeInfo}
-use Rattle.wire_replies.specs.declared.reply.Reply.{Reply}
+use Rattle.wire_replies.specs.{Replies.{contents, uuid_text}, declared.entries.NodeInfo.NodeInfo, declared.reply.Reply.Reply}
 use Rattle.wire_replies.specs.declared.reply.Reply.TheVariants as replies
 
 -- ---- what is read

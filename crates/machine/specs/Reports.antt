@@ -6,17 +6,10 @@ use Rattle.repo_api.specs.States.{RepoState}
 use Rattle.wire_edits.specs.declared.editing.EditorCommand.TheVariants as edits
 use Rattle.wire_replies.specs.declared.reply.Reply.TheVariants as replies
 use Rattle.wire_reports.specs.declared.asking.DriveRequest.{DriveRequest}
-use Rattle.drive_reports.specs.Refusing.{ask_of, begun_report}
-use Rattle.drive_reports.specs.declared.ask.Purpose.{Purpose}
-use Rattle.drive_reports.specs.declared.graft.Graft.{Graft}
-use Rattle.drive_wire.specs.Reporting.{Drawn, ReportStep}
-use Rattle.drive_wire.specs.Reporting.Drawn.{GoesOn, GivenUp, Fails, Drives, Malformed}
-use Rattle.machine.specs.Settings.{Settings}
-use Rattle.machine.specs.Answers.{Answer, Step, says, serves, malformed}
-use Rattle.machine.specs.declared.env.Env.{Env}
-use Rattle.machine.specs.declared.phase.Client.{Client}
-use Rattle.machine.specs.declared.phase.OpenReporting.{OpenReporting}
-use Rattle.machine.specs.declared.phase.Phase.TheVariants.{Serving, Reporting, Driven}
+use Rattle.drive_reports.specs.{Refusing.{ask_of, begun_report}, declared.ask.Purpose.Purpose, declared.graft.Graft.Graft}
+use Rattle.drive_wire.specs.{Reporting.{Drawn, ReportStep}, Reporting.Drawn.{GoesOn, GivenUp, Fails, Drives, Malformed}}
+use Rattle.machine.specs.{Settings.Settings, Answers.{Answer, Step, says, serves, malformed}, declared.env.Env.Env, declared.phase.Client.Client}
+use Rattle.machine.specs.{declared.phase.OpenReporting.OpenReporting, declared.phase.Phase.TheVariants.{Serving, Reporting, Driven}}
 
 -- a report, as the machine has it
 abbrev pub MachineReport : Type 0

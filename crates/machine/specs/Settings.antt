@@ -1,7 +1,5 @@
 -- What a server is started with.
-use Rattle.std.specs.Prelude.{ℕ, Bool, ◌&&◌, ◌||◌, ◌==◌, not, nat_lt, nat_le, List, ◌∷◌, [], length, Option}
-use Rattle.std.specs.Char.{is_ascii_alphanumeric}
-use Rattle.std.specs.List.{list_all}
+use Rattle.std.specs.{Prelude.{ℕ, Bool, ◌&&◌, ◌||◌, ◌==◌, not, nat_lt, nat_le, List, ◌∷◌, [], length, Option}, Char.is_ascii_alphanumeric, List.list_all}
 use Rattle.machine.specs.declared.options.TheConstants.{NAME_LIMIT}
 use Rattle.wire_forms.specs.Forms.{is_name}
 use Rattle.cram.specs.Login.{Login}

@@ -1,8 +1,6 @@
 -- Changes that meet well what is there.
 use Rattle.std.specs.Prelude.{List, [], ◌∷◌}
-use Rattle.repo_api.specs.Accepted.{Accepted, changed}
-use Rattle.repo_api.specs.Accepted.Accepted.{Commits, Locks, Unlocks, Releases, ChangesProperty}
-use Rattle.repo_api.specs.Marks.{MeetWell}
+use Rattle.repo_api.specs.{Accepted.{Accepted, changed}, Accepted.Accepted.{ChangesProperty, Commits, Locks, Releases, Unlocks}, Marks.MeetWell}
 use Rattle.repo_api.specs.States.{RepoState, tree_of, trees_in, youngest}
 
 -- a commit that is accepted meets the youngest revision well; a change of locks or of a

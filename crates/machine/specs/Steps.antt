@@ -1,21 +1,12 @@
 -- What becomes of a session's steps: each happens at one point of the repository, and its replies
 -- are written, or a
 -- part of them where memory or the sink fails.
-use Rattle.std.specs.Prelude.{◌≡◌, ◌⊎◌, ℕ, true, List, [], ◌∷◌, ◌++◌, Option, Some, None, Result, MatchResult}
-use Rattle.std.specs.Option.{option_to_list}
+use Rattle.std.specs.{Prelude.{◌≡◌, ◌⊎◌, ℕ, true, List, [], ◌∷◌, ◌++◌, Option, Some, None, Result, MatchResult}, Option.option_to_list}
 use Rattle.repo_api.specs.Accepted.{Accepted}
-use Rattle.wire_replies.specs.declared.reply.Reply.{Reply}
-use Rattle.wire_replies.specs.Replies.{print}
-use Rattle.wire_replies.specs.Sinks.{WritesPart}
-use Rattle.access.specs.Points.{Point, AccessRules, content_of}
-use Rattle.access.specs.Changing.{IsHalt, IsFailure}
-use Rattle.machine.specs.declared.env.Env.{Env}
-use Rattle.machine.specs.Stages.{Stage, is_open}
-use Rattle.machine.specs.Settings.{Settings}
-use Rattle.machine.specs.Hearing.{Input, Yields, HasNoMore}
-use Rattle.machine.specs.Answers.{Verdict, Effect, Answer, Step}
-use Rattle.machine.specs.Machine.{InputStep, UnreleasedStep}
-use Rattle.machine.specs.Answers.Verdict.{Written, NotWritten, Unknown}
+use Rattle.wire_replies.specs.{declared.reply.Reply.Reply, Replies.print, Sinks.WritesPart}
+use Rattle.access.specs.{Changing.{IsFailure, IsHalt}, Points.{AccessRules, content_of, Point}}
+use Rattle.machine.specs.{declared.env.Env.Env, Stages.{Stage, is_open}, Settings.Settings, Hearing.{Input, Yields, HasNoMore}}
+use Rattle.machine.specs.{Answers.{Verdict, Effect, Answer, Step}, Machine.{InputStep, UnreleasedStep}, Answers.Verdict.{Written, NotWritten, Unknown}}
 
 -- ---- at a point of the repository
 

@@ -1,13 +1,8 @@
 //! What holds of all that a stream brings. The functions do nothing: their contracts are the laws.
 ghost use Rattle.std.specs.Prelude.{◌≡◌, ℕ, List, Bool};
 ghost use Rattle.repo_api.specs.States.{RepoState};
-ghost use Rattle.machine.specs.Settings.{Settings};
-ghost use Rattle.machine.specs.Stages.{Stage, EditRests, StandsOn};
-ghost use Rattle.machine.specs.Soundness.{MeetBy};
-ghost use Rattle.machine.specs.Answers.{Answer, content_after};
-ghost use Rattle.machine.specs.Machine.{InputStep, UnreleasedStep};
-ghost use Rattle.machine.specs.declared.env.Env.{Env};
-ghost use Rattle.machine.specs.Hearing.{Input, Yields, HasNoMore, EndsBroken};
+ghost use Rattle.machine.specs.{Settings.Settings, Stages.{Stage, EditRests, StandsOn}, Soundness.MeetBy, Answers.{Answer, content_after}};
+ghost use Rattle.machine.specs.{Machine.{InputStep, UnreleasedStep}, declared.env.Env.Env, Hearing.{Input, Yields, HasNoMore, EndsBroken}};
 
 /// Shows that a stream that has brought all that it does so far has brought these inputs and no others, and this is
 /// left of it; and so up to the byte that goes on to no item, where it has one. A stream that has one never comes to

@@ -1,7 +1,6 @@
 //! A login that is under way.
 ghost use Rattle.std.specs.Prelude.{◌≡◌, option_map};
-ghost use Rattle.machine.specs.Commands.{env_without_token};
-ghost use Rattle.machine.specs.Logins.{offer, offers_anonymous, offers_user, chosen, without_nonce};
+ghost use Rattle.machine.specs.{Commands.env_without_token, Logins.{offer, offers_anonymous, offers_user, chosen, without_nonce}};
 
 use crate::env::Env;
 use crate::options::Options;

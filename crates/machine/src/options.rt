@@ -1,6 +1,5 @@
 //! What a server is started with.
-ghost use Rattle.std.specs.Prelude.{◌≡◌, IsTrue, IfOk, Some, None, true, false, option_copied, string_bytes};
-ghost use Rattle.std.specs.List.{list_all};
+ghost use Rattle.std.specs.{Prelude.{◌≡◌, IsTrue, IfOk, Some, None, true, false, option_copied, string_bytes}, List.list_all};
 ghost use Rattle.machine.specs.Settings.{is_repository_name, has_name_length, is_dots, is_name_byte};
 
 use cram::Users;

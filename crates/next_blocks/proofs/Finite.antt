@@ -1,20 +1,12 @@
 -- The paths that lead somewhere down to a depth are finitely many.
-use Rattle.std.proofs.Common.{◌≡◌, ◌≤◌, ◌<◌, ℕ, zero, suc, true, List, [], ◌∷◌, Option, Some, None, is_some, map, option_and_then, length, flat_map, get_or, refl, sym, ap, subst, arith, ◌∙◌}
-use Rattle.std.proofs.lemmas.Bool.{false≢true}
-use Rattle.std.proofs.lemmas.List.{get_or-map}
-use Rattle.std.proofs.lemmas.List.Elements.{Contains-append_left, Contains-append_right, Contains-get_or}
-use Rattle.std.proofs.lemmas.Map.Views.{Contains-from_any}
+use Rattle.std.proofs.Common.{◌≡◌, ◌≤◌, ◌<◌, ℕ, zero, suc, true, List, [], ◌∷◌, Option, Some, None, is_some, map, option_and_then, length, flat_map, get_or}
+use Rattle.std.proofs.{Common.{refl, sym, ap, subst, arith, ◌∙◌}, lemmas.Bool.false≢true, lemmas.List.get_or-map}
+use Rattle.std.proofs.{lemmas.List.Elements.{Contains-append_left, Contains-append_right, Contains-get_or}, lemmas.Map.Views.Contains-from_any}
 use Rattle.std.proofs.Math.ListN.{length-map}
-use Rattle.std.specs.Cmp.Lexicographic.{same_text, texts_ties}
-use Rattle.std.specs.FinMap.{contains_key-keys, keys}
-use Rattle.std.specs.Ordering.{eq_by_cmp}
-use Rattle.std.specs.Prelude.{Contains, IsSome}
+use Rattle.std.specs.{Cmp.Lexicographic.{same_text, texts_ties}, FinMap.{contains_key-keys, keys}, Ordering.eq_by_cmp, Prelude.{Contains, IsSome}}
 use Rattle.shared_map.specs.Entries.{by_bytes}
 use Rattle.svnpath.specs.Paths.{Component, PathValue}
-use Rattle.noderevs.specs.Nodes.{Kids, Look, kid_named, kid_of}
-use Rattle.noderevs.specs.Views.{find_id}
-use Rattle.noderevs.specs.declared.node_rev.NodeId.{NodeId}
-use Rattle.noderevs.specs.declared.node_rev.NodeRev.{NodeRev}
+use Rattle.noderevs.specs.{Nodes.{kid_named, kid_of, Kids, Look}, Views.find_id, declared.node_rev.NodeId.NodeId, declared.node_rev.NodeRev.NodeRev}
 use Rattle.noderevs.proofs.Finding.{nowhere}
 
 -- ---- what is among mapped lists

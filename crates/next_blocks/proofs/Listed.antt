@@ -1,27 +1,14 @@
 -- What holds of all entries that are listed holds of each entry of a map.
-use Rattle.std.proofs.Common.{◌≡◌, ℕ, true, false, ◌==◌, ◌||◌, List, [], ◌∷◌, is_some, cond, map, length, Option, Some, None, option_map, refl, sym, ap, subst, arith, ◌∙◌}
-use Rattle.std.proofs.lemmas.Bool.{false≢true, eqb-true}
-use Rattle.std.proofs.lemmas.Cmp.{nat_list_cmp_total, tied_itself}
-use Rattle.std.proofs.lemmas.Map.Entries.{lookup_from_place, place_from_lookup}
-use Rattle.std.proofs.lemmas.Map.Keys.{IsDistinct-from_sorted}
+use Rattle.std.proofs.Common.{◌≡◌, ℕ, true, false, ◌==◌, ◌||◌, List, [], ◌∷◌, is_some, cond, map, length, Option, Some, None, option_map, refl, sym, ap, subst}
+use Rattle.std.proofs.{Common.{arith, ◌∙◌}, lemmas.Bool.{false≢true, eqb-true}, lemmas.Cmp.{nat_list_cmp_total, tied_itself}}
+use Rattle.std.proofs.{lemmas.Map.Entries.{lookup_from_place, place_from_lookup}, lemmas.Map.Keys.IsDistinct-from_sorted}
 use Rattle.std.proofs.lemmas.Option.{none-some, same_Some, slice_get-map, slice_get_within, get_or_from_slice_get}
-use Rattle.std.specs.Borrow.{Bor}
-use Rattle.std.specs.BTreeMap.{is_at}
-use Rattle.std.specs.Cmp.Lexicographic.{texts_ties}
-use Rattle.std.specs.FinMap.{contains_key-keys, find, get, entries, get-entries, keys}
-use Rattle.std.specs.List.{All, list_any}
-use Rattle.std.specs.Ordering.{eq_by_cmp, is_eq}
-use Rattle.std.specs.Cmp.{eq_by_cmp_equiv}
-use Rattle.std.specs.List.Sorted.{IsStrictlySortedBy}
-use Rattle.std.specs.Map.{keys_of}
-use Rattle.std.specs.Map.{lookup}
-use Rattle.std.specs.Map.Iter.{deref}
-use Rattle.std.specs.Prelude.{slice_get}
+use Rattle.std.specs.{Borrow.Bor, BTreeMap.is_at, Cmp.Lexicographic.texts_ties, FinMap.{contains_key-keys, find, get, entries, get-entries, keys}}
+use Rattle.std.specs.{List.{All, list_any}, Ordering.{eq_by_cmp, is_eq}, Cmp.eq_by_cmp_equiv, List.Sorted.IsStrictlySortedBy, Map.{keys_of, lookup}}
+use Rattle.std.specs.{Map.Iter.deref, Prelude.slice_get}
 use Rattle.shared_map.specs.Entries.{by_bytes}
-use Rattle.svnpath.specs.PathLaws.{same_component_is}
-use Rattle.svnpath.specs.Paths.{Component}
-use Rattle.noderevs.specs.Nodes.{Kids}
-use Rattle.noderevs.specs.declared.node_rev.NodeId.{NodeId}
+use Rattle.svnpath.specs.{PathLaws.same_component_is, Paths.Component}
+use Rattle.noderevs.specs.{Nodes.Kids, declared.node_rev.NodeId.NodeId}
 
 found_by : (es : List (Component × NodeId)) (name : Component) → find by_bytes name es ≡ lookup (is_at (by_bytes name)) es
 found_by [] name = refl

@@ -1,42 +1,22 @@
 -- The marks of a block that keeps the rules name what they mark, and tell of its changes.
-use Rattle.std.proofs.Common.{◌≡◌, ◌⊎◌, ◌==◌, ◌-◌, ◌+◌, ◌<◌, ℕ, arith, take, drop, length, Bool, true, false, ◌||◌, List, [], ◌∷◌, ◌++◌, Option, Some, None, is_some, inl, inr, append-nil, ⊎_elim, refl, sym, ap, subst, ◌∙◌, if◌then◌else◌}
-use Rattle.std.proofs.lemmas.Bool.{false≢true, eqb-true}
-use Rattle.std.specs.Arc.{arc_value}
-use Rattle.std.specs.BTreeMap.{is_at}
-use Rattle.std.specs.List.{list_all, list_any, range_with_len}
-use Rattle.std.proofs.lemmas.List.{length-append, take-append-drop}
-use Rattle.std.proofs.lemmas.List.Folds.{list_all_at}
-use Rattle.std.proofs.lemmas.List.FromFn.{get_or-range_with_len, length-range_with_len}
-use Rattle.std.proofs.Math.Seq.{take-append_seam}
-use Rattle.std.specs.Prelude.{Contains, IsSome, slice_get}
-use Rattle.svnpath.specs.PathLaws.{at_is, under_append, under_is, under_itself}
-use Rattle.svnpath.specs.Paths.{PathValue, is_at_or_under, path_cmp}
-use Rattle.repo_api.specs.Histories.{Changed}
-use Rattle.repo_api.specs.Kinds.{created_of}
-use Rattle.repo_api.specs.Marks.{IsClosed, MarksName, has_open_own, last_of, own_of, shown, with_tree}
-use Rattle.repo_api.specs.Merge.{has_open_last}
-use Rattle.repo_api.specs.declared.entry.Content.{Content}
-use Rattle.repo_api.specs.Properties.{PropertyList}
-use Rattle.repo_api.specs.Trees.{Tree}
-use Rattle.repo_api.specs.declared.change.Change.{Change}
-use Rattle.repo_api.specs.declared.entry.Entry.{Entry}
-use Rattle.repo_api.specs.declared.entry.Mark.{Mark}
-use Rattle.repo_api.specs.declared.entry.Mark.TheVariants.{Made, Open}
+use Rattle.std.proofs.Common.{◌≡◌, ◌⊎◌, ◌==◌, ◌-◌, ◌+◌, ◌<◌, ℕ, arith, take, drop, length, Bool, true, false, ◌||◌, List, [], ◌∷◌, ◌++◌, Option, Some, None}
+use Rattle.std.proofs.{Common.{is_some, inl, inr, append-nil, ⊎_elim, refl, sym, ap, subst, ◌∙◌, if◌then◌else◌}, lemmas.Bool.{false≢true, eqb-true}}
+use Rattle.std.proofs.{lemmas.List.{length-append, take-append-drop}, lemmas.List.Folds.list_all_at}
+use Rattle.std.proofs.{lemmas.List.FromFn.{get_or-range_with_len, length-range_with_len}, Math.Seq.take-append_seam}
+use Rattle.std.specs.{Arc.arc_value, BTreeMap.is_at, List.{list_all, list_any, range_with_len}, Prelude.{Contains, IsSome, slice_get}}
+use Rattle.svnpath.specs.{PathLaws.{at_is, under_append, under_is, under_itself}, Paths.{is_at_or_under, path_cmp, PathValue}}
+use Rattle.repo_api.specs.{Histories.Changed, Kinds.created_of, Marks.{has_open_own, IsClosed, last_of, MarksName, own_of, shown, with_tree}}
+use Rattle.repo_api.specs.{Merge.has_open_last, Properties.PropertyList, Trees.Tree, declared.entry.Content.Content, declared.change.Change.Change}
+use Rattle.repo_api.specs.{declared.entry.Entry.Entry, declared.entry.Mark.Mark, declared.entry.Mark.TheVariants.{Made, Open}}
 use Rattle.repo_laws.proofs.Under.{under_through}
 use Rattle.history.specs.Traces.{makes}
-use Rattle.history_marks.specs.Transactions.{has_made}
-use Rattle.history_marks.specs.Quiet.{IsNotMade, own_revision}
-use Rattle.noderevs.specs.Nodes.{IsThere, Look}
-use Rattle.noderevs.specs.Views.{shared_entry, shared_tree}
-use Rattle.noderevs.specs.declared.node_rev.Block.{Block}
-use Rattle.noderevs.specs.declared.node_rev.NodeId.{NodeId}
+use Rattle.history_marks.specs.{Transactions.has_made, Quiet.{IsNotMade, own_revision}}
+use Rattle.noderevs.specs.{Nodes.{IsThere, Look}, Views.{shared_entry, shared_tree}, declared.node_rev.Block.Block, declared.node_rev.NodeId.NodeId}
 use Rattle.noderevs.specs.declared.node_rev.NodeRev.{NodeRev}
-use Rattle.noderevs.proofs.Finding.{nothing_under, tree_under}
-use Rattle.noderevs.proofs.Pushing.{same_number}
+use Rattle.noderevs.proofs.{Finding.{nothing_under, tree_under}, Pushing.same_number}
 use Rattle.revision_data.specs.Found.{found}
 use Rattle.next_blocks.specs.Rules.{Before, IsNextRevision, id_in, is_made, is_new, is_new_down_to, makes_at, tree_before}
-use Rattle.next_blocks.proofs.Finite.{is_first, is_later}
-use Rattle.next_blocks.proofs.Trees.{IsSoundBefore, New, Old, node_of, old_at, old_is, old_tree, shows, stands, tree}
+use Rattle.next_blocks.proofs.{Finite.{is_first, is_later}, Trees.{IsSoundBefore, New, Old, node_of, old_at, old_is, old_tree, shows, stands, tree}}
 use Rattle.next_blocks.proofs.Walking.{found_in, grows, in_block, old_leads, old_on, old_shows, whole}
 
 abbrev mark_or : Option Mark → Mark

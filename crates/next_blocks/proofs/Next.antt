@@ -1,15 +1,11 @@
 -- A block that keeps the rules may come after those that are there.
-use Rattle.std.proofs.Common.{◌≡◌, ◌⊎◌, ◌==◌, ℕ, Bool, true, false, List, [], ◌∷◌, ◌++◌, Option, Some, None, is_some, option_and_then, inl, inr, refl, sym, ap, ◌∙◌, if◌then◌else◌}
-use Rattle.std.proofs.lemmas.Bool.{false≢true, eqb-true}
+use Rattle.std.proofs.Common.{◌≡◌, ◌⊎◌, ◌==◌, ℕ, Bool, true, false, List, [], ◌∷◌, ◌++◌, Option, Some, None, is_some, option_and_then, inl, inr, refl, sym, ap}
+use Rattle.std.proofs.{Common.{◌∙◌, if◌then◌else◌}, lemmas.Bool.{false≢true, eqb-true}}
 use Rattle.std.specs.Prelude.{IsSomeAnd, slice_get}
 use Rattle.svnpath.specs.Paths.{Component, PathValue}
 use Rattle.repo_api.specs.Histories.{Changed}
-use Rattle.noderevs.specs.Heights.{AreHigh, IsEnough, IsHeight}
-use Rattle.noderevs.specs.Nodes.{IsBefore, IsThere, Kids, Look, kid_named, kid_of}
-use Rattle.noderevs.specs.Soundness.{AreKidsThere, IsNext}
-use Rattle.noderevs.specs.declared.node_rev.Block.{Block}
-use Rattle.noderevs.specs.declared.node_rev.NodeId.{NodeId}
-use Rattle.noderevs.specs.declared.node_rev.NodeRev.{NodeRev}
+use Rattle.noderevs.specs.{Heights.{AreHigh, IsEnough, IsHeight}, Nodes.{IsBefore, IsThere, kid_named, kid_of, Kids, Look}, Soundness.{AreKidsThere, IsNext}}
+use Rattle.noderevs.specs.{declared.node_rev.Block.Block, declared.node_rev.NodeId.NodeId, declared.node_rev.NodeRev.NodeRev}
 use Rattle.noderevs.proofs.Pushing.{still_there}
 use Rattle.held.specs.Placed.{IsPlacedBlock}
 use Rattle.next_blocks.specs.Rules.{Before, IsNewKid, IsNextRevision, IsOldKid, IsRightRoot, id_in}

@@ -1,16 +1,8 @@
 -- The entries of a map stand in the order of their paths.
-use Rattle.std.proofs.Common.{◌≡◌, ◌&&◌, Bool, true, false, List, [], ◌∷◌, refl}
-use Rattle.std.proofs.lemmas.Bool.{false≢true}
-use Rattle.std.specs.FinMap.{FinMap, entries, entries_sorted}
-use Rattle.std.specs.FinMap.Entries.{is_sorted, below_all}
-use Rattle.std.specs.List.{AllByRecursion}
-use Rattle.std.specs.List.Sorted.{IsStrictlySortedBy}
-use Rattle.std.specs.Map.{keys_of}
-use Rattle.std.specs.Ordering.{is_lt}
-use Rattle.std.specs.Prelude.{T}
-use Rattle.std.specs.declared.cmp.Ordering.{Ordering}
-use Rattle.std.specs.declared.cmp.Ordering.TheVariants.{Less, Equal, Greater}
-use Rattle.svnpath.specs.Paths.{PathValue, path_cmp}
+use Rattle.std.proofs.{Common.{◌≡◌, ◌&&◌, Bool, true, false, List, [], ◌∷◌, refl}, lemmas.Bool.false≢true}
+use Rattle.std.specs.{FinMap.{FinMap, entries, entries_sorted}, FinMap.Entries.{is_sorted, below_all}, List.AllByRecursion, List.Sorted.IsStrictlySortedBy}
+use Rattle.std.specs.{Map.keys_of, Ordering.is_lt, Prelude.T, declared.cmp.Ordering.Ordering, declared.cmp.Ordering.TheVariants.{Less, Equal, Greater}}
+use Rattle.svnpath.specs.Paths.{path_cmp, PathValue}
 
 is_true : (b : Bool) → T b → b ≡ true
 is_true true h = refl

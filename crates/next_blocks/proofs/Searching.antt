@@ -1,18 +1,12 @@
 -- What a search finds among entries in the order of their paths.
 use Rattle.std.proofs.Common.{◌≡◌, ℕ, ◌<◌, ◌≤◌, ◌⊎◌, inl, inr, List, length, get_or, slice_get, Some, None, HoldsAt, refl, sym, ap, subst, ◌∙◌, arith}
-use Rattle.std.proofs.lemmas.Bool.{cases_lt}
-use Rattle.std.proofs.lemmas.List.{get_or-map}
-use Rattle.std.proofs.lemmas.Map.Entries.{length-keys_of, lookup_from_place, lookup_at_gap}
-use Rattle.std.proofs.lemmas.Map.Keys.{IsDistinct-from_sorted, Less-from_sorted}
-use Rattle.std.proofs.lemmas.Option.{get_or_from_slice_get, slice_get_within}
-use Rattle.std.specs.Cmp.{IsEquivalence}
-use Rattle.std.specs.Cmp.Lexicographic.{lists_equiv, nat_list_eq_equiv}
-use Rattle.std.specs.List.Sorted.{IsNonDecreasingBy, IsPartitionPoint, IsStrictlySortedBy}
-use Rattle.std.specs.Map.{keys_of}
-use Rattle.std.specs.Ordering.{eq_by_cmp, ordering_index, ordering_reverse}
-use Rattle.std.specs.declared.cmp.Ordering.{Ordering}
+use Rattle.std.proofs.{lemmas.Bool.cases_lt, lemmas.List.get_or-map, lemmas.Map.Entries.{length-keys_of, lookup_from_place, lookup_at_gap}}
+use Rattle.std.proofs.{lemmas.Map.Keys.{IsDistinct-from_sorted, Less-from_sorted}, lemmas.Option.{get_or_from_slice_get, slice_get_within}}
+use Rattle.std.specs.{Cmp.IsEquivalence, Cmp.Lexicographic.{lists_equiv, nat_list_eq_equiv}}
+use Rattle.std.specs.{List.Sorted.{IsNonDecreasingBy, IsPartitionPoint, IsStrictlySortedBy}, Map.keys_of}
+use Rattle.std.specs.{Ordering.{eq_by_cmp, ordering_index, ordering_reverse}, declared.cmp.Ordering.Ordering}
 use Rattle.std.specs.declared.cmp.Ordering.TheVariants.{Less, Equal, Greater}
-use Rattle.svnpath.specs.Paths.{PathValue, path_cmp, path_cmp_total, path_ties, path_cmp-IsAntisymmetric}
+use Rattle.svnpath.specs.Paths.{path_cmp, path_cmp-IsAntisymmetric, path_cmp_total, path_ties, PathValue}
 use Rattle.revision_data.specs.Found.{found}
 
 at_most_two : (o : Ordering) → ordering_index o ≤ 2

@@ -1,30 +1,18 @@
 -- A repository with a revision that keeps the rules is sound.
-use Rattle.std.proofs.Common.{◌≡◌, ◌-◌, ◌<◌, ℕ, List, [], ◌∷◌, ◌++◌, length, option_map, sym, ap, subst, arith, ◌∙◌}
-use Rattle.std.proofs.lemmas.List.{length-append}
+use Rattle.std.proofs.{Common.{◌≡◌, ◌-◌, ◌<◌, ℕ, List, [], ◌∷◌, ◌++◌, length, option_map, sym, ap, subst, arith, ◌∙◌}, lemmas.List.length-append}
 use Rattle.std.proofs.lemmas.Option.{slice_get_past}
-use Rattle.std.specs.FinMap.{entries}
-use Rattle.std.specs.Prelude.{IsSome}
-use Rattle.repo_api.specs.Marks.{AreMarked, IsClosed, MarksName, with_tree}
-use Rattle.repo_api.specs.Soundness.{AreSound, AreTrees}
-use Rattle.repo_api.specs.States.{ChangeMap, RepoState, Revision, TreeMap, tree_of, trees_in}
-use Rattle.repo_api.specs.Trees.{IsTree, Tree}
-use Rattle.repo_laws.proofs.Marking.{marked_more}
-use Rattle.repo_laws.proofs.Revisions.{free_past, trees_more}
-use Rattle.repo_laws.proofs.Standing.{tree_where}
+use Rattle.std.specs.{FinMap.entries, Prelude.IsSome}
+use Rattle.repo_api.specs.{Marks.{AreMarked, IsClosed, MarksName, with_tree}, Soundness.{AreSound, AreTrees}}
+use Rattle.repo_api.specs.{States.{ChangeMap, RepoState, Revision, tree_of, TreeMap, trees_in}, Trees.{IsTree, Tree}}
+use Rattle.repo_laws.proofs.{Marking.marked_more, Revisions.{free_past, trees_more}, Standing.tree_where}
 use Rattle.history_marks.specs.Sound.{IsSoundRepo}
 use Rattle.history_marks.proofs.Marked.{IsMarkedList, IsMarkedNext, more_marked}
-use Rattle.noderevs.specs.Held.{blocks_of, count, node_at, trees_of}
-use Rattle.noderevs.specs.Soundness.{IsNext}
-use Rattle.noderevs.specs.declared.node_rev.Block.{Block}
+use Rattle.noderevs.specs.{Held.{blocks_of, count, node_at, trees_of}, Soundness.IsNext, declared.node_rev.Block.Block}
 use Rattle.noderevs.proofs.Pushing.{next_is_free}
-use Rattle.held.specs.Contents.{block_tree, held_state, revisions_of}
-use Rattle.held.specs.Maps.{IsMapOf, Mapped, mapped}
-use Rattle.held.specs.Placed.{IsPlacedBlock}
-use Rattle.held.specs.declared.held.Held.{Held}
+use Rattle.held.specs.{Contents.{block_tree, held_state, revisions_of}, Maps.{IsMapOf, Mapped, mapped}, Placed.IsPlacedBlock, declared.held.Held.Held}
 use Rattle.held.proofs.Seen.{held_many, trees_seen}
 use Rattle.next_blocks.specs.Rules.{IsNextRevision, past_of}
-use Rattle.next_blocks.proofs.Marks.{is_closed, keeps_last, keeps_own, marks_name, tells_by_last, tells_by_own}
-use Rattle.next_blocks.proofs.Next.{is_placed, may_come}
+use Rattle.next_blocks.proofs.{Marks.{is_closed, keeps_last, keeps_own, marks_name, tells_by_last, tells_by_own}, Next.{is_placed, may_come}}
 use Rattle.next_blocks.proofs.Trees.{IsSoundBefore, is_tree}
 
 many : (h : Held) → length (revisions_of h) ≡ count h.nodes

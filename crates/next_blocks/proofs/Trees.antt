@@ -1,34 +1,19 @@
 -- The tree of a block that keeps the rules is a tree.
-use Rattle.std.proofs.Common.{◌≡◌, ◌⊎◌, ◌≤◌, ℕ, List, [], ◌∷◌, ◌++◌, drop, length, Option, Some, None, is_some, option_map, option_and_then, inl, inr, append_assoc, append-nil, ⊎_elim, refl, sym, ap, subst, arith, ◌∙◌}
-use Rattle.std.proofs.lemmas.Bool.{false≢true, cases_lt}
-use Rattle.std.proofs.Math.Seq.{drop-append_seam}
-use Rattle.std.proofs.lemmas.List.Elements.{All-cons, All-drop, All-nil, All-same}
-use Rattle.std.specs.Arc.{arc_value}
-use Rattle.std.specs.List.{All}
-use Rattle.std.specs.Prelude.{IsSome, IsSomeAnd, IsTrue, slice_get}
-use Rattle.svnpath.specs.Components.{IsComponent, IsRightPath}
-use Rattle.svnpath.specs.Paths.{Component, PathValue}
-use Rattle.svnpath.specs.declared.component.TheConstants.{DEPTH_LIMIT}
-use Rattle.repo_api.specs.Histories.{Changed}
-use Rattle.repo_api.specs.Marks.{AreMarked}
-use Rattle.repo_api.specs.Trees.{HasDirectory, IsTree, Tree, content_text, is_directory, is_directory_content, text_of}
-use Rattle.repo_api.specs.declared.entry.Content.{Content}
-use Rattle.repo_api.specs.declared.entry.Content.TheVariants.{Directory, File}
-use Rattle.repo_api.specs.declared.entry.Entry.{Entry}
+use Rattle.std.proofs.Common.{◌≡◌, ◌⊎◌, ◌≤◌, ℕ, List, [], ◌∷◌, ◌++◌, drop, length, Option, Some, None, is_some, option_map, option_and_then, inl, inr}
+use Rattle.std.proofs.{Common.{append_assoc, append-nil, ⊎_elim, refl, sym, ap, subst, arith, ◌∙◌}, lemmas.Bool.{false≢true, cases_lt}}
+use Rattle.std.proofs.{Math.Seq.drop-append_seam, lemmas.List.Elements.{All-cons, All-drop, All-nil, All-same}}
+use Rattle.std.specs.{Arc.arc_value, List.All, Prelude.{IsSome, IsSomeAnd, IsTrue, slice_get}}
+use Rattle.svnpath.specs.{Components.{IsComponent, IsRightPath}, Paths.{Component, PathValue}, declared.component.TheConstants.DEPTH_LIMIT}
+use Rattle.repo_api.specs.{Histories.Changed, Marks.AreMarked, Trees.{content_text, HasDirectory, is_directory, is_directory_content, IsTree, text_of, Tree}}
+use Rattle.repo_api.specs.{declared.entry.Content.Content, declared.entry.Content.TheVariants.{Directory, File}, declared.entry.Entry.Entry}
 use Rattle.repo_api.specs.declared.limits.TheConstants.{TEXT_LIMIT}
-use Rattle.noderevs.specs.Heights.{AreHigh}
-use Rattle.noderevs.specs.Nodes.{IsBefore, IsThere, Look, kid_at, kid_of}
-use Rattle.noderevs.specs.Soundness.{AreKidsThere}
-use Rattle.noderevs.specs.Views.{entry_at, find_id, shared_entry, shared_tree}
-use Rattle.noderevs.specs.declared.node_rev.Block.{Block}
-use Rattle.noderevs.specs.declared.node_rev.NodeId.{NodeId}
+use Rattle.noderevs.specs.{Heights.AreHigh, Nodes.{IsBefore, IsThere, kid_at, kid_of, Look}, Soundness.AreKidsThere}
+use Rattle.noderevs.specs.{Views.{entry_at, find_id, shared_entry, shared_tree}, declared.node_rev.Block.Block, declared.node_rev.NodeId.NodeId}
 use Rattle.noderevs.specs.declared.node_rev.NodeRev.{NodeRev}
-use Rattle.noderevs.proofs.Finding.{find_append, nowhere, tree_under}
-use Rattle.noderevs.proofs.Heights.{none_deeper}
+use Rattle.noderevs.proofs.{Finding.{find_append, nowhere, tree_under}, Heights.none_deeper}
 use Rattle.held.specs.Placed.{ArePlaced}
 use Rattle.next_blocks.specs.Rules.{Before, IsNewKid, IsNextRevision, IsOldKid, IsRightKid, IsRightRoot, id_in, tree_before}
-use Rattle.next_blocks.proofs.Finite.{among_paths, paths}
-use Rattle.next_blocks.proofs.Next.{high_now, kids_there}
+use Rattle.next_blocks.proofs.{Finite.{among_paths, paths}, Next.{high_now, kids_there}}
 use Rattle.next_blocks.proofs.Walking.{IsNew, IsOld, found_in, in_block, old_leads, old_on, old_shows, whole}
 
 -- what is kept of earlier revisions: their nodes are at their paths, and their trees are trees

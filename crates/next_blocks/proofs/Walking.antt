@@ -1,18 +1,12 @@
 -- What the paths of a further revision lead to.
-use Rattle.std.proofs.Common.{◌≡◌, ◌⊎◌, ◌==◌, ℕ, List, [], ◌∷◌, ◌++◌, Option, Some, None, is_some, option_and_then, inl, inr, append_assoc, append-nil, refl, sym, ap, subst, ◌∙◌, if◌then◌else◌}
-use Rattle.std.proofs.lemmas.Bool.{false≢true}
+use Rattle.std.proofs.Common.{◌≡◌, ◌⊎◌, ◌==◌, ℕ, List, [], ◌∷◌, ◌++◌, Option, Some, None, is_some, option_and_then, inl, inr, append_assoc, append-nil, refl}
+use Rattle.std.proofs.{Common.{sym, ap, subst, ◌∙◌, if◌then◌else◌}, lemmas.Bool.false≢true}
 use Rattle.std.specs.Prelude.{IsSome, IsSomeAnd, slice_get}
-use Rattle.svnpath.specs.Components.{IsComponent}
-use Rattle.svnpath.specs.Paths.{Component, PathValue}
+use Rattle.svnpath.specs.{Components.IsComponent, Paths.{Component, PathValue}}
 use Rattle.repo_api.specs.Histories.{Changed}
-use Rattle.noderevs.specs.Nodes.{Grows, IsBefore, IsThere, Look, kid_at, kid_of}
-use Rattle.noderevs.specs.Soundness.{AreKidsThere}
-use Rattle.noderevs.specs.Views.{find_id, shared_tree}
-use Rattle.noderevs.specs.declared.node_rev.Block.{Block}
-use Rattle.noderevs.specs.declared.node_rev.NodeId.{NodeId}
-use Rattle.noderevs.specs.declared.node_rev.NodeRev.{NodeRev}
-use Rattle.noderevs.proofs.Finding.{nowhere}
-use Rattle.noderevs.proofs.Pushing.{behind, same_number, same_shared}
+use Rattle.noderevs.specs.{Nodes.{Grows, IsBefore, IsThere, kid_at, kid_of, Look}, Soundness.AreKidsThere, Views.{find_id, shared_tree}}
+use Rattle.noderevs.specs.{declared.node_rev.Block.Block, declared.node_rev.NodeId.NodeId, declared.node_rev.NodeRev.NodeRev}
+use Rattle.noderevs.proofs.{Finding.nowhere, Pushing.{behind, same_number, same_shared}}
 use Rattle.next_blocks.specs.Rules.{Before, IsNewKid, IsNextRevision, IsOldKid, IsRightKid, IsRightRoot, beside, id_in}
 
 abbrev id_or : NodeId → Option NodeId → NodeId

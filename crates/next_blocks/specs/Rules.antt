@@ -1,27 +1,12 @@
 -- The rules by which a block of nodes may be the next revision of a repository.
-use Rattle.std.specs.Prelude.{◌≡◌, ◌≤◌, ◌⊎◌, ◌-◌, ◌+◌, ◌==◌, ℕ, true, false, Bool, List, [], ◌∷◌, ◌++◌, length, Option, Some, None, IsSomeAnd, Contains, slice_get, take}
-use Rattle.std.specs.Arc.{arc_value}
-use Rattle.std.specs.List.{list_all, list_any, range_with_len}
-use Rattle.svnpath.specs.Components.{IsComponent}
-use Rattle.svnpath.specs.Paths.{Component, PathValue}
-use Rattle.svnpath.specs.declared.component.TheConstants.{DEPTH_LIMIT}
-use Rattle.repo_api.specs.Histories.{Changed}
-use Rattle.repo_api.specs.Marks.{shown}
-use Rattle.repo_api.specs.Properties.{PropertyList}
-use Rattle.repo_api.specs.Trees.{Tree, is_directory_content}
-use Rattle.repo_api.specs.declared.entry.Content.{Content}
-use Rattle.repo_api.specs.declared.entry.Content.TheVariants.{File}
-use Rattle.repo_api.specs.declared.limits.TheConstants.{TEXT_LIMIT}
-use Rattle.history_marks.specs.Transactions.{has_made}
-use Rattle.history_marks.specs.Quiet.{own_revision}
-use Rattle.noderevs.specs.Heights.{IsHeight}
-use Rattle.noderevs.specs.Held.{count, node_at, root_at}
-use Rattle.noderevs.specs.Nodes.{IsThere, Look, kid_of, with_block}
-use Rattle.noderevs.specs.Views.{find_id, shared_tree}
-use Rattle.noderevs.specs.declared.node_rev.Block.{Block}
-use Rattle.noderevs.specs.declared.node_rev.NodeId.{NodeId}
-use Rattle.noderevs.specs.declared.node_rev.NodeRev.{NodeRev}
-use Rattle.noderevs.specs.declared.nodes.Nodes.{Nodes}
+use Rattle.std.specs.Prelude.{◌≡◌, ◌≤◌, ◌⊎◌, ◌-◌, ◌+◌, ◌==◌, ℕ, true, false, Bool, List, [], ◌∷◌, ◌++◌, length, Option, Some, None, IsSomeAnd, Contains}
+use Rattle.std.specs.{Prelude.{slice_get, take}, Arc.arc_value, List.{list_all, list_any, range_with_len}}
+use Rattle.svnpath.specs.{Components.IsComponent, Paths.{Component, PathValue}, declared.component.TheConstants.DEPTH_LIMIT}
+use Rattle.repo_api.specs.{Histories.Changed, Marks.shown, Properties.PropertyList, Trees.{is_directory_content, Tree}, declared.entry.Content.Content}
+use Rattle.repo_api.specs.{declared.entry.Content.TheVariants.File, declared.limits.TheConstants.TEXT_LIMIT}
+use Rattle.history_marks.specs.{Transactions.has_made, Quiet.own_revision}
+use Rattle.noderevs.specs.{Heights.IsHeight, Held.{count, node_at, root_at}, Nodes.{IsThere, kid_of, Look, with_block}, Views.{find_id, shared_tree}}
+use Rattle.noderevs.specs.{declared.node_rev.Block.Block, declared.node_rev.NodeId.NodeId, declared.node_rev.NodeRev.NodeRev, declared.nodes.Nodes.Nodes}
 use Rattle.revision_data.specs.Found.{found}
 
 -- the nodes of the revisions before, and the root of each

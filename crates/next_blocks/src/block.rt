@@ -1,12 +1,8 @@
 //! The rules of a block as a whole.
-ghost use Rattle.std.specs.Prelude.{◌≡◌, ◌<◌, true, IfOk, IsSomeAnd, Some, slice_get, Contains, Decides};
-ghost use Rattle.std.specs.List.Sorted.{IsStrictlySortedBy};
-ghost use Rattle.std.specs.Map.{keys_of};
+ghost use Rattle.std.specs.{Prelude.{◌≡◌, ◌<◌, true, IfOk, IsSomeAnd, Some, slice_get, Contains, Decides}, List.Sorted.IsStrictlySortedBy, Map.keys_of};
 ghost use Rattle.svnpath.specs.Paths.{path_cmp};
 ghost use Rattle.repo_api.specs.Histories.{Changed};
-ghost use Rattle.noderevs.specs.Held.{count};
-ghost use Rattle.noderevs.specs.declared.node_rev.NodeId.{NodeId};
-ghost use Rattle.noderevs.specs.declared.node_rev.NodeRev.{NodeRev};
+ghost use Rattle.noderevs.specs.{Held.count, declared.node_rev.NodeId.NodeId, declared.node_rev.NodeRev.NodeRev};
 ghost use Rattle.next_blocks.specs.Rules.{IsMarked, IsNextRevision, IsRightRoot, beside, id_in, is_new, is_new_down_to, past_of};
 
 use crate::next_block::NextBlock;

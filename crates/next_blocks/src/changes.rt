@@ -1,7 +1,5 @@
 //! What the changes of a revision make, at a path and above it.
-ghost use Rattle.std.specs.Prelude.{◌≡◌, option_copied};
-ghost use Rattle.std.specs.List.Sorted.{IsStrictlySortedBy};
-ghost use Rattle.std.specs.Map.{keys_of};
+ghost use Rattle.std.specs.{Prelude.{◌≡◌, option_copied}, List.Sorted.IsStrictlySortedBy, Map.keys_of};
 ghost use Rattle.svnpath.specs.Paths.{path_cmp};
 ghost use Rattle.history_marks.specs.Transactions.{has_made};
 ghost use Rattle.revision_data.specs.Found.{found};

@@ -1,11 +1,7 @@
 //! The entries of the directories of a block.
-ghost use Rattle.std.specs.Prelude.{◌≡◌, true, IfOk, Some, None, Decides};
-ghost use Rattle.std.specs.FinMap.{entries};
-ghost use Rattle.std.specs.List.Sorted.{IsStrictlySortedBy};
-ghost use Rattle.std.specs.Map.{keys_of};
+ghost use Rattle.std.specs.{Prelude.{◌≡◌, true, IfOk, Some, None, Decides}, FinMap.entries, List.Sorted.IsStrictlySortedBy, Map.keys_of};
 ghost use Rattle.svnpath.specs.Paths.{Component, path_cmp};
-ghost use Rattle.noderevs.specs.Nodes.{kid_of};
-ghost use Rattle.noderevs.specs.declared.node_rev.NodeId.{NodeId};
+ghost use Rattle.noderevs.specs.{Nodes.kid_of, declared.node_rev.NodeId.NodeId};
 ghost use Rattle.next_blocks.specs.Rules.{IsNewKid, IsOldKid, IsRightKid, past_of};
 
 use crate::changes::is_made;

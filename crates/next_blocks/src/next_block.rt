@@ -1,7 +1,6 @@
 //! A block that is to come after the revisions of nodes.
 ghost use Rattle.std.specs.Prelude.{◌≡◌, ◌==◌, Some, option_copied};
-ghost use Rattle.noderevs.specs.Held.{count};
-ghost use Rattle.noderevs.specs.Nodes.{kid_at};
+ghost use Rattle.noderevs.specs.{Held.count, Nodes.kid_at};
 ghost use Rattle.next_blocks.specs.Rules.{beside, id_before, id_in, past_of};
 
 use byte_string::ByteString;

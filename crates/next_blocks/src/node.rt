@@ -1,16 +1,9 @@
 //! The rules of each node of a block.
-ghost use Rattle.std.specs.Prelude.{◌≡◌, ◌<◌, ◌≤◌, true, length, List, ℕ, IfOk, None, Some, slice_get, Decides};
-ghost use Rattle.std.specs.Arc.{arc_value};
-ghost use Rattle.std.specs.List.Sorted.{IsStrictlySortedBy};
-ghost use Rattle.std.specs.Map.{keys_of};
+ghost use Rattle.std.specs.{Prelude.{◌≡◌, ◌<◌, ◌≤◌, true, length, List, ℕ, IfOk, None, Some, slice_get, Decides}, Arc.arc_value};
+ghost use Rattle.std.specs.{List.Sorted.IsStrictlySortedBy, Map.keys_of};
 ghost use Rattle.svnpath.specs.Paths.{Component, path_cmp};
 ghost use Rattle.repo_api.specs.Trees.{is_directory_content};
-ghost use Rattle.repo_api.specs.declared.limits.TheConstants.{TEXT_LIMIT};
-ghost use Rattle.repo_api.specs.declared.entry.Content.TheVariants.{File};
-ghost use Rattle.noderevs.specs.Heights.{IsHeight};
-ghost use Rattle.noderevs.specs.Held.{count};
-ghost use Rattle.noderevs.specs.Nodes.{kid_of};
-ghost use Rattle.noderevs.specs.declared.node_rev.NodeRev.{NodeRev};
+ghost use Rattle.noderevs.specs.{Heights.IsHeight, Held.count, Nodes.kid_of, declared.node_rev.NodeRev.NodeRev};
 ghost use Rattle.next_blocks.specs.Rules.{IsRightFile, IsRightNode, KeepsOwn, beside, id_in, past_of};
 
 use crate::changes::is_made;
@@ -39,7 +32,7 @@ pub(crate) fn is_directory(node: &NodeRev) -> bool
 
 /// Says whether the text of a file is not too long.
 fn is_short(node: &NodeRev) -> bool
-    ensures { Decides result ((text : List ℕ) → arc_value node.now.content ≡ File text
+    ensures { Decides result ((text : List ℕ) → arc_value node.now.content ≡ Content.File text
         → length text ≤ TEXT_LIMIT) }
 {
     match &*node.content {
@@ -51,7 +44,7 @@ fn is_short(node: &NodeRev) -> bool
 /// Says whether a file has no entries, and a text that is not too long.
 fn is_right_file(alloc: Global, node: &NodeRev) -> Result<bool, AllocError>
     ensures { IfOk result (λ answer. Decides answer ((text : List ℕ)
-        → arc_value node.now.content ≡ File text → IsRightFile node.now text)) }
+        → arc_value node.now.content ≡ Content.File text → IsRightFile node.now text)) }
 {
     if is_directory(node) {
         return Ok(true);

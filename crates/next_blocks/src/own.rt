@@ -1,7 +1,5 @@
 //! What the own last change of a node left, compared with the node.
-ghost use Rattle.std.specs.Prelude.{◌≡◌, true, map, IfOk, option_copied, option_map, Decides};
-ghost use Rattle.std.specs.Arc.{arc_value};
-ghost use Rattle.std.specs.Map.Iter.{deref_pair};
+ghost use Rattle.std.specs.{Prelude.{◌≡◌, true, map, IfOk, option_copied, option_map, Decides}, Arc.arc_value, Map.Iter.deref_pair};
 ghost use Rattle.repo_api.specs.Marks.{shown};
 ghost use Rattle.next_blocks.specs.Rules.{NamesOwn, past_of, shown_by, tree_before};
 

@@ -3,8 +3,7 @@ use Rattle.std.proofs.Common.{◌≡◌, Option, Some, None, option_and_then, sy
 use Rattle.std.specs.FinMap.{empty, get-empty}
 use Rattle.shared_map.specs.Entries.{by_bytes}
 use Rattle.svnpath.specs.Paths.{Component}
-use Rattle.noderevs.specs.Nodes.{Look, Kids, kid_at, kid_of, kid_named}
-use Rattle.noderevs.specs.declared.node_rev.NodeId.{NodeId}
+use Rattle.noderevs.specs.{Nodes.{Look, Kids, kid_at, kid_of, kid_named}, declared.node_rev.NodeId.NodeId}
 
 pub none_named : (kids : Kids) → kids ≡ empty → (name : Component) → kid_named kids name ≡ None
 none_named kids is name = ap (λ (m : Kids). kid_named m name) is ∙ get-empty by_bytes name

@@ -1,10 +1,8 @@
 -- Where paths lead.
 use Rattle.std.proofs.Common.{◌≡◌, ◌==◌, ◌&&◌, Bool, true, false, [], ◌∷◌, ◌++◌, Option, Some, None, option_and_then, refl, ap, sym, ◌∙◌}
-use Rattle.svnpath.specs.Paths.{PathValue}
-use Rattle.noderevs.specs.Nodes.{Look, kid_at}
-use Rattle.noderevs.specs.Views.{find_id, entry_at, shared_tree}
-use Rattle.noderevs.specs.declared.node_rev.NodeId.{NodeId}
 use Rattle.std.proofs.lemmas.Bool.{false≢true, eqb-true}
+use Rattle.svnpath.specs.Paths.{PathValue}
+use Rattle.noderevs.specs.{Nodes.{Look, kid_at}, Views.{find_id, entry_at, shared_tree}, declared.node_rev.NodeId.NodeId}
 
 -- from nothing to nothing
 pub nowhere : (look : Look) (path : PathValue) → find_id look path None ≡ None

@@ -1,20 +1,12 @@
 -- The nodes of revision 0.
-use Rattle.std.proofs.Common.{◌≡◌, ◌==◌, ℕ, zero, suc, Bool, true, false, [], ◌∷◌, Option, Some, None, option_and_then, is_some, refl, sym, ap, subst, ◌∙◌, arith}
-use Rattle.std.proofs.lemmas.Bool.{false≢true}
-use Rattle.std.proofs.lemmas.Option.{slice_get_within}
+use Rattle.std.proofs.Common.{◌≡◌, ◌==◌, ℕ, zero, suc, Bool, true, false, [], ◌∷◌, Option, Some, None, option_and_then, is_some, refl, sym, ap, subst, ◌∙◌}
+use Rattle.std.proofs.{Common.arith, lemmas.Bool.false≢true, lemmas.Option.slice_get_within}
 use Rattle.std.specs.Prelude.{Result, Ok, Err, IfOk, if◌then◌else◌, slice_get}
 use Rattle.svnpath.specs.Paths.{Component, PathValue}
-use Rattle.repo_api.specs.Opening.{opening_root, opening_tree}
-use Rattle.repo_api.specs.States.{tree_of}
-use Rattle.repo_api.specs.StateLaws.{get_path}
-use Rattle.noderevs.specs.Nodes.{Look, node_in, kid_of, kid_at, IsThere, with_block}
-use Rattle.noderevs.specs.OpeningBlocks.{opening_id, IsOpeningBlock}
-use Rattle.noderevs.specs.Soundness.{AreKidsThere, IsNext}
-use Rattle.noderevs.specs.Heights.{IsHeight, AreHigh}
-use Rattle.noderevs.specs.Views.{shared_tree}
-use Rattle.noderevs.specs.declared.node_rev.Block.{Block}
-use Rattle.noderevs.specs.declared.node_rev.NodeId.{NodeId}
-use Rattle.noderevs.specs.declared.node_rev.NodeRev.{NodeRev}
+use Rattle.repo_api.specs.{Opening.{opening_root, opening_tree}, StateLaws.get_path, States.tree_of}
+use Rattle.noderevs.specs.{Nodes.{Look, node_in, kid_of, kid_at, IsThere, with_block}, OpeningBlocks.{opening_id, IsOpeningBlock}}
+use Rattle.noderevs.specs.{Soundness.{AreKidsThere, IsNext}, Heights.{IsHeight, AreHigh}, Views.shared_tree, declared.node_rev.Block.Block}
+use Rattle.noderevs.specs.{declared.node_rev.NodeId.NodeId, declared.node_rev.NodeRev.NodeRev}
 use Rattle.noderevs.proofs.Finding.{nothing_under}
 
 no_kid : (node : NodeRev) → ((name : Component) → kid_of name node ≡ None) → (id : NodeId) (name : Component) → kid_at (with_block (node_in []) 0 (node ∷ [])) (Some id) name ≡ None

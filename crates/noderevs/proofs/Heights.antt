@@ -1,26 +1,13 @@
 -- What the heights of nodes say of what lies beneath them, and how the height of a node is found.
-use Rattle.std.proofs.Common.{◌≡◌, ℕ, zero, suc, ◌<◌, ◌≤◌, ◌-◌, ◌+◌, Bool, true, false, cond, List, [], ◌∷◌, Option, Some, None, option_map, option_and_then, length, is_some, refl, sym, ap, subst, ◌∙◌, arith, rules, ◌⊎◌, inl, inr, ⊎_elim}
-use Rattle.std.proofs.lemmas.Bool.{false≢true, cases_lt}
+use Rattle.std.proofs.Common.{◌≡◌, ℕ, zero, suc, ◌<◌, ◌≤◌, ◌-◌, ◌+◌, Bool, true, false, cond, List, [], ◌∷◌, Option, Some, None, option_map, option_and_then}
+use Rattle.std.proofs.{Common.{length, is_some, refl, sym, ap, subst, ◌∙◌, arith, rules, ◌⊎◌, inl, inr, ⊎_elim}, lemmas.Bool.{false≢true, cases_lt}}
 use Rattle.std.proofs.Math.Nat.{min-le_left, min-eq_left, min-eq_right}
-use Rattle.std.specs.BTreeMap.{is_at}
-use Rattle.std.specs.FinMap.{entries, get-entries}
-use Rattle.std.specs.FinMap.Entries.{find}
-use Rattle.std.specs.Cmp.Lexicographic.{slice_cmp, texts_ties}
-use Rattle.std.specs.List.{AllByRecursion}
-use Rattle.std.specs.List.Sorted.{IsStrictlySortedBy}
-use Rattle.std.specs.Map.{keys_of}
-use Rattle.std.specs.Ordering.{nat_cmp, is_eq}
-use Rattle.std.specs.Prelude.{ltb, IfSome, IsSomeAnd}
+use Rattle.std.specs.{BTreeMap.is_at, FinMap.{entries, get-entries}, FinMap.Entries.find, Cmp.Lexicographic.{slice_cmp, texts_ties}, List.AllByRecursion}
+use Rattle.std.specs.{List.Sorted.IsStrictlySortedBy, Map.keys_of, Ordering.{nat_cmp, is_eq}, Prelude.{ltb, IfSome, IsSomeAnd}}
 use Rattle.std.specs.declared.cmp.Ordering.TheVariants.{Less}
-use Rattle.svnpath.specs.Paths.{Component, PathValue, same_component}
-use Rattle.svnpath.specs.PathLaws.{same_component_is, same_component_refl}
-use Rattle.noderevs.specs.Beneath.{IsShallow}
-use Rattle.noderevs.specs.Heights.{higher, IsEnough, IsHeight, AreHigh}
-use Rattle.noderevs.specs.Nodes.{Look, Kids, kid_of, kid_named, IsThere}
-use Rattle.noderevs.specs.Soundness.{AreKidsThere}
-use Rattle.noderevs.specs.Views.{shared_entry, shared_tree}
-use Rattle.noderevs.specs.declared.node_rev.NodeId.{NodeId}
-use Rattle.noderevs.specs.declared.node_rev.NodeRev.{NodeRev}
+use Rattle.svnpath.specs.{PathLaws.{same_component_is, same_component_refl}, Paths.{Component, PathValue, same_component}}
+use Rattle.noderevs.specs.{Beneath.IsShallow, Heights.{higher, IsEnough, IsHeight, AreHigh}, Nodes.{Look, Kids, kid_of, kid_named, IsThere}}
+use Rattle.noderevs.specs.{Soundness.AreKidsThere, Views.{shared_entry, shared_tree}, declared.node_rev.NodeId.NodeId, declared.node_rev.NodeRev.NodeRev}
 use Rattle.noderevs.proofs.Finding.{nothing_under}
 
 -- ---- what a height says

@@ -1,18 +1,13 @@
 -- The nodes of a further revision, behind those that are there.
-use Rattle.std.proofs.Common.{◌≡◌, ◌==◌, ℕ, ◌<◌, Bool, true, false, List, [], ◌∷◌, ◌++◌, Option, Some, None, option_map, option_and_then, length, refl, sym, ap, subst, ◌∙◌, arith, length-append, rules, ◌≢◌, ⊎_elim}
-use Rattle.std.proofs.lemmas.Bool.{false≢true, cases_eq, cases_lt}
-use Rattle.std.specs.Prelude.{IsSome, if◌then◌else◌, slice_get}
-use Rattle.std.proofs.lemmas.List.{get_or_append_left}
-use Rattle.std.proofs.lemmas.Option.{slice_get_within, slice_get_past, slice_get-get_or, get_or_from_slice_get}
+use Rattle.std.proofs.Common.{◌≡◌, ◌==◌, ℕ, ◌<◌, Bool, true, false, List, [], ◌∷◌, ◌++◌, Option, Some, None, option_map, option_and_then, length, refl, sym, ap}
+use Rattle.std.proofs.{Common.{subst, ◌∙◌, arith, length-append, rules, ◌≢◌, ⊎_elim}, lemmas.Bool.{false≢true, cases_eq, cases_lt}}
+use Rattle.std.proofs.{lemmas.List.get_or_append_left, lemmas.Option.{slice_get_within, slice_get_past, slice_get-get_or, get_or_from_slice_get}}
 use Rattle.std.proofs.Math.Seq.{get_or-append_seam}
+use Rattle.std.specs.Prelude.{IsSome, if◌then◌else◌, slice_get}
 use Rattle.svnpath.specs.Paths.{PathValue}
-use Rattle.noderevs.specs.Nodes.{Look, node_in, root_in, kid_of, kid_at, IsThere, IsBefore, Grows, with_block}
-use Rattle.noderevs.specs.Heights.{AreHigh}
-use Rattle.noderevs.specs.Views.{shared_entry, shared_tree}
-use Rattle.noderevs.specs.Soundness.{AreKidsThere, AreRootsThere, AreApart, IsNext}
-use Rattle.noderevs.specs.declared.node_rev.Block.{Block}
-use Rattle.noderevs.specs.declared.node_rev.NodeId.{NodeId}
-use Rattle.noderevs.specs.declared.node_rev.NodeRev.{NodeRev}
+use Rattle.noderevs.specs.{Nodes.{Look, node_in, root_in, kid_of, kid_at, IsThere, IsBefore, Grows, with_block}, Heights.AreHigh}
+use Rattle.noderevs.specs.{Views.{shared_entry, shared_tree}, Soundness.{AreKidsThere, AreRootsThere, AreApart, IsNext}, declared.node_rev.Block.Block}
+use Rattle.noderevs.specs.{declared.node_rev.NodeId.NodeId, declared.node_rev.NodeRev.NodeRev}
 
 pub same_number : (n : ℕ) → (n == n) ≡ true
 same_number n = search (rules, arith)

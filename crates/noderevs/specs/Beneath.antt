@@ -1,6 +1,5 @@
 -- What stands beneath a path.
-use Rattle.std.specs.Prelude.{◌≡◌, ◌<◌, ◌++◌, ℕ, List, [], Option, Some, None, length}
-use Rattle.std.specs.FinMap.{keys}
+use Rattle.std.specs.{Prelude.{◌≡◌, ◌<◌, ◌++◌, ℕ, List, [], Option, Some, None, length}, FinMap.keys}
 use Rattle.svnpath.specs.Paths.{Component, PathValue}
 use Rattle.repo_api.specs.Trees.{Tree}
 use Rattle.noderevs.specs.declared.node_rev.NodeRev.{NodeRev}

@@ -1,9 +1,7 @@
 -- How many names lie beneath a node, at most.
 use Rattle.std.specs.Prelude.{◌≡◌, ◌≤◌, ◌+◌, ℕ, min, Some}
 use Rattle.svnpath.specs.Paths.{Component}
-use Rattle.noderevs.specs.Nodes.{Look, Kids, kid_named}
-use Rattle.noderevs.specs.declared.node_rev.NodeId.{NodeId}
-use Rattle.noderevs.specs.declared.node_rev.NodeRev.{NodeRev}
+use Rattle.noderevs.specs.{Nodes.{Look, Kids, kid_named}, declared.node_rev.NodeId.NodeId, declared.node_rev.NodeRev.NodeRev}
 
 -- the height of a directory over an entry of this height, as far as numbers go
 abbrev pub higher : ℕ → ℕ

@@ -1,10 +1,7 @@
 -- What the blocks of all revisions hold.
 use Rattle.std.specs.Prelude.{ℕ, List, Option, length}
 use Rattle.repo_api.specs.Trees.{Tree}
-use Rattle.noderevs.specs.Nodes.{Look, node_in, root_in}
-use Rattle.noderevs.specs.Views.{shared_tree}
-use Rattle.noderevs.specs.declared.node_rev.Block.{Block}
-use Rattle.noderevs.specs.declared.node_rev.NodeId.{NodeId}
+use Rattle.noderevs.specs.{Nodes.{Look, node_in, root_in}, Views.shared_tree, declared.node_rev.Block.Block, declared.node_rev.NodeId.NodeId}
 use Rattle.noderevs.specs.declared.nodes.Nodes.{Nodes}
 
 abbrev pub blocks_of : Nodes → List Block

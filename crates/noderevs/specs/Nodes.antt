@@ -1,15 +1,11 @@
 -- Node revisions: which node an id names, and which entries a directory has.
-use Rattle.std.specs.Prelude.{◌≡◌, ◌==◌, ℕ, false, List, Option, Some, None, option_and_then}
-use Rattle.std.specs.Prelude.{option_map, slice_get, IsSome, IfSome, if◌then◌else◌}
+use Rattle.std.specs.Prelude.{◌≡◌, ◌==◌, ℕ, false, List, Option, Some, None, option_and_then, option_map, slice_get, IsSome, IfSome, if◌then◌else◌}
 use Rattle.std.specs.FinMap.{FinMap, get}
 use Rattle.shared_map.specs.Entries.{by_bytes}
 use Rattle.svnpath.specs.Paths.{Component}
 use Rattle.repo_api.specs.declared.entry.Mark.{Mark}
 use Rattle.repo_api.specs.declared.entry.Mark.TheVariants as mark
-use Rattle.noderevs.specs.declared.node_rev.Block.{Block}
-use Rattle.noderevs.specs.declared.node_rev.Made.{Made}
-use Rattle.noderevs.specs.declared.node_rev.NodeId.{NodeId}
-use Rattle.noderevs.specs.declared.node_rev.NodeRev.{NodeRev}
+use Rattle.noderevs.specs.{declared.node_rev.Block.Block, declared.node_rev.Made.Made, declared.node_rev.NodeId.NodeId, declared.node_rev.NodeRev.NodeRev}
 
 -- which node an id names
 abbrev pub Look : Type 0

@@ -2,11 +2,7 @@
 use Rattle.std.specs.Prelude.{◌≡◌, List, [], ◌∷◌, None}
 use Rattle.svnpath.specs.Paths.{Component}
 use Rattle.repo_api.specs.Opening.{opening_root}
-use Rattle.noderevs.specs.Nodes.{kid_of}
-use Rattle.noderevs.specs.Views.{shared_entry}
-use Rattle.noderevs.specs.declared.node_rev.Block.{Block}
-use Rattle.noderevs.specs.declared.node_rev.NodeId.{NodeId}
-use Rattle.noderevs.specs.declared.node_rev.NodeRev.{NodeRev}
+use Rattle.noderevs.specs.{Nodes.kid_of, Views.shared_entry, declared.node_rev.Block.Block, declared.node_rev.NodeId.NodeId, declared.node_rev.NodeRev.NodeRev}
 
 abbrev pub opening_id : NodeId
 opening_id = record { rev = 0; place = 0 }

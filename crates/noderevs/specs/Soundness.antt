@@ -1,10 +1,7 @@
 -- What holds of the blocks of all revisions.
 use Rattle.std.specs.Prelude.{◌≡◌, ℕ, Option, Some, slice_get}
 use Rattle.svnpath.specs.Paths.{Component}
-use Rattle.noderevs.specs.Nodes.{Look, kid_at, IsThere, with_block}
-use Rattle.noderevs.specs.Heights.{AreHigh}
-use Rattle.noderevs.specs.declared.node_rev.Block.{Block}
-use Rattle.noderevs.specs.declared.node_rev.NodeId.{NodeId}
+use Rattle.noderevs.specs.{Nodes.{Look, kid_at, IsThere, with_block}, Heights.AreHigh, declared.node_rev.Block.Block, declared.node_rev.NodeId.NodeId}
 use Rattle.noderevs.specs.declared.node_rev.NodeRev.{NodeRev}
 
 -- each entry of a node is there

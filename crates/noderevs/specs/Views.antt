@@ -1,13 +1,8 @@
 -- The tree of a node: what the paths of its entries' names lead to.
-use Rattle.std.specs.Prelude.{[], ◌∷◌, Option, option_and_then, option_map}
-use Rattle.std.specs.Arc.{arc_value}
+use Rattle.std.specs.{Prelude.{[], ◌∷◌, Option, option_and_then, option_map}, Arc.arc_value}
 use Rattle.svnpath.specs.Paths.{PathValue}
-use Rattle.repo_api.specs.Trees.{Tree}
-use Rattle.repo_api.specs.declared.entry.Entry.{Entry}
-use Rattle.repo_api.specs.declared.entry.Mark.TheVariants.{Made}
-use Rattle.noderevs.specs.Nodes.{Look, kid_at}
-use Rattle.noderevs.specs.declared.node_rev.NodeId.{NodeId}
-use Rattle.noderevs.specs.declared.node_rev.NodeRev.{NodeRev}
+use Rattle.repo_api.specs.{Trees.Tree, declared.entry.Entry.Entry, declared.entry.Mark.TheVariants.Made}
+use Rattle.noderevs.specs.{Nodes.{Look, kid_at}, declared.node_rev.NodeId.NodeId, declared.node_rev.NodeRev.NodeRev}
 
 -- the id that a path leads to
 abbrev pub find_id : Look → PathValue → Option NodeId → Option NodeId

@@ -1,10 +1,7 @@
 //! A further revision.
 ghost use Rattle.std.specs.Prelude.{◌≡◌, ◌<◌, ◌++◌, ◌∷◌, [], ℕ, IfOk, Some};
 ghost use Rattle.svnpath.specs.Paths.{PathValue};
-ghost use Rattle.noderevs.specs.Held.{blocks_of, node_at, count, trees_of};
-ghost use Rattle.noderevs.specs.Nodes.{with_block};
-ghost use Rattle.noderevs.specs.Soundness.{IsNext};
-ghost use Rattle.noderevs.specs.Views.{shared_tree};
+ghost use Rattle.noderevs.specs.{Held.{blocks_of, node_at, count, trees_of}, Nodes.with_block, Soundness.IsNext, Views.shared_tree};
 ghost use Rattle.noderevs.specs.declared.node_rev.NodeId.{NodeId};
 
 use crate::node_rev::Block;

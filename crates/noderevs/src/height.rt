@@ -1,10 +1,6 @@
 //! How many names lie beneath a node.
 ghost use Rattle.std.specs.Prelude.{◌≡◌, ◌<◌, ◌≤◌, ◌⊎◌, false, IfOk, IfSome, IsSomeAnd, option_copied};
-ghost use Rattle.noderevs.specs.Beneath.{IsShallow};
-ghost use Rattle.noderevs.specs.Heights.{higher, IsHeight};
-ghost use Rattle.noderevs.specs.Held.{node_at};
-ghost use Rattle.noderevs.specs.Nodes.{with_block};
-ghost use Rattle.noderevs.specs.Views.{shared_tree};
+ghost use Rattle.noderevs.specs.{Beneath.IsShallow, Heights.{higher, IsHeight}, Held.node_at, Nodes.with_block, Views.shared_tree};
 
 use crate::node_rev::{NodeId, NodeRev};
 use crate::nodes::Nodes;

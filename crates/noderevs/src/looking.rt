@@ -1,10 +1,8 @@
 //! What ids and paths lead to. No look-up takes memory but those that answer lists.
 ghost use Rattle.std.specs.Prelude.{◌≡◌, ◌++◌, true, option_copied, option_and_then, option_map, slice_get, None, Some, IfOk};
 ghost use Rattle.svnpath.specs.Paths.{Component, PathValue};
-ghost use Rattle.repo_api.specs.Kinds.{kind_of, content_kind, content_text, created_of, node_properties, text_of};
-ghost use Rattle.noderevs.specs.Held.{blocks_of, node_at, root_at, count};
-ghost use Rattle.noderevs.specs.Nodes.{kid_at, kid_named};
-ghost use Rattle.noderevs.specs.Views.{find_id, shared_tree};
+ghost use Rattle.repo_api.specs.{Kinds.{content_kind, created_of, kind_of, node_properties}, Trees.{content_text, text_of}};
+ghost use Rattle.noderevs.specs.{Held.{blocks_of, node_at, root_at, count}, Nodes.{kid_at, kid_named}, Views.{find_id, shared_tree}};
 
 use crate::node_rev::{Block, NodeId, NodeRev};
 use crate::nodes::Nodes;

@@ -1,7 +1,5 @@
 //! The nodes of all revisions.
-ghost use Rattle.noderevs.specs.Heights.{AreHigh};
-ghost use Rattle.noderevs.specs.Nodes.{node_in, root_in};
-ghost use Rattle.noderevs.specs.Soundness.{AreKidsThere, AreRootsThere, AreApart};
+ghost use Rattle.noderevs.specs.{Heights.AreHigh, Nodes.{node_in, root_in}, Soundness.{AreKidsThere, AreRootsThere, AreApart}};
 
 use crate::node_rev::Block;
 use pvec::PVec;

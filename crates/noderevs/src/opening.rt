@@ -1,10 +1,8 @@
 //! The nodes of a new repository.
 ghost use Rattle.std.specs.Prelude.{◌≡◌, IfOk};
 ghost use Rattle.svnpath.specs.Paths.{PathValue};
-ghost use Rattle.repo_api.specs.Opening.{opening_tree};
-ghost use Rattle.repo_api.specs.States.{tree_of};
-ghost use Rattle.noderevs.specs.Held.{blocks_of, count, trees_of};
-ghost use Rattle.noderevs.specs.OpeningBlocks.{AreOpening, IsOpeningBlock, IsOpeningNode};
+ghost use Rattle.repo_api.specs.{Opening.opening_tree, States.tree_of};
+ghost use Rattle.noderevs.specs.{Held.{blocks_of, count, trees_of}, OpeningBlocks.{AreOpening, IsOpeningBlock, IsOpeningNode}};
 
 use crate::node_rev::{Block, Made, NodeId, NodeRev};
 use crate::nodes::Nodes;

@@ -1,15 +1,9 @@
 -- Each lock in the way of what no lock refuses is held.
-use Rattle.std.proofs.Common.{◌≡◌, ℕ, true, List, Option, Some, None, sym, ◌∙◌}
-use Rattle.std.proofs.lemmas.List.Sorted.{list_any-IsPermutation}
-use Rattle.std.specs.FinMap.{get, entries}
-use Rattle.std.specs.List.{filter}
-use Rattle.std.specs.Prelude.{is_some}
-use Rattle.repo_api.specs.StateLaws.{get_entries}
-use Rattle.repo_api.specs.States.{ChangeMap, LockMap}
-use Rattle.repo_api.specs.declared.lock.Lock.{Lock}
-use Rattle.svnpath.specs.Listings.{listing_permutation}
-use Rattle.svnpath.specs.Paths.{PathValue}
-use Rattle.repo_api.specs.Locking.{HandedTokens, is_in_the_way, in_the_way, is_handed_in, way_refusal, check_refusal}
+use Rattle.std.proofs.{Common.{◌≡◌, ℕ, true, List, Option, Some, None, sym, ◌∙◌}, lemmas.List.Sorted.list_any-IsPermutation}
+use Rattle.std.specs.{FinMap.{get, entries}, List.filter, Prelude.is_some}
+use Rattle.repo_api.specs.{Locking.{check_refusal, HandedTokens, in_the_way, is_handed_in, is_in_the_way, way_refusal}, StateLaws.get_entries}
+use Rattle.repo_api.specs.{States.{ChangeMap, LockMap}, declared.lock.Lock.Lock}
+use Rattle.svnpath.specs.{Listings.listing_permutation, Paths.PathValue}
 use Rattle.pathlocks.proofs.Held.{held, none_refuses, not_refused}
 
 pub all_held : (locks : LockMap) (changes : ChangeMap) (user : Option (List ℕ)) (tokens : HandedTokens) → check_refusal locks changes user tokens ≡ None

@@ -1,20 +1,11 @@
 -- Locks through accepted changes.
-use Rattle.std.proofs.Common.{◌≡◌, Bool, true, false, cond, not, ◌||◌, List, [], ◌∷◌, Option, Some, None, refl, sym, ap, ◌∙◌}
-use Rattle.std.proofs.lemmas.Bool.{false≢true}
-use Rattle.std.specs.FinMap.{get, insert, remove, get-insert, get-remove}
-use Rattle.std.specs.List.{list_any}
-use Rattle.std.specs.Option.{unwrap_or, option_or}
-use Rattle.std.specs.Prelude.{is_some, if◌then◌else◌}
+use Rattle.std.proofs.{Common.{◌≡◌, Bool, true, false, cond, not, ◌||◌, List, [], ◌∷◌, Option, Some, None, refl, sym, ap, ◌∙◌}, lemmas.Bool.false≢true}
+use Rattle.std.specs.{FinMap.{get, insert, remove, get-insert, get-remove}, List.list_any, Option.{unwrap_or, option_or}, Prelude.{is_some, if◌then◌else◌}}
 use Rattle.refusals.specs.declared.Refusal.{Refusal}
-use Rattle.svnpath.specs.Paths.{PathValue, same_path, path_cmp_total}
-use Rattle.svnpath.specs.PathLaws.{same_path_is}
-use Rattle.repo_api.specs.Accepted.{Accepted, changed, changed_all}
-use Rattle.repo_api.specs.Accepted.Accepted.{Commits, Locks, Unlocks, Releases, ChangesProperty}
-use Rattle.repo_api.specs.Locking.{lock_of, is_released}
-use Rattle.repo_api.specs.LockRuns.{names_lock, HaveOwnTokens, HaveNewTokens, IsNewToken}
-use Rattle.repo_api.specs.States.{RepoState, LockMap}
-use Rattle.repo_api.specs.declared.lock.Lock.{Lock}
-use Rattle.repo_api.specs.declared.lock_ask.LockAsk.{LockAsk}
+use Rattle.svnpath.specs.{PathLaws.same_path_is, Paths.{path_cmp_total, PathValue, same_path}}
+use Rattle.repo_api.specs.{Accepted.{Accepted, changed, changed_all}, Accepted.Accepted.{ChangesProperty, Commits, Locks, Releases, Unlocks}}
+use Rattle.repo_api.specs.{LockRuns.{HaveNewTokens, HaveOwnTokens, IsNewToken, names_lock}, Locking.{is_released, lock_of}, States.{LockMap, RepoState}}
+use Rattle.repo_api.specs.{declared.lock.Lock.Lock, declared.lock_ask.LockAsk.LockAsk}
 use Rattle.pathlocks.proofs.Releases.{at_same, left_at, not_named}
 
 left_false : (a b : Bool) → (a || b) ≡ false → a ≡ false

@@ -1,14 +1,8 @@
 -- The ordered set of the tokens that were handed in.
 use Rattle.std.proofs.Common.{◌≡◌, ℕ, Bool, true, false, ◌||◌, List, [], ◌∷◌, refl, sym, ap, ◌∙◌}
-use Rattle.std.specs.BTreeSet.{insert_key}
-use Rattle.std.specs.Cmp.{eq_by_cmp_equiv}
-use Rattle.std.specs.Cmp.Lexicographic.{slice_cmp, texts_ties, nat_list_cmp_total}
-use Rattle.std.specs.List.{list_any}
-use Rattle.std.specs.Ordering.{nat_cmp, is_eq, match_ordering}
-use Rattle.std.specs.declared.cmp.Ordering.{Ordering}
-use Rattle.std.specs.declared.cmp.Ordering.TheVariants.{Less, Equal, Greater}
-use Rattle.svnpath.specs.Paths.{same_component}
-use Rattle.svnpath.specs.PathLaws.{same_component_is}
+use Rattle.std.specs.{BTreeSet.insert_key, Cmp.eq_by_cmp_equiv, Cmp.Lexicographic.{slice_cmp, texts_ties, nat_list_cmp_total}, List.list_any}
+use Rattle.std.specs.{Ordering.{nat_cmp, is_eq, match_ordering}, declared.cmp.Ordering.Ordering, declared.cmp.Ordering.TheVariants.{Less, Equal, Greater}}
+use Rattle.svnpath.specs.{PathLaws.same_component_is, Paths.same_component}
 use Rattle.pathlocks.specs.Handed.{is_lent}
 use denote.Ref.{Bor}
 

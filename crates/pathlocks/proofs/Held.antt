@@ -1,17 +1,10 @@
 -- What holds where no lock refuses.
-use Rattle.std.proofs.Common.{◌≡◌, Bool, true, false, cond, not, ◌||◌, List, [], ◌∷◌, ℕ, Option, Some, None, refl, sym, ap, ◌∙◌}
-use Rattle.std.proofs.lemmas.Bool.{false≢true}
-use Rattle.std.specs.BTreeMap.{is_at}
-use Rattle.std.specs.List.{list_any, filter}
-use Rattle.std.specs.Map.{lookup}
-use Rattle.std.specs.Option.{is_none, option_or, unwrap_or}
-use Rattle.std.specs.Prelude.{is_some, if◌then◌else◌}
-use Rattle.svnpath.specs.Paths.{PathValue, path_cmp, same_component}
-use Rattle.svnpath.specs.PathLaws.{at_is, same_component_is}
+use Rattle.std.proofs.{Common.{◌≡◌, Bool, true, false, cond, not, ◌||◌, List, [], ◌∷◌, ℕ, Option, Some, None, refl, sym, ap, ◌∙◌}, lemmas.Bool.false≢true}
+use Rattle.std.specs.{BTreeMap.is_at, List.{list_any, filter}, Map.lookup, Option.{is_none, option_or, unwrap_or}, Prelude.{is_some, if◌then◌else◌}}
+use Rattle.svnpath.specs.{PathLaws.{at_is, same_component_is}, Paths.{path_cmp, PathValue, same_component}}
 use Rattle.refusals.specs.declared.Refusal.{Refusal}
 use Rattle.refusals.specs.declared.Refusal.TheVariants as refusals
-use Rattle.repo_api.specs.declared.lock.Lock.{Lock}
-use Rattle.repo_api.specs.Locking.{LockList, holder_refusal, way_refusal, first_refusal}
+use Rattle.repo_api.specs.{declared.lock.Lock.Lock, Locking.{first_refusal, holder_refusal, LockList, way_refusal}}
 
 some_none : (r : Refusal) → ◌≡◌ {A = Option Refusal} (Some r) None → ⊥
 some_none r h = false≢true (ap is_some (sym h))

@@ -1,17 +1,10 @@
 -- The map that entries in order make.
-use Rattle.std.proofs.Common.{◌≡◌, true, ◌&&◌, cond, List, [], ◌∷◌, length, Some, refl, sym, ap, subst, ◌∙◌}
-use Rattle.std.proofs.lemmas.Map.Keys.{sorted_head, sorted_tail}
-use Rattle.std.specs.BTreeMap.{is_at}
-use Rattle.std.specs.Cmp.{eq_by_cmp_equiv}
-use Rattle.std.specs.List.{AllByRecursion}
-use Rattle.std.specs.List.Sorted.{IsStrictlySortedBy}
-use Rattle.std.specs.Map.{lookup, keys_of}
-use Rattle.std.specs.Ordering.{is_lt, eq_by_cmp}
-use Rattle.std.specs.Prelude.{T, Option, None, IfSome, option_map}
-use Rattle.std.specs.declared.cmp.Ordering.TheVariants.{Less, Equal}
-use Rattle.std.specs.FinMap.{FinMap, get, len, entries, from_entries, insert, remove, entries_sorted, get-entries, get-from_entries, get-insert, get-remove, len-entries, same_map}
-use Rattle.std.specs.FinMap.Entries.{is_sorted, below_all, same_entries}
-use Rattle.svnpath.specs.Paths.{PathValue, path_cmp, path_cmp_total, path_cmp-IsAntisymmetric}
+use Rattle.std.proofs.{Common.{◌≡◌, true, ◌&&◌, cond, List, [], ◌∷◌, length, Some, refl, sym, ap, subst, ◌∙◌}, lemmas.Map.Keys.{sorted_head, sorted_tail}}
+use Rattle.std.specs.{BTreeMap.is_at, Cmp.eq_by_cmp_equiv, List.AllByRecursion, List.Sorted.IsStrictlySortedBy, Map.{lookup, keys_of}}
+use Rattle.std.specs.{Ordering.{is_lt, eq_by_cmp}, Prelude.{T, Option, None, IfSome, option_map}, declared.cmp.Ordering.TheVariants.{Less, Equal}}
+use Rattle.std.specs.FinMap.{FinMap, get, len, entries, from_entries, insert, remove, entries_sorted, get-entries, get-from_entries, get-insert, get-remove}
+use Rattle.std.specs.{FinMap.{len-entries, same_map}, FinMap.Entries.{is_sorted, below_all, same_entries}}
+use Rattle.svnpath.specs.Paths.{path_cmp, path_cmp-IsAntisymmetric, path_cmp_total, PathValue}
 use Rattle.repo_api.specs.StateLaws.{get_path}
 
 all_below : {X : Type 0} (p : PathValue) (es : List (PathValue × X)) → AllByRecursion (λ k. path_cmp p k ≡ Less) (keys_of es) → below_all path_cmp p es ≡ true

@@ -1,19 +1,11 @@
 -- A release, pair by pair.
-use Rattle.std.proofs.Common.{arith, zero, suc, ◌+◌, ◌-◌, length, ◌≡◌, ℕ, Bool, true, false, cond, not, ◌&&◌, ◌||◌, List, [], ◌∷◌, ◌++◌, Option, Some, None, subst, refl, sym, ap, ◌∙◌}
-use Rattle.std.proofs.lemmas.Bool.{false≢true}
-use Rattle.std.proofs.lemmas.List.{length_push}
-use Rattle.std.proofs.lemmas.List.Folds.{list_any-append}
-use Rattle.std.specs.Cmp.{eq_by_cmp_equiv}
-use Rattle.std.specs.FinMap.{len, len-remove, empty_of_len, empty, get, insert, remove, retain_keys, from_entries, get-empty, get-insert, get-remove, get-retain_keys, get-from_entries, same_map, from_entries_push}
-use Rattle.std.specs.List.{list_any}
-use Rattle.std.specs.Ordering.{eq_by_cmp}
-use Rattle.std.specs.Option.{unwrap_or}
+use Rattle.std.proofs.Common.{arith, zero, suc, ◌+◌, ◌-◌, length, ◌≡◌, ℕ, Bool, true, false, cond, not, ◌&&◌, ◌||◌, List, [], ◌∷◌, ◌++◌, Option, Some, None}
+use Rattle.std.proofs.{Common.{subst, refl, sym, ap, ◌∙◌}, lemmas.Bool.false≢true, lemmas.List.length_push, lemmas.List.Folds.list_any-append}
+use Rattle.std.specs.{Cmp.eq_by_cmp_equiv, FinMap.{len, len-remove, empty_of_len, empty, get, insert, remove, retain_keys, from_entries, get-empty, get-insert}}
+use Rattle.std.specs.{FinMap.{get-remove, get-retain_keys, get-from_entries, same_map, from_entries_push}, List.list_any, Ordering.eq_by_cmp, Option.unwrap_or}
 use Rattle.std.specs.Prelude.{is_some, option_map}
-use Rattle.svnpath.specs.Paths.{PathValue, same_path, path_cmp, path_cmp_total, path_cmp-IsAntisymmetric}
-use Rattle.svnpath.specs.PathLaws.{at_is_same, same_path_is, same_path_refl}
-use Rattle.repo_api.specs.States.{LockMap}
-use Rattle.repo_api.specs.declared.lock.Lock.{Lock}
-use Rattle.repo_api.specs.Locking.{LockList, HandedTokens, is_held, is_released, released, after_release, releases}
+use Rattle.svnpath.specs.{PathLaws.{at_is_same, same_path_is, same_path_refl}, Paths.{path_cmp, path_cmp-IsAntisymmetric, path_cmp_total, PathValue, same_path}}
+use Rattle.repo_api.specs.{Locking.{after_release, HandedTokens, is_held, is_released, LockList, released, releases}, States.LockMap, declared.lock.Lock.Lock}
 
 or_false : (b : Bool) → (b || false) ≡ b
 or_false true = refl

@@ -1,17 +1,9 @@
 -- What is at or under a path is one run of a map in the order of components.
-use Rattle.std.proofs.Common.{◌≡◌, Bool, true, false, cond, ◌&&◌, List, [], ◌∷◌, ◌++◌, map, refl, sym, ap, subst, ◌∙◌, append_assoc}
-use Rattle.std.proofs.lemmas.Bool.{false≢true}
-use Rattle.std.proofs.lemmas.List.{append-nil, map_push}
-use Rattle.std.proofs.lemmas.Map.Keys.{sorted_head, sorted_tail}
-use Rattle.std.specs.BTreeMap.Range.{range_contains}
-use Rattle.std.specs.List.{AllByRecursion, filter}
-use Rattle.std.specs.List.Sorted.{IsStrictlySortedBy}
-use Rattle.std.specs.Map.{keys_of}
-use Rattle.std.specs.Ordering.{is_le}
-use Rattle.std.specs.declared.cmp.Ordering.TheVariants.{Less}
-use Rattle.std.specs.declared.ops.Bound.TheVariants.{Included, Unbounded}
-use Rattle.svnpath.specs.Paths.{PathValue, is_at_or_under, path_cmp}
-use Rattle.svnpath.specs.PathLaws.{between_under, from_under}
+use Rattle.std.proofs.{Common.{◌≡◌, Bool, true, false, cond, ◌&&◌, List, [], ◌∷◌, ◌++◌, map, refl, sym, ap, subst, ◌∙◌, append_assoc}, lemmas.Bool.false≢true}
+use Rattle.std.proofs.{lemmas.List.{append-nil, map_push}, lemmas.Map.Keys.{sorted_head, sorted_tail}}
+use Rattle.std.specs.{BTreeMap.Range.range_contains, List.{AllByRecursion, filter}, List.Sorted.IsStrictlySortedBy, Map.keys_of, Ordering.is_le}
+use Rattle.std.specs.{declared.cmp.Ordering.TheVariants.Less, declared.ops.Bound.TheVariants.{Included, Unbounded}}
+use Rattle.svnpath.specs.{PathLaws.{between_under, from_under}, Paths.{is_at_or_under, path_cmp, PathValue}}
 
 pub and_false : (b : Bool) → (b && false) ≡ false
 and_false true = refl

@@ -1,21 +1,12 @@
 -- The locks that changes reach, when the changes are gone through in the order of their paths.
-use Rattle.std.proofs.Common.{◌≡◌, Bool, true, false, cond, not, ◌&&◌, ◌||◌, List, [], ◌∷◌, ◌++◌, drop, length, Option, Some, None, refl, sym, ap, subst, ◌∙◌, append_assoc}
-use Rattle.std.proofs.lemmas.Bool.{false≢true}
-use Rattle.std.proofs.lemmas.List.Elements.{filter_agree}
-use Rattle.std.proofs.lemmas.Map.Keys.{sorted_head, sorted_tail}
-use Rattle.std.specs.List.{AllByRecursion, filter}
-use Rattle.std.specs.List.Sorted.{IsStrictlySortedBy}
-use Rattle.std.specs.BTreeMap.{is_at}
-use Rattle.std.specs.Map.{lookup, keys_of}
-use Rattle.std.specs.Option.{unwrap_or}
-use Rattle.std.specs.Ordering.{is_eq, is_le}
-use Rattle.std.specs.Prelude.{is_some, if◌then◌else◌}
-use Rattle.std.specs.declared.cmp.Ordering.{Ordering}
+use Rattle.std.proofs.Common.{◌≡◌, Bool, true, false, cond, not, ◌&&◌, ◌||◌, List, [], ◌∷◌, ◌++◌, drop, length, Option, Some, None, refl, sym, ap, subst, ◌∙◌}
+use Rattle.std.proofs.{Common.append_assoc, lemmas.Bool.false≢true, lemmas.List.Elements.filter_agree, lemmas.Map.Keys.{sorted_head, sorted_tail}}
+use Rattle.std.specs.{List.{AllByRecursion, filter}, List.Sorted.IsStrictlySortedBy, BTreeMap.is_at, Map.{lookup, keys_of}, Option.unwrap_or}
+use Rattle.std.specs.{Ordering.{is_eq, is_le}, Prelude.{is_some, if◌then◌else◌}, declared.cmp.Ordering.Ordering}
 use Rattle.std.specs.declared.cmp.Ordering.TheVariants.{Less, Equal, Greater}
-use Rattle.svnpath.specs.Paths.{PathValue, same_path, is_at_or_under, path_cmp, path_cmp_total, path_ties, path_cmp-IsAntisymmetric}
-use Rattle.svnpath.specs.PathLaws.{at_is, from_under, same_path_is, under_is, under_append, under_itself}
-use Rattle.repo_api.specs.declared.change.Change.{Change}
-use Rattle.repo_api.specs.Locking.{is_of_whole_tree, reaches, is_reached}
+use Rattle.svnpath.specs.PathLaws.{at_is, from_under, same_path_is, under_append, under_is, under_itself}
+use Rattle.svnpath.specs.Paths.{is_at_or_under, path_cmp, path_cmp-IsAntisymmetric, path_cmp_total, path_ties, PathValue, same_path}
+use Rattle.repo_api.specs.{declared.change.Change.Change, Locking.{is_of_whole_tree, is_reached, reaches}}
 use Rattle.pathlocks.specs.Tops.{is_below, top_after}
 use Rattle.pathlocks.proofs.Runs.{past, and_false}
 

@@ -1,6 +1,5 @@
 -- The tokens that were handed in, as an ordered set of them.
-use Rattle.std.specs.Prelude.{ℕ, Bool, List}
-use Rattle.std.specs.List.{list_any}
+use Rattle.std.specs.{Prelude.{ℕ, Bool, List}, List.list_any}
 use Rattle.svnpath.specs.Paths.{same_component}
 use denote.Ref.{Bor}
 

@@ -1,8 +1,7 @@
 -- The last tree that changed whole, as the changes are gone through in the order of their paths.
 use Rattle.std.specs.Prelude.{Bool, false, if◌then◌else◌, Option, Some, None}
-use Rattle.svnpath.specs.Paths.{PathValue, is_at_or_under}
-use Rattle.repo_api.specs.declared.change.Action.{Action}
-use Rattle.repo_api.specs.Locking.{is_of_whole_tree}
+use Rattle.svnpath.specs.Paths.{is_at_or_under, PathValue}
+use Rattle.repo_api.specs.{declared.change.Action.Action, Locking.is_of_whole_tree}
 
 -- the path lies in that tree
 abbrev pub is_below : Option PathValue → PathValue → Bool

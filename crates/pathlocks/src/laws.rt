@@ -1,15 +1,9 @@
 //! What holds of locks. The functions do nothing: their contracts are the laws.
-ghost use Rattle.std.specs.Prelude.{◌≡◌, ℕ, Bool, true, false, IsTrue, List, Option, Some, None};
-ghost use Rattle.std.specs.FinMap.{get, empty, insert, remove};
-ghost use Rattle.std.specs.List.{list_any};
+ghost use Rattle.std.specs.{Prelude.{◌≡◌, ℕ, Bool, true, false, IsTrue, List, Option, Some, None}, FinMap.{get, empty, insert, remove}, List.list_any};
 ghost use Rattle.svnpath.specs.Paths.{PathValue, same_path};
-ghost use Rattle.repo_api.specs.States.{ChangeMap, LockMap, RepoState, TxnState};
-ghost use Rattle.repo_api.specs.declared.lock.Lock.{Lock};
-ghost use Rattle.repo_api.specs.Locking.{HandedTokens, is_in_the_way, is_handed_in, check_refusal, released, after_release, releases};
-ghost use Rattle.repo_api.specs.Accepted.{Accepted, changed_all};
-ghost use Rattle.repo_api.specs.Commits.{commit_refusal};
-ghost use Rattle.repo_api.specs.LockRuns.{names_lock, HaveOwnTokens, HaveNewTokens};
-ghost use Rattle.repo_api.specs.declared.ask.CommitAsk.{CommitAsk};
+ghost use Rattle.repo_api.specs.{Accepted.{Accepted, changed_all}, Commits.commit_refusal, LockRuns.{HaveNewTokens, HaveOwnTokens, names_lock}};
+ghost use Rattle.repo_api.specs.Locking.{after_release, check_refusal, HandedTokens, is_handed_in, is_in_the_way, released, releases};
+ghost use Rattle.repo_api.specs.{States.{ChangeMap, LockMap, RepoState, TxnState}, declared.lock.Lock.Lock, declared.ask.CommitAsk.CommitAsk};
 
 /// Shows that, where no lock refuses a commit, each lock in its way is its user's, and its token was handed in.
 pub fn locks_in_the_way_are_held()

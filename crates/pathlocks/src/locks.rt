@@ -1,10 +1,9 @@
 //! The locks of a repository.
 ghost use Rattle.std.specs.Prelude.{◌≡◌, ◌+◌, length, IfOk, IfErr, OnOk, OnErr, Some, None, map, option_copied, option_map};
-ghost use Rattle.std.specs.FinMap.{get, empty, len, insert, remove, from_entries};
-ghost use Rattle.std.specs.Map.Iter.{deref_pair};
+ghost use Rattle.std.specs.{FinMap.{get, empty, len, insert, remove, from_entries}, Map.Iter.deref_pair};
 ghost use Rattle.svnpath.specs.Listings.{listing};
-ghost use Rattle.repo_api.specs.Accepted.{IfRefused, IsOfMemory};
-ghost use Rattle.repo_api.specs.Locking.{in_the_way, at_or_under, check_refusal, taking_refusal, lock_refusal_at, lock_of, is_held, released, after_release, releases};
+ghost use Rattle.repo_api.specs.{Accepted.{IfRefused, IsOfMemory}, Locking.{after_release, at_or_under, check_refusal, in_the_way, is_held, lock_of}};
+ghost use Rattle.repo_api.specs.Locking.{lock_refusal_at, released, releases, taking_refusal};
 
 use crate::finding::{append_in_the_way, append_under};
 use crate::refusing::{
@@ -27,8 +26,7 @@ pub struct Locks {
 }
 
 impl Model for Locks {
-    ghost use Rattle.std.specs.Coded.{codes};
-    ghost use Rattle.std.specs.FinMap.{from_entries, code as map_code};
+    ghost use Rattle.std.specs.{Coded.codes, FinMap.{from_entries, code as map_code}};
     ghost use Rattle.repo_api.specs.States.{LockMap};
 
     ghost Value = { LockMap };

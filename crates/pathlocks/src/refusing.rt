@@ -1,8 +1,8 @@
 //! What refuses the use of a lock.
-ghost use Rattle.std.specs.Prelude.{◌≡◌, ℕ, List, IfOk, map, option_copied};
-ghost use Rattle.std.specs.Map.Iter.{deref_pair};
+ghost use Rattle.std.specs.{Prelude.{◌≡◌, ℕ, List, IfOk, map, option_copied}, Map.Iter.deref_pair};
 ghost use Rattle.pathlocks.specs.Handed.{is_lent};
-ghost use Rattle.repo_api.specs.Locking.{holder_refusal, is_handed_in, way_refusal, first_refusal, user_refusal, entry_refusal, lock_place_refusal, owner_of, lock_of, is_token, taking_refusal, is_held};
+ghost use Rattle.repo_api.specs.Locking.{entry_refusal, first_refusal, holder_refusal, is_handed_in, is_held, is_token, lock_of, lock_place_refusal, owner_of};
+ghost use Rattle.repo_api.specs.Locking.{taking_refusal, user_refusal, way_refusal};
 
 use byte_string::ByteString;
 use refusals::Refusal;

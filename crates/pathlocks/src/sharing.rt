@@ -1,9 +1,7 @@
 //! Changes of locks that views may share. Where a view does, the locks are copied before the first change,
 //! and the view keeps what it has seen; else they are changed in place, whatever other locks stand.
-ghost use Rattle.std.specs.Prelude.{◌≡◌, OnOk, OnErr, Some, None, option_copied};
-ghost use Rattle.std.specs.FinMap.{get, insert, remove};
-ghost use Rattle.repo_api.specs.Accepted.{IfRefused, IsOfMemory};
-ghost use Rattle.repo_api.specs.Locking.{lock_refusal_at, lock_of, taking_refusal, after_release};
+ghost use Rattle.std.specs.{Prelude.{◌≡◌, OnOk, OnErr, Some, None, option_copied}, FinMap.{get, insert, remove}};
+ghost use Rattle.repo_api.specs.{Accepted.{IfRefused, IsOfMemory}, Locking.{after_release, lock_of, lock_refusal_at, taking_refusal}};
 
 use crate::locks::Locks;
 use byte_string::ByteString;
@@ -21,8 +19,7 @@ pub fn lock_shared(
     ask: LockAsk,
 ) -> Result<(), ChangeFault>
     ensures accepted { OnOk result (lock_refusal_at kind created locks.old.value ask ≡ None) }
-    ensures ok { OnOk result (locks.new.value
-        ≡ insert locks.old.value ask.path (lock_of ask)) }
+    ensures ok { OnOk result (locks.new.value ≡ insert locks.old.value ask.path (lock_of ask)) }
     ensures refused { IfRefused result (λ r. lock_refusal_at kind created locks.old.value ask
         ≡ Some r) }
     ensures memory { IsOfMemory result }

@@ -1,6 +1,5 @@
 //! The hubs of a script.
-ghost use Rattle.hub.specs.Calls.{CallStep};
-ghost use Rattle.hub.specs.declared.calls.Outcome.{Outcome};
+ghost use Rattle.hub.specs.{Calls.CallStep, declared.calls.Outcome.Outcome};
 
 use crate::answer::answer_line;
 use crate::fault::LineFault;

@@ -1,12 +1,10 @@
 -- The exchange that adds an entry keeps the rule.
-use Rattle.std.proofs.Common.{◌≡◌, ℕ, ◌+◌, ◌<◌, ◌==◌, Bool, true, false, List, [], ◌∷◌, ◌++◌, length, refl, ap, sym, subst, arith, inl, length-append, None, append_assoc}
-use Rattle.std.proofs.lemmas.List.{append-nil}
-use Rattle.std.proofs.lemmas.Bool.Decides.{nat_tests}
+use Rattle.std.proofs.Common.{◌≡◌, ℕ, ◌+◌, ◌<◌, ◌==◌, Bool, true, false, List, [], ◌∷◌, ◌++◌, length, refl, ap, sym, subst, arith, inl, length-append, None}
+use Rattle.std.proofs.{Common.append_assoc, lemmas.List.append-nil, lemmas.Bool.Decides.nat_tests}
 use mathlib.Core.List.{IsPrefix}
 use prog.Atomic.{either}
 use Rattle.logbook.specs.Pages.{Cell, cell, keeps, no_nib, step, Moves, Goes}
-use Rattle.published.specs.Events.{Event, MayFollow, IsHistory, MayAllFollow}
-use Rattle.published.specs.Rules.{IsKept, Adds}
+use Rattle.published.specs.{Events.{Event, MayFollow, IsHistory, MayAllFollow}, Rules.{IsKept, Adds}}
 use Rattle.published.proofs.Fronts.{prefix_whole}
 
 abbrev pub shown : List Event → List Event

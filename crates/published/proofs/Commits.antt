@@ -1,17 +1,10 @@
 -- An accepted commit of a sound transaction is right.
 use Rattle.std.proofs.Common.{◌≡◌, ◌<◌, ◌+◌, ℕ, zero, suc, List, [], ◌∷◌, ◌++◌, length, Option, None, ap, subst, arith, length-append, ◌∙◌}
-use Rattle.std.specs.Prelude.{IsSomeAnd, IsTrue}
-use Rattle.std.specs.FinMap.{get, get-empty}
+use Rattle.std.specs.{Prelude.{IsSomeAnd, IsTrue}, FinMap.{get, get-empty}}
 use Rattle.svnpath.specs.Paths.{path_cmp}
-use Rattle.repo_api.specs.Trees.{IsTree, is_directory}
-use Rattle.repo_api.specs.Marks.{AreMarked, MeetWell}
-use Rattle.repo_api.specs.Transactions.{IsMarkedTxn}
-use Rattle.repo_api.specs.declared.entry.Entry.{Entry}
-use Rattle.repo_api.specs.declared.ask.CommitAsk.{CommitAsk}
-use Rattle.repo_api.specs.States.{RepoState, TxnState, Revision, IsBeginning, tree_of, tree_in, trees_in, youngest}
-use Rattle.repo_api.specs.Soundness.{AreTrees, AreSound}
-use Rattle.repo_api.specs.Commits.{commit_refusal, next_tree, committed}
-use Rattle.repo_api.specs.Accepted.Accepted.{Commits}
+use Rattle.repo_api.specs.{Accepted.Accepted.Commits, Commits.{commit_refusal, committed, next_tree}, Marks.{AreMarked, MeetWell}}
+use Rattle.repo_api.specs.{Soundness.{AreSound, AreTrees}, States.{IsBeginning, RepoState, Revision, tree_in, tree_of, trees_in, TxnState, youngest}}
+use Rattle.repo_api.specs.{Transactions.IsMarkedTxn, Trees.{is_directory, IsTree}, declared.entry.Entry.Entry, declared.ask.CommitAsk.CommitAsk}
 use Rattle.published.specs.Changes.{IsRight}
 
 trees_more : (rs : List Revision) (r : Revision) → AreTrees rs → IsTree (tree_of r.tree) → AreTrees (rs ++ r ∷ [])

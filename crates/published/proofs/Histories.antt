@@ -1,14 +1,11 @@
 -- A history goes on.
-use Rattle.std.proofs.Common.{◌≡◌, ℕ, ◌<◌, Bool, false, List, [], ◌∷◌, ◌++◌, length, Option, None, refl, ap, sym, subst, ◌∙◌, arith, append_assoc, append-nil, length-append}
+use Rattle.std.proofs.Common.{◌≡◌, ℕ, ◌<◌, Bool, false, List, [], ◌∷◌, ◌++◌, length, Option, None, refl, ap, sym, subst, ◌∙◌, arith, append_assoc, append-nil}
+use Rattle.std.proofs.Common.{length-append}
 use mathlib.Core.List.{IsPrefix}
-use Rattle.repo_api.specs.States.{RepoState}
-use Rattle.repo_api.specs.Soundness.{AreSound}
-use Rattle.repo_api.specs.Accepted.{Accepted, changed}
+use Rattle.repo_api.specs.{Accepted.{Accepted, changed}, Soundness.AreSound, States.RepoState}
 use Rattle.access.specs.Points.{content_of}
-use Rattle.published.specs.Changes.{IsRight, AreRight}
-use Rattle.published.specs.Events.{Event, first_in, changes_in, state_of, point_of, MayFollow, MayAllFollow, IsHistory}
-use Rattle.published.specs.Events.Event.{Opened, Makes}
-use Rattle.published.specs.Moments.{ListGoesOn, added, changed_more, all_sound}
+use Rattle.published.specs.{Changes.{IsRight, AreRight}, Events.{Event, first_in, changes_in, state_of, point_of, MayFollow, MayAllFollow, IsHistory}}
+use Rattle.published.specs.{Events.Event.{Opened, Makes}, Moments.{ListGoesOn, added, changed_more, all_sound}}
 
 pub first_more : (xs ys : List Event) → 0 < length xs → first_in (xs ++ ys) ≡ first_in xs
 first_more [] ys lt = absurd (omega (arith, lt))

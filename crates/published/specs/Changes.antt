@@ -1,11 +1,7 @@
 -- Accepted changes that leave a repository sound.
 use Rattle.std.specs.Prelude.{◌≡◌, List, [], ◌∷◌}
-use Rattle.repo_api.specs.Accepted.{Accepted, IsAccepted, changed}
-use Rattle.repo_api.specs.Accepted.Accepted.{Commits}
-use Rattle.repo_api.specs.Marks.{MeetWell}
-use Rattle.repo_api.specs.Soundness.{AreSound}
-use Rattle.repo_api.specs.States.{RepoState, TxnState, tree_of, trees_in, youngest}
-use Rattle.repo_api.specs.declared.ask.CommitAsk.{CommitAsk}
+use Rattle.repo_api.specs.{Accepted.{Accepted, changed, IsAccepted}, Accepted.Accepted.Commits, Marks.MeetWell, Soundness.AreSound}
+use Rattle.repo_api.specs.{States.{RepoState, tree_of, trees_in, TxnState, youngest}, declared.ask.CommitAsk.CommitAsk}
 
 -- the rules accept the change; a commit meets the youngest revision well; and after it the trees are
 -- sound

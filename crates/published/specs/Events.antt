@@ -1,14 +1,10 @@
 -- What has happened to a repository: its opening, and the changes since.
-use Rattle.std.specs.Prelude.{◌≡◌, ◌<◌, ℕ, Bool, List, [], ◌∷◌, ◌++◌, length, Option}
-use Rattle.std.specs.FinMap.{empty}
+use Rattle.std.specs.{Prelude.{◌≡◌, ◌<◌, ℕ, Bool, List, [], ◌∷◌, ◌++◌, length, Option}, FinMap.empty}
 use mathlib.Core.List.{IsPrefix}
+use Rattle.repo_api.specs.{Accepted.{Accepted, changed_all}, Accepted.Accepted.{ChangesProperty, Commits, Locks, Releases, Unlocks}, Soundness.AreSound}
 use Rattle.repo_api.specs.States.{RepoState, TxnState}
-use Rattle.repo_api.specs.Soundness.{AreSound}
-use Rattle.repo_api.specs.Accepted.{Accepted, changed_all}
-use Rattle.repo_api.specs.Accepted.Accepted.{Commits, Locks, Unlocks, Releases, ChangesProperty}
 use Rattle.access.specs.Points.{Point}
-use Rattle.published.specs.Changes.{IsRight}
-use Rattle.published.specs.declared.event.AskedChange.{AskedChange}
+use Rattle.published.specs.{Changes.IsRight, declared.event.AskedChange.AskedChange}
 use Rattle.published.specs.declared.event.AskedChange.TheVariants.{Commit, Lock, Unlock, Release, Property}
 
 -- the repository was opened and contained this, or a change was made

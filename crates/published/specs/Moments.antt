@@ -1,13 +1,10 @@
 -- Moments of a repository that others change too.
 use Rattle.std.specs.Prelude.{◌≡◌, ◌≤◌, ◌<◌, ℕ, Bool, true, ◌||◌, List, [], ◌∷◌, ◌++◌, length, Option}
 use Rattle.std.proofs.Common.{refl, sym, ap, subst, ◌∙◌, append-nil, append_assoc, le_refl, le_trans}
-use Rattle.repo_api.specs.States.{RepoState, Revision, IsBeginning}
-use Rattle.repo_api.specs.Soundness.{AreSound}
-use Rattle.repo_api.specs.Accepted.{Accepted, changed, changed_all}
-use Rattle.repo_api.specs.Accepted.Accepted.{Commits, Locks, Unlocks, Releases, ChangesProperty}
-use Rattle.access.specs.Points.{Point, AccessRules, content_of}
-use Rattle.published.specs.Changes.{AreRight}
-use Rattle.published.specs.Events.{Event, point_of}
+use Rattle.repo_api.specs.{Accepted.{Accepted, changed, changed_all}, Accepted.Accepted.{ChangesProperty, Commits, Locks, Releases, Unlocks}}
+use Rattle.repo_api.specs.{Soundness.AreSound, States.{IsBeginning, RepoState, Revision}}
+use Rattle.access.specs.Points.{AccessRules, content_of, Point}
+use Rattle.published.specs.{Changes.AreRight, Events.{Event, point_of}}
 
 -- changes were made in between, each of them right; and the store may have failed, or come to a halt
 pub record GoesOn (p q : Point) : Type 0 where

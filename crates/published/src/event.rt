@@ -12,12 +12,9 @@ pub struct Happened {
 }
 
 impl Model for Happened {
-    ghost use Rattle.std.specs.Prelude.{None, []};
-    ghost use Rattle.std.specs.Coded.{codes};
-    ghost use Rattle.std.specs.FinMap.{code as map_code};
+    ghost use Rattle.std.specs.{Prelude.{None, []}, Coded.codes, FinMap.code as map_code};
     ghost use Rattle.repo_api.specs.Accepted.Accepted.{Releases};
-    ghost use Rattle.published.specs.Events.{Event};
-    ghost use Rattle.published.specs.Events.Event.{Makes};
+    ghost use Rattle.published.specs.{Events.Event, Events.Event.Makes};
 
     ghost Value = { Event };
 
@@ -55,8 +52,7 @@ pub struct ChangeEvent<R: Repository> {
 
 impl<R: Repository> Plain<AskedChange<R::Txn>, Happened, u64> for ChangeEvent<R> {
     ghost use Rattle.std.specs.Prelude.{None};
-    ghost use Rattle.published.specs.Events.{accepted_by};
-    ghost use Rattle.published.specs.Events.Event.{Makes};
+    ghost use Rattle.published.specs.{Events.accepted_by, Events.Event.Makes};
 
     ghost ask = { λ asked. Makes (accepted_by R.txn_state asked) };
 

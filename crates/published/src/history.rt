@@ -1,9 +1,7 @@
 //! The history of one repository, which exists in the proofs alone.
 ghost use Rattle.std.specs.Prelude.{◌≡◌, ◌+◌, ◌==◌, ◌<◌, ◌≤◌, ◌^◌, ◌++◌, ◌∷◌, ◌⊎◌, [], None, true, length, MatchBool};
 ghost use mathlib.Core.List.{IsPrefix};
-ghost use Rattle.published.specs.Events.{IsHistory, IsLonger, MayFollow};
-ghost use Rattle.published.specs.Rules.{head_of};
-ghost use Rattle.published.specs.Moments.{ListGoesOn};
+ghost use Rattle.published.specs.{Events.{IsHistory, IsLonger, MayFollow}, Rules.head_of, Moments.ListGoesOn};
 
 use crate::event::Happened;
 use logbook::{Gain, Offer, Plain, Play, Rule, Seen, Start, Word};
@@ -116,9 +114,7 @@ pub struct Front<J: Naming> {
 }
 
 impl<J: Naming> Model for Front<J> {
-    ghost use Rattle.std.specs.Prelude.{◌≡◌, List, length};
-    ghost use Rattle.std.specs.Coded.{codes, coded_list};
-    ghost use Rattle.std.specs.FinMap.{code as map_code};
+    ghost use Rattle.std.specs.{Prelude.{◌≡◌, List, length}, Coded.{codes, coded_list}, FinMap.code as map_code};
     ghost use Rattle.published.specs.Events.{Event, IsHistory};
 
     ghost Value = { List Event };

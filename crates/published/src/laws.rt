@@ -1,12 +1,7 @@
 //! What holds of right changes. The functions do nothing: their contracts are the laws.
 ghost use Rattle.std.specs.Prelude.{◌≡◌, None};
-ghost use Rattle.repo_api.specs.Accepted.Accepted.{Commits};
-ghost use Rattle.repo_api.specs.Commits.{commit_refusal};
-ghost use Rattle.repo_api.specs.Soundness.{AreSound};
-ghost use Rattle.repo_api.specs.States.{RepoState, TxnState, IsBeginning, tree_of};
-ghost use Rattle.repo_api.specs.Transactions.{IsMarkedTxn};
-ghost use Rattle.repo_api.specs.Trees.{IsTree};
-ghost use Rattle.repo_api.specs.declared.ask.CommitAsk.{CommitAsk};
+ghost use Rattle.repo_api.specs.{Accepted.Accepted.Commits, Commits.commit_refusal, Soundness.AreSound, States.{IsBeginning, RepoState, tree_of, TxnState}};
+ghost use Rattle.repo_api.specs.{Transactions.IsMarkedTxn, Trees.IsTree, declared.ask.CommitAsk.CommitAsk};
 ghost use Rattle.published.specs.Changes.{IsRight};
 
 /// Shows that an accepted commit of a sound transaction is right.

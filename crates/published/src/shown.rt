@@ -22,11 +22,8 @@ pub struct Published<R: Repository, J: Naming> {
 }
 
 impl<R: Repository, J: Naming> Model for Published<R, J> {
-    ghost use Rattle.std.specs.Prelude.{◌≡◌};
-    ghost use Rattle.std.specs.Coded.{codes};
-    ghost use Rattle.std.specs.FinMap.{code as map_code};
-    ghost use Rattle.published.specs.Events.{state_of};
-    ghost use Rattle.published.specs.Edition.{Edition, edition};
+    ghost use Rattle.std.specs.{Prelude.◌≡◌, Coded.codes, FinMap.code as map_code};
+    ghost use Rattle.published.specs.{Events.state_of, Edition.{Edition, edition}};
 
     ghost Value = { Edition };
 

@@ -1,11 +1,7 @@
 -- How many items there are in all, and which is at a place.
 use Rattle.std.proofs.Common.{◌≡◌, ◌≤◌, ◌<◌, ◌+◌, ◌*◌, ℕ, List, [], ◌∷◌, ◌++◌, length, sym, ap, subst, arith, append-nil, ◌∙◌}
-use Rattle.std.proofs.lemmas.List.{length-append, length-map}
-use Rattle.std.proofs.lemmas.List.Concat.{flat_map-append}
-use Rattle.std.specs.List.{flat_map}
-use Rattle.std.specs.Prelude.{slice_get, slice_set}
-use Rattle.std.specs.declared.sync.Arc.{Arc}
-use Rattle.std.specs.declared.vec.Vec.{Vec}
+use Rattle.std.proofs.{lemmas.List.{length-append, length-map}, lemmas.List.Concat.flat_map-append}
+use Rattle.std.specs.{List.flat_map, Prelude.{slice_get, slice_set}, declared.sync.Arc.Arc, declared.vec.Vec.Vec}
 use Rattle.pvec.specs.Parts.{values, leaf_items, branch_items, AreEven, Each, AreOfEvenLeaves, items_of, IsEven}
 use Rattle.pvec.proofs.Even.{length_even, even_push, each_push, get_left, get_right, set_left, set_right, length_set}
 

@@ -1,10 +1,8 @@
 -- Places in parts of even length.
-use Rattle.std.proofs.Common.{◌≡◌, ◌<◌, ◌+◌, ◌*◌, ◌/◌, ◌%◌, ℕ, zero, suc, List, [], ◌∷◌, ◌++◌, length, Option, Some, None, refl, sym, ap, subst, arith, mul-zero, mul-suc, mul_comm, div-add-mod', mod-lt, option_and_then, ◌∙◌}
-use Rattle.std.proofs.lemmas.List.{length-append}
-use Rattle.std.proofs.lemmas.Nat.{div_below}
+use Rattle.std.proofs.Common.{◌≡◌, ◌<◌, ◌+◌, ◌*◌, ◌/◌, ◌%◌, ℕ, zero, suc, List, [], ◌∷◌, ◌++◌, length, Option, Some, None, refl, sym, ap, subst, arith}
+use Rattle.std.proofs.{Common.{mul-zero, mul-suc, mul_comm, div-add-mod', mod-lt, option_and_then, ◌∙◌}, lemmas.List.length-append, lemmas.Nat.div_below}
 use Rattle.std.proofs.lemmas.Option.{none-some}
-use Rattle.std.specs.List.{flat_map}
-use Rattle.std.specs.Prelude.{slice_get, slice_set}
+use Rattle.std.specs.{List.flat_map, Prelude.{slice_get, slice_set}}
 use Rattle.pvec.specs.Parts.{AreEven, Each}
 
 -- ---- lists

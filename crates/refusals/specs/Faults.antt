@@ -1,9 +1,7 @@
 -- Why a command was not carried out.
 use Rattle.svnpath.specs.declared.fault.PathFault.{PathFault}
 use Rattle.svnpath.specs.declared.fault.PathFault.TheVariants as path_faults
-use Rattle.refusals.specs.Refusing.{path_refusal}
-use Rattle.refusals.specs.declared.Refusal.{Refusal}
-use Rattle.refusals.specs.declared.fault.NotDone.{NotDone}
+use Rattle.refusals.specs.{Refusing.path_refusal, declared.Refusal.Refusal, declared.fault.NotDone.NotDone}
 use Rattle.refusals.specs.declared.fault.NotDone.TheVariants.{Refused, NoMemory}
 
 -- a path or a URL that is invalid is refused

@@ -1,16 +1,11 @@
 -- The accepted changes of a repository, and what they make of it.
 use Rattle.std.specs.Prelude.{◌≡◌, ℕ, true, List, [], ◌∷◌, Option, None, Result, Ok, Err}
 use Rattle.refusals.specs.declared.Refusal.{Refusal}
-use Rattle.repo_api.specs.States.{RepoState, TxnState}
-use Rattle.repo_api.specs.Commits.{commit_refusal, committed}
+use Rattle.repo_api.specs.{States.{RepoState, TxnState}, Commits.{commit_refusal, committed}}
 use Rattle.repo_api.specs.Locking.{HandedTokens, lock_refusal, locked, unlock_refusal, unlocked, releases, without_released}
-use Rattle.repo_api.specs.RevisionProperties.{property_refusal, with_changed_property}
-use Rattle.repo_api.specs.declared.ask.CommitAsk.{CommitAsk}
-use Rattle.repo_api.specs.declared.fault.ChangeFault.{ChangeFault}
-use Rattle.repo_api.specs.declared.lock_ask.LockAsk.{LockAsk}
-use Rattle.repo_api.specs.declared.lock_ask.UnlockAsk.{UnlockAsk}
-use Rattle.repo_api.specs.declared.property_ask.PropertyAsk.{PropertyAsk}
-use Rattle.repo_api.specs.declared.fault.ChangeFault.TheVariants.{Refused, StoreFailed, Halted, NoMemory}
+use Rattle.repo_api.specs.{RevisionProperties.{property_refusal, with_changed_property}, declared.ask.CommitAsk.CommitAsk}
+use Rattle.repo_api.specs.{declared.fault.ChangeFault.ChangeFault, declared.lock_ask.LockAsk.LockAsk, declared.lock_ask.UnlockAsk.UnlockAsk}
+use Rattle.repo_api.specs.{declared.property_ask.PropertyAsk.PropertyAsk, declared.fault.ChangeFault.TheVariants.{Refused, StoreFailed, Halted, NoMemory}}
 
 -- an accepted change, with what was asked; a release with the user and the tokens handed in
 pub data Accepted : Type 0 where

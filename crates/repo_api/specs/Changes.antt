@@ -1,11 +1,8 @@
 -- The changes of a transaction: its edits folded, path by path.
 use Rattle.std.specs.Prelude.{true, false, Option, Some, None, if◌then◌else◌}
-use Rattle.svnpath.specs.Paths.{PathValue, same_path, is_at_or_under}
-use Rattle.repo_api.specs.declared.change.Action.{Action}
-use Rattle.repo_api.specs.declared.change.Action.TheVariants.{Add, Delete as Gone, Replace, Modify}
-use Rattle.repo_api.specs.declared.change.Change.{Change}
-use Rattle.repo_api.specs.declared.change.Source.{Source}
-use Rattle.repo_api.specs.declared.edit.EditOp.{EditOp}
+use Rattle.svnpath.specs.Paths.{is_at_or_under, PathValue, same_path}
+use Rattle.repo_api.specs.{declared.change.Action.Action, declared.change.Action.TheVariants.{Add, Delete as Gone, Replace, Modify}}
+use Rattle.repo_api.specs.{declared.change.Change.Change, declared.change.Source.Source, declared.edit.EditOp.EditOp}
 use Rattle.repo_api.specs.declared.edit.EditOp.TheVariants.{AddDirectory, AddFile, Copy, Replace, Delete, SetProperty, RemoveProperty, SetText}
 
 abbrev pub Changes : Type 0

@@ -1,13 +1,9 @@
 -- What a commit does: it is refused, or adds one revision.
-use Rattle.std.specs.Prelude.{ℕ, List, [], ◌∷◌, ◌++◌, length, Option, Some, None, nat_le, if◌then◌else◌, codes}
-use Rattle.std.specs.Option.{option_or}
+use Rattle.std.specs.{Prelude.{ℕ, List, [], ◌∷◌, ◌++◌, length, Option, Some, None, nat_le, if◌then◌else◌, codes}, Option.option_or}
 use Rattle.refusals.specs.declared.Refusal.{Refusal}
 use Rattle.refusals.specs.declared.Refusal.TheVariants as refusals
-use Rattle.repo_api.specs.Properties.{PropertyList, with_property, without_property}
-use Rattle.repo_api.specs.States.{TreeMap, RepoState, TxnState, tree_at, youngest}
-use Rattle.repo_api.specs.MergedMaps.{has_conflict, merged_map}
-use Rattle.repo_api.specs.Locking.{check_refusal}
-use Rattle.repo_api.specs.declared.limits.TheConstants.{REVISION_LIMIT}
+use Rattle.repo_api.specs.{Properties.{PropertyList, with_property, without_property}, States.{TreeMap, RepoState, TxnState, tree_at, youngest}}
+use Rattle.repo_api.specs.{MergedMaps.{has_conflict, merged_map}, Locking.check_refusal, declared.limits.TheConstants.REVISION_LIMIT}
 use Rattle.repo_api.specs.declared.ask.CommitAsk.{CommitAsk}
 
 -- no number is left for a further revision

@@ -1,10 +1,8 @@
 -- Laws of edits, for the crates above.
 use Rattle.std.proofs.Common.{◌≡◌, Bool, true, false, Option, Some, None, option_map, refl}
 use Rattle.std.specs.Prelude.{if◌then◌else◌, drop, length}
-use Rattle.svnpath.specs.Paths.{PathValue, is_at_or_under}
-use Rattle.repo_api.specs.Edits.{touched, touched_above, deleted, grafted}
-use Rattle.repo_api.specs.Trees.{Tree}
-use Rattle.repo_api.specs.declared.entry.Entry.{Entry}
+use Rattle.svnpath.specs.Paths.{is_at_or_under, PathValue}
+use Rattle.repo_api.specs.{Edits.{touched, touched_above, deleted, grafted}, Trees.Tree, declared.entry.Entry.Entry}
 
 touched_twice : (above : Bool) (o : Option Entry)
     → (if above then option_map touched (if above then option_map touched o else o)

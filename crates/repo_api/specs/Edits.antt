@@ -1,13 +1,8 @@
 -- The edits of a tree. Each opens `own` and `last` at its path, and `last` above it.
 use Rattle.std.specs.Prelude.{ℕ, List, [], ◌∷◌, ◌++◌, Some, None, option_map, if◌then◌else◌, length, drop}
-use Rattle.svnpath.specs.Paths.{PathValue, same_path, is_at_or_under}
-use Rattle.repo_api.specs.Properties.{with_property, without_property}
-use Rattle.repo_api.specs.Trees.{Tree}
-use Rattle.repo_api.specs.declared.entry.Entry.{Entry}
-use Rattle.repo_api.specs.declared.entry.Mark.TheVariants.{Open}
-use Rattle.repo_api.specs.declared.entry.Content.{Content}
-use Rattle.repo_api.specs.declared.entry.Content.TheVariants.{Directory, File}
-use Rattle.repo_api.specs.declared.edit.EditOp.{EditOp}
+use Rattle.svnpath.specs.Paths.{is_at_or_under, PathValue, same_path}
+use Rattle.repo_api.specs.{Properties.{with_property, without_property}, Trees.Tree, declared.entry.Entry.Entry, declared.entry.Mark.TheVariants.Open}
+use Rattle.repo_api.specs.{declared.entry.Content.Content, declared.entry.Content.TheVariants.{Directory, File}, declared.edit.EditOp.EditOp}
 use Rattle.repo_api.specs.declared.edit.EditOp.TheVariants.{AddDirectory, AddFile, Copy, Replace, Delete, SetProperty, RemoveProperty, SetText}
 
 -- the entry after a change beneath it, and after one of its own

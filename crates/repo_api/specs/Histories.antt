@@ -1,9 +1,7 @@
 -- What the revisions of a repository did, by their lists of changes.
-use Rattle.std.specs.Prelude.{◌≡◌, ◌≤◌, ◌<◌, ℕ, true, List, [], Option, Some, None, Contains, slice_get}
-use Rattle.std.specs.FinMap.{entries}
-use Rattle.svnpath.specs.Paths.{PathValue, is_at_or_under}
-use Rattle.repo_api.specs.States.{RepoState, Revision}
-use Rattle.repo_api.specs.declared.change.Change.{Change}
+use Rattle.std.specs.{Prelude.{◌≡◌, ◌≤◌, ◌<◌, ℕ, true, List, [], Option, Some, None, Contains, slice_get}, FinMap.entries}
+use Rattle.svnpath.specs.Paths.{is_at_or_under, PathValue}
+use Rattle.repo_api.specs.{States.{RepoState, Revision}, declared.change.Change.Change}
 
 -- a path with what was done there
 abbrev pub Changed : Type 0

@@ -1,16 +1,9 @@
 -- What stands at a path, seen from outside.
-use Rattle.std.specs.Prelude.{ℕ, Bool, true, false, ◌+◌, ◌&&◌, nat_lt, length, List, [], Option, Some, None, slice_get}
-use Rattle.std.specs.FinMap.{get, keys}
-use Rattle.std.specs.List.{list_any}
-use Rattle.svnpath.specs.Paths.{PathValue, is_at_or_under}
-use Rattle.repo_api.specs.Properties.{PropertyList}
-use Rattle.repo_api.specs.States.{TreeMap, RepoState, TxnState, tree_at}
-use Rattle.repo_api.specs.Trees.{revision_of}
+use Rattle.std.specs.{Prelude.{ℕ, Bool, true, false, ◌+◌, ◌&&◌, nat_lt, length, List, [], Option, Some, None, slice_get}, FinMap.{get, keys}, List.list_any}
+use Rattle.svnpath.specs.Paths.{is_at_or_under, PathValue}
+use Rattle.repo_api.specs.{Properties.PropertyList, States.{TreeMap, RepoState, TxnState, tree_at}, Trees.revision_of, declared.entry.Content.Content}
+use Rattle.repo_api.specs.{declared.entry.Content.TheVariants.{Directory, File}, declared.entry.Entry.Entry, declared.entry.NodeKind.NodeKind}
 pub use Rattle.repo_api.specs.Trees.{content_text, text_of}
-use Rattle.repo_api.specs.declared.entry.Content.{Content}
-use Rattle.repo_api.specs.declared.entry.Content.TheVariants.{Directory, File}
-use Rattle.repo_api.specs.declared.entry.Entry.{Entry}
-use Rattle.repo_api.specs.declared.entry.NodeKind.{NodeKind}
 use Rattle.repo_api.specs.declared.entry.NodeKind.TheVariants as kinds
 
 abbrev pub content_kind : Content → NodeKind

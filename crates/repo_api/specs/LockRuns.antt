@@ -1,11 +1,7 @@
 -- Locks through accepted changes, one after another.
-use Rattle.std.specs.Prelude.{◌≡◌, ◌≢◌, ℕ, Bool, true, false, List, [], ◌∷◌, Some, slice_get}
-use Rattle.std.specs.FinMap.{get}
-use Rattle.std.specs.List.{list_any}
+use Rattle.std.specs.{Prelude.{◌≡◌, ◌≢◌, ℕ, Bool, true, false, List, [], ◌∷◌, Some, slice_get}, FinMap.get, List.list_any}
 use Rattle.svnpath.specs.Paths.{PathValue, same_path}
-use Rattle.repo_api.specs.Accepted.{Accepted, changed}
-use Rattle.repo_api.specs.Accepted.Accepted.{Commits, Locks, Unlocks, Releases, ChangesProperty}
-use Rattle.repo_api.specs.States.{RepoState, LockMap}
+use Rattle.repo_api.specs.{Accepted.{Accepted, changed}, Accepted.Accepted.{Commits, Locks, Unlocks, Releases, ChangesProperty}, States.{RepoState, LockMap}}
 use Rattle.repo_api.specs.declared.lock.Lock.{Lock}
 
 -- the change is of locks

@@ -1,25 +1,15 @@
 -- Locks of paths: which stand in the way of changes, and what refuses a commit, a lock and an
 -- unlock.
 use Rattle.std.specs.Prelude.{ℕ, Bool, true, false, ◌&&◌, not, if◌then◌else◌, nat_le, nat_lt, List, [], ◌∷◌, Option, Some, None}
-use Rattle.std.specs.FinMap.{get, len, entries, insert, remove, retain_keys}
-use Rattle.std.specs.List.{list_any, filter}
-use Rattle.std.specs.Option.{is_none, option_or}
-use Rattle.svnpath.specs.Listings.{listing}
-use Rattle.svnpath.specs.Paths.{PathValue, same_component, same_path, is_at_or_under}
+use Rattle.std.specs.{FinMap.{get, len, entries, insert, remove, retain_keys}, List.{list_any, filter}, Option.{is_none, option_or}}
+use Rattle.svnpath.specs.{Listings.listing, Paths.{is_at_or_under, PathValue, same_component, same_path}}
 use Rattle.refusals.specs.declared.Refusal.{Refusal}
 use Rattle.refusals.specs.declared.Refusal.TheVariants as refusals
-use Rattle.repo_api.specs.Kinds.{kind_at, created_at}
-use Rattle.repo_api.specs.Judging.{is_older}
-use Rattle.repo_api.specs.States.{ChangeMap, LockMap, RepoState, youngest}
-use Rattle.repo_api.specs.declared.change.Action.{Action}
-use Rattle.repo_api.specs.declared.change.Action.TheVariants.{Add, Delete, Replace, Modify}
-use Rattle.repo_api.specs.declared.change.Change.{Change}
-use Rattle.repo_api.specs.declared.entry.NodeKind.{NodeKind}
-use Rattle.repo_api.specs.declared.entry.NodeKind.TheVariants as kinds
-use Rattle.repo_api.specs.declared.limits.TheConstants.{LOCK_LIMIT}
-use Rattle.repo_api.specs.declared.lock.Lock.{Lock}
-use Rattle.repo_api.specs.declared.lock_ask.LockAsk.{LockAsk}
+use Rattle.repo_api.specs.{Kinds.{kind_at, created_at}, Judging.is_older, States.{ChangeMap, LockMap, RepoState, youngest}, declared.change.Action.Action}
+use Rattle.repo_api.specs.{declared.change.Action.TheVariants.{Add, Delete, Replace, Modify}, declared.change.Change.Change, declared.entry.NodeKind.NodeKind}
+use Rattle.repo_api.specs.{declared.limits.TheConstants.LOCK_LIMIT, declared.lock.Lock.Lock, declared.lock_ask.LockAsk.LockAsk}
 use Rattle.repo_api.specs.declared.lock_ask.UnlockAsk.{UnlockAsk}
+use Rattle.repo_api.specs.declared.entry.NodeKind.TheVariants as kinds
 
 -- locks with the paths at which they stand
 abbrev pub LockList : Type 0

@@ -1,14 +1,8 @@
 -- What marks name.
 use Rattle.std.specs.Prelude.{◌≡◌, ◌==◌, ℕ, Bool, true, false, ◌++◌, Option, Some, None, option_map, IsSome, if◌then◌else◌}
-use Rattle.svnpath.specs.Paths.{PathValue, is_at_or_under}
-use Rattle.repo_api.specs.Properties.{PropertyList}
-use Rattle.repo_api.specs.Trees.{Tree, IsTree, is_open_mark}
-use Rattle.repo_api.specs.RightEdits.{IsThere}
-use Rattle.repo_api.specs.Merge.{is_changed, has_open_last, HasNoConflict}
-use Rattle.repo_api.specs.declared.entry.Entry.{Entry}
-use Rattle.repo_api.specs.declared.entry.Mark.{Mark}
-use Rattle.repo_api.specs.declared.entry.Mark.TheVariants.{Made}
-use Rattle.repo_api.specs.declared.entry.Content.{Content}
+use Rattle.svnpath.specs.Paths.{is_at_or_under, PathValue}
+use Rattle.repo_api.specs.{Properties.PropertyList, Trees.{Tree, IsTree, is_open_mark}, RightEdits.IsThere, Merge.{is_changed, has_open_last, HasNoConflict}}
+use Rattle.repo_api.specs.{declared.entry.Entry.Entry, declared.entry.Mark.Mark, declared.entry.Mark.TheVariants.Made, declared.entry.Content.Content}
 use Rattle.repo_api.specs.declared.edit.EditOp.{EditOp}
 use Rattle.repo_api.specs.declared.edit.EditOp.TheVariants.{AddDirectory, AddFile, Copy, Replace, Delete, SetProperty, RemoveProperty, SetText}
 

@@ -1,9 +1,7 @@
 -- A commit, path by path: what conflicts, and the tree that comes out.
 use Rattle.std.specs.Prelude.{◌≡◌, ℕ, Bool, true, false, ◌&&◌, ◌||◌, not, if◌then◌else◌, Option, Some, None, option_map}
 use Rattle.svnpath.specs.Paths.{PathValue}
-use Rattle.repo_api.specs.Trees.{Tree, is_directory, same_mark, is_open_mark}
-use Rattle.repo_api.specs.declared.entry.Entry.{Entry}
-use Rattle.repo_api.specs.declared.entry.Mark.{Mark}
+use Rattle.repo_api.specs.{Trees.{Tree, is_directory, same_mark, is_open_mark}, declared.entry.Entry.Entry, declared.entry.Mark.Mark}
 use Rattle.repo_api.specs.declared.entry.Mark.TheVariants.{Open, Made}
 
 -- the presence or the `last` differs

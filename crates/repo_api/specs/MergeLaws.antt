@@ -1,21 +1,12 @@
 -- Laws of merged maps, for the crates above.
-use Rattle.std.proofs.Common.{◌≡◌, ◌⊎◌, inl, inr, ⊎_elim, ℕ, Bool, true, false, cond, ◌||◌, List, [], ◌∷◌, ◌++◌, Option, Some, None, is_some, option_map, refl, sym, ap, ◌∙◌}
-use Rattle.std.proofs.lemmas.Bool.{false≢true}
-use Rattle.std.proofs.lemmas.List.Elements.{Contains-append_left, Contains-append_right}
-use Rattle.std.proofs.lemmas.List.Folds.{list_any_at}
-use Rattle.std.proofs.lemmas.Map.Views.{list_any-from_Contains, Contains-from_any}
-use Rattle.std.specs.Cmp.{eq_by_cmp_equiv}
-use Rattle.std.specs.FinMap.{get, keys, get-insert, get-empty, contains_key-keys}
-use Rattle.std.specs.List.{list_any}
-use Rattle.std.specs.Ordering.{eq_by_cmp}
+use Rattle.std.proofs.Common.{◌≡◌, ◌⊎◌, inl, inr, ⊎_elim, ℕ, Bool, true, false, cond, ◌||◌, List, [], ◌∷◌, ◌++◌, Option, Some, None, is_some, option_map, refl}
+use Rattle.std.proofs.{Common.{sym, ap, ◌∙◌}, lemmas.Bool.false≢true, lemmas.List.Elements.{Contains-append_left, Contains-append_right}}
+use Rattle.std.proofs.{lemmas.List.Folds.list_any_at, lemmas.Map.Views.{list_any-from_Contains, Contains-from_any}}
+use Rattle.std.specs.{Cmp.eq_by_cmp_equiv, FinMap.{get, keys, get-insert, get-empty, contains_key-keys}, List.list_any, Ordering.eq_by_cmp}
 use Rattle.std.specs.Prelude.{if◌then◌else◌, IsSome, Contains}
-use Rattle.svnpath.specs.Paths.{PathValue, path_cmp, path_cmp_total}
-use Rattle.svnpath.specs.PathLaws.{at_is}
-use Rattle.repo_api.specs.Trees.{Tree}
-use Rattle.repo_api.specs.Merge.{is_in_conflict, is_untouched, changed_beneath, sealed, merged_entry, merged, HasNoConflict}
-use Rattle.repo_api.specs.MergedMaps.{has_conflict, with_entry, map_of, merged_map}
-use Rattle.repo_api.specs.States.{TreeMap, tree_of}
-use Rattle.repo_api.specs.declared.entry.Entry.{Entry}
+use Rattle.svnpath.specs.{PathLaws.at_is, Paths.{path_cmp, path_cmp_total, PathValue}}
+use Rattle.repo_api.specs.{Trees.Tree, Merge.{is_in_conflict, is_untouched, changed_beneath, sealed, merged_entry, merged, HasNoConflict}}
+use Rattle.repo_api.specs.{MergedMaps.{has_conflict, with_entry, map_of, merged_map}, States.{TreeMap, tree_of}, declared.entry.Entry.Entry}
 
 get-with_entry : (m : TreeMap) (t : Tree) (p q : PathValue) (rest : Bool) (o : Option Entry) (b : Bool) → t p ≡ o → eq_by_cmp path_cmp q p ≡ b
     → get m q ≡ (if rest then t q else None)

@@ -1,12 +1,7 @@
 -- A merge of the maps in states.
-use Rattle.std.specs.Prelude.{ℕ, Bool, List, [], ◌∷◌, ◌++◌, Option, Some, None}
-use Rattle.std.specs.List.{list_any}
-use Rattle.std.specs.FinMap.{get, insert, empty, keys}
+use Rattle.std.specs.{Prelude.{ℕ, Bool, List, [], ◌∷◌, ◌++◌, Option, Some, None}, List.list_any, FinMap.{get, insert, empty, keys}}
 use Rattle.svnpath.specs.Paths.{PathValue}
-use Rattle.repo_api.specs.Trees.{Tree}
-use Rattle.repo_api.specs.Merge.{is_in_conflict, merged}
-use Rattle.repo_api.specs.States.{TreeMap, tree_of}
-use Rattle.repo_api.specs.declared.entry.Entry.{Entry}
+use Rattle.repo_api.specs.{Trees.Tree, Merge.{is_in_conflict, merged}, States.{TreeMap, tree_of}, declared.entry.Entry.Entry}
 
 -- some path is in conflict: one of the base or of the transaction
 abbrev pub has_conflict : TreeMap → TreeMap → TreeMap → Bool

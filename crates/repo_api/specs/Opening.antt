@@ -1,9 +1,6 @@
 -- The repository that is new.
-use Rattle.std.specs.Prelude.{ℕ, List, [], ◌∷◌, codes}
-use Rattle.std.specs.FinMap.{from_entries, empty}
-use Rattle.repo_api.specs.States.{TreeMap, RepoState}
-use Rattle.repo_api.specs.declared.entry.Entry.{Entry}
-use Rattle.repo_api.specs.declared.entry.Mark.TheVariants.{Made}
+use Rattle.std.specs.{Prelude.{ℕ, List, [], ◌∷◌, codes}, FinMap.{from_entries, empty}}
+use Rattle.repo_api.specs.{States.{TreeMap, RepoState}, declared.entry.Entry.Entry, declared.entry.Mark.TheVariants.Made}
 use Rattle.repo_api.specs.declared.entry.Content.TheVariants.{Directory}
 
 -- the root of revision 0

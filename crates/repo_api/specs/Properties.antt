@@ -1,9 +1,6 @@
 -- Properties: the pairs of a name and a value, by the names' bytes.
-use Rattle.std.specs.Prelude.{ℕ, ◌==◌, Bool, true, false, List, Option, Some, None}
-use Rattle.std.specs.BTreeMap.{insert_entry, is_at}
-use Rattle.std.specs.Map.{lookup, remove_entry}
-use Rattle.std.specs.Cmp.Lexicographic.{slice_cmp, pointwise}
-use Rattle.std.specs.Ordering.{nat_cmp}
+use Rattle.std.specs.{Prelude.{ℕ, ◌==◌, Bool, true, false, List, Option, Some, None}, BTreeMap.{insert_entry, is_at}, Map.{lookup, remove_entry}}
+use Rattle.std.specs.{Cmp.Lexicographic.{slice_cmp, pointwise}, Ordering.nat_cmp}
 
 abbrev pub PropertyList : Type 0
 PropertyList = List (List ℕ × List ℕ)

@@ -1,8 +1,6 @@
 -- What a directory of a revision shows: the names of its entries.
-use Rattle.std.specs.Prelude.{◌≡◌, ℕ, List, [], ◌∷◌, ◌++◌, length, drop, Option, Some, None, if◌then◌else◌}
-use Rattle.std.specs.FinMap.{keys}
-use Rattle.std.specs.List.{filter_map}
-use Rattle.svnpath.specs.Paths.{PathValue, Component, is_at_or_under}
+use Rattle.std.specs.{Prelude.{◌≡◌, ℕ, List, [], ◌∷◌, ◌++◌, length, drop, Option, Some, None, if◌then◌else◌}, FinMap.keys, List.filter_map}
+use Rattle.svnpath.specs.Paths.{Component, is_at_or_under, PathValue}
 use Rattle.repo_api.specs.States.{TreeMap, RepoState, tree_at, trees_in}
 
 -- the item of a list of one

@@ -1,15 +1,10 @@
 -- A change of a property of a revision.
-use Rattle.std.specs.Prelude.{ℕ, nat_lt, if◌then◌else◌, List, Option, Some, None, slice_set}
-use Rattle.std.specs.Option.{option_or}
+use Rattle.std.specs.{Prelude.{ℕ, nat_lt, if◌then◌else◌, List, Option, Some, None, slice_set}, Option.option_or}
 use Rattle.refusals.specs.declared.Refusal.{Refusal}
 use Rattle.refusals.specs.declared.Refusal.TheVariants as refusals
-use Rattle.repo_api.specs.Kinds.{properties_at}
-use Rattle.repo_api.specs.Properties.{PropertyList, is_same_value, property_value, with_property, without_property}
-use Rattle.repo_api.specs.States.{RepoState, youngest}
-use Rattle.repo_api.specs.Judging.{is_property_name}
-use Rattle.repo_api.specs.declared.property_ask.PreviousValue.{PreviousValue}
-use Rattle.repo_api.specs.declared.property_ask.PreviousValue.TheVariants.{Any, Exactly}
-use Rattle.repo_api.specs.declared.property_ask.PropertyAsk.{PropertyAsk}
+use Rattle.repo_api.specs.{Kinds.properties_at, Properties.{PropertyList, is_same_value, property_value, with_property, without_property}}
+use Rattle.repo_api.specs.{States.{RepoState, youngest}, Judging.is_property_name, declared.property_ask.PreviousValue.PreviousValue}
+use Rattle.repo_api.specs.{declared.property_ask.PreviousValue.TheVariants.{Any, Exactly}, declared.property_ask.PropertyAsk.PropertyAsk}
 
 -- the revision is there
 abbrev pub revision_refusal : ℕ → ℕ → Option Refusal

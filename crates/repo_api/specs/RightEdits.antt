@@ -1,11 +1,7 @@
 -- Which edits may be made of a tree.
 use Rattle.std.specs.Prelude.{◌≡◌, ◌≤◌, ℕ, [], ◌∷◌, ◌++◌, length, None, IsSome}
-use Rattle.svnpath.specs.Components.{IsRightPath}
-use Rattle.svnpath.specs.Paths.{PathValue, Component}
-use Rattle.svnpath.specs.declared.component.TheConstants.{DEPTH_LIMIT}
-use Rattle.repo_api.specs.Trees.{Tree, HasDirectory, HasFile}
-use Rattle.repo_api.specs.declared.limits.TheConstants.{TEXT_LIMIT}
-use Rattle.repo_api.specs.declared.change.Source.{Source}
+use Rattle.svnpath.specs.{Components.IsRightPath, Paths.{Component, PathValue}, declared.component.TheConstants.DEPTH_LIMIT}
+use Rattle.repo_api.specs.{Trees.{Tree, HasDirectory, HasFile}, declared.limits.TheConstants.TEXT_LIMIT, declared.change.Source.Source}
 use Rattle.repo_api.specs.declared.edit.EditOp.{EditOp}
 use Rattle.repo_api.specs.declared.edit.EditOp.TheVariants.{AddDirectory, AddFile, Copy, Replace, Delete, SetProperty, RemoveProperty, SetText}
 

@@ -1,8 +1,6 @@
 -- Revisions whose trees are sound.
 use Rattle.std.specs.Prelude.{List, [], ◌∷◌}
-use Rattle.repo_api.specs.Trees.{IsTree}
-use Rattle.repo_api.specs.Marks.{AreMarked}
-use Rattle.repo_api.specs.States.{Revision, tree_of, trees_in}
+use Rattle.repo_api.specs.{Trees.IsTree, Marks.AreMarked, States.{Revision, tree_of, trees_in}}
 
 -- each revision's tree is a tree
 abbrev pub AreTrees : List Revision → Type 0

@@ -1,16 +1,10 @@
 -- Laws of the maps in a state, for the crates above.
-use Rattle.std.proofs.Common.{◌≡◌, true, ◌&&◌, cond, List, [], ◌∷◌, Some, refl, sym, ap, subst, ◌∙◌}
-use Rattle.std.proofs.lemmas.Map.Keys.{sorted_head, sorted_tail}
-use Rattle.std.specs.BTreeMap.{is_at}
-use Rattle.std.specs.List.{AllByRecursion}
-use Rattle.std.specs.List.Sorted.{IsStrictlySortedBy}
-use Rattle.std.specs.Map.{lookup, keys_of}
-use Rattle.std.specs.Ordering.{is_lt}
-use Rattle.std.specs.Prelude.{T}
+use Rattle.std.proofs.{Common.{◌≡◌, true, ◌&&◌, cond, List, [], ◌∷◌, Some, refl, sym, ap, subst, ◌∙◌}, lemmas.Map.Keys.{sorted_head, sorted_tail}}
+use Rattle.std.specs.{BTreeMap.is_at, List.AllByRecursion, List.Sorted.IsStrictlySortedBy, Map.{lookup, keys_of}, Ordering.is_lt, Prelude.T}
 use Rattle.std.specs.declared.cmp.Ordering.TheVariants.{Less}
 use Rattle.std.specs.FinMap.{FinMap, get, entries, from_entries, find, entries_sorted, get-from_entries, get-entries, same_map}
 use Rattle.std.specs.FinMap.Entries.{is_sorted, below_all, same_entries}
-use Rattle.svnpath.specs.Paths.{PathValue, path_cmp, path_cmp_total, path_cmp-IsAntisymmetric}
+use Rattle.svnpath.specs.Paths.{path_cmp, path_cmp-IsAntisymmetric, path_cmp_total, PathValue}
 use Rattle.repo_api.specs.States.{TreeMap, ChangeMap}
 
 -- maps that have the same at each path are one

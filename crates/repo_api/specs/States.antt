@@ -1,15 +1,8 @@
 -- What a repository contains, and what a transaction is.
-use Rattle.std.specs.Prelude.{◌≡◌, ℕ, ◌-◌, List, ◌++◌, Option, Some, None, length, slice_get}
-use Rattle.std.specs.FinMap.{FinMap, get, empty}
-use Rattle.svnpath.specs.Paths.{PathValue, path_cmp}
-use Rattle.repo_api.specs.Properties.{PropertyList}
-use Rattle.repo_api.specs.Trees.{Tree}
-use Rattle.repo_api.specs.Changes.{Changes, changes_after}
-use Rattle.repo_api.specs.Edits.{edited, begun}
-use Rattle.repo_api.specs.declared.entry.Entry.{Entry}
-use Rattle.repo_api.specs.declared.change.Change.{Change}
-use Rattle.repo_api.specs.declared.edit.EditOp.{EditOp}
-use Rattle.repo_api.specs.declared.lock.Lock.{Lock}
+use Rattle.std.specs.{Prelude.{◌≡◌, ℕ, ◌-◌, List, ◌++◌, Option, Some, None, length, slice_get}, FinMap.{FinMap, get, empty}}
+use Rattle.svnpath.specs.Paths.{path_cmp, PathValue}
+use Rattle.repo_api.specs.{Properties.PropertyList, Trees.Tree, Changes.{Changes, changes_after}, Edits.{edited, begun}, declared.entry.Entry.Entry}
+use Rattle.repo_api.specs.{declared.change.Change.Change, declared.edit.EditOp.EditOp, declared.lock.Lock.Lock}
 
 -- the entries of a tree, the changes of a revision and the locks, by their paths
 abbrev pub TreeMap : Type 0

@@ -1,7 +1,5 @@
 -- What is known of an open transaction.
-use Rattle.repo_api.specs.Trees.{IsTree}
-use Rattle.repo_api.specs.Marks.{IsTransactionOf}
-use Rattle.repo_api.specs.States.{TxnState, tree_of, trees_in}
+use Rattle.repo_api.specs.{Trees.IsTree, Marks.IsTransactionOf, States.{TxnState, tree_of, trees_in}}
 
 -- among the revisions that it was last shown: its base is one of them, and its marks name what they
 -- mark

@@ -1,13 +1,9 @@
 -- Trees: what stands at each path.
-use Rattle.std.specs.Prelude.{◌≡◌, ◌==◌, ◌≤◌, ℕ, Bool, true, false, not, ◌&&◌, List, [], ◌∷◌, ◌++◌, length, Option, Some, None, IsSome, IsSomeAnd, IsTrue, Contains}
-use Rattle.svnpath.specs.Components.{IsRightPath}
-use Rattle.svnpath.specs.Paths.{PathValue, Component, same_path}
-use Rattle.repo_api.specs.declared.limits.TheConstants.{TEXT_LIMIT}
-use Rattle.repo_api.specs.declared.entry.Entry.{Entry}
-use Rattle.repo_api.specs.declared.entry.Mark.{Mark}
-use Rattle.repo_api.specs.declared.entry.Mark.TheVariants.{Open, Made}
-use Rattle.repo_api.specs.declared.entry.Content.{Content}
-use Rattle.repo_api.specs.declared.entry.Content.TheVariants.{Directory, File}
+use Rattle.std.specs.Prelude.{◌≡◌, ◌==◌, ◌≤◌, ℕ, Bool, true, false, not, ◌&&◌, List, [], ◌∷◌, ◌++◌, length, Option, Some, None, IsSome, IsSomeAnd, IsTrue}
+use Rattle.std.specs.Prelude.{Contains}
+use Rattle.svnpath.specs.{Components.IsRightPath, Paths.{Component, PathValue, same_path}}
+use Rattle.repo_api.specs.{declared.limits.TheConstants.TEXT_LIMIT, declared.entry.Entry.Entry, declared.entry.Mark.Mark}
+use Rattle.repo_api.specs.{declared.entry.Mark.TheVariants.{Open, Made}, declared.entry.Content.Content, declared.entry.Content.TheVariants.{Directory, File}}
 
 -- the entry at each path that has one
 abbrev pub Tree : Type 0

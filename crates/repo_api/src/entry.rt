@@ -1,8 +1,7 @@
 //! An entry of a tree.
 ghost use Rattle.std.specs.Prelude.{◌≡◌, Option, is_some};
 ghost use Rattle.repo_api.specs.Kinds.{content_kind, is_directory_kind, is_file_kind, is_present, kind_of};
-ghost use Rattle.repo_api.specs.Trees.{same_mark, is_open_mark, is_directory, is_directory_there, is_file_there};
-ghost use Rattle.repo_api.specs.declared.entry.Entry.{Entry};
+ghost use Rattle.repo_api.specs.{Trees.{same_mark, is_open_mark, is_directory, is_directory_there, is_file_there}, declared.entry.Entry.Entry};
 
 use crate::file_text::FileText;
 use crate::properties::Properties;

@@ -1,11 +1,8 @@
 //! A repository, by what it contains.
-ghost use Rattle.std.specs.Prelude.{◌≡◌, ◌≤◌, ◌<◌, true, length, map, IfOk, OnOk, OnErr, None, Some, option_copied, slice_get};
-ghost use Rattle.std.specs.FinMap.{get};
+ghost use Rattle.std.specs.{Prelude.{◌≡◌, ◌≤◌, ◌<◌, true, length, map, IfOk, OnOk, OnErr, None, Some, option_copied, slice_get}, FinMap.get};
 ghost use Rattle.std.specs.Map.Iter.{deref, deref_pair};
 ghost use Rattle.repo_api.specs.States.{RepoState, TxnState, IsBeginning, IsBegun, IsEdited, tree_of, trees_in, youngest};
-ghost use Rattle.repo_api.specs.RevisionProperties.{property_refusal, with_changed_property};
-ghost use Rattle.repo_api.specs.RightEdits.{IsRightEdit};
-ghost use Rattle.repo_api.specs.Commits.{commit_refusal, committed};
+ghost use Rattle.repo_api.specs.{RevisionProperties.{property_refusal, with_changed_property}, RightEdits.IsRightEdit, Commits.{commit_refusal, committed}};
 ghost use Rattle.repo_api.specs.Accepted.{IfRefused, IsOfMemory};
 ghost use Rattle.repo_api.specs.Locking.{at_or_under, lock_refusal, locked, unlock_refusal, unlocked, releases, without_released};
 ghost use Rattle.repo_api.specs.Histories.{history_of, IsQuietSince};
@@ -183,8 +180,7 @@ pub trait Repository: Drop {
         ensures accepted { OnOk result (property_refusal (content self.old) ask ≡ None) }
         ensures ok { OnOk result (content self.new
             ≡ with_changed_property (content self.old) ask.revision ask.name ask.value) }
-        ensures refused { IfRefused result (λ r. property_refusal (content self.old) ask
-            ≡ Some r) }
+        ensures refused { IfRefused result (λ r. property_refusal (content self.old) ask ≡ Some r) }
         ensures memory { IsOfMemory result }
         ensures err { OnErr result (content self.new ≡ content self.old) };
 

@@ -1,19 +1,13 @@
 -- A commit while nobody else commits.
-use Rattle.std.proofs.Common.{◌≡◌, ℕ, Bool, true, false, ◌&&◌, not, Option, Some, None, option_map, is_some, refl, sym, ap, ◌∙◌}
-use Rattle.std.proofs.lemmas.Bool.{false≢true}
+use Rattle.std.proofs.{Common.{◌≡◌, ℕ, Bool, true, false, ◌&&◌, not, Option, Some, None, option_map, is_some, refl, sym, ap, ◌∙◌}, lemmas.Bool.false≢true}
 use Rattle.std.specs.Prelude.{if◌then◌else◌, IsSome}
 use Rattle.svnpath.specs.Paths.{PathValue}
-use Rattle.repo_api.specs.Properties.{PropertyList}
-use Rattle.repo_api.specs.Trees.{Tree, is_open_mark}
-use Rattle.repo_api.specs.Merge.{sealed, is_changed, is_one_directory, is_untouched, has_open_last, changed_beneath, merged, HasNoConflict}
-use Rattle.repo_api.specs.Marks.{shown, own_of, last_of, has_open_own, MeetWell}
-use Rattle.repo_api.specs.declared.entry.Entry.{Entry}
-use Rattle.repo_api.specs.declared.entry.Content.{Content}
-use Rattle.repo_api.specs.declared.entry.Mark.{Mark}
-use Rattle.repo_api.specs.declared.entry.Mark.TheVariants.{Made}
-use Rattle.repo_laws.proofs.Edited.{changed_refl}
-use Rattle.repo_laws.proofs.Merged.{merged_if, to_txn, here, left_unchanged, sealed_shut, sealed_shown, sealed_own_shut, sealed_last_open, joined_left, joined_shown, joined_own}
-use Rattle.repo_laws.proofs.MergeLaws.{untouched_own, same_look}
+use Rattle.repo_api.specs.Marks.{has_open_own, last_of, MeetWell, own_of, shown}
+use Rattle.repo_api.specs.Merge.{changed_beneath, has_open_last, HasNoConflict, is_changed, is_one_directory, is_untouched, merged, sealed}
+use Rattle.repo_api.specs.{Properties.PropertyList, Trees.{is_open_mark, Tree}, declared.entry.Entry.Entry, declared.entry.Content.Content}
+use Rattle.repo_api.specs.{declared.entry.Mark.Mark, declared.entry.Mark.TheVariants.Made}
+use Rattle.repo_laws.proofs.{Edited.changed_refl, Merged.{merged_if, to_txn, here, left_unchanged, sealed_shut, sealed_shown, sealed_own_shut}}
+use Rattle.repo_laws.proofs.{Merged.{sealed_last_open, joined_left, joined_shown, joined_own}, MergeLaws.{untouched_own, same_look}}
 
 never_both : (b c d : Bool) → c ≡ false → ((b && c) && d) ≡ false
 never_both true c d h = ap (λ x. x && d) h

@@ -1,17 +1,13 @@
 -- A copy makes a tree.
-use Rattle.std.proofs.Common.{◌≡◌, ◌<◌, ◌≤◌, ◌⊎◌, inl, inr, ℕ, Bool, true, false, List, [], ◌∷◌, ◌++◌, length, drop, map, None, refl, sym, ap, subst, append_assoc, append-nil, ◌∙◌}
-use Rattle.std.proofs.lemmas.Bool.{false≢true}
-use Rattle.std.proofs.lemmas.List.{length-map, get_or-map}
+use Rattle.std.proofs.Common.{◌≡◌, ◌<◌, ◌≤◌, ◌⊎◌, inl, inr, ℕ, Bool, true, false, List, [], ◌∷◌, ◌++◌, length, drop, map, None, refl, sym, ap, subst}
+use Rattle.std.proofs.{Common.{append_assoc, append-nil, ◌∙◌}, lemmas.Bool.false≢true, lemmas.List.{length-map, get_or-map}}
 use Rattle.std.proofs.lemmas.List.Elements.{Contains-append_left, Contains-append_right, All-append, All-drop}
 use Rattle.std.specs.Prelude.{if◌then◌else◌, IsSome, Contains, All}
-use Rattle.svnpath.specs.Components.{IsComponent, IsRightPath}
-use Rattle.svnpath.specs.Paths.{PathValue, Component, is_at_or_under}
-use Rattle.svnpath.specs.PathLaws.{under_is, under_append, rest_append}
+use Rattle.svnpath.specs.{Components.{IsComponent, IsRightPath}, PathLaws.{rest_append, under_append, under_is}, Paths.{Component, is_at_or_under, PathValue}}
 use Rattle.svnpath.specs.declared.component.TheConstants.{DEPTH_LIMIT}
-use Rattle.repo_api.specs.Trees.{Tree, IsTree, HasDirectory, text_of}
-use Rattle.repo_api.specs.Edits.{with_open_mark, touched_above, grafted, deleted, copy_of, copied}
-use Rattle.repo_laws.proofs.Keeping.{IsDirectoryAt, renewed_directory, some_renewed, touched_directory, some_touched, text_touched, text_renewed, IsShort, no_text, root_outside, parent_outside, same_parent, deleted_tree}
-use Rattle.repo_laws.proofs.Under.{not_true, under_by, head_or, tail_of}
+use Rattle.repo_api.specs.{Edits.{copied, copy_of, deleted, grafted, touched_above, with_open_mark}, Trees.{HasDirectory, IsTree, text_of, Tree}}
+use Rattle.repo_laws.proofs.Keeping.{IsDirectoryAt, renewed_directory, some_renewed, touched_directory, some_touched, text_touched, text_renewed, IsShort}
+use Rattle.repo_laws.proofs.{Keeping.{no_text, root_outside, parent_outside, same_parent, deleted_tree}, Under.{not_true, under_by, head_or, tail_of}}
 
 -- what begins the path of an entry begins its directory's path, or is the entry's path
 beneath_or_at : (p q rest : PathValue) (c : Component) → q ++ c ∷ [] ≡ p ++ rest → (is_at_or_under q p ≡ true) ⊎ (q ++ c ∷ [] ≡ p)

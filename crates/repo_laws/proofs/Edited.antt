@@ -1,19 +1,13 @@
 -- What edits make of marks.
-use Rattle.std.proofs.Common.{◌≡◌, ℕ, Bool, true, false, [], ◌∷◌, ◌++◌, length, drop, Option, Some, None, option_map, is_some, refl, sym, ap, subst, append_assoc, append-nil, ◌∙◌}
-use Rattle.std.proofs.lemmas.Bool.{false≢true}
+use Rattle.std.proofs.Common.{◌≡◌, ℕ, Bool, true, false, [], ◌∷◌, ◌++◌, length, drop, Option, Some, None, option_map, is_some, refl, sym, ap, subst}
+use Rattle.std.proofs.{Common.{append_assoc, append-nil, ◌∙◌}, lemmas.Bool.false≢true}
 use Rattle.std.specs.Prelude.{if◌then◌else◌, IsSome, not}
-use Rattle.svnpath.specs.Paths.{PathValue, same_path, is_at_or_under}
-use Rattle.svnpath.specs.PathLaws.{under_is, under_append, rest_append}
-use Rattle.repo_api.specs.Trees.{Tree, is_open_mark}
-use Rattle.repo_api.specs.Edits.{touched, with_open_mark, touched_above, new_entry, added, revised, grafted, deleted, copy_of, copied, begun}
-use Rattle.repo_api.specs.Merge.{is_changed, has_open_last}
-use Rattle.repo_api.specs.Marks.{shown, own_of, last_of, has_open_own, MarksName, IsClosed, IsTransactionOf}
-use Rattle.repo_api.specs.declared.entry.Entry.{Entry}
-use Rattle.repo_api.specs.declared.entry.Mark.{Mark}
-use Rattle.repo_api.specs.declared.entry.Mark.TheVariants.{Open, Made}
+use Rattle.svnpath.specs.{PathLaws.{rest_append, under_append, under_is}, Paths.{is_at_or_under, PathValue, same_path}}
+use Rattle.repo_api.specs.Edits.{added, begun, copied, copy_of, deleted, grafted, new_entry, revised, touched, touched_above, with_open_mark}
+use Rattle.repo_api.specs.{Marks.{has_open_own, IsClosed, IsTransactionOf, last_of, MarksName, own_of, shown}, Merge.{has_open_last, is_changed}}
+use Rattle.repo_api.specs.{Trees.{is_open_mark, Tree}, declared.entry.Entry.Entry, declared.entry.Mark.Mark, declared.entry.Mark.TheVariants.{Open, Made}}
 use Rattle.repo_api.specs.declared.entry.Content.{Content}
-use Rattle.repo_laws.proofs.Naming.{same_mark_refl}
-use Rattle.repo_laws.proofs.Under.{under_through, not_above_beneath, not_same, apart_beneath, not_true}
+use Rattle.repo_laws.proofs.{Naming.same_mark_refl, Under.{under_through, not_above_beneath, not_same, apart_beneath, not_true}}
 
 -- ---- one entry
 

@@ -1,18 +1,12 @@
 -- What keeps a tree a tree.
-use Rattle.std.proofs.Common.{◌≡◌, ◌≤◌, ℕ, Bool, true, false, List, [], ◌∷◌, ◌++◌, drop, length, Option, Some, None, option_map, is_some, refl, sym, ap, subst, append_assoc, arith, lit≤, ◌∙◌}
-use Rattle.std.proofs.lemmas.Bool.{false≢true}
-use Rattle.std.proofs.lemmas.List.Elements.{Contains-get_or, Contains-append_right}
-use Rattle.std.specs.Prelude.{if◌then◌else◌, IsSome, IsSomeAnd, IsTrue, Contains}
-use Rattle.std.specs.Option.{unwrap_or}
-use Rattle.svnpath.specs.Components.{IsRightPath}
-use Rattle.svnpath.specs.Paths.{PathValue, Component, same_path, is_at_or_under}
-use Rattle.svnpath.specs.PathLaws.{same_path_is, under_is, under_append, parent_child}
-use Rattle.svnpath.specs.Texts.{parent}
-use Rattle.repo_api.specs.Trees.{Tree, IsTree, HasDirectory, HasFile, is_directory, is_directory_content, content_text, text_of}
-use Rattle.repo_api.specs.Edits.{touched, with_open_mark, touched_above, new_entry, added, revised, with_text, deleted}
-use Rattle.repo_api.specs.declared.limits.TheConstants.{TEXT_LIMIT}
-use Rattle.repo_api.specs.declared.entry.Entry.{Entry}
-use Rattle.repo_api.specs.declared.entry.Content.{Content}
+use Rattle.std.proofs.Common.{◌≡◌, ◌≤◌, ℕ, Bool, true, false, List, [], ◌∷◌, ◌++◌, drop, length, Option, Some, None, option_map, is_some, refl, sym, ap, subst}
+use Rattle.std.proofs.{Common.{append_assoc, arith, lit≤, ◌∙◌}, lemmas.Bool.false≢true, lemmas.List.Elements.{Contains-get_or, Contains-append_right}}
+use Rattle.std.specs.{Prelude.{if◌then◌else◌, IsSome, IsSomeAnd, IsTrue, Contains}, Option.unwrap_or}
+use Rattle.svnpath.specs.{Components.IsRightPath, PathLaws.{parent_child, same_path_is, under_append, under_is}}
+use Rattle.svnpath.specs.{Paths.{Component, is_at_or_under, PathValue, same_path}, Texts.parent}
+use Rattle.repo_api.specs.Edits.{added, deleted, new_entry, revised, touched, touched_above, with_open_mark, with_text}
+use Rattle.repo_api.specs.Trees.{content_text, HasDirectory, HasFile, is_directory, is_directory_content, IsTree, text_of, Tree}
+use Rattle.repo_api.specs.{declared.limits.TheConstants.TEXT_LIMIT, declared.entry.Entry.Entry, declared.entry.Content.Content}
 use Rattle.repo_api.specs.declared.entry.Content.TheVariants.{Directory, File}
 
 abbrev pub IsDirectoryAt : Option Entry → Type 0

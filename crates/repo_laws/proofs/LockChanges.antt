@@ -1,12 +1,8 @@
 -- What a change of locks, and one of a property of a revision, leave as it was.
-use Rattle.std.proofs.Common.{◌≡◌, ◌≢◌, ℕ, zero, suc, true, List, [], ◌∷◌, refl, ap}
-use Rattle.std.proofs.lemmas.Bool.{false≢true}
-use Rattle.repo_api.specs.Accepted.{Accepted, changed}
-use Rattle.repo_api.specs.Accepted.Accepted.{Commits, Locks, Unlocks, Releases, ChangesProperty}
-use Rattle.repo_api.specs.LockRuns.{is_of_locks, HasSameRevisions, HasSameOtherwise}
-use Rattle.repo_api.specs.declared.property_ask.PropertyAsk.{PropertyAsk}
+use Rattle.std.proofs.{Common.{◌≡◌, ◌≢◌, ℕ, zero, suc, true, List, [], ◌∷◌, refl, ap}, lemmas.Bool.false≢true}
+use Rattle.repo_api.specs.{Accepted.{Accepted, changed}, Accepted.Accepted.{ChangesProperty, Commits, Locks, Releases, Unlocks}}
+use Rattle.repo_api.specs.{LockRuns.{HasSameOtherwise, HasSameRevisions, is_of_locks}, States.RepoState, declared.property_ask.PropertyAsk.PropertyAsk}
 use Rattle.std.specs.Prelude.{slice_get, slice_set}
-use Rattle.repo_api.specs.States.{RepoState}
 
 pub same_revisions : (c : RepoState) (e : Accepted) → is_of_locks e ≡ true → HasSameRevisions c (changed c e)
 same_revisions c (Commits ask t) h = absurd (false≢true h)

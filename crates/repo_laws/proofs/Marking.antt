@@ -1,19 +1,14 @@
 -- Marks name what they mark, whatever is done.
-use Rattle.std.proofs.Common.{◌≡◌, ℕ, Bool, true, false, [], Option, Some, None, is_some, refl, sym, ap, subst, ◌∙◌}
-use Rattle.std.proofs.lemmas.Bool.{false≢true, eqb-true}
+use Rattle.std.proofs.{Common.{◌≡◌, ℕ, Bool, true, false, [], Option, Some, None, is_some, refl, sym, ap, subst, ◌∙◌}, lemmas.Bool.{false≢true, eqb-true}}
 use Rattle.std.proofs.lemmas.Cmp.{nat_eq_equiv}
 use Rattle.std.specs.Prelude.{if◌then◌else◌, IsSome, ◌==◌}
 use Rattle.svnpath.specs.Paths.{PathValue}
-use Rattle.repo_api.specs.Trees.{Tree, IsTree, HasDirectory}
-use Rattle.repo_api.specs.Edits.{edited, deleted, with_value, without_value, with_text}
-use Rattle.repo_api.specs.Merge.{merged}
-use Rattle.repo_api.specs.Marks.{MarksName, IsClosed, AreMarked, IsTransactionOf, MeetWell, KeepsTrees, IsFree, with_tree, HasSource}
-use Rattle.repo_api.specs.declared.entry.Entry.{Entry}
-use Rattle.repo_api.specs.declared.entry.Content.TheVariants as contents
-use Rattle.repo_api.specs.declared.edit.EditOp.{EditOp}
+use Rattle.repo_api.specs.Edits.{deleted, edited, with_text, with_value, without_value}
+use Rattle.repo_api.specs.{Marks.{AreMarked, HasSource, IsClosed, IsFree, IsTransactionOf, KeepsTrees, MarksName, MeetWell, with_tree}, Merge.merged}
+use Rattle.repo_api.specs.{Trees.{HasDirectory, IsTree, Tree}, declared.entry.Entry.Entry, declared.edit.EditOp.EditOp}
 use Rattle.repo_api.specs.declared.edit.EditOp.TheVariants.{AddDirectory, AddFile, Copy, Replace, Delete, SetProperty, RemoveProperty, SetText}
-use Rattle.repo_laws.proofs.Naming.{named_later}
-use Rattle.repo_laws.proofs.Merged.{merged_named, merged_closed}
+use Rattle.repo_api.specs.declared.entry.Content.TheVariants as contents
+use Rattle.repo_laws.proofs.{Naming.named_later, Merged.{merged_named, merged_closed}}
 use Rattle.repo_laws.proofs.Edited.{added_transaction, revised_transaction, deleted_transaction, copied_transaction}
 
 none_or_some : (o : Option Entry) → o ≡ None → IsSome o → ⊥

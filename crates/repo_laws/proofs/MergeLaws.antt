@@ -1,22 +1,16 @@
 -- What a merge keeps.
-use Rattle.std.proofs.Common.{◌≡◌, ◌≤◌, ◌⊎◌, inl, inr, ℕ, Bool, true, false, not, ◌&&◌, ◌||◌, [], ◌∷◌, ◌++◌, length, Option, Some, None, option_map, is_some, refl, sym, ap, subst, ◌∙◌}
-use Rattle.std.proofs.lemmas.Bool.{false≢true}
-use Rattle.std.proofs.lemmas.List.Elements.{Contains-append_left, Contains-append_right}
+use Rattle.std.proofs.Common.{◌≡◌, ◌≤◌, ◌⊎◌, inl, inr, ℕ, Bool, true, false, not, ◌&&◌, ◌||◌, [], ◌∷◌, ◌++◌, length, Option, Some, None, option_map, is_some}
+use Rattle.std.proofs.{Common.{refl, sym, ap, subst, ◌∙◌}, lemmas.Bool.false≢true, lemmas.List.Elements.{Contains-append_left, Contains-append_right}}
 use Rattle.std.specs.Prelude.{if◌then◌else◌, IsSome, Contains}
-use Rattle.svnpath.specs.Components.{IsRightPath}
-use Rattle.svnpath.specs.Paths.{PathValue, Component}
-use Rattle.repo_api.specs.Properties.{PropertyList}
-use Rattle.repo_api.specs.Trees.{Tree, IsTree, HasDirectory, is_directory, is_directory_content, text_of, same_mark, is_open_mark}
-use Rattle.repo_api.specs.Merge.{sealed, is_changed, is_one_directory, is_untouched, has_open_last, changed_beneath, merged}
-use Rattle.repo_api.specs.Marks.{shown, own_of, has_open_own, MarksName, MeetWell}
-use Rattle.repo_api.specs.declared.entry.Entry.{Entry}
-use Rattle.repo_api.specs.declared.entry.Mark.{Mark}
-use Rattle.repo_api.specs.declared.entry.Mark.TheVariants.{Open, Made}
-use Rattle.repo_api.specs.declared.entry.Content.{Content}
+use Rattle.svnpath.specs.{Components.IsRightPath, Paths.{Component, PathValue}}
+use Rattle.repo_api.specs.Marks.{has_open_own, MarksName, MeetWell, own_of, shown}
+use Rattle.repo_api.specs.{Merge.{changed_beneath, has_open_last, is_changed, is_one_directory, is_untouched, merged, sealed}, Properties.PropertyList}
+use Rattle.repo_api.specs.{Trees.{HasDirectory, is_directory, is_directory_content, is_open_mark, IsTree, same_mark, text_of, Tree}, declared.entry.Entry.Entry}
+use Rattle.repo_api.specs.{declared.entry.Mark.Mark, declared.entry.Mark.TheVariants.{Open, Made}, declared.entry.Content.Content}
 use Rattle.repo_api.specs.declared.limits.TheConstants.{TEXT_LIMIT}
-use Rattle.repo_laws.proofs.Keeping.{IsDirectoryAt, IsShort, renewed_directory, some_renewed, text_renewed}
-use Rattle.repo_laws.proofs.Naming.{same_mark_is, one_look}
-use Rattle.repo_laws.proofs.Merged.{untouched_refl, merged_if, same_is_theirs, to_txn, to_youngest, here, touched_changed, sealed_own_shut, sealed_shown, joined_own, joined_shown}
+use Rattle.repo_laws.proofs.{Keeping.{IsDirectoryAt, IsShort, renewed_directory, some_renewed, text_renewed}, Naming.{same_mark_is, one_look}}
+use Rattle.repo_laws.proofs.Merged.{untouched_refl, merged_if, same_is_theirs, to_txn, to_youngest, here, touched_changed, sealed_own_shut, sealed_shown}
+use Rattle.repo_laws.proofs.Merged.{joined_own, joined_shown}
 
 -- ---- one entry
 

@@ -1,14 +1,11 @@
 -- What a merge makes of marks.
-use Rattle.std.proofs.Common.{◌≡◌, ℕ, Bool, true, false, not, ◌&&◌, ◌||◌, [], ◌++◌, length, drop, Option, Some, None, option_map, is_some, refl, sym, ap, subst, append_assoc, append-nil, ◌∙◌}
-use Rattle.std.proofs.lemmas.Bool.{false≢true}
+use Rattle.std.proofs.Common.{◌≡◌, ℕ, Bool, true, false, not, ◌&&◌, ◌||◌, [], ◌++◌, length, drop, Option, Some, None, option_map, is_some, refl, sym, ap, subst}
+use Rattle.std.proofs.{Common.{append_assoc, append-nil, ◌∙◌}, lemmas.Bool.false≢true}
 use Rattle.std.specs.Prelude.{if◌then◌else◌}
-use Rattle.svnpath.specs.Paths.{PathValue, is_at_or_under}
-use Rattle.svnpath.specs.PathLaws.{under_is}
-use Rattle.repo_api.specs.Trees.{Tree, is_directory, same_mark, is_open_mark}
-use Rattle.repo_api.specs.Merge.{closed, sealed, is_changed, is_one_directory, is_in_conflict, is_untouched, has_open_last, changed_beneath, merged}
-use Rattle.repo_api.specs.Marks.{shown, own_of, last_of, has_open_own, MarksName, IsClosed, MeetWell, KeepsTrees}
-use Rattle.repo_api.specs.declared.entry.Entry.{Entry}
-use Rattle.repo_api.specs.declared.entry.Mark.{Mark}
+use Rattle.svnpath.specs.{PathLaws.under_is, Paths.{is_at_or_under, PathValue}}
+use Rattle.repo_api.specs.Marks.{has_open_own, IsClosed, KeepsTrees, last_of, MarksName, MeetWell, own_of, shown}
+use Rattle.repo_api.specs.Merge.{changed_beneath, closed, has_open_last, is_changed, is_in_conflict, is_one_directory, is_untouched, merged, sealed}
+use Rattle.repo_api.specs.{Trees.{is_directory, is_open_mark, same_mark, Tree}, declared.entry.Entry.Entry, declared.entry.Mark.Mark}
 use Rattle.repo_api.specs.declared.entry.Mark.TheVariants.{Open, Made}
 use Rattle.repo_laws.proofs.Naming.{same_mark_refl, unchanged_is, named_later}
 

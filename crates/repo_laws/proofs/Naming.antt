@@ -1,15 +1,10 @@
 -- What a mark names is the same wherever the mark stands.
-use Rattle.std.proofs.Common.{◌≡◌, ℕ, Bool, true, false, not, ◌&&◌, [], ◌∷◌, ◌++◌, Option, Some, None, is_some, refl, sym, ap, subst, append_assoc, append-nil, ◌∙◌}
-use Rattle.std.proofs.lemmas.Bool.{false≢true, eqb-true}
-use Rattle.std.proofs.lemmas.Cmp.{nat_eq_equiv}
+use Rattle.std.proofs.Common.{◌≡◌, ℕ, Bool, true, false, not, ◌&&◌, [], ◌∷◌, ◌++◌, Option, Some, None, is_some, refl, sym, ap, subst, append_assoc, append-nil}
+use Rattle.std.proofs.{Common.◌∙◌, lemmas.Bool.{false≢true, eqb-true}, lemmas.Cmp.nat_eq_equiv}
 use Rattle.std.specs.Prelude.{IsSome, IsSomeAnd, IsTrue, ◌==◌}
-use Rattle.svnpath.specs.Paths.{PathValue, same_path}
-use Rattle.svnpath.specs.PathLaws.{same_path_is, same_path_refl}
-use Rattle.repo_api.specs.Trees.{Tree, IsTree, is_directory, same_mark, is_open_mark}
-use Rattle.repo_api.specs.Merge.{is_changed, has_open_last}
-use Rattle.repo_api.specs.Marks.{shown, own_of, last_of, MarksName, IsClosed, KeepsTrees}
-use Rattle.repo_api.specs.declared.entry.Entry.{Entry}
-use Rattle.repo_api.specs.declared.entry.Mark.{Mark}
+use Rattle.svnpath.specs.{PathLaws.{same_path_is, same_path_refl}, Paths.{PathValue, same_path}}
+use Rattle.repo_api.specs.{Marks.{IsClosed, KeepsTrees, last_of, MarksName, own_of, shown}, Merge.{has_open_last, is_changed}}
+use Rattle.repo_api.specs.{Trees.{is_directory, is_open_mark, IsTree, same_mark, Tree}, declared.entry.Entry.Entry, declared.entry.Mark.Mark}
 use Rattle.repo_api.specs.declared.entry.Mark.TheVariants.{Open, Made}
 
 -- ---- marks

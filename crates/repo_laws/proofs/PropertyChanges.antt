@@ -1,20 +1,12 @@
 -- A change of a property of a revision, and the next one of the same property.
 use Rattle.std.proofs.Common.{◌≡◌, ℕ, zero, suc, ◌<◌, false, true, cond, List, [], ◌∷◌, length, Option, Some, None, refl, ap, sym, ◌∙◌, arith}
-use Rattle.std.specs.Prelude.{slice_get, slice_set}
-use Rattle.std.specs.Option.{option_or}
-use Rattle.std.specs.Cmp.Lexicographic.{slice_cmp, bytes_decides, texts_ties}
-use Rattle.std.specs.Ordering.{nat_cmp, is_eq, match_ordering}
-use Rattle.std.specs.declared.cmp.Ordering.{Ordering}
-use Rattle.std.specs.declared.cmp.Ordering.TheVariants.{Less, Equal, Greater}
-use Rattle.refusals.specs.declared.Refusal.{Refusal}
-use Rattle.refusals.specs.declared.Refusal.TheVariants.{PreviousValueDiffers}
-use Rattle.repo_api.specs.Kinds.{or_empty, properties_at}
-use Rattle.repo_api.specs.Properties.{PropertyList, is_same_value, property_value, with_property}
-use Rattle.repo_api.specs.RevisionProperties.{previous_refusal, property_changed, property_name_refusal, property_refusal, revision_refusal, with_changed_property}
-use Rattle.repo_api.specs.States.{RepoState, youngest}
-use Rattle.repo_api.specs.declared.property_ask.PreviousValue.{PreviousValue}
-use Rattle.repo_api.specs.declared.property_ask.PreviousValue.TheVariants.{Exactly}
-use Rattle.repo_api.specs.declared.property_ask.PropertyAsk.{PropertyAsk}
+use Rattle.std.specs.{Prelude.{slice_get, slice_set}, Option.option_or, Cmp.Lexicographic.{slice_cmp, bytes_decides, texts_ties}}
+use Rattle.std.specs.{Ordering.{nat_cmp, is_eq, match_ordering}, declared.cmp.Ordering.Ordering, declared.cmp.Ordering.TheVariants.{Less, Equal, Greater}}
+use Rattle.refusals.specs.{declared.Refusal.Refusal, declared.Refusal.TheVariants.PreviousValueDiffers}
+use Rattle.repo_api.specs.{Kinds.{or_empty, properties_at}, Properties.{is_same_value, property_value, PropertyList, with_property}}
+use Rattle.repo_api.specs.RevisionProperties.{previous_refusal, property_changed, property_name_refusal, property_refusal, revision_refusal}
+use Rattle.repo_api.specs.{RevisionProperties.with_changed_property, States.{RepoState, youngest}, declared.property_ask.PreviousValue.PreviousValue}
+use Rattle.repo_api.specs.{declared.property_ask.PreviousValue.TheVariants.Exactly, declared.property_ask.PropertyAsk.PropertyAsk}
 
 -- what is put in a list stands there
 pub set_there : {A : Type 0} (xs : List A) (n : ℕ) (x : A) → n < length xs → slice_get (slice_set xs n x) n ≡ Some x

@@ -1,30 +1,17 @@
 -- Marks name what they mark, in the states of a repository.
-use Rattle.std.proofs.Common.{◌≡◌, ◌≢◌, ℕ, zero, suc, ◌≤◌, Bool, true, false, cond, List, [], ◌∷◌, ◌++◌, length, Option, Some, None, is_some, refl, sym, ap, subst, arith, length-append, ◌∙◌}
-use Rattle.std.proofs.lemmas.Bool.{false≢true, eqb-true, eq-eqb}
-use Rattle.std.proofs.lemmas.Option.{slice_get_past}
-use Rattle.std.specs.BTreeMap.{is_at}
-use Rattle.std.specs.FinMap.{get, get-empty}
-use Rattle.std.specs.Prelude.{if◌then◌else◌, IsSome, ◌==◌, slice_get}
-use Rattle.svnpath.specs.Paths.{PathValue, path_cmp}
+use Rattle.std.proofs.Common.{◌≡◌, ◌≢◌, ℕ, zero, suc, ◌≤◌, Bool, true, false, cond, List, [], ◌∷◌, ◌++◌, length, Option, Some, None, is_some, refl, sym, ap}
+use Rattle.std.proofs.{Common.{subst, arith, length-append, ◌∙◌}, lemmas.Bool.{false≢true, eqb-true, eq-eqb}, lemmas.Option.slice_get_past}
+use Rattle.std.specs.{BTreeMap.is_at, FinMap.{get, get-empty}, Prelude.{if◌then◌else◌, IsSome, ◌==◌, slice_get}}
+use Rattle.svnpath.specs.Paths.{path_cmp, PathValue}
 use Rattle.refusals.specs.declared.Refusal.{Refusal}
-use Rattle.repo_api.specs.Trees.{Tree, IsTree}
-use Rattle.repo_api.specs.Edits.{edited, begun}
-use Rattle.repo_api.specs.Merge.{is_changed, has_open_last, merged}
-use Rattle.repo_api.specs.MergedMaps.{has_conflict}
-use Rattle.repo_api.specs.MergeLaws.{get_merged_map, no_conflict_anywhere}
-use Rattle.repo_api.specs.Marks.{shown, own_of, last_of, has_open_own, MarksName, IsClosed, AreMarked, IsTransactionOf, MeetWell, KeepsTrees, IsFree, with_tree, HasSource}
-use Rattle.repo_api.specs.Transactions.{IsMarkedTxn}
-use Rattle.repo_api.specs.States.{Revision, ChangeMap, RepoState, TxnState, IsBeginning, IsBegun, IsEdited, tree_of, tree_in, tree_at, trees_in, youngest}
-use Rattle.repo_api.specs.Commits.{commit_refusal, next_tree, committed}
-use Rattle.repo_api.specs.Opening.{opening_root, opening_tree}
-use Rattle.repo_api.specs.StateLaws.{get_path}
-use Rattle.repo_api.specs.declared.ask.CommitAsk.{CommitAsk}
-use Rattle.repo_api.specs.declared.edit.EditOp.{EditOp}
-use Rattle.repo_api.specs.declared.entry.Entry.{Entry}
-use Rattle.repo_api.specs.declared.entry.Mark.TheVariants.{Made}
-use Rattle.repo_laws.proofs.Keeping.{IsDirectoryAt, tree_by_paths}
-use Rattle.repo_laws.proofs.MergeLaws.{merged_tree, keeps_theirs, keeps_ours}
-use Rattle.repo_laws.proofs.Edited.{begun_transaction}
+use Rattle.repo_api.specs.{Commits.{commit_refusal, committed, next_tree}, Edits.{begun, edited}, Marks.{AreMarked, has_open_own, HasSource, IsClosed, IsFree}}
+use Rattle.repo_api.specs.Marks.{IsTransactionOf, KeepsTrees, last_of, MarksName, MeetWell, own_of, shown, with_tree}
+use Rattle.repo_api.specs.{Merge.{has_open_last, is_changed, merged}, MergeLaws.{get_merged_map, no_conflict_anywhere}, MergedMaps.has_conflict}
+use Rattle.repo_api.specs.{Opening.{opening_root, opening_tree}, StateLaws.get_path}
+use Rattle.repo_api.specs.States.{ChangeMap, IsBeginning, IsBegun, IsEdited, RepoState, Revision, tree_at, tree_in, tree_of, trees_in, TxnState, youngest}
+use Rattle.repo_api.specs.{Transactions.IsMarkedTxn, Trees.{IsTree, Tree}, declared.ask.CommitAsk.CommitAsk, declared.edit.EditOp.EditOp}
+use Rattle.repo_api.specs.{declared.entry.Entry.Entry, declared.entry.Mark.TheVariants.Made}
+use Rattle.repo_laws.proofs.{Keeping.{IsDirectoryAt, tree_by_paths}, MergeLaws.{merged_tree, keeps_theirs, keeps_ours}, Edited.begun_transaction}
 use Rattle.repo_laws.proofs.Marking.{merge_marks, marked_more, transaction_later, edit_marks}
 
 -- ---- lists of revisions

@@ -1,22 +1,13 @@
 -- What stands in the trees of revisions, and what an edit makes of a tree.
 use Rattle.std.proofs.Common.{◌≡◌, ◌≤◌, ℕ, zero, suc, List, [], ◌∷◌, ◌++◌, length, Option, Some, None, is_some, refl, sym, ap, subst, append-nil, ◌∙◌}
 use Rattle.std.proofs.lemmas.Bool.{false≢true}
-use Rattle.std.specs.FinMap.{get-empty}
-use Rattle.std.specs.Prelude.{IsSome}
-use Rattle.svnpath.specs.Components.{IsRightPath}
-use Rattle.svnpath.specs.Paths.{PathValue, path_cmp}
-use Rattle.repo_api.specs.Edits.{edited, with_value, without_value}
-use Rattle.repo_api.specs.Marks.{HasSource}
-use Rattle.repo_api.specs.RightEdits.{HasParent, IsRightEdit}
-use Rattle.repo_api.specs.Soundness.{AreTrees}
-use Rattle.repo_api.specs.States.{Revision, trees_in}
-use Rattle.repo_api.specs.Trees.{Tree, IsTree, text_of}
-use Rattle.repo_api.specs.declared.edit.EditOp.{EditOp}
+use Rattle.std.specs.{FinMap.get-empty, Prelude.IsSome}
+use Rattle.svnpath.specs.{Components.IsRightPath, Paths.{path_cmp, PathValue}}
+use Rattle.repo_api.specs.{Edits.{edited, with_value, without_value}, Marks.HasSource, RightEdits.{HasParent, IsRightEdit}, Soundness.AreTrees}
+use Rattle.repo_api.specs.{States.{Revision, trees_in}, Trees.{IsTree, text_of, Tree}, declared.edit.EditOp.EditOp}
 use Rattle.repo_api.specs.declared.edit.EditOp.TheVariants.{AddDirectory, AddFile, Copy, Replace, Delete, SetProperty, RemoveProperty, SetText}
-use Rattle.repo_api.specs.declared.entry.Entry.{Entry}
-use Rattle.repo_api.specs.declared.limits.TheConstants.{TEXT_LIMIT}
-use Rattle.repo_laws.proofs.Copying.{IsWithinDepth, copied_tree, replaced_tree}
-use Rattle.repo_laws.proofs.Keeping.{directory_tree, file_tree, deleted_tree, property_tree, text_tree}
+use Rattle.repo_api.specs.{declared.entry.Entry.Entry, declared.limits.TheConstants.TEXT_LIMIT}
+use Rattle.repo_laws.proofs.{Copying.{IsWithinDepth, copied_tree, replaced_tree}, Keeping.{directory_tree, file_tree, deleted_tree, property_tree, text_tree}}
 
 -- where something stands there is a tree
 pub tree_where : (rs : List Revision) (n : ℕ) (p : PathValue) → AreTrees rs → IsSome (trees_in rs n p) → IsTree (trees_in rs n)

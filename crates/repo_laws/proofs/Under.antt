@@ -1,8 +1,7 @@
 -- Which paths lie under which.
 use Rattle.std.proofs.Common.{◌≡◌, ◌⊎◌, inl, inr, Bool, true, false, [], ◌∷◌, ◌++◌, length, drop, refl, sym, ap, subst, append_assoc, ◌∙◌}
 use Rattle.std.proofs.lemmas.Bool.{false≢true}
-use Rattle.svnpath.specs.Paths.{PathValue, Component, same_path, is_at_or_under}
-use Rattle.svnpath.specs.PathLaws.{same_path_is, under_is, under_append, under_itself}
+use Rattle.svnpath.specs.{PathLaws.{same_path_is, under_append, under_is, under_itself}, Paths.{Component, is_at_or_under, PathValue, same_path}}
 
 pub not_true : (b : Bool) → (b ≡ true → ⊥) → b ≡ false
 not_true true h = absurd (h refl)

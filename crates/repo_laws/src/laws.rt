@@ -1,28 +1,16 @@
 //! What holds of trees. The functions do nothing: their contracts are the laws.
-ghost use Rattle.std.specs.Prelude.{◌≡◌, ◌<◌, ℕ, true, false, length, List, ◌++◌, ◌∷◌, [], Option, Some, None, option_map};
+ghost use Rattle.std.specs.{Prelude.{◌≡◌, ◌<◌, ℕ, true, false, length, List, ◌++◌, ◌∷◌, [], Option, Some, None, option_map}, FinMap.get};
 ghost use Rattle.svnpath.specs.Paths.{PathValue};
-ghost use Rattle.repo_api.specs.Trees.{Tree, IsTree};
-ghost use Rattle.repo_api.specs.RightEdits.{IsRightEdit};
-ghost use Rattle.repo_api.specs.Soundness.{AreTrees};
-ghost use Rattle.repo_api.specs.Edits.{edited, begun};
-ghost use Rattle.repo_api.specs.States.{ChangeMap, Revision, RepoState, TxnState, IsBeginning, IsBegun, IsEdited, tree_of, tree_at, trees_in, youngest};
-ghost use Rattle.repo_api.specs.Commits.{commit_refusal, next_tree, committed};
+ghost use Rattle.repo_api.specs.{Accepted.{Accepted, changed, IsAccepted}, Accepted.Accepted.ChangesProperty, Commits.{commit_refusal, committed, next_tree}};
+ghost use Rattle.repo_api.specs.{Edits.{begun, edited}, LockRuns.{HasSameOtherwise, HasSameRevisions, is_of_locks}};
+ghost use Rattle.repo_api.specs.Marks.{AreMarked, HasSource, IsFree, IsTransactionOf, KeepsTrees, last_of, MarksName, MeetWell, own_of, shown, with_tree};
+ghost use Rattle.repo_api.specs.{Merge.{HasNoConflict, is_changed, merged, sealed}, Opening.opening_tree, Properties.is_same_value};
+ghost use Rattle.repo_api.specs.{RevisionProperties.property_refusal, RightEdits.IsRightEdit, Soundness.AreTrees};
+ghost use Rattle.repo_api.specs.States.{ChangeMap, IsBeginning, IsBegun, IsEdited, RepoState, Revision, tree_at, tree_of, trees_in, TxnState, youngest};
+ghost use Rattle.repo_api.specs.{Transactions.IsMarkedTxn, Trees.{IsTree, Tree}, declared.ask.CommitAsk.CommitAsk};
+ghost use Rattle.repo_api.specs.{declared.property_ask.PreviousValue.TheVariants.Exactly, declared.property_ask.PropertyAsk.PropertyAsk};
+ghost use Rattle.repo_api.specs.{declared.entry.Mark.TheVariants.Made, declared.edit.EditOp.EditOp};
 ghost use Rattle.refusals.specs.declared.Refusal.TheVariants as refusals;
-ghost use Rattle.repo_api.specs.Accepted.{Accepted, IsAccepted, changed};
-ghost use Rattle.repo_api.specs.Accepted.Accepted.{ChangesProperty};
-ghost use Rattle.repo_api.specs.LockRuns.{is_of_locks, HasSameRevisions, HasSameOtherwise};
-ghost use Rattle.repo_api.specs.Transactions.{IsMarkedTxn};
-ghost use Rattle.repo_api.specs.declared.ask.CommitAsk.{CommitAsk};
-ghost use Rattle.repo_api.specs.Properties.{is_same_value};
-ghost use Rattle.repo_api.specs.RevisionProperties.{property_refusal};
-ghost use Rattle.repo_api.specs.declared.property_ask.PreviousValue.TheVariants.{Exactly};
-ghost use Rattle.repo_api.specs.declared.property_ask.PropertyAsk.{PropertyAsk};
-ghost use Rattle.std.specs.FinMap.{get};
-ghost use Rattle.repo_api.specs.Merge.{sealed, is_changed, merged, HasNoConflict};
-ghost use Rattle.repo_api.specs.Marks.{shown, own_of, last_of, MarksName, AreMarked, IsTransactionOf, MeetWell, KeepsTrees, IsFree, with_tree, HasSource};
-ghost use Rattle.repo_api.specs.declared.entry.Mark.TheVariants.{Made};
-ghost use Rattle.repo_api.specs.declared.edit.EditOp.{EditOp};
-ghost use Rattle.repo_api.specs.Opening.{opening_tree};
 
 /// Shows that the tree of a new repository is a tree.
 pub fn opening_is_a_tree()

@@ -1,20 +1,14 @@
 -- The paths of what a directory has, by its names.
-use Rattle.std.proofs.Common.{◌≡◌, Bool, true, false, ◌||◌, List, [], ◌∷◌, ◌++◌, length, drop, get_or, map, Option, Some, None, refl, sym, ap, ◌∙◌, subst, ⊎_elim}
-use Rattle.std.proofs.lemmas.Bool.{false≢true}
-use Rattle.std.proofs.lemmas.List.{append_assoc, append-nil}
-use Rattle.std.proofs.lemmas.List.Elements.{All-nil, All-cons}
-use Rattle.std.specs.Prelude.{IsTrue, IsSome, IsSomeAnd, is_some, All}
-use Rattle.std.specs.List.{list_any}
-use Rattle.svnpath.specs.Paths.{PathValue, Component, is_at_or_under, same_path, same_component}
-use Rattle.svnpath.specs.PathLaws.{same_path_refl, same_component_is, same_component_refl, under_is, under_append, rest_append}
-use Rattle.repo_api.specs.Trees.{Tree, is_directory}
-use Rattle.repo_api.specs.declared.entry.Entry.{Entry}
+use Rattle.std.proofs.Common.{◌≡◌, Bool, true, false, ◌||◌, List, [], ◌∷◌, ◌++◌, length, drop, get_or, map, Option, Some, None, refl, sym, ap, ◌∙◌, subst}
+use Rattle.std.proofs.{Common.⊎_elim, lemmas.Bool.false≢true, lemmas.List.{append_assoc, append-nil}, lemmas.List.Elements.{All-nil, All-cons}}
+use Rattle.std.specs.{Prelude.{IsTrue, IsSome, IsSomeAnd, is_some, All}, List.list_any}
+use Rattle.svnpath.specs.PathLaws.{rest_append, same_component_is, same_component_refl, same_path_refl, under_append, under_is}
+use Rattle.svnpath.specs.Paths.{Component, is_at_or_under, PathValue, same_component, same_path}
+use Rattle.repo_api.specs.{Trees.{is_directory, Tree}, declared.entry.Entry.Entry}
 use Rattle.drive_rules.specs.Scopes.{below, HoldsTogether}
-use Rattle.drive_rules.proofs.Joined.{or_cases, or_left, or_right, or_false}
-use Rattle.drive_rules.proofs.Entries.{below_under, below_apart}
+use Rattle.drive_rules.proofs.{Joined.{or_cases, or_left, or_right, or_false}, Entries.{below_under, below_apart}}
 use Rattle.reporter.specs.Walks.{any_under, AreApart, IsChild, AreChildren, AreAll}
-use Rattle.reporter.proofs.Visiting.{false_or}
-use Rattle.reporter.proofs.Planning.{one_child, child_below}
+use Rattle.reporter.proofs.{Visiting.false_or, Planning.{one_child, child_below}}
 
 abbrev pub is_among : List Component → Component → Bool
 is_among cs c = list_any (same_component c) cs

@@ -1,22 +1,14 @@
 -- That some plan exists, whatever is left.
 use Rattle.std.proofs.Common.{arith, ◌≡◌, ◌<◌, ◌≤◌, ◌+◌, ℕ, zero, suc, Bool, true, false, List, [], ◌∷◌, ◌++◌, length, refl, sym, subst, ◌⊎◌, inl, inr}
-use Rattle.std.proofs.lemmas.Bool.{false≢true}
-use Rattle.std.proofs.lemmas.List.Elements.{All-head, All-tail}
+use Rattle.std.proofs.{lemmas.Bool.false≢true, lemmas.List.Elements.{All-head, All-tail}}
 use Rattle.std.specs.Prelude.{is_some, All}
-use Rattle.svnpath.specs.Paths.{PathValue}
-use Rattle.svnpath.specs.PathLaws.{under_itself}
+use Rattle.svnpath.specs.{PathLaws.under_itself, Paths.PathValue}
 use Rattle.repo_api.specs.Trees.{is_directory_there}
-use Rattle.drive_rules.specs.Drives.{Differs}
-use Rattle.drive_rules.specs.Scopes.{HoldsTogether}
-use Rattle.reporter.specs.declared.unvisited.Unvisited.{Unvisited}
-use Rattle.reporter.specs.declared.visit.Visit.{Visit}
-use Rattle.reporter.specs.declared.visit.Visit.TheVariants.{Open, Add}
-use Rattle.reporter.specs.Left.{ArePlansOf, IsLeft, IsPlanBelow, IsPlanOf, behind}
-use Rattle.reporter.specs.Nesting.{entry_visits}
+use Rattle.drive_rules.specs.{Drives.Differs, Scopes.HoldsTogether}
+use Rattle.reporter.specs.{declared.unvisited.Unvisited.Unvisited, declared.visit.Visit.Visit, declared.visit.Visit.TheVariants.{Open, Add}}
+use Rattle.reporter.specs.{Left.{ArePlansOf, IsLeft, IsPlanBelow, IsPlanOf, behind}, Nesting.entry_visits}
 use Rattle.reporter.specs.Walks.{WalkedTrees, AreAll, AreChildren, IsChild, IsSame, IsShorter, deletes_of, goes}
-use Rattle.reporter.proofs.Planning.{same_length}
-use Rattle.reporter.proofs.Plans.{Leads, absent, added, below_directory, below_file, comes, opened, same, staying}
-use Rattle.reporter.proofs.Visiting.{reason_of}
+use Rattle.reporter.proofs.{Planning.same_length, Plans.{Leads, absent, added, below_directory, below_file, comes, opened, same, staying}, Visiting.reason_of}
 
 -- something is to be said of an entry itself, or it is the same
 abbrev pub IsDecided : WalkedTrees → PathValue → Type 0

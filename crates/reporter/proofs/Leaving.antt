@@ -3,20 +3,12 @@ use Rattle.std.proofs.Common.{◌≡◌, Bool, true, false, List, [], ◌∷◌,
 use Rattle.std.proofs.lemmas.List.{append_assoc, append-nil}
 use Rattle.std.specs.Prelude.{Err, IfOk, IfSome, None, Ok, Option, Result, Some}
 use Rattle.svnpath.specs.Paths.{PathValue}
-use Rattle.drive_rules.specs.Places.{is_in_directory}
-use Rattle.drive_rules.specs.Scopes.{HoldsTogether, under}
-use Rattle.reporter.specs.declared.unvisited.Found.TheVariants.{Single, Entered}
-use Rattle.reporter.specs.declared.unvisited.Found.{Found}
-use Rattle.reporter.specs.declared.unvisited.Unvisited.{Unvisited}
-use Rattle.reporter.specs.declared.visit.Visit.{Visit}
-use Rattle.reporter.specs.declared.visit.Visit.TheVariants.{Delete, Close}
-use Rattle.reporter.specs.Left.{ArePlansOf, IsFound, IsLeft, IsLeftIn, IsPlanBelow, IsPlanOf, behind}
-use Rattle.reporter.specs.Nesting.{AreNested}
-use Rattle.reporter.specs.Visits.{IsRightPlan}
+use Rattle.drive_rules.specs.{Places.is_in_directory, Scopes.{HoldsTogether, under}}
+use Rattle.reporter.specs.{declared.unvisited.Found.TheVariants.{Single, Entered}, declared.unvisited.Found.Found, declared.unvisited.Unvisited.Unvisited}
+use Rattle.reporter.specs.{declared.visit.Visit.Visit, declared.visit.Visit.TheVariants.{Delete, Close}}
+use Rattle.reporter.specs.{Left.{ArePlansOf, IsFound, IsLeft, IsLeftIn, IsPlanBelow, IsPlanOf, behind}, Nesting.AreNested, Visits.IsRightPlan}
 use Rattle.reporter.specs.Walks.{WalkedTrees, AreAll, AreChildren, BothHold, goes, old_side, deletes_of}
-use Rattle.reporter.proofs.Nested.{nested_delete}
-use Rattle.reporter.proofs.Planning.{top_cut}
-use Rattle.reporter.proofs.Plans.{below_directory}
+use Rattle.reporter.proofs.{Nested.nested_delete, Planning.top_cut, Plans.below_directory}
 
 -- what is left where this goes, and these entries are left
 abbrev pub LeftOf : WalkedTrees → List Visit → Bool → List PathValue → List Visit → Type 0

@@ -1,19 +1,13 @@
 -- Which directories are open, along the visits of a plan.
-use Rattle.std.proofs.Common.{◌≡◌, ◌+◌, ◌==◌, eq-eqb, Bool, true, false, not, ◌&&◌, List, [], ◌∷◌, ◌++◌, length, map, Option, Some, None, refl, sym, ap, ◌∙◌, subst, if◌then◌else◌}
-use Rattle.std.proofs.lemmas.Bool.{false≢true}
-use Rattle.std.proofs.lemmas.List.{length-append}
-use Rattle.std.proofs.lemmas.List.Elements.{All-head, All-tail}
+use Rattle.std.proofs.Common.{◌≡◌, ◌+◌, ◌==◌, eq-eqb, Bool, true, false, not, ◌&&◌, List, [], ◌∷◌, ◌++◌, length, map, Option, Some, None, refl, sym, ap, ◌∙◌}
+use Rattle.std.proofs.{Common.{subst, if◌then◌else◌}, lemmas.Bool.false≢true, lemmas.List.length-append, lemmas.List.Elements.{All-head, All-tail}}
 use Rattle.std.specs.Prelude.{is_some, All, option_and_then}
-use Rattle.svnpath.specs.Paths.{PathValue, is_at_or_under}
-use Rattle.svnpath.specs.PathLaws.{under_append}
-use Rattle.repo_api.specs.Trees.{Tree, is_directory_there}
-use Rattle.repo_api.specs.declared.entry.Entry.{Entry}
+use Rattle.svnpath.specs.{PathLaws.under_append, Paths.{is_at_or_under, PathValue}}
+use Rattle.repo_api.specs.{Trees.{is_directory_there, Tree}, declared.entry.Entry.Entry}
 use Rattle.drive_rules.specs.Places.{is_in_directory}
 use Rattle.drive_rules.proofs.Joined.{or_left, and_both}
-use Rattle.reporter.specs.declared.visit.Visit.{Visit}
-use Rattle.reporter.specs.declared.visit.Visit.TheVariants.{Delete, Close}
-use Rattle.reporter.specs.Nesting.{after_entry_visit, after_visit, walk, AreNested, entry_visits, stands_as}
-use Rattle.reporter.specs.Walks.{IsChild, goes, going, deletes_of}
+use Rattle.reporter.specs.{declared.visit.Visit.Visit, declared.visit.Visit.TheVariants.{Delete, Close}}
+use Rattle.reporter.specs.{Nesting.{after_entry_visit, after_visit, walk, AreNested, entry_visits, stands_as}, Walks.{IsChild, goes, going, deletes_of}}
 
 no_some : {X : Type 0} (x : X) → ◌≡◌ {A = Option X} None (Some x) → ⊥
 no_some x e = false≢true (ap is_some e)

@@ -1,17 +1,11 @@
 -- What an entry is told leads to what it is to be.
 use Rattle.std.proofs.Common.{◌≡◌, ℕ, Bool, true, false, cond, ◌&&◌, ◌||◌, not, List, [], ◌∷◌, ◌++◌, Option, Some, None, refl, sym, ap, ◌∙◌, ⊎_elim, option_map}
-use Rattle.std.proofs.lemmas.Bool.{false≢true}
-use Rattle.std.proofs.lemmas.List.Sums.{fold-append}
-use Rattle.std.proofs.lemmas.List.Elements.{All-head, All-tail}
-use Rattle.std.specs.Prelude.{All, fold, is_some}
-use Rattle.std.specs.List.{list_any}
-use Rattle.svnpath.specs.Paths.{PathValue, same_path, same_component}
-use Rattle.svnpath.specs.PathLaws.{same_path_refl, same_component_is}
-use Rattle.repo_api.specs.declared.entry.Content.{Content}
-use Rattle.repo_api.specs.declared.entry.Content.TheVariants.{File}
-use Rattle.drive_rules.specs.Steps.{Step, Node, PropertyValues, is_entry_property, with_property_value, after_step, after_steps, meets, all_meet, is_of_kind, is_named, has_step, adds_or_deletes, may_change, IsOwn}
-use Rattle.drive_rules.specs.Steps.EntryKind.{FileKind}
-use Rattle.drive_rules.specs.Steps.Step.{PropertyAt, TextAt}
+use Rattle.std.proofs.{lemmas.Bool.false≢true, lemmas.List.Sums.fold-append, lemmas.List.Elements.{All-head, All-tail}}
+use Rattle.std.specs.{Prelude.{All, fold, is_some}, List.list_any}
+use Rattle.svnpath.specs.{PathLaws.{same_component_is, same_path_refl}, Paths.{PathValue, same_component, same_path}}
+use Rattle.repo_api.specs.{declared.entry.Content.Content, declared.entry.Content.TheVariants.File}
+use Rattle.drive_rules.specs.Steps.{adds_or_deletes, after_step, after_steps, all_meet, has_step, is_entry_property, is_named, is_of_kind, IsOwn, may_change}
+use Rattle.drive_rules.specs.{Steps.{meets, Node, PropertyValues, Step, with_property_value}, Steps.EntryKind.FileKind, Steps.Step.{PropertyAt, TextAt}}
 use Rattle.drive_rules.proofs.Joined.{or_cases, or_right, and_front, and_both, any_append, all_meet_append}
 use Rattle.reporter.specs.Own.{Change, property_steps, text_steps, own_steps, changes_name, LeadTo, content_with_text}
 

@@ -1,24 +1,17 @@
 -- The visits of a directory's entries, one after the other, and of what goes.
-use Rattle.std.proofs.Common.{◌≡◌, ◌<◌, ℕ, zero, suc, ◌+◌, arith, Bool, true, false, cond, ◌&&◌, ◌||◌, not, List, [], ◌∷◌, ◌++◌, length, drop, take, get_or, map, Option, Some, None, refl, sym, ap, ◌∙◌, subst, ◌⊎◌, inl, inr, ⊎_elim, option_map, if◌then◌else◌}
-use Rattle.std.proofs.lemmas.Bool.{false≢true}
-use Rattle.std.proofs.lemmas.List.{length-append, append-nil, append_assoc, take_more}
-use Rattle.std.proofs.lemmas.List.Elements.{All-head, All-tail}
-use Rattle.std.specs.Prelude.{IsTrue, IsSome, IsSomeAnd, is_some, All, IfOk, Result, Ok, Err}
-use Rattle.std.specs.List.{list_any}
-use Rattle.svnpath.specs.Paths.{PathValue, is_at_or_under, same_path}
-use Rattle.svnpath.specs.PathLaws.{same_path_is, same_path_refl, under_itself, under_is, under_append}
-use Rattle.repo_api.specs.Trees.{Tree, HasDirectory, is_directory, is_directory_there}
-use Rattle.repo_api.specs.declared.entry.Entry.{Entry}
-use Rattle.drive_rules.specs.Steps.{Step, Node, node_of, node_at, may_change}
-use Rattle.drive_rules.specs.Drives.{IsRight, IsInBoth, created_revision}
-use Rattle.drive_rules.specs.Scopes.{under, below, tree_without, HoldsTogether}
+use Rattle.std.proofs.Common.{◌≡◌, ◌<◌, ℕ, zero, suc, ◌+◌, arith, Bool, true, false, cond, ◌&&◌, ◌||◌, not, List, [], ◌∷◌, ◌++◌, length, drop, take, get_or}
+use Rattle.std.proofs.{Common.{map, Option, Some, None, refl, sym, ap, ◌∙◌, subst, ◌⊎◌, inl, inr, ⊎_elim, option_map, if◌then◌else◌}, lemmas.Bool.false≢true}
+use Rattle.std.proofs.{lemmas.List.{length-append, append-nil, append_assoc, take_more}, lemmas.List.Elements.{All-head, All-tail}}
+use Rattle.std.specs.{Prelude.{IsTrue, IsSome, IsSomeAnd, is_some, All, IfOk, Result, Ok, Err}, List.list_any}
+use Rattle.svnpath.specs.{PathLaws.{same_path_is, same_path_refl, under_append, under_is, under_itself}, Paths.{is_at_or_under, PathValue, same_path}}
+use Rattle.repo_api.specs.{Trees.{HasDirectory, is_directory, is_directory_there, Tree}, declared.entry.Entry.Entry}
+use Rattle.drive_rules.specs.{Drives.{created_revision, IsInBoth, IsRight}, Scopes.{below, HoldsTogether, tree_without, under}}
+use Rattle.drive_rules.specs.Steps.{may_change, Node, node_at, node_of, Step}
 use Rattle.drive_rules.proofs.Joined.{or_cases, or_left, or_right, or_false, and_front, any_append, reach_named, joined, nothing, none_some}
 use Rattle.drive_rules.proofs.Entries.{rescoped, under_more, below_under, IsCut, cut, kept, left_out}
-use Rattle.reporter.specs.declared.visit.Visit.{Visit}
-use Rattle.reporter.specs.declared.visit.Visit.TheVariants.{Open, Delete, Close}
-use Rattle.reporter.specs.Nesting.{entry_visits}
-use Rattle.reporter.specs.Visits.{plan_steps, visit_steps}
-use Rattle.reporter.specs.Walks.{any_under, BothHold, LeadsOver, AreApart, IsChild, AreChildren, AreAll, AreAlike, goes, going, without_all, old_side, left_of, deletes_of}
+use Rattle.reporter.specs.{declared.visit.Visit.Visit, declared.visit.Visit.TheVariants.{Open, Delete, Close}, Nesting.entry_visits}
+use Rattle.reporter.specs.{Visits.{plan_steps, visit_steps}, Walks.{any_under, BothHold, LeadsOver, AreApart, IsChild, AreChildren, AreAll, AreAlike, goes}}
+use Rattle.reporter.specs.Walks.{going, without_all, old_side, left_of, deletes_of}
 use Rattle.reporter.proofs.Visiting.{false_or, entry_opened}
 
 abbrev pub Own : Type 0

@@ -1,25 +1,17 @@
 -- The plans of an entry, of what is below it, and of the entries of a directory.
 use Rattle.std.proofs.Common.{arith, ◌≡◌, ◌<◌, ℕ, zero, suc, Bool, true, false, ◌||◌, not, List, [], ◌∷◌, ◌++◌, length, get_or, refl, sym, ap, ◌∙◌, subst}
-use Rattle.std.proofs.lemmas.Bool.{false≢true}
-use Rattle.std.proofs.lemmas.List.{append_assoc}
-use Rattle.std.proofs.lemmas.List.Elements.{All-head, All-tail}
+use Rattle.std.proofs.{lemmas.Bool.false≢true, lemmas.List.append_assoc, lemmas.List.Elements.{All-head, All-tail}}
 use Rattle.std.specs.Prelude.{is_some, All}
-use Rattle.svnpath.specs.Paths.{PathValue, is_at_or_under}
-use Rattle.repo_api.specs.Trees.{Tree, is_directory_there}
-use Rattle.drive_rules.specs.Steps.{Step}
-use Rattle.drive_rules.specs.Drives.{IsRight, HasReason}
-use Rattle.drive_rules.specs.Scopes.{under, HoldsTogether}
-use Rattle.drive_rules.proofs.Joined.{or_false, reach_named, joined, nothing}
-use Rattle.drive_rules.proofs.Entries.{rescoped, under_more}
-use Rattle.reporter.specs.declared.visit.Visit.{Visit}
-use Rattle.reporter.specs.declared.visit.Visit.TheVariants.{Open, Add}
-use Rattle.reporter.specs.Left.{IsPlanOf, IsPlanBelow, IsEntry, ArePlansOf}
-use Rattle.reporter.specs.Nesting.{AreNested, entry_visit, entry_visits}
-use Rattle.reporter.specs.Visits.{IsRightPlan, plan_steps}
-use Rattle.reporter.specs.Walks.{WalkedTrees, any_under, BothHold, IsSame, AreApart, IsChild, AreChildren, AreAll, AreAlike, LeadsOver, goes, old_side, left_of, deletes_of}
-use Rattle.reporter.proofs.Nested.{nested_nothing, nested_append, nested_deletes, nested_entry, child_inside}
-use Rattle.reporter.proofs.Planning.{any_more, reseated, left_under, all_children, left_all, with_cuts, nothing_new, nothing_alike, nothing_below, child_sound, plan_steps_append, stays_gone, with_close, added_entry, not_false}
-use Rattle.reporter.proofs.Visiting.{false_or, entry_anew, entry_opened, entry_same}
+use Rattle.svnpath.specs.Paths.{is_at_or_under, PathValue}
+use Rattle.repo_api.specs.Trees.{is_directory_there, Tree}
+use Rattle.drive_rules.specs.{Drives.{HasReason, IsRight}, Scopes.{HoldsTogether, under}, Steps.Step}
+use Rattle.drive_rules.proofs.{Joined.{or_false, reach_named, joined, nothing}, Entries.{rescoped, under_more}}
+use Rattle.reporter.specs.{declared.visit.Visit.Visit, declared.visit.Visit.TheVariants.{Open, Add}, Left.{IsPlanOf, IsPlanBelow, IsEntry, ArePlansOf}}
+use Rattle.reporter.specs.{Nesting.{AreNested, entry_visit, entry_visits}, Visits.{IsRightPlan, plan_steps}, Walks.{WalkedTrees, any_under, BothHold, IsSame}}
+use Rattle.reporter.specs.Walks.{AreApart, IsChild, AreChildren, AreAll, AreAlike, LeadsOver, goes, old_side, left_of, deletes_of}
+use Rattle.reporter.proofs.{Nested.{nested_nothing, nested_append, nested_deletes, nested_entry, child_inside}, Planning.{any_more, reseated, left_under}}
+use Rattle.reporter.proofs.Planning.{all_children, left_all, with_cuts, nothing_new, nothing_alike, nothing_below, child_sound, plan_steps_append, stays_gone}
+use Rattle.reporter.proofs.{Planning.{with_close, added_entry, not_false}, Visiting.{false_or, entry_anew, entry_opened, entry_same}}
 
 -- an entry that is to stand there comes: anew with its directory, or where nothing of its kind stood
 abbrev pub comes : WalkedTrees → Bool → PathValue → Bool

@@ -1,21 +1,14 @@
 -- Why an entry is named, and that nothing is said where there is no reason.
-use Rattle.std.proofs.Common.{arith, ◌≡◌, ◌<◌, ◌+◌, ℕ, Bool, true, false, ◌||◌, not, List, [], ◌∷◌, ◌++◌, length, get_or, map, take, Option, Some, None, refl, sym, ap, ◌∙◌, subst, inl, inr, option_map, if◌then◌else◌}
-use Rattle.std.proofs.lemmas.Bool.{false≢true}
-use Rattle.std.proofs.lemmas.List.{take_more}
+use Rattle.std.proofs.Common.{arith, ◌≡◌, ◌<◌, ◌+◌, ℕ, Bool, true, false, ◌||◌, not, List, [], ◌∷◌, ◌++◌, length, get_or, map, take, Option, Some, None, refl}
+use Rattle.std.proofs.{Common.{sym, ap, ◌∙◌, subst, inl, inr, option_map, if◌then◌else◌}, lemmas.Bool.false≢true, lemmas.List.take_more}
 use Rattle.std.specs.Prelude.{is_some}
-use Rattle.svnpath.specs.Paths.{PathValue, is_at_or_under}
-use Rattle.svnpath.specs.PathLaws.{under_append, under_itself}
-use Rattle.repo_api.specs.Trees.{Tree}
-use Rattle.repo_api.specs.declared.entry.Entry.{Entry}
-use Rattle.drive_rules.specs.Steps.{node_of}
-use Rattle.drive_rules.specs.Drives.{HasReason}
-use Rattle.drive_rules.specs.Scopes.{HoldsTogether}
+use Rattle.svnpath.specs.{PathLaws.{under_append, under_itself}, Paths.{is_at_or_under, PathValue}}
+use Rattle.repo_api.specs.{Trees.Tree, declared.entry.Entry.Entry}
+use Rattle.drive_rules.specs.{Drives.HasReason, Scopes.HoldsTogether, Steps.node_of}
 use Rattle.drive_rules.proofs.Entries.{under_more}
-use Rattle.reporter.specs.declared.visit.Visit.TheVariants.{Delete}
-use Rattle.reporter.specs.Left.{IsPlanOf, IsPlanBelow, ArePlansOf}
+use Rattle.reporter.specs.{declared.visit.Visit.TheVariants.Delete, Left.{IsPlanOf, IsPlanBelow, ArePlansOf}}
 use Rattle.reporter.specs.Walks.{WalkedTrees, IsChild, AreChildren, AreAll, goes, going}
-use Rattle.reporter.proofs.Planning.{goes_differs, same_length}
-use Rattle.reporter.proofs.Plans.{below_directory, plans_append}
+use Rattle.reporter.proofs.{Planning.{goes_differs, same_length}, Plans.{below_directory, plans_append}}
 
 abbrev pub Reason : WalkedTrees → PathValue → Type 0
 Reason t p = HasReason t.stale t.old t.new p

@@ -1,22 +1,14 @@
 -- The visits of one entry, before those of what is below it.
-use Rattle.std.proofs.Common.{◌≡◌, ◌+◌, arith, Bool, true, false, ◌&&◌, not, List, [], ◌∷◌, ◌++◌, length, drop, Option, Some, None, refl, sym, ap, ◌∙◌, subst, inl, inr, option_map, if◌then◌else◌}
-use Rattle.std.proofs.lemmas.Bool.{false≢true}
-use Rattle.std.proofs.lemmas.List.{length-append}
+use Rattle.std.proofs.Common.{◌≡◌, ◌+◌, arith, Bool, true, false, ◌&&◌, not, List, [], ◌∷◌, ◌++◌, length, drop, Option, Some, None, refl, sym, ap, ◌∙◌, subst}
+use Rattle.std.proofs.{Common.{inl, inr, option_map, if◌then◌else◌}, lemmas.Bool.false≢true, lemmas.List.length-append}
 use Rattle.std.specs.Prelude.{IsSomeAnd, is_some}
-use Rattle.svnpath.specs.Paths.{PathValue, is_at_or_under, same_path}
-use Rattle.svnpath.specs.PathLaws.{same_path_is, same_path_refl, under_itself, under_is}
-use Rattle.repo_api.specs.Trees.{Tree, is_directory, is_directory_content, is_directory_there}
-use Rattle.repo_api.specs.declared.entry.Entry.{Entry}
-use Rattle.drive_rules.specs.Steps.{Step, Node, node_of, node_at, is_of_kind, is_named}
-use Rattle.drive_rules.specs.Drives.{IsRight, HasReason, IsOfOneKind, IsInBoth, created_revision}
-use Rattle.drive_rules.specs.Scopes.{under, below}
-use Rattle.drive_rules.proofs.Joined.{or_left, nothing}
-use Rattle.drive_rules.proofs.Entries.{around, opened, fresh, below_under, no_length, under_more}
-use Rattle.reporter.specs.declared.visit.Visit.{Visit}
-use Rattle.reporter.specs.declared.visit.Visit.TheVariants.{Open, Add, Delete, Close}
-use Rattle.reporter.specs.Nesting.{AreNested}
-use Rattle.reporter.specs.Visits.{kind_if, entry_kind, plan_steps}
-use Rattle.reporter.specs.Walks.{goes, old_side, IsSame, IsNeeded, LeadsOver}
+use Rattle.svnpath.specs.{PathLaws.{same_path_is, same_path_refl, under_is, under_itself}, Paths.{is_at_or_under, PathValue, same_path}}
+use Rattle.repo_api.specs.{Trees.{is_directory, is_directory_content, is_directory_there, Tree}, declared.entry.Entry.Entry}
+use Rattle.drive_rules.specs.{Drives.{created_revision, HasReason, IsInBoth, IsOfOneKind, IsRight}, Scopes.{below, under}}
+use Rattle.drive_rules.specs.Steps.{is_named, is_of_kind, Node, node_at, node_of, Step}
+use Rattle.drive_rules.proofs.{Joined.{or_left, nothing}, Entries.{around, opened, fresh, below_under, no_length, under_more}}
+use Rattle.reporter.specs.{declared.visit.Visit.Visit, declared.visit.Visit.TheVariants.{Open, Add, Delete, Close}, Nesting.AreNested}
+use Rattle.reporter.specs.{Visits.{kind_if, entry_kind, plan_steps}, Walks.{goes, old_side, IsSame, IsNeeded, LeadsOver}}
 use Rattle.reporter.proofs.Nested.{nested_opens}
 
 pub false_or : (b : Bool) → (b ≡ true → ⊥) → b ≡ false

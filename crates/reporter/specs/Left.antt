@@ -1,16 +1,10 @@
 -- What is left to be visited.
 use Rattle.std.specs.Prelude.{◌≡◌, Bool, true, false, ◌||◌, List, [], ◌∷◌, ◌++◌}
 use Rattle.svnpath.specs.Paths.{PathValue}
-use Rattle.drive_rules.specs.Places.{is_in_directory}
-use Rattle.drive_rules.specs.Scopes.{under, below}
-use Rattle.reporter.specs.Nesting.{AreNested, entry_visit, entry_visits}
-use Rattle.reporter.specs.Visits.{IsRightPlan}
-use Rattle.reporter.specs.Walks.{WalkedTrees, BothHold, goes, old_side}
-use Rattle.reporter.specs.declared.unvisited.Found.{Found}
-use Rattle.reporter.specs.declared.unvisited.Found.TheVariants.{Nothing, Single, Entered}
-use Rattle.reporter.specs.declared.unvisited.Unvisited.{Unvisited}
-use Rattle.reporter.specs.declared.visit.Visit.{Visit}
-use Rattle.reporter.specs.declared.visit.Visit.TheVariants.{Close}
+use Rattle.drive_rules.specs.{Places.is_in_directory, Scopes.{below, under}}
+use Rattle.reporter.specs.{Nesting.{AreNested, entry_visit, entry_visits}, Visits.IsRightPlan, Walks.{WalkedTrees, BothHold, goes, old_side}}
+use Rattle.reporter.specs.{declared.unvisited.Found.Found, declared.unvisited.Found.TheVariants.{Nothing, Single, Entered}}
+use Rattle.reporter.specs.{declared.unvisited.Unvisited.Unvisited, declared.visit.Visit.Visit, declared.visit.Visit.TheVariants.Close}
 
 -- ---- plans
 

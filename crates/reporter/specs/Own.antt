@@ -1,11 +1,8 @@
 -- What an entry is told, once it was opened or added.
-use Rattle.std.specs.Prelude.{◌≡◌, ℕ, Bool, false, List, [], ◌∷◌, ◌++◌, Option, Some, None, All, map}
-use Rattle.std.specs.List.{list_any}
+use Rattle.std.specs.{Prelude.{◌≡◌, ℕ, Bool, false, List, [], ◌∷◌, ◌++◌, Option, Some, None, All, map}, List.list_any}
 use Rattle.svnpath.specs.Paths.{PathValue, same_component}
-use Rattle.repo_api.specs.declared.entry.Content.{Content}
-use Rattle.repo_api.specs.declared.entry.Content.TheVariants.{File}
-use Rattle.drive_rules.specs.Steps.{Step, PropertyValues, is_entry_property}
-use Rattle.drive_rules.specs.Steps.Step.{PropertyAt, TextAt}
+use Rattle.repo_api.specs.{declared.entry.Content.Content, declared.entry.Content.TheVariants.File}
+use Rattle.drive_rules.specs.{Steps.{is_entry_property, PropertyValues, Step}, Steps.Step.{PropertyAt, TextAt}}
 
 -- a property's name, with its value or none
 abbrev pub Change : Type 0

@@ -1,15 +1,11 @@
 -- What a walk over two trees needs to know of them.
-use Rattle.std.specs.Prelude.{◌≡◌, ◌<◌, ℕ, Bool, true, false, not, if◌then◌else◌, is_some, List, [], ◌∷◌, ◌++◌, Option, Some, None, IsSome, ◌⊎◌, length, All, option_map, filter, map}
-use Rattle.std.specs.List.{list_any}
-use Rattle.svnpath.specs.Paths.{PathValue, Component, is_at_or_under}
-use Rattle.repo_api.specs.Trees.{Tree, HasFile, is_directory}
-use Rattle.repo_api.specs.declared.entry.Entry.{Entry}
-use Rattle.drive_rules.specs.Steps.{Node, node_at, all_meet, after_steps, has_step, is_text, empty_content, no_properties, IsOwn}
-use Rattle.drive_rules.specs.Drives.{Differs, created_revision, IsOfOneKind, HasOtherText}
-use Rattle.drive_rules.specs.Scopes.{below, tree_without, HoldsTogether}
-use Rattle.reporter.specs.declared.visit.Visit.{Visit}
-use Rattle.reporter.specs.declared.visit.Visit.TheVariants.{Delete}
-use Rattle.reporter.specs.Visits.{OwnSteps, entry_kind}
+use Rattle.std.specs.Prelude.{◌≡◌, ◌<◌, ℕ, Bool, true, false, not, if◌then◌else◌, is_some, List, [], ◌∷◌, ◌++◌, Option, Some, None, IsSome, ◌⊎◌, length, All}
+use Rattle.std.specs.{Prelude.{option_map, filter, map}, List.list_any}
+use Rattle.svnpath.specs.Paths.{Component, is_at_or_under, PathValue}
+use Rattle.repo_api.specs.{Trees.{HasFile, is_directory, Tree}, declared.entry.Entry.Entry}
+use Rattle.drive_rules.specs.{Drives.{created_revision, Differs, HasOtherText, IsOfOneKind}, Scopes.{below, HoldsTogether, tree_without}}
+use Rattle.drive_rules.specs.Steps.{after_steps, all_meet, empty_content, has_step, is_text, IsOwn, no_properties, Node, node_at}
+use Rattle.reporter.specs.{declared.visit.Visit.Visit, declared.visit.Visit.TheVariants.Delete, Visits.{OwnSteps, entry_kind}}
 
 -- ---- both trees
 

@@ -1,7 +1,6 @@
 //! What stands at a path on both sides.
 ghost use Rattle.std.specs.Prelude.{◌≡◌, ◌||◌, not, Option, is_some};
-ghost use Rattle.repo_api.specs.Kinds.{kind_of};
-ghost use Rattle.repo_api.specs.declared.entry.Entry.{Entry};
+ghost use Rattle.repo_api.specs.{Kinds.kind_of, declared.entry.Entry.Entry};
 ghost use Rattle.reporter.specs.Walks.{goes};
 
 use repo_api::NodeKind;

@@ -1,10 +1,7 @@
 //! The visits of one directory, made one after another.
 ghost use Rattle.std.specs.Prelude.{◌≡◌, ◌∷◌, ◌++◌, [], false, IfOk, is_some, List, true};
 ghost use Rattle.repo_api.specs.Trees.{is_directory_there};
-ghost use Rattle.reporter.specs.Left.{IsEntry, IsFound, IsLeftIn, IsPlanBelow, IsPlanOf};
-ghost use Rattle.reporter.specs.Nesting.{entry_visit};
-ghost use Rattle.reporter.specs.Walks.{deletes_of, goes};
-ghost use Rattle.reporter.specs.declared.unvisited.Found.TheVariants.{Nothing};
+ghost use Rattle.reporter.specs.{Left.{IsEntry, IsFound, IsLeftIn, IsPlanBelow, IsPlanOf}, Nesting.entry_visit, Walks.{deletes_of, goes}};
 ghost use Rattle.reporter.specs.declared.visit.Visit.{Visit};
 
 use crate::kinds::{goes, is_added};
@@ -152,7 +149,7 @@ pub(crate) fn next_found<S: Sides>(
     ensures next { IfOk result (λ found. (vs more : List Visit) → IsFound (S.trees sides.now) found vs
         → IsLeftIn (S.trees sides.now) here.new more
         → IsLeftIn (S.trees sides.now) here.old (vs ++ more)) }
-    ensures end { IfOk result (λ found. found ≡ Nothing
+    ensures end { IfOk result (λ found. found ≡ Found.Nothing
         → IsLeftIn (S.trees sides.now) here.old []) }
 {
     if let Some(visit) = here.deletes.pop_front() {
@@ -167,7 +164,7 @@ fn next_entry<S: Sides>(alloc: Global, sides: &S, here: &mut Unvisited) -> Resul
     ensures next { IfOk result (λ found. (vs more : List Visit) → IsFound (S.trees sides.now) found vs
         → IsLeftIn (S.trees sides.now) here.new more
         → IsLeftIn (S.trees sides.now) here.old (vs ++ more)) }
-    ensures end { IfOk result (λ found. found ≡ Nothing
+    ensures end { IfOk result (λ found. found ≡ Found.Nothing
         → IsLeftIn (S.trees sides.now) here.old []) }
 {
     while let Some(path) = here.entries.pop_front() {

@@ -2,8 +2,7 @@
 ghost use Rattle.std.specs.Prelude.{◌≡◌, [], false, true, IfOk, is_some};
 ghost use Rattle.repo_api.specs.Trees.{is_directory_there};
 ghost use Rattle.drive_rules.specs.Drives.{HasReason};
-ghost use Rattle.reporter.specs.Left.{IsPlanOf, IsPlanBelow};
-ghost use Rattle.reporter.specs.Walks.{goes};
+ghost use Rattle.reporter.specs.{Left.{IsPlanOf, IsPlanBelow}, Walks.goes};
 
 use crate::kinds::{goes, is_added};
 use crate::sides::Sides;

@@ -1,8 +1,7 @@
 //! Two trees side by side.
 ghost use Rattle.std.specs.Prelude.{◌≡◌, ◌⊎◌, ℕ, false, true, IfOk};
 ghost use Rattle.repo_api.specs.Kinds.{kind_of};
-ghost use Rattle.drive_rules.specs.Drives.{Differs};
-ghost use Rattle.drive_rules.specs.Scopes.{HoldsTogether};
+ghost use Rattle.drive_rules.specs.{Drives.Differs, Scopes.HoldsTogether};
 ghost use Rattle.reporter.specs.Walks.{WalkedTrees, AreChildren, AreAll, IsSame, IsShorter, AreAlike, LeadsOver};
 
 use crate::kinds::Kinds;

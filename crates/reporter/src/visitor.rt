@@ -19,14 +19,8 @@ impl Visitor {
     ghost use Rattle.std.specs.Prelude.{◌≡◌, ◌∷◌, [], true, IfOk, IfSome, List, None};
     ghost use Rattle.svnpath.specs.Paths.{PathValue};
     ghost use Rattle.repo_api.specs.Trees.{HasDirectory};
-    ghost use Rattle.drive_rules.specs.Places.{is_in_directory};
-    ghost use Rattle.drive_rules.specs.Scopes.{under};
-    ghost use Rattle.reporter.specs.Left.{behind};
-    ghost use Rattle.reporter.specs.Nesting.{AreNested};
-    ghost use Rattle.reporter.specs.Visiting.{MayVisit};
-    ghost use Rattle.reporter.specs.Visits.{IsRightPlan};
-    ghost use Rattle.reporter.specs.Walks.{BothHold};
-    ghost use Rattle.reporter.specs.declared.visit.Visit.{Visit};
+    ghost use Rattle.drive_rules.specs.{Places.is_in_directory, Scopes.under};
+    ghost use Rattle.reporter.specs.{Left.behind, Nesting.AreNested, Visiting.MayVisit, Visits.IsRightPlan, Walks.BothHold, declared.visit.Visit.Visit};
     ghost use Rattle.reporter.specs.declared.visit.Visit.TheVariants.{Open};
 
     /// Makes the visits of a drive of the whole tree: what it does below the root, which is opened

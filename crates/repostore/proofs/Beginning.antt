@@ -1,19 +1,11 @@
 -- How the files of a new repository are written.
 use Rattle.std.proofs.Common.{◌≡◌, ◌≢◌, ◌⊎◌, inl, inr, ⊎_elim, ap, ◌∙◌, ℕ, List, [], ◌∷◌, Option, Some, arith}
 use Rattle.std.specs.Prelude.{◌<◌, ◌↔◌, Result, IsErr, IsErrOf}
-use Rattle.store_files.specs.Folders.{Folder, text_of, IsSame, SameBut, Scribbled}
-use Rattle.store_files.specs.Moments.{Elapses, LeavesOnly}
-use Rattle.store_files.specs.declared.name.FileName.{FileName}
+use Rattle.store_files.specs.{Folders.{Folder, IsSame, SameBut, Scribbled, text_of}, Moments.{Elapses, LeavesOnly}, declared.name.FileName.FileName}
 use Rattle.store_files.specs.declared.name.FileName.TheVariants.{Format, Kind, Uuid, Current, Locks, Revision, Properties, RepositoryFormat}
-use Rattle.store_files.specs.declared.fault.StoreFault.{StoreFault}
-use Rattle.store_files.specs.declared.fault.StoreFault.TheVariants.{Device, NoMemory}
-use Rattle.repostore.specs.Current.{count_in}
-use Rattle.repostore.specs.Files.{Files, HasFiles}
-use Rattle.repostore.specs.Saving.{Stands, Going}
-use Rattle.repostore.specs.Creating.{IsFreeWith, IsFreeOrHas}
-use Rattle.repostore.proofs.Reaching.{closed}
-use Rattle.repostore.proofs.Steps.{begun, goes_on, weaker, wrote, with_bytes, unchanged}
-use Rattle.repostore.proofs.Joining.{join}
+use Rattle.store_files.specs.{declared.fault.StoreFault.StoreFault, declared.fault.StoreFault.TheVariants.{Device, NoMemory}}
+use Rattle.repostore.specs.{Current.count_in, Files.{Files, HasFiles}, Saving.{Stands, Going}, Creating.{IsFreeWith, IsFreeOrHas}}
+use Rattle.repostore.proofs.{Reaching.closed, Steps.{begun, goes_on, weaker, wrote, with_bytes, unchanged}, Joining.join}
 
 -- files with their bytes
 abbrev pub Written : Type 0

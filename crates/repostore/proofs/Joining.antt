@@ -1,7 +1,6 @@
 -- A run of calls behind another.
 use Rattle.std.proofs.Common.{◌⊎◌, inl, inr, ⊎_elim, ℕ, arith}
-use Rattle.store_files.specs.Folders.{Folder}
-use Rattle.store_files.specs.Moments.{LeavesOnly}
+use Rattle.store_files.specs.{Folders.Folder, Moments.LeavesOnly}
 
 pub join : {S : Type 0} (moment : S → ℕ) (left_since : S → ℕ → Folder → Type 0) (start mid end : S) (P Q : Folder → Type 0)
     → LeavesOnly moment left_since start mid P → LeavesOnly moment left_since mid end Q

@@ -1,16 +1,11 @@
 -- Which files are reached where some of a folder's are changed.
-use Rattle.std.proofs.Common.{◌≡◌, refl, sym, ap, ◌∙◌, subst, ◌⊎◌, inl, inr, ℕ, zero, suc, ◌+◌, List, [], ◌∷◌, ◌++◌, Option, Some, None, arith, length, length-append, add-one}
+use Rattle.std.proofs.Common.{◌≡◌, refl, sym, ap, ◌∙◌, subst, ◌⊎◌, inl, inr, ℕ, zero, suc, ◌+◌, List, [], ◌∷◌, ◌++◌, Option, Some, None, arith, length}
+use Rattle.std.proofs.{Common.{length-append, add-one, cond}, lemmas.Bool.cases_eq, lemmas.Bool.Decides.leb_tells}
 use Rattle.std.specs.Prelude.{◌<◌, ◌≤◌, option_map}
-use Rattle.std.proofs.lemmas.Bool.{cases_eq}
-use Rattle.store_files.specs.Folders.{Folder, text_of, SameBut, IsSame}
-use Rattle.store_files.specs.NameLaws.{all_same}
+use Rattle.store_files.specs.{Folders.{Folder, IsSame, SameBut, text_of}, NameLaws.all_same}
 use Rattle.store_files.specs.declared.name.FileName.TheVariants.{Format, Kind, Uuid, Current, Locks, Revision, Properties, RepositoryFormat}
-use Rattle.std.proofs.Common.{cond}
-use Rattle.std.proofs.lemmas.Bool.Decides.{leb_tells}
-use Rattle.repostore.specs.Current.{count_in, counted, number_in}
-use Rattle.repostore.specs.Files.{RevisionFiles, Files, revision_files, revisions_below, reached, HasFiles, with_revision, with_locks, with_second, with_properties, HasEither}
-use Rattle.repostore.specs.Reading.{read_below, with_one_more}
-use Rattle.repostore.specs.Saving.{HasNext}
+use Rattle.repostore.specs.{Current.{count_in, counted, number_in}, Files.{RevisionFiles, Files, revision_files, revisions_below, reached, HasFiles}}
+use Rattle.repostore.specs.{Files.{with_revision, with_locks, with_second, with_properties, HasEither}, Reading.{read_below, with_one_more}, Saving.HasNext}
 
 pub length-below : (f : Folder) (n : ℕ) → length (revisions_below f n) ≡ n
 length-below f zero = refl

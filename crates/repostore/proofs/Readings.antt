@@ -1,14 +1,10 @@
 -- How reads go on.
 use Rattle.std.proofs.Common.{◌≡◌, ◌⊎◌, inl, inr, ⊎_elim, ℕ, Some, ◌∙◌, arith, le_refl}
 use Rattle.std.specs.Prelude.{◌≤◌}
-use Rattle.store_files.specs.Folders.{Folder, IsSame, text_of}
-use Rattle.store_files.specs.Moments.{Elapses, LeavesOnly}
-use Rattle.repostore.specs.Saving.{OnlyReads}
-use Rattle.store_files.specs.declared.name.FileName.TheVariants.{Current, Locks}
+use Rattle.store_files.specs.{Folders.{Folder, IsSame, text_of}, Moments.{Elapses, LeavesOnly}, declared.name.FileName.TheVariants.{Current, Locks}}
 use Rattle.store_files.specs.declared.fault.StoreFault.{StoreFault}
+use Rattle.repostore.specs.{Saving.OnlyReads, Current.count_in, Reading.{Faulty, HasFaultyRevision, IsFaulty, IfFaulty}}
 use Rattle.store_files.specs.declared.fault.StoreFault.TheVariants as store
-use Rattle.repostore.specs.Current.{count_in}
-use Rattle.repostore.specs.Reading.{Faulty, HasFaultyRevision, IsFaulty, IfFaulty}
 use Rattle.repostore.proofs.Steps.{goes_on}
 
 -- what a fault of a file leads to

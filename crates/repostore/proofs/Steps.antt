@@ -1,9 +1,7 @@
 -- How a run of calls goes on.
 use Rattle.std.proofs.Common.{◌≡◌, refl, ◌⊎◌, inl, inr, ⊎_elim, ℕ, List, Some, arith, le_refl}
 use Rattle.std.specs.Prelude.{◌↔◌, Result, Ok, Err, OnOk}
-use Rattle.store_files.specs.Folders.{Folder, SameBut, Scribbled, Swapped}
-use Rattle.store_files.specs.Moments.{Elapses, LeavesOnly}
-use Rattle.store_files.specs.declared.name.FileName.{FileName}
+use Rattle.store_files.specs.{Folders.{Folder, SameBut, Scribbled, Swapped}, Moments.{Elapses, LeavesOnly}, declared.name.FileName.FileName}
 use Rattle.repostore.specs.Saving.{Stands, Going, Replaces, IsWritten, IsUnchanged}
 
 module _ {S : Type 0} (is_honest : S → Type 0) (holds : S → Folder)

@@ -1,7 +1,6 @@
 -- The files that are reached from `current`, and what they stand for.
 use Rattle.std.specs.Prelude.{◌≡◌, ◌⊎◌, ℕ, zero, suc, List, [], ◌∷◌, ◌++◌, Option, Some, option_map}
-use Rattle.store_files.specs.Folders.{Folder, text_of}
-use Rattle.store_files.specs.declared.name.FileName.TheVariants.{Format, Uuid, Current, Locks, Revision, Properties}
+use Rattle.store_files.specs.{Folders.{Folder, text_of}, declared.name.FileName.TheVariants.{Format, Uuid, Current, Locks, Revision, Properties}}
 use Rattle.repostore.specs.Current.{count_in}
 
 -- the file of a revision, and that of its properties

@@ -1,13 +1,11 @@
 -- How the files of a repository are read.
 use Rattle.std.specs.Prelude.{◌≡◌, ◌⊎◌, ◌<◌, ℕ, List, [], ◌++◌, ◌∷◌, Option, None, Some, Result, Ok, Err}
-use Rattle.store_files.specs.Folders.{Folder, text_of}
-use Rattle.store_files.specs.declared.name.FileName.TheVariants.{Format, Uuid, Current, Locks}
+use Rattle.store_files.specs.{Folders.{Folder, text_of}, declared.name.FileName.TheVariants.{Format, Uuid, Current, Locks}}
+use Rattle.store_files.specs.declared.fault.StoreFault.{StoreFault}
 use Rattle.fsfs_lines.specs.declared.fault.FileFault.{FileFault}
 use Rattle.fsfs_lines.specs.declared.fault.FileFault.TheVariants.{Truncated, BadLine, Delta, Digest, Dangling, WrongFormat, NoMemory}
-use Rattle.store_files.specs.declared.fault.StoreFault.{StoreFault}
 use Rattle.store_files.specs.declared.fault.StoreFault.TheVariants as store
-use Rattle.repostore.specs.Current.{count_in}
-use Rattle.repostore.specs.Files.{RevisionFiles, Files, HasFiles, revision_files, revisions_below}
+use Rattle.repostore.specs.{Current.count_in, Files.{RevisionFiles, Files, HasFiles, revision_files, revisions_below}}
 
 -- what a reader finds faulty: the first files, that of a revision behind others, the locks
 pub record Faulty : Type 1 where

@@ -1,11 +1,8 @@
 -- How files are saved, call by call.
 use Rattle.std.specs.Prelude.{◌≡◌, ◌≤◌, ℕ, List, false, length, Some}
-use Rattle.store_files.specs.Folders.{Folder, IsSame, SameBut, Swapped}
-use Rattle.store_files.specs.Moments.{LeavesOnly, Elapses}
-use Rattle.store_files.specs.declared.name.FileName.{FileName}
+use Rattle.store_files.specs.{Folders.{Folder, IsSame, SameBut, Swapped}, Moments.{Elapses, LeavesOnly}, declared.name.FileName.FileName}
 use Rattle.store_files.specs.declared.name.FileName.TheVariants.{Revision, Properties}
-use Rattle.repostore.specs.Files.{Files, HasFiles}
-use Rattle.repostore.specs.declared.saves.Saves.{Saves}
+use Rattle.repostore.specs.{Files.{Files, HasFiles}, declared.saves.Saves.Saves}
 
 module _ {S : Type 0} (is_honest : S → Type 0) (holds : S → Folder)
     (may_leave : S → Folder → Type 0) where

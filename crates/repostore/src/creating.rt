@@ -1,12 +1,7 @@
 //! The files of a repository that is new.
 ghost use Rattle.std.specs.Prelude.{◌≡◌, ◌∷◌, [], ◌↔◌, ℕ, List, Option, Some, None, IsSome, OnOk, IsErr, IsErrOf};
-ghost use Rattle.store_files.specs.Folders.{IsSame};
-ghost use Rattle.store_files.specs.Moments.{LeavesOnly, HasRisen, HasCause};
-ghost use Rattle.store_files.specs.declared.name.FileName.TheVariants.{Format, Locks};
-ghost use Rattle.repostore.specs.Current.{count_in};
-ghost use Rattle.repostore.specs.Files.{HasFiles};
-ghost use Rattle.repostore.specs.Creating.{opening_files, IsFreeWith, IsFreeOrHas};
-ghost use Rattle.repostore.specs.Saving.{Stands};
+ghost use Rattle.store_files.specs.{Folders.IsSame, Moments.{HasCause, HasRisen, LeavesOnly}};
+ghost use Rattle.repostore.specs.{Current.count_in, Files.HasFiles, Creating.{opening_files, IsFreeWith, IsFreeOrHas}, Saving.Stands};
 
 use std::alloc::Global;
 use store_files::{FileName, Store, StoreFault};
@@ -32,10 +27,10 @@ pub fn create<S: Store>(
     opening: Opening<'_>,
 ) -> Result<(), StoreFault>
     ensures exists { S.is_honest store.new → IsErrOf result StoreFault.Exists
-        → IsSome (S.holds store.old Format) × IsSame (S.holds store.old) (S.holds store.new) }
-    ensures free { S.is_honest store.new → OnOk result (S.holds store.old Format ≡ None) }
+        → IsSome (S.holds store.old FileName.Format) × IsSame (S.holds store.old) (S.holds store.new) }
+    ensures free { S.is_honest store.new → OnOk result (S.holds store.old FileName.Format ≡ None) }
     ensures made { S.is_honest store.new → count_in opening.entry.current.now ≡ Some 1
-        → OnOk result (HasFiles (opening_files opening.entry (S.holds store.old Locks))
+        → OnOk result (HasFiles (opening_files opening.entry (S.holds store.old FileName.Locks))
         (S.holds store.new)) }
     // A stop at any moment of the call leaves no `format`, so that `create` may be asked again, or
     // the whole new repository.
@@ -67,7 +62,7 @@ pub fn create<S: Store>(
 fn write_opening<S: Store>(store: &mut S, opening: Opening<'_>) -> Result<(), StoreFault>
     ensures honest { S.is_honest store.old ↔ S.is_honest store.new }
     ensures made { S.is_honest store.old → count_in opening.entry.current.now ≡ Some 1
-        → OnOk result (HasFiles (opening_files opening.entry (S.holds store.old Locks))
+        → OnOk result (HasFiles (opening_files opening.entry (S.holds store.old FileName.Locks))
         (S.holds store.new)) }
     ensures stop { (locks : Option (List ℕ))
         → Stands S.is_honest S.holds S.may_leave store.old (IsFreeWith locks)

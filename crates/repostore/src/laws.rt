@@ -1,7 +1,6 @@
 //! What the promises of saves say together.
 ghost use Rattle.std.specs.Prelude.{◌≡◌, ◌⊎◌};
-ghost use Rattle.store_files.specs.Folders.{Folder};
-ghost use Rattle.store_files.specs.Moments.{LeavesOnly};
+ghost use Rattle.store_files.specs.{Folders.Folder, Moments.LeavesOnly};
 ghost use Rattle.repostore.specs.Files.{Files, HasFiles, HasEither};
 
 use store_files::Store;

@@ -1,12 +1,8 @@
 //! The files of a repository read back.
 ghost use Rattle.std.specs.Prelude.{◌≡◌, ◌⊎◌, Some, IfOk, IfErr, OnOk, IsErrOf};
-ghost use Rattle.store_files.specs.Folders.{bytes_of};
-ghost use Rattle.store_files.specs.Folders.{Folder, IsSame, text_of};
-ghost use Rattle.store_files.specs.Moments.{HasRisen, HasCause};
-ghost use Rattle.store_files.specs.declared.name.FileName.TheVariants.{Format, Uuid, Current, Locks};
-ghost use Rattle.repostore.specs.Current.{count_in};
-ghost use Rattle.repostore.specs.Files.{Files, HasFiles, revision_files, reached};
-ghost use Rattle.repostore.specs.Reading.{Faulty, HasTaken, IsFaulty, HasFaultyRevision, IfFaulty, IfFindsFaulty, IfStoreFindsFaulty, with_head, with_one_more, with_read_locks, read_below};
+ghost use Rattle.store_files.specs.{Folders.{bytes_of, Folder, IsSame, text_of}, Moments.{HasCause, HasRisen}};
+ghost use Rattle.repostore.specs.{Current.count_in, Files.{Files, HasFiles, revision_files, reached}, Reading.{Faulty, HasTaken, IsFaulty, HasFaultyRevision}};
+ghost use Rattle.repostore.specs.Reading.{IfFaulty, IfFindsFaulty, IfStoreFindsFaulty, with_head, with_one_more, with_read_locks, read_below};
 ghost use Rattle.repostore.specs.Saving.{IsSaved, OnlyReads};
 
 use crate::saves::Saves;
@@ -95,7 +91,7 @@ fn read_all<S: Store, R: Reader>(alloc: Global, store: &mut S) -> Result<(R, u32
     ensures found { S.is_honest store.new → IfOk result (λ read. HasTaken R.took
         (S.holds store.old) read.0) }
     ensures count { S.is_honest store.new → IfOk result (λ read. count_in
-        (text_of (S.holds store.old Current)) ≡ Some read.1) }
+        (text_of (S.holds store.old FileName.Current)) ≡ Some read.1) }
     ensures faulty { S.is_honest store.new → IfStoreFindsFaulty result (IsFaulty R.faulty
         (S.holds store.old)) }
     ensures device { IsErrOf result StoreFault.Device
@@ -118,10 +114,10 @@ fn read_head<S: Store, R: Reader>(alloc: Global, store: &mut S) -> Result<(R, u3
     ensures took { S.is_honest store.new → IfOk result (λ begun. R.took begun.0
         (read_below (S.holds store.old) 0)) }
     ensures count { S.is_honest store.new → IfOk result (λ begun. count_in
-        (text_of (S.holds store.old Current)) ≡ Some begun.1) }
+        (text_of (S.holds store.old FileName.Current)) ≡ Some begun.1) }
     ensures faulty { S.is_honest store.new → IfStoreFindsFaulty result (R.faulty.head
-        (S.holds store.old Format) (text_of (S.holds store.old Uuid))
-        (text_of (S.holds store.old Current))) }
+        (S.holds store.old FileName.Format) (text_of (S.holds store.old FileName.Uuid))
+        (text_of (S.holds store.old FileName.Current))) }
     ensures device { IsErrOf result StoreFault.Device
         → HasRisen (S.failed store.old) (S.failed store.new) }
 {
@@ -144,7 +140,7 @@ fn read_rest<S: Store, R: Reader>(
         → OnOk result (R.took reader.new (reached (S.holds store.old) count)) }
     ensures faulty { S.is_honest store.new → R.took reader.old (read_below (S.holds store.old) 0)
         → IfStoreFindsFaulty result (HasFaultyRevision R.faulty (S.holds store.old) count
-        ⊎ R.faulty.locks (S.holds store.old Locks)) }
+        ⊎ R.faulty.locks (S.holds store.old FileName.Locks)) }
     ensures device { IsErrOf result StoreFault.Device
         → HasRisen (S.failed store.old) (S.failed store.new) }
 {
@@ -219,9 +215,9 @@ fn read_locks<S: Store, R: Reader>(
     ensures reads { OnlyReads S.is_honest S.holds S.may_leave S.moment S.left_since S.in_doubt
         S.failed store.old store.new }
     ensures took { S.is_honest store.new → OnOk result ((files : Files) → R.took reader.old files
-        → R.took reader.new (with_read_locks files (S.holds store.old Locks))) }
+        → R.took reader.new (with_read_locks files (S.holds store.old FileName.Locks))) }
     ensures faulty { S.is_honest store.new → IfStoreFindsFaulty result (R.faulty.locks
-        (S.holds store.old Locks)) }
+        (S.holds store.old FileName.Locks)) }
     ensures device { IsErrOf result StoreFault.Device
         → HasRisen (S.failed store.old) (S.failed store.new) }
 {

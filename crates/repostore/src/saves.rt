@@ -1,8 +1,7 @@
 //! Changes saved to files.
 ghost use Rattle.std.specs.Prelude.{◌≡◌, ◌⊎◌, ◌<◌, ◌≤◌, ◌+◌, ◌↔◌, true, false, Some, length, OnOk, IsErr, IsErrOf};
-ghost use Rattle.store_files.specs.Moments.{LeavesOnly, HasRisen, HasCause};
-ghost use Rattle.repostore.specs.Current.{count_in};
-ghost use Rattle.repostore.specs.Files.{Files, with_revision, with_locks, with_properties, HasFiles, HasEither};
+ghost use Rattle.store_files.specs.Moments.{HasCause, HasRisen, LeavesOnly};
+ghost use Rattle.repostore.specs.{Current.count_in, Files.{Files, with_revision, with_locks, with_properties, HasFiles, HasEither}};
 ghost use Rattle.repostore.specs.Saving.{IsSaved, Going, Replaces, IsWritten, IsUnchanged, HasNext};
 
 use store_files::{FileName, Store, StoreFault};

@@ -1,19 +1,11 @@
 -- The steps of a note, and the changes after the edit.
-use Rattle.std.proofs.Common.{◌≡◌, Bool, true, false, List, Option, Some, None, refl, sym, ap, ◌∙◌}
-use Rattle.std.proofs.lemmas.Bool.{false≢true}
-use Rattle.std.specs.Prelude.{not, is_some, if◌then◌else◌}
-use Rattle.std.specs.FinMap.{get, from_entries}
-use Rattle.svnpath.specs.Paths.{PathValue, path_cmp, same_path, is_at_or_under}
-use Rattle.svnpath.specs.PathLaws.{same_path_is, same_path_refl}
-use Rattle.repo_api.specs.Changes.{Changes, or_modified, after_add, after_delete, noted, noted_delete, changes_after}
-use Rattle.repo_api.specs.States.{ChangeMap, changes_of}
-use Rattle.repo_api.specs.StateLaws.{get_path, same_changes}
-use Rattle.repo_api.specs.declared.change.Change.{Change}
-use Rattle.repo_api.specs.declared.edit.EditOp.{EditOp}
+use Rattle.std.proofs.{Common.{◌≡◌, Bool, true, false, List, Option, Some, None, refl, sym, ap, ◌∙◌}, lemmas.Bool.false≢true}
+use Rattle.std.specs.{Prelude.{not, is_some, if◌then◌else◌}, FinMap.{get, from_entries}}
+use Rattle.svnpath.specs.{PathLaws.{same_path_is, same_path_refl}, Paths.{is_at_or_under, path_cmp, PathValue, same_path}}
+use Rattle.repo_api.specs.{Changes.{after_add, after_delete, Changes, changes_after, noted, noted_delete, or_modified}, StateLaws.{get_path, same_changes}}
+use Rattle.repo_api.specs.{States.{ChangeMap, changes_of}, declared.change.Change.Change, declared.edit.EditOp.EditOp}
 use Rattle.repo_api.specs.declared.edit.EditOp.TheVariants.{AddDirectory, AddFile, Copy, Replace, Delete, SetProperty, RemoveProperty, SetText}
-use Rattle.revision_data.specs.declared.txn_changes.Note.{Note}
-use Rattle.revision_data.specs.Found.{found}
-use Rattle.revision_data.specs.Prepared.{path_of, change_after, prunes, IsPrepared}
+use Rattle.revision_data.specs.{declared.txn_changes.Note.Note, Found.found, Prepared.{path_of, change_after, prunes, IsPrepared}}
 use Rattle.revision_data.proofs.Seen.{seen_at}
 
 -- where a change stands, it is no new one

@@ -1,7 +1,6 @@
 -- What a `retain` leaves at a key.
 use Rattle.std.proofs.Common.{◌≡◌, Bool, true, false, cond, List, [], ◌∷◌, Option, Some, None, option_map, refl, sym, ap, subst, ◌∙◌}
-use Rattle.std.specs.Map.{lookup}
-use Rattle.std.specs.Map.Calls.{RetainsPairs}
+use Rattle.std.specs.{Map.lookup, Map.Calls.RetainsPairs}
 
 none_either_way : {X : Type 0} (b : Bool) → ◌≡◌ {A = Option X} None (cond b None None)
 none_either_way true = refl

@@ -1,10 +1,7 @@
 -- The map that the entries make, and what the entries have at each path.
 use Rattle.std.proofs.Common.{◌≡◌, List, sym, ap, ◌∙◌}
-use Rattle.std.specs.BTreeMap.{is_at}
-use Rattle.std.specs.Cmp.{eq_by_cmp_equiv}
-use Rattle.std.specs.FinMap.{FinMap, get, from_entries}
-use Rattle.svnpath.specs.Paths.{PathValue, path_cmp, path_cmp_total, same_path}
-use Rattle.svnpath.specs.PathLaws.{at_is_same}
+use Rattle.std.specs.{BTreeMap.is_at, Cmp.eq_by_cmp_equiv, FinMap.{FinMap, get, from_entries}}
+use Rattle.svnpath.specs.{PathLaws.at_is_same, Paths.{path_cmp, path_cmp_total, PathValue, same_path}}
 use Rattle.repo_api.specs.StateLaws.{get_path}
 use Rattle.revision_data.specs.Found.{found}
 

@@ -1,9 +1,7 @@
 -- An entry of a map that is written over in its place.
 use Rattle.std.proofs.Common.{◌≡◌, Bool, true, false, cond, List, Option, Some, None, option_map, refl, sym, ap, ◌∙◌}
-use Rattle.std.specs.Prelude.{not, if◌then◌else◌}
-use Rattle.std.specs.BTreeMap.{is_at}
-use Rattle.svnpath.specs.Paths.{PathValue, path_cmp, same_path}
-use Rattle.svnpath.specs.PathLaws.{same_path_is, at_is_same}
+use Rattle.std.specs.{Prelude.{not, if◌then◌else◌}, BTreeMap.is_at}
+use Rattle.svnpath.specs.{PathLaws.{at_is_same, same_path_is}, Paths.{path_cmp, PathValue, same_path}}
 use Rattle.revision_data.specs.Found.{found}
 
 -- what stood at p is written over

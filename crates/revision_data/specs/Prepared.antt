@@ -1,11 +1,8 @@
 -- The note of an edit in the changes of a transaction: room for it, and what it leaves there.
-use Rattle.std.specs.Prelude.{◌≡◌, Bool, true, false, not, is_some, Option, Some, None}
-use Rattle.std.specs.FinMap.{get}
+use Rattle.std.specs.{Prelude.{◌≡◌, Bool, true, false, not, is_some, Option, Some, None}, FinMap.get}
 use Rattle.svnpath.specs.Paths.{PathValue}
-use Rattle.repo_api.specs.Changes.{after_add, after_delete, after_property, after_text, noted, or_modified}
-use Rattle.repo_api.specs.States.{ChangeMap, changes_of}
-use Rattle.repo_api.specs.declared.change.Change.{Change}
-use Rattle.repo_api.specs.declared.edit.EditOp.{EditOp}
+use Rattle.repo_api.specs.{Changes.{after_add, after_delete, after_property, after_text, noted, or_modified}, States.{ChangeMap, changes_of}}
+use Rattle.repo_api.specs.{declared.change.Change.Change, declared.edit.EditOp.EditOp}
 use Rattle.repo_api.specs.declared.edit.EditOp.TheVariants.{AddDirectory, AddFile, Copy, Replace, Delete, SetProperty, RemoveProperty, SetText}
 use Rattle.revision_data.specs.declared.txn_changes.Note.{Note}
 

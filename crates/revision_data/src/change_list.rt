@@ -1,6 +1,5 @@
 //! The changes of a revision as one list.
-ghost use Rattle.std.specs.Prelude.{◌≡◌, IfOk};
-ghost use Rattle.std.specs.FinMap.{empty, entries, from_entries};
+ghost use Rattle.std.specs.{Prelude.{◌≡◌, IfOk}, FinMap.{empty, entries, from_entries}};
 
 use crate::changes::copied_change;
 use repo_api::Change;
@@ -16,10 +15,7 @@ pub struct ChangeList {
 }
 
 impl Model for ChangeList {
-    ghost use Rattle.std.specs.Coded.{codes};
-    ghost use Rattle.std.specs.FinMap.{from_entries, code as map_code};
-    ghost use Rattle.std.specs.List.Sorted.{IsStrictlySortedBy};
-    ghost use Rattle.std.specs.Map.{keys_of};
+    ghost use Rattle.std.specs.{Coded.codes, FinMap.{from_entries, code as map_code}, List.Sorted.IsStrictlySortedBy, Map.keys_of};
     ghost use Rattle.svnpath.specs.Paths.{path_cmp};
     ghost use Rattle.repo_api.specs.States.{ChangeMap};
 

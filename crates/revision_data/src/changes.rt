@@ -1,6 +1,6 @@
 //! The change at one path that an edit leaves there, by the change before it.
 ghost use Rattle.std.specs.Prelude.{◌≡◌, IfOk, option_copied, Some};
-ghost use Rattle.repo_api.specs.Changes.{plain_change, after_add, after_delete, after_property, after_text, or_modified};
+ghost use Rattle.repo_api.specs.Changes.{after_add, after_delete, after_property, after_text, or_modified, plain_change};
 ghost use Rattle.revision_data.specs.Prepared.{change_after, path_of, prunes};
 
 use repo_api::{Action, Change, EditOp, Source};

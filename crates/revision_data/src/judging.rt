@@ -1,10 +1,7 @@
 //! What is judged by the number of the youngest revision and by one revision's properties.
 ghost use Rattle.std.specs.Prelude.{◌≡◌, option_copied, slice_get};
-ghost use Rattle.repo_api.specs.Locking.{current_refusal};
-ghost use Rattle.repo_api.specs.RevisionProperties.{previous_refusal, property_name_refusal, property_refusal};
-ghost use Rattle.repo_api.specs.Kinds.{or_empty};
-ghost use Rattle.repo_api.specs.Properties.{property_value};
-ghost use Rattle.repo_api.specs.States.{RepoState, youngest};
+ghost use Rattle.repo_api.specs.{Kinds.or_empty, Locking.current_refusal, Properties.property_value};
+ghost use Rattle.repo_api.specs.{RevisionProperties.{previous_refusal, property_name_refusal, property_refusal}, States.{RepoState, youngest}};
 
 use byte_string::ByteString;
 use refusals::Refusal;

@@ -1,6 +1,6 @@
 //! The steps of a note in the changes by their paths.
 ghost use Rattle.std.specs.Prelude.{◌≡◌, not, is_some, IfOk, OnOk, OnErr, None, option_map, if◌then◌else◌};
-ghost use Rattle.svnpath.specs.Paths.{PathValue, same_path, is_at_or_under};
+ghost use Rattle.svnpath.specs.Paths.{is_at_or_under, PathValue, same_path};
 ghost use Rattle.repo_api.specs.Changes.{noted, or_modified};
 ghost use Rattle.revision_data.specs.Found.{found};
 

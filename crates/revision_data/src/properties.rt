@@ -1,8 +1,6 @@
 //! The properties of a revision.
 ghost use Rattle.std.specs.Prelude.{◌≡◌, ◌∷◌, [], IfOk, OnOk, codes};
-ghost use Rattle.repo_api.specs.Properties.{with_property};
-ghost use Rattle.repo_api.specs.RevisionProperties.{property_changed};
-ghost use Rattle.repo_api.specs.Commits.{asked_properties, with_author, revision_properties};
+ghost use Rattle.repo_api.specs.{Commits.{asked_properties, revision_properties, with_author}, Properties.with_property, RevisionProperties.property_changed};
 
 use byte_string::ByteString;
 use repo_api::{CommitAsk, Properties};

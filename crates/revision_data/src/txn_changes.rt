@@ -1,9 +1,7 @@
 //! The changes of a transaction as one ordered map.
-ghost use Rattle.std.specs.Prelude.{◌≡◌, IfOk, OnErr};
-ghost use Rattle.std.specs.FinMap.{get, empty, from_entries};
+ghost use Rattle.std.specs.{Prelude.{◌≡◌, IfOk, OnErr}, FinMap.{get, empty, from_entries}};
 ghost use Rattle.svnpath.specs.Paths.{PathValue};
-ghost use Rattle.repo_api.specs.Changes.{changes_after};
-ghost use Rattle.repo_api.specs.States.{ChangeMap, changes_of};
+ghost use Rattle.repo_api.specs.{Changes.changes_after, States.{ChangeMap, changes_of}};
 ghost use Rattle.revision_data.specs.Prepared.{IsPrepared};
 
 use crate::change_list::ChangeList;
@@ -31,8 +29,7 @@ pub struct TxnChanges {
 }
 
 impl Model for TxnChanges {
-    ghost use Rattle.std.specs.Coded.{codes};
-    ghost use Rattle.std.specs.FinMap.{from_entries, code as map_code};
+    ghost use Rattle.std.specs.{Coded.codes, FinMap.{from_entries, code as map_code}};
     ghost use Rattle.repo_api.specs.States.{ChangeMap};
 
     ghost Value = { ChangeMap };

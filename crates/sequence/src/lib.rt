@@ -16,8 +16,7 @@ pub struct Sequence<T> {
 }
 
 impl<T> Model for Sequence<T> {
-    ghost use Rattle.std.specs.Prelude.{List};
-    ghost use Rattle.std.specs.Coded.{coded_list};
+    ghost use Rattle.std.specs.{Prelude.List, Coded.coded_list};
 
     ghost Value = { List T };
 

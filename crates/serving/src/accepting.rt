@@ -1,7 +1,6 @@
 //! Connections as they come: each becomes a session, or is turned away.
 ghost use Rattle.std.specs.Prelude.{◌≡◌, ◌∷◌, [], IfOk};
-ghost use Rattle.wire_replies.specs.Replies.{print};
-ghost use Rattle.wire_replies.specs.declared.reply.Reply.TheVariants.{Failure};
+ghost use Rattle.wire_replies.specs.{Replies.print, declared.reply.Reply.TheVariants.Failure};
 
 use crate::journal::{Event, Journal};
 use conversations::OpenGate;

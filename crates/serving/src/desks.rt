@@ -130,8 +130,7 @@ where
     S: Store,
     J: Naming,
     requires { All (λ s. AreSound (content_of s).revisions) seats.items }
-    ensures { IfOk result (λ desks. All (λ d. AreSound (content_of d.seat).revisions)
-        desks.items) }
+    ensures { IfOk result (λ desks. All (λ d. AreSound (content_of d.seat).revisions) desks.items) }
 {
     let mut desks = Vec::new(alloc);
     for seat in seats {

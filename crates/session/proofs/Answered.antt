@@ -1,20 +1,12 @@
 -- Answers that change nothing.
 use Rattle.std.proofs.Common.{◌≡◌, ℕ, List, [], Bool, true, false, Option, Some, None, refl}
 use Rattle.std.specs.Prelude.{Result, Ok, Err, if◌then◌else◌}
-use Rattle.svnpath.specs.Paths.{PathValue}
-use Rattle.svnpath.specs.Urls.{path_of_text, root_of_text}
-use Rattle.svnpath.specs.declared.fault.PathFault.{PathFault}
+use Rattle.svnpath.specs.{Paths.PathValue, Urls.{path_of_text, root_of_text}, declared.fault.PathFault.PathFault}
 use Rattle.repo_api.specs.States.{RepoState}
 use Rattle.wire_forms.specs.declared.fault.CommandFault.{CommandFault}
 use Rattle.commands.specs.declared.login.ClientGreeting.{ClientGreeting}
-use Rattle.machine.specs.Settings.{Settings}
-use Rattle.machine.specs.Stages.{Stage, is_open}
-use Rattle.machine.specs.Hearing.Input.{Broken}
-use Rattle.machine.specs.Answers.{no_effect, Answer, says, malformed}
-use Rattle.machine.specs.Logins.{speaks, url_answer, greeting_answer}
-use Rattle.machine.specs.Machine.{InputStep, skipping_answer}
-use Rattle.machine.specs.Reports.{driven_answer}
-use Rattle.machine.specs.declared.env.Env.{Env}
+use Rattle.machine.specs.{Answers.{Answer, malformed, no_effect, says}, Hearing.Input.Broken, Logins.{greeting_answer, speaks, url_answer}}
+use Rattle.machine.specs.{Machine.{InputStep, skipping_answer}, Reports.driven_answer, Settings.Settings, Stages.{is_open, Stage}, declared.env.Env.Env}
 use Rattle.machine.specs.declared.phase.Client.{Client}
 use Rattle.machine.specs.declared.phase.Phase.TheVariants.{Greeted, LoggingIn, Challenged, Serving, Editing, Skipping, Reporting, Driven, Ended}
 

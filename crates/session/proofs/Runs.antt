@@ -1,15 +1,10 @@
 -- How far a run has come.
 use Rattle.std.proofs.Common.{◌≡◌, ℕ, List, [], ◌∷◌, ◌++◌, Some, None, true, refl, sym, subst, inl, inr, append-nil, append_assoc}
-use Rattle.wire_replies.specs.Replies.{print}
+use Rattle.wire_replies.specs.{Replies.print, declared.reply.Reply.Reply}
 use Rattle.wire_replies.proofs.Parts.{both_written, part_none, part_all, part_first, part_behind}
-use Rattle.wire_replies.specs.declared.reply.Reply.{Reply}
-use Rattle.access.specs.Points.{Point, AccessRules}
-use Rattle.machine.specs.Settings.{Settings}
-use Rattle.machine.specs.Hearing.{Input, YieldsFirst, Yields, HasNoMore}
-use Rattle.machine.specs.Machine.{InputStep, UnreleasedStep}
-use Rattle.machine.specs.Steps.{SessionRun, StepWritten, StepOrPart, FeedWritten, FeedLost}
-use Rattle.machine.specs.declared.env.Env.{Env}
-use Rattle.machine.specs.Stages.{Stage, is_open}
+use Rattle.access.specs.Points.{AccessRules, Point}
+use Rattle.machine.specs.{Hearing.{HasNoMore, Input, Yields, YieldsFirst}, Machine.{InputStep, UnreleasedStep}, Settings.Settings, Stages.{is_open, Stage}}
+use Rattle.machine.specs.{Steps.{FeedLost, FeedWritten, SessionRun, StepOrPart, StepWritten}, declared.env.Env.Env}
 
 -- from (env0, p0, phase0) over the inputs done to (env, p, phase); what is told is written
 pub record Progress (rules : AccessRules) (s : Settings) (env0 : Env) (p0 : Point) (phase0 : Stage) (stream : List ℕ) (env : Env) (p : Point) (phase : Stage) (rest : List ℕ) (writes : List ℕ → Type 0) : Type 0 where

@@ -1,10 +1,8 @@
 -- What is taken from a stream.
 use Rattle.std.specs.Prelude.{ℕ, ◌<◌, List, length}
-use Rattle.items.specs.View.{value_of}
-use Rattle.items.specs.declared.reader.ItemFault.{ItemFault}
+use Rattle.items.specs.{View.value_of, declared.reader.ItemFault.ItemFault}
 use Rattle.items.specs.declared.reader.ItemFault.TheVariants as faults
-use Rattle.machine.specs.Hearing.{Input}
-use Rattle.machine.specs.Hearing.Input.{Whole, Broken}
+use Rattle.machine.specs.{Hearing.Input, Hearing.Input.{Broken, Whole}}
 use Rattle.session.specs.declared.incoming.Incoming.{Incoming}
 use Rattle.session.specs.declared.incoming.Incoming.TheVariants as incoming
 

@@ -1,6 +1,6 @@
 //! What a stream of bytes brings.
 ghost use Rattle.std.specs.Prelude.{◌≡◌, ◌<◌, length, IfOk, OnErr, MatchOption, Some};
-ghost use Rattle.machine.specs.Hearing.{YieldsFirst, HasNoMore};
+ghost use Rattle.machine.specs.Hearing.{HasNoMore, YieldsFirst};
 ghost use Rattle.session.specs.Taking.{input_of, Shortens, IsBrokenFault};
 
 use items::{Item, ItemFault, ItemReader};

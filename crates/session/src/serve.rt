@@ -2,12 +2,8 @@
 ghost use Rattle.std.specs.Prelude.{[], if◌then◌else◌};
 ghost use Rattle.items.specs.View.{value_of};
 ghost use Rattle.access.specs.Points.{content_of};
-ghost use Rattle.machine.specs.Hearing.Input.{Whole};
-ghost use Rattle.machine.specs.Answers.{malformed, says};
-ghost use Rattle.machine.specs.Stages.{is_open, StandsOn};
-ghost use Rattle.machine.specs.Machine.{InputStep, UnreleasedStep};
+ghost use Rattle.machine.specs.{Answers.{malformed, says}, Hearing.Input.Whole, Machine.{InputStep, UnreleasedStep}, Stages.{is_open, StandsOn}};
 ghost use Rattle.machine.specs.Steps.{Answered, SteppedInPart};
-ghost use Rattle.machine.specs.declared.phase.Phase.TheVariants.{Ended};
 ghost use Rattle.session.specs.Taking.{input_of};
 
 use crate::incoming::Incoming;
@@ -57,7 +53,7 @@ fn serve_broken<R: Repository, S: ReplySink>(
     turn: &mut Turn<S>,
 ) -> Result<SessionPhase<R>, AllocError>
     ensures { Answered result turn.new.env (S.writes turn.old.out turn.new.out)
-        (if is_open phase then malformed turn.old.env else says turn.old.env Ended []) }
+        (if is_open phase then malformed turn.old.env else says turn.old.env Phase.Ended []) }
 {
     let was_open = phase.is_open();
     drop(phase);

@@ -2,9 +2,7 @@
 ghost use Rattle.std.specs.Prelude.{◌≡◌, ◌++◌, [], length, true, false, IfOk, OnOk, OnErr, IfErr, IsErrOf, option_copied};
 ghost use Rattle.repo_api.specs.Soundness.{AreSound};
 ghost use Rattle.access.specs.Points.{content_of};
-ghost use Rattle.machine.specs.Stages.{is_open, user_in, StandsOn};
-ghost use Rattle.machine.specs.Steps.{FeedWritten, FeedLost};
-ghost use Rattle.machine.specs.declared.phase.Phase.TheVariants.{Greeted, Ended};
+ghost use Rattle.machine.specs.{Stages.{is_open, StandsOn, user_in}, Steps.{FeedLost, FeedWritten}};
 
 use crate::incoming::take_incoming;
 use crate::serve::serve;
@@ -76,8 +74,7 @@ pub struct Session<R: Repository> {
 }
 
 impl<R: Repository> Model for Session<R> {
-    ghost use Rattle.std.specs.Coded.{codes};
-    ghost use Rattle.std.specs.FinMap.{code as map_code};
+    ghost use Rattle.std.specs.{Coded.codes, FinMap.code as map_code};
     ghost use Rattle.machine.specs.Stages.{SessionState};
 
     ghost Value = { SessionState };
@@ -90,7 +87,7 @@ impl<R: Repository> Model for Session<R> {
 impl<R: Repository> Session<R> {
     /// Makes a session that has heard nothing.
     pub fn new(alloc: Global) -> Self
-        ensures { result ≡ record { rest = []; phase = Greeted } }
+        ensures { result ≡ record { rest = []; phase = Phase.Greeted } }
     {
         Session {
             reader: ItemReader::new(alloc),
@@ -124,7 +121,7 @@ impl<R: Repository> Session<R> {
     fn take_piece(&mut self, piece: &[u8]) -> Result<SessionPhase<R>, AllocError>
         ensures rest { OnOk result (self.new.rest ≡ self.old.rest ++ piece.now) }
         ensures phase { IfOk result (λ phase. phase ≡ self.old.phase) }
-        ensures ended { self.new.phase ≡ Ended }
+        ensures ended { self.new.phase ≡ Phase.Ended }
     {
         let phase = mem::replace(&mut self.phase, Phase::Ended);
         match self.reader.feed(piece) {

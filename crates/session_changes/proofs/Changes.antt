@@ -2,21 +2,13 @@
 use Rattle.std.proofs.Common.{◌≡◌, Bool, refl, sym, subst, inl, inr}
 use Rattle.std.specs.Prelude.{◌⊎◌, Result, Ok, Err}
 use Rattle.dates.specs.Dates.{IsDateText}
-use Rattle.svnpath.specs.Paths.{PathValue}
-use Rattle.svnpath.specs.declared.fault.PathFault.{PathFault}
-use Rattle.svnpath.specs.declared.fault.PathFault.TheVariants.{NoMemory}
+use Rattle.svnpath.specs.{Paths.PathValue, declared.fault.PathFault.PathFault, declared.fault.PathFault.TheVariants.NoMemory}
 use Rattle.refusals.specs.Refusing.{path_refusal}
-use Rattle.commands.specs.declared.command.LockCommand.{LockCommand}
-use Rattle.commands.specs.declared.command.UnlockCommand.{UnlockCommand}
-use Rattle.repo_api.specs.States.{RepoState}
-use Rattle.repo_api.specs.declared.lock_ask.LockAsk.{LockAsk}
-use Rattle.repo_api.specs.declared.lock_ask.UnlockAsk.{UnlockAsk}
+use Rattle.commands.specs.{declared.command.LockCommand.LockCommand, declared.command.UnlockCommand.UnlockCommand}
+use Rattle.repo_api.specs.{States.RepoState, declared.lock_ask.LockAsk.LockAsk, declared.lock_ask.UnlockAsk.UnlockAsk}
 use Rattle.wire_replies.specs.declared.reply.Reply.TheVariants as replies
-use Rattle.access.specs.Points.{Point, content_of}
-use Rattle.machine.specs.Answers.{Answer, serves}
-use Rattle.machine.specs.Commands.{lock_ask, unlock_ask, LockStep, UnlockStep}
-use Rattle.machine.specs.declared.env.Env.{Env}
-use Rattle.machine.specs.declared.phase.Client.{Client}
+use Rattle.access.specs.Points.{content_of, Point}
+use Rattle.machine.specs.{Answers.{Answer, serves}, Commands.{lock_ask, LockStep, unlock_ask, UnlockStep}, declared.env.Env.Env, declared.phase.Client.Client}
 use Rattle.session_changes.specs.Asked.{LockAsked, UnlockAsked}
 
 -- ---- a lock and an unlock

@@ -1,14 +1,9 @@
 -- A lock and an unlock that are asked for, of a path of the repository.
 use Rattle.std.specs.Prelude.{[], ◌∷◌}
-use Rattle.repo_api.specs.Accepted.Accepted.{Locks, Unlocks}
-use Rattle.repo_api.specs.Locking.{lock_refusal, unlock_refusal}
-use Rattle.repo_api.specs.declared.lock_ask.LockAsk.{LockAsk}
+use Rattle.repo_api.specs.{Accepted.Accepted.{Locks, Unlocks}, Locking.{lock_refusal, unlock_refusal}, declared.lock_ask.LockAsk.LockAsk}
 use Rattle.repo_api.specs.declared.lock_ask.UnlockAsk.{UnlockAsk}
 use Rattle.wire_replies.specs.declared.reply.Reply.TheVariants as replies
-use Rattle.machine.specs.Answers.{Step, change_answer, ChangeStep}
-use Rattle.machine.specs.Commands.{lock_answer}
-use Rattle.machine.specs.declared.env.Env.{Env}
-use Rattle.machine.specs.declared.phase.Client.{Client}
+use Rattle.machine.specs.{Answers.{change_answer, ChangeStep, Step}, Commands.lock_answer, declared.env.Env.Env, declared.phase.Client.Client}
 
 abbrev pub LockAsked : Env → Client → LockAsk → Step
 LockAsked env client ask halted c a =

@@ -2,8 +2,7 @@
 ghost use Rattle.std.specs.Prelude.{◌≡◌, ◌⊎◌, Ok, Err, IfOk, MatchResult};
 ghost use Rattle.dates.specs.Dates.{IsDateText};
 ghost use Rattle.svnpath.specs.Texts.{joined};
-ghost use Rattle.svnpath.specs.declared.fault.PathFault.TheVariants.{NoMemory};
-ghost use Rattle.repo_api.specs.Locking.{owner_of, lock_of};
+ghost use Rattle.repo_api.specs.Locking.{lock_of, owner_of};
 ghost use Rattle.machine.specs.Commands.{lock_ask, unlock_ask};
 
 use crate::token::token_of;
@@ -24,8 +23,7 @@ fn lock_ask(
     path: Path,
 ) -> Result<LockAsk, AllocError>
     ensures date { IfOk result (λ ask. IsDateText env.moment ask.date) }
-    ensures ask { IfOk result (λ ask.
-        ask ≡ lock_ask env client.now command.now path ask.date) }
+    ensures ask { IfOk result (λ ask. ask ≡ lock_ask env client.now command.now path ask.date) }
 {
     Ok(LockAsk {
         user: client.user.clone()?,
@@ -47,10 +45,9 @@ pub(crate) fn lock_asked_for(
 ) -> Result<LockAsk, PathFault>
     ensures path { MatchResult result
         (λ ask. joined client.now.path command.now.path ≡ Ok ask.path)
-        (λ fault. (joined client.now.path command.now.path ≡ Err fault) ⊎ (fault ≡ NoMemory)) }
+        (λ fault. (joined client.now.path command.now.path ≡ Err fault) ⊎ (fault ≡ PathFault.NoMemory)) }
     ensures date { IfOk result (λ ask. IsDateText env.moment ask.date) }
-    ensures ask { IfOk result (λ ask.
-        ask ≡ lock_ask env client.now command.now ask.path ask.date) }
+    ensures ask { IfOk result (λ ask. ask ≡ lock_ask env client.now command.now ask.path ask.date) }
 {
     let path = client.path.join(alloc, command.path.as_slice())?;
     Ok(lock_ask(alloc, env, client, command, path)?)
@@ -76,7 +73,7 @@ pub(crate) fn unlock_asked_for(
 ) -> Result<UnlockAsk, PathFault>
     ensures path { MatchResult result
         (λ ask. joined client.now.path command.now.path ≡ Ok ask.path)
-        (λ fault. (joined client.now.path command.now.path ≡ Err fault) ⊎ (fault ≡ NoMemory)) }
+        (λ fault. (joined client.now.path command.now.path ≡ Err fault) ⊎ (fault ≡ PathFault.NoMemory)) }
     ensures ask { IfOk result (λ ask. ask ≡ unlock_ask client.now command.now ask.path) }
 {
     let path = client.path.join(alloc, command.path.as_slice())?;
@@ -114,8 +111,7 @@ fn lock_of(alloc: Global, ask: &LockAsk) -> Result<Lock, AllocError>
 
 /// Makes the lock that is asked for, and says where it is to be.
 pub(crate) fn made_lock(alloc: Global, ask: &LockAsk) -> Result<MadeLock, AllocError>
-    ensures { IfOk result (λ made.
-        made ≡ record { path = ask.now.path; lock = lock_of ask.now }) }
+    ensures { IfOk result (λ made. made ≡ record { path = ask.now.path; lock = lock_of ask.now }) }
 {
     Ok(MadeLock {
         path: ask.path.clone()?,

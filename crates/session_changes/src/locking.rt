@@ -1,10 +1,8 @@
 //! A path of the repository is locked.
 ghost use Rattle.svnpath.specs.Texts.{joined};
-ghost use Rattle.machine.specs.Answers.{serves, behind, Behind};
-ghost use Rattle.machine.specs.Commands.{LockStep, env_without_token};
+ghost use Rattle.machine.specs.{Answers.{Behind, behind, serves}, Commands.{env_without_token, LockStep}, Steps.{Answered, Stepped}};
 ghost use Rattle.session_replies.specs.Telling.{told_before};
 ghost use Rattle.session_changes.specs.Asked.{LockAsked};
-ghost use Rattle.machine.specs.Steps.{Answered, Stepped};
 
 use crate::asking::{MadeLock, lock_asked_for, made_lock};
 use access::RepoAccess;

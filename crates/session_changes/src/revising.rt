@@ -1,8 +1,6 @@
 //! A property of a revision is changed.
-ghost use Rattle.machine.specs.Answers.{Behind};
-ghost use Rattle.machine.specs.Commands.{RevisingStep};
+ghost use Rattle.machine.specs.{Answers.Behind, Commands.RevisingStep, Steps.Stepped};
 ghost use Rattle.session_replies.specs.Telling.{told_before};
-ghost use Rattle.machine.specs.Steps.{Stepped};
 
 use access::RepoAccess;
 use machine::{Client, Turn};

@@ -1,10 +1,8 @@
 //! A path of the repository is unlocked.
 ghost use Rattle.svnpath.specs.Texts.{joined};
-ghost use Rattle.machine.specs.Answers.{Behind};
-ghost use Rattle.machine.specs.Commands.{UnlockStep};
+ghost use Rattle.machine.specs.{Answers.Behind, Commands.UnlockStep, Steps.Stepped};
 ghost use Rattle.session_replies.specs.Telling.{told_before};
 ghost use Rattle.session_changes.specs.Asked.{UnlockAsked};
-ghost use Rattle.machine.specs.Steps.{Stepped};
 
 use crate::asking::unlock_asked_for;
 use access::RepoAccess;

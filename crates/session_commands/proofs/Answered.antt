@@ -1,21 +1,14 @@
 -- Answers to commands that change nothing, behind what their clients are told before.
 use Rattle.std.proofs.Common.{◌≡◌, ℕ, List, [], refl}
 use Rattle.std.specs.Prelude.{Result, Ok, Err, IfOk}
-use Rattle.svnpath.specs.Paths.{PathValue}
-use Rattle.svnpath.specs.declared.fault.PathFault.{PathFault}
+use Rattle.svnpath.specs.{Paths.PathValue, declared.fault.PathFault.PathFault}
 use Rattle.refusals.specs.declared.Refusal.{Refusal}
 use Rattle.wire_replies.specs.declared.reply.Reply.{Reply}
-use Rattle.access.specs.Points.{Point, AccessRules, content_of}
-use Rattle.machine.specs.Settings.{Settings}
-use Rattle.machine.specs.Stages.{Stage}
-use Rattle.machine.specs.Answers.{no_effect, Answer, Step, says, behind, Behind}
-use Rattle.machine.specs.Commands.{commit_begins, reparented}
-use Rattle.machine.specs.Steps.{Answered, Stepped}
-use Rattle.machine.specs.declared.commit_parameters.CommitParameters.{CommitParameters}
-use Rattle.machine.specs.declared.env.Env.{Env}
+use Rattle.access.specs.Points.{AccessRules, content_of, Point}
+use Rattle.machine.specs.{Answers.{Answer, Behind, behind, no_effect, says, Step}, Commands.{commit_begins, reparented}, Settings.Settings, Stages.Stage}
+use Rattle.machine.specs.{Steps.{Answered, Stepped}, declared.commit_parameters.CommitParameters.CommitParameters, declared.env.Env.Env}
+use Rattle.machine.specs.{declared.phase.Phase.TheVariants.Reporting, declared.phase.Client.Client}
 use Rattle.drive_reports.specs.Refusing.{ReportState}
-use Rattle.machine.specs.declared.phase.Phase.TheVariants.{Reporting}
-use Rattle.machine.specs.declared.phase.Client.{Client}
 use Rattle.session_replies.proofs.Steps.{said}
 
 -- the beginning of a commit changes nothing

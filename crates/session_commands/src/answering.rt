@@ -3,9 +3,7 @@ ghost use Rattle.std.specs.Prelude.{Ok, false};
 ghost use Rattle.items.specs.View.{value_of};
 ghost use Rattle.commands.specs.Commands.{main_command};
 ghost use Rattle.wire_replies.specs.declared.reply.Reply.{Reply};
-ghost use Rattle.machine.specs.Answers.{serves};
-ghost use Rattle.machine.specs.Machine.{KnownCommand, MainStep};
-ghost use Rattle.machine.specs.Steps.{Answered, Stepped};
+ghost use Rattle.machine.specs.{Answers.serves, Machine.{KnownCommand, MainStep}, Steps.{Answered, Stepped}};
 
 use crate::asking::ask_for_login;
 use crate::own::own_answer;

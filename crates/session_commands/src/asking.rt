@@ -1,11 +1,7 @@
 //! A login is asked for.
 ghost use Rattle.std.specs.Prelude.{◌≡◌, ◌∷◌, [], IfOk};
-ghost use Rattle.wire_replies.specs.declared.reply.Reply.{Reply};
-ghost use Rattle.machine.specs.Answers.{says};
-ghost use Rattle.machine.specs.Logins.{asks};
-ghost use Rattle.machine.specs.declared.phase.Phase.TheVariants.{LoggingIn};
+ghost use Rattle.machine.specs.{Answers.says, Logins.asks, Steps.Answered};
 ghost use Rattle.wire_replies.specs.Sinks.{Says};
-ghost use Rattle.machine.specs.Steps.{Answered};
 
 use byte_string::ByteString;
 use machine::{OpenLogin, Options, Phase, Turn, offer};
@@ -21,7 +17,7 @@ pub fn await_choice<R: Repository, S: ReplySink>(
     turn: &mut Turn<S>,
 ) -> Result<SessionPhase<R>, AllocError>
     ensures { Answered result turn.new.env (S.writes turn.old.out turn.new.out)
-        (says turn.old.env (LoggingIn login) (reply.now ∷ [])) }
+        (says turn.old.env (Phase.LoggingIn login) (reply.now ∷ [])) }
 {
     let said = turn.out.say(reply);
     stands(Phase::LoggingIn(login), said)

@@ -4,11 +4,8 @@ ghost use Rattle.svnpath.specs.Paths.{PathValue};
 ghost use Rattle.repo_api.specs.States.{RepoState};
 ghost use Rattle.drive_reports.specs.Refusing.{ReportState, ask_of, begun_report};
 ghost use Rattle.access.specs.Points.{content_of};
-ghost use Rattle.machine.specs.Answers.{says, behind};
-ghost use Rattle.machine.specs.Commands.{drive_ask};
-ghost use Rattle.machine.specs.declared.phase.Phase.TheVariants.{Reporting};
+ghost use Rattle.machine.specs.{Answers.{behind, says}, Commands.drive_ask, Steps.Answered};
 ghost use Rattle.session_replies.specs.Telling.{told_before};
-ghost use Rattle.machine.specs.Steps.{Answered};
 
 use access::RepoAccess;
 use commands::DriveCommand;
@@ -72,7 +69,7 @@ fn await_report<R: Repository, S: ReplySink>(
     turn: &mut Turn<S>,
 ) -> Result<SessionPhase<R>, AllocError>
     ensures { Answered result turn.new.env (S.writes turn.old.out turn.new.out)
-        (behind (told_before preface) (says turn.old.env (Reporting reporting) [])) }
+        (behind (told_before preface) (says turn.old.env (Phase.Reporting reporting) [])) }
 {
     let said = say_preface(preface, &mut turn.out);
     stands(Phase::Reporting(reporting), said)
@@ -88,7 +85,7 @@ pub(crate) fn open_report<R: Repository, S: ReplySink>(
     ensures { (told : ReportState) → IfOk report (λ made. made ≡ told) → Answered result
         turn.new.env (S.writes turn.old.out turn.new.out)
         (behind (told_before preface)
-        (says turn.old.env (Reporting (record { client = client; report = told })) [])) }
+        (says turn.old.env (Phase.Reporting (record { client = client; report = told })) [])) }
 {
     match report {
         Ok(report) => await_report(OpenReporting { client, report }, preface, turn),

@@ -1,10 +1,7 @@
 //! What a command is answered, behind what its client is told before.
 ghost use Rattle.std.specs.Prelude.{[]};
-ghost use Rattle.machine.specs.Answers.{says, behind, Behind};
-ghost use Rattle.machine.specs.Commands.{lock_tokens, asked_by, commit_begins, OwnStep};
-ghost use Rattle.machine.specs.declared.phase.Phase.TheVariants.{Serving};
+ghost use Rattle.machine.specs.{Answers.{Behind, behind, says}, Commands.{asked_by, commit_begins, lock_tokens, OwnStep}, Steps.{Answered, Stepped}};
 ghost use Rattle.session_replies.specs.Telling.{told_before};
-ghost use Rattle.machine.specs.Steps.{Answered, Stepped};
 
 use crate::beginning::{begun_report, open_report};
 use crate::reparenting::reparent;
@@ -51,7 +48,7 @@ fn tell_preface<R: Repository, S: ReplySink>(
     turn: &mut Turn<S>,
 ) -> Result<SessionPhase<R>, AllocError>
     ensures { Answered result turn.new.env (S.writes turn.old.out turn.new.out)
-        (behind (told_before preface) (says turn.old.env (Serving client) [])) }
+        (behind (told_before preface) (says turn.old.env (Phase.Serving client) [])) }
 {
     let said = say_preface(preface, &mut turn.out);
     stands(Phase::Serving(client), said)

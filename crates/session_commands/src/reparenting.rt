@@ -1,10 +1,8 @@
 //! A client goes on at another URL.
 ghost use Rattle.std.specs.Prelude.{◌≡◌};
 ghost use Rattle.svnpath.specs.Urls.{path_of_text};
-ghost use Rattle.machine.specs.Answers.{behind};
-ghost use Rattle.machine.specs.Commands.{at_path, reparented};
+ghost use Rattle.machine.specs.{Answers.behind, Commands.{at_path, reparented}, Steps.Answered};
 ghost use Rattle.session_replies.specs.Telling.{told_before};
-ghost use Rattle.machine.specs.Steps.{Answered};
 
 use byte_string::ByteString;
 use machine::{Client, Options, Turn};

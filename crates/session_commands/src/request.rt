@@ -1,8 +1,7 @@
 //! A command that is to be answered: what its client is told before, and whether it waits for a
 //! login.
 ghost use Rattle.std.specs.Prelude.{◌≡◌};
-ghost use Rattle.machine.specs.Commands.{login_request, is_write};
-ghost use Rattle.machine.specs.Logins.{wants_user};
+ghost use Rattle.machine.specs.{Commands.{is_write, login_request}, Logins.wants_user};
 ghost use Rattle.session_replies.specs.Telling.{told_before};
 
 use commands::MainCommand;

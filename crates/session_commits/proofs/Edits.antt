@@ -4,39 +4,27 @@ use Rattle.std.specs.Prelude.{Result, Ok, Err, option_map}
 use Rattle.dates.specs.Dates.{IsDateText}
 use Rattle.refusals.specs.declared.Refusal.{Refusal}
 use Rattle.refusals.specs.declared.Refusal.TheVariants as refusals
-use Rattle.repo_api.specs.States.{RepoState, TxnState}
-use Rattle.repo_api.specs.Commits.{commit_refusal, committed as with_commit}
-use Rattle.repo_api.specs.Accepted.{Accepted, changed}
-use Rattle.repo_api.specs.Accepted.Accepted.{Commits}
-use Rattle.repo_api.specs.declared.ask.CommitAsk.{CommitAsk}
-use Rattle.repo_api.specs.declared.fault.ChangeFault.{ChangeFault}
+use Rattle.repo_api.specs.{Accepted.{Accepted, changed}, Accepted.Accepted.Commits, Commits.{commit_refusal, committed as with_commit}}
+use Rattle.repo_api.specs.{States.{RepoState, TxnState}, declared.ask.CommitAsk.CommitAsk, declared.fault.ChangeFault.ChangeFault}
 use Rattle.repo_api.specs.declared.fault.ChangeFault.TheVariants as change_faults
-use Rattle.wire_edits.specs.declared.editing.EditorCommand.{EditorCommand}
-use Rattle.wire_edits.specs.declared.editing.EditorCommand.TheVariants.{TargetRevision, OpenRoot, DeleteEntry, AddDirectory, AddFile, OpenDirectory, OpenFile, AbsentDirectory, AbsentFile, ChangeDirectoryProperty, ChangeFileProperty, ApplyTextDelta, TextDeltaChunk, TextDeltaEnd, CloseDirectory, CloseFile, CloseEdit, AbortEdit}
+use Rattle.wire_edits.specs.{declared.editing.EditorCommand.EditorCommand, declared.editing.EditorCommand.TheVariants.{TargetRevision, OpenRoot, DeleteEntry}}
+use Rattle.wire_edits.specs.declared.editing.EditorCommand.TheVariants.{AddDirectory, AddFile, OpenDirectory, OpenFile, AbsentDirectory, AbsentFile}
+use Rattle.wire_edits.specs.declared.editing.EditorCommand.TheVariants.{ChangeDirectoryProperty, ChangeFileProperty, ApplyTextDelta, TextDeltaChunk}
+use Rattle.wire_edits.specs.declared.editing.EditorCommand.TheVariants.{TextDeltaEnd, CloseDirectory, CloseFile, CloseEdit, AbortEdit}
 use Rattle.wire_replies.specs.declared.reply.Reply.TheVariants as replies
-use Rattle.edit_rules.specs.Edits.{EditState}
-use Rattle.edit_rules.specs.Refusing.{edit_refusal}
-use Rattle.edit_rules.specs.Editor.{Applies, finished}
-use Rattle.access.specs.Points.{Point, AccessRules, content_of}
-use Rattle.machine.specs.Stages.{Stage}
-use Rattle.machine.specs.Answers.{Answer, Step, says, serves, behind, change_answer}
-use Rattle.machine.specs.Machine.{MachineEdit, JudgedEdit, EditStep, CommitStep, CloseStep, UnreleasedClose, CommandStep, EditingStep, UnreleasedEnd, ending_of, commit_ask, gives_up, Release, IsReleaseOf, release_fails, release_effect, phase_after, made_answer, unreleased_answer}
-use Rattle.machine.specs.Machine.Release.{Stays as StayThere, Released as FreedThere, Fails}
-use Rattle.machine.specs.Answers.Verdict.{Written, NotWritten, Unknown}
-use Rattle.access.specs.Changing.{CommitsAt, wants_release}
-use Rattle.access.specs.declared.access.Committed.{Committed}
-use Rattle.access.specs.declared.access.Released.{Released}
-use Rattle.access.specs.declared.access.Released.TheVariants.{Settled, NoMemory, StoreFailed}
-use Rattle.machine.specs.Steps.{EffectAt, AnsweredIfAny, SteppedInPart}
+use Rattle.edit_rules.specs.{Editor.{Applies, finished}, Edits.EditState, Refusing.edit_refusal}
+use Rattle.access.specs.{Changing.{CommitsAt, wants_release}, Points.{AccessRules, content_of, Point}, declared.access.Committed.Committed}
+use Rattle.access.specs.{declared.access.Released.Released, declared.access.Released.TheVariants.{Settled, NoMemory, StoreFailed}}
+use Rattle.machine.specs.{Answers.{Answer, behind, change_answer, says, serves, Step}, Answers.Verdict.{NotWritten, Unknown, Written}, Machine.CloseStep}
+use Rattle.machine.specs.Machine.{CommandStep, commit_ask, CommitStep, EditingStep, EditStep, ending_of, gives_up, IsReleaseOf, JudgedEdit, MachineEdit}
+use Rattle.machine.specs.Machine.{made_answer, phase_after, Release, release_effect, release_fails, unreleased_answer, UnreleasedClose, UnreleasedEnd}
+use Rattle.machine.specs.{Machine.Release.{Fails, Released as FreedThere, Stays as StayThere}, Stages.Stage, Steps.{AnsweredIfAny, EffectAt, SteppedInPart}}
+use Rattle.machine.specs.{declared.commit_parameters.CommitParameters.CommitParameters, declared.env.Env.Env, declared.ending.Ending.Ending}
+use Rattle.machine.specs.declared.ending.Ending.TheVariants.{Commits as ToCommit, GivesUp}
+use Rattle.machine.specs.{declared.phase.Phase.TheVariants.{Serving, Editing, Skipping, Ended}, declared.phase.Client.Client}
 use Rattle.session_replies.specs.Telling.{fault_answer}
 use Rattle.session_replies.proofs.Steps.{Leads, leads_by, only_says, stepped, unparted, not_asked}
 use Rattle.session_commits.specs.Telling.{commit_answer}
-use Rattle.machine.specs.declared.commit_parameters.CommitParameters.{CommitParameters}
-use Rattle.machine.specs.declared.env.Env.{Env}
-use Rattle.machine.specs.declared.ending.Ending.{Ending}
-use Rattle.machine.specs.declared.ending.Ending.TheVariants.{Commits as ToCommit, GivesUp}
-use Rattle.machine.specs.declared.phase.Phase.TheVariants.{Serving, Editing, Skipping, Ended}
-use Rattle.machine.specs.declared.phase.Client.{Client}
 
 -- ---- the steps of an edit
 

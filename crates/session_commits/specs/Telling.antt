@@ -1,12 +1,8 @@
 -- What a client is told of its commit.
 use Rattle.std.specs.Prelude.{ℕ, Bool, true, false, List, [], ◌∷◌, Option, Some, None, if◌then◌else◌}
 use Rattle.wire_replies.specs.declared.reply.Reply.TheVariants as replies
-use Rattle.access.specs.declared.access.Released.{Released}
-use Rattle.access.specs.declared.access.Released.TheVariants.{Settled, NoMemory, StoreFailed}
-use Rattle.machine.specs.Answers.{Answer, says}
-use Rattle.machine.specs.declared.env.Env.{Env}
-use Rattle.machine.specs.declared.phase.Client.{Client}
-use Rattle.machine.specs.declared.phase.Phase.TheVariants.{Serving, Ended}
+use Rattle.access.specs.{declared.access.Released.Released, declared.access.Released.TheVariants.{Settled, NoMemory, StoreFailed}}
+use Rattle.machine.specs.{Answers.{Answer, says}, declared.env.Env.Env, declared.phase.Client.Client, declared.phase.Phase.TheVariants.{Serving, Ended}}
 
 -- the commit is told, and whether the store failed at its release: then the session ends, and if not
 -- the next command is awaited

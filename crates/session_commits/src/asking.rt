@@ -1,10 +1,9 @@
 //! What a commit asks for.
-ghost use Rattle.std.specs.Prelude.{◌≡◌, [], Ok, Err, IfOk, MatchResult, option_map};
-ghost use Rattle.std.specs.List.{list_all};
+ghost use Rattle.std.specs.{Prelude.{◌≡◌, [], Ok, Err, IfOk, MatchResult, option_map}, List.list_all};
 ghost use Rattle.svnpath.specs.Components.{AnswersPath};
 ghost use Rattle.refusals.specs.Faults.{IfRefusedBy};
 ghost use Rattle.repo_api.specs.Judging.{is_property_name};
-ghost use Rattle.machine.specs.Commands.{lock_tokens, are_named, set_all, asked_by};
+ghost use Rattle.machine.specs.Commands.{are_named, asked_by, lock_tokens, set_all};
 
 use byte_string::ByteString;
 use commands::CommitCommand;

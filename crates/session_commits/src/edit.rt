@@ -1,24 +1,17 @@
 //! A commit: its beginning, its commands and its end.
 ghost use Rattle.std.specs.Prelude.{◌≡◌, ◌≤◌, ◌∷◌, [], Ok, Err, Some, None, IfOk, OnOk, IfErr, if◌then◌else◌};
 ghost use Rattle.items.specs.View.{value_of};
-ghost use Rattle.dates.specs.Dates.{IsDateText};
-ghost use Rattle.dates.specs.declared.TheConstants.{LAST_MOMENT};
-ghost use Rattle.repo_api.specs.States.{IsBeginning, tree_of};
-ghost use Rattle.repo_api.specs.Transactions.{IsMarkedTxn};
-ghost use Rattle.repo_api.specs.Trees.{IsTree};
+ghost use Rattle.dates.specs.{Dates.IsDateText, declared.TheConstants.LAST_MOMENT};
+ghost use Rattle.repo_api.specs.{States.{IsBeginning, tree_of}, Transactions.IsMarkedTxn, Trees.IsTree};
 ghost use Rattle.wire_edits.specs.Editing.{editor_command, ends_edit};
-ghost use Rattle.edit_rules.specs.Editor.{Applies, finished, RestsOn};
+ghost use Rattle.edit_rules.specs.{Editor.{Applies, finished, RestsOn}, Edits.new_edit, Refusing.edit_refusal, Soundness.IsSoundEdit};
 ghost use Rattle.refusals.specs.Faults.{IfRefusedBy};
-ghost use Rattle.edit_rules.specs.Edits.{new_edit};
-ghost use Rattle.edit_rules.specs.Soundness.{IsSoundEdit};
-ghost use Rattle.edit_rules.specs.Refusing.{edit_refusal};
 ghost use Rattle.access.specs.Points.{content_of};
-ghost use Rattle.machine.specs.Answers.{says};
-ghost use Rattle.machine.specs.Commands.{lock_tokens, asked_by, commit_begins};
-ghost use Rattle.machine.specs.Machine.{commit_ask, skipping_answer, CloseStep, UnreleasedClose, EditStep, EditingStep, UnreleasedEnd};
+ghost use Rattle.machine.specs.{Answers.says, Commands.{asked_by, commit_begins, lock_tokens}};
+ghost use Rattle.machine.specs.Machine.{CloseStep, commit_ask, EditingStep, EditStep, skipping_answer, UnreleasedClose, UnreleasedEnd};
+ghost use Rattle.machine.specs.Steps.{Answered, AnsweredIfAny, Stepped, SteppedInPart};
 ghost use Rattle.session_commits.specs.Telling.{tells_made, commit_answer};
 ghost use Rattle.wire_replies.specs.Sinks.{Says};
-ghost use Rattle.machine.specs.Steps.{Answered, Stepped, SteppedInPart, AnsweredIfAny};
 
 use crate::asking::asked_by;
 use crate::giving_up::give_up;

@@ -1,8 +1,6 @@
 //! An edit that is given up.
 ghost use Rattle.std.specs.Prelude.{◌≡◌};
-ghost use Rattle.machine.specs.Machine.{gives_up};
-ghost use Rattle.machine.specs.declared.phase.Phase.TheVariants.{Skipping};
-ghost use Rattle.machine.specs.Steps.{Answered};
+ghost use Rattle.machine.specs.{Machine.gives_up, Steps.Answered};
 
 use machine::{OpenEdit, Phase, Turn};
 use refusals::Refusal;
@@ -27,7 +25,7 @@ pub fn give_up<R: Repository, S: ReplySink>(
 
 /// Says where a session stands whose edit was given up.
 fn skipping<R: Repository>(edit: SessionEdit<R>) -> SessionPhase<R>
-    ensures { result ≡ Skipping edit.client }
+    ensures { result ≡ Phase.Skipping edit.client }
 {
     let OpenEdit {
         client,

@@ -1,11 +1,8 @@
 -- A step that follows from another.
 use Rattle.std.proofs.Common.{ℕ, List, inl, inr}
 use Rattle.std.specs.Prelude.{Result, Ok, Err}
-use Rattle.access.specs.Points.{Point, AccessRules, content_of}
-use Rattle.machine.specs.Stages.{Stage}
-use Rattle.machine.specs.Answers.{Answer, Step}
-use Rattle.machine.specs.Steps.{StepAt, Stepped}
-use Rattle.machine.specs.declared.env.Env.{Env}
+use Rattle.access.specs.Points.{AccessRules, content_of, Point}
+use Rattle.machine.specs.{Answers.{Answer, Step}, Stages.Stage, Steps.{StepAt, Stepped}, declared.env.Env.Env}
 
 module _ (rules : AccessRules) (first step : Step)
     (goes : (at : Point) (a : Answer) → first at.halted (content_of at) a → step at.halted (content_of at) a) (p q : Point) where

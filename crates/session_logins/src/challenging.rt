@@ -1,12 +1,8 @@
 //! Challenges: how one is sent, and whose an answer to it is.
 ghost use Rattle.std.specs.Prelude.{◌≡◌, ◌≢◌, ◌∷◌, [], None, IfOk};
 ghost use Rattle.cram.specs.Answer.{IsAnswerOf};
-ghost use Rattle.wire_replies.specs.declared.reply.Reply.{Reply};
-ghost use Rattle.machine.specs.Answers.{says};
-ghost use Rattle.machine.specs.Logins.{challenge_of, without_nonce, challenges, logins_or_none};
-ghost use Rattle.machine.specs.declared.phase.Phase.TheVariants.{Challenged};
+ghost use Rattle.machine.specs.{Answers.says, Logins.{challenge_of, challenges, logins_or_none, without_nonce}, Steps.Answered};
 ghost use Rattle.wire_replies.specs.Sinks.{Says};
-ghost use Rattle.machine.specs.Steps.{Answered};
 
 use byte_string::ByteString;
 use cram::{Challenge, CramFault};
@@ -45,7 +41,7 @@ fn await_answer<R: Repository, S: ReplySink>(
     turn: &mut Turn<S>,
 ) -> Result<SessionPhase<R>, AllocError>
     ensures { Answered result turn.new.env (S.writes turn.old.out turn.new.out)
-        (says (without_nonce turn.old.env) (Challenged pending)
+        (says (without_nonce turn.old.env) (Phase.Challenged pending)
         (Reply.Challenge pending.challenge ∷ [])) }
 {
     match say_challenge(turn.alloc, &pending.challenge, &mut turn.out) {

@@ -2,11 +2,7 @@
 ghost use Rattle.std.specs.Prelude.{◌≡◌, ◌∷◌, [], Ok, None};
 ghost use Rattle.items.specs.View.{value_of};
 ghost use Rattle.commands.specs.Logins.{client_greeting};
-ghost use Rattle.wire_replies.specs.declared.reply.Reply.{Reply};
-ghost use Rattle.machine.specs.Answers.{says};
-ghost use Rattle.machine.specs.Logins.{greeting_answer, speaks};
-ghost use Rattle.machine.specs.declared.phase.Phase.TheVariants.{Ended};
-ghost use Rattle.machine.specs.Steps.{Answered};
+ghost use Rattle.machine.specs.{Answers.says, Logins.{greeting_answer, speaks}, Steps.Answered};
 
 use byte_string::ByteString;
 use commands::ClientGreeting;
@@ -51,7 +47,7 @@ fn end_refused<R: Repository, S: ReplySink>(
     turn: &mut Turn<S>,
 ) -> Result<SessionPhase<R>, AllocError>
     ensures { Answered result turn.new.env (S.writes turn.old.out turn.new.out)
-        (says turn.old.env Ended (Reply.Failure refusal ∷ [])) }
+        (says turn.old.env Phase.Ended (Reply.Failure refusal ∷ [])) }
 {
     say_new(Reply::Failure(refusal), &mut turn.out)?;
     Ok(Phase::Ended)

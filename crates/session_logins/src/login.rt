@@ -2,9 +2,7 @@
 ghost use Rattle.std.specs.Prelude.{◌≡◌, Ok, Some};
 ghost use Rattle.items.specs.View.{value_of};
 ghost use Rattle.commands.specs.Logins.{auth_response, challenge_answer};
-ghost use Rattle.machine.specs.Answers.{malformed};
-ghost use Rattle.machine.specs.Logins.{with_user, LoginStep, OutcomeStep, ChallengeStep};
-ghost use Rattle.machine.specs.Steps.{Answered, Stepped};
+ghost use Rattle.machine.specs.{Answers.malformed, Logins.{ChallengeStep, LoginStep, OutcomeStep, with_user}, Steps.{Answered, Stepped}};
 
 use crate::challenging::{challenge, user_of};
 use crate::welcoming::log_client_in;

@@ -1,12 +1,8 @@
 //! What a client is told once it has logged in.
 ghost use Rattle.std.specs.Prelude.{◌≡◌, ◌∷◌, [], Some, IfOk};
-ghost use Rattle.wire_replies.specs.declared.reply.Reply.{Reply};
 ghost use Rattle.access.specs.Points.{content_of};
-ghost use Rattle.machine.specs.Answers.{says};
-ghost use Rattle.machine.specs.Logins.{LoggedIn};
-ghost use Rattle.machine.specs.declared.phase.Phase.TheVariants.{Serving};
+ghost use Rattle.machine.specs.{Answers.says, Logins.LoggedIn, Steps.{Answered, Stepped}};
 ghost use Rattle.wire_replies.specs.Sinks.{Says};
-ghost use Rattle.machine.specs.Steps.{Answered, Stepped};
 
 use access::RepoAccess;
 use byte_string::ByteString;
@@ -54,7 +50,7 @@ fn welcome<R: Repository, A: RepoAccess<View = R>, S: ReplySink>(
     turn: &mut Turn<S>,
 ) -> Result<SessionPhase<R>, AllocError>
     ensures said { Answered result turn.new.env (S.writes turn.old.out turn.new.out)
-        (says turn.old.env (Serving client)
+        (says turn.old.env (Phase.Serving client)
         (Reply.Success ∷ Reply.ReposInfo (content_of (A.point access.new)).uuid client.root ∷ [])) }
     ensures later { A.rules.between (A.point access.old) (A.point access.new) }
 {

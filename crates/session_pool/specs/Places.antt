@@ -1,9 +1,7 @@
 -- Who is let in.
 use Rattle.std.specs.Prelude.{◌≡◌, ◌<◌, ◌+◌, ℕ, min, true, false}
-use Rattle.session_pool.specs.declared.admission.Admission.{Admission}
-use Rattle.session_pool.specs.declared.admission.Admission.TheVariants.{Session, Full, Halted}
-use Rattle.session_pool.specs.declared.places.Places.{Places}
-use Rattle.session_pool.specs.declared.places.TheConstants.{MAX_SESSIONS}
+use Rattle.session_pool.specs.{declared.admission.Admission.Admission, declared.admission.Admission.TheVariants.{Session, Full, Halted}}
+use Rattle.session_pool.specs.{declared.places.Places.Places, declared.places.TheConstants.MAX_SESSIONS}
 
 -- the number of the next session: they are counted from 1, and the count stays at its greatest value
 abbrev pub number_after : ℕ → ℕ

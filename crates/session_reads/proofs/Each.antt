@@ -1,10 +1,7 @@
 -- Replies for the elements of a list, written one after another.
 use Rattle.std.proofs.Common.{◌≡◌, ◌<◌, ◌+◌, arith, ℕ, suc, List, length, drop, get_or, [], ◌∷◌, ◌++◌, map, sym, ap, subst, ◌∙◌, append-nil, append_assoc}
-use Rattle.std.proofs.Math.Seq.{drop-cons}
-use Rattle.std.proofs.lemmas.List.{map-append}
-use Rattle.wire_replies.specs.Replies.{print}
-use Rattle.wire_replies.specs.Sinks.{WritesPart}
-use Rattle.wire_replies.specs.declared.reply.Reply.{Reply}
+use Rattle.std.proofs.{Math.Seq.drop-cons, lemmas.List.map-append}
+use Rattle.wire_replies.specs.{Replies.print, Sinks.WritesPart, declared.reply.Reply.Reply}
 use Rattle.wire_replies.proofs.Parts.{both_written, part_all, part_first, part_behind}
 
 module _ {X S : Type 0} (f : X → Reply) (writes : S → S → List ℕ → Type 0) where

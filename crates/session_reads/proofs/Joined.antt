@@ -1,8 +1,7 @@
 -- Paths that are joined one after another.
 use Rattle.std.proofs.Common.{◌≡◌, List, [], ◌∷◌, ◌++◌, refl, sym, ap, append_assoc}
 use Rattle.std.specs.Prelude.{Result, Ok, Err}
-use Rattle.svnpath.specs.Paths.{PathValue}
-use Rattle.svnpath.specs.declared.fault.PathFault.{PathFault}
+use Rattle.svnpath.specs.{Paths.PathValue, declared.fault.PathFault.PathFault}
 use Rattle.machine.specs.Histories.{path_before}
 
 -- paths in front of others, unless these have a fault

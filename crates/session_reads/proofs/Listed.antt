@@ -4,20 +4,14 @@ use Rattle.std.specs.Prelude.{Option, None, Ok, Result}
 use Rattle.refusals.specs.declared.Refusal.{Refusal}
 use Rattle.repo_api.specs.States.{RepoState}
 use Rattle.svnpath.specs.Paths.{PathValue}
-use Rattle.commands.specs.declared.command.LogCommand.{LogCommand}
-use Rattle.commands.specs.declared.command.GetLocationsCommand.{GetLocationsCommand}
-use Rattle.history.specs.Logs.{place_at}
-use Rattle.history.specs.declared.log_ask.LogAsk.{LogAsk}
+use Rattle.commands.specs.{declared.command.LogCommand.LogCommand, declared.command.GetLocationsCommand.GetLocationsCommand}
+use Rattle.history.specs.{Logs.place_at, declared.log_ask.LogAsk.LogAsk}
 use Rattle.wire_replies.specs.declared.reply.Reply.{Reply}
 use Rattle.wire_replies.specs.declared.reply.Reply.TheVariants as replies
-use Rattle.access.specs.Points.{Point, AccessRules, content_of}
-use Rattle.machine.specs.Answers.{Step, Shows, says, Behind}
-use Rattle.machine.specs.Histories.{ended, listed_unless, log_ask, log_refusal, log_replies, log_told, locations_refusal, locations_replies, locations_told}
-use Rattle.machine.specs.Stages.{Stage}
-use Rattle.machine.specs.Steps.{Answered, Stepped}
-use Rattle.machine.specs.declared.env.Env.{Env}
-use Rattle.machine.specs.declared.phase.Client.{Client}
-use Rattle.machine.specs.declared.phase.Phase.TheVariants.{Serving}
+use Rattle.access.specs.Points.{AccessRules, content_of, Point}
+use Rattle.machine.specs.Answers.{Behind, says, Shows, Step}
+use Rattle.machine.specs.Histories.{ended, listed_unless, locations_refusal, locations_replies, locations_told, log_ask, log_refusal, log_replies, log_told}
+use Rattle.machine.specs.{Stages.Stage, Steps.{Answered, Stepped}, declared.env.Env.Env, declared.phase.Client.Client, declared.phase.Phase.TheVariants.Serving}
 use Rattle.session_replies.proofs.Steps.{Leads, only_says, leads_behind, stepped}
 
 -- a log that is not refused

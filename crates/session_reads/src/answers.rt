@@ -2,9 +2,7 @@
 ghost use Rattle.std.specs.Prelude.{◌≡◌, ◌++◌};
 ghost use Rattle.wire_replies.specs.Sinks.{Says};
 ghost use Rattle.access.specs.Points.{content_of};
-ghost use Rattle.machine.specs.Answers.{Shows, Behind};
-ghost use Rattle.machine.specs.Commands.{read_answer, read_replies};
-ghost use Rattle.machine.specs.Steps.{Stepped};
+ghost use Rattle.machine.specs.{Answers.{Behind, Shows}, Commands.{read_answer, read_replies}, Steps.Stepped};
 ghost use Rattle.session_replies.specs.Telling.{told_before};
 
 use crate::directories::get_dir;

@@ -78,8 +78,7 @@ fn all_entries<R: Repository>(
     view: &R,
     place: &Place,
 ) -> Result<EntryList, AllocError>
-    ensures { IfOk result (λ entries. entries ≡
-        entries_told (R.content view.now) place.now true) }
+    ensures { IfOk result (λ entries. entries ≡ entries_told (R.content view.now) place.now true) }
 {
     let names = view.names(place.revision, &place.path)?;
     let mut entries = Sequence::new(alloc);
@@ -97,8 +96,7 @@ fn entry_told<R: Repository>(
     place: &Place,
     name: &ByteString,
 ) -> Result<(ByteString, NodeInfo), AllocError>
-    ensures { IfOk result (λ entry. entry ≡
-        entry_told (R.content view.now) place.now name.now) }
+    ensures { IfOk result (λ entry. entry ≡ entry_told (R.content view.now) place.now name.now) }
 {
     let path = place.path.child(alloc, name.clone()?)?;
     let node = node_info(view, place.revision, &path)?;

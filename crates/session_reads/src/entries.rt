@@ -1,9 +1,9 @@
 //! What is known of entries.
 ghost use Rattle.std.specs.Prelude.{◌≡◌, IfOk, IsOkAnd};
 ghost use Rattle.svnpath.specs.Texts.{joined};
-ghost use Rattle.repo_api.specs.Kinds.{kind_at};
-ghost use Rattle.repo_api.specs.Properties.{with_property};
-ghost use Rattle.machine.specs.Readings.{are_any, changed_at, entry_properties, node_found, node_info, place_read, shown_properties, size_at, stat_reply, with_optional, with_revision};
+ghost use Rattle.repo_api.specs.{Kinds.kind_at, Properties.with_property};
+ghost use Rattle.machine.specs.Readings.{are_any, changed_at, entry_properties, node_found, node_info, place_read, shown_properties, size_at, stat_reply};
+ghost use Rattle.machine.specs.Readings.{with_optional, with_revision};
 
 use crate::places::place_read;
 use crate::revisions::{author_of, date_of};
@@ -141,8 +141,7 @@ fn with_revision<R: Repository>(
     revision: u64,
     properties: Properties,
 ) -> Result<Properties, AllocError>
-    ensures { IfOk result (λ more. more ≡
-        with_revision (R.content view.now) revision properties) }
+    ensures { IfOk result (λ more. more ≡ with_revision (R.content view.now) revision properties) }
 {
     let number = decimal_text(alloc, revision);
     let properties = with_made(alloc, properties, b"svn:entry:committed-rev", number)?;

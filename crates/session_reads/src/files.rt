@@ -2,9 +2,7 @@
 ghost use Rattle.std.specs.Prelude.{◌≡◌, ◌∷◌, ◌++◌, [], IfOk};
 ghost use Rattle.svnpath.specs.Texts.{joined};
 ghost use Rattle.repo_api.specs.Kinds.{text_at};
-ghost use Rattle.wire_replies.specs.Replies.{contents};
-ghost use Rattle.wire_replies.specs.Sinks.{Says};
-ghost use Rattle.wire_replies.specs.declared.reply.Reply.{Reply};
+ghost use Rattle.wire_replies.specs.{Replies.contents, Sinks.Says};
 ghost use Rattle.machine.specs.Readings.{file_at, file_replies, file_told, no_file, place_read, text_told};
 
 use crate::entries::shown_properties;

@@ -1,5 +1,4 @@
 //! The end of what is listed. Where one of these fails, a part of what it says was written.
-ghost use Rattle.wire_replies.specs.declared.reply.Reply.{Reply};
 ghost use Rattle.machine.specs.Histories.{ended};
 ghost use Rattle.wire_replies.specs.Sinks.{Says};
 

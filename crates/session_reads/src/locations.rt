@@ -1,9 +1,7 @@
 //! Where something was in other revisions. Where one of these fails, a part of what it says was
 //! written.
-ghost use Rattle.std.specs.Prelude.{◌≡◌, ◌++◌, ◌∷◌, [], map, Ok};
-ghost use Rattle.std.specs.List.{list_any};
+ghost use Rattle.std.specs.{Prelude.{◌≡◌, ◌++◌, ◌∷◌, [], map, Ok}, List.list_any};
 ghost use Rattle.svnpath.specs.Texts.{joined};
-ghost use Rattle.wire_replies.specs.declared.reply.Reply.TheVariants as replies;
 ghost use Rattle.machine.specs.Histories.{ended, is_to_come, location_told, locations_refusal, locations_replies};
 ghost use Rattle.wire_replies.specs.Sinks.{Says};
 
@@ -61,7 +59,7 @@ fn say_each<S: ReplySink>(found: &[(u64, Path)], out: &mut S) -> Result<(), Allo
 /// Writes locations, and that no more come.
 fn say_found<S: ReplySink>(found: &[(u64, Path)], out: &mut S) -> Result<(), AllocError>
     ensures { Says result (S.writes out.old out.new)
-        (map location_told found.now ++ ended replies.Success) }
+        (map location_told found.now ++ ended Reply.Success) }
 {
     say_each(found, out)?;
     say_end(Reply::Success, out)

@@ -1,7 +1,6 @@
 //! The revisions that changed paths. Where one of these fails, a part of what it says was written.
 ghost use Rattle.std.specs.Prelude.{◌≡◌, ◌++◌, ◌∷◌, ℕ, List, [], map, Ok, IfOk};
 ghost use Rattle.repo_api.specs.Histories.{history_of};
-ghost use Rattle.wire_replies.specs.declared.reply.Reply.TheVariants as replies;
 ghost use Rattle.history.specs.Walks.{to_come};
 ghost use Rattle.machine.specs.Histories.{all_joined, ended, log_ask, log_refusal, log_replies, or_youngest, revision_told};
 ghost use Rattle.wire_replies.specs.Sinks.{Says};
@@ -98,7 +97,7 @@ fn say_listed<R: Repository, S: ReplySink>(
 ) -> Result<(), AllocError>
     ensures { let c = R.content view.now in Says result (S.writes out.old out.new)
         (map (revision_told c wants_changes) (to_come (history_of c) log.old) ++ ended
-        replies.Success) }
+        Reply.Success) }
 {
     say_revisions(alloc, view, wants_changes, log, out)?;
     say_end(Reply::Success, out)
@@ -114,7 +113,7 @@ fn say_opened<R: Repository, S: ReplySink>(
 ) -> Result<(), AllocError>
     ensures { let c = R.content view.now in (ns : List ℕ) → IfOk log
         (λ opened. to_come (history_of c) opened ≡ ns) → Says result (S.writes out.old out.new)
-        (map (revision_told c wants_changes) ns ++ ended replies.Success) }
+        (map (revision_told c wants_changes) ns ++ ended Reply.Success) }
 {
     match log {
         Ok(log) => {

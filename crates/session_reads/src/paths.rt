@@ -1,7 +1,5 @@
 //! Paths and revisions that are named.
-ghost use Rattle.std.specs.Prelude.{◌≡◌, ◌⊎◌, Ok, Err, MatchResult};
-ghost use Rattle.std.specs.List.{list_all};
-ghost use Rattle.svnpath.specs.declared.fault.PathFault.TheVariants.{NoMemory};
+ghost use Rattle.std.specs.{Prelude.{◌≡◌, ◌⊎◌, Ok, Err, MatchResult}, List.list_all};
 ghost use Rattle.machine.specs.Histories.{all_joined, is_there, is_to_come};
 
 use byte_string::ByteString;
@@ -17,7 +15,7 @@ pub(crate) fn all_joined(
 ) -> Result<Vec<Path>, PathFault>
     ensures { MatchResult result
         (λ joined. all_joined base.now paths.now ≡ Ok joined.items)
-        (λ fault. (all_joined base.now paths.now ≡ Err fault) ⊎ (fault ≡ NoMemory)) }
+        (λ fault. (all_joined base.now paths.now ≡ Err fault) ⊎ (fault ≡ PathFault.NoMemory)) }
 {
     let mut joined = Vec::new(alloc);
     for path in paths {

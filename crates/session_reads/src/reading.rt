@@ -1,10 +1,8 @@
 //! Replies to commands that read the tree and its revisions.
 ghost use Rattle.std.specs.Prelude.{◌≡◌, ℕ, Some, IfOk, MatchOption};
 ghost use Rattle.svnpath.specs.Texts.{joined};
-ghost use Rattle.refusals.specs.declared.Refusal.TheVariants as refusals;
 ghost use Rattle.repo_api.specs.Kinds.{kind_at};
 ghost use Rattle.wire_replies.specs.declared.reply.Reply.{Reply};
-ghost use Rattle.wire_replies.specs.declared.reply.Reply.TheVariants as replies;
 ghost use Rattle.machine.specs.Commands.{at_revision, check_path_reply, rev_proplist_reply};
 
 use byte_string::ByteString;
@@ -18,7 +16,7 @@ use wire_replies::Reply;
 fn known_revision<R: Repository>(view: &R, revision: Option<u64>) -> Option<u64>
     ensures { MatchOption result
         ((f : ℕ → Reply) →
-        at_revision (R.content view.now) revision f ≡ replies.Failure refusals.NoSuchRevision)
+        at_revision (R.content view.now) revision f ≡ Reply.Failure Refusal.NoSuchRevision)
         (λ n. (f : ℕ → Reply) → at_revision (R.content view.now) revision f ≡ f n) }
 {
     let youngest = view.youngest();
@@ -30,7 +28,7 @@ fn known_revision<R: Repository>(view: &R, revision: Option<u64>) -> Option<u64>
 
 /// Says what exists at a path of a revision that is there.
 fn kind_at<R: Repository>(view: &R, revision: u64, path: &Path) -> Reply
-    ensures { result ≡ replies.Kind (kind_at (R.content view.now) revision path.now) }
+    ensures { result ≡ Reply.Kind (kind_at (R.content view.now) revision path.now) }
 {
     Reply::Kind(view.kind(revision, path))
 }

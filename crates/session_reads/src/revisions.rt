@@ -1,6 +1,6 @@
 //! Properties of revisions, and revisions by their dates.
 ghost use Rattle.std.specs.Prelude.{◌≡◌, IfOk, option_copied};
-ghost use Rattle.machine.specs.Readings.{author_of, revision_date, dated_reply, property_reply, revision_value, value_of_property};
+ghost use Rattle.machine.specs.Readings.{author_of, dated_reply, property_reply, revision_date, revision_value, value_of_property};
 
 use crate::places::revision_read;
 use byte_string::ByteString;
@@ -28,8 +28,7 @@ pub(crate) fn rev_prop<R: Repository>(
     revision: u64,
     name: &[u8],
 ) -> Result<Reply, AllocError>
-    ensures { IfOk result (λ reply. reply ≡
-        property_reply (R.content view.now) revision name.now) }
+    ensures { IfOk result (λ reply. reply ≡ property_reply (R.content view.now) revision name.now) }
 {
     match revision_read(view, Some(revision)) {
         Ok(n) => Ok(Reply::RevisionProperty(revision_value(view, name, n)?)),
@@ -57,8 +56,7 @@ pub fn revision_value<R: Repository>(
     name: &[u8],
     revision: u64,
 ) -> Result<Option<ByteString>, AllocError>
-    ensures { IfOk result (λ value. value ≡
-        revision_value (R.content view.now) name.now revision) }
+    ensures { IfOk result (λ value. value ≡ revision_value (R.content view.now) name.now revision) }
 {
     match view.revision_properties(revision) {
         Some(properties) => copy_optional(value_of_property(name, properties)),

@@ -1,22 +1,15 @@
 -- Changes that were asked for, and the steps that they are.
 use Rattle.std.proofs.Common.{◌≡◌, ℕ, List, [], ◌∷◌, ◌++◌, Bool, true, false, Option, Some, None, refl, sym, subst, inl, inr}
 use Rattle.std.specs.Prelude.{Result, Ok, Err, option_map}
-use Rattle.repo_api.specs.declared.fault.ChangeFault.{ChangeFault}
+use Rattle.repo_api.specs.{declared.fault.ChangeFault.ChangeFault, Accepted.Accepted, States.RepoState}
 use Rattle.refusals.specs.declared.Refusal.{Refusal}
 use Rattle.refusals.specs.declared.Refusal.TheVariants as refusals
-use Rattle.repo_api.specs.States.{RepoState}
-use Rattle.repo_api.specs.Accepted.{Accepted}
 use Rattle.repo_api.specs.declared.fault.ChangeFault.TheVariants as change_faults
 use Rattle.wire_replies.specs.declared.reply.Reply.{Reply}
 use Rattle.wire_replies.specs.declared.reply.Reply.TheVariants as replies
-use Rattle.access.specs.Points.{Point, AccessRules, content_of}
-use Rattle.access.specs.Changing.{ReplacesAt}
-use Rattle.machine.specs.Answers.{Verdict, Answer, Step, says, serves, behind, change_answer, ChangeStep, Behind}
-use Rattle.machine.specs.Answers.Verdict.{Written, Unknown}
-use Rattle.machine.specs.Stages.{Stage}
-use Rattle.machine.specs.Steps.{EffectAt, StepAt, AnsweredIfAny, Stepped}
-use Rattle.machine.specs.declared.env.Env.{Env}
-use Rattle.machine.specs.declared.phase.Client.{Client}
+use Rattle.access.specs.{Changing.ReplacesAt, Points.{AccessRules, content_of, Point}}
+use Rattle.machine.specs.{Answers.{Answer, Behind, behind, change_answer, ChangeStep, says, serves, Step, Verdict}, Answers.Verdict.{Unknown, Written}}
+use Rattle.machine.specs.{Stages.Stage, Steps.{AnsweredIfAny, EffectAt, StepAt, Stepped}, declared.env.Env.Env, declared.phase.Client.Client}
 use Rattle.machine.specs.declared.phase.Phase.TheVariants.{Serving, Ended}
 use Rattle.session_replies.specs.Telling.{fault_answer}
 use Rattle.session_replies.proofs.Steps.{Leads, leads_by, leads_behind, stepped, not_asked}

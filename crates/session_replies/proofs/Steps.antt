@@ -1,15 +1,11 @@
 -- A step of a session, and what becomes of its answer.
-use Rattle.std.proofs.Common.{◌≡◌, ℕ, List, [], ◌++◌, refl, sym, subst, ◌∙◌, inl, inr}
-use Rattle.std.proofs.lemmas.Bool.{false≢true}
+use Rattle.std.proofs.{Common.{◌≡◌, ℕ, List, [], ◌++◌, refl, sym, subst, ◌∙◌, inl, inr}, lemmas.Bool.false≢true}
 use Rattle.std.specs.Prelude.{Result, Ok, Err, IsOk, IsErr, MatchResult}
-use Rattle.wire_replies.specs.declared.reply.Reply.{Reply}
-use Rattle.wire_replies.specs.Replies.{print}
-use Rattle.wire_replies.specs.Sinks.{Says, WritesPart}
+use Rattle.wire_replies.specs.{declared.reply.Reply.Reply, Replies.print, Sinks.{Says, WritesPart}}
 use Rattle.wire_replies.proofs.Parts.{both_written, part_behind}
-use Rattle.access.specs.Points.{Point, AccessRules, content_of}
-use Rattle.machine.specs.Stages.{Stage}
-use Rattle.machine.specs.Answers.{Effect, no_effect, Answer, Step, says, behind, Behind}
-use Rattle.machine.specs.Steps.{EffectAt, StepAt, StepWritten, StepOrNothing, StepOrPart, AnswerWritten, Answered, Stepped, SteppedInPart}
+use Rattle.access.specs.Points.{AccessRules, content_of, Point}
+use Rattle.machine.specs.{Answers.{Answer, Behind, behind, Effect, no_effect, says, Step}, Stages.Stage}
+use Rattle.machine.specs.Steps.{Answered, AnswerWritten, EffectAt, StepAt, StepOrNothing, StepOrPart, Stepped, SteppedInPart, StepWritten}
 use Rattle.machine.specs.declared.env.Env.{Env}
 
 -- a step leads from a point to another, where the session stands there, and is to tell this

@@ -5,10 +5,7 @@ use Rattle.repo_api.specs.declared.fault.ChangeFault.{ChangeFault}
 use Rattle.repo_api.specs.declared.fault.ChangeFault.TheVariants as change_faults
 use Rattle.wire_replies.specs.declared.reply.Reply.{Reply}
 use Rattle.wire_replies.specs.declared.reply.Reply.TheVariants as replies
-use Rattle.machine.specs.Answers.{Answer, says, serves}
-use Rattle.machine.specs.declared.env.Env.{Env}
-use Rattle.machine.specs.declared.phase.Client.{Client}
-use Rattle.machine.specs.declared.phase.Phase.TheVariants.{Ended}
+use Rattle.machine.specs.{Answers.{Answer, says, serves}, declared.env.Env.Env, declared.phase.Client.Client, declared.phase.Phase.TheVariants.Ended}
 use Rattle.session_replies.specs.declared.preface.Preface.{Preface}
 use Rattle.session_replies.specs.declared.preface.Preface.TheVariants as prefaces
 

@@ -1,12 +1,9 @@
 //! The answer to a command, behind what comes before it. Where one of these fails, a part of what it says
 //! was written.
 ghost use Rattle.std.specs.Prelude.{◌≡◌, ◌∷◌, ◌++◌, [], IfOk, option_map};
-ghost use Rattle.wire_replies.specs.declared.reply.Reply.{Reply};
-ghost use Rattle.machine.specs.Answers.{says, serves, behind};
-ghost use Rattle.machine.specs.declared.phase.Phase.TheVariants.{Ended};
+ghost use Rattle.wire_replies.specs.{declared.reply.Reply.Reply, Sinks.Says};
+ghost use Rattle.machine.specs.{Answers.{behind, says, serves}, Steps.{Answered, AnsweredIfAny}};
 ghost use Rattle.session_replies.specs.Telling.{told_before, fault_answer};
-ghost use Rattle.wire_replies.specs.Sinks.{Says};
-ghost use Rattle.machine.specs.Steps.{Answered, AnsweredIfAny};
 
 use crate::preface::{Preface, say_new_behind};
 use crate::turn::{SessionPhase, stands};
@@ -68,7 +65,7 @@ pub fn end_halted<R: Repository, S: ReplySink>(
 ) -> Result<SessionPhase<R>, AllocError>
     ensures { Answered result turn.new.env (S.writes turn.old.out turn.new.out)
         (behind (told_before preface)
-        (says turn.old.env Ended (Reply.Failure Refusal.StoreFailed ∷ []))) }
+        (says turn.old.env Phase.Ended (Reply.Failure Refusal.StoreFailed ∷ []))) }
 {
     drop(unserved);
     say_new_behind(preface, Reply::Failure(Refusal::StoreFailed), &mut turn.out)?;

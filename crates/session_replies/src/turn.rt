@@ -1,7 +1,6 @@
 //! Where a session at a repository stands, and its end over what is no command.
 ghost use Rattle.std.specs.Prelude.{◌≡◌, IsErr, IsOk, MatchResult};
-ghost use Rattle.machine.specs.Answers.{malformed};
-ghost use Rattle.machine.specs.Steps.{Answered};
+ghost use Rattle.machine.specs.{Answers.malformed, Steps.Answered};
 
 use drive_reports::Grafts;
 use editor::CommitEditor;

@@ -1,26 +1,15 @@
 -- Where the commands of a report lead.
 use Rattle.std.proofs.Common.{◌≡◌, ℕ, List, [], refl, sym, subst, inl, inr}
 use Rattle.std.specs.Prelude.{Result, Ok, Err, IfOk}
-use Rattle.refusals.specs.declared.Refusal.{Refusal}
-use Rattle.repo_api.specs.Soundness.{AreTrees}
-use Rattle.repo_api.specs.States.{RepoState}
+use Rattle.refusals.specs.{declared.Refusal.Refusal, declared.fault.NotDone.NotDone}
+use Rattle.repo_api.specs.{Soundness.AreTrees, States.RepoState}
 use Rattle.wire_edits.specs.declared.editing.EditorCommand.{EditorCommand}
-use Rattle.drive_reports.specs.Judging.{JudgesReport}
-use Rattle.drive_reports.specs.Refusing.{◌>>=◌, OpenState, finish_root}
-use Rattle.refusals.specs.declared.fault.NotDone.{NotDone}
+use Rattle.drive_reports.specs.{Judging.JudgesReport, Refusing.{◌>>=◌, OpenState, finish_root}, declared.report.ReportRoot.ReportRoot}
 use Rattle.refusals.specs.declared.fault.NotDone.TheVariants as faults
-use Rattle.drive_reports.specs.declared.report.ReportRoot.{ReportRoot}
-use Rattle.drive_wire.specs.Reporting.{Drawn, Finishes, EndStep}
-use Rattle.drive_wire.specs.Reporting.Drawn.{GoesOn, GivenUp, Fails, Drives, Malformed}
-use Rattle.drive_wire.specs.Sent.{IsDrive}
-use Rattle.access.specs.Points.{Point, AccessRules, content_of}
-use Rattle.machine.specs.Stages.{Stage}
-use Rattle.machine.specs.Answers.{Step, no_effect, says}
-use Rattle.machine.specs.Reports.{drawn_answer, Draws}
-use Rattle.machine.specs.Steps.{StepOrNothing, Stepped}
-use Rattle.machine.specs.declared.env.Env.{Env}
-use Rattle.machine.specs.declared.phase.Client.{Client}
-use Rattle.machine.specs.declared.phase.Phase.TheVariants.{Driven}
+use Rattle.drive_wire.specs.{Reporting.{Drawn, Finishes, EndStep}, Reporting.Drawn.{GoesOn, GivenUp, Fails, Drives, Malformed}, Sent.IsDrive}
+use Rattle.access.specs.Points.{AccessRules, content_of, Point}
+use Rattle.machine.specs.{Answers.{no_effect, says, Step}, Reports.{drawn_answer, Draws}, Stages.Stage, Steps.{StepOrNothing, Stepped}, declared.env.Env.Env}
+use Rattle.machine.specs.{declared.phase.Client.Client, declared.phase.Phase.TheVariants.Driven}
 use Rattle.session_replies.proofs.Steps.{Leads, only_says, told_all, told_part}
 use Rattle.drive_sides.specs.Plans.{whole}
 use Rattle.drive_sending.specs.Driving.{drive_replies}

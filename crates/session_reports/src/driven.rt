@@ -1,14 +1,9 @@
 //! The client's answer to a drive.
 ghost use Rattle.std.specs.Prelude.{◌≡◌, ◌∷◌, []};
 ghost use Rattle.items.specs.View.{value_of};
-ghost use Rattle.wire_edits.specs.declared.editing.EditorCommand.{EditorCommand};
-ghost use Rattle.wire_replies.specs.declared.reply.Reply.{Reply};
 ghost use Rattle.drive_wire.specs.Reporting.{client_answer, is_success};
-ghost use Rattle.machine.specs.Answers.{serves, says};
-ghost use Rattle.machine.specs.Reports.{driven_answer};
-ghost use Rattle.machine.specs.declared.phase.Phase.TheVariants.{Serving};
+ghost use Rattle.machine.specs.{Answers.{says, serves}, Reports.driven_answer, Steps.Answered};
 ghost use Rattle.wire_replies.specs.Sinks.{Says};
-ghost use Rattle.machine.specs.Steps.{Answered};
 
 use items::Item;
 use machine::{Client, Phase, Turn};
@@ -57,7 +52,7 @@ fn tell_aborted<R: Repository, S: ReplySink>(
     turn: &mut Turn<S>,
 ) -> Result<SessionPhase<R>, AllocError>
     ensures { Answered result turn.new.env (S.writes turn.old.out turn.new.out)
-        (says turn.old.env (Serving client)
+        (says turn.old.env (Phase.Serving client)
         (Reply.Edit EditorCommand.AbortEdit ∷ Reply.Failure Refusal.EditAborted ∷ [])) }
 {
     let said = say_given_up(&mut turn.out);

@@ -3,8 +3,7 @@ ghost use Rattle.std.specs.Prelude.{MatchResult};
 ghost use Rattle.repo_api.specs.Soundness.{AreSound, AreTrees};
 ghost use Rattle.access.specs.Points.{content_of};
 ghost use Rattle.session_reports.specs.Finishing.{IsAnswered, IsUnanswered};
-ghost use Rattle.machine.specs.Steps.{Stepped};
-ghost use Rattle.machine.specs.Reports.{Draws};
+ghost use Rattle.machine.specs.{Reports.Draws, Steps.Stepped};
 ghost use Rattle.drive_wire.specs.Reporting.{EndStep};
 
 use crate::refused::tell_refused;

@@ -4,9 +4,7 @@ ghost use Rattle.repo_api.specs.Soundness.{AreSound};
 ghost use Rattle.drive_reports.specs.Refusing.{delete_path_answer, kept_report, set_path_answer};
 ghost use Rattle.drive_wire.specs.Reporting.{OpenStep};
 ghost use Rattle.access.specs.Points.{content_of};
-ghost use Rattle.machine.specs.declared.phase.Phase.TheVariants.{Reporting};
-ghost use Rattle.machine.specs.Steps.{Stepped};
-ghost use Rattle.machine.specs.Reports.{Draws};
+ghost use Rattle.machine.specs.{Reports.Draws, Steps.Stepped};
 
 use crate::finishing::{OpenErrand, finish};
 use access::RepoAccess;
@@ -52,7 +50,7 @@ fn set_path<R: Repository, A: RepoAccess<View = R>>(
     access: &mut A,
 ) -> Result<SessionPhase<R>, AllocError>
     requires trees { AreSound (content_of (A.point access.old)).revisions }
-    ensures next { IfOk result (λ phase. phase ≡ Reporting (record {
+    ensures next { IfOk result (λ phase. phase ≡ Phase.Reporting (record {
       client = errand.client;
       report = kept_report (set_path_answer (content_of (A.point access.new)) options.now.name
           errand.report link.entry.reported.now (option_copied link.entry.url));
@@ -75,7 +73,7 @@ fn delete_path<R: Repository>(
     errand: OpenErrand,
     text: &ByteString,
 ) -> Result<SessionPhase<R>, AllocError>
-    ensures { IfOk result (λ phase. phase ≡ Reporting (record {
+    ensures { IfOk result (λ phase. phase ≡ Phase.Reporting (record {
       client = errand.client;
       report = kept_report (delete_path_answer errand.report text.now);
     })) }

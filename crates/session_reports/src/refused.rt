@@ -2,12 +2,8 @@
 ghost use Rattle.std.specs.Prelude.{◌≡◌};
 ghost use Rattle.items.specs.View.{value_of};
 ghost use Rattle.wire_reports.specs.Reporting.{name_of};
-ghost use Rattle.drive_wire.specs.Reporting.{refused_drawn};
-ghost use Rattle.drive_wire.specs.Reporting.Drawn.{Fails};
-ghost use Rattle.machine.specs.Reports.{drawn_answer};
-ghost use Rattle.machine.specs.declared.phase.Phase.TheVariants.{Reporting};
-ghost use Rattle.drive_reports.specs.declared.report.Report.TheVariants.{Refused};
-ghost use Rattle.machine.specs.Steps.{Answered};
+ghost use Rattle.drive_wire.specs.{Reporting.refused_drawn, Reporting.Drawn.Fails};
+ghost use Rattle.machine.specs.{Reports.drawn_answer, Steps.Answered};
 
 use drive_reports::Report;
 use items::Item;
@@ -34,7 +30,7 @@ pub(crate) fn tell_refused<R: Repository, S: ReplySink>(
 
 /// Goes on with a report that is refused.
 pub(crate) fn refused_phase<R: Repository>(client: Client, refusal: Refusal) -> SessionPhase<R>
-    ensures { result ≡ Reporting (record { client = client; report = Refused refusal }) }
+    ensures { result ≡ Phase.Reporting (record { client = client; report = Report.Refused refusal }) }
 {
     let report = Report::Refused(refusal);
     Phase::Reporting(OpenReporting { client, report })

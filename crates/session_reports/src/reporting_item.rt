@@ -5,10 +5,7 @@ ghost use Rattle.repo_api.specs.Soundness.{AreSound};
 ghost use Rattle.wire_reports.specs.Reporting.{report_command};
 ghost use Rattle.drive_wire.specs.Reporting.{OpenStep};
 ghost use Rattle.access.specs.Points.{content_of};
-ghost use Rattle.machine.specs.Reports.{ReportingStep, Draws};
-ghost use Rattle.machine.specs.declared.phase.Phase.TheVariants.{Reporting};
-ghost use Rattle.drive_reports.specs.declared.report.Report.TheVariants.{Refused};
-ghost use Rattle.machine.specs.Steps.{Stepped};
+ghost use Rattle.machine.specs.{Reports.{Draws, ReportingStep}, Steps.Stepped, declared.phase.Phase.TheVariants.Reporting};
 
 use crate::finishing::OpenErrand;
 use crate::heeding::take_command;
@@ -28,7 +25,7 @@ use wire_reports::ReportCommand;
 
 /// Refuses a report from now on.
 fn refuse_report<R: Repository>(errand: OpenErrand, refusal: Refusal) -> SessionPhase<R>
-    ensures { result ≡ Reporting (record { client = errand.client; report = Refused refusal }) }
+    ensures { result ≡ Reporting (record { client = errand.client; report = Report.Refused refusal }) }
 {
     let OpenErrand { client, report } = errand;
     drop(report);

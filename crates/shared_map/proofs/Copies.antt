@@ -1,10 +1,8 @@
 -- Copies of lists of shared pointers.
-use Rattle.std.proofs.Common.{◌≡◌, ◌⊎◌, inl, inr, ℕ, zero, suc, ◌<◌, length, get_or, Option, Some, None, option_map, List, [], ◌∷◌, ◌++◌, take, drop, refl, sym, ap, subst, ◌∙◌}
-use Rattle.std.proofs.lemmas.List.{map-append, take-map, map-set, length-map}
+use Rattle.std.proofs.Common.{◌≡◌, ◌⊎◌, inl, inr, ℕ, zero, suc, ◌<◌, length, get_or, Option, Some, None, option_map, List, [], ◌∷◌, ◌++◌, take, drop, refl, sym}
+use Rattle.std.proofs.{Common.{ap, subst, ◌∙◌}, lemmas.List.{map-append, take-map, map-set, length-map}}
 use Rattle.std.proofs.lemmas.Option.{none-some, slice_get-get_or, slice_get_within}
-use Rattle.std.specs.List.{AllZip, insert, remove}
-use Rattle.std.specs.Prelude.{Result, Ok, Err, IfOk, OnOk, OnErr, IsSomeAnd, slice_get, slice_set}
-use Rattle.std.specs.declared.sync.Arc.{Arc}
+use Rattle.std.specs.{List.{AllZip, insert, remove}, Prelude.{Result, Ok, Err, IfOk, OnOk, OnErr, IsSomeAnd, slice_get, slice_set}, declared.sync.Arc.Arc}
 use Rattle.shared_map.specs.Entries.{values}
 
 -- copies of the pointers point to the same

@@ -1,12 +1,7 @@
 -- The entries of parts, around one of them.
 use Rattle.std.proofs.Common.{◌≡◌, ◌+◌, ℕ, zero, suc, List, [], ◌∷◌, ◌++◌, take, drop, Option, Some, None, refl, sym, ap, subst, arith, ◌∙◌}
-use Rattle.std.proofs.lemmas.List.{map-append, append_assoc, set_split}
-use Rattle.std.proofs.lemmas.List.Concat.{flat_map-append}
-use Rattle.std.proofs.lemmas.Option.{none-some, slice_get_within}
-use Rattle.std.specs.Prelude.{slice_get, slice_set}
-use Rattle.std.specs.List.{AllByRecursion, flat_map, insert, remove}
-use Rattle.std.specs.declared.sync.Arc.{Arc}
-use Rattle.std.specs.declared.vec.Vec.{Vec}
+use Rattle.std.proofs.{lemmas.List.{map-append, append_assoc, set_split}, lemmas.List.Concat.flat_map-append, lemmas.Option.{none-some, slice_get_within}}
+use Rattle.std.specs.{Prelude.{slice_get, slice_set}, List.{AllByRecursion, flat_map, insert, remove}, declared.sync.Arc.Arc, declared.vec.Vec.Vec}
 use Rattle.shared_map.specs.Entries.{values, part_entries, all_entries, IsFilled}
 
 pub suc_is : (i : ℕ) → suc i ≡ i + 1

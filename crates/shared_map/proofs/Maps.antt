@@ -1,15 +1,10 @@
 -- Lists of entries as maps.
 use Rattle.std.proofs.Common.{◌≡◌, ◌≤◌, ◌+◌, Bool, true, false, cond, not, List, [], ◌∷◌, ℕ, length, None, is_some, refl, sym, ap, subst, arith, ◌∙◌}
-use Rattle.std.specs.Prelude.{T, ◌&&◌}
-use Rattle.std.specs.Cmp.{IsTotalOrder, eq_by_cmp_equiv, alike_right}
-use Rattle.std.specs.Cmp.Lexicographic.{nat_list_cmp_total}
-use Rattle.std.specs.FinMap.{FinMap, IsAntisymmetric, slice_cmp-IsAntisymmetric, nat_cmp-IsAntisymmetric, entries, empty, get, insert, remove, from_sorted, entries-from_sorted, entries-insert, get-from_sorted, get-remove, same_map, same_entries_map, empty_of_len, len-entries, keys, entries_sorted}
-use Rattle.std.specs.FinMap.Entries.{put, find, is_sorted, is_sorted-put, is_sorted-where_key, find-where_key, length-put, below_all}
-use Rattle.std.specs.List.{AllByRecursion}
-use Rattle.std.specs.List.Sorted.{IsStrictlySortedBy}
-use Rattle.std.specs.Map.{keys_of}
-use Rattle.std.specs.Ordering.{eq_by_cmp, is_eq, is_lt}
-use Rattle.std.specs.declared.cmp.Ordering.{Ordering}
+use Rattle.std.specs.{Prelude.{T, ◌&&◌}, Cmp.{IsTotalOrder, eq_by_cmp_equiv, alike_right}, Cmp.Lexicographic.nat_list_cmp_total, FinMap.FinMap}
+use Rattle.std.specs.FinMap.{IsAntisymmetric, slice_cmp-IsAntisymmetric, nat_cmp-IsAntisymmetric, entries, empty, get, insert, remove, from_sorted}
+use Rattle.std.specs.FinMap.{entries-from_sorted, entries-insert, get-from_sorted, get-remove, same_map, same_entries_map, empty_of_len, len-entries, keys}
+use Rattle.std.specs.{FinMap.entries_sorted, FinMap.Entries.{put, find, is_sorted, is_sorted-put, is_sorted-where_key, find-where_key, length-put, below_all}}
+use Rattle.std.specs.{List.AllByRecursion, List.Sorted.IsStrictlySortedBy, Map.keys_of, Ordering.{eq_by_cmp, is_eq, is_lt}, declared.cmp.Ordering.Ordering}
 use Rattle.std.specs.declared.cmp.Ordering.TheVariants.{Less, Equal, Greater}
 use Rattle.shared_map.specs.Entries.{by_bytes, without}
 

@@ -1,12 +1,7 @@
 -- Entries in order, around the place of a name.
-use Rattle.std.proofs.Common.{◌≡◌, Bool, true, false, cond, not, List, [], ◌∷◌, ◌++◌, Some, None, refl, sym, ap, ◌∙◌}
-use Rattle.std.proofs.lemmas.Bool.{false≢true}
-use Rattle.std.specs.Prelude.{T, ◌&&◌}
-use Rattle.std.specs.Cmp.{IsTotalOrder, alike_right}
-use Rattle.std.specs.FinMap.Entries.{by_order, put, where_key, find, below_all, is_sorted}
-use Rattle.std.specs.List.{AllByRecursion}
-use Rattle.std.specs.Ordering.{eq_by_cmp, is_eq, is_lt, ordering_reverse}
-use Rattle.std.specs.declared.cmp.Ordering.{Ordering}
+use Rattle.std.proofs.{Common.{◌≡◌, Bool, true, false, cond, not, List, [], ◌∷◌, ◌++◌, Some, None, refl, sym, ap, ◌∙◌}, lemmas.Bool.false≢true}
+use Rattle.std.specs.{Prelude.{T, ◌&&◌}, Cmp.{IsTotalOrder, alike_right}, FinMap.Entries.{by_order, put, where_key, find, below_all, is_sorted}}
+use Rattle.std.specs.{List.AllByRecursion, Ordering.{eq_by_cmp, is_eq, is_lt, ordering_reverse}, declared.cmp.Ordering.Ordering}
 use Rattle.std.specs.declared.cmp.Ordering.TheVariants.{Less, Equal, Greater}
 
 first : (a b : Bool) → T (a && b) → T a

@@ -1,22 +1,15 @@
 -- The place of a name among parts, and in one of them.
-use Rattle.std.proofs.Common.{◌≡◌, ◌<◌, ◌≤◌, ◌+◌, ℕ, zero, suc, true, false, List, [], ◌∷◌, ◌++◌, take, drop, length, Option, Some, None, refl, sym, ap, subst, arith, ◌∙◌}
-use Rattle.std.proofs.lemmas.Bool.{false≢true}
-use Rattle.std.proofs.lemmas.List.{take-append-drop, append-nil, nil_from_length}
-use Rattle.std.proofs.lemmas.List.Edits.{length-remove}
-use Rattle.std.proofs.lemmas.Option.{none-some}
-use Rattle.std.specs.Prelude.{T, slice_get, slice_set, IsSomeAnd}
-use Rattle.std.specs.List.{AllByRecursion, insert, remove}
-use Rattle.std.specs.FinMap.Entries.{is_sorted, put, find}
-use Rattle.std.specs.Ordering.{is_lt}
-use Rattle.std.specs.declared.cmp.Ordering.{Ordering}
-use Rattle.std.specs.declared.cmp.Ordering.TheVariants.{Less, Equal, Greater}
-use Rattle.std.specs.declared.sync.Arc.{Arc}
+use Rattle.std.proofs.Common.{◌≡◌, ◌<◌, ◌≤◌, ◌+◌, ℕ, zero, suc, true, false, List, [], ◌∷◌, ◌++◌, take, drop, length, Option, Some, None, refl, sym, ap, subst}
+use Rattle.std.proofs.{Common.{arith, ◌∙◌}, lemmas.Bool.false≢true, lemmas.List.{take-append-drop, append-nil, nil_from_length}}
+use Rattle.std.proofs.{lemmas.List.Edits.length-remove, lemmas.Option.none-some}
+use Rattle.std.specs.{Prelude.{T, slice_get, slice_set, IsSomeAnd}, List.{AllByRecursion, insert, remove}, FinMap.Entries.{is_sorted, put, find}}
+use Rattle.std.specs.{Ordering.is_lt, declared.cmp.Ordering.Ordering, declared.cmp.Ordering.TheVariants.{Less, Equal, Greater}, declared.sync.Arc.Arc}
 use Rattle.std.specs.declared.vec.Vec.{Vec}
 use Rattle.shared_map.specs.Entries.{by_bytes, values, part_entries, all_entries, AreParts, IsFilled, IsBetween, is_before, without}
-use Rattle.shared_map.proofs.Ordered.{all_append, Above, Below, above, below, behind, sorted_left, sorted_right, find_past, find_front, find_at, find_none, put_past, put_front, put_at, put_gap, keep_past, keep_front, gone, kept}
-use Rattle.shared_map.proofs.InParts.{suc_is, split_at, set_at, remove_is, two_at, entries_append, entries_around, entries_two, filled_set, filled_both, filled_less}
-use Rattle.shared_map.proofs.Copies.{values_set, values_insert}
-use Rattle.shared_map.proofs.Maps.{total, same_name, sorted_put, sorted_without, put_size}
+use Rattle.shared_map.proofs.Ordered.{all_append, Above, Below, above, below, behind, sorted_left, sorted_right, find_past, find_front, find_at, find_none}
+use Rattle.shared_map.proofs.{Ordered.{put_past, put_front, put_at, put_gap, keep_past, keep_front, gone, kept}, InParts.{suc_is, split_at, set_at, remove_is}}
+use Rattle.shared_map.proofs.InParts.{two_at, entries_append, entries_around, entries_two, filled_set, filled_both, filled_less}
+use Rattle.shared_map.proofs.{Copies.{values_set, values_insert}, Maps.{total, same_name, sorted_put, sorted_without, put_size}}
 
 less : (r : Ordering) → is_lt r ≡ true → r ≡ Less
 less Less h = refl

@@ -1,13 +1,7 @@
 -- The entries of a map in parts: names with their values, in the order of the names' bytes.
-use Rattle.std.specs.Prelude.{◌≡◌, ◌<◌, ◌≤◌, not, ℕ, Bool, true, T, List, [], ◌∷◌, map, length}
-use Rattle.std.specs.Cmp.Lexicographic.{slice_cmp}
-use Rattle.std.specs.FinMap.Entries.{is_sorted, where_key}
-use Rattle.std.specs.List.{AllByRecursion, flat_map}
-use Rattle.std.specs.Ordering.{eq_by_cmp, is_lt, nat_cmp}
-use Rattle.std.specs.declared.cmp.Ordering.{Ordering}
-use Rattle.std.specs.declared.cmp.Ordering.TheVariants.{Less, Greater}
-use Rattle.std.specs.declared.sync.Arc.{Arc}
-use Rattle.std.specs.declared.vec.Vec.{Vec}
+use Rattle.std.specs.{Prelude.{◌≡◌, ◌<◌, ◌≤◌, not, ℕ, Bool, true, T, List, [], ◌∷◌, map, length}, Cmp.Lexicographic.slice_cmp}
+use Rattle.std.specs.{FinMap.Entries.{is_sorted, where_key}, List.{AllByRecursion, flat_map}, Ordering.{eq_by_cmp, is_lt, nat_cmp}}
+use Rattle.std.specs.{declared.cmp.Ordering.Ordering, declared.cmp.Ordering.TheVariants.{Less, Greater}, declared.sync.Arc.Arc, declared.vec.Vec.Vec}
 
 -- names go by their bytes
 abbrev pub by_bytes : List ℕ → List ℕ → Ordering

@@ -1,7 +1,5 @@
 //! The entries of parts, one after another.
-ghost use Rattle.std.specs.Prelude.{◌≡◌, ◌++◌, map, OnOk, IfOk};
-ghost use Rattle.std.specs.Map.{keys_of};
-ghost use Rattle.std.specs.Map.Iter.{deref};
+ghost use Rattle.std.specs.{Prelude.{◌≡◌, ◌++◌, map, OnOk, IfOk}, Map.keys_of, Map.Iter.deref};
 ghost use Rattle.shared_map.specs.Entries.{values, all_entries};
 
 use crate::parts::{Entry, Part};

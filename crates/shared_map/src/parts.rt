@@ -1,6 +1,5 @@
 //! Parts of a map: lists of shared entries.
-ghost use Rattle.std.specs.Prelude.{◌≡◌, ◌<◌, ◌++◌, ◌∷◌, [], length, IfOk, OnOk, OnErr};
-ghost use Rattle.std.specs.List.{remove};
+ghost use Rattle.std.specs.{Prelude.{◌≡◌, ◌<◌, ◌++◌, ◌∷◌, [], length, IfOk, OnOk, OnErr}, List.remove};
 ghost use Rattle.shared_map.specs.Entries.{values};
 
 use byte_string::ByteString;

@@ -1,8 +1,6 @@
 //! Where a name stands: in which part, and at which place of it.
-ghost use Rattle.std.specs.Prelude.{◌≡◌, ◌<◌, ◌≤◌, ◌+◌, length, take, drop, slice_get, IfOk, IfErr, IsSomeAnd, option_copied};
-ghost use Rattle.std.specs.declared.cmp.Ordering.TheVariants.{Equal};
+ghost use Rattle.std.specs.Prelude.{◌≡◌, ◌<◌, ◌≤◌, ◌+◌, length, take, drop, slice_get, IfOk, IfErr, IsSomeAnd, option_copied, T};
 ghost use Rattle.std.specs.FinMap.Entries.{is_sorted, find};
-ghost use Rattle.std.specs.Prelude.{T};
 ghost use Rattle.shared_map.specs.Entries.{by_bytes, values, all_entries, AreParts, is_before, IsBetween};
 
 use crate::parts::{Entry, Part};
@@ -44,7 +42,7 @@ pub(crate) fn home<V>(parts: &[Arc<Part<V>>], name: &ByteString) -> usize
 pub(crate) fn search<V>(part: &[Arc<Entry<V>>], name: &ByteString) -> Result<usize, usize>
     requires { T (is_sorted by_bytes (values part.now)) }
     ensures found { IfOk result (λ place. IsSomeAnd (slice_get (values part.now) place)
-        (λ e. by_bytes name.now e.0 ≡ Equal)) }
+        (λ e. by_bytes name.now e.0 ≡ Ordering.Equal)) }
     ensures around { IfOk result (λ place. IsBetween name.now (take place (values part.now))
         (drop (place + 1) (values part.now))) }
     ensures within { IfErr result (λ place. place ≤ length (values part.now)) }

@@ -1,8 +1,6 @@
 //! The map as a whole.
-ghost use Rattle.std.specs.Prelude.{◌≡◌, map, IfOk, OnOk, OnErr, option_copied};
-ghost use Rattle.std.specs.FinMap.{empty, get, insert, remove, entries, keys};
-ghost use Rattle.std.specs.List.Sorted.{IsStrictlySortedBy};
-ghost use Rattle.std.specs.Map.Iter.{deref};
+ghost use Rattle.std.specs.{Prelude.{◌≡◌, map, IfOk, OnOk, OnErr, option_copied}, FinMap.{empty, get, insert, remove, entries, keys}};
+ghost use Rattle.std.specs.{List.Sorted.IsStrictlySortedBy, Map.Iter.deref};
 ghost use Rattle.shared_map.specs.Entries.{by_bytes};
 
 use crate::listing::{entries_of, names_of};
@@ -23,8 +21,7 @@ pub struct SharedMap<V: Drop> {
 }
 
 impl<V: Drop> Model for SharedMap<V> {
-    ghost use Rattle.std.specs.Coded.{coded_ℕ, coded_list};
-    ghost use Rattle.std.specs.FinMap.{FinMap, code, from_sorted};
+    ghost use Rattle.std.specs.{Coded.{coded_ℕ, coded_list}, FinMap.{FinMap, code, from_sorted}};
     ghost use Rattle.shared_map.specs.Entries.{by_bytes, all_entries, AreParts};
 
     ghost Value = { FinMap by_bytes V };

@@ -2,12 +2,8 @@
 use Rattle.std.proofs.Common.{◌≡◌, ℕ, Option, Some, None, refl, sym, subst}
 use Rattle.std.specs.Prelude.{IsSome}
 use Rattle.svnpath.specs.Paths.{PathValue}
-use Rattle.repo_api.specs.Edits.{begun}
-use Rattle.repo_api.specs.Kinds.{kind_of, kind_at}
-use Rattle.repo_api.specs.Soundness.{AreTrees}
-use Rattle.repo_api.specs.States.{RepoState, TxnState, IsBegun, tree_of, trees_in, youngest}
-use Rattle.repo_api.specs.Trees.{Tree, IsTree}
-use Rattle.repo_api.specs.declared.entry.Entry.{Entry}
+use Rattle.repo_api.specs.{Edits.begun, Kinds.{kind_at, kind_of}, Soundness.AreTrees, States.{IsBegun, RepoState, tree_of, trees_in, TxnState, youngest}}
+use Rattle.repo_api.specs.{Trees.{IsTree, Tree}, declared.entry.Entry.Entry}
 use Rattle.repo_api.specs.declared.entry.NodeKind.TheVariants as kinds
 use Rattle.repo_laws.proofs.Standing.{tree_where}
 

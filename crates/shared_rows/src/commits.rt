@@ -1,9 +1,6 @@
 //! Each look has what the other seat has changed.
 ghost use Rattle.std.specs.Prelude.{◌≡◌, IfOk};
-ghost use Rattle.repo_api.specs.Soundness.{AreSound};
-ghost use Rattle.repo_api.specs.States.{IsBeginning, tree_of};
-ghost use Rattle.repo_api.specs.Transactions.{IsMarkedTxn};
-ghost use Rattle.repo_api.specs.Trees.{IsTree};
+ghost use Rattle.repo_api.specs.{Soundness.AreSound, States.{IsBeginning, tree_of}, Transactions.IsMarkedTxn, Trees.IsTree};
 
 use crate::seats::{Access, SoundTrees, new_files, opened, two_seats};
 use access::{Committed, RepoAccess};

@@ -1,26 +1,18 @@
 -- A change that a keeper makes.
-use Rattle.std.proofs.Common.{◌≡◌, ℕ, List, [], ◌∷◌, arith, length-append, Bool, true, false, not, ◌&&◌, true≢false, length, Option, Some, None, Ok, Err, inl, inr, refl, ◌∙◌, ap, sym, subst}
+use Rattle.std.proofs.Common.{◌≡◌, ℕ, List, [], ◌∷◌, arith, length-append, Bool, true, false, not, ◌&&◌, true≢false, length, Option, Some, None, Ok, Err, inl}
+use Rattle.std.proofs.Common.{inr, refl, ◌∙◌, ap, sym, subst}
 use Rattle.std.specs.Prelude.{Result}
-use Rattle.repo_api.specs.States.{RepoState, TxnState, youngest}
-use Rattle.repo_api.specs.Commits.{committed, next_tree}
-use Rattle.repo_api.specs.Soundness.{AreSound}
-use Rattle.repo_api.specs.Accepted.{Accepted, IsAccepted, changed, IfRefused, IsOfMemory}
-use Rattle.repo_api.specs.Accepted.Accepted.{Commits, Locks, Unlocks, Releases, ChangesProperty}
-use Rattle.repo_api.specs.Locking.{HandedTokens, releases}
-use Rattle.repo_api.specs.declared.ask.CommitAsk.{CommitAsk}
+use Rattle.repo_api.specs.Accepted.{Accepted, changed, IfRefused, IsAccepted, IsOfMemory}
+use Rattle.repo_api.specs.{Accepted.Accepted.{ChangesProperty, Commits, Locks, Releases, Unlocks}, Commits.{committed, next_tree}}
+use Rattle.repo_api.specs.{Locking.{HandedTokens, releases}, Soundness.AreSound, States.{RepoState, TxnState, youngest}, declared.ask.CommitAsk.CommitAsk}
 use Rattle.repo_api.specs.declared.fault.ChangeFault.{ChangeFault}
 use Rattle.repo_api.specs.declared.fault.ChangeFault.TheVariants as faults
 use Rattle.refusals.specs.declared.Refusal.{Refusal}
-use Rattle.access.specs.Points.{Point, content_of}
-use Rattle.access.specs.Changing.{ChangesAt, ReplacesAt, ReleasesAfter, IsFailure, IsHalt, wants_release}
-use Rattle.access.specs.Handed.{IsHandedIn}
-use Rattle.access.specs.declared.access.Released.{Released}
-use Rattle.access.specs.declared.access.Released.TheVariants.{Settled, NoMemory, StoreFailed}
+use Rattle.access.specs.{Changing.{ChangesAt, IsFailure, IsHalt, ReleasesAfter, ReplacesAt, wants_release}, Handed.IsHandedIn, Points.{content_of, Point}}
+use Rattle.access.specs.{declared.access.Released.Released, declared.access.Released.TheVariants.{Settled, NoMemory, StoreFailed}}
 use Rattle.access.specs.declared.handed.Handed.{Handed}
-use Rattle.published.specs.Changes.{IsRight}
-use Rattle.published.specs.Moments.{added, shared_rules}
-use Rattle.sharedrepo.specs.Archives.{Kept, IsMade, IsNext, is_commit}
-use Rattle.sharedrepo.specs.Settling.{SettlesTo, ReleasesTo, ReleasesHanded, released_as}
+use Rattle.published.specs.{Changes.IsRight, Moments.{added, shared_rules}}
+use Rattle.sharedrepo.specs.{Archives.{Kept, IsMade, IsNext, is_commit}, Settling.{SettlesTo, ReleasesTo, ReleasesHanded, released_as}}
 use Rattle.sharedrepo.specs.Standing.{Standing, IsSteady, now_of, NotBegun}
 use Rattle.sharedrepo.proofs.Keeping.{files_now, sound_now}
 

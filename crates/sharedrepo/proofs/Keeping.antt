@@ -1,18 +1,11 @@
 -- What a save leaves.
 use Rattle.std.proofs.Common.{◌≡◌, ◌⊎◌, ℕ, ◌<◌, Bool, List, [], ◌∷◌, ◌++◌, true, false, length, Option, Some, None, Err, inl, inr, ◌∙◌, refl, sym, ap, subst}
-use Rattle.repo_api.specs.States.{RepoState}
-use Rattle.repo_api.specs.Soundness.{AreSound}
-use Rattle.repo_api.specs.Accepted.{Accepted, IsAccepted, changed}
-use Rattle.repo_api.specs.declared.fault.ChangeFault.{ChangeFault}
+use Rattle.repo_api.specs.{Accepted.{Accepted, changed, IsAccepted}, Soundness.AreSound, States.RepoState, declared.fault.ChangeFault.ChangeFault}
 use Rattle.repo_api.specs.declared.fault.ChangeFault.TheVariants as faults
 use Rattle.access.specs.Points.{Point}
-use Rattle.published.specs.Events.{Event, state_of, point_of}
-use Rattle.published.specs.Events.Event.{Makes}
-use Rattle.published.specs.Moments.{added}
+use Rattle.published.specs.{Events.{Event, state_of, point_of}, Events.Event.Makes, Moments.added}
 use Rattle.published.proofs.Histories.{point_more, history_sound}
-use Rattle.sharedrepo.specs.Archives.{Kept, NotSaved, FilesFor}
-use Rattle.sharedrepo.specs.Settling.{SettlesTo}
-use Rattle.sharedrepo.specs.Standing.{Standing, IsSteady}
+use Rattle.sharedrepo.specs.{Archives.{Kept, NotSaved, FilesFor}, Settling.SettlesTo, Standing.{Standing, IsSteady}}
 
 -- the files after a change that was not saved
 pub files_after : (e : Accepted) (fault : ChangeFault) (old new : Kept) (pending : Option Accepted) (list : List Event)

@@ -1,15 +1,11 @@
 -- What keeps the files of a repository, and what a save leaves.
 use Rattle.std.specs.Prelude.{◌≡◌, ◌⊎◌, ℕ, Bool, true, false, List, Option, Some, Result, Ok, Err}
-use Rattle.repo_api.specs.States.{RepoState}
-use Rattle.repo_api.specs.Accepted.{Accepted, IsAccepted, changed}
-use Rattle.repo_api.specs.Accepted.Accepted.{Commits, Locks, Unlocks, Releases, ChangesProperty}
+use Rattle.repo_api.specs.{Accepted.{Accepted, changed, IsAccepted}, Accepted.Accepted.{ChangesProperty, Commits, Locks, Releases, Unlocks}, States.RepoState}
 use Rattle.repo_api.specs.declared.fault.ChangeFault.{ChangeFault}
 use Rattle.repo_api.specs.declared.fault.ChangeFault.TheVariants as faults
 use Rattle.access.specs.Points.{HasRisen}
-use Rattle.published.specs.Changes.{IsRight}
-use Rattle.published.specs.Events.{Event, state_of}
-use Rattle.sharedrepo.specs.declared.archive.SaveFault.{SaveFault}
-use Rattle.sharedrepo.specs.declared.archive.SaveFault.TheVariants.{Device, NoMemory, Halted}
+use Rattle.published.specs.{Changes.IsRight, Events.{Event, state_of}}
+use Rattle.sharedrepo.specs.{declared.archive.SaveFault.SaveFault, declared.archive.SaveFault.TheVariants.{Device, NoMemory, Halted}}
 
 -- an archive: the repository for which its files stand, whether it saves no more, and how often a
 -- save has failed

@@ -1,15 +1,9 @@
 -- What a right change leads to once it is saved and published, or not.
 use Rattle.std.specs.Prelude.{◌≡◌, ◌⊎◌, true, false, Option, Some, None, Result, Ok, Err}
-use Rattle.repo_api.specs.Accepted.{Accepted}
-use Rattle.repo_api.specs.Accepted.Accepted.{Releases}
-use Rattle.repo_api.specs.Locking.{releases}
-use Rattle.repo_api.specs.declared.fault.ChangeFault.{ChangeFault}
+use Rattle.repo_api.specs.{Accepted.Accepted, Accepted.Accepted.Releases, Locking.releases, declared.fault.ChangeFault.ChangeFault}
 use Rattle.repo_api.specs.declared.fault.ChangeFault.TheVariants as faults
-use Rattle.access.specs.Changing.{IsFailure, IsHalt}
-use Rattle.access.specs.Points.{Point, content_of}
-use Rattle.access.specs.declared.access.Released.{Released}
-use Rattle.access.specs.declared.access.Released.TheVariants.{Settled, NoMemory, StoreFailed}
-use Rattle.access.specs.declared.handed.Handed.{Handed}
+use Rattle.access.specs.{Changing.{IsFailure, IsHalt}, Points.{content_of, Point}, declared.access.Released.Released}
+use Rattle.access.specs.{declared.access.Released.TheVariants.{Settled, NoMemory, StoreFailed}, declared.handed.Handed.Handed}
 use Rattle.published.specs.Moments.{added}
 use Rattle.sharedrepo.specs.Archives.{is_commit}
 

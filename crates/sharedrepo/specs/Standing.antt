@@ -1,13 +1,9 @@
 -- How a keeper stands between calls, as contracts see it.
 use Rattle.std.specs.Prelude.{◌≡◌, ◌<◌, List, true, length, Option, Some, None}
-use Rattle.repo_api.specs.States.{RepoState, TxnState}
-use Rattle.repo_api.specs.Accepted.{Accepted}
-use Rattle.repo_api.specs.declared.fault.ChangeFault.{ChangeFault}
+use Rattle.repo_api.specs.{Accepted.Accepted, States.{RepoState, TxnState}, declared.fault.ChangeFault.ChangeFault}
 use Rattle.repo_api.specs.declared.fault.ChangeFault.TheVariants as faults
 use Rattle.access.specs.Points.{Point}
-use Rattle.published.specs.Edition.{Edition}
-use Rattle.published.specs.Events.{Event, state_of, point_of, IsHistory, accepted_by}
-use Rattle.published.specs.declared.event.AskedChange.{AskedChange}
+use Rattle.published.specs.{Edition.Edition, Events.{Event, state_of, point_of, IsHistory, accepted_by}, declared.event.AskedChange.AskedChange}
 use Rattle.sharedrepo.specs.Archives.{Kept, FilesFor}
 
 -- the events, the repository, what is published, the archive, and the change that was being saved when

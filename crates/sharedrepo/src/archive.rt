@@ -1,13 +1,8 @@
 //! What makes the changes of a repository, and keeps its files.
 ghost use Rattle.std.specs.Prelude.{◌≡◌, true, false, Some, IfOk};
-ghost use Rattle.repo_api.specs.Accepted.{Accepted, IfRefused, IsOfMemory};
-ghost use Rattle.repo_api.specs.Accepted.Accepted.{Commits, Locks, Unlocks, Releases, ChangesProperty};
-ghost use Rattle.repo_api.specs.Commits.{commit_refusal};
-ghost use Rattle.repo_api.specs.Locking.{lock_refusal, unlock_refusal, releases};
-ghost use Rattle.repo_api.specs.RevisionProperties.{property_refusal};
-ghost use Rattle.repo_api.specs.States.{IsBeginning, tree_of};
-ghost use Rattle.repo_api.specs.Transactions.{IsMarkedTxn};
-ghost use Rattle.repo_api.specs.Trees.{IsTree};
+ghost use Rattle.repo_api.specs.{Accepted.{Accepted, IfRefused, IsOfMemory}, Accepted.Accepted.{ChangesProperty, Commits, Locks, Releases, Unlocks}};
+ghost use Rattle.repo_api.specs.{Commits.commit_refusal, Locking.{lock_refusal, releases, unlock_refusal}, RevisionProperties.property_refusal};
+ghost use Rattle.repo_api.specs.{States.{IsBeginning, tree_of}, Transactions.IsMarkedTxn, Trees.IsTree};
 ghost use Rattle.sharedrepo.specs.Archives.{IsMade, SaveLeaves};
 
 use access::Handed;
@@ -80,8 +75,7 @@ pub trait Archive<R: Repository>: Drop {
 
     /// Takes the locks away that are the user's and were handed in, of which there is one.
     fn released(&self, handed: &Handed) -> Result<(R, Self::Unsaved), ChangeFault>
-        requires { releases handed.now.user handed.now.tokens (kept self.now).content.locks
-            ≡ true }
+        requires { releases handed.now.user handed.now.tokens (kept self.now).content.locks ≡ true }
         ensures made { IfOk result (λ made. IsMade (kept self.now).content
             (Releases handed.now.user handed.now.tokens) (R.content made.0)) }
         ensures writes { IfOk result (λ made. writes self.now made.1

@@ -1,11 +1,8 @@
 //! The changes that a keeper makes for a seat of its.
 ghost use Rattle.std.specs.Prelude.{◌≡◌, ◌≤◌, true, false, Err};
-ghost use Rattle.access.specs.Points.{Point, content_of};
-ghost use Rattle.access.specs.Changing.{CommitsAt, LocksAt, UnlocksAt, ChangesPropertyAt};
+ghost use Rattle.access.specs.{Changing.{ChangesPropertyAt, CommitsAt, LocksAt, UnlocksAt}, Points.{content_of, Point}};
 ghost use Rattle.published.specs.Moments.{GoesOn, shared_rules};
-ghost use Rattle.repo_api.specs.States.{IsBeginning, tree_of};
-ghost use Rattle.repo_api.specs.Transactions.{IsMarkedTxn};
-ghost use Rattle.repo_api.specs.Trees.{IsTree};
+ghost use Rattle.repo_api.specs.{States.{IsBeginning, tree_of}, Transactions.IsMarkedTxn, Trees.IsTree};
 ghost use Rattle.sharedrepo.specs.Standing.{IsSteady, now_of};
 
 use crate::archive::Archive;

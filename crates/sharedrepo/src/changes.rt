@@ -1,17 +1,11 @@
 //! The changes that a keeper makes: each is made, saved, and published.
 ghost use Rattle.std.specs.Prelude.{◌≡◌, ◌<◌, ◌^◌, false, true, length, IfErr, OnOk, None};
+ghost use Rattle.access.specs.{Changing.{ChangesAt, ChangesPropertyAt, CommitsAt, IsFailure, LocksAt, ReplacesAt, UnlocksAt}, Handed.IsHandedIn};
 ghost use Rattle.access.specs.Points.{content_of};
-ghost use Rattle.access.specs.Changing.{ChangesAt, CommitsAt, LocksAt, UnlocksAt, ChangesPropertyAt, ReplacesAt, IsFailure};
-ghost use Rattle.access.specs.Handed.{IsHandedIn};
-ghost use Rattle.repo_api.specs.Accepted.Accepted.{Commits, Releases};
-ghost use Rattle.repo_api.specs.Commits.{commit_refusal};
-ghost use Rattle.repo_api.specs.Locking.{releases};
-ghost use Rattle.repo_api.specs.States.{IsBeginning, tree_of};
-ghost use Rattle.repo_api.specs.Transactions.{IsMarkedTxn};
-ghost use Rattle.repo_api.specs.Trees.{IsTree};
+ghost use Rattle.repo_api.specs.{Accepted.Accepted.{Commits, Releases}, Commits.commit_refusal, Locking.releases, States.{IsBeginning, tree_of}};
+ghost use Rattle.repo_api.specs.{Transactions.IsMarkedTxn, Trees.IsTree};
 ghost use Rattle.published.specs.Moments.{added, shared_rules};
-ghost use Rattle.sharedrepo.specs.Settling.{ReleasesHanded, ReleasesTo, released_as};
-ghost use Rattle.sharedrepo.specs.Standing.{IsSteady, now_of, NotBegun};
+ghost use Rattle.sharedrepo.specs.{Settling.{ReleasesHanded, ReleasesTo, released_as}, Standing.{IsSteady, now_of, NotBegun}};
 
 use crate::archive::Archive;
 use crate::keeper::Keeper;
@@ -128,8 +122,7 @@ impl<
     /// Releases what was handed in.
     fn release<W: Wait>(&mut self, rt: &W, handed: &Handed) -> Released
         requires { (S.kept self.old.archive).halted ≡ false }
-        ensures { ReleasesTo handed.now (now_of S.kept self.old) result
-            (now_of S.kept self.new) }
+        ensures { ReleasesTo handed.now (now_of S.kept self.old) result (now_of S.kept self.new) }
     {
         if !self
             .repository
@@ -143,8 +136,7 @@ impl<
     /// Releases what was handed in, if something was.
     fn release_handed<W: Wait>(&mut self, rt: &W, handed: Option<Handed>) -> Released
         requires { (S.kept self.old.archive).halted ≡ false }
-        ensures { ReleasesHanded handed (now_of S.kept self.old) result
-            (now_of S.kept self.new) }
+        ensures { ReleasesHanded handed (now_of S.kept self.old) result (now_of S.kept self.new) }
     {
         match handed {
             None => Released::Settled,

@@ -1,8 +1,7 @@
 //! The keeper of a repository: it alone changes it.
 ghost use Rattle.std.specs.Prelude.{◌≡◌, ◌<◌, ◌^◌, [], ◌∷◌, false, None, length, All, IfOk};
 ghost use Rattle.repo_api.specs.Soundness.{AreSound};
-ghost use Rattle.published.specs.Events.{state_of, point_of};
-ghost use Rattle.published.specs.Events.Event.{Opened};
+ghost use Rattle.published.specs.{Events.{state_of, point_of}, Events.Event.Opened};
 ghost use Rattle.sharedrepo.specs.Standing.{IsSteady};
 
 use crate::archive::Archive;
@@ -48,8 +47,7 @@ impl<
     T: Absorb<O> + Carries<Published<R, J>> + Drop,
     O: Sets<Published<R, J>> + Drop,
 > Model for Keeper<R, S, J, T, O> {
-    ghost use Rattle.std.specs.Coded.{codes};
-    ghost use Rattle.std.specs.FinMap.{code as map_code};
+    ghost use Rattle.std.specs.{Coded.codes, FinMap.code as map_code};
     ghost use Rattle.sharedrepo.specs.Standing.{Standing, standing, pending_in, IsSteady};
 
     ghost Value = { Standing S };

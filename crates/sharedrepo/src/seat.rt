@@ -23,9 +23,7 @@ pub struct Seat<R: Repository, J: Naming, T: Carries<Published<R, J>> + Drop> {
 }
 
 impl<R: Repository, J: Naming, T: Carries<Published<R, J>> + Drop> Model for Seat<R, J, T> {
-    ghost use Rattle.std.specs.Prelude.{IsSome, ◌<◌, length};
-    ghost use Rattle.std.specs.Coded.{codes};
-    ghost use Rattle.std.specs.FinMap.{code as map_code};
+    ghost use Rattle.std.specs.{Prelude.{IsSome, ◌<◌, length}, Coded.codes, FinMap.code as map_code};
     ghost use Rattle.access.specs.Points.{Point};
     ghost use Rattle.published.specs.Events.{point_of};
     ghost use Rattle.sharedrepo.specs.Standing.{pending_in};

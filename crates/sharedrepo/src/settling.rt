@@ -2,9 +2,7 @@
 ghost use Rattle.std.specs.Prelude.{◌≡◌, ◌<◌, ◌^◌, false, length, IfErr, IfOk, OnOk, Ok, Some};
 ghost use Rattle.published.specs.Events.{state_of, accepted_by};
 ghost use Rattle.repo_api.specs.Accepted.{Accepted};
-ghost use Rattle.sharedrepo.specs.Archives.{IsNext, SaveLeaves, NotSaved, fault_of};
-ghost use Rattle.sharedrepo.specs.Settling.{SettlesTo};
-ghost use Rattle.sharedrepo.specs.Standing.{now_of};
+ghost use Rattle.sharedrepo.specs.{Archives.{IsNext, SaveLeaves, NotSaved, fault_of}, Settling.SettlesTo, Standing.now_of};
 
 use crate::archive::{Archive, SaveFault};
 use crate::keeper::Keeper;
@@ -169,8 +167,7 @@ impl<
     ) -> Result<(), ChangeFault>
         requires running { (S.kept self.old.archive).halted ≡ false }
         requires room { length self.old.list < 2 ^ 60 }
-        requires next { IsNext self.old.content (accepted_by R.txn_state asked)
-            (R.content next) }
+        requires next { IsNext self.old.content (accepted_by R.txn_state asked) (R.content next) }
         requires writes { S.writes self.old.archive unsaved (accepted_by R.txn_state asked) }
         ensures { SettlesTo (accepted_by R.txn_state asked) (now_of S.kept self.old) result
             (now_of S.kept self.new) }

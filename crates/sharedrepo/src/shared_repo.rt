@@ -1,14 +1,8 @@
 //! The keeper under a lock, by which threads change the repository, each by a seat of its own.
 ghost use Rattle.std.specs.Prelude.{◌≡◌, false, None, ◌∷◌, [], All, IfOk};
-ghost use Rattle.access.specs.Points.{Point, content_of};
-ghost use Rattle.access.specs.Changing.{CommitsAt, LocksAt, UnlocksAt, ChangesPropertyAt};
-ghost use Rattle.published.specs.Events.{point_of};
-ghost use Rattle.published.specs.Events.Event.{Opened};
-ghost use Rattle.published.specs.Moments.{GoesOn, shared_rules};
-ghost use Rattle.repo_api.specs.Soundness.{AreSound};
-ghost use Rattle.repo_api.specs.States.{IsBeginning, tree_of};
-ghost use Rattle.repo_api.specs.Transactions.{IsMarkedTxn};
-ghost use Rattle.repo_api.specs.Trees.{IsTree};
+ghost use Rattle.access.specs.{Changing.{ChangesPropertyAt, CommitsAt, LocksAt, UnlocksAt}, Points.{content_of, Point}};
+ghost use Rattle.published.specs.{Events.point_of, Events.Event.Opened, Moments.{GoesOn, shared_rules}};
+ghost use Rattle.repo_api.specs.{Soundness.AreSound, States.{IsBeginning, tree_of}, Transactions.IsMarkedTxn, Trees.IsTree};
 
 use crate::archive::Archive;
 use crate::keeper::Keeper;

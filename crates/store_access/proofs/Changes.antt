@@ -2,22 +2,14 @@
 use Rattle.std.proofs.Common.{◌≡◌, ◌⊎◌, inl, inr, ⊎_elim, ℕ, Bool, true, false, not, ◌&&◌, List, Option, Some, None, Result, Ok, Err, refl, sym, ap, ◌∙◌, subst}
 use Rattle.std.proofs.lemmas.Bool.{false≢true}
 use Rattle.refusals.specs.declared.Refusal.{Refusal}
-use Rattle.repo_api.specs.States.{RepoState}
-use Rattle.repo_api.specs.Accepted.{Accepted, changed, IfRefused, IsOfMemory}
-use Rattle.repo_api.specs.Accepted.Accepted.{Releases}
-use Rattle.repo_api.specs.Locking.{HandedTokens, releases, without_released}
-use Rattle.repo_api.specs.declared.ask.CommitAsk.{CommitAsk}
-use Rattle.repo_api.specs.declared.fault.ChangeFault.{ChangeFault}
+use Rattle.repo_api.specs.{Accepted.{Accepted, changed, IfRefused, IsOfMemory}, Accepted.Accepted.Releases, Locking.{HandedTokens, releases, without_released}}
+use Rattle.repo_api.specs.{States.RepoState, declared.ask.CommitAsk.CommitAsk, declared.fault.ChangeFault.ChangeFault}
 use Rattle.repo_api.specs.declared.fault.ChangeFault.TheVariants as change
 use Rattle.store_files.specs.declared.fault.StoreFault.{StoreFault}
 use Rattle.store_files.specs.declared.fault.StoreFault.TheVariants as store
-use Rattle.access.specs.declared.access.Released.{Released}
+use Rattle.access.specs.{declared.access.Released.Released, declared.handed.Handed.Handed, Changing.{ChangesAt, ReleasesAfter, wants_release}}
+use Rattle.access.specs.{Handed.IsHandedIn, Points.{content_of, HasRisen, Point}, Sole.sole_rules}
 use Rattle.access.specs.declared.access.Released.TheVariants as releases_so
-use Rattle.access.specs.declared.handed.Handed.{Handed}
-use Rattle.access.specs.Handed.{IsHandedIn}
-use Rattle.access.specs.Points.{Point, content_of, HasRisen}
-use Rattle.access.specs.Sole.{sole_rules}
-use Rattle.access.specs.Changing.{ChangesAt, wants_release, ReleasesAfter}
 use Rattle.store_access.specs.Stored.{stored_at, SavesTo, ReleasesBy, ReleasesKept, released_as}
 
 -- a save that failed, as it is told

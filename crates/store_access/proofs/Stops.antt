@@ -1,21 +1,12 @@
 -- Whose files a folder has while a change is saved.
-use Rattle.std.proofs.Common.{◌≡◌, ◌⊎◌, inl, inr, ⊎_elim, ℕ, false, Option, Some, None, refl, subst}
-use Rattle.std.proofs.Math.Logic.{∥∥₁_map, ∥∥₁_map₂}
-use Rattle.repo_api.specs.States.{RepoState}
-use Rattle.repo_api.specs.Locking.{without_released}
-use Rattle.repo_api.specs.declared.ask.CommitAsk.{CommitAsk}
-use Rattle.access.specs.declared.handed.Handed.{Handed}
-use Rattle.access.specs.Handed.{IsHandedIn}
-use Rattle.store_access.specs.Stored.{without_handed}
+use Rattle.std.proofs.{Common.{◌≡◌, ◌⊎◌, inl, inr, ⊎_elim, ℕ, false, Option, Some, None, refl, subst}, Math.Logic.{∥∥₁_map, ∥∥₁_map₂}}
+use Rattle.repo_api.specs.{Locking.without_released, States.RepoState, declared.ask.CommitAsk.CommitAsk}
+use Rattle.access.specs.{declared.handed.Handed.Handed, Handed.IsHandedIn}
+use Rattle.store_access.specs.{Stored.without_handed, Keeping.{Keeps, HasRepository, HasEitherRepository, LeavesEither, LeavesOneOf}}
 use Rattle.store_access.proofs.Changes.{without}
-use Rattle.store_files.specs.Folders.{Folder}
-use Rattle.store_files.specs.Moments.{LeavesOnly}
-use Rattle.repostore.specs.Files.{Files, HasFiles, HasEither}
-use Rattle.repostore.specs.Saving.{IsSaved}
-use Rattle.repostore.specs.declared.saves.Saves.{Saves}
-use Rattle.repostore.proofs.Steps.{begun, weaker}
-use Rattle.repostore.proofs.Joining.{join}
-use Rattle.store_access.specs.Keeping.{Keeps, HasRepository, HasEitherRepository, LeavesEither, LeavesOneOf}
+use Rattle.store_files.specs.{Folders.Folder, Moments.LeavesOnly}
+use Rattle.repostore.specs.{Files.{Files, HasEither, HasFiles}, Saving.IsSaved, declared.saves.Saves.Saves}
+use Rattle.repostore.proofs.{Steps.{begun, weaker}, Joining.join}
 
 module _ {S F : Type 0} (is_honest : S → Type 0) (holds : S → Folder)
     (may_leave : S → Folder → Type 0) (moment : S → ℕ) (left_since : S → ℕ → Folder → Type 0)

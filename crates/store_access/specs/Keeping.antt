@@ -1,11 +1,8 @@
 -- What the files of a repository stand for, as they are read and behind a stop.
 use Rattle.std.specs.Prelude.{◌≡◌, ◌⊎◌, ℕ, false}
 use Rattle.repo_api.specs.States.{RepoState}
-use Rattle.store_files.specs.Folders.{Folder}
-use Rattle.store_files.specs.Moments.{LeavesOnly}
-use Rattle.repostore.specs.Files.{Files, HasFiles}
-use Rattle.repostore.specs.Saving.{IsSaved}
-use Rattle.repostore.specs.declared.saves.Saves.{Saves}
+use Rattle.store_files.specs.{Folders.Folder, Moments.LeavesOnly}
+use Rattle.repostore.specs.{Files.{Files, HasFiles}, Saving.IsSaved, declared.saves.Saves.Saves}
 
 -- the store has these files, also after a stop, and the repository is that of them
 pub record IsKept {S F : Type 0} (is_honest : S → Type 0) (holds : S → Folder)

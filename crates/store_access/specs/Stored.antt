@@ -1,19 +1,12 @@
 -- A repository whose changes are saved before they are made.
 use Rattle.std.specs.Prelude.{◌≡◌, ◌⊎◌, ℕ, Bool, true, false, [], List, Option, Some, None, Result, Ok, Err}
-use Rattle.repo_api.specs.States.{RepoState, TxnState}
-use Rattle.repo_api.specs.Accepted.{Accepted}
-use Rattle.repo_api.specs.Accepted.Accepted.{Commits, Locks, Unlocks, Releases, ChangesProperty}
-use Rattle.repo_api.specs.Locking.{HandedTokens, releases, without_released}
-use Rattle.repo_api.specs.declared.fault.ChangeFault.{ChangeFault}
+use Rattle.repo_api.specs.{Accepted.Accepted, Accepted.Accepted.{ChangesProperty, Commits, Locks, Releases, Unlocks}}
+use Rattle.repo_api.specs.{Locking.{HandedTokens, releases, without_released}, States.{RepoState, TxnState}, declared.fault.ChangeFault.ChangeFault}
 use Rattle.repo_api.specs.declared.fault.ChangeFault.TheVariants.{Refused, StoreFailed, Halted, NoMemory}
-use Rattle.access.specs.declared.access.Released.{Released}
+use Rattle.access.specs.{declared.access.Released.Released, declared.handed.Handed.Handed, Changing.IsHalt, Points.{content_of, Point}}
 use Rattle.access.specs.declared.access.Released.TheVariants as releases_so
-use Rattle.access.specs.declared.handed.Handed.{Handed}
-use Rattle.access.specs.Points.{Point, content_of}
-use Rattle.access.specs.Changing.{IsHalt}
 use Rattle.repostore.specs.declared.saves.Saves.{Saves}
-use Rattle.store_access.specs.declared.change.SavedChange.{SavedChange}
-use Rattle.store_access.specs.declared.change.SavedChange.TheVariants.{Commit, Lock, Unlock, Release, Property}
+use Rattle.store_access.specs.{declared.change.SavedChange.SavedChange, declared.change.SavedChange.TheVariants.{Commit, Lock, Unlock, Release, Property}}
 
 -- the change that is being saved
 abbrev pub accepted_by : {T : Type 0} → (T → TxnState) → SavedChange T → Accepted

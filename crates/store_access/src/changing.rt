@@ -1,16 +1,9 @@
 //! A repository in files as a session reaches it.
 ghost use Rattle.std.specs.Prelude.{◌≡◌, false, true};
-ghost use Rattle.access.specs.Changing.{CommitsAt, LocksAt, UnlocksAt, ChangesPropertyAt};
-ghost use Rattle.access.specs.Handed.{IsHandedIn};
-ghost use Rattle.access.specs.Sole.{sole_rules};
-ghost use Rattle.repo_api.specs.Commits.{committed};
-ghost use Rattle.repo_api.specs.Locking.{locked, unlocked, without_released};
-ghost use Rattle.repo_api.specs.RevisionProperties.{with_changed_property};
-ghost use Rattle.repo_api.specs.States.{IsBeginning, tree_of};
-ghost use Rattle.repo_api.specs.Transactions.{IsMarkedTxn};
-ghost use Rattle.repo_api.specs.Trees.{IsTree};
-ghost use Rattle.store_access.specs.Stored.{point_in};
-ghost use Rattle.store_access.specs.Keeping.{LeavesEither, LeavesOneOf};
+ghost use Rattle.access.specs.{Changing.{ChangesPropertyAt, CommitsAt, LocksAt, UnlocksAt}, Handed.IsHandedIn, Sole.sole_rules};
+ghost use Rattle.repo_api.specs.{Commits.committed, Locking.{locked, unlocked, without_released}, RevisionProperties.with_changed_property};
+ghost use Rattle.repo_api.specs.{States.{IsBeginning, tree_of}, Transactions.IsMarkedTxn, Trees.IsTree};
+ghost use Rattle.store_access.specs.{Stored.point_in, Keeping.{LeavesEither, LeavesOneOf}};
 
 use crate::change::{SavedChange, copied};
 use crate::filed::Filed;
@@ -177,7 +170,7 @@ impl<F: Filed, S: Store> StoredRepository<F, S> {
 impl<F: Filed, S: Store> RepoAccess for StoredRepository<F, S> {
     ghost use Rattle.std.specs.Prelude.{◌≡◌, refl};
     ghost use Rattle.std.proofs.Common.{◌∙◌};
-    ghost use Rattle.access.specs.Sole.{sole_rules, same_keeps, same_sound, same_lasts, adds_counts};
+    ghost use Rattle.access.specs.Sole.{adds_counts, same_keeps, same_lasts, same_sound, sole_rules};
     ghost use Rattle.store_access.specs.Stored.{point_in};
 
     type View = F;

@@ -1,14 +1,10 @@
 //! A repository that can be written to files.
 ghost use Rattle.std.specs.Prelude.{◌≡◌, ◌+◌, ◌<◌, Option, Some, None, length, IfOk, OnOk, option_copied};
-ghost use Rattle.repo_api.specs.States.{RepoState, IsBeginning, tree_of};
-ghost use Rattle.repo_api.specs.Transactions.{IsMarkedTxn};
-ghost use Rattle.repo_api.specs.Trees.{IsTree};
-ghost use Rattle.repo_api.specs.Commits.{commit_refusal, committed};
-ghost use Rattle.repo_api.specs.Accepted.{IfRefused, IsOfMemory};
+ghost use Rattle.repo_api.specs.{Accepted.{IfRefused, IsOfMemory}, Commits.{commit_refusal, committed}};
 ghost use Rattle.repo_api.specs.Locking.{lock_refusal, locked, unlock_refusal, unlocked, without_released};
-ghost use Rattle.repo_api.specs.RevisionProperties.{property_refusal, with_changed_property};
-ghost use Rattle.repostore.specs.Current.{count_in};
-ghost use Rattle.repostore.specs.Files.{Files, with_revision, with_locks, with_properties};
+ghost use Rattle.repo_api.specs.{RevisionProperties.{property_refusal, with_changed_property}, States.{IsBeginning, RepoState, tree_of}};
+ghost use Rattle.repo_api.specs.{Transactions.IsMarkedTxn, Trees.IsTree};
+ghost use Rattle.repostore.specs.{Current.count_in, Files.{Files, with_locks, with_properties, with_revision}};
 
 use byte_string::ByteString;
 use repo_api::{ChangeFault, CommitAsk, LockAsk, LockTokens, PropertyAsk, Repository, UnlockAsk};

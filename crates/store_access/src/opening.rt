@@ -1,12 +1,8 @@
 //! A repository opened from its files.
 ghost use Rattle.std.specs.Prelude.{◌≡◌, Some, IfOk, IfErr, length};
 ghost use Rattle.repo_api.specs.States.{RepoState};
-ghost use Rattle.store_files.specs.Folders.{Folder, IsSame};
-ghost use Rattle.store_files.specs.Moments.{HasRisen};
-ghost use Rattle.repostore.specs.Current.{count_in};
-ghost use Rattle.repostore.specs.Files.{Files};
-ghost use Rattle.repostore.specs.Reading.{IsFaulty, IfFaulty};
-ghost use Rattle.repostore.specs.Saving.{OnlyReads};
+ghost use Rattle.store_files.specs.{Folders.{Folder, IsSame}, Moments.HasRisen};
+ghost use Rattle.repostore.specs.{Current.count_in, Files.Files, Reading.{IfFaulty, IsFaulty}, Saving.OnlyReads};
 ghost use Rattle.store_access.specs.Keeping.{HasRepository, StandsFor};
 
 use crate::filed::Filed;

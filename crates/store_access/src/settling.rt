@@ -2,10 +2,8 @@
 ghost use Rattle.std.specs.Prelude.{◌≡◌, ◌+◌, ◌<◌, Some, false, true, length};
 ghost use Rattle.access.specs.Changing.{IsFailure};
 ghost use Rattle.repo_api.specs.Locking.{without_released};
-ghost use Rattle.repostore.specs.Current.{count_in};
-ghost use Rattle.repostore.specs.Files.{Files, with_revision, with_locks, with_properties};
-ghost use Rattle.store_access.specs.Stored.{point_in, accepted_by, SavesTo, ReleasesBy, ReleasesKept, released_as, without_handed};
-ghost use Rattle.store_access.specs.Keeping.{LeavesEither};
+ghost use Rattle.repostore.specs.{Current.count_in, Files.{Files, with_locks, with_properties, with_revision}};
+ghost use Rattle.store_access.specs.{Stored.{point_in, accepted_by, SavesTo, ReleasesBy, ReleasesKept, released_as, without_handed}, Keeping.LeavesEither};
 
 use crate::change::{SavedChange, forget};
 use crate::filed::{Filed, NewProperties, NewRevision};

@@ -1,10 +1,7 @@
 -- A fuse that blows is counted.
-use Rattle.std.proofs.Common.{◌≡◌, ◌⊎◌, inl, inr, ⊎_elim, ℕ, zero, suc, refl, ap, ◌∙◌, Err, arith}
+use Rattle.std.proofs.{Common.{◌≡◌, ◌⊎◌, inl, inr, ⊎_elim, ℕ, zero, suc, refl, ap, ◌∙◌, Err, arith}, lemmas.Bool.cases_lt}
 use Rattle.std.specs.Prelude.{◌≤◌, ◌<◌, ◌+◌, min}
-use Rattle.std.proofs.lemmas.Bool.{cases_lt}
-use Rattle.store_files.specs.Moments.{HasCause, HasRisen, last_count}
-use Rattle.store_files.specs.Fuses.{counted}
-use Rattle.store_files.specs.declared.fault.StoreFault.{StoreFault}
+use Rattle.store_files.specs.{Moments.{HasCause, HasRisen, last_count}, Fuses.counted, declared.fault.StoreFault.StoreFault}
 use Rattle.store_files.specs.declared.fault.StoreFault.TheVariants.{Device}
 
 rises : (x y : ℕ) → x ≤ y → x ≤ last_count → HasRisen x (min (y + 1) last_count)

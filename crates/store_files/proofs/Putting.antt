@@ -1,18 +1,10 @@
 -- One file more in memory.
 use Rattle.std.proofs.Common.{◌≡◌, ◌≢◌, ◌⊎◌, inl, inr, ⊎_elim, ℕ, Bool, true, false, cond, List, Option, Some, None, refl, sym, ap, ◌∙◌, arith, le_refl}
-use Rattle.std.specs.Prelude.{◌==◌, ◌&&◌, Vec}
-use Rattle.std.specs.BTreeMap.{BTreeMap, get, is_at}
-use Rattle.std.specs.Ordering.{nat_cmp, ordering_then, is_eq}
-use Rattle.std.specs.declared.alloc.Global.{Global}
-use Rattle.std.specs.declared.cmp.Ordering.{Ordering}
-use Rattle.std.specs.declared.cmp.Ordering.TheVariants.{Less, Equal, Greater}
 use Rattle.std.proofs.lemmas.Bool.Decides.{nat_tests}
-use Rattle.store_files.specs.Names.{kind_of, number_of, same_name}
-use Rattle.store_files.specs.NameLaws.{same_name_tells}
-use Rattle.store_files.specs.Folders.{Folder, IsSame, SameBut, bytes_of, with_file}
-use Rattle.store_files.specs.Memory.{by_numbers, files_of}
-use Rattle.store_files.specs.Moments.{Elapses}
-use Rattle.store_files.specs.declared.name.FileName.{FileName}
+use Rattle.std.specs.{Prelude.{◌==◌, ◌&&◌, Vec}, BTreeMap.{BTreeMap, get, is_at}, Ordering.{nat_cmp, ordering_then, is_eq}, declared.alloc.Global.Global}
+use Rattle.std.specs.{declared.cmp.Ordering.Ordering, declared.cmp.Ordering.TheVariants.{Less, Equal, Greater}}
+use Rattle.store_files.specs.{Names.{kind_of, number_of, same_name}, NameLaws.same_name_tells, Folders.{Folder, IsSame, SameBut, bytes_of, with_file}}
+use Rattle.store_files.specs.{Memory.{by_numbers, files_of}, Moments.Elapses, declared.name.FileName.FileName}
 
 both : (o p : Ordering) → is_eq (ordering_then o p) ≡ is_eq o && is_eq p
 both Less p = refl

@@ -1,8 +1,6 @@
 -- The files of a store by their names, and what a call may leave where it is stopped.
-use Rattle.std.specs.Prelude.{◌≡◌, ◌≢◌, ◌⊎◌, ℕ, if◌then◌else◌, List, [], Option, Some, None, Vec}
-use Rattle.std.specs.declared.alloc.Global.{Global}
-use Rattle.store_files.specs.Names.{same_name}
-use Rattle.store_files.specs.declared.name.FileName.{FileName}
+use Rattle.std.specs.{Prelude.{◌≡◌, ◌≢◌, ◌⊎◌, ℕ, if◌then◌else◌, List, [], Option, Some, None, Vec}, declared.alloc.Global.Global}
+use Rattle.store_files.specs.{Names.same_name, declared.name.FileName.FileName}
 
 -- what each name has
 abbrev pub Folder : Type 0

@@ -1,10 +1,7 @@
 -- A store that fails once.
-use Rattle.std.specs.Prelude.{◌≡◌, ℕ, zero, suc, ◌+◌, min, Bool, true, false}
-use Rattle.std.specs.Prelude.{◌≤◌}
+use Rattle.std.specs.Prelude.{◌≡◌, ℕ, zero, suc, ◌+◌, min, Bool, true, false, ◌≤◌}
 use Rattle.std.proofs.Common.{arith}
-use Rattle.store_files.specs.Moments.{last_count}
-use Rattle.store_files.specs.declared.fuse.Fuse.{Fuse}
-use Rattle.store_files.specs.declared.fuse.Fuse.TheVariants.{Passes, BlownByWrite, BlownByReplacement}
+use Rattle.store_files.specs.{Moments.last_count, declared.fuse.Fuse.Fuse, declared.fuse.Fuse.TheVariants.{Passes, BlownByWrite, BlownByReplacement}}
 
 -- how often the fuse has made a call fail, and how often a replacement
 abbrev pub blown : Fuse → ℕ

@@ -1,9 +1,7 @@
 -- What a stop leaves, at a moment and since one, and why a call fails.
 use Rattle.std.specs.Prelude.{◌≡◌, ◌⊎◌, ◌≤◌, ◌<◌, ℕ, Result, IsErr, IsErrOf}
 use Rattle.std.proofs.Common.{arith}
-use Rattle.store_files.specs.Folders.{Folder}
-use Rattle.store_files.specs.declared.fault.StoreFault.{StoreFault}
-use Rattle.store_files.specs.declared.fault.StoreFault.TheVariants.{Device, NoMemory}
+use Rattle.store_files.specs.{Folders.Folder, declared.fault.StoreFault.StoreFault, declared.fault.StoreFault.TheVariants.{Device, NoMemory}}
 
 -- Time goes on: what a stop since t may have left is what it may have left before, or what it may
 -- leave during this call.

@@ -1,8 +1,6 @@
 //! A store that fails once.
 ghost use Rattle.std.specs.Prelude.{◌≡◌, ◌≤◌, ◌↔◌};
-ghost use Rattle.store_files.specs.Folders.{Folder, SameBut, Scribbled, Swapped};
-ghost use Rattle.store_files.specs.Moments.{Elapses};
-ghost use Rattle.store_files.specs.Fuses.{Burns, is_blown};
+ghost use Rattle.store_files.specs.{Folders.{Folder, SameBut, Scribbled, Swapped}, Moments.Elapses, Fuses.{Burns, is_blown}};
 
 use crate::fault::StoreFault;
 use crate::name::FileName;

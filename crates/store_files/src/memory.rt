@@ -1,8 +1,6 @@
 //! Files in memory.
 ghost use Rattle.std.specs.Prelude.{◌≡◌, None, OnOk, OnErr, option_copied};
-ghost use Rattle.store_files.specs.Folders.{IsSame, nothing, with_file};
-ghost use Rattle.store_files.specs.Memory.{files_of};
-ghost use Rattle.store_files.specs.declared.name.FileName.{FileName};
+ghost use Rattle.store_files.specs.{Folders.{IsSame, nothing, with_file}, Memory.files_of};
 
 use crate::fault::StoreFault;
 use crate::name::FileName;
@@ -50,8 +48,7 @@ impl MemoryStore {
 }
 
 impl Store for MemoryStore {
-    ghost use Rattle.store_files.specs.Moments.{last_count, zero_le};
-    ghost use Rattle.store_files.specs.Memory.{files_of};
+    ghost use Rattle.store_files.specs.{Moments.{last_count, zero_le}, Memory.files_of};
 
     ghost is_honest = { λ _. Unit {0} };
 

@@ -1,15 +1,10 @@
 -- Answers are counted where the device failed.
-use Rattle.std.proofs.Common.{◌≡◌, ◌⊎◌, inl, inr, ℕ, List, ◌∷◌, Result, Ok, Err, refl, sym, ap, subst, arith, le_refl}
+use Rattle.std.proofs.{Common.{◌≡◌, ◌⊎◌, inl, inr, ℕ, List, ◌∷◌, Result, Ok, Err, refl, sym, ap, subst, arith, le_refl}, lemmas.Bool.cases_lt}
 use Rattle.std.specs.Prelude.{◌+◌, ◌≤◌, ◌<◌, min, IsErr, IsErrOf}
-use Rattle.std.proofs.lemmas.Bool.{cases_lt}
-use Rattle.store_files.specs.Moments.{HasCause, HasRisen, last_count}
-use Rattle.store_files.specs.declared.fault.StoreFault.{StoreFault}
+use Rattle.store_files.specs.{Moments.{HasCause, HasRisen, last_count}, declared.fault.StoreFault.StoreFault}
 use Rattle.store_files.specs.declared.fault.StoreFault.TheVariants as faults
-use Rattle.store_folder.specs.Note.{Event}
-use Rattle.store_folder.specs.Answers.{fault_of, trouble_number, done_number, done_result}
-use Rattle.store_folder.specs.Replay.{failed_in, count_after, failed_is}
-use Rattle.store_folder.specs.declared.folder.Trouble.{Trouble}
-use Rattle.store_folder.specs.declared.folder.Trouble.TheVariants.{Device, NoMemory}
+use Rattle.store_folder.specs.{Note.Event, Answers.{fault_of, trouble_number, done_number, done_result}, Replay.{failed_in, count_after, failed_is}}
+use Rattle.store_folder.specs.{declared.folder.Trouble.Trouble, declared.folder.Trouble.TheVariants.{Device, NoMemory}}
 
 rises : (x : ℕ) → x ≤ last_count → HasRisen x (min (x + 1) last_count)
 rises x few = elim (cases_lt x last_count) [

@@ -1,10 +1,8 @@
 -- The answers of calls as numbers.
-use Rattle.std.specs.Prelude.{ℕ, List, [], Option, Some, None, Result, Ok, Err, Vec}
-use Rattle.std.specs.declared.alloc.Global.{Global}
+use Rattle.std.specs.{Prelude.{ℕ, List, [], Option, Some, None, Result, Ok, Err, Vec}, declared.alloc.Global.Global}
 use Rattle.store_files.specs.declared.fault.StoreFault.{StoreFault}
 use Rattle.store_files.specs.declared.fault.StoreFault.TheVariants as faults
-use Rattle.store_folder.specs.declared.folder.Trouble.{Trouble}
-use Rattle.store_folder.specs.declared.folder.Trouble.TheVariants.{Device, NoMemory}
+use Rattle.store_folder.specs.{declared.folder.Trouble.Trouble, declared.folder.Trouble.TheVariants.{Device, NoMemory}}
 
 abbrev pub fault_of : Trouble → StoreFault
 fault_of Device = faults.Device

@@ -1,10 +1,7 @@
 //! Files in a folder: each is on the disk before its call answers.
 ghost use Rattle.std.specs.Prelude.{◌≡◌, [], ◌∷◌, Result, Ok, Err, IfOk};
-ghost use Rattle.store_files.specs.Folders.{Folder, IsSame};
-ghost use Rattle.store_files.specs.Names.{kind_of, number_of};
-ghost use Rattle.store_folder.specs.Note.{event_of};
-ghost use Rattle.store_folder.specs.Replay.{Leaves, failed_in, held};
-ghost use Rattle.store_folder.specs.Answers.{fault_of, trouble_number, done_number, done_result};
+ghost use Rattle.store_files.specs.{Folders.{Folder, IsSame}, Names.{kind_of, number_of}};
+ghost use Rattle.store_folder.specs.{Note.event_of, Replay.{Leaves, failed_in, held}, Answers.{fault_of, trouble_number, done_number, done_result}};
 
 use crate::lock::LockFolder;
 use crate::record::Record;

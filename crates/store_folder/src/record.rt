@@ -1,6 +1,5 @@
 //! A list of calls that clauses alone read.
-ghost use Rattle.std.specs.Prelude.{◌≡◌, List, [], ◌∷◌};
-ghost use Rattle.std.specs.Borrow.{ftrue};
+ghost use Rattle.std.specs.{Prelude.{◌≡◌, List, [], ◌∷◌}, Borrow.ftrue};
 ghost use Rattle.store_folder.specs.Note.{Event, event_of};
 
 use std::marker::{Model, PhantomData};

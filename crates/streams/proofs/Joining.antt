@@ -1,23 +1,16 @@
 -- Pieces of a stream make one run.
-use Rattle.std.proofs.Common.{◌≡◌, ℕ, ◌<◌, ◌≤◌, List, [], ◌∷◌, ◌++◌, length, map, Bool, true, false, Option, Some, None, inl, inr, refl, sym, ap, subst, ◌∙◌, append_assoc, append-nil}
-use Rattle.std.specs.Prelude.{◌⊎◌, if◌then◌else◌}
-use Rattle.std.proofs.lemmas.Grind.{flat_map-append}
+use Rattle.std.proofs.Common.{◌≡◌, ℕ, ◌<◌, ◌≤◌, List, [], ◌∷◌, ◌++◌, length, map, Bool, true, false, Option, Some, None, inl, inr, refl, sym, ap, subst, ◌∙◌}
+use Rattle.std.proofs.{Common.{append_assoc, append-nil}, lemmas.Grind.flat_map-append}
+use Rattle.std.specs.{Prelude.{◌⊎◌, if◌then◌else◌}, List.flat_map}
 use Rattle.wire_replies.specs.declared.reply.Reply.{Reply}
 use Rattle.repo_api.specs.States.{RepoState}
-use Rattle.machine.specs.Settings.{Settings}
-use Rattle.machine.specs.Hearing.{Input, Yields}
-use Rattle.machine.specs.Hearing.Input.{Whole, Broken}
-use Rattle.machine.specs.Stages.{Stage, SessionState, is_open}
-use Rattle.machine.specs.Answers.{Answer, content_after, halted_after, pending_after}
-use Rattle.machine.specs.Machine.{InputStep}
-use Rattle.machine.specs.declared.env.Env.{Env}
+use Rattle.machine.specs.{Answers.{Answer, content_after, halted_after, pending_after}, Hearing.{Input, Yields}, Hearing.Input.{Broken, Whole}}
+use Rattle.machine.specs.{Machine.InputStep, Settings.Settings, Stages.{is_open, SessionState, Stage}, declared.env.Env.Env}
 use Rattle.machine.specs.declared.phase.Phase.TheVariants.{Greeted, LoggingIn, Challenged, Serving, Editing, Skipping, Reporting, Driven, Ended}
-use Rattle.hub_runs.specs.State.{HubState, session_of, updated, without, kept}
-use Rattle.hub_runs.specs.Runs.{Event, HubStep, HubRun, InputHappens, InputsAre, Feeds, answered, with_rest}
-use Rattle.hub_runs.specs.Runs.Event.{Connects, HandsIn, Hears, Leaves, Drops}
-use Rattle.hub_runs.specs.Laws.{IsUnbroken}
-use Rattle.hub_runs.specs.SessionLaws.{session_of-updated, updated_updated, session_of-without, kept-updated, yields_more}
-use Rattle.std.specs.List.{flat_map}
+use Rattle.hub_runs.specs.{Laws.IsUnbroken, Runs.{answered, Event, Feeds, HubRun, HubStep, InputHappens, InputsAre, with_rest}}
+use Rattle.hub_runs.specs.Runs.Event.{Connects, Drops, HandsIn, Hears, Leaves}
+use Rattle.hub_runs.specs.SessionLaws.{kept-updated, session_of-updated, session_of-without, updated_updated, yields_more}
+use Rattle.hub_runs.specs.State.{HubState, kept, session_of, updated, without}
 use Rattle.hub.proofs.Composing.{runs_on}
 use Rattle.conversations.specs.Pieces.{Piece, bytes_of, inputs_of, ComesInPieces}
 use Rattle.conversations.proofs.Growing.{fed_piece, both_cuts}

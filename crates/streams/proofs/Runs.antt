@@ -1,16 +1,13 @@
 -- What is heard grows by a piece.
 use Rattle.std.proofs.Common.{◌≡◌, ℕ, ◌<◌, ◌≤◌, true, List, [], ◌∷◌, ◌++◌, length, refl, sym, subst, inr}
-use Rattle.std.specs.Prelude.{Option, Result, Ok, Err, OnOk, IsErrAnd}
 use Rattle.std.proofs.KnownBytes.{Consumes-nil, Appends-nil, Consumes-trans, Appends-trans, Consumes-kept}
-use Rattle.std.specs.Io.KnownBytes.{Consumes, Appends, Keeps}
+use Rattle.std.specs.{Prelude.{Option, Result, Ok, Err, OnOk, IsErrAnd}, Io.KnownBytes.{Consumes, Appends, Keeps}}
 use Rattle.machine.specs.declared.env.Env.{Env}
-use Rattle.hub.specs.declared.hub.HubFault.{HubFault}
-use Rattle.hub.specs.Calls.{ConnectsAs, FeedsAs, FeedBreaks}
-use Rattle.streams.specs.declared.fault.ServeFault.{ServeFault}
-use Rattle.streams.specs.declared.fault.ServeFault.TheVariants.{Read, Write, Hub}
+use Rattle.hub.specs.{declared.hub.HubFault.HubFault, Calls.{ConnectsAs, FeedsAs, FeedBreaks}}
+use Rattle.streams.specs.{declared.fault.ServeFault.ServeFault, declared.fault.ServeFault.TheVariants.{Read, Write, Hub}}
+use Rattle.streams.specs.Stream.{Scene, scene, HearsPieces, is_hearing, IsServed, HearsUntil, Answered, AnswersStream, ServesStreams, HubFails, IfRead, IfHub}
 use Rattle.conversations.specs.Pieces.{Piece, bytes_of, GivesAll}
 use Rattle.conversations.proofs.Growing.{fed_piece, gives_more, bytes_of-more}
-use Rattle.streams.specs.Stream.{Scene, scene, HearsPieces, is_hearing, IsServed, HearsUntil, Answered, AnswersStream, ServesStreams, HubFails, IfRead, IfHub}
 use Rattle.streams.proofs.Joining.{draws_more}
 
 -- nothing was heard yet

@@ -1,19 +1,12 @@
 -- What it is to serve one session over a stream.
 use Rattle.std.specs.Prelude.{◌≡◌, ◌⊎◌, ℕ, Bool, true, ◌&&◌, not, is_some, List, [], ◌∷◌, ◌++◌, map, Option, Some, Result, Ok, Err}
 use Rattle.std.specs.Io.KnownBytes.{Consumes, Appends, IsAtEnd}
-use Rattle.wire_replies.specs.declared.reply.Reply.{Reply}
-use Rattle.machine.specs.Hearing.{Yields}
-use Rattle.machine.specs.Stages.{SessionState}
-use Rattle.wire_replies.specs.Replies.{print}
-use Rattle.machine.specs.declared.env.Env.{Env}
-use Rattle.hub.specs.declared.hub.HubFault.{HubFault}
-use Rattle.hub_runs.specs.State.{HubState, session_of}
-use Rattle.hub_runs.specs.Runs.{Event, HubRun, InputsAre, IfOpen, with_rest}
-use Rattle.hub_runs.specs.Runs.Event.{HandsIn, Hears}
-use Rattle.hub.specs.Calls.{ConnectsAs, ConnectFails, FeedBreaks}
+use Rattle.wire_replies.specs.{declared.reply.Reply.Reply, Replies.print}
+use Rattle.machine.specs.{Hearing.Yields, Stages.SessionState, declared.env.Env.Env}
+use Rattle.hub.specs.{declared.hub.HubFault.HubFault, Calls.{ConnectsAs, ConnectFails, FeedBreaks}}
+use Rattle.hub_runs.specs.{Runs.{Event, HubRun, IfOpen, InputsAre, with_rest}, Runs.Event.{HandsIn, Hears}, State.{HubState, session_of}}
 use Rattle.conversations.specs.Pieces.{Piece, bytes_of, inputs_of, GivesAll, ComesInPieces}
-use Rattle.streams.specs.declared.fault.ServeFault.{ServeFault}
-use Rattle.streams.specs.declared.fault.ServeFault.TheVariants.{Read, Write, Hub}
+use Rattle.streams.specs.{declared.fault.ServeFault.ServeFault, declared.fault.ServeFault.TheVariants.{Read, Write, Hub}}
 
 -- the inputs happen in order, those of each piece with what was handed in for it
 abbrev pub PiecesRun : HubState → ℕ → List Piece → List Reply → HubState → Type 0

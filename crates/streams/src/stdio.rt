@@ -1,7 +1,6 @@
 //! One session over a reader and a writer.
-ghost use Rattle.std.specs.Prelude.{OnOk};
+ghost use Rattle.std.specs.{Prelude.OnOk, Io.KnownBytes.Appends};
 ghost use Rattle.hub.specs.Calls.{FeedsTo, FeedBreaks};
-ghost use Rattle.std.specs.Io.KnownBytes.{Appends};
 ghost use Rattle.streams.specs.Stream.{scene, AnswersStream, HearsPieces, HearsUntil, HubFails, IfHub, IfRead, IsServed, ServesStreams};
 
 use crate::fault::ServeFault;

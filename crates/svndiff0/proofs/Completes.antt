@@ -1,20 +1,16 @@
 -- What is spelled so is read.
-use Rattle.std.proofs.Common.{◌≡◌, inl, inr, ℕ, zero, suc, ◌+◌, ◌-◌, ◌*◌, ◌≤◌, ◌<◌, true, false, cond, nat_lt, ◌==◌, List, [], ◌∷◌, ◌++◌, length, take, drop, Some, Ok, Err, refl, sym, ◌∙◌, ap, subst, append_assoc, append-nil, length-append, eq-eqb, arith}
-use Rattle.std.specs.List.{flat_map}
-use Rattle.std.proofs.lemmas.Bool.Decides.{nat_tests}
+use Rattle.std.proofs.Common.{◌≡◌, inl, inr, ℕ, zero, suc, ◌+◌, ◌-◌, ◌*◌, ◌≤◌, ◌<◌, true, false, cond, nat_lt, ◌==◌, List, [], ◌∷◌, ◌++◌, length, take, drop}
+use Rattle.std.proofs.{Common.{Some, Ok, Err, refl, sym, ◌∙◌, ap, subst, append_assoc, append-nil, length-append, eq-eqb, arith}, lemmas.Bool.Decides.nat_tests}
 use Rattle.std.proofs.Math.Seq.{take-append_seam, drop-append_seam, drop-append-add}
-use Rattle.svndiff0.specs.declared.fault.DiffFault.TheVariants.{TooLarge, BadInstruction, BadHeader}
-use Rattle.svndiff0.specs.declared.instruction.Instruction.{Instruction}
-use Rattle.svndiff0.specs.declared.instruction.Instruction.TheVariants.{SourceCopy, NewData}
-use Rattle.svndiff0.specs.declared.window.Head.{Head}
-use Rattle.svndiff0.specs.Read.{◌>>=◌}
+use Rattle.std.specs.List.{flat_map}
+use Rattle.svndiff0.specs.{declared.fault.DiffFault.TheVariants.{TooLarge, BadInstruction, BadHeader}, declared.instruction.Instruction.Instruction}
+use Rattle.svndiff0.specs.{declared.instruction.Instruction.TheVariants.{SourceCopy, NewData}, declared.window.Head.Head, Read.◌>>=◌}
 use Rattle.svndiff0.specs.Integer.{integer_behind, integer_at, bounded_at}
 use Rattle.svndiff0.specs.Instruction.{length_at, copy_at, new_data_at, instruction_at, before, with_others, instructions_of, total, new_total}
 use Rattle.svndiff0.specs.Window.{limit, head_at, body_at, window_at}
-use Rattle.svndiff0.specs.Document.{header, bytes_behind, header_at, going, with_windows, windows_of, after_header, outcome, document_text}
-use Rattle.svndiff0.specs.Format.{AreGroups, IsInteger, IsLength, IsCopy, IsNewData, IsInstruction, AreInstructions, AreIntegers, IsWindow, AreWindows, IsDocument}
-use Rattle.svndiff0.proofs.Sections.{section_step, section_none}
-use Rattle.svndiff0.proofs.Documents.{judged_at, body_is, windows_step, windows_none}
+use Rattle.svndiff0.specs.{Document.{header, bytes_behind, header_at, going, with_windows, windows_of, after_header, outcome, document_text}, Format.AreGroups}
+use Rattle.svndiff0.specs.Format.{IsInteger, IsLength, IsCopy, IsNewData, IsInstruction, AreInstructions, AreIntegers, IsWindow, AreWindows, IsDocument}
+use Rattle.svndiff0.proofs.{Sections.{section_step, section_none}, Documents.{judged_at, body_is, windows_step, windows_none}}
 
 groups_again : (room m : ℕ) (front rest : List ℕ) (n : ℕ) → AreGroups m front n → length front ≤ room → integer_behind room m (front ++ rest) ≡ Ok (Some (n, rest))
 groups_again room m [] rest n a h = absurd a

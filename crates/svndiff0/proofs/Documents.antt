@@ -1,17 +1,12 @@
 -- Windows, one after another, and the bytes that come behind them.
-use Rattle.std.proofs.Common.{◌≡◌, ◌⊎◌, inl, inr, ℕ, zero, suc, ◌+◌, ◌-◌, ◌≤◌, ◌<◌, true, false, cond, nat_lt, ◌==◌, List, [], ◌∷◌, ◌++◌, length, take, drop, Option, Some, None, Result, Ok, Err, refl, sym, ◌∙◌, ap, append_assoc, length-append, length-drop, le_refl, arith}
-use Rattle.std.proofs.lemmas.Bool.Decides.{nat_tests}
+use Rattle.std.proofs.Common.{◌≡◌, ◌⊎◌, inl, inr, ℕ, zero, suc, ◌+◌, ◌-◌, ◌≤◌, ◌<◌, true, false, cond, nat_lt, ◌==◌, List, [], ◌∷◌, ◌++◌, length, take, drop}
+use Rattle.std.proofs.Common.{Option, Some, None, Result, Ok, Err, refl, sym, ◌∙◌, ap, append_assoc, length-append, length-drop, le_refl, arith}
+use Rattle.std.proofs.{lemmas.Bool.Decides.nat_tests, lemmas.List.{take-append-le, drop-append-le, take-append-drop}}
 use borrow.Author.Tests.{ltb-true, ltb-false}
-use Rattle.std.proofs.lemmas.List.{take-append-le, drop-append-le, take-append-drop}
-use Rattle.svndiff0.specs.declared.fault.DiffFault.{DiffFault}
-use Rattle.svndiff0.specs.declared.fault.DiffFault.TheVariants.{BadHeader}
-use Rattle.svndiff0.specs.declared.window.Head.{Head}
-use Rattle.svndiff0.specs.Read.{Read, ◌>>=◌}
-use Rattle.svndiff0.specs.Integer.{integer_at, bounded_at}
-use Rattle.svndiff0.specs.Instruction.{instructions_of}
-use Rattle.svndiff0.specs.Window.{limit, head_at, judged, and_rest, body_at, window_at}
-use Rattle.svndiff0.specs.Document.{header, bytes_behind, header_at, Reading, going, broken, with_windows, windows_within, windows_of, after_header, read_document}
-use Rattle.svndiff0.specs.Applying.{Applying, HasRead, with_more, go_on, fed}
+use Rattle.svndiff0.specs.{declared.fault.DiffFault.DiffFault, declared.fault.DiffFault.TheVariants.BadHeader, declared.window.Head.Head, Read.{Read, ◌>>=◌}}
+use Rattle.svndiff0.specs.{Integer.{integer_at, bounded_at}, Instruction.instructions_of, Window.{limit, head_at, judged, and_rest, body_at, window_at}}
+use Rattle.svndiff0.specs.Document.{header, bytes_behind, header_at, Reading, going, broken, with_windows, windows_within, windows_of, after_header}
+use Rattle.svndiff0.specs.{Document.read_document, Applying.{Applying, HasRead, with_more, go_on, fed}}
 use Rattle.svndiff0.proofs.Steady.{Front, Steady, same_found, steady_then, steady_give, steady_integer, steady_bounded, weaker}
 use Rattle.svndiff0.proofs.Windows.{body_beyond, body_short}
 

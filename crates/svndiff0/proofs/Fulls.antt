@@ -1,23 +1,18 @@
 -- Documents of new data are read back.
-use Rattle.std.proofs.Common.{◌≡◌, ℕ, zero, suc, ◌+◌, ◌-◌, ◌*◌, ◌/◌, ◌%◌, ◌≤◌, ◌<◌, inl, inr, min, Bool, true, false, cond, nat_lt, ◌==◌, List, [], ◌∷◌, ◌++◌, length, take, drop, Some, Ok, Err, refl, sym, ◌∙◌, ap, append_assoc, append-nil, length-append, length-take, length-drop, lit<, lit≤, arith}
-use Rattle.std.proofs.lemmas.Bool.Decides.{nat_tests}
-use Rattle.std.proofs.lemmas.List.{take-append-drop, take_min}
-use Rattle.std.proofs.Math.Seq.{take-length, drop-length, take-append_seam, drop-append_seam, drop-append-add}
-use Rattle.std.proofs.Math.ListN.{drop_of_length-le}
-use Rattle.std.specs.Int.{div_ceil}
+use Rattle.std.proofs.Common.{◌≡◌, ℕ, zero, suc, ◌+◌, ◌-◌, ◌*◌, ◌/◌, ◌%◌, ◌≤◌, ◌<◌, inl, inr, min, Bool, true, false, cond, nat_lt, ◌==◌, List, [], ◌∷◌, ◌++◌}
+use Rattle.std.proofs.Common.{length, take, drop, Some, Ok, Err, refl, sym, ◌∙◌, ap, append_assoc, append-nil, length-append, length-take, length-drop, lit<}
+use Rattle.std.proofs.{Common.{lit≤, arith}, lemmas.Bool.Decides.nat_tests, lemmas.List.{take-append-drop, take_min}}
+use Rattle.std.proofs.{Math.Seq.{take-length, drop-length, take-append_seam, drop-append_seam, drop-append-add}, Math.ListN.drop_of_length-le}
 use Rattle.std.proofs.lemmas.Grind.{div_ceil_times}
+use Rattle.std.specs.Int.{div_ceil}
 use borrow.Author.Tests.{ltb-true}
-use Rattle.svndiff0.specs.declared.fault.DiffFault.TheVariants.{TooLarge, BadInstruction}
-use Rattle.svndiff0.specs.declared.instruction.Instruction.TheVariants.{NewData}
-use Rattle.svndiff0.specs.declared.window.Head.{Head}
-use Rattle.svndiff0.specs.Read.{Read, ◌>>=◌}
-use Rattle.svndiff0.specs.Integer.{integer_behind, integer_at, bounded_at}
+use Rattle.svndiff0.specs.{declared.fault.DiffFault.TheVariants.{TooLarge, BadInstruction}, declared.instruction.Instruction.TheVariants.NewData}
+use Rattle.svndiff0.specs.{declared.window.Head.Head, Read.{Read, ◌>>=◌}, Integer.{integer_behind, integer_at, bounded_at}}
 use Rattle.svndiff0.specs.Instruction.{length_at, new_data_at, instruction_at, instructions_of, with_others, before}
 use Rattle.svndiff0.specs.Window.{limit, head_at, body_at, window_at}
 use Rattle.svndiff0.specs.Document.{bytes_behind, header_at, going, with_windows, windows_of, outcome, document_text}
 use Rattle.svndiff0.specs.Full.{integer_of, new_data_of, full_window, full_windows, full_document}
-use Rattle.svndiff0.proofs.Sections.{section_none, section_step}
-use Rattle.svndiff0.proofs.Documents.{below, windows_none, windows_step}
+use Rattle.svndiff0.proofs.{Sections.{section_none, section_step}, Documents.{below, windows_none, windows_step}}
 
 one_byte : (n : ℕ) (rest : List ℕ) → n < 128 → integer_behind 9 0 (n ∷ rest) ≡ Ok (Some (n, rest))
 one_byte n rest h =

@@ -1,9 +1,7 @@
 -- The header, byte by byte.
-use Rattle.std.proofs.Common.{◌≡◌, ◌≢◌, ℕ, suc, ◌+◌, ◌<◌, true, false, cond, List, [], ◌∷◌, length, drop, get_or, None, Ok, Err, sym, ◌∙◌, ap, add-one, eq-eqb, arith, ◌==◌}
-use Rattle.std.proofs.Math.Seq.{drop-cons}
-use Rattle.std.proofs.lemmas.Bool.Decides.{nat_tests}
-use Rattle.svndiff0.specs.declared.fault.DiffFault.TheVariants.{BadHeader}
-use Rattle.svndiff0.specs.Document.{header, bytes_behind}
+use Rattle.std.proofs.Common.{◌≡◌, ◌≢◌, ℕ, suc, ◌+◌, ◌<◌, true, false, cond, List, [], ◌∷◌, length, drop, get_or, None, Ok, Err, sym, ◌∙◌, ap, add-one, eq-eqb}
+use Rattle.std.proofs.{Common.{arith, ◌==◌}, Math.Seq.drop-cons, lemmas.Bool.Decides.nat_tests}
+use Rattle.svndiff0.specs.{declared.fault.DiffFault.TheVariants.BadHeader, Document.{header, bytes_behind}}
 
 -- the header's bytes behind the first ones, as far as they are the document's
 abbrev pub Matched : List ℕ → ℕ → List ℕ → Type 0

@@ -1,8 +1,6 @@
 -- Integers, byte by byte.
-use Rattle.std.proofs.Common.{◌≡◌, ℕ, ◌+◌, ◌^◌, ◌≤◌, ◌<◌, List, [], ◌∷◌, length, Err, refl, nat_eq, false, ◌∙◌, ap, arith, lit<}
-use Rattle.std.proofs.Math.Nat.{pow-le-pow_right}
-use Rattle.svndiff0.specs.declared.fault.DiffFault.TheVariants.{TooLarge}
-use Rattle.svndiff0.specs.Integer.{integer_behind, integer_at}
+use Rattle.std.proofs.{Common.{◌≡◌, ℕ, ◌+◌, ◌^◌, ◌≤◌, ◌<◌, List, [], ◌∷◌, length, Err, refl, nat_eq, false, ◌∙◌, ap, arith, lit<}, Math.Nat.pow-le-pow_right}
+use Rattle.svndiff0.specs.{declared.fault.DiffFault.TheVariants.TooLarge, Integer.{integer_behind, integer_at}}
 
 -- behind so many bytes, which stand for the value, the rest completes the integer
 pub record Scanned (bytes : List ℕ) (count value : ℕ) (rest : List ℕ) : Type 0 where

@@ -1,11 +1,8 @@
 -- A text keeps the limit.
 use Rattle.std.proofs.Common.{◌≡◌, ℕ, ◌+◌, ◌-◌, ◌≤◌, List, [], ◌∷◌, length, take, drop, Ok, ap, length-append, length-take, arith}
 use Rattle.std.specs.List.{flat_map}
-use Rattle.svndiff0.specs.declared.instruction.Instruction.{Instruction}
-use Rattle.svndiff0.specs.declared.instruction.Instruction.TheVariants.{SourceCopy, NewData}
-use Rattle.svndiff0.specs.Instruction.{size, new_size, given, total, target_of}
-use Rattle.svndiff0.specs.Window.{limit}
-use Rattle.svndiff0.specs.Document.{document_text}
+use Rattle.svndiff0.specs.{declared.instruction.Instruction.Instruction, declared.instruction.Instruction.TheVariants.{SourceCopy, NewData}}
+use Rattle.svndiff0.specs.{Instruction.{size, new_size, given, total, target_of}, Window.limit, Document.document_text}
 use Rattle.svndiff0.specs.Format.{IsWindow, AreWindows, IsDocument}
 use Rattle.svndiff0.proofs.Sounds.{document_found}
 

@@ -1,10 +1,9 @@
 -- The instructions of a section, one after another.
-use Rattle.std.proofs.Common.{◌≡◌, ℕ, zero, suc, ◌+◌, ◌≤◌, ◌<◌, List, [], ◌∷◌, ◌++◌, length, Some, None, Result, Ok, Err, refl, sym, ◌∙◌, ap, drop, append_assoc, append-nil, length-append, length-drop, le_refl, arith}
-use Rattle.svndiff0.specs.declared.fault.DiffFault.{DiffFault}
-use Rattle.svndiff0.specs.declared.fault.DiffFault.TheVariants.{BadInstruction}
-use Rattle.svndiff0.specs.declared.instruction.Instruction.{Instruction}
-use Rattle.svndiff0.specs.Read.{Read}
-use Rattle.svndiff0.specs.Instruction.{instruction_at, before, with_others, instructions_within, instructions_of, size, new_size, total, new_total, given, target_of}
+use Rattle.std.proofs.Common.{◌≡◌, ℕ, zero, suc, ◌+◌, ◌≤◌, ◌<◌, List, [], ◌∷◌, ◌++◌, length, Some, None, Result, Ok, Err, refl, sym, ◌∙◌, ap, drop}
+use Rattle.std.proofs.Common.{append_assoc, append-nil, length-append, length-drop, le_refl, arith}
+use Rattle.svndiff0.specs.{declared.fault.DiffFault.DiffFault, declared.fault.DiffFault.TheVariants.BadInstruction}
+use Rattle.svndiff0.specs.{declared.instruction.Instruction.Instruction, Read.Read, Instruction.{instruction_at, before, with_others, instructions_within}}
+use Rattle.svndiff0.specs.Instruction.{instructions_of, size, new_size, total, new_total, given, target_of}
 use Rattle.svndiff0.specs.Sums.{summed, SumsUp, IsWithin, Starts, IsRunnable, SumsGrow}
 use Rattle.svndiff0.proofs.Steady.{instruction_fronts}
 

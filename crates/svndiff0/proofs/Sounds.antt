@@ -1,26 +1,19 @@
 -- What reading finds is spelled so.
-use Rattle.std.proofs.Common.{◌≡◌, inl, inr, ℕ, zero, suc, ◌+◌, ◌-◌, ◌*◌, ◌≤◌, ◌<◌, Bool, true, false, cond, nat_lt, ◌==◌, ◌&&◌, List, [], ◌∷◌, ◌++◌, length, take, drop, Option, Some, None, Result, Ok, Err, refl, sym, ◌∙◌, ap, subst, append_assoc, append-nil, length-append, length-take, length-drop, le_refl, arith}
+use Rattle.std.proofs.Common.{◌≡◌, inl, inr, ℕ, zero, suc, ◌+◌, ◌-◌, ◌*◌, ◌≤◌, ◌<◌, Bool, true, false, cond, nat_lt, ◌==◌, ◌&&◌, List, [], ◌∷◌, ◌++◌, length}
+use Rattle.std.proofs.Common.{take, drop, Option, Some, None, Result, Ok, Err, refl, sym, ◌∙◌, ap, subst, append_assoc, append-nil, length-append, length-take}
+use Rattle.std.proofs.{Common.{length-drop, le_refl, arith}, lemmas.Bool.Decides.nat_tests, lemmas.Bool.eqb-true, lemmas.List.{take-append-drop, drop-drop}}
 use Rattle.std.specs.List.{flat_map}
-use Rattle.std.proofs.lemmas.Bool.Decides.{nat_tests}
-use Rattle.std.proofs.lemmas.Bool.{eqb-true}
-use Rattle.std.proofs.lemmas.List.{take-append-drop, drop-drop}
 use borrow.Author.Tests.{ltb-true, ltb-false}
 use Rattle.svndiff0.specs.declared.fault.DiffFault.{DiffFault}
 use Rattle.svndiff0.specs.declared.fault.DiffFault.TheVariants.{TooLarge, BadInstruction, CopyBeyondView, TargetCopy, LengthsDisagree}
-use Rattle.svndiff0.specs.declared.instruction.Instruction.{Instruction}
-use Rattle.svndiff0.specs.declared.instruction.Instruction.TheVariants.{SourceCopy, NewData}
-use Rattle.svndiff0.specs.declared.window.Head.{Head}
-use Rattle.svndiff0.specs.Read.{Read, ◌>>=◌}
-use Rattle.svndiff0.specs.Integer.{integer_behind, integer_at, bounded_at}
+use Rattle.svndiff0.specs.{declared.instruction.Instruction.Instruction, declared.instruction.Instruction.TheVariants.{SourceCopy, NewData}}
+use Rattle.svndiff0.specs.{declared.window.Head.Head, Read.{Read, ◌>>=◌}, Integer.{integer_behind, integer_at, bounded_at}}
 use Rattle.svndiff0.specs.Instruction.{length_at, copy_at, new_data_at, instruction_at, before, with_others, instructions_of, total, new_total, target_of}
-use Rattle.svndiff0.specs.Window.{limit, head_at, judged, and_rest, body_at, window_at}
-use Rattle.svndiff0.specs.Document.{header, header_at, Reading, opening, going, broken, with_windows, windows_of, after_header, read_document, outcome, document_text}
+use Rattle.svndiff0.specs.{Window.{limit, head_at, judged, and_rest, body_at, window_at}, Document.{header, header_at, Reading, opening, going, broken}}
+use Rattle.svndiff0.specs.Document.{with_windows, windows_of, after_header, read_document, outcome, document_text}
 use Rattle.svndiff0.specs.Format.{AreGroups, IsInteger, IsLength, IsInstruction, AreInstructions, AreIntegers, IsWindow, AreWindows, IsDocument}
-use Rattle.svndiff0.proofs.Steady.{same_found}
-use Rattle.svndiff0.proofs.Sections.{section_step, section_none, shorter, before_ok}
-use Rattle.svndiff0.proofs.Stages.{behind_front}
-use Rattle.svndiff0.proofs.Windows.{body_beyond, body_short}
-use Rattle.svndiff0.proofs.Documents.{below, judged_at, body_is, window_shorter, windows_step}
+use Rattle.svndiff0.proofs.{Steady.same_found, Sections.{section_step, section_none, shorter, before_ok}, Stages.behind_front}
+use Rattle.svndiff0.proofs.{Windows.{body_beyond, body_short}, Documents.{below, judged_at, body_is, window_shorter, windows_step}}
 
 -- the front of the bytes is so, and the rest follows
 pub record Found (P : List ℕ → Type 0) (bytes rest : List ℕ) : Type 0 where

@@ -1,14 +1,11 @@
 -- The stages of an applier.
-use Rattle.std.proofs.Common.{◌≡◌, ◌≢◌, ℕ, true, false, cond, ◌==◌, List, [], ◌∷◌, ◌++◌, length, take, drop, Some, Ok, Err, refl, sym, ◌∙◌, ap, subst, append_assoc, ◌-◌, length-append, arith}
-use Rattle.std.proofs.Math.Seq.{drop-append_seam, take-append_seam}
-use Rattle.std.proofs.lemmas.Bool.{eqb-true}
-use Rattle.svndiff0.specs.declared.fault.DiffFault.{DiffFault}
-use Rattle.svndiff0.specs.declared.fault.DiffFault.TheVariants.{BadHeader, TargetCopy, BadInstruction, CopyBeyondView, ViewBeyondBase, LengthsDisagree, Truncated, TooLarge, NoMemory}
-use Rattle.svndiff0.specs.declared.stage.Stage.{Stage}
+use Rattle.std.proofs.Common.{◌≡◌, ◌≢◌, ℕ, true, false, cond, ◌==◌, List, [], ◌∷◌, ◌++◌, length, take, drop, Some, Ok, Err, refl, sym, ◌∙◌, ap, subst}
+use Rattle.std.proofs.{Common.{append_assoc, ◌-◌, length-append, arith}, Math.Seq.{drop-append_seam, take-append_seam}, lemmas.Bool.eqb-true}
+use Rattle.svndiff0.specs.{declared.fault.DiffFault.DiffFault, declared.fault.DiffFault.TheVariants.{BadHeader, TargetCopy, BadInstruction, CopyBeyondView}}
+use Rattle.svndiff0.specs.{declared.fault.DiffFault.TheVariants.{ViewBeyondBase, LengthsDisagree, Truncated, TooLarge, NoMemory}, declared.stage.Stage.Stage}
 use Rattle.svndiff0.specs.declared.stage.Stage.TheVariants.{Header, Windows, Broken}
 use Rattle.svndiff0.specs.Document.{header, bytes_behind, header_at, Reading, broken, after_header, windows_of}
-use Rattle.svndiff0.specs.Applying.{Applying, with_more, go_on, fed, IsSound, FeedsApplier}
-use Rattle.svndiff0.specs.Stages.{reading_of, HasTextOf}
+use Rattle.svndiff0.specs.{Applying.{Applying, with_more, go_on, fed, IsSound, FeedsApplier}, Stages.{reading_of, HasTextOf}}
 
 pub behind_front : (ws bytes rest : List ℕ) → bytes_behind ws bytes ≡ Ok (Some rest) → bytes ≡ ws ++ rest
 behind_front [] bytes rest e = cc

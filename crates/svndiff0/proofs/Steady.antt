@@ -1,12 +1,9 @@
 -- What reading finds stays found, whatever comes behind.
-use Rattle.std.proofs.Common.{◌≡◌, ℕ, zero, suc, ◌+◌, ◌-◌, ◌*◌, ◌≤◌, Bool, true, false, cond, List, [], ◌∷◌, ◌++◌, length, Some, None, Ok, Err, refl, sym, ◌∙◌, ap, append_assoc, length-append, arith, nat_lt, ◌==◌}
-use Rattle.svndiff0.specs.declared.fault.DiffFault.{DiffFault}
-use Rattle.svndiff0.specs.declared.fault.DiffFault.TheVariants.{TooLarge, BadInstruction, CopyBeyondView, TargetCopy}
-use Rattle.svndiff0.specs.declared.instruction.Instruction.{Instruction}
-use Rattle.svndiff0.specs.declared.instruction.Instruction.TheVariants.{SourceCopy, NewData}
-use Rattle.svndiff0.specs.Read.{Read, ◌>>=◌}
-use Rattle.svndiff0.specs.Integer.{integer_behind, integer_at, bounded_at}
-use Rattle.svndiff0.specs.Instruction.{length_at, copy_at, new_data_at, instruction_at}
+use Rattle.std.proofs.Common.{◌≡◌, ℕ, zero, suc, ◌+◌, ◌-◌, ◌*◌, ◌≤◌, Bool, true, false, cond, List, [], ◌∷◌, ◌++◌, length, Some, None, Ok, Err, refl, sym, ◌∙◌}
+use Rattle.std.proofs.Common.{ap, append_assoc, length-append, arith, nat_lt, ◌==◌}
+use Rattle.svndiff0.specs.{declared.fault.DiffFault.DiffFault, declared.fault.DiffFault.TheVariants.{TooLarge, BadInstruction, CopyBeyondView, TargetCopy}}
+use Rattle.svndiff0.specs.{declared.instruction.Instruction.Instruction, declared.instruction.Instruction.TheVariants.{SourceCopy, NewData}, Read.{Read, ◌>>=◌}}
+use Rattle.svndiff0.specs.{Integer.{integer_behind, integer_at, bounded_at}, Instruction.{length_at, copy_at, new_data_at, instruction_at}}
 
 -- so many bytes at least are read, and the rest follows them
 pub record Front (least : ℕ) (bytes rest : List ℕ) : Type 0 where

@@ -1,15 +1,9 @@
 -- A window, part by part.
-use Rattle.std.proofs.Common.{◌≡◌, ◌≢◌, ◌⊎◌, inl, inr, ℕ, ◌+◌, ◌-◌, ◌≤◌, ◌<◌, true, false, cond, nat_lt, ◌==◌, ◌&&◌, List, length, take, drop, None, Result, Ok, Err, refl, sym, ◌∙◌, ap, length-take, length-drop, arith}
-use Rattle.std.proofs.lemmas.Bool.Decides.{nat_tests}
-use Rattle.std.proofs.lemmas.List.{take-take, drop-take}
-use Rattle.svndiff0.specs.declared.fault.DiffFault.{DiffFault}
-use Rattle.svndiff0.specs.declared.fault.DiffFault.TheVariants.{ViewBeyondBase, LengthsDisagree}
-use Rattle.svndiff0.specs.declared.instruction.Instruction.{Instruction}
-use Rattle.svndiff0.specs.declared.section.Sums.{Sums}
-use Rattle.svndiff0.specs.declared.window.Head.{Head}
-use Rattle.svndiff0.specs.Read.{Read, ◌>>=◌}
-use Rattle.svndiff0.specs.Instruction.{instructions_of, total, new_total, target_of}
-use Rattle.svndiff0.specs.Window.{limit, head_at, judged, and_rest, body_at, window_at}
+use Rattle.std.proofs.Common.{◌≡◌, ◌≢◌, ◌⊎◌, inl, inr, ℕ, ◌+◌, ◌-◌, ◌≤◌, ◌<◌, true, false, cond, nat_lt, ◌==◌, ◌&&◌, List, length, take, drop, None, Result, Ok}
+use Rattle.std.proofs.{Common.{Err, refl, sym, ◌∙◌, ap, length-take, length-drop, arith}, lemmas.Bool.Decides.nat_tests, lemmas.List.{take-take, drop-take}}
+use Rattle.svndiff0.specs.{declared.fault.DiffFault.DiffFault, declared.fault.DiffFault.TheVariants.{ViewBeyondBase, LengthsDisagree}}
+use Rattle.svndiff0.specs.{declared.instruction.Instruction.Instruction, declared.section.Sums.Sums, declared.window.Head.Head, Read.{Read, ◌>>=◌}}
+use Rattle.svndiff0.specs.{Instruction.{instructions_of, total, new_total, target_of}, Window.{limit, head_at, judged, and_rest, body_at, window_at}}
 use Rattle.svndiff0.specs.Sums.{summed, sums_of, HasBounds}
 
 pub window_by_head : (base bytes : List ℕ) (n m : ℕ) → n ≡ m → (v : Read Head) → head_at n bytes ≡ v → window_at base m bytes ≡ (v >>= λ head. body_at base head.0 head.1)

@@ -1,8 +1,6 @@
 -- What an applier holds, and what feeding does.
 use Rattle.std.specs.Prelude.{◌≡◌, ◌≢◌, ℕ, List, ◌++◌, length, Option, Some, None, Result, Ok, Err}
-use Rattle.svndiff0.specs.declared.fault.DiffFault.{DiffFault}
-use Rattle.svndiff0.specs.declared.fault.DiffFault.TheVariants.{NoMemory}
-use Rattle.svndiff0.specs.Window.{window_at}
+use Rattle.svndiff0.specs.{declared.fault.DiffFault.DiffFault, declared.fault.DiffFault.TheVariants.NoMemory, Window.window_at}
 use Rattle.svndiff0.specs.Document.{Reading, opening, going, broken, read_document, windows_of}
 
 -- the base, and what is known of the document

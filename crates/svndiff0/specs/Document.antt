@@ -1,9 +1,6 @@
 -- Documents: the header, then windows to the end.
 use Rattle.std.specs.Prelude.{ℕ, zero, suc, List, [], ◌∷◌, ◌++◌, length, Option, Some, None, Result, Ok, Err, ◌==◌, if◌then◌else◌}
-use Rattle.svndiff0.specs.declared.fault.DiffFault.{DiffFault}
-use Rattle.svndiff0.specs.declared.fault.DiffFault.TheVariants.{BadHeader, Truncated}
-use Rattle.svndiff0.specs.Read.{Read}
-use Rattle.svndiff0.specs.Window.{window_at}
+use Rattle.svndiff0.specs.{declared.fault.DiffFault.DiffFault, declared.fault.DiffFault.TheVariants.{BadHeader, Truncated}, Read.Read, Window.window_at}
 
 -- `SVN` and a zero byte
 abbrev pub header : List ℕ

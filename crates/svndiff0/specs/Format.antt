@@ -1,11 +1,7 @@
 -- What a document is and which text it has, in the words of the format, without reading.
-use Rattle.std.specs.Prelude.{◌≡◌, ◌⊎◌, ℕ, ◌+◌, ◌-◌, ◌*◌, ◌≤◌, ◌<◌, List, [], ◌∷◌, ◌++◌, length, take, drop}
-use Rattle.std.specs.List.{flat_map}
-use Rattle.svndiff0.specs.declared.instruction.Instruction.{Instruction}
-use Rattle.svndiff0.specs.declared.instruction.Instruction.TheVariants.{SourceCopy, NewData}
-use Rattle.svndiff0.specs.Instruction.{total, new_total, target_of}
-use Rattle.svndiff0.specs.Window.{limit}
-use Rattle.svndiff0.specs.Document.{header}
+use Rattle.std.specs.{Prelude.{◌≡◌, ◌⊎◌, ℕ, ◌+◌, ◌-◌, ◌*◌, ◌≤◌, ◌<◌, List, [], ◌∷◌, ◌++◌, length, take, drop}, List.flat_map}
+use Rattle.svndiff0.specs.{declared.instruction.Instruction.Instruction, declared.instruction.Instruction.TheVariants.{SourceCopy, NewData}}
+use Rattle.svndiff0.specs.{Instruction.{total, new_total, target_of}, Window.limit, Document.header}
 
 -- groups of seven bits, behind those of m, stand for n: all but the last have the high bit
 abbrev pub AreGroups : ℕ → List ℕ → ℕ → Type 0

@@ -1,10 +1,7 @@
 -- The instructions of a window, whose kind is in the two high bits of their first byte.
 use Rattle.std.specs.Prelude.{ℕ, zero, suc, ◌+◌, ◌-◌, List, [], ◌∷◌, ◌++◌, length, take, drop, Some, None, Result, Ok, Err, nat_lt, ◌==◌, if◌then◌else◌}
-use Rattle.svndiff0.specs.declared.fault.DiffFault.{DiffFault}
-use Rattle.svndiff0.specs.declared.fault.DiffFault.TheVariants.{TargetCopy, BadInstruction, CopyBeyondView}
-use Rattle.svndiff0.specs.declared.instruction.Instruction.{Instruction}
-use Rattle.svndiff0.specs.declared.instruction.Instruction.TheVariants.{SourceCopy, NewData}
-use Rattle.svndiff0.specs.Read.{Read, ◌>>=◌}
+use Rattle.svndiff0.specs.{declared.fault.DiffFault.DiffFault, declared.fault.DiffFault.TheVariants.{TargetCopy, BadInstruction, CopyBeyondView}}
+use Rattle.svndiff0.specs.{declared.instruction.Instruction.Instruction, declared.instruction.Instruction.TheVariants.{SourceCopy, NewData}, Read.{Read, ◌>>=◌}}
 use Rattle.svndiff0.specs.Integer.{integer_at}
 
 -- the length is the low six bits, or where these are zero the integer that follows, which isn't

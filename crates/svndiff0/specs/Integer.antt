@@ -1,8 +1,7 @@
 -- Integers: big-endian groups of seven bits, with the high bit set on all bytes but the last; at
 -- most nine bytes.
 use Rattle.std.specs.Prelude.{ℕ, zero, suc, ◌+◌, ◌-◌, ◌*◌, List, [], ◌∷◌, Some, None, Ok, Err, nat_lt, if◌then◌else◌}
-use Rattle.svndiff0.specs.declared.fault.DiffFault.TheVariants.{TooLarge}
-use Rattle.svndiff0.specs.Read.{Read, ◌>>=◌}
+use Rattle.svndiff0.specs.{declared.fault.DiffFault.TheVariants.TooLarge, Read.{Read, ◌>>=◌}}
 
 -- behind groups that stand for n, where so many bytes may still come
 abbrev pub integer_behind : ℕ → ℕ → List ℕ → Read ℕ

@@ -1,11 +1,7 @@
 -- How an applier's fields stand for what it holds.
 use Rattle.std.specs.Prelude.{◌≡◌, ◌≢◌, ℕ, List, [], ◌++◌, Result, Ok, Err}
-use Rattle.svndiff0.specs.declared.fault.DiffFault.{DiffFault}
-use Rattle.svndiff0.specs.declared.fault.DiffFault.TheVariants.{NoMemory}
-use Rattle.svndiff0.specs.declared.stage.Stage.{Stage}
-use Rattle.svndiff0.specs.declared.stage.Stage.TheVariants.{Header, Windows, Broken}
-use Rattle.svndiff0.specs.Document.{Reading, opening, going, broken}
-use Rattle.svndiff0.specs.Applying.{go_on, IsSound}
+use Rattle.svndiff0.specs.{declared.fault.DiffFault.DiffFault, declared.fault.DiffFault.TheVariants.NoMemory, declared.stage.Stage.Stage}
+use Rattle.svndiff0.specs.{declared.stage.Stage.TheVariants.{Header, Windows, Broken}, Document.{Reading, opening, going, broken}, Applying.{go_on, IsSound}}
 
 abbrev pub reading_of : Stage → List ℕ → List ℕ → Reading
 reading_of Header text rest = opening rest

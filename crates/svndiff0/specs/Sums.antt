@@ -1,12 +1,8 @@
 -- What the code keeps beside the definition.
 use Rattle.std.specs.Prelude.{◌≡◌, ℕ, ◌+◌, ◌≤◌, ◌<◌, ◌^◌, min, List, ◌++◌, length, Result, Ok, Err}
-use Rattle.svndiff0.specs.declared.fault.DiffFault.{DiffFault}
-use Rattle.svndiff0.specs.declared.instruction.Instruction.{Instruction}
-use Rattle.svndiff0.specs.declared.instruction.Instruction.TheVariants.{SourceCopy, NewData}
-use Rattle.svndiff0.specs.declared.section.Sums.{Sums}
-use Rattle.svndiff0.specs.declared.window.Head.{Head}
-use Rattle.svndiff0.specs.Instruction.{before, instructions_of, total, new_total}
-use Rattle.svndiff0.specs.Window.{limit}
+use Rattle.svndiff0.specs.{declared.fault.DiffFault.DiffFault, declared.instruction.Instruction.Instruction}
+use Rattle.svndiff0.specs.{declared.instruction.Instruction.TheVariants.{SourceCopy, NewData}, declared.section.Sums.Sums, declared.window.Head.Head}
+use Rattle.svndiff0.specs.{Instruction.{before, instructions_of, total, new_total}, Window.limit}
 
 -- a sum, as far as a usize counts
 abbrev pub summed : ℕ → ℕ

@@ -1,8 +1,6 @@
 -- The text that an applier holds.
-use Rattle.std.specs.Prelude.{ℕ, List}
-use Rattle.std.specs.Arc.{arc_value}
-use Rattle.svndiff0.specs.declared.target.Target.{Target}
-use Rattle.svndiff0.specs.declared.target.Target.TheVariants.{Growing, Shared}
+use Rattle.std.specs.{Prelude.{ℕ, List}, Arc.arc_value}
+use Rattle.svndiff0.specs.{declared.target.Target.Target, declared.target.Target.TheVariants.{Growing, Shared}}
 
 -- its bytes, whoever holds them
 abbrev pub target_bytes : Target → List ℕ

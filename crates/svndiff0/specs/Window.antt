@@ -1,13 +1,8 @@
 -- Windows: five integers, then the instructions, then the new data.
 use Rattle.std.specs.Prelude.{ℕ, ◌+◌, ◌-◌, List, length, take, drop, Some, None, Result, Ok, Err, nat_lt, ◌==◌, ◌&&◌, if◌then◌else◌}
-use Rattle.svndiff0.specs.declared.fault.DiffFault.{DiffFault}
-use Rattle.svndiff0.specs.declared.fault.DiffFault.TheVariants.{ViewBeyondBase, LengthsDisagree}
-use Rattle.svndiff0.specs.declared.instruction.Instruction.{Instruction}
-use Rattle.svndiff0.specs.declared.window.Head.{Head}
-use Rattle.svndiff0.specs.Read.{Read, ◌>>=◌}
-use Rattle.svndiff0.specs.declared.window.TheConstants.{LIMIT}
-use Rattle.svndiff0.specs.Integer.{integer_at, bounded_at}
-use Rattle.svndiff0.specs.Instruction.{instructions_of, total, new_total, target_of}
+use Rattle.svndiff0.specs.{declared.fault.DiffFault.DiffFault, declared.fault.DiffFault.TheVariants.{ViewBeyondBase, LengthsDisagree}}
+use Rattle.svndiff0.specs.{declared.instruction.Instruction.Instruction, declared.window.Head.Head, Read.{Read, ◌>>=◌}, declared.window.TheConstants.LIMIT}
+use Rattle.svndiff0.specs.{Integer.{integer_at, bounded_at}, Instruction.{instructions_of, total, new_total, target_of}}
 
 -- the longest text, and the longest section
 abbrev pub limit : ℕ

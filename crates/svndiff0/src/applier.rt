@@ -22,10 +22,8 @@ pub struct Applier {
 }
 
 impl Model for Applier {
-    ghost use Rattle.svndiff0.specs.Applying.{Applying};
+    ghost use Rattle.svndiff0.specs.{Applying.Applying, Stages.{reading_of, HasTextOf}, Targets.target_bytes};
     ghost use Rattle.std.specs.Arc.{arc_value};
-    ghost use Rattle.svndiff0.specs.Stages.{reading_of, HasTextOf};
-    ghost use Rattle.svndiff0.specs.Targets.{target_bytes};
 
     ghost Value = { Applying };
 
@@ -35,10 +33,8 @@ impl Model for Applier {
 }
 
 impl Applier {
-    ghost use Rattle.std.specs.Prelude.{◌≡◌, ◌≢◌, ◌++◌, ℕ, List, [], MatchResult};
-    ghost use Rattle.std.specs.Arc.{arc_value};
-    ghost use Rattle.svndiff0.specs.Document.{opening, outcome, document_text};
-    ghost use Rattle.svndiff0.specs.Applying.{HasRead, fed, FeedsApplier};
+    ghost use Rattle.std.specs.{Prelude.{◌≡◌, ◌≢◌, ◌++◌, ℕ, List, [], MatchResult}, Arc.arc_value};
+    ghost use Rattle.svndiff0.specs.{Document.{opening, outcome, document_text}, Applying.{HasRead, fed, FeedsApplier}};
     ghost use Rattle.svndiff0.specs.declared.fault.DiffFault.TheVariants.{NoMemory};
 
     /// Makes an applier over this base, of which no byte is copied, that was fed nothing.

@@ -1,9 +1,7 @@
 //! What reading gives is what the format says.
 
 ghost use Rattle.std.specs.Prelude.{◌≡◌, ◌≤◌, ℕ, List, Ok, length};
-ghost use Rattle.svndiff0.specs.Window.{limit};
-ghost use Rattle.svndiff0.specs.Document.{document_text};
-ghost use Rattle.svndiff0.specs.Format.{IsDocument};
+ghost use Rattle.svndiff0.specs.{Window.limit, Document.document_text, Format.IsDocument};
 
 /// Shows that the text that a document is read to have is the one that the format gives it, and a document that has a
 /// text by the format is read to have it. So it has no other.

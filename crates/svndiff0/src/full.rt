@@ -1,9 +1,7 @@
 //! Writing a whole text as a document.
 
 ghost use Rattle.std.specs.Prelude.{◌≡◌, ◌<◌, ◌≤◌, ◌^◌, ◌++◌, ℕ, List, Ok, length, IfOk, OnOk};
-ghost use Rattle.svndiff0.specs.Full.{integer_of, new_data_of, full_window, full_document};
-ghost use Rattle.svndiff0.specs.Window.{limit};
-ghost use Rattle.svndiff0.specs.Document.{document_text};
+ghost use Rattle.svndiff0.specs.{Full.{integer_of, new_data_of, full_window, full_document}, Window.limit, Document.document_text};
 
 use crate::reading::HEADER;
 use std::alloc::{AllocError, Global};

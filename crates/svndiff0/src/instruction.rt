@@ -1,9 +1,7 @@
 //! The instructions of a window.
 
 ghost use Rattle.std.specs.Prelude.{◌≡◌, ◌<◌, ◌^◌, ℕ, IfOk, IfSome};
-ghost use Rattle.svndiff0.specs.Read.{Gives};
-ghost use Rattle.svndiff0.specs.Instruction.{length_at, copy_at, new_data_at, instruction_at, size, new_size};
-ghost use Rattle.svndiff0.specs.Sums.{IsWithin};
+ghost use Rattle.svndiff0.specs.{Read.Gives, Instruction.{length_at, copy_at, new_data_at, instruction_at, size, new_size}, Sums.IsWithin};
 
 use crate::fault::DiffFault;
 use crate::integer::read_integer;

@@ -1,10 +1,7 @@
 //! Reading on in a document.
 
 ghost use Rattle.std.specs.Prelude.{◌≡◌, ◌++◌, ℕ, List, []};
-ghost use Rattle.svndiff0.specs.Read.{Gives};
-ghost use Rattle.svndiff0.specs.Document.{header_at};
-ghost use Rattle.svndiff0.specs.Sums.{SumsGrow};
-ghost use Rattle.svndiff0.specs.Stages.{HasTextOf, ReadsOn, reading_of};
+ghost use Rattle.svndiff0.specs.{Read.Gives, Document.header_at, Sums.SumsGrow, Stages.{HasTextOf, ReadsOn, reading_of}};
 
 use crate::fault::DiffFault;
 use crate::stage::Stage;

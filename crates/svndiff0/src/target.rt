@@ -1,9 +1,7 @@
 //! The text that a document makes.
 
-ghost use Rattle.std.specs.Prelude.{◌≡◌, IfOk, OnErr};
-ghost use Rattle.std.specs.Arc.{arc_value};
-ghost use Rattle.svndiff0.specs.Stages.{HasTextOf, ReadsOn, reading_of};
-ghost use Rattle.svndiff0.specs.Targets.{target_bytes};
+ghost use Rattle.std.specs.{Prelude.{◌≡◌, IfOk, OnErr}, Arc.arc_value};
+ghost use Rattle.svndiff0.specs.{Stages.{HasTextOf, ReadsOn, reading_of}, Targets.target_bytes};
 
 use crate::fault::DiffFault;
 use crate::reading::read_on;

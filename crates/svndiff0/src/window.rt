@@ -1,10 +1,7 @@
 //! Windows: five integers, then the instructions, then the new data.
 
 ghost use Rattle.std.specs.Prelude.{◌≡◌, ◌<◌, ◌≤◌, ◌^◌, ◌++◌, ℕ, List, length, MatchResult, IfOk, IfSome, OnOk};
-ghost use Rattle.svndiff0.specs.Read.{Gives};
-ghost use Rattle.svndiff0.specs.Window.{head_at, limit};
-ghost use Rattle.svndiff0.specs.Sums.{HasBounds, SumsGrow};
-ghost use Rattle.svndiff0.specs.Applying.{AppliesWindow, AppliesAll};
+ghost use Rattle.svndiff0.specs.{Read.Gives, Window.{head_at, limit}, Sums.{HasBounds, SumsGrow}, Applying.{AppliesWindow, AppliesAll}};
 
 use crate::fault::DiffFault;
 use crate::integer::{read_bounded, read_integer};

@@ -1,12 +1,9 @@
 -- What a list of components beneath a path is, component by component.
-use Rattle.std.proofs.Common.{◌≡◌, ℕ, ◌+◌, ◌≤◌, ◌<◌, List, [], ◌∷◌, ◌++◌, length, map, drop, get_or, Option, Some, None, Result, Ok, Err, is_some, IsNone, lit≤, refl, sym, ap, ◌∙◌, subst, append_assoc, arith}
-use Rattle.std.proofs.lemmas.Bool.Decides.{nat_tests}
-use Rattle.std.proofs.lemmas.List.{append-nil, length_push, at_drop_more, at_drop_all}
-use Rattle.std.proofs.lemmas.List.Elements.{All-nil, All-head, All-tail, All-push}
-use Rattle.std.specs.List.{All}
-use Rattle.std.specs.Option.{option_or}
-use Rattle.svnpath.specs.Paths.{PathValue, Component}
-use Rattle.svnpath.specs.Components.{component_fault, depth_fault, first_fault, unless_fault, beneath, IsComponent, IsRightPath}
+use Rattle.std.proofs.Common.{◌≡◌, ℕ, ◌+◌, ◌≤◌, ◌<◌, List, [], ◌∷◌, ◌++◌, length, map, drop, get_or, Option, Some, None, Result, Ok, Err, is_some, IsNone, lit≤}
+use Rattle.std.proofs.{Common.{refl, sym, ap, ◌∙◌, subst, append_assoc, arith}, lemmas.Bool.Decides.nat_tests}
+use Rattle.std.proofs.{lemmas.List.{append-nil, length_push, at_drop_more, at_drop_all}, lemmas.List.Elements.{All-nil, All-head, All-tail, All-push}}
+use Rattle.std.specs.{List.All, Option.option_or}
+use Rattle.svnpath.specs.{Paths.{PathValue, Component}, Components.{component_fault, depth_fault, first_fault, unless_fault, beneath, IsComponent, IsRightPath}}
 use Rattle.svnpath.specs.declared.fault.PathFault.{PathFault}
 
 option_or_assoc : {T : Type 0} (a b r : Option T) → option_or a (option_or b r) ≡ option_or (option_or a b) r

@@ -1,15 +1,7 @@
 -- A stable sort by the texts of the paths gives the listing.
-use Rattle.std.proofs.Common.{◌≡◌, Bool, List, map, Result, Ok, Err, OnOk, ap, ◌∙◌}
-use Rattle.std.proofs.lemmas.Fn.{always_returns_same}
-use Rattle.std.proofs.lemmas.List.Sorted.{ranks_by}
-use Rattle.std.specs.Fn.{Called}
-use Rattle.std.specs.List.Sorted.{IsSortedByClosure, IsStableByClosure}
-use Rattle.std.specs.Map.Iter.{deref_pair}
-use Rattle.std.specs.Ordering.{is_lt}
-use Rattle.std.specs.declared.cmp.Ordering.{Ordering}
-use Rattle.svnpath.specs.Listings.{text_cmp, text_cmp_total, listing}
-use Rattle.svnpath.specs.Paths.{PathValue}
-use Rattle.svnpath.specs.Sorting.{sorted_by-map, stable_is_sorted_by}
+use Rattle.std.proofs.{Common.{◌≡◌, Bool, List, map, Result, Ok, Err, OnOk, ap, ◌∙◌}, lemmas.Fn.always_returns_same, lemmas.List.Sorted.ranks_by}
+use Rattle.std.specs.{Fn.Called, List.Sorted.{IsSortedByClosure, IsStableByClosure}, Map.Iter.deref_pair, Ordering.is_lt, declared.cmp.Ordering.Ordering}
+use Rattle.svnpath.specs.{Listings.{text_cmp, text_cmp_total, listing}, Paths.PathValue, Sorting.{sorted_by-map, stable_is_sorted_by}}
 use denote.Param.Members.{Mut}
 use denote.Ref.{Bor}
 

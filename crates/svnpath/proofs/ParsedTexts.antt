@@ -1,18 +1,12 @@
 -- A text is parsed exactly where it is the text of a right path.
-use Rattle.std.proofs.Common.{◌≡◌, ℕ, List, [], ◌∷◌, ◌++◌, Bool, true, false, ◌&&◌, ◌||◌, not, cond, length, drop, Option, Some, None, Result, Ok, Err, IfOk, IfErr, IsNone, inl, inr, refl, sym, ap, ◌∙◌, arith}
-use Rattle.std.proofs.lemmas.Bool.Decides.{nat_tests}
-use Rattle.std.proofs.lemmas.List.{append-nil}
-use Rattle.std.proofs.lemmas.List.Elements.{All-nil, All-cons, All-head, All-tail}
-use Rattle.std.proofs.lemmas.List.Splits.{slice_split_none, slice_split_at}
-use Rattle.std.specs.Prelude.{◌==◌, nat_lt, if◌then◌else◌}
-use Rattle.std.specs.Str.{is_utf8}
-use Rattle.std.specs.List.{All, slice_split, onto_first, flat_map, list_any}
+use Rattle.std.proofs.Common.{◌≡◌, ℕ, List, [], ◌∷◌, ◌++◌, Bool, true, false, ◌&&◌, ◌||◌, not, cond, length, drop, Option, Some, None, Result, Ok, Err, IfOk}
+use Rattle.std.proofs.{Common.{IfErr, IsNone, inl, inr, refl, sym, ap, ◌∙◌, arith}, lemmas.Bool.Decides.nat_tests, lemmas.List.append-nil}
+use Rattle.std.proofs.{lemmas.List.Elements.{All-nil, All-cons, All-head, All-tail}, lemmas.List.Splits.{slice_split_none, slice_split_at}}
+use Rattle.std.specs.{Prelude.{◌==◌, nat_lt, if◌then◌else◌}, Str.is_utf8, List.{All, slice_split, onto_first, flat_map, list_any}}
 use Rattle.svnpath.proofs.BeneathLemmas.{beneath_is, beneath_right, beneath_root, root_right}
 use Rattle.svnpath.specs.Components.{AnswersPath, IsComponent, IsRightPath, beneath, is_forbidden, is_forbidden_byte}
-use Rattle.svnpath.specs.Paths.{PathValue, Component, same_component}
-use Rattle.svnpath.specs.Texts.{is_slash, starts_with_slash, components_of, parsed, path_text}
-use Rattle.svnpath.specs.declared.fault.PathFault.{PathFault}
-use Rattle.svnpath.specs.declared.fault.PathFault.TheVariants.{EmptyComponent, ForbiddenComponent, TooLong, NoMemory}
+use Rattle.svnpath.specs.{Paths.{PathValue, Component, same_component}, Texts.{is_slash, starts_with_slash, components_of, parsed, path_text}}
+use Rattle.svnpath.specs.{declared.fault.PathFault.PathFault, declared.fault.PathFault.TheVariants.{EmptyComponent, ForbiddenComponent, TooLong, NoMemory}}
 
 -- the components' texts behind one another
 abbrev pub texts : List Component → List ℕ

@@ -1,20 +1,12 @@
 -- Texts cut at their slashes.
 use borrow.Author.Tests.{ltb-true, ltb-false}
-use Rattle.std.proofs.Common.{◌≡◌, ℕ, ◌+◌, ◌≤◌, List, [], ◌∷◌, Bool, true, false, cond, length, map, take, drop, Some, None, Result, Ok, refl, sym, ap, ◌∙◌, arith}
-use Rattle.std.proofs.lemmas.Bool.Decides.{nat_tests}
-use Rattle.std.proofs.lemmas.List.{map-id}
-use Rattle.std.proofs.lemmas.List.Elements.{All-from_get_or}
-use Rattle.std.proofs.lemmas.List.Splits.{slice_split_first, slice_split_none}
-use Rattle.std.proofs.lemmas.List.Sums.{fails_before_first}
-use Rattle.std.specs.List.{slice_split, position, position_or_len}
-use Rattle.std.specs.Prelude.{◌==◌, nat_lt}
+use Rattle.std.proofs.Common.{◌≡◌, ℕ, ◌+◌, ◌≤◌, List, [], ◌∷◌, Bool, true, false, cond, length, map, take, drop, Some, None, Result, Ok, refl, sym, ap, ◌∙◌}
+use Rattle.std.proofs.{Common.arith, lemmas.Bool.Decides.nat_tests, lemmas.List.map-id, lemmas.List.Elements.All-from_get_or}
+use Rattle.std.proofs.{lemmas.List.Splits.{slice_split_first, slice_split_none}, lemmas.List.Sums.fails_before_first}
+use Rattle.std.specs.{List.{slice_split, position, position_or_len}, Prelude.{◌==◌, nat_lt}}
 use Rattle.svnpath.proofs.BeneathLemmas.{beneath_nothing}
-use Rattle.svnpath.specs.Components.{beneath}
-use Rattle.svnpath.specs.Paths.{PathValue}
-use Rattle.svnpath.specs.Spelled.{read_part}
-use Rattle.svnpath.specs.Texts.{is_slash, components_of}
-use Rattle.svnpath.specs.declared.component.Spelling.TheVariants.{Plain}
-use Rattle.svnpath.specs.declared.fault.PathFault.{PathFault}
+use Rattle.svnpath.specs.{Components.beneath, Paths.PathValue, Spelled.read_part, Texts.{is_slash, components_of}}
+use Rattle.svnpath.specs.{declared.component.Spelling.TheVariants.Plain, declared.fault.PathFault.PathFault}
 
 pub components_of_empty : (text : List ℕ) → (length text == 0) ≡ true → components_of text ≡ []
 components_of_empty [] e = refl

@@ -1,9 +1,6 @@
 -- Texts that are compared byte by byte.
-use Rattle.std.proofs.Common.{◌≡◌, ℕ, List, ◌∷◌, refl, sym, ap, ◌∙◌}
-use Rattle.std.proofs.lemmas.Cmp.{ranked, tied_itself, nat_cmp_total}
-use Rattle.std.specs.Cmp.Lexicographic.{slice_cmp, bytes_decides, texts_ties}
-use Rattle.std.specs.Ordering.{nat_cmp, ordering_then, is_eq}
-use Rattle.std.specs.declared.cmp.Ordering.{Ordering}
+use Rattle.std.proofs.{Common.{◌≡◌, ℕ, List, ◌∷◌, refl, sym, ap, ◌∙◌}, lemmas.Cmp.{ranked, tied_itself, nat_cmp_total}}
+use Rattle.std.specs.{Cmp.Lexicographic.{slice_cmp, bytes_decides, texts_ties}, Ordering.{nat_cmp, ordering_then, is_eq}, declared.cmp.Ordering.Ordering}
 use Rattle.std.specs.declared.cmp.Ordering.TheVariants.{Less, Equal, Greater}
 
 -- behind the same byte the rest decides

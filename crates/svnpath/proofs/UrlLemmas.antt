@@ -2,16 +2,12 @@
 use Rattle.std.proofs.Common.{◌≡◌, ℕ, List, [], ◌∷◌, Bool, true, false, ◌&&◌, cond, None, Result, Ok, Err, IfOk, IfErr, inl, inr, refl, sym, ap, ◌∙◌, subst}
 use Rattle.std.proofs.lemmas.Bool.{cond-true}
 use Rattle.std.specs.Str.{is_utf8}
-use Rattle.url.specs.Parser.{parse_url, Parsed}
-use Rattle.url.specs.Parts.{Parts}
+use Rattle.url.specs.{Parser.{parse_url, Parsed}, Parts.Parts}
 use Rattle.svnpath.proofs.BeneathLemmas.{beneath_is, beneath_right, beneath_root, root_right}
-use Rattle.svnpath.specs.Components.{AnswersPath, beneath, IsRightPath}
-use Rattle.svnpath.specs.Paths.{PathValue, Component, same_component}
-use Rattle.svnpath.specs.PathLaws.{same_component_refl, same_component_is}
-use Rattle.svnpath.specs.Texts.{starts_with_slash}
+use Rattle.svnpath.specs.{Components.{AnswersPath, beneath, IsRightPath}, Paths.{PathValue, Component, same_component}}
+use Rattle.svnpath.specs.{PathLaws.{same_component_refl, same_component_is}, Texts.starts_with_slash}
 use Rattle.svnpath.specs.Urls.{NamesPath, path_of_text, path_of_url, path_of_segments, read_url, url_or_fault, url_segments, and_then, is_repository_scheme}
-use Rattle.svnpath.specs.declared.fault.PathFault.{PathFault}
-use Rattle.svnpath.specs.declared.fault.PathFault.TheVariants.{NotThisRepository, NoMemory}
+use Rattle.svnpath.specs.{declared.fault.PathFault.PathFault, declared.fault.PathFault.TheVariants.{NotThisRepository, NoMemory}}
 
 pub path_of_text_names : (text name : List ℕ) (path : PathValue) → NamesPath text name path → path_of_text text name ≡ Ok path
 path_of_text_names text name path h =

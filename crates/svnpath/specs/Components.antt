@@ -1,10 +1,7 @@
 -- Which components a path may have, and what refuses the others.
-use Rattle.std.specs.Prelude.{◌≡◌, ◌≤◌, ◌+◌, ◌⊎◌, ℕ, Bool, ◌==◌, ◌||◌, nat_lt, not, List, [], ◌∷◌, ◌++◌, Option, Some, None, Result, Ok, Err, length, if◌then◌else◌, IsNone, All, MatchResult}
-use Rattle.std.specs.List.{list_any}
-use Rattle.std.specs.Option.{option_or}
-use Rattle.std.specs.Str.{is_utf8}
-use Rattle.svnpath.specs.declared.component.TheConstants.{COMPONENT_LIMIT, DEPTH_LIMIT}
-use Rattle.svnpath.specs.Paths.{PathValue, Component, same_component}
+use Rattle.std.specs.Prelude.{◌≡◌, ◌≤◌, ◌+◌, ◌⊎◌, ℕ, Bool, ◌==◌, ◌||◌, nat_lt, not, List, [], ◌∷◌, ◌++◌, Option, Some, None, Result, Ok, Err, length}
+use Rattle.std.specs.{Prelude.{if◌then◌else◌, IsNone, All, MatchResult}, List.list_any, Option.option_or, Str.is_utf8}
+use Rattle.svnpath.specs.{declared.component.TheConstants.{COMPONENT_LIMIT, DEPTH_LIMIT}, Paths.{PathValue, Component, same_component}}
 use Rattle.svnpath.specs.declared.fault.PathFault.{PathFault}
 use Rattle.svnpath.specs.declared.fault.PathFault.TheVariants.{EmptyComponent, ForbiddenComponent, TooLong, TooDeep, NoMemory}
 

@@ -1,15 +1,9 @@
 -- Listings: entries by the bytes of their paths' texts.
 -- `/a-b` stands before `/a/b` there, and behind it in a map.
-use Rattle.std.specs.Prelude.{List}
-use Rattle.std.specs.Cmp.{IsTotalOrder}
-use Rattle.std.specs.Cmp.Lexicographic.{slice_cmp, on_texts}
-use Rattle.std.specs.List.Sorted.{IsPermutation, IsSortedByKey}
-use Rattle.std.specs.Ordering.{nat_cmp, is_lt}
+use Rattle.std.specs.{Prelude.List, Cmp.IsTotalOrder, Cmp.Lexicographic.{slice_cmp, on_texts}, List.Sorted.{IsPermutation, IsSortedByKey}}
+use Rattle.std.specs.{Ordering.{nat_cmp, is_lt}, declared.cmp.Ordering.Ordering}
 use Rattle.std.proofs.lemmas.List.Sorted.{ranks_by}
-use Rattle.std.specs.declared.cmp.Ordering.{Ordering}
-use Rattle.svnpath.specs.Paths.{PathValue}
-use Rattle.svnpath.specs.Sorting.{sorted_by, sorted_by_permutation, sorted_by_sorted}
-use Rattle.svnpath.specs.Texts.{path_text}
+use Rattle.svnpath.specs.{Paths.PathValue, Sorting.{sorted_by, sorted_by_permutation, sorted_by_sorted}, Texts.path_text}
 
 -- two paths by the bytes of their texts
 abbrev pub text_cmp : PathValue → PathValue → Ordering

@@ -1,15 +1,11 @@
 -- Laws of paths, for the crates above.
 use Rattle.std.proofs.Common.{add-one, ◌≡◌, Bool, true, ◌&&◌, [], ◌∷◌, ◌++◌, Some, length, take, drop, refl, sym, ap, ◌∙◌}
-use Rattle.std.proofs.lemmas.Bool.{false≢true, and_from, and_parts}
-use Rattle.std.proofs.lemmas.List.{append-nil, length_push, take_at, take-append-drop}
+use Rattle.std.proofs.{lemmas.Bool.{false≢true, and_from, and_parts}, lemmas.List.{append-nil, length_push, take_at, take-append-drop}}
 use Rattle.std.proofs.Math.Seq.{take-append_seam, drop-append_seam}
-use Rattle.std.specs.BTreeMap.{is_at}
-use Rattle.std.specs.Cmp.Lexicographic.{slice_cmp, texts_ties, nat_list_cmp_total, pointwise_decides, bytes_decides}
-use Rattle.std.specs.Ordering.{nat_cmp, is_eq, is_le, ordering_reverse, ordering_then}
-use Rattle.std.specs.declared.cmp.Ordering.{Ordering}
+use Rattle.std.specs.{BTreeMap.is_at, Cmp.Lexicographic.{slice_cmp, texts_ties, nat_list_cmp_total, pointwise_decides, bytes_decides}}
+use Rattle.std.specs.{Ordering.{nat_cmp, is_eq, is_le, ordering_reverse, ordering_then}, declared.cmp.Ordering.Ordering}
 use Rattle.std.specs.declared.cmp.Ordering.TheVariants.{Less, Equal, Greater}
-use Rattle.svnpath.specs.Texts.{parent}
-use Rattle.svnpath.specs.Paths.{PathValue, Component, same_component, same_path, is_at_or_under, path_cmp, path_ties}
+use Rattle.svnpath.specs.{Texts.parent, Paths.{PathValue, Component, same_component, same_path, is_at_or_under, path_cmp, path_ties}}
 
 -- two equal paths are one
 pub same_path_is : (p q : PathValue) → same_path p q ≡ true → p ≡ q

@@ -1,12 +1,8 @@
 -- Paths, as lists of components, which are lists of bytes.
-use Rattle.std.specs.Prelude.{◌≡◌, ℕ, Bool, ◌==◌, List}
-use Rattle.std.specs.Cmp.{IsTotalOrder}
-use Rattle.std.specs.Coded.{Coded, coded_ℕ, coded_list}
+use Rattle.std.specs.{Prelude.{◌≡◌, ℕ, Bool, ◌==◌, List}, Cmp.IsTotalOrder, Coded.{Coded, coded_ℕ, coded_list}}
 use Rattle.std.specs.FinMap.{IsAntisymmetric, nat_cmp-IsAntisymmetric, slice_cmp-IsAntisymmetric}
-use Rattle.std.specs.Cmp.Lexicographic.{slice_cmp, pointwise, lists_total, lists_ties, nat_list_cmp_total, texts_ties}
-use Rattle.std.specs.List.{starts_with}
-use Rattle.std.specs.Ordering.{nat_cmp, is_eq}
-use Rattle.std.specs.declared.cmp.Ordering.{Ordering}
+use Rattle.std.specs.{Cmp.Lexicographic.{slice_cmp, pointwise, lists_total, lists_ties, nat_list_cmp_total, texts_ties}, List.starts_with}
+use Rattle.std.specs.{Ordering.{nat_cmp, is_eq}, declared.cmp.Ordering.Ordering}
 
 abbrev pub Component : Type 0
 Component = List ℕ

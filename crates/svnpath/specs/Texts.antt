@@ -1,9 +1,7 @@
 -- Paths as texts.
 use Rattle.std.specs.Prelude.{ℕ, Bool, ◌==◌, ◌-◌, List, [], ◌∷◌, ◌++◌, Option, Some, None, Result, Err, length, take, drop, if◌then◌else◌}
 use Rattle.std.specs.List.{starts_with, ends_with, slice_split, flat_map}
-use Rattle.svnpath.specs.Paths.{PathValue, Component}
-use Rattle.svnpath.specs.Components.{beneath}
-use Rattle.svnpath.specs.declared.fault.PathFault.{PathFault}
+use Rattle.svnpath.specs.{Paths.{PathValue, Component}, Components.beneath, declared.fault.PathFault.PathFault}
 use Rattle.svnpath.specs.declared.fault.PathFault.TheVariants.{ForbiddenComponent}
 
 abbrev pub is_slash : ℕ → Bool

@@ -1,15 +1,10 @@
 -- URLs of the repository.
-use Rattle.std.specs.Prelude.{◌≡◌, ℕ, zero, suc, Bool, true, false, IsTrue, ◌||◌, ◌&&◌, ◌==◌, not, List, [], ◌∷◌, ◌++◌, None, Result, Ok, Err, map, drop, if◌then◌else◌, codes}
-use Rattle.std.specs.List.{slice_split, list_all}
-use Rattle.std.specs.Str.{is_utf8}
+use Rattle.std.specs.Prelude.{◌≡◌, ℕ, zero, suc, Bool, true, false, IsTrue, ◌||◌, ◌&&◌, ◌==◌, not, List, [], ◌∷◌, ◌++◌, None, Result, Ok, Err, map, drop}
+use Rattle.std.specs.{Prelude.{if◌then◌else◌, codes}, List.{slice_split, list_all}, Str.is_utf8}
 use Rattle.percent_encoding.specs.Percent.{percent_decode}
-use Rattle.url.specs.Parser.{parse_url, Parsed}
-use Rattle.url.specs.Parts.{Parts, text_between}
-use Rattle.url.specs.declared.slicing.Position.TheVariants.{BeforeScheme, BeforePath}
-use Rattle.svnpath.specs.Paths.{PathValue, Component, same_component}
-use Rattle.svnpath.specs.Components.{beneath, IsRightPath}
-use Rattle.svnpath.specs.Texts.{is_slash, starts_with_slash, without_last_slash}
-use Rattle.svnpath.specs.declared.fault.PathFault.{PathFault}
+use Rattle.url.specs.{Parser.{parse_url, Parsed}, Parts.{Parts, text_between}, declared.slicing.Position.TheVariants.{BeforeScheme, BeforePath}}
+use Rattle.svnpath.specs.{Paths.{PathValue, Component, same_component}, Components.{beneath, IsRightPath}}
+use Rattle.svnpath.specs.{Texts.{is_slash, starts_with_slash, without_last_slash}, declared.fault.PathFault.PathFault}
 use Rattle.svnpath.specs.declared.fault.PathFault.TheVariants.{NotThisRepository}
 
 -- `svn` and `svn+ssh`

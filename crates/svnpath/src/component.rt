@@ -1,12 +1,8 @@
 //! The components of a path: which are right, and the lists of them that texts name.
 ghost use Rattle.std.specs.Prelude.{◌≡◌, ◌+◌, ◌⊎◌, [], ◌∷◌, ◌++◌, map, length, None, Some, Err, IfOk, OnOk, IfErr, MatchResult, is_none};
-ghost use Rattle.std.specs.List.{slice_split, list_any};
-ghost use Rattle.std.specs.Str.{is_utf8};
-ghost use Rattle.std.specs.Option.{option_or};
-ghost use Rattle.svnpath.specs.Components.{component_fault, depth_fault, is_forbidden, is_forbidden_byte, beneath, IsRightPath};
-ghost use Rattle.svnpath.specs.Texts.{is_slash};
+ghost use Rattle.std.specs.{List.{slice_split, list_any}, Str.is_utf8, Option.option_or};
+ghost use Rattle.svnpath.specs.{Components.{component_fault, depth_fault, is_forbidden, is_forbidden_byte, beneath, IsRightPath}, Texts.is_slash};
 ghost use Rattle.svnpath.specs.Spelled.{read_part};
-ghost use Rattle.svnpath.specs.declared.fault.PathFault.TheVariants.{NoMemory};
 
 use crate::fault::PathFault;
 use byte_string::ByteString;
@@ -84,7 +80,7 @@ fn push_component(components: &mut Vec<ByteString>, component: Vec<u8>) -> Resul
         (option_or (component_fault component.items) (depth_fault (length components.old.items)) ≡ None) }
     ensures err { IfErr result (λ fault.
         (option_or (component_fault component.items) (depth_fault (length components.old.items)) ≡ Some fault)
-        ⊎ (fault ≡ NoMemory)) }
+        ⊎ (fault ≡ PathFault.NoMemory)) }
 {
     judge(component.as_slice())?;
     if components.len() >= DEPTH_LIMIT {
@@ -121,7 +117,8 @@ pub(crate) fn append_parts(
 ) -> Result<Vec<ByteString>, PathFault>
     ensures value { MatchResult result
         (λ components. beneath above.items (map (read_part spelling) (slice_split is_slash text.now)) ≡ Ok components.items)
-        (λ fault. (beneath above.items (map (read_part spelling) (slice_split is_slash text.now)) ≡ Err fault) ⊎ (fault ≡ NoMemory)) }
+        (λ fault. (beneath above.items (map (read_part spelling) (slice_split is_slash text.now))
+        ≡ Err fault) ⊎ (fault ≡ PathFault.NoMemory)) }
     ensures right { IsRightPath above.items
         → IfOk result (λ components. IsRightPath components.items) }
 {

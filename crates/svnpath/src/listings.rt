@@ -1,12 +1,6 @@
 //! Listings: entries by the bytes of their paths' texts.
-ghost use Rattle.std.specs.Prelude.{◌≡◌, [], ◌∷◌, map, IfOk, OnOk, OnErr, MatchOption};
-ghost use Rattle.std.specs.Cmp.Lexicographic.{slice_cmp};
-ghost use Rattle.std.specs.Map.Iter.{deref_pair};
-ghost use Rattle.std.specs.Ordering.{nat_cmp};
-ghost use Rattle.std.specs.declared.cmp.Ordering.TheVariants.{Equal};
-ghost use Rattle.svnpath.specs.Components.{IsRightPath};
-ghost use Rattle.svnpath.specs.Listings.{text_cmp, listing};
-ghost use Rattle.svnpath.specs.Texts.{path_text, text_from};
+ghost use Rattle.std.specs.{Prelude.{◌≡◌, [], ◌∷◌, map, IfOk, OnOk, OnErr, MatchOption}, Cmp.Lexicographic.slice_cmp, Map.Iter.deref_pair, Ordering.nat_cmp};
+ghost use Rattle.svnpath.specs.{Components.IsRightPath, Listings.{text_cmp, listing}, Texts.{path_text, text_from}};
 
 use crate::path::Path;
 use byte_string::ByteString;
@@ -19,7 +13,7 @@ impl Path {
     /// which `cmp` puts before it. Takes no memory.
     pub fn text_cmp(&self, other: &Path) -> Ordering
         ensures value { result ≡ text_cmp self.now other.now }
-        ensures ties { IsRightPath self.now → IsRightPath other.now → result ≡ Equal
+        ensures ties { IsRightPath self.now → IsRightPath other.now → result ≡ Ordering.Equal
             → self.now ≡ other.now }
     {
         let (mine, my_others) = self.text_front();

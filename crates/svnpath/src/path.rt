@@ -1,13 +1,11 @@
 //! A path of the repository.
 ghost use Rattle.std.specs.Prelude.{◌≡◌, ◌+◌, ◌^◌, ◌<◌, ◌≤◌, ◌++◌, [], ◌∷◌, List, IfOk, IfErr, OnOk, OnErr, refl, length, take, drop, IsTrue, Some, ◌↔◌};
 ghost use Rattle.std.specs.Cmp.{partial_order_from_agreeing_total, partial_equiv_from_equiv};
-ghost use Rattle.std.specs.Cmp.Lexicographic.{lists_equiv, lists_total, lists_ties, nat_list_eq_equiv, nat_list_cmp_total, texts_ties};
-ghost use Rattle.std.specs.List.{flat_map};
+ghost use Rattle.std.specs.{Cmp.Lexicographic.{lists_equiv, lists_total, lists_ties, nat_list_eq_equiv, nat_list_cmp_total, texts_ties}, List.flat_map};
 ghost use Rattle.svnpath.specs.Components.{beneath, AnswersPath, IsRightPath};
 ghost use Rattle.svnpath.specs.Paths.{PathValue, is_at_or_under, same_path, path_cmp, path_cmp_total, path_ties};
 ghost use Rattle.svnpath.specs.Texts.{parsed, joined, parent, path_text, components_of, without_first_slash, without_last_slash};
 ghost use Rattle.svnpath.specs.Urls.{path_of_text, NamesPath};
-ghost use Rattle.svnpath.specs.declared.fault.PathFault.TheVariants.{NoMemory};
 
 use crate::component::{Spelling, append_parts};
 use crate::fault::PathFault;
@@ -60,7 +58,7 @@ impl Path {
         ensures right { IfOk result IsRightPath }
         ensures text { IfOk result (λ path. text.now ≡ path_text path) }
         ensures refuses { (path : PathValue) → IsRightPath path → text.now ≡ path_text path
-            → IfErr result (λ fault. fault ≡ NoMemory) }
+            → IfErr result (λ fault. fault ≡ PathFault.NoMemory) }
     {
         match text.strip_prefix(b"/".as_slice()) {
             Some(rest) => Path::root(alloc).extended(alloc, rest),
@@ -94,7 +92,7 @@ impl Path {
         ensures value { AnswersPath result (path_of_text url.now name.now) }
         ensures names { IfOk result (NamesPath url.now name.now) }
         ensures refuses { (path : PathValue) → NamesPath url.now name.now path
-            → IfErr result (λ fault. fault ≡ NoMemory) }
+            → IfErr result (λ fault. fault ≡ PathFault.NoMemory) }
     {
         path_of_url(alloc, &read_url(alloc, url)?, name)
     }

@@ -1,11 +1,8 @@
 //! URLs of the repository.
-ghost use Rattle.std.specs.Prelude.{◌≡◌, ◌⊎◌, [], ◌∷◌, ◌++◌, map, List, Ok, Err, IfOk, MatchResult, MatchOption};
-ghost use Rattle.std.specs.List.{slice_split, position, list_all};
+ghost use Rattle.std.specs.{Prelude.{◌≡◌, ◌⊎◌, [], ◌∷◌, ◌++◌, map, List, Ok, Err, IfOk, MatchResult, MatchOption}, List.{slice_split, position, list_all}};
 ghost use Rattle.percent_encoding.specs.Percent.{percent_decode};
-ghost use Rattle.svnpath.specs.Components.{AnswersPath, IsRightPath};
-ghost use Rattle.svnpath.specs.Texts.{is_slash};
-ghost use Rattle.svnpath.specs.Urls.{read_url, path_of_text, root_of_text, path_of_url, path_of_segments, root_of_url, until_slash, is_before_query, is_root, names_root, root_of, NamesPath};
-ghost use Rattle.svnpath.specs.declared.fault.PathFault.TheVariants.{NoMemory};
+ghost use Rattle.svnpath.specs.{Components.{AnswersPath, IsRightPath}, Texts.is_slash, Urls.{read_url, path_of_text, root_of_text, path_of_url}};
+ghost use Rattle.svnpath.specs.Urls.{path_of_segments, root_of_url, until_slash, is_before_query, is_root, names_root, root_of, NamesPath};
 
 use crate::component::{Spelling, append_parts, read_part};
 use crate::fault::PathFault;
@@ -30,7 +27,7 @@ impl RepositoryUrl {
     /// As for `Path::from_url`.
     pub fn read(alloc: Global, url: &[u8], name: &str) -> Result<Self, PathFault>
         ensures path { MatchResult result (λ named. path_of_text url.now name.now ≡ Ok named.path)
-            (λ fault. (path_of_text url.now name.now ≡ Err fault) ⊎ (fault ≡ NoMemory)) }
+            (λ fault. (path_of_text url.now name.now ≡ Err fault) ⊎ (fault ≡ PathFault.NoMemory)) }
         ensures root { IfOk result (λ named. root_of_text url.now name.now ≡ Ok named.root) }
         ensures names { IfOk result (λ named. NamesPath url.now name.now named.path) }
     {

@@ -1,28 +1,17 @@
 -- Where both sides changed what stands at a path.
-use Rattle.std.proofs.Common.{◌≡◌, ℕ, Bool, true, false, not, ◌&&◌, [], ◌∷◌, ◌++◌, Option, Some, None, option_map, option_and_then, append_assoc, append-nil, refl, sym, ap, subst, ◌∙◌, is_some}
+use Rattle.std.proofs.Common.{◌≡◌, ℕ, Bool, true, false, not, ◌&&◌, [], ◌∷◌, ◌++◌, Option, Some, None, option_map, option_and_then, append_assoc, append-nil}
+use Rattle.std.proofs.{Common.{refl, sym, ap, subst, ◌∙◌, is_some}, lemmas.Bool.false≢true}
 use Rattle.std.specs.Prelude.{IsSome, Err}
-use Rattle.std.proofs.lemmas.Bool.{false≢true}
 use Rattle.svnpath.specs.Paths.{Component, PathValue}
-use Rattle.repo_api.specs.Merge.{is_changed, is_one_directory, is_in_conflict}
-use Rattle.repo_api.specs.Trees.{Tree, same_mark, is_open_mark, is_directory}
-use Rattle.repo_api.specs.declared.entry.Entry.{Entry}
-use Rattle.repo_api.specs.declared.entry.Mark.{Mark}
-use Rattle.repo_api.specs.declared.entry.Mark.TheVariants.{Open, Made}
+use Rattle.repo_api.specs.{Merge.{is_changed, is_in_conflict, is_one_directory}, Trees.{is_directory, is_open_mark, same_mark, Tree}}
+use Rattle.repo_api.specs.{declared.entry.Entry.Entry, declared.entry.Mark.Mark, declared.entry.Mark.TheVariants.{Open, Made}}
 use Rattle.repo_laws.proofs.Naming.{same_mark_is}
-use Rattle.noderevs.specs.Nodes.{Look, kid_at, IsThere}
-use Rattle.noderevs.specs.Soundness.{AreKidsThere, AreApart}
-use Rattle.noderevs.specs.Views.{shared_entry}
-use Rattle.noderevs.specs.declared.node_rev.NodeId.{NodeId}
+use Rattle.noderevs.specs.{Nodes.{IsThere, kid_at, Look}, Soundness.{AreApart, AreKidsThere}, Views.shared_entry, declared.node_rev.NodeId.NodeId}
 use Rattle.noderevs.specs.declared.node_rev.NodeRev.{NodeRev}
-use Rattle.txntree.specs.Bases.{IsBased, IsFit}
-use Rattle.txntree.specs.Spots.{Spot, changed_at, change_spot, shared_spot, over, step, flat, open_entry}
-use Rattle.txntree.specs.Spots.Spot.{Nothing, Shared, Opened}
-use Rattle.txntree.specs.declared.open.Change.{Change}
-use Rattle.txntree.specs.declared.open.OpenNode.{OpenNode}
-use Rattle.treemerge.specs.Merges.{spot_tree, is_one, IsMergeable, IsConflictUnder, IfConflict}
-use Rattle.treemerge.specs.declared.merging.MergeFault.{MergeFault}
-use Rattle.treemerge.specs.declared.merging.MergeFault.TheVariants.{Conflict, NoMemory}
-use Rattle.treemerge.specs.declared.merging.Places.{Places}
+use Rattle.txntree.specs.{Bases.{IsBased, IsFit}, Spots.{change_spot, changed_at, flat, open_entry, over, shared_spot, Spot, step}}
+use Rattle.txntree.specs.{Spots.Spot.{Nothing, Opened, Shared}, declared.open.Change.Change, declared.open.OpenNode.OpenNode}
+use Rattle.treemerge.specs.{Merges.{spot_tree, is_one, IsMergeable, IsConflictUnder, IfConflict}, declared.merging.MergeFault.MergeFault}
+use Rattle.treemerge.specs.{declared.merging.MergeFault.TheVariants.{Conflict, NoMemory}, declared.merging.Places.Places}
 use Rattle.treemerge.proofs.Overlays.{beneath_shared}
 
 abbrev revision_or : Mark → ℕ

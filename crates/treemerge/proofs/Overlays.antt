@@ -1,31 +1,16 @@
 -- What a merge makes of a node and its entries.
-use Rattle.std.proofs.Common.{◌≡◌, ◌==◌, ℕ, Bool, true, false, cond, ◌&&◌, ◌||◌, List, [], ◌∷◌, Option, Some, None, option_map, refl, sym, ap, subst, ◌∙◌, arith, rules, option_and_then}
-use Rattle.std.specs.Prelude.{IsSome, is_some, not, if◌then◌else◌}
-use Rattle.std.proofs.lemmas.Bool.{false≢true}
-use Rattle.std.specs.BTreeMap.{BTreeMap}
-use Rattle.std.specs.Cmp.Lexicographic.{slice_cmp}
-use Rattle.std.specs.Ordering.{nat_cmp}
-use Rattle.std.specs.List.Sorted.{IsStrictlySortedBy}
-use Rattle.std.specs.Map.{keys_of}
-use Rattle.svnpath.specs.Paths.{Component, PathValue, same_component, same_path}
-use Rattle.svnpath.specs.PathLaws.{same_component_is, same_path_refl}
-use Rattle.repo_api.specs.Trees.{Tree, same_mark, is_open_mark, is_directory}
-use Rattle.repo_api.specs.Edits.{touched}
-use Rattle.repo_api.specs.Merge.{is_changed, is_one_directory, is_in_conflict, is_untouched, has_open_last}
-use Rattle.repo_api.specs.declared.entry.Entry.{Entry}
-use Rattle.repo_api.specs.declared.entry.Mark.{Mark}
+use Rattle.std.proofs.Common.{◌≡◌, ◌==◌, ℕ, Bool, true, false, cond, ◌&&◌, ◌||◌, List, [], ◌∷◌, Option, Some, None, option_map, refl, sym, ap, subst, ◌∙◌}
+use Rattle.std.proofs.{Common.{arith, rules, option_and_then}, lemmas.Bool.false≢true}
+use Rattle.std.specs.{Prelude.{IsSome, is_some, not, if◌then◌else◌}, BTreeMap.BTreeMap, Cmp.Lexicographic.slice_cmp, Ordering.nat_cmp}
+use Rattle.std.specs.{List.Sorted.IsStrictlySortedBy, Map.keys_of}
+use Rattle.svnpath.specs.{PathLaws.{same_component_is, same_path_refl}, Paths.{Component, PathValue, same_component, same_path}}
+use Rattle.repo_api.specs.{Edits.touched, Merge.{has_open_last, is_changed, is_in_conflict, is_one_directory, is_untouched}}
+use Rattle.repo_api.specs.{Trees.{is_directory, is_open_mark, same_mark, Tree}, declared.entry.Entry.Entry, declared.entry.Mark.Mark}
 use Rattle.repo_api.specs.declared.entry.Mark.TheVariants.{Open, Made}
-use Rattle.noderevs.specs.Nodes.{Look, kid_at}
-use Rattle.txntree.specs.Spots.{Spot, changed_at, change_spot, shared_spot, over, find, entry, flat, open_entry}
-use Rattle.noderevs.specs.Views.{shared_entry}
-use Rattle.txntree.specs.Spots.Spot.{Opened}
-use Rattle.txntree.specs.Walks.{beneath}
-use Rattle.txntree.specs.Sealing.{first_of}
+use Rattle.noderevs.specs.{Nodes.{kid_at, Look}, Views.shared_entry, declared.node_rev.NodeId.NodeId, declared.node_rev.NodeRev.NodeRev}
+use Rattle.txntree.specs.{Sealing.first_of, Spots.{change_spot, changed_at, entry, find, flat, open_entry, over, shared_spot, Spot}, Spots.Spot.Opened}
+use Rattle.txntree.specs.{Walks.beneath, declared.open.OpenNode.OpenNode, declared.open.Change.Change}
 use Rattle.treemerge.specs.Merges.{merged_open, IsTold, spot_tree, IsMergeOf, IsWalking, IsCopied, IsMerged, is_one}
-use Rattle.noderevs.specs.declared.node_rev.NodeId.{NodeId}
-use Rattle.noderevs.specs.declared.node_rev.NodeRev.{NodeRev}
-use Rattle.txntree.specs.declared.open.OpenNode.{OpenNode}
-use Rattle.txntree.specs.declared.open.Change.{Change}
 use Rattle.txntree.proofs.Seals.{nothing, sorted_rest, first_here, first_gone}
 
 same_number : (n : ℕ) → (n == n) ≡ true

@@ -2,17 +2,11 @@
 use Rattle.std.proofs.Common.{◌≡◌, ℕ, Bool, true, false, [], ◌∷◌, Option, Some, None, option_map, refl, sym, ap, ◌∙◌}
 use Rattle.std.specs.Prelude.{if◌then◌else◌}
 use Rattle.svnpath.specs.Paths.{PathValue}
-use Rattle.repo_api.specs.Edits.{touched}
-use Rattle.repo_api.specs.Merge.{sealed, is_untouched, has_open_last, changed_beneath, merged_entry}
-use Rattle.repo_api.specs.declared.entry.Entry.{Entry}
+use Rattle.repo_api.specs.{Edits.touched, Merge.{changed_beneath, has_open_last, is_untouched, merged_entry, sealed}, declared.entry.Entry.Entry}
 use Rattle.repo_api.specs.declared.entry.Mark.TheVariants.{Made}
-use Rattle.noderevs.specs.Nodes.{Look, kid_at}
-use Rattle.noderevs.specs.Views.{shared_entry, shared_tree}
-use Rattle.noderevs.specs.declared.node_rev.NodeId.{NodeId}
-use Rattle.noderevs.specs.declared.node_rev.NodeRev.{NodeRev}
+use Rattle.noderevs.specs.{Nodes.{kid_at, Look}, Views.{shared_entry, shared_tree}, declared.node_rev.NodeId.NodeId, declared.node_rev.NodeRev.NodeRev}
 use Rattle.txntree.specs.Spots.{flat, shared_spot}
-use Rattle.txntree.proofs.Seals.{nothing, sealed_already}
-use Rattle.txntree.proofs.Sharing.{shared_flat}
+use Rattle.txntree.proofs.{Seals.{nothing, sealed_already}, Sharing.shared_flat}
 use Rattle.treemerge.specs.Merges.{merged_open, spot_tree}
 
 abbrev last_made : ℕ → PathValue → Entry → Entry

@@ -1,16 +1,9 @@
 -- What a transaction has left is as it was.
-use Rattle.std.proofs.Common.{◌≡◌, ℕ, Bool, true, false, ◌&&◌, ◌||◌, Option, Some, None, option_map, refl, sym, ap, ◌∙◌}
+use Rattle.std.proofs.{Common.{◌≡◌, ℕ, Bool, true, false, ◌&&◌, ◌||◌, Option, Some, None, option_map, refl, sym, ap, ◌∙◌}, lemmas.Bool.false≢true}
 use Rattle.std.specs.Prelude.{if◌then◌else◌}
-use Rattle.std.proofs.lemmas.Bool.{false≢true}
-use Rattle.repo_api.specs.Edits.{touched}
-use Rattle.repo_api.specs.Marks.{AreMarked, IsTransactionOf, shown, own_of, has_open_own}
-use Rattle.repo_api.specs.Merge.{is_untouched, has_open_last}
-use Rattle.repo_api.specs.Properties.{PropertyList}
-use Rattle.repo_api.specs.Trees.{Tree, same_mark, is_open_mark}
-use Rattle.repo_api.specs.declared.entry.Content.{Content}
-use Rattle.repo_api.specs.declared.entry.Entry.{Entry}
-use Rattle.repo_api.specs.declared.entry.Mark.{Mark}
-use Rattle.repo_api.specs.declared.entry.Mark.TheVariants.{Open, Made}
+use Rattle.repo_api.specs.{Edits.touched, Marks.{AreMarked, has_open_own, IsTransactionOf, own_of, shown}, Merge.{has_open_last, is_untouched}}
+use Rattle.repo_api.specs.{Properties.PropertyList, Trees.{is_open_mark, same_mark, Tree}, declared.entry.Content.Content, declared.entry.Entry.Entry}
+use Rattle.repo_api.specs.{declared.entry.Mark.Mark, declared.entry.Mark.TheVariants.{Open, Made}}
 use Rattle.repo_laws.proofs.Naming.{same_mark_is}
 use Rattle.treemerge.specs.Merges.{IsTold}
 

@@ -1,30 +1,13 @@
 -- The merge of a transaction's tree into the youngest, path by path. Marks stay open; the seal fills them.
-use Rattle.std.specs.Prelude.{◌≡◌, Bool, true, false, ◌&&◌, Option, Some, None, option_map, if◌then◌else◌}
-use Rattle.std.specs.Prelude.{List, ◌++◌, IsSome, Result, Ok, Err, option_and_then}
-use Rattle.std.specs.Arc.{arc_value}
-use Rattle.std.specs.BTreeMap.{BTreeMap}
-use Rattle.std.specs.Cmp.Lexicographic.{slice_cmp}
-use Rattle.std.specs.Ordering.{nat_cmp}
-use Rattle.std.specs.List.Sorted.{IsStrictlySortedBy}
-use Rattle.std.specs.Map.{keys_of}
-use Rattle.svnpath.specs.Paths.{PathValue, Component}
-use Rattle.noderevs.specs.Nodes.{Look, kid_at, IsThere}
-use Rattle.txntree.specs.Spots.{Spot, flat, over, shared_spot, changed_at}
-use Rattle.txntree.specs.Spots.Spot.{Opened}
-use Rattle.txntree.specs.Sealing.{first_of}
-use Rattle.noderevs.specs.Nodes.{mark_of}
-use Rattle.txntree.specs.Walks.{beneath}
-use Rattle.txntree.specs.Bases.{IsBased, IsFit}
-use Rattle.treemerge.specs.declared.merging.Places.{Places}
-use Rattle.treemerge.specs.declared.merging.MergeFault.{MergeFault}
+use Rattle.std.specs.Prelude.{◌≡◌, Bool, true, false, ◌&&◌, Option, Some, None, option_map, if◌then◌else◌, List, ◌++◌, IsSome, Result, Ok, Err, option_and_then}
+use Rattle.std.specs.{Arc.arc_value, BTreeMap.BTreeMap, Cmp.Lexicographic.slice_cmp, Ordering.nat_cmp, List.Sorted.IsStrictlySortedBy, Map.keys_of}
+use Rattle.svnpath.specs.Paths.{Component, PathValue}
+use Rattle.noderevs.specs.{Nodes.{IsThere, kid_at, Look, mark_of}, declared.node_rev.NodeId.NodeId, declared.node_rev.NodeRev.NodeRev}
+use Rattle.txntree.specs.{Bases.{IsBased, IsFit}, Sealing.first_of, Spots.{changed_at, flat, over, shared_spot, Spot}, Spots.Spot.Opened, Walks.beneath}
+use Rattle.txntree.specs.{declared.open.OpenNode.OpenNode, declared.open.Change.Change}
+use Rattle.treemerge.specs.{declared.merging.Places.Places, declared.merging.MergeFault.MergeFault}
 use Rattle.treemerge.specs.declared.merging.MergeFault.TheVariants.{Conflict, NoMemory}
-use Rattle.noderevs.specs.declared.node_rev.NodeId.{NodeId}
-use Rattle.noderevs.specs.declared.node_rev.NodeRev.{NodeRev}
-use Rattle.txntree.specs.declared.open.OpenNode.{OpenNode}
-use Rattle.txntree.specs.declared.open.Change.{Change}
-use Rattle.repo_api.specs.Trees.{Tree, same_mark, is_directory_content}
-use Rattle.repo_api.specs.Edits.{touched}
-use Rattle.repo_api.specs.Merge.{is_in_conflict, is_untouched, has_open_last}
+use Rattle.repo_api.specs.{Edits.touched, Merge.{has_open_last, is_in_conflict, is_untouched}, Trees.{is_directory_content, same_mark, Tree}}
 use Rattle.repo_api.specs.declared.entry.Entry.{Entry}
 
 -- the merged entry, with open marks left open, which the seal closes

@@ -1,14 +1,9 @@
 //! A transaction's changes over a younger tree.
 ghost use Rattle.std.specs.Prelude.{◌≡◌, IfOk, IfSome, IsTrue, [], None, true, false, option_copied, option_map, ℕ};
 ghost use Rattle.svnpath.specs.Paths.{PathValue};
-ghost use Rattle.repo_api.specs.Merge.{is_in_conflict, merged, sealed, HasNoConflict};
-ghost use Rattle.repo_api.specs.Trees.{same_mark, is_directory_content};
-ghost use Rattle.noderevs.specs.Held.{node_at, root_at, trees_of};
-ghost use Rattle.txntree.specs.Whole.{txn_tree, IsSound};
-ghost use Rattle.noderevs.specs.Nodes.{Look};
-ghost use Rattle.txntree.specs.Spots.{flat, change_spot, over, shared_spot};
-ghost use Rattle.txntree.specs.Spots.Spot.{Opened};
-ghost use Rattle.noderevs.specs.Nodes.{mark_of};
+ghost use Rattle.repo_api.specs.{Merge.{HasNoConflict, is_in_conflict, merged, sealed}, Trees.{is_directory_content, same_mark}};
+ghost use Rattle.noderevs.specs.{Held.{node_at, root_at, trees_of}, Nodes.{Look, mark_of}};
+ghost use Rattle.txntree.specs.{Spots.{change_spot, flat, over, shared_spot}, Spots.Spot.Opened, Whole.{IsSound, txn_tree}};
 ghost use Rattle.treemerge.specs.Merges.{IsTold, spot_tree, IsMergeOf, IsMergeable, IsConflictUnder, IfConflict, IsKept, is_one};
 
 use noderevs::{Made, NodeId, NodeRev, Nodes};

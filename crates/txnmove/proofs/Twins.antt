@@ -2,28 +2,15 @@
 use Rattle.std.proofs.Common.{◌≡◌, ℕ, false, is_some, List, [], ◌∷◌, ◌++◌, Option, Some, None, option_map, option_and_then, refl, sym, ap, subst, ◌∙◌}
 use Rattle.std.proofs.lemmas.Bool.{false≢true}
 use Rattle.std.specs.Prelude.{IsSome, IfSome}
-use Rattle.repo_api.specs.Trees.{is_open_mark}
-use Rattle.repo_api.specs.declared.entry.Entry.{Entry}
-use Rattle.repo_api.specs.declared.entry.Mark.{Mark}
-use Rattle.repo_api.specs.declared.entry.Mark.TheVariants.{Open, Made}
+use Rattle.repo_api.specs.{Trees.is_open_mark, declared.entry.Entry.Entry, declared.entry.Mark.Mark, declared.entry.Mark.TheVariants.{Open, Made}}
 use Rattle.svnpath.specs.Paths.{Component, PathValue}
-use Rattle.noderevs.specs.Held.{node_at, root_at, trees_of}
-use Rattle.noderevs.specs.Nodes.{Look, kid_of, kid_at, IsThere}
-use Rattle.noderevs.specs.Soundness.{AreApart, AreKidsThere}
-use Rattle.noderevs.specs.Views.{find_id, shared_entry, entry_at, shared_tree}
-use Rattle.noderevs.specs.declared.node_rev.NodeId.{NodeId}
-use Rattle.noderevs.specs.declared.node_rev.NodeRev.{NodeRev}
+use Rattle.noderevs.specs.{Held.{node_at, root_at, trees_of}, Nodes.{IsThere, kid_at, kid_of, Look}, Soundness.{AreApart, AreKidsThere}}
+use Rattle.noderevs.specs.{Views.{entry_at, find_id, shared_entry, shared_tree}, declared.node_rev.NodeId.NodeId, declared.node_rev.NodeRev.NodeRev}
 use Rattle.noderevs.specs.declared.nodes.Nodes.{Nodes}
-use Rattle.txntree.specs.Sealing.{first_of}
-use Rattle.txntree.specs.Bases.{Stands, IsBased}
-use Rattle.txntree.specs.Spots.{Spot, find, flat, entry, over, changed_at, change_spot, shared_spot, open_entry, step}
-use Rattle.txntree.specs.Spots.Spot.{Nothing, Shared, Opened}
-use Rattle.txntree.specs.declared.open.Change.{Change}
-use Rattle.txntree.specs.declared.open.OpenNode.{OpenNode}
-use Rattle.txntree.specs.declared.open.Change.TheVariants.{Gone, Is}
-use Rattle.txntree.proofs.Bases.{shared_based, nothing_based}
-use Rattle.txntree.proofs.Blocks.{closed_is}
-use Rattle.txntree.proofs.Walking.{gone_spot, is_spot, nothing_there}
+use Rattle.txntree.specs.{Bases.{IsBased, Stands}, Sealing.first_of}
+use Rattle.txntree.specs.{Spots.{change_spot, changed_at, entry, find, flat, open_entry, over, shared_spot, Spot, step}, Spots.Spot.{Nothing, Opened, Shared}}
+use Rattle.txntree.specs.{declared.open.Change.Change, declared.open.OpenNode.OpenNode, declared.open.Change.TheVariants.{Gone, Is}}
+use Rattle.txntree.proofs.{Bases.{shared_based, nothing_based}, Blocks.closed_is, Walking.{gone_spot, is_spot, nothing_there}}
 use Rattle.txntree.proofs.Sharing.{shared_flat, find_append}
 use Rattle.txnmove.specs.Moves.{HaveTwins, twin, IsTwin, IsMoved, IsMadeOf, IsWalking, IsMovedAt}
 

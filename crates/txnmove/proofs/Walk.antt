@@ -1,18 +1,8 @@
 -- A walk over the changes of a node.
-use Rattle.std.proofs.Common.{◌≡◌, Bool, true, false, cond, List, ◌∷◌, Option, Some, None, refl, sym, ap, subst, ◌∙◌}
-use Rattle.std.specs.Prelude.{IsSome}
-use Rattle.std.proofs.lemmas.Bool.{false≢true}
-use Rattle.std.specs.BTreeMap.{BTreeMap}
-use Rattle.std.specs.Cmp.Lexicographic.{slice_cmp}
-use Rattle.std.specs.Ordering.{nat_cmp}
-use Rattle.std.specs.List.Sorted.{IsStrictlySortedBy}
-use Rattle.std.specs.Map.{keys_of}
-use Rattle.svnpath.specs.Paths.{Component, same_component}
-use Rattle.svnpath.specs.PathLaws.{same_component_is}
-use Rattle.txntree.specs.Sealing.{first_of}
-use Rattle.txntree.specs.Spots.{changed_at}
-use Rattle.txntree.specs.declared.open.Change.{Change}
-use Rattle.txntree.specs.declared.open.OpenNode.{OpenNode}
+use Rattle.std.proofs.{Common.{◌≡◌, Bool, true, false, cond, List, ◌∷◌, Option, Some, None, refl, sym, ap, subst, ◌∙◌}, lemmas.Bool.false≢true}
+use Rattle.std.specs.{Prelude.IsSome, BTreeMap.BTreeMap, Cmp.Lexicographic.slice_cmp, Ordering.nat_cmp, List.Sorted.IsStrictlySortedBy, Map.keys_of}
+use Rattle.svnpath.specs.{PathLaws.same_component_is, Paths.{Component, same_component}}
+use Rattle.txntree.specs.{Sealing.first_of, Spots.changed_at, declared.open.Change.Change, declared.open.OpenNode.OpenNode}
 use Rattle.txntree.proofs.Seals.{sorted_rest, first_gone}
 use Rattle.txnmove.specs.Moves.{IsWalking}
 

@@ -1,23 +1,11 @@
 -- A transaction's tree over other nodes.
-use Rattle.std.specs.Prelude.{◌≡◌, List, Option, Some, None, IsSome, IfSome, option_and_then}
-use Rattle.std.specs.BTreeMap.{BTreeMap}
-use Rattle.std.specs.Cmp.Lexicographic.{slice_cmp}
-use Rattle.std.specs.List.Sorted.{IsStrictlySortedBy}
-use Rattle.std.specs.Map.{keys_of}
-use Rattle.std.specs.Ordering.{nat_cmp}
-use Rattle.svnpath.specs.Paths.{PathValue, Component}
-use Rattle.noderevs.specs.Held.{node_at, root_at, trees_of}
-use Rattle.noderevs.specs.Nodes.{kid_at, IsThere}
-use Rattle.noderevs.specs.Views.{find_id, shared_tree}
-use Rattle.noderevs.specs.declared.node_rev.NodeId.{NodeId}
-use Rattle.noderevs.specs.declared.node_rev.NodeRev.{NodeRev}
-use Rattle.noderevs.specs.declared.nodes.Nodes.{Nodes}
-use Rattle.txntree.specs.Bases.{IsBased}
-use Rattle.txntree.specs.Sealing.{first_of}
-use Rattle.txntree.specs.Spots.{Spot, flat, over, changed_at, shared_spot, step}
-use Rattle.txntree.specs.Spots.Spot.{Opened}
-use Rattle.txntree.specs.declared.open.Change.{Change}
-use Rattle.txntree.specs.declared.open.OpenNode.{OpenNode}
+use Rattle.std.specs.{Prelude.{◌≡◌, List, Option, Some, None, IsSome, IfSome, option_and_then}, BTreeMap.BTreeMap, Cmp.Lexicographic.slice_cmp}
+use Rattle.std.specs.{List.Sorted.IsStrictlySortedBy, Map.keys_of, Ordering.nat_cmp}
+use Rattle.svnpath.specs.Paths.{Component, PathValue}
+use Rattle.noderevs.specs.{Held.{node_at, root_at, trees_of}, Nodes.{IsThere, kid_at}, Views.{find_id, shared_tree}, declared.node_rev.NodeId.NodeId}
+use Rattle.noderevs.specs.{declared.node_rev.NodeRev.NodeRev, declared.nodes.Nodes.Nodes}
+use Rattle.txntree.specs.{Bases.IsBased, Sealing.first_of, Spots.{changed_at, flat, over, shared_spot, Spot, step}, Spots.Spot.Opened}
+use Rattle.txntree.specs.{declared.open.Change.Change, declared.open.OpenNode.OpenNode}
 
 -- each node stands at its path in the tree of its revision, and other nodes show that tree too
 pub record HaveTwins (from to : Nodes) : Type 0 where

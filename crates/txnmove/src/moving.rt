@@ -3,10 +3,7 @@
 ghost use Rattle.std.specs.Prelude.{◌≡◌, IfOk};
 ghost use Rattle.svnpath.specs.Paths.{PathValue};
 ghost use Rattle.noderevs.specs.Held.{node_at, root_at, trees_of};
-ghost use Rattle.txntree.specs.Bases.{IsBased};
-ghost use Rattle.txntree.specs.Spots.{change_spot};
-ghost use Rattle.txntree.specs.Spots.Spot.{Opened};
-ghost use Rattle.txntree.specs.Whole.{txn_tree, IsSound};
+ghost use Rattle.txntree.specs.{Bases.IsBased, Spots.change_spot, Spots.Spot.Opened, Whole.{IsSound, txn_tree}};
 ghost use Rattle.txnmove.specs.Moves.{HaveTwins, twin, IsTwin, IsMoved, IsMadeOf};
 
 use noderevs::{NodeId, Nodes};

@@ -1,25 +1,14 @@
 -- What open nodes stand over.
 use Rattle.std.proofs.Common.{◌≡◌, ℕ, Bool, true, false, List, [], ◌∷◌, ◌++◌, Option, Some, None, cond, refl, sym, ap, subst, ◌∙◌, option_and_then}
-use Rattle.std.specs.Prelude.{IsSome, if◌then◌else◌, slice_get}
 use Rattle.std.proofs.lemmas.Bool.{false≢true}
-use Rattle.std.specs.BTreeMap.{BTreeMap, is_at}
-use Rattle.std.specs.Cmp.Lexicographic.{slice_cmp}
-use Rattle.std.specs.Ordering.{nat_cmp}
-use Rattle.svnpath.specs.Paths.{Component, same_component}
-use Rattle.noderevs.specs.Nodes.{Look, kid_at, IsThere}
-use Rattle.txntree.specs.Spots.{Spot, changed_at, change_spot, shared_spot, over, step}
-use Rattle.txntree.specs.Spots.Spot.{Nothing, Shared, Opened}
-use Rattle.txntree.specs.Bases.{Stands, IsBased, IsNew, IsFit, IsRootKept}
-use Rattle.repo_api.specs.Trees.{is_open_mark}
-use Rattle.svnpath.specs.PathLaws.{same_component_is}
-use Rattle.noderevs.specs.declared.node_rev.NodeId.{NodeId}
-use Rattle.noderevs.specs.declared.node_rev.NodeRev.{NodeRev}
-use Rattle.txntree.specs.declared.open.OpenNode.{OpenNode}
-use Rattle.txntree.specs.declared.open.Change.{Change}
+use Rattle.std.specs.{Prelude.{IsSome, if◌then◌else◌, slice_get}, BTreeMap.{BTreeMap, is_at}, Cmp.Lexicographic.slice_cmp, Ordering.nat_cmp}
+use Rattle.svnpath.specs.{PathLaws.same_component_is, Paths.{Component, same_component}}
+use Rattle.noderevs.specs.{Nodes.{IsThere, kid_at, Look}, declared.node_rev.NodeId.NodeId, declared.node_rev.NodeRev.NodeRev}
+use Rattle.txntree.specs.{Spots.{Spot, changed_at, change_spot, shared_spot, over, step}, Spots.Spot.{Nothing, Shared, Opened}}
+use Rattle.txntree.specs.{Bases.{Stands, IsBased, IsNew, IsFit, IsRootKept}, declared.open.OpenNode.OpenNode, declared.open.Change.Change}
 use Rattle.txntree.specs.declared.open.Change.TheVariants.{Is}
-use Rattle.txntree.proofs.Walking.{is_spot}
-use Rattle.txntree.proofs.Names.{at_is_name}
-use Rattle.txntree.proofs.Seals.{some_again}
+use Rattle.repo_api.specs.Trees.{is_open_mark}
+use Rattle.txntree.proofs.{Walking.is_spot, Names.at_is_name, Seals.some_again}
 
 abbrev node_or : OpenNode → Spot → OpenNode
 node_or n Nothing = n

@@ -1,24 +1,12 @@
 -- The nodes of a revision, and the paths that were changed in it.
 use Rattle.std.proofs.Common.{◌≡◌, ◌==◌, ℕ, ◌≤◌, false, List, [], Option, Some, None, option_map, length, refl, sym, ap, subst, ◌∙◌, arith, ◌⊎◌, inl, inr}
+use Rattle.std.proofs.{lemmas.Bool.false≢true, lemmas.Option.slice_get_within}
 use Rattle.std.specs.Prelude.{Result, Ok, Err, IfOk, IfSome, IsSome, if◌then◌else◌, slice_get}
-use Rattle.std.proofs.lemmas.Bool.{false≢true}
-use Rattle.std.proofs.lemmas.Option.{slice_get_within}
 use Rattle.svnpath.specs.Paths.{PathValue}
-use Rattle.repo_api.specs.Merge.{sealed, closed}
-use Rattle.repo_api.specs.declared.entry.Entry.{Entry}
-use Rattle.repo_api.specs.declared.entry.Mark.{Mark}
-use Rattle.repo_api.specs.declared.entry.Mark.TheVariants.{Open, Made}
-use Rattle.noderevs.specs.Nodes.{Look, kid_at, IsThere, IsClosed}
-use Rattle.txntree.specs.Spots.{Spot, find, entry, flat}
-use Rattle.noderevs.specs.Views.{shared_entry}
-use Rattle.txntree.specs.Spots.Spot.{Nothing, Shared, Opened}
-use Rattle.noderevs.specs.Nodes.{with_block, IsBefore}
-use Rattle.txntree.specs.Sealing.{sealed_at, placed, IsUnder, AreUnder, IsBlockOf}
-use Rattle.noderevs.specs.Heights.{AreHigh}
-use Rattle.noderevs.specs.Soundness.{AreKidsThere, IsNext}
-use Rattle.noderevs.specs.declared.node_rev.Block.{Block}
-use Rattle.noderevs.specs.declared.node_rev.NodeId.{NodeId}
-use Rattle.noderevs.specs.declared.node_rev.NodeRev.{NodeRev}
+use Rattle.repo_api.specs.{Merge.{closed, sealed}, declared.entry.Entry.Entry, declared.entry.Mark.Mark, declared.entry.Mark.TheVariants.{Open, Made}}
+use Rattle.noderevs.specs.{Heights.AreHigh, Nodes.{IsBefore, IsClosed, IsThere, kid_at, Look, with_block}, Soundness.{AreKidsThere, IsNext}, Views.shared_entry}
+use Rattle.noderevs.specs.{declared.node_rev.Block.Block, declared.node_rev.NodeId.NodeId, declared.node_rev.NodeRev.NodeRev}
+use Rattle.txntree.specs.{Spots.{Spot, find, entry, flat}, Spots.Spot.{Nothing, Shared, Opened}, Sealing.{sealed_at, placed, IsUnder, AreUnder, IsBlockOf}}
 use Rattle.txntree.proofs.Seals.{same_number}
 
 abbrev last_or : Option Entry → Mark

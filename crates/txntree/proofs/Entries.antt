@@ -1,16 +1,11 @@
 -- Entries with one put in or taken out.
 use Rattle.std.proofs.Common.{◌≡◌, Bool, true, false, cond, Some, None, sym, ap, subst, ◌∙◌}
-use Rattle.std.specs.BTreeMap.{is_at}
-use Rattle.std.specs.Cmp.{eq_by_cmp_equiv}
-use Rattle.std.specs.Cmp.Lexicographic.{slice_cmp, nat_list_cmp_total}
-use Rattle.std.specs.FinMap.{insert, remove, get-insert, get-remove}
-use Rattle.std.specs.Ordering.{nat_cmp}
-use Rattle.std.specs.Prelude.{IfSome}
+use Rattle.std.specs.{BTreeMap.is_at, Cmp.eq_by_cmp_equiv, Cmp.Lexicographic.{slice_cmp, nat_list_cmp_total}, FinMap.{insert, remove, get-insert, get-remove}}
+use Rattle.std.specs.{Ordering.nat_cmp, Prelude.IfSome}
 use Rattle.svnpath.specs.Paths.{Component}
-use Rattle.noderevs.specs.Nodes.{Look, Kids, kid_named, Grows, IsThere}
+use Rattle.noderevs.specs.{Nodes.{Grows, IsThere, kid_named, Kids, Look}, declared.node_rev.NodeId.NodeId}
 use Rattle.txntree.specs.Sealing.{AreThere}
 use Rattle.txntree.proofs.Seals.{still_if}
-use Rattle.noderevs.specs.declared.node_rev.NodeId.{NodeId}
 
 pub named_put : (kids after : Kids) (name : Component) (id : NodeId) → after ≡ insert kids name id
     → (n : Component) → kid_named after n ≡ cond (is_at (slice_cmp nat_cmp name) n) (Some id) (kid_named kids n)

@@ -1,12 +1,10 @@
 -- The heights of nodes, as a block grows.
-use Rattle.std.proofs.Common.{◌≡◌, ◌==◌, Bool, true, false, ℕ, List, [], ◌∷◌, ◌++◌, Option, Some, None, option_and_then, is_some, refl, sym, ap, subst, ◌∙◌, ⊎_elim}
-use Rattle.std.proofs.lemmas.Bool.{false≢true}
+use Rattle.std.proofs.Common.{◌≡◌, ◌==◌, Bool, true, false, ℕ, List, [], ◌∷◌, ◌++◌, Option, Some, None, option_and_then, is_some, refl, sym, ap, subst, ◌∙◌}
+use Rattle.std.proofs.{Common.⊎_elim, lemmas.Bool.false≢true}
 use Rattle.std.specs.Prelude.{Result, Ok, Err, OnOk, OnErr, IfSome, if◌then◌else◌, slice_get}
 use Rattle.svnpath.specs.Paths.{Component}
-use Rattle.noderevs.specs.Heights.{IsHeight, AreHigh}
-use Rattle.noderevs.specs.Nodes.{Look, Kids, kid_of, kid_named, IsThere, IsClosed, IsBefore, Grows, with_block}
-use Rattle.noderevs.specs.declared.node_rev.NodeId.{NodeId}
-use Rattle.noderevs.specs.declared.node_rev.NodeRev.{NodeRev}
+use Rattle.noderevs.specs.{Heights.{AreHigh, IsHeight}, Nodes.{Grows, IsBefore, IsClosed, IsThere, kid_named, kid_of, Kids, Look, with_block}}
+use Rattle.noderevs.specs.{declared.node_rev.NodeId.NodeId, declared.node_rev.NodeRev.NodeRev}
 use Rattle.txntree.specs.Sealing.{AreThere}
 use Rattle.txntree.proofs.Seals.{behind, block_grows, more_or_same}
 

@@ -1,31 +1,17 @@
 -- What a seal makes of a node and its entries.
-use Rattle.std.proofs.Common.{◌≡◌, ◌==◌, ℕ, ◌<◌, ◌≤◌, Bool, true, false, cond, List, [], ◌∷◌, ◌++◌, Option, Some, None, option_map, length, refl, sym, ap, subst, ◌∙◌, arith, option_and_then, length-append, ◌⊎◌, inl, inr, rules, ◌≢◌, ⊎_elim}
-use Rattle.std.proofs.lemmas.Bool.{false≢true, cases_eq, cases_lt}
-use Rattle.std.specs.Prelude.{Result, Ok, Err, OnOk, OnErr, IfOk, IsSome, IfSome, if◌then◌else◌, slice_get}
-use Rattle.std.specs.BTreeMap.{is_at}
-use Rattle.std.specs.Cmp.Lexicographic.{slice_cmp}
-use Rattle.std.specs.Ordering.{nat_cmp, is_eq}
-use Rattle.std.specs.declared.cmp.Ordering.TheVariants.{Less}
-use Rattle.std.specs.List.{AllByRecursion}
-use Rattle.std.specs.List.Sorted.{IsStrictlySortedBy}
-use Rattle.std.specs.Map.{keys_of}
-use Rattle.std.proofs.lemmas.List.{append-nil, get_or_append_left}
-use Rattle.std.proofs.lemmas.Option.{slice_get_within, slice_get_past, slice_get-get_or, get_or_from_slice_get}
-use Rattle.std.proofs.Math.Seq.{get_or-append_seam}
-use Rattle.svnpath.specs.Paths.{Component, PathValue, same_component}
-use Rattle.svnpath.specs.PathLaws.{same_component_is, same_component_refl}
+use Rattle.std.proofs.Common.{◌≡◌, ◌==◌, ℕ, ◌<◌, ◌≤◌, Bool, true, false, cond, List, [], ◌∷◌, ◌++◌, Option, Some, None, option_map, length, refl, sym, ap}
+use Rattle.std.proofs.Common.{subst, ◌∙◌, arith, option_and_then, length-append, ◌⊎◌, inl, inr, rules, ◌≢◌, ⊎_elim}
+use Rattle.std.proofs.{lemmas.Bool.{false≢true, cases_eq, cases_lt}, lemmas.List.{append-nil, get_or_append_left}}
+use Rattle.std.proofs.{lemmas.Option.{slice_get_within, slice_get_past, slice_get-get_or, get_or_from_slice_get}, Math.Seq.get_or-append_seam}
+use Rattle.std.specs.{Prelude.{Result, Ok, Err, OnOk, OnErr, IfOk, IsSome, IfSome, if◌then◌else◌, slice_get}, BTreeMap.is_at, Cmp.Lexicographic.slice_cmp}
+use Rattle.std.specs.{Ordering.{nat_cmp, is_eq}, declared.cmp.Ordering.TheVariants.Less, List.AllByRecursion, List.Sorted.IsStrictlySortedBy, Map.keys_of}
+use Rattle.svnpath.specs.{PathLaws.{same_component_is, same_component_refl}, Paths.{Component, PathValue, same_component}}
 use Rattle.repo_api.specs.Merge.{sealed}
-use Rattle.noderevs.specs.Heights.{AreHigh}
-use Rattle.noderevs.specs.Nodes.{Look, kid_of, kid_at, IsThere, IsClosed}
-use Rattle.txntree.specs.Spots.{Spot, changed_at, change_spot, shared_spot, over, step, find, flat, open_entry}
-use Rattle.noderevs.specs.Views.{shared_entry}
-use Rattle.txntree.specs.Spots.Spot.{Nothing, Shared, Opened}
-use Rattle.noderevs.specs.Nodes.{with_block, IsBefore, Grows, Kids, kid_named}
-use Rattle.txntree.specs.Sealing.{sealed_at, placed, IsUnder, IsUnderOne, AreUnder, AreUnderOne, SameBut, AreThere, with_sealed, kid_trees, unless_changed, IsSealing, first_of}
-use Rattle.noderevs.specs.declared.node_rev.NodeId.{NodeId}
-use Rattle.noderevs.specs.declared.node_rev.NodeRev.{NodeRev}
-use Rattle.txntree.specs.declared.open.OpenNode.{OpenNode}
-use Rattle.txntree.specs.declared.open.Change.{Change}
+use Rattle.noderevs.specs.{Heights.AreHigh, Nodes.{Grows, IsBefore, IsClosed, IsThere, kid_at, kid_named, kid_of, Kids, Look, with_block}, Views.shared_entry}
+use Rattle.noderevs.specs.{declared.node_rev.NodeId.NodeId, declared.node_rev.NodeRev.NodeRev}
+use Rattle.txntree.specs.{Spots.{Spot, changed_at, change_spot, shared_spot, over, step, find, flat, open_entry}, Spots.Spot.{Nothing, Shared, Opened}}
+use Rattle.txntree.specs.Sealing.{sealed_at, placed, IsUnder, IsUnderOne, AreUnder, AreUnderOne, SameBut, AreThere, with_sealed, kid_trees, unless_changed}
+use Rattle.txntree.specs.{Sealing.{IsSealing, first_of}, declared.open.OpenNode.OpenNode, declared.open.Change.Change}
 use Rattle.txntree.proofs.Names.{at_is_name}
 
 pub grows_same : (a : Look) → Grows a a

@@ -1,20 +1,12 @@
 -- The trees of shared nodes, and what lies on the way to a path.
 use Rattle.std.proofs.Common.{◌≡◌, [], ◌∷◌, ◌++◌, Option, Some, None, option_map, option_and_then, refl, sym, ap, subst, ◌∙◌, inl, inr, is_some}
-use Rattle.std.specs.Prelude.{IsSome, IsSomeAnd, IsTrue}
 use Rattle.std.proofs.lemmas.Bool.{false≢true}
-use Rattle.svnpath.specs.Paths.{Component, PathValue}
-use Rattle.svnpath.specs.PathLaws.{parent_child}
-use Rattle.svnpath.specs.Texts.{parent}
-use Rattle.repo_api.specs.RightEdits.{HasParent}
-use Rattle.repo_api.specs.Trees.{Tree, is_directory}
-use Rattle.repo_api.specs.Edits.{with_open_mark, revised, copy_of}
-use Rattle.noderevs.specs.Nodes.{Look, kid_of, kid_at}
-use Rattle.noderevs.specs.Views.{find_id, shared_entry, entry_at, shared_tree}
-use Rattle.noderevs.specs.declared.node_rev.NodeId.{NodeId}
+use Rattle.std.specs.Prelude.{IsSome, IsSomeAnd, IsTrue}
+use Rattle.svnpath.specs.{PathLaws.parent_child, Paths.{Component, PathValue}, Texts.parent}
+use Rattle.repo_api.specs.{Edits.{copy_of, revised, with_open_mark}, RightEdits.HasParent, Trees.{is_directory, Tree}}
+use Rattle.noderevs.specs.{Nodes.{kid_at, kid_of, Look}, Views.{entry_at, find_id, shared_entry, shared_tree}, declared.node_rev.NodeId.NodeId}
 use Rattle.noderevs.specs.declared.node_rev.NodeRev.{NodeRev}
-use Rattle.txntree.specs.Spots.{Spot, changed_at, over, shared_spot, step, entry, flat}
-use Rattle.txntree.specs.Spots.Spot.{Nothing, Shared, Opened}
-use Rattle.txntree.specs.Walks.{Lacks, LacksParent}
+use Rattle.txntree.specs.{Spots.{Spot, changed_at, over, shared_spot, step, entry, flat}, Spots.Spot.{Nothing, Shared, Opened}, Walks.{Lacks, LacksParent}}
 use Rattle.txntree.specs.declared.open.OpenNode.{OpenNode}
 use Rattle.txntree.proofs.Seals.{nothing}
 

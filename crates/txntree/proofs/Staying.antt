@@ -2,16 +2,10 @@
 use Rattle.std.proofs.Common.{◌≡◌, [], ◌∷◌, Option, Some, None, refl, sym, ap, subst, ◌∙◌, option_and_then}
 use Rattle.std.specs.Prelude.{IfSome}
 use Rattle.svnpath.specs.Paths.{Component, PathValue}
-use Rattle.noderevs.specs.Nodes.{Look, kid_of, kid_at, IsThere, IsClosed}
-use Rattle.txntree.specs.Spots.{Spot, changed_at, layer_spot, shared_spot, over, step, find, flat}
-use Rattle.txntree.specs.Spots.Spot.{Nothing, Shared, Opened}
-use Rattle.noderevs.specs.Nodes.{Grows}
-use Rattle.txntree.specs.Bases.{Stands, IsBased, OpenTreesStay}
-use Rattle.noderevs.specs.declared.node_rev.NodeId.{NodeId}
-use Rattle.txntree.specs.declared.open.OpenNode.{OpenNode}
-use Rattle.txntree.specs.declared.open.Change.{Change}
-use Rattle.txntree.specs.declared.open.Change.TheViews.{out-Change}
-use Rattle.txntree.specs.declared.open.Change.TheOpen.{Change-F, Gone, Is}
+use Rattle.noderevs.specs.{Nodes.{Grows, IsClosed, IsThere, kid_at, kid_of, Look}, declared.node_rev.NodeId.NodeId}
+use Rattle.txntree.specs.{Spots.{Spot, changed_at, layer_spot, shared_spot, over, step, find, flat}, Spots.Spot.{Nothing, Shared, Opened}}
+use Rattle.txntree.specs.{Bases.{Stands, IsBased, OpenTreesStay}, declared.open.OpenNode.OpenNode, declared.open.Change.Change}
+use Rattle.txntree.specs.{declared.open.Change.TheViews.out-Change, declared.open.Change.TheOpen.{Change-F, Gone, Is}}
 use Rattle.txntree.proofs.Seals.{nothing, same_tree, kids_there, find_grows, still_there}
 
 abbrev pub SpotThere : Look → Spot → Type 0

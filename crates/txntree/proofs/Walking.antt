@@ -1,31 +1,16 @@
 -- A change beneath a name, from what it makes of the entry of that name.
 use Rattle.std.proofs.Common.{◌≡◌, Bool, true, false, [], ◌∷◌, Option, Some, None, option_map, cond, refl, sym, ap, subst, ◌∙◌, ◌⊎◌, inr, rules}
-use Rattle.std.specs.Prelude.{if◌then◌else◌}
-use Rattle.std.specs.BTreeMap.{BTreeMap, is_at}
-use Rattle.std.specs.Cmp.Lexicographic.{slice_cmp}
-use Rattle.std.specs.Ordering.{nat_cmp}
+use Rattle.std.specs.{Prelude.if◌then◌else◌, BTreeMap.{BTreeMap, is_at}, Cmp.Lexicographic.slice_cmp, Ordering.nat_cmp, Arc.arc_value}
 use Rattle.txntree.proofs.Names.{at_is_name}
-use Rattle.svnpath.specs.Paths.{Component, PathValue, same_component}
-use Rattle.svnpath.specs.PathLaws.{same_component_is}
-use Rattle.std.specs.Arc.{arc_value}
-use Rattle.repo_api.specs.Edits.{touched, with_open_mark, begun, new_entry, revised, with_value, without_value}
-use Rattle.repo_api.specs.declared.entry.Content.{Content}
-use Rattle.txntree.specs.Laws.{leaf}
+use Rattle.svnpath.specs.{PathLaws.same_component_is, Paths.{Component, PathValue, same_component}}
+use Rattle.repo_api.specs.{Edits.{begun, new_entry, revised, touched, with_open_mark, with_value, without_value}, Trees.Tree, declared.entry.Content.Content}
 use Rattle.repo_api.specs.declared.entry.Entry.{Entry}
-use Rattle.repo_api.specs.Trees.{Tree}
-use Rattle.noderevs.specs.Nodes.{Look, kid_at}
-use Rattle.txntree.specs.Spots.{changed_at, change_spot, shared_spot, over, step, find, entry, flat, open_entry}
-use Rattle.noderevs.specs.Views.{shared_entry}
-use Rattle.txntree.specs.Spots.Spot.{Nothing, Shared, Opened}
-use Rattle.txntree.specs.Walks.{down, beneath, at_path, made_there, with_content, Lacks}
-use Rattle.txntree.specs.declared.open.Local.{Local}
-use Rattle.txntree.specs.declared.open.Local.TheVariants as local
-use Rattle.noderevs.specs.declared.node_rev.NodeId.{NodeId}
-use Rattle.noderevs.specs.declared.node_rev.NodeRev.{NodeRev}
-use Rattle.txntree.specs.declared.open.OpenNode.{OpenNode}
-use Rattle.txntree.specs.declared.open.Change.{Change}
-use Rattle.txntree.specs.declared.open.Change.TheVariants.{Is, Gone}
+use Rattle.txntree.specs.{Laws.leaf, Spots.{changed_at, change_spot, shared_spot, over, step, find, entry, flat, open_entry}}
+use Rattle.txntree.specs.{Spots.Spot.{Nothing, Shared, Opened}, Walks.{down, beneath, at_path, made_there, with_content, Lacks}, declared.open.Local.Local}
+use Rattle.txntree.specs.{declared.open.OpenNode.OpenNode, declared.open.Change.Change, declared.open.Change.TheVariants.{Is, Gone}}
 use Rattle.txntree.specs.declared.open.Change.TheViews.{the_lemmas}
+use Rattle.noderevs.specs.{Nodes.{kid_at, Look}, Views.shared_entry, declared.node_rev.NodeId.NodeId, declared.node_rev.NodeRev.NodeRev}
+use Rattle.txntree.specs.declared.open.Local.TheVariants as local
 
 -- the new node differs from the old in one entry alone
 pub branch : (look : Look) (old new : OpenNode) (name : Component) (change : Change) (f : Tree → Tree)

@@ -1,13 +1,9 @@
 -- A transaction's tree over further revisions.
 use Rattle.std.proofs.Common.{ap, ◌∙◌}
 use Rattle.std.specs.Prelude.{slice_get}
-use Rattle.noderevs.specs.Held.{node_at, blocks_of}
-use Rattle.noderevs.specs.Nodes.{node_in, Grows}
-use Rattle.noderevs.specs.declared.nodes.Nodes.{Nodes}
+use Rattle.noderevs.specs.{Held.{blocks_of, node_at}, Nodes.{Grows, node_in}, declared.nodes.Nodes.Nodes}
 use Rattle.txntree.specs.Whole.{IsLonger, TxnTreesStay}
-use Rattle.txntree.proofs.Bases.{longer}
-use Rattle.txntree.proofs.Blocks.{closed_is}
-use Rattle.txntree.proofs.Staying.{open_trees_stay}
+use Rattle.txntree.proofs.{Bases.longer, Blocks.closed_is, Staying.open_trees_stay}
 
 longer_grows : (before after : Nodes) → IsLonger before after → Grows (node_at before) (node_at after)
 longer_grows before after more id there =

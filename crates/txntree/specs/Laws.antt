@@ -1,10 +1,7 @@
 -- The edits of the definitions, as changes at the node of a path.
 use Rattle.std.specs.Prelude.{◌≡◌, [], ◌∷◌, ◌++◌, Some, None}
 use Rattle.svnpath.specs.Paths.{Component, PathValue}
-use Rattle.repo_api.specs.Trees.{Tree}
-use Rattle.repo_api.specs.Edits.{new_entry, added, revised, grafted}
-use Rattle.repo_api.specs.declared.entry.Entry.{Entry}
-use Rattle.repo_api.specs.declared.entry.Content.{Content}
+use Rattle.repo_api.specs.{Edits.{added, grafted, new_entry, revised}, Trees.Tree, declared.entry.Entry.Entry, declared.entry.Content.Content}
 use Rattle.txntree.specs.Walks.{down, at_path, here}
 
 -- a new entry with nothing beneath it

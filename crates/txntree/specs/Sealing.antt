@@ -1,23 +1,13 @@
 -- The node revisions of a new revision, behind those that are there.
-use Rattle.std.specs.Prelude.{◌≡◌, ◌≤◌, ◌<◌, length, ℕ, false, List, [], ◌∷◌, ◌++◌, Option, Some, None}
-use Rattle.std.specs.Prelude.{IsSome, IfSome, option_map, slice_get, if◌then◌else◌}
-use Rattle.std.specs.BTreeMap.{is_at}
-use Rattle.std.specs.Map.{lookup}
-use Rattle.std.specs.Cmp.Lexicographic.{slice_cmp}
-use Rattle.std.specs.Ordering.{nat_cmp}
+use Rattle.std.specs.Prelude.{◌≡◌, ◌≤◌, ◌<◌, length, ℕ, false, List, [], ◌∷◌, ◌++◌, Option, Some, None, IsSome, IfSome, option_map, slice_get, if◌then◌else◌}
+use Rattle.std.specs.{BTreeMap.is_at, Map.lookup, Cmp.Lexicographic.slice_cmp, Ordering.nat_cmp}
 use Rattle.svnpath.specs.Paths.{Component, PathValue, same_component}
-use Rattle.repo_api.specs.Trees.{Tree}
-use Rattle.repo_api.specs.Merge.{sealed}
-use Rattle.noderevs.specs.Heights.{AreHigh}
-use Rattle.noderevs.specs.Nodes.{Look, Kids, kid_at, kid_named, IsThere, IsClosed, IsBefore, Grows, with_block}
-use Rattle.txntree.specs.Spots.{flat, find, step, shared_spot, change_spot}
-use Rattle.txntree.specs.Spots.Spot.{Shared, Opened}
-use Rattle.txntree.specs.declared.open.OpenNode.{OpenNode}
-use Rattle.repo_api.specs.declared.entry.Entry.{Entry}
-use Rattle.repo_api.specs.declared.entry.Mark.TheVariants as mark
-use Rattle.noderevs.specs.declared.node_rev.NodeId.{NodeId}
-use Rattle.noderevs.specs.declared.node_rev.NodeRev.{NodeRev}
+use Rattle.repo_api.specs.{Merge.sealed, Trees.Tree, declared.entry.Entry.Entry}
+use Rattle.noderevs.specs.{Heights.AreHigh, Nodes.{Grows, IsBefore, IsClosed, IsThere, kid_at, kid_named, Kids, Look, with_block}}
+use Rattle.noderevs.specs.{declared.node_rev.NodeId.NodeId, declared.node_rev.NodeRev.NodeRev}
+use Rattle.txntree.specs.{Spots.{flat, find, step, shared_spot, change_spot}, Spots.Spot.{Shared, Opened}, declared.open.OpenNode.OpenNode}
 use Rattle.txntree.specs.declared.open.Change.{Change}
+use Rattle.repo_api.specs.declared.entry.Mark.TheVariants as mark
 
 -- the tree of a path as that of the revision
 abbrev pub sealed_at : ℕ → PathValue → Tree → Tree

@@ -1,14 +1,9 @@
 //! The edits of a transaction's tree.
-ghost use Rattle.std.specs.Prelude.{◌≡◌, [], OnOk, OnErr, IfOk, IsErrOf, None, ◌⊎◌};
-ghost use Rattle.std.specs.Arc.{arc_value};
+ghost use Rattle.std.specs.{Prelude.{◌≡◌, [], OnOk, OnErr, IfOk, IsErrOf, None, ◌⊎◌}, Arc.arc_value};
 ghost use Rattle.svnpath.specs.Paths.{PathValue};
-ghost use Rattle.repo_api.specs.Edits.{added, deleted, revised, with_text, with_value, without_value, grafted};
-ghost use Rattle.txntree.specs.Bases.{IsBased, IsNew};
-ghost use Rattle.txntree.specs.Laws.{IsBare};
+ghost use Rattle.repo_api.specs.Edits.{added, deleted, grafted, revised, with_text, with_value, without_value};
+ghost use Rattle.txntree.specs.{Bases.{IsBased, IsNew}, Laws.IsBare, Walks.{Lacks, LacksParent}, Spots.{flat, change_spot}, Spots.Spot.{Shared, Opened}};
 ghost use Rattle.noderevs.specs.Held.{node_at};
-ghost use Rattle.txntree.specs.Walks.{Lacks, LacksParent};
-ghost use Rattle.txntree.specs.Spots.{flat, change_spot};
-ghost use Rattle.txntree.specs.Spots.Spot.{Shared, Opened};
 
 use crate::open::{Change, EditFault, Local, OpenNode};
 use byte_string::ByteString;

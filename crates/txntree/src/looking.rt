@@ -2,8 +2,7 @@
 ghost use Rattle.std.specs.Prelude.{◌≡◌, option_copied, option_map};
 ghost use Rattle.repo_api.specs.Kinds.{created_of};
 ghost use Rattle.noderevs.specs.Held.{node_at};
-ghost use Rattle.txntree.specs.Spots.{change_spot, flat};
-ghost use Rattle.txntree.specs.Spots.Spot.{Opened};
+ghost use Rattle.txntree.specs.{Spots.{change_spot, flat}, Spots.Spot.Opened};
 
 use crate::open::{Change, OpenNode};
 use byte_string::ByteString;

@@ -1,17 +1,10 @@
 //! The nodes that a transaction has changed.
-ghost use Rattle.std.specs.Prelude.{◌≡◌, IfOk, OnOk, OnErr, IsErrOf, Some, None, true, false, [], ◌⊎◌, if◌then◌else◌};
-ghost use Rattle.svnpath.specs.Paths.{PathValue, Component, same_component};
-ghost use Rattle.repo_api.specs.Edits.{begun};
-ghost use Rattle.repo_api.specs.Trees.{is_open_mark};
-ghost use Rattle.noderevs.specs.Held.{node_at};
-ghost use Rattle.noderevs.specs.Nodes.{Look};
-ghost use Rattle.txntree.specs.Spots.{changed_at, change_spot, flat};
-ghost use Rattle.std.specs.Arc.{arc_value};
-ghost use Rattle.repo_api.specs.Properties.{with_property, without_property};
-ghost use Rattle.txntree.specs.Bases.{IsBased, IsBasedLocal, IsRootKept};
-ghost use Rattle.txntree.specs.Laws.{leaf};
-ghost use Rattle.txntree.specs.Walks.{at_path, made_there, Lacks};
-ghost use Rattle.txntree.specs.Spots.Spot.{Shared, Opened};
+ghost use Rattle.std.specs.{Prelude.{◌≡◌, IfOk, OnOk, OnErr, IsErrOf, Some, None, true, false, [], ◌⊎◌, if◌then◌else◌}, Arc.arc_value};
+ghost use Rattle.svnpath.specs.Paths.{Component, PathValue, same_component};
+ghost use Rattle.repo_api.specs.{Edits.begun, Properties.{with_property, without_property}, Trees.is_open_mark};
+ghost use Rattle.noderevs.specs.{Held.node_at, Nodes.Look};
+ghost use Rattle.txntree.specs.{Spots.{changed_at, change_spot, flat}, Bases.{IsBased, IsBasedLocal, IsRootKept}, Laws.leaf};
+ghost use Rattle.txntree.specs.{Walks.{at_path, made_there, Lacks}, Spots.Spot.{Shared, Opened}};
 
 use byte_string::ByteString;
 use noderevs::{NodeId, Nodes};

@@ -1,13 +1,9 @@
 //! A transaction's nodes as those of a revision.
 ghost use Rattle.std.specs.Prelude.{◌≡◌, ◌++◌, ◌∷◌, [], length, IfOk, OnOk, OnErr};
 ghost use Rattle.repo_api.specs.Merge.{closed};
-ghost use Rattle.svnpath.specs.Paths.{PathValue, Component};
-ghost use Rattle.noderevs.specs.Held.{node_at};
-ghost use Rattle.noderevs.specs.Heights.{AreHigh};
-ghost use Rattle.noderevs.specs.Nodes.{IsThere, IsClosed};
-ghost use Rattle.txntree.specs.Spots.{change_spot, flat};
-ghost use Rattle.txntree.specs.Spots.Spot.{Shared, Opened};
-ghost use Rattle.noderevs.specs.Nodes.{with_block, IsBefore, Grows, mark_of};
+ghost use Rattle.svnpath.specs.Paths.{Component, PathValue};
+ghost use Rattle.noderevs.specs.{Heights.AreHigh, Held.node_at, Nodes.{Grows, IsBefore, IsClosed, IsThere, mark_of, with_block}};
+ghost use Rattle.txntree.specs.{Spots.{change_spot, flat}, Spots.Spot.{Shared, Opened}};
 ghost use Rattle.txntree.specs.Sealing.{sealed_at, AreThere, with_sealed, kid_trees, AreUnder, AreUnderOne, SameBut, IsBlockOf};
 
 use crate::open::{Change, OpenNode};

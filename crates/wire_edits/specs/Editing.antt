@@ -1,17 +1,15 @@
 -- The commands of an edit, as the items that spell them.
-use Rattle.std.specs.Prelude.{ℕ, Bool, ◌||◌, List, [], ◌∷◌, Option, Some, option_map, ok_or, Result, Err, codes}
-use Rattle.std.specs.Option.{option_map_or}
+use Rattle.std.specs.{Prelude.{ℕ, Bool, ◌||◌, List, [], ◌∷◌, Option, Some, option_map, ok_or, Result, Err, codes}, Option.option_map_or}
 use Rattle.items.specs.Values.{ItemValue, ItemValues}
-use Rattle.wire_forms.specs.Forms.{◌>>=◌, is_name, command_form, number_first, string_first, list_first, optional_number}
-use Rattle.wire_forms.specs.Names.{named}
-use Rattle.wire_edits.specs.Places.{added_entry_of, opened_entry_of, deleted_entry_of, absent}
-use Rattle.wire_edits.specs.Texts.{property, with_checksum, chunk, token_alone}
-use Rattle.wire_edits.specs.declared.editing.EditorCommand.{EditorCommand}
-use Rattle.wire_edits.specs.declared.editing.EditorCommand.TheVariants.{TargetRevision, OpenRoot, DeleteEntry, AddDirectory, AddFile, OpenDirectory, OpenFile, AbsentDirectory, AbsentFile, ChangeDirectoryProperty, ChangeFileProperty, ApplyTextDelta, TextDeltaChunk, TextDeltaEnd, CloseDirectory, CloseFile, CloseEdit, AbortEdit}
+use Rattle.wire_forms.specs.{Forms.{◌>>=◌, is_name, command_form, number_first, string_first, list_first, optional_number}, Names.named}
+use Rattle.wire_forms.specs.{declared.fault.CommandFault.CommandFault, declared.fault.CommandFault.TheVariants.{UnknownName, BadParameters}}
+use Rattle.wire_edits.specs.{Places.{added_entry_of, opened_entry_of, deleted_entry_of, absent}, Texts.{property, with_checksum, chunk, token_alone}}
+use Rattle.wire_edits.specs.{declared.editing.EditorCommand.EditorCommand, declared.editing.EditorCommand.TheVariants.{TargetRevision, OpenRoot, DeleteEntry}}
+use Rattle.wire_edits.specs.declared.editing.EditorCommand.TheVariants.{AddDirectory, AddFile, OpenDirectory, OpenFile, AbsentDirectory, AbsentFile}
+use Rattle.wire_edits.specs.declared.editing.EditorCommand.TheVariants.{ChangeDirectoryProperty, ChangeFileProperty, ApplyTextDelta, TextDeltaChunk}
+use Rattle.wire_edits.specs.declared.editing.EditorCommand.TheVariants.{TextDeltaEnd, CloseDirectory, CloseFile, CloseEdit, AbortEdit}
 use Rattle.wire_edits.specs.declared.editing.CommandName.{CommandName}
 use Rattle.wire_edits.specs.declared.editing.CommandName.TheVariants as names
-use Rattle.wire_forms.specs.declared.fault.CommandFault.{CommandFault}
-use Rattle.wire_forms.specs.declared.fault.CommandFault.TheVariants.{UnknownName, BadParameters}
 
 -- ---- names
 

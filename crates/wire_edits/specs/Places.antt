@@ -1,10 +1,8 @@
 -- Entries of an edit: where they are, and what they are under.
 use Rattle.std.specs.Prelude.{ℕ, List, Option, Some, None}
-use Rattle.items.specs.Values.{number, list, ItemValues, none, more}
+use Rattle.items.specs.Values.{ItemValues, list, more, none, number}
 use Rattle.wire_forms.specs.Forms.{◌>>=◌, number_first, string_first, list_first, optional_number}
-use Rattle.wire_edits.specs.declared.editing.AddedEntry.{AddedEntry}
-use Rattle.wire_edits.specs.declared.editing.OpenedEntry.{OpenedEntry}
-use Rattle.wire_edits.specs.declared.editing.DeletedEntry.{DeletedEntry}
+use Rattle.wire_edits.specs.{declared.editing.AddedEntry.AddedEntry, declared.editing.OpenedEntry.OpenedEntry, declared.editing.DeletedEntry.DeletedEntry}
 use Rattle.wire_edits.specs.declared.editing.AbsentEntry.{AbsentEntry}
 
 -- `path parent token`, and what stands behind them

@@ -1,11 +1,11 @@
 -- The items that commands of an edit are sent as.
 use Rattle.std.specs.Prelude.{ℕ, List, Option, Some, None, codes}
-use Rattle.items.specs.Values.{ItemValue, word, number, string, list, ItemValues, none, more, only, both}
-use Rattle.wire_edits.specs.declared.editing.AbsentEntry.{AbsentEntry}
-use Rattle.wire_edits.specs.declared.editing.AddedEntry.{AddedEntry}
-use Rattle.wire_edits.specs.declared.editing.EditorCommand.{EditorCommand}
-use Rattle.wire_edits.specs.declared.editing.EditorCommand.TheVariants.{TargetRevision, OpenRoot, DeleteEntry, AddDirectory, AddFile, OpenDirectory, OpenFile, AbsentDirectory, AbsentFile, ChangeDirectoryProperty, ChangeFileProperty, ApplyTextDelta, TextDeltaChunk, TextDeltaEnd, CloseDirectory, CloseFile, CloseEdit, AbortEdit}
-use Rattle.wire_edits.specs.declared.editing.OpenedEntry.{OpenedEntry}
+use Rattle.items.specs.Values.{both, ItemValue, ItemValues, list, more, none, number, only, string, word}
+use Rattle.wire_edits.specs.{declared.editing.AbsentEntry.AbsentEntry, declared.editing.AddedEntry.AddedEntry, declared.editing.EditorCommand.EditorCommand}
+use Rattle.wire_edits.specs.declared.editing.EditorCommand.TheVariants.{TargetRevision, OpenRoot, DeleteEntry, AddDirectory, AddFile, OpenDirectory, OpenFile}
+use Rattle.wire_edits.specs.declared.editing.EditorCommand.TheVariants.{AbsentDirectory, AbsentFile, ChangeDirectoryProperty, ChangeFileProperty}
+use Rattle.wire_edits.specs.declared.editing.EditorCommand.TheVariants.{ApplyTextDelta, TextDeltaChunk, TextDeltaEnd, CloseDirectory, CloseFile, CloseEdit}
+use Rattle.wire_edits.specs.{declared.editing.EditorCommand.TheVariants.AbortEdit, declared.editing.OpenedEntry.OpenedEntry}
 use Rattle.wire_edits.specs.declared.editing.PropertyChange.{PropertyChange}
 
 -- `[ rev ]`

@@ -1,8 +1,6 @@
 //! What holds of the commands of edits. The function does nothing: its contract is the law.
 ghost use Rattle.std.specs.Prelude.{◌≡◌, Ok};
-ghost use Rattle.wire_edits.specs.Editing.{editor_command};
-ghost use Rattle.wire_edits.specs.Printing.{command_item};
-ghost use Rattle.wire_edits.specs.declared.editing.EditorCommand.{EditorCommand};
+ghost use Rattle.wire_edits.specs.{Editing.editor_command, Printing.command_item, declared.editing.EditorCommand.EditorCommand};
 
 /// Shows that a command that is sent is read as itself.
 pub fn commands_are_read()

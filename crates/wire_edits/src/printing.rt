@@ -1,8 +1,8 @@
 //! The bytes that commands of an edit are sent as.
 ghost use Rattle.std.specs.Prelude.{◌≡◌, ◌++◌, ◌∷◌, [], OnOk, OnErr};
-ghost use Rattle.items.specs.Print.{printed, row_printed, Grows};
-ghost use Rattle.items.specs.Values.{number, string, word, none, more, only, both};
-ghost use Rattle.wire_edits.specs.Printing.{command, command_item, absent_items, added_items, checksum_items, opened_items, property_items, revision_item, source_item, string_item};
+ghost use Rattle.items.specs.{Print.{Grows, printed, row_printed}, Values.{both, more, none, number, only, string, word}};
+ghost use Rattle.wire_edits.specs.Printing.{command, command_item, absent_items, added_items, checksum_items, opened_items, property_items, revision_item};
+ghost use Rattle.wire_edits.specs.Printing.{source_item, string_item};
 
 use crate::editing::{
     AbsentEntry, AddedEntry, DeletedEntry, EditorCommand, OpenedEntry, PropertyChange,
@@ -13,8 +13,7 @@ use std::alloc::AllocError;
 
 /// Writes a command at the end, as the bytes of its item. An `Err` changes nothing.
 pub fn write_command(command: &EditorCommand, out: &mut Vec<u8>) -> Result<(), AllocError>
-    ensures ok { OnOk result (out.new.items
-        ≡ out.old.items ++ printed (command_item command.now)) }
+    ensures ok { OnOk result (out.new.items ≡ out.old.items ++ printed (command_item command.now)) }
     ensures err { OnErr result (out.new.items ≡ out.old.items) }
 {
     let len = out.len();
@@ -29,8 +28,7 @@ pub fn write_command(command: &EditorCommand, out: &mut Vec<u8>) -> Result<(), A
 
 /// Appends the bytes of a command's item.
 fn append_command(command: &EditorCommand, out: &mut Vec<u8>) -> Result<(), AllocError>
-    ensures ok { OnOk result (out.new.items
-        ≡ out.old.items ++ printed (command_item command.now)) }
+    ensures ok { OnOk result (out.new.items ≡ out.old.items ++ printed (command_item command.now)) }
     ensures grows { Grows out.old.items out.new.items }
 {
     match command {
@@ -94,8 +92,7 @@ fn append_end(out: &mut Vec<u8>) -> Result<(), AllocError>
 
 /// Appends `[ rev ]`.
 fn append_revision(revision: Option<u64>, out: &mut Vec<u8>) -> Result<(), AllocError>
-    ensures ok { OnOk result (out.new.items
-        ≡ out.old.items ++ printed (revision_item revision)) }
+    ensures ok { OnOk result (out.new.items ≡ out.old.items ++ printed (revision_item revision)) }
     ensures grows { Grows out.old.items out.new.items }
 {
     out.extend_from_slice(b"( ")?;
@@ -119,8 +116,7 @@ fn append_optional(text: &Option<ByteString>, out: &mut Vec<u8>) -> Result<(), A
 
 /// Appends `[ copy-path copy-rev ]`.
 fn append_source(source: &Option<(ByteString, u64)>, out: &mut Vec<u8>) -> Result<(), AllocError>
-    ensures ok { OnOk result (out.new.items
-        ≡ out.old.items ++ printed (source_item source.now)) }
+    ensures ok { OnOk result (out.new.items ≡ out.old.items ++ printed (source_item source.now)) }
     ensures grows { Grows out.old.items out.new.items }
 {
     out.extend_from_slice(b"( ")?;
@@ -143,8 +139,7 @@ fn append_two(first: &ByteString, second: &ByteString, out: &mut Vec<u8>) -> Res
 
 /// Appends `( name ( ) )`.
 fn append_alone(name: &[u8], out: &mut Vec<u8>) -> Result<(), AllocError>
-    ensures ok { OnOk result (out.new.items
-        ≡ out.old.items ++ printed (command name.now none)) }
+    ensures ok { OnOk result (out.new.items ≡ out.old.items ++ printed (command name.now none)) }
     ensures grows { Grows out.old.items out.new.items }
 {
     append_name(name, out)?;

@@ -1,7 +1,6 @@
 -- What a reading answers.
 use Rattle.std.specs.Prelude.{◌≡◌, ◌⊎◌, Option, Result, Ok, Err, MatchResult, ok_or}
-use Rattle.wire_forms.specs.declared.fault.CommandFault.{CommandFault}
-use Rattle.wire_forms.specs.declared.fault.CommandFault.TheVariants.{BadParameters, NoMemory}
+use Rattle.wire_forms.specs.{declared.fault.CommandFault.CommandFault, declared.fault.CommandFault.TheVariants.{BadParameters, NoMemory}}
 
 -- the result is what is wanted, or memory ran out
 abbrev pub Answers : {T : Type 0} → Result T CommandFault → Result T CommandFault → Type 0

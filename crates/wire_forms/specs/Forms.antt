@@ -3,7 +3,7 @@
 -- where one is of another form.
 use Rattle.std.specs.Prelude.{ℕ, Bool, true, false, ◌==◌, List, [], ◌∷◌, Option, Some, None, option_and_then, codes, if◌then◌else◌}
 use Rattle.std.specs.Cmp.Lexicographic.{pointwise}
-use Rattle.items.specs.Values.{ItemValue, word, number, string, list, ItemValues, none, more}
+use Rattle.items.specs.Values.{ItemValue, ItemValues, list, more, none, number, string, word}
 
 infixl 10 ◌>>=◌
 -- what is read after it, if it could be read

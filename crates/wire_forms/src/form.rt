@@ -1,8 +1,8 @@
 //! Forms of items that commands share.
 ghost use Rattle.std.specs.Prelude.{◌≡◌, IfOk, option_map};
-ghost use Rattle.items.specs.View.{value_of, values_of};
-ghost use Rattle.items.specs.Values.{word};
-ghost use Rattle.wire_forms.specs.Forms.{word_first, number_first, string_first, list_first, items_in, command_form, optional_number, optional_string, boolean, flag_first, revision_first};
+ghost use Rattle.items.specs.{Values.word, View.{value_of, values_of}};
+ghost use Rattle.wire_forms.specs.Forms.{word_first, number_first, string_first, list_first, items_in, command_form, optional_number, optional_string, boolean};
+ghost use Rattle.wire_forms.specs.Forms.{flag_first, revision_first};
 
 use byte_string::ByteString;
 use items::Item;
@@ -120,8 +120,7 @@ fn boolean_named(name: &[u8]) -> Option<bool>
 
 /// Reads the word `true` or `false` in front, and what comes after it.
 pub fn read_flag(items: &[Item]) -> Option<(bool, &[Item])>
-    ensures { option_map (λ p. (p.0, values_of p.1.now)) result
-        ≡ flag_first (values_of items.now) }
+    ensures { option_map (λ p. (p.0, values_of p.1.now)) result ≡ flag_first (values_of items.now) }
 {
     let (item, rest) = items.split_first()?;
     Some((read_boolean(item)?, rest))

@@ -1,8 +1,7 @@
 //! Lists of strings, and of numbers.
 ghost use Rattle.std.specs.Prelude.{◌≡◌, option_map};
 ghost use Rattle.items.specs.View.{value_of, values_of};
-ghost use Rattle.wire_forms.specs.Answering.{Reads};
-ghost use Rattle.wire_forms.specs.Forms.{number_in, numbers, string_in, strings};
+ghost use Rattle.wire_forms.specs.{Answering.Reads, Forms.{number_in, numbers, string_in, strings}};
 
 use crate::fault::CommandFault;
 use byte_string::ByteString;

@@ -1,8 +1,7 @@
 //! Pairs of strings.
 ghost use Rattle.std.specs.Prelude.{◌≡◌, option_map};
 ghost use Rattle.items.specs.View.{value_of, values_of};
-ghost use Rattle.wire_forms.specs.Answering.{Reads};
-ghost use Rattle.wire_forms.specs.Forms.{pair, pairs};
+ghost use Rattle.wire_forms.specs.{Answering.Reads, Forms.{pair, pairs}};
 
 use crate::fault::CommandFault;
 use crate::form::{read_items, read_string};

@@ -1,10 +1,8 @@
 -- The replies that are always the same bytes.
-use Rattle.std.specs.Prelude.{Result, Ok, Err, is_ok, OnOk, if◌then◌else◌}
+use Rattle.std.specs.{Prelude.{Result, Ok, Err, is_ok, OnOk, if◌then◌else◌}, Fmt.digits}
 use Rattle.std.proofs.Common.{◌≡◌, ℕ, List, ◌++◌, ◌∙◌, ap, sym, codes, refl}
-use Rattle.std.specs.Fmt.{digits}
 use Rattle.items.specs.Print.{printed}
-use Rattle.wire_replies.specs.Replies.{reply_item}
-use Rattle.wire_replies.specs.declared.reply.Reply.TheVariants.{Greeting, NoLogin, MechanismNotOffered, LoginFailed, Done}
+use Rattle.wire_replies.specs.{Replies.reply_item, declared.reply.Reply.TheVariants.{Greeting, NoLogin, MechanismNotOffered, LoginFailed, Done}}
 
 pub printed-greeting : printed (reply_item Greeting) ≡ codes "( success ( 2 2 ( ) ( edit-pipeline absent-entries commit-revprops depth atomic-revprops ) ) ) "
 unfolding digits

@@ -1,9 +1,7 @@
 -- The items of entries.
 use Rattle.std.proofs.Common.{◌≡◌, ℕ, List, [], ◌∷◌, map, ap, refl}
-use Rattle.items.specs.Values.{ItemValue, more}
-use Rattle.items.specs.View.{row_of}
-use Rattle.wire_replies.specs.Replies.{entry_tree, entry_trees}
-use Rattle.wire_replies.specs.declared.entries.NodeInfo.{NodeInfo}
+use Rattle.items.specs.{Values.{ItemValue, more}, View.row_of}
+use Rattle.wire_replies.specs.{Replies.{entry_tree, entry_trees}, declared.entries.NodeInfo.NodeInfo}
 
 -- an entry under its name
 abbrev pub tree_of_entry : List ℕ × NodeInfo → ItemValue

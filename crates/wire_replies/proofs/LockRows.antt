@@ -2,8 +2,7 @@
 use Rattle.std.proofs.Common.{◌≡◌, List, [], ◌∷◌, map, ap, refl}
 use Rattle.svnpath.specs.Paths.{PathValue}
 use Rattle.repo_api.specs.declared.lock.Lock.{Lock}
-use Rattle.items.specs.Values.{ItemValue, more}
-use Rattle.items.specs.View.{row_of}
+use Rattle.items.specs.{Values.{ItemValue, more}, View.row_of}
 use Rattle.wire_replies.specs.Replies.{lock_tree, lock_trees}
 
 -- a lock at its path

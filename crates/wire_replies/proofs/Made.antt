@@ -1,10 +1,7 @@
 -- Items that were to be made.
 use Rattle.std.specs.Prelude.{Result, Ok, Err, IfOk, IsOkAnd}
-use Rattle.std.proofs.Common.{◌≡◌, List, [], ◌∷◌, ◌++◌, ◌∙◌, map, ap, refl}
-use Rattle.std.proofs.lemmas.List.{map-append}
-use Rattle.items.specs.declared.item.Item.{Item}
-use Rattle.items.specs.Values.{ItemValue}
-use Rattle.items.specs.View.{value_of}
+use Rattle.std.proofs.{Common.{◌≡◌, List, [], ◌∷◌, ◌++◌, ◌∙◌, map, ap, refl}, lemmas.List.map-append}
+use Rattle.items.specs.{declared.item.Item.Item, Values.ItemValue, View.value_of}
 
 -- an item that was made stands behind the others
 pub made_behind : {E : Type 0} (made : Result Item E) (items longer : List Item) (before : List ItemValue) (said wanted : ItemValue)

@@ -2,9 +2,7 @@
 use Rattle.std.proofs.Common.{◌≡◌, ℕ, List, [], ◌∷◌, ◌++◌, refl, sym, ap, subst, ◌∙◌, append-nil, append_assoc}
 use Rattle.items.specs.Print.{printed}
 use Rattle.std.specs.Prelude.{Result, Ok, Err, MatchResult}
-use Rattle.wire_replies.specs.Replies.{reply_item, print}
-use Rattle.wire_replies.specs.Sinks.{WritesPart, Says}
-use Rattle.wire_replies.specs.declared.reply.Reply.{Reply}
+use Rattle.wire_replies.specs.{Replies.{reply_item, print}, Sinks.{WritesPart, Says}, declared.reply.Reply.Reply}
 
 pub print-append : (xs ys : List Reply) → print (xs ++ ys) ≡ print xs ++ print ys
 print-append [] ys = refl

@@ -1,8 +1,7 @@
 -- The items of properties.
 use Rattle.std.proofs.Common.{◌≡◌, ℕ, List, [], ◌∷◌, map, ap, refl}
 use Rattle.repo_api.specs.Properties.{PropertyList}
-use Rattle.items.specs.Values.{ItemValue, string, list, more, both}
-use Rattle.items.specs.View.{row_of}
+use Rattle.items.specs.{Values.{both, ItemValue, list, more, string}, View.row_of}
 use Rattle.wire_replies.specs.Replies.{property_trees}
 
 -- `( name value )`

@@ -1,12 +1,9 @@
 -- Replies, worked by hand from the rules of the protocol.
-use Rattle.std.specs.Prelude.{None}
+use Rattle.std.specs.{Prelude.None, Fmt.digits}
 use Rattle.std.proofs.Common.{◌≡◌, true, false, List, ℕ, [], ◌∷◌, ◌++◌, Some, codes, refl}
-use Rattle.std.specs.Fmt.{digits}
 use Rattle.repo_api.specs.declared.change.Action.TheVariants as actions
 use Rattle.repo_api.specs.declared.entry.NodeKind.TheVariants as kinds
-use Rattle.wire_replies.specs.Replies.{contents, print}
-use Rattle.wire_replies.specs.declared.entries.NodeInfo.{NodeInfo}
-use Rattle.wire_replies.specs.declared.histories.LoggedChange.{LoggedChange}
+use Rattle.wire_replies.specs.{Replies.{contents, print}, declared.entries.NodeInfo.NodeInfo, declared.histories.LoggedChange.LoggedChange}
 use Rattle.wire_replies.specs.declared.reply.Reply.TheVariants.{Success, FileInfo, DirectoryInfo, Stat, RevisionProperty, LogEntry, Location, Done}
 
 -- ---- what is known of a path

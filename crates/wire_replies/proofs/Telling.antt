@@ -1,16 +1,9 @@
 -- A text in pieces, as far as it is sent.
 use Rattle.std.proofs.Common.{arith, ◌≡◌, ℕ, ◌+◌, ◌*◌, ◌≤◌, List, [], ◌∷◌, ◌++◌, ◌∙◌, length, map, drop, take, sym, ap, subst, append_assoc}
-use Rattle.std.specs.Prelude.{Result}
-use Rattle.std.proofs.lemmas.List.{map-append, take-append-drop}
-use Rattle.std.proofs.lemmas.List.FromFn.{take-map-range_with_len, map-range_with_len_more}
-use Rattle.std.specs.Int.{div_ceil}
-use Rattle.std.specs.List.{range_with_len}
-use Rattle.wire_replies.specs.Pieces.{piece_from, pieces}
-use Rattle.wire_replies.specs.Replies.{contents, print}
-use Rattle.wire_replies.specs.Sinks.{WritesPart, Says}
-use Rattle.wire_replies.specs.declared.contents.TheConstants.{PIECE}
-use Rattle.wire_replies.specs.declared.reply.Reply.{Reply}
-use Rattle.wire_replies.specs.declared.reply.Reply.TheVariants.{Piece}
+use Rattle.std.proofs.{lemmas.List.{map-append, take-append-drop}, lemmas.List.FromFn.{take-map-range_with_len, map-range_with_len_more}}
+use Rattle.std.specs.{Prelude.Result, Int.div_ceil, List.range_with_len}
+use Rattle.wire_replies.specs.{Pieces.{piece_from, pieces}, Replies.{contents, print}, Sinks.{WritesPart, Says}, declared.contents.TheConstants.PIECE}
+use Rattle.wire_replies.specs.{declared.reply.Reply.Reply, declared.reply.Reply.TheVariants.Piece}
 use Rattle.wire_replies.proofs.Parts.{both_written, part_behind, part_first, said_behind}
 
 -- a piece by its number

@@ -1,13 +1,9 @@
 -- The pieces of a text make it up.
-use Rattle.std.proofs.Common.{arith, ◌≡◌, ℕ, zero, suc, ◌+◌, ◌-◌, ◌*◌, ◌<◌, ◌≤◌, min, List, [], ◌∷◌, ◌++◌, ◌∙◌, length, get_or, map, drop, take, refl, sym, ap, subst, append-nil}
-use Rattle.std.proofs.Math.Seq.{take-add}
-use Rattle.std.proofs.lemmas.Grind.{div_ceil_times}
-use Rattle.std.proofs.lemmas.List.{length-drop, length-take, take_all}
-use Rattle.std.proofs.lemmas.List.Folds.{concat-append}
-use Rattle.std.proofs.lemmas.List.FromFn.{get_or-map-range_with_len, length-map-range_with_len, map-range_with_len_more}
+use Rattle.std.proofs.Common.{arith, ◌≡◌, ℕ, zero, suc, ◌+◌, ◌-◌, ◌*◌, ◌<◌, ◌≤◌, min, List, [], ◌∷◌, ◌++◌, ◌∙◌, length, get_or, map, drop, take, refl, sym, ap}
+use Rattle.std.proofs.{Common.{subst, append-nil}, Math.Seq.take-add, lemmas.Grind.div_ceil_times, lemmas.List.{length-drop, length-take, take_all}}
+use Rattle.std.proofs.{lemmas.List.Folds.concat-append, lemmas.List.FromFn.{get_or-map-range_with_len, length-map-range_with_len, map-range_with_len_more}}
 use Rattle.std.specs.List.{All, concat, range_with_len}
-use Rattle.wire_replies.specs.Pieces.{pieces}
-use Rattle.wire_replies.specs.declared.contents.TheConstants.{PIECE}
+use Rattle.wire_replies.specs.{Pieces.pieces, declared.contents.TheConstants.PIECE}
 use Rattle.wire_replies.proofs.Telling.{numbered, piece_count}
 
 -- the first pieces are the front of the text

@@ -1,7 +1,5 @@
 -- The pieces in which a text is sent.
-use Rattle.std.specs.Prelude.{ℕ, ◌*◌, List, drop, length, map, take}
-use Rattle.std.specs.Int.{div_ceil}
-use Rattle.std.specs.List.{range_with_len}
+use Rattle.std.specs.{Prelude.{ℕ, ◌*◌, List, drop, length, map, take}, Int.div_ceil, List.range_with_len}
 use Rattle.wire_replies.specs.declared.contents.TheConstants.{PIECE}
 
 -- the bytes of a piece that begins at a place of a text: 65,536, or as many as are left

@@ -1,34 +1,22 @@
 -- The items that replies are sent as.
-use Rattle.std.specs.Prelude.{ℕ, Bool, List, [], ◌∷◌, ◌++◌, Option, Some, None, codes, if◌then◌else◌, map}
-use Rattle.std.specs.Int.{to_be_bytes, w128}
-use Rattle.std.specs.List.{flat_map}
+use Rattle.std.specs.{Prelude.{ℕ, Bool, List, [], ◌∷◌, ◌++◌, Option, Some, None, codes, if◌then◌else◌, map}, Int.{to_be_bytes, w128}, List.flat_map}
 use Rattle.uuid.specs.Text.{hyphenated_text, lower}
 use Rattle.wire_edits.specs.Printing.{command_item}
-use Rattle.items.specs.Print.{printed}
-use Rattle.items.specs.Values.{ItemValue, word, number, string, list, ItemValues, none, more, only, both}
-use Rattle.items.specs.View.{row_of}
+use Rattle.items.specs.{Print.printed, Values.{both, ItemValue, ItemValues, list, more, none, number, only, string, word}, View.row_of}
 use Rattle.refusals.specs.Table.{refusal_number, refusal_text}
 use Rattle.refusals.specs.declared.Refusal.TheVariants as refusals
-use Rattle.svnpath.specs.Paths.{PathValue}
-use Rattle.svnpath.specs.Texts.{path_text}
-use Rattle.repo_api.specs.Properties.{PropertyList}
-use Rattle.repo_api.specs.declared.change.Action.{Action}
+use Rattle.svnpath.specs.{Paths.PathValue, Texts.path_text}
+use Rattle.repo_api.specs.{Properties.PropertyList, declared.change.Action.Action, declared.change.Change.Change, declared.change.Source.Source}
+use Rattle.repo_api.specs.{declared.lock.Lock.Lock as LockValue, declared.entry.NodeKind.NodeKind}
 use Rattle.repo_api.specs.declared.change.Action.TheVariants as actions
-use Rattle.repo_api.specs.declared.change.Change.{Change}
-use Rattle.repo_api.specs.declared.change.Source.{Source}
-use Rattle.repo_api.specs.declared.lock.Lock.{Lock as LockValue}
-use Rattle.repo_api.specs.declared.entry.NodeKind.{NodeKind}
 use Rattle.repo_api.specs.declared.entry.NodeKind.TheVariants as kinds
-use Rattle.wire_replies.specs.Pieces.{pieces}
-use Rattle.wire_replies.specs.declared.entries.DirectoryInfo.{DirectoryInfo as DirectoryInfoValue}
-use Rattle.wire_replies.specs.declared.entries.FileInfo.{FileInfo as FileInfoValue}
-use Rattle.wire_replies.specs.declared.entries.NodeInfo.{NodeInfo}
-use Rattle.wire_replies.specs.declared.histories.LogEntry.{LogEntry as LogEntryValue}
-use Rattle.wire_replies.specs.declared.histories.LoggedChange.{LoggedChange}
-use Rattle.wire_replies.specs.declared.reply.Offer.{Offer}
-use Rattle.wire_replies.specs.declared.reply.Offer.TheVariants.{Anonymous, AnonymousOrUser, User}
-use Rattle.wire_replies.specs.declared.reply.Reply.{Reply}
-use Rattle.wire_replies.specs.declared.reply.Reply.TheVariants.{Greeting, NoLogin, Login, MechanismNotOffered, Challenge, LoginFailed, Success, ReposInfo, Revision, Kind, Properties, Lock, Locks, CommitInfo, FileInfo, Piece, DirectoryInfo, Stat, RevisionProperty, LogEntry, Location, Edit, Done, Failure}
+use Rattle.wire_replies.specs.{Pieces.pieces, declared.entries.DirectoryInfo.DirectoryInfo as DirectoryInfoValue}
+use Rattle.wire_replies.specs.{declared.entries.FileInfo.FileInfo as FileInfoValue, declared.entries.NodeInfo.NodeInfo}
+use Rattle.wire_replies.specs.{declared.histories.LogEntry.LogEntry as LogEntryValue, declared.histories.LoggedChange.LoggedChange, declared.reply.Offer.Offer}
+use Rattle.wire_replies.specs.{declared.reply.Offer.TheVariants.{Anonymous, AnonymousOrUser, User}, declared.reply.Reply.Reply}
+use Rattle.wire_replies.specs.declared.reply.Reply.TheVariants.{Greeting, NoLogin, Login, MechanismNotOffered, Challenge, LoginFailed, Success, ReposInfo}
+use Rattle.wire_replies.specs.declared.reply.Reply.TheVariants.{Revision, Kind, Properties, Lock, Locks, CommitInfo, FileInfo, Piece, DirectoryInfo, Stat}
+use Rattle.wire_replies.specs.declared.reply.Reply.TheVariants.{RevisionProperty, LogEntry, Location, Edit, Done, Failure}
 
 -- the text of a number of 128 bits: `8-4-4-4-12` lower-case hexadecimal digits
 abbrev pub uuid_text : ℕ → List ℕ

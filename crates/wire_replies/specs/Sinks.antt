@@ -1,8 +1,7 @@
 -- What is written to a sink.
 use Rattle.std.specs.Prelude.{◌≡◌, ℕ, List, [], ◌++◌, Result, MatchResult}
 use Rattle.std.proofs.Common.{sym, ap, ◌∙◌, append-nil, append_assoc}
-use Rattle.wire_replies.specs.Replies.{print}
-use Rattle.wire_replies.specs.declared.reply.Reply.{Reply}
+use Rattle.wire_replies.specs.{Replies.print, declared.reply.Reply.Reply}
 
 -- a part from the front of these bytes was written
 pub record WritesPart (writes : List ℕ → Type 0) (bytes : List ℕ) : Type 0 where

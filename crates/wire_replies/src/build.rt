@@ -1,8 +1,6 @@
 //! Items made of their parts.
 ghost use Rattle.std.specs.Prelude.{◌≡◌, ◌++◌, ◌∷◌, [], IfOk, IsOkAnd};
-ghost use Rattle.items.specs.View.{value_of, values_of};
-ghost use Rattle.items.specs.Values.{word, number, string, list};
-ghost use Rattle.items.specs.Word.{IsWord};
+ghost use Rattle.items.specs.{Values.{list, number, string, word}, View.{value_of, values_of}, Word.IsWord};
 ghost use Rattle.svnpath.specs.Texts.{path_text};
 ghost use Rattle.wire_replies.specs.Replies.{boolean_name, kind_word, optional_string_trees, success};
 

@@ -1,8 +1,6 @@
 //! The text of a file, in pieces.
 ghost use Rattle.std.specs.Prelude.{◌≡◌, ◌∷◌, [], IfOk, drop, take};
-ghost use Rattle.wire_replies.specs.Pieces.{piece_from};
-ghost use Rattle.wire_replies.specs.Replies.{contents};
-ghost use Rattle.wire_replies.specs.Sinks.{Says};
+ghost use Rattle.wire_replies.specs.{Pieces.piece_from, Replies.contents, Sinks.Says};
 
 use crate::reply::Reply;
 use crate::sink::ReplySink;

@@ -1,7 +1,6 @@
 //! What is known of files and directories, as items.
 ghost use Rattle.std.specs.Prelude.{◌≡◌, ◌++◌, [], IfOk, map};
-ghost use Rattle.items.specs.View.{row_of, value_of};
-ghost use Rattle.items.specs.Values.{list};
+ghost use Rattle.items.specs.{Values.list, View.{row_of, value_of}};
 ghost use Rattle.wire_replies.specs.Replies.{directory_info, entry_tree, entry_trees, file_info, node_trees, stat_trees};
 
 use crate::build::{

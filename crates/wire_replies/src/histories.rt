@@ -1,9 +1,8 @@
 //! Logs, and where something was, as items.
 ghost use Rattle.std.specs.Prelude.{◌≡◌, [], IfOk};
-ghost use Rattle.items.specs.View.{value_of};
-ghost use Rattle.items.specs.Values.{list, more, string, word, both};
-ghost use Rattle.items.specs.Word.{IsWord};
-ghost use Rattle.wire_replies.specs.Replies.{action_word, boolean_name, change_tree, change_trees, kind_word, location_item, log_entry, logged_change, source_trees};
+ghost use Rattle.items.specs.{Values.{both, list, more, string, word}, View.value_of, Word.IsWord};
+ghost use Rattle.wire_replies.specs.Replies.{action_word, boolean_name, change_tree, change_trees, kind_word, location_item, log_entry, logged_change};
+ghost use Rattle.wire_replies.specs.Replies.{source_trees};
 
 use crate::build::{
     boolean_item, kind_name, list_item, number_item, optional_string_item, path_item, string_item,

@@ -1,8 +1,6 @@
 //! What holds of replies. The functions do nothing: their contracts are the laws.
-ghost use Rattle.std.specs.Prelude.{◌≡◌, ◌<◌, ◌≤◌, ℕ, List, length};
-ghost use Rattle.std.specs.List.{All, concat};
-ghost use Rattle.wire_replies.specs.Pieces.{pieces};
-ghost use Rattle.wire_replies.specs.declared.contents.TheConstants.{PIECE};
+ghost use Rattle.std.specs.{Prelude.{◌≡◌, ◌<◌, ◌≤◌, ℕ, List, length}, List.{All, concat}};
+ghost use Rattle.wire_replies.specs.{Pieces.pieces, declared.contents.TheConstants.PIECE};
 
 /// Shows that the pieces of a text, one after another, are the text. None is empty, so that the empty string after them
 /// is the only one.

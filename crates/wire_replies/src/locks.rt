@@ -1,8 +1,6 @@
 //! Locks, as items.
-ghost use Rattle.std.specs.Prelude.{◌≡◌, IfOk, map};
-ghost use Rattle.std.specs.Map.Iter.{deref_pair};
-ghost use Rattle.items.specs.View.{value_of};
-ghost use Rattle.items.specs.Values.{list};
+ghost use Rattle.std.specs.{Prelude.{◌≡◌, IfOk, map}, Map.Iter.deref_pair};
+ghost use Rattle.items.specs.{Values.list, View.value_of};
 ghost use Rattle.wire_replies.specs.Replies.{lock_tree, lock_trees};
 
 use crate::build::{list_item, optional_string_item, path_item, string_item, with_made};

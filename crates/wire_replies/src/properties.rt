@@ -1,7 +1,6 @@
 //! Properties, as items.
 ghost use Rattle.std.specs.Prelude.{◌≡◌, IfOk};
-ghost use Rattle.items.specs.View.{value_of};
-ghost use Rattle.items.specs.Values.{list};
+ghost use Rattle.items.specs.{Values.list, View.value_of};
 ghost use Rattle.wire_replies.specs.Replies.{property_trees};
 
 use crate::build::{list_item, string_item};

@@ -1,8 +1,6 @@
 //! Replies, as items and as bytes.
 ghost use Rattle.std.specs.Prelude.{◌≡◌, ◌++◌, IfOk, IsOkAnd, OnOk, OnErr, codes};
-ghost use Rattle.items.specs.View.{value_of, values_of};
-ghost use Rattle.items.specs.Values.{word, string, list, none, more, only, both};
-ghost use Rattle.items.specs.Print.{printed, Grows};
+ghost use Rattle.items.specs.{Print.{Grows, printed}, Values.{both, list, more, none, only, string, word}, View.{value_of, values_of}};
 ghost use Rattle.wire_replies.specs.Replies.{reply_item, success, failure, mechanism_trees, capabilities, uuid_text, commit_info, release_fault};
 
 use crate::build::{list_item, number_item, optional_string_item, string_item, word_item};

@@ -2,9 +2,7 @@
 use Rattle.std.specs.Prelude.{ℕ, List, Option, Some, None}
 use Rattle.items.specs.Values.{ItemValues, none}
 use Rattle.wire_forms.specs.Forms.{◌>>=◌, string_first, flag_first, revision_first}
-use Rattle.wire_reports.specs.Depths.{depth_first, depth_at_end}
-use Rattle.wire_reports.specs.declared.asking.DriveRequest.{DriveRequest}
-use Rattle.wire_reports.specs.declared.depth_word.DepthWord.{DepthWord}
+use Rattle.wire_reports.specs.{Depths.{depth_first, depth_at_end}, declared.asking.DriveRequest.DriveRequest, declared.depth_word.DepthWord.DepthWord}
 
 -- `? depth send-copyfrom`: nothing, or both; no copies are sent, whatever is said of them
 abbrev pub copies_at_end : ItemValues → Option (Option DepthWord)

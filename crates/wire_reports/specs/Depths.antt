@@ -1,11 +1,9 @@
 -- Words for depths.
 use Rattle.std.specs.Prelude.{ℕ, List, [], ◌∷◌, Option, Some, None, option_map, codes}
 use Rattle.items.specs.Values.{ItemValues, none}
-use Rattle.wire_forms.specs.Forms.{◌>>=◌, word_first}
-use Rattle.wire_forms.specs.Names.{named}
+use Rattle.wire_forms.specs.{Forms.{◌>>=◌, word_first}, Names.named}
 use Rattle.drive_rules.specs.declared.depth.Depth.TheVariants.{Empty, Files, Immediates, Infinity}
-use Rattle.wire_reports.specs.declared.depth_word.DepthWord.{DepthWord}
-use Rattle.wire_reports.specs.declared.depth_word.DepthWord.TheVariants.{Known, Unknown, Exclude}
+use Rattle.wire_reports.specs.{declared.depth_word.DepthWord.DepthWord, declared.depth_word.DepthWord.TheVariants.{Known, Unknown, Exclude}}
 
 -- the words for depths
 abbrev pub depth_words : List (List ℕ × DepthWord)

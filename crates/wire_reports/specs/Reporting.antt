@@ -1,18 +1,12 @@
 -- The commands of a report, as the items that spell them.
-use Rattle.std.specs.Prelude.{ℕ, List, [], ◌∷◌, Option, Some, option_map, ok_or, Result, Err, codes}
-use Rattle.std.specs.Option.{option_map_or}
+use Rattle.std.specs.{Prelude.{ℕ, List, [], ◌∷◌, Option, Some, option_map, ok_or, Result, Err, codes}, Option.option_map_or}
 use Rattle.items.specs.Values.{ItemValue, ItemValues}
-use Rattle.wire_forms.specs.Forms.{◌>>=◌, command_form, number_first, string_first, flag_first}
-use Rattle.wire_forms.specs.Names.{named}
-use Rattle.wire_forms.specs.declared.fault.CommandFault.{CommandFault}
+use Rattle.wire_forms.specs.{Forms.{◌>>=◌, command_form, number_first, string_first, flag_first}, Names.named, declared.fault.CommandFault.CommandFault}
 use Rattle.wire_forms.specs.declared.fault.CommandFault.TheVariants.{UnknownName, BadParameters}
-use Rattle.wire_reports.specs.Depths.{depth_at_end}
-use Rattle.wire_reports.specs.Parameters.{token_first}
-use Rattle.wire_reports.specs.declared.report.ReportCommand.{ReportCommand}
+use Rattle.wire_reports.specs.{Depths.depth_at_end, Parameters.token_first, declared.report.ReportCommand.ReportCommand}
 use Rattle.wire_reports.specs.declared.report.ReportCommand.TheVariants.{SetPath, DeletePath, LinkPath, FinishReport, AbortReport}
-use Rattle.wire_reports.specs.declared.report.ReportName.{ReportName}
+use Rattle.wire_reports.specs.{declared.report.ReportName.ReportName, declared.report.ReportedPath.ReportedPath}
 use Rattle.wire_reports.specs.declared.report.ReportName.TheVariants as names
-use Rattle.wire_reports.specs.declared.report.ReportedPath.{ReportedPath}
 
 -- ---- names
 

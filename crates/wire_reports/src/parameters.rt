@@ -1,8 +1,7 @@
 //! Parameters that these commands share.
 ghost use Rattle.std.specs.Prelude.{◌≡◌, option_map};
 ghost use Rattle.items.specs.View.{values_of};
-ghost use Rattle.wire_reports.specs.Depths.{depth_at_end};
-ghost use Rattle.wire_reports.specs.Parameters.{token_first};
+ghost use Rattle.wire_reports.specs.{Depths.depth_at_end, Parameters.token_first};
 
 use crate::depth_word::{DepthWord, depth_word};
 use byte_string::ByteString;

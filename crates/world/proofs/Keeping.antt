@@ -1,25 +1,15 @@
 -- What a repository is made of stays sound, and what a commit rests on.
-use Rattle.std.proofs.Common.{◌≡◌, ◌<◌, length, refl, sym, ap, subst}
-use Rattle.std.proofs.Math.Logic.{∥∥₁_elim, ∥∥₁_map₂}
-use Rattle.std.specs.Coded.{codes, Coded, Coded-set, Π_prop}
-use Rattle.std.specs.FinMap.{get}
-use Rattle.std.specs.Prelude.{slice_get, None, Option}
+use Rattle.std.proofs.{Common.{◌≡◌, ◌<◌, length, refl, sym, ap, subst}, Math.Logic.{∥∥₁_elim, ∥∥₁_map₂}}
+use Rattle.std.specs.{Coded.{codes, Coded, Coded-set, Π_prop}, FinMap.get, Prelude.{slice_get, None, Option}}
 use Rattle.svnpath.specs.Paths.{PathValue}
-use Rattle.repo_api.specs.Accepted.Accepted.{Commits}
-use Rattle.repo_api.specs.Commits.{commit_refusal, committed}
-use Rattle.repo_api.specs.Histories.{changes_in}
-use Rattle.repo_api.specs.Soundness.{AreSound}
-use Rattle.repo_api.specs.States.{LockMap, RepoState, TxnState, IsBeginning, trees_in}
-use Rattle.repo_api.specs.Trees.{Tree}
-use Rattle.repo_api.specs.declared.ask.CommitAsk.{CommitAsk}
+use Rattle.repo_api.specs.{Accepted.Accepted.Commits, Commits.{commit_refusal, committed}, Histories.changes_in, Soundness.AreSound}
+use Rattle.repo_api.specs.{States.{IsBeginning, LockMap, RepoState, trees_in, TxnState}, Trees.Tree, declared.ask.CommitAsk.CommitAsk}
 use Rattle.repo_api.specs.declared.entry.Entry.{Entry}
-use Rattle.history_marks.specs.Quiet.{IsMarkedBy}
-use Rattle.history_marks.specs.Sound.{IsSoundRepo, IsSoundTxn}
+use Rattle.history_marks.specs.{Quiet.IsMarkedBy, Sound.{IsSoundRepo, IsSoundTxn}}
 use Rattle.history_marks.proofs.Staying.{changed_sound}
 use Rattle.noderevs.specs.Held.{trees_of}
 use Rattle.treemerge.specs.Merges.{IsTold}
-use Rattle.held.specs.Contents.{held_state, revisions_of, state_of}
-use Rattle.held.specs.declared.held.Held.{Held}
+use Rattle.held.specs.{Contents.{held_state, revisions_of, state_of}, declared.held.Held.Held}
 use Rattle.held.proofs.Telling.{sound_told}
 
 -- soundness is of the revisions alone

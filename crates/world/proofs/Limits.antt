@@ -1,16 +1,10 @@
 -- A commit that is judged by one rule after another.
-use Rattle.std.proofs.Common.{rules, tests, refl, ◌≡◌, ◌<◌, Bool, true, false, Option, Some, None, is_some, length, sym, ap}
-use Rattle.std.proofs.lemmas.Bool.{false≢true}
-use Rattle.std.specs.Option.{option_or}
-use Rattle.std.specs.Prelude.{if◌then◌else◌, nat_le}
+use Rattle.std.proofs.{Common.{rules, tests, refl, ◌≡◌, ◌<◌, Bool, true, false, Option, Some, None, is_some, length, sym, ap}, lemmas.Bool.false≢true}
+use Rattle.std.specs.{Option.option_or, Prelude.{if◌then◌else◌, nat_le}}
 use Rattle.refusals.specs.declared.Refusal.{Refusal}
 use Rattle.refusals.specs.declared.Refusal.TheVariants as refusals
-use Rattle.repo_api.specs.declared.limits.TheConstants.{REVISION_LIMIT}
-use Rattle.repo_api.specs.Commits.{commit_refusal, limit_refusal}
-use Rattle.repo_api.specs.Locking.{check_refusal}
-use Rattle.repo_api.specs.MergedMaps.{has_conflict}
-use Rattle.repo_api.specs.States.{RepoState, TxnState, tree_at, youngest}
-use Rattle.repo_api.specs.declared.ask.CommitAsk.{CommitAsk}
+use Rattle.repo_api.specs.{declared.limits.TheConstants.REVISION_LIMIT, Commits.{commit_refusal, limit_refusal}, Locking.check_refusal, MergedMaps.has_conflict}
+use Rattle.repo_api.specs.{States.{RepoState, tree_at, TxnState, youngest}, declared.ask.CommitAsk.CommitAsk}
 
 last_none : (found : Bool) (r : Refusal) (o n : Option Refusal) → (if found then Some r else option_or o n) ≡ None → n ≡ None
 last_none true r o n h = absurd (false≢true (sym (ap is_some h)))

@@ -1,6 +1,6 @@
 -- Revisions that go on, and are as many.
 use Rattle.std.proofs.Common.{◌≡◌, ◌<◌, ◌+◌, ℕ, List, [], ◌∷◌, ◌++◌, length, refl, sym, ap, subst, arith, length-append, append-nil, ◌∙◌}
-use Rattle.repo_api.specs.States.{Revision, IsBeginning}
+use Rattle.repo_api.specs.States.{IsBeginning, Revision}
 
 none_more : (more : List Revision) (n : ℕ) → n + length more ≡ n → more ≡ []
 none_more [] n is = refl

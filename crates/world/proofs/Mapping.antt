@@ -1,19 +1,12 @@
 -- The one map of a transaction's tree, and what is sound with it.
-use Rattle.std.proofs.Common.{◌≡◌, ℕ, sym, ap, subst, ◌∙◌}
-use Rattle.std.proofs.Math.Logic.{∥∥₁_map}
+use Rattle.std.proofs.{Common.{◌≡◌, ℕ, sym, ap, subst, ◌∙◌}, Math.Logic.∥∥₁_map}
 use Rattle.std.specs.Prelude.{OnErr, OnOk, Result, Ok, Err}
 use Rattle.svnpath.specs.Paths.{PathValue}
-use Rattle.repo_api.specs.RightEdits.{IsRightEdit}
-use Rattle.repo_api.specs.StateLaws.{same_tree}
-use Rattle.repo_api.specs.States.{TreeMap, tree_of}
-use Rattle.repo_api.specs.Trees.{Tree}
-use Rattle.repo_api.specs.declared.edit.EditOp.{EditOp}
+use Rattle.repo_api.specs.{RightEdits.IsRightEdit, StateLaws.same_tree, States.{tree_of, TreeMap}, Trees.Tree, declared.edit.EditOp.EditOp}
 use Rattle.history_marks.specs.Sound.{IsSoundTxn}
 use Rattle.txntree.specs.Whole.{txn_tree}
 use Rattle.held.specs.Maps.{IsMapOf, Mapped, one_map}
-use Rattle.world.specs.Open.{txn_of}
-use Rattle.world.specs.Whole.{the_map, txn_map, txn_state_of}
-use Rattle.world.specs.declared.world_txn.WorldTxn.{WorldTxn}
+use Rattle.world.specs.{Open.txn_of, Whole.{the_map, txn_map, txn_state_of}, declared.world_txn.WorldTxn.WorldTxn}
 
 pub the_map_is : (t : Tree) (mapped : ∥ Mapped t ∥₁) (m : TreeMap) → IsMapOf t m
     → (the_map t mapped).0 ≡ m

@@ -1,27 +1,18 @@
 -- A transaction that begins, and after an edit.
 use Rattle.std.proofs.Common.{◌≡◌, ◌<◌, ℕ, zero, suc, List, [], ◌∷◌, length, arith, refl, sym, ap, subst, ◌∙◌}
 use Rattle.std.specs.FinMap.{get, empty, get-empty}
-use Rattle.svnpath.specs.Paths.{PathValue, path_cmp}
-use Rattle.repo_api.specs.Changes.{changes_after}
-use Rattle.repo_api.specs.Edits.{begun, edited}
-use Rattle.repo_api.specs.RightEdits.{IsRightEdit}
-use Rattle.repo_api.specs.Soundness.{AreSound, AreTrees}
-use Rattle.repo_api.specs.States.{TreeMap, ChangeMap, LockMap, Revision, TxnState, IsBeginning, IsBegun, IsEdited, changes_of, tree_of, trees_in, youngest}
-use Rattle.repo_api.specs.Trees.{Tree, IsTree}
-use Rattle.repo_api.specs.declared.edit.EditOp.{EditOp}
+use Rattle.svnpath.specs.Paths.{path_cmp, PathValue}
+use Rattle.repo_api.specs.{Changes.changes_after, Edits.{begun, edited}, RightEdits.IsRightEdit, Soundness.{AreSound, AreTrees}}
+use Rattle.repo_api.specs.States.{ChangeMap, changes_of, IsBeginning, IsBegun, IsEdited, LockMap, Revision, tree_of, TreeMap, trees_in, TxnState, youngest}
+use Rattle.repo_api.specs.{Trees.{IsTree, Tree}, declared.edit.EditOp.EditOp}
 use Rattle.repo_laws.proofs.Standing.{edited_tree}
 use Rattle.history_marks.specs.Sound.{IsSoundRepo, IsSoundTxn}
 use Rattle.history_marks.proofs.Staying.{begun_sound, edited_sound}
 use Rattle.noderevs.specs.Held.{trees_of}
-use Rattle.txntree.specs.Whole.{txn_tree}
-use Rattle.txntree.specs.declared.tree.TxnTree.{TxnTree}
-use Rattle.held.specs.Contents.{held_state, revisions_of, state_of}
-use Rattle.held.specs.Maps.{IsMapOf, Mapped, mapped}
-use Rattle.held.specs.declared.held.Held.{Held}
+use Rattle.txntree.specs.{Whole.txn_tree, declared.tree.TxnTree.TxnTree}
+use Rattle.held.specs.{Contents.{held_state, revisions_of, state_of}, Maps.{IsMapOf, Mapped, mapped}, declared.held.Held.Held}
 use Rattle.held.proofs.Seen.{held_seen}
-use Rattle.world.specs.Open.{txn_of, IsOpen}
-use Rattle.world.specs.Whole.{txn_map, txn_state_of}
-use Rattle.world.specs.declared.world_txn.WorldTxn.{WorldTxn}
+use Rattle.world.specs.{Open.{txn_of, IsOpen}, Whole.{txn_map, txn_state_of}, declared.world_txn.WorldTxn.WorldTxn}
 use Rattle.world.proofs.Mapping.{txn_map_is}
 
 -- ---- the beginning

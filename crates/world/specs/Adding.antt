@@ -1,15 +1,9 @@
 -- What a further revision that was read leaves.
 use Rattle.std.specs.Prelude.{◌≡◌, ◌<◌, List, [], ◌∷◌, ◌++◌, length, slice_set}
-use Rattle.repo_api.specs.Histories.{Changed}
-use Rattle.repo_api.specs.Properties.{PropertyList}
-use Rattle.repo_api.specs.States.{ChangeMap}
-use Rattle.repo_api.specs.declared.limits.TheConstants.{REVISION_LIMIT}
-use Rattle.noderevs.specs.Held.{blocks_of}
-use Rattle.noderevs.specs.declared.node_rev.Block.{Block}
+use Rattle.repo_api.specs.{Histories.Changed, Properties.PropertyList, States.ChangeMap, declared.limits.TheConstants.REVISION_LIMIT}
+use Rattle.noderevs.specs.{Held.blocks_of, declared.node_rev.Block.Block}
 use Rattle.next_blocks.specs.Rules.{IsNextRevision, past_of}
-use Rattle.held.specs.Contents.{revisions_of}
-use Rattle.held.specs.Growing.{HasSame}
-use Rattle.held.specs.declared.held.Held.{Held}
+use Rattle.held.specs.{Contents.revisions_of, Growing.HasSame, declared.held.Held.Held}
 use Rattle.world.specs.declared.world.World.{World}
 
 -- a block and changes keep the rules, and a number is left

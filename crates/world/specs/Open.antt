@@ -1,12 +1,9 @@
 -- A transaction by its parts.
 use Rattle.std.specs.Prelude.{ℕ}
-use Rattle.repo_api.specs.States.{TreeMap, ChangeMap, TxnState}
+use Rattle.repo_api.specs.States.{ChangeMap, TreeMap, TxnState}
 use Rattle.history_marks.specs.Sound.{IsSoundTxn}
-use Rattle.txntree.specs.Whole.{txn_tree}
-use Rattle.txntree.specs.declared.tree.TxnTree.{TxnTree}
-use Rattle.held.specs.Contents.{revisions_of}
-use Rattle.held.specs.Maps.{IsMapOf}
-use Rattle.held.specs.declared.held.Held.{Held}
+use Rattle.txntree.specs.{Whole.txn_tree, declared.tree.TxnTree.TxnTree}
+use Rattle.held.specs.{Contents.revisions_of, Maps.IsMapOf, declared.held.Held.Held}
 
 -- with this base, tree and changes, and what it was last shown
 abbrev pub txn_of : Held → ℕ → TreeMap → ChangeMap → TxnState

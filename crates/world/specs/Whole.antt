@@ -1,13 +1,9 @@
 -- What the values of this crate stand for.
 use Rattle.std.proofs.Math.Logic.{∥∥₁_elim, ∥∥₁_map}
-use Rattle.repo_api.specs.States.{RepoState, TreeMap, TxnState}
-use Rattle.repo_api.specs.Trees.{Tree}
+use Rattle.repo_api.specs.{States.{RepoState, TreeMap, TxnState}, Trees.Tree}
 use Rattle.txntree.specs.Whole.{txn_tree}
-use Rattle.held.specs.Contents.{state_of}
-use Rattle.held.specs.Maps.{Mapped, one_map}
-use Rattle.world.specs.Open.{txn_of}
-use Rattle.world.specs.declared.world.World.{World}
-use Rattle.world.specs.declared.world_txn.WorldTxn.{WorldTxn}
+use Rattle.held.specs.{Contents.state_of, Maps.{Mapped, one_map}}
+use Rattle.world.specs.{Open.txn_of, declared.world.World.World, declared.world_txn.WorldTxn.WorldTxn}
 
 abbrev pub world_content : World → RepoState
 world_content w = state_of w.held.value w.locks.value

@@ -1,6 +1,5 @@
 //! A further revision that was read.
-ghost use Rattle.std.specs.Prelude.{◌≡◌, ◌<◌, length, IfOk, IfSome, MatchOption, Decides};
-ghost use Rattle.std.specs.FinMap.{entries};
+ghost use Rattle.std.specs.{Prelude.{◌≡◌, ◌<◌, length, IfOk, IfSome, MatchOption, Decides}, FinMap.entries};
 ghost use Rattle.history_marks.specs.Sound.{IsSoundRepo};
 ghost use Rattle.held.specs.Contents.{held_state, revisions_of};
 ghost use Rattle.next_blocks.specs.Rules.{IsNextRevision, past_of};
@@ -69,8 +68,7 @@ fn with_checked(
         (λ h. HasNext held.now h.value block changes properties)) }
     ensures may { IfOk result (λ next. IfSome next
         (λ h. MayComeNext held.now block (entries changes))) }
-    ensures sound { IfOk result (λ next. IfSome next
-        (λ h. ∥ IsSoundRepo (held_state h.value) ∥₁)) }
+    ensures sound { IfOk result (λ next. IfSome next (λ h. ∥ IsSoundRepo (held_state h.value) ∥₁)) }
 {
     match may_come_next(alloc, held, &block, &changes) {
         Ok(true) => Ok(Some(with_next(alloc, held, block, changes, properties)?)),

@@ -1,16 +1,9 @@
 //! What is held after a commit, and what refuses it.
 ghost use Rattle.std.specs.Prelude.{◌≡◌, ◌<◌, ◌++◌, ◌∷◌, [], true, false, length, IfOk, OnOk, None, Some};
-ghost use Rattle.refusals.specs.declared.Refusal.TheVariants as refusals;
-ghost use Rattle.repo_api.specs.Accepted.{IfRefused, IsOfMemory};
-ghost use Rattle.repo_api.specs.Commits.{commit_refusal, committed, limit_refusal, revision_properties};
-ghost use Rattle.repo_api.specs.Locking.{check_refusal};
-ghost use Rattle.repo_api.specs.States.{TreeMap, IsBeginning};
-ghost use Rattle.repo_api.specs.declared.limits.TheConstants.{REVISION_LIMIT};
+ghost use Rattle.repo_api.specs.{Accepted.{IfRefused, IsOfMemory}, Commits.{commit_refusal, committed, limit_refusal, revision_properties}};
+ghost use Rattle.repo_api.specs.{Locking.check_refusal, States.{IsBeginning, TreeMap}};
 ghost use Rattle.history_marks.specs.Sound.{IsSoundRepo};
-ghost use Rattle.held.specs.Committing.{conflicts, next_map};
-ghost use Rattle.held.specs.Contents.{held_state, revisions_of, state_of};
-ghost use Rattle.held.specs.Growing.{HasOneMore};
-ghost use Rattle.held.specs.Maps.{IsMapOf, Mapped};
+ghost use Rattle.held.specs.{Committing.{conflicts, next_map}, Contents.{held_state, revisions_of, state_of}, Growing.HasOneMore, Maps.{IsMapOf, Mapped}};
 ghost use Rattle.held.specs.Sealed.{sealed_tree};
 ghost use Rattle.world.specs.Whole.{txn_state_of};
 
@@ -85,7 +78,7 @@ fn merged(alloc: Global, held: &Held, txn: &WorldTxn) -> Result<TxnTree, ChangeF
         (conflicts held.now txn.now.base (txn_state_of txn.now).tree ≡ false) }
     ensures conflict { IfRefused result (λ r.
         conflicts held.now txn.now.base (txn_state_of txn.now).tree ≡ true) }
-    ensures refused { IfRefused result (λ r. r ≡ refusals.Conflict) }
+    ensures refused { IfRefused result (λ r. r ≡ Refusal.Conflict) }
     ensures memory { IsOfMemory result }
 {
     let tree = held.moved(alloc, &txn.shown, &txn.tree, txn.base)?;

@@ -1,15 +1,10 @@
 //! Edits of a transaction.
-ghost use Rattle.std.specs.Prelude.{◌≡◌, OnOk, OnErr, Option};
-ghost use Rattle.std.specs.FinMap.{get};
+ghost use Rattle.std.specs.{Prelude.{◌≡◌, OnOk, OnErr, Option}, FinMap.get};
 ghost use Rattle.svnpath.specs.Paths.{PathValue};
-ghost use Rattle.repo_api.specs.Changes.{changes_after};
-ghost use Rattle.repo_api.specs.Edits.{edited};
-ghost use Rattle.repo_api.specs.RightEdits.{IsRightEdit};
-ghost use Rattle.repo_api.specs.States.{IsBeginning, IsEdited, changes_of, tree_of, trees_in};
+ghost use Rattle.repo_api.specs.{Changes.changes_after, Edits.edited, RightEdits.IsRightEdit, States.{changes_of, IsBeginning, IsEdited, tree_of, trees_in}};
 ghost use Rattle.history_marks.specs.Sound.{IsSoundRepo};
-ghost use Rattle.noderevs.specs.Held.{node_at};
-ghost use Rattle.noderevs.specs.declared.node_rev.NodeId.{NodeId};
-ghost use Rattle.txntree.specs.Whole.{txn_tree, IsSound};
+ghost use Rattle.noderevs.specs.{Held.node_at, declared.node_rev.NodeId.NodeId};
+ghost use Rattle.txntree.specs.Whole.{IsSound, txn_tree};
 ghost use Rattle.held.specs.Contents.{held_state, revisions_of};
 ghost use Rattle.world.specs.Whole.{txn_state_of};
 

@@ -1,6 +1,5 @@
 //! What files are written from, and what is made of what was read from them.
-ghost use Rattle.std.specs.Prelude.{◌≡◌, IfOk};
-ghost use Rattle.std.specs.FinMap.{from_entries};
+ghost use Rattle.std.specs.{Prelude.{◌≡◌, IfOk}, FinMap.from_entries};
 
 use crate::world::World;
 use noderevs::Nodes;

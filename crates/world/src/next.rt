@@ -1,10 +1,8 @@
 //! The repository behind a change, as another value: what it was stays.
 ghost use Rattle.std.specs.Prelude.{◌≡◌, IfOk, OnOk, None, Some, option_copied};
-ghost use Rattle.repo_api.specs.Accepted.{IfRefused, IsOfMemory};
-ghost use Rattle.repo_api.specs.Commits.{commit_refusal, committed};
+ghost use Rattle.repo_api.specs.{Accepted.{IfRefused, IsOfMemory}, Commits.{commit_refusal, committed}};
 ghost use Rattle.repo_api.specs.Locking.{lock_refusal, locked, unlock_refusal, unlocked, without_released};
-ghost use Rattle.repo_api.specs.RevisionProperties.{property_refusal, with_changed_property};
-ghost use Rattle.repo_api.specs.States.{IsBeginning};
+ghost use Rattle.repo_api.specs.{RevisionProperties.{property_refusal, with_changed_property}, States.IsBeginning};
 ghost use Rattle.held.specs.Growing.{HasOneMore, HasSame};
 ghost use Rattle.world.specs.Whole.{txn_state_of, world_content};
 
@@ -44,8 +42,7 @@ impl World {
     /// Makes the repository with the lock, if it is accepted.
     pub fn locked(&self, ask: &LockAsk) -> Result<World, ChangeFault>
         ensures accepted { OnOk result (lock_refusal (world_content self.now) ask.now ≡ None) }
-        ensures ok { IfOk result (λ w. world_content w
-            ≡ locked (world_content self.now) ask.now) }
+        ensures ok { IfOk result (λ w. world_content w ≡ locked (world_content self.now) ask.now) }
         ensures refused { IfRefused result (λ r. lock_refusal (world_content self.now) ask.now
             ≡ Some r) }
         ensures memory { IsOfMemory result }

@@ -1,14 +1,9 @@
 //! The repository and its transactions.
 ghost use Rattle.std.specs.Prelude.{◌≡◌, ◌≤◌, List, ℕ, IfOk, OnOk, OnErr};
-ghost use Rattle.dates.specs.Dates.{IsDateText};
-ghost use Rattle.dates.specs.declared.TheConstants.{LAST_MOMENT};
-ghost use Rattle.repo_api.specs.Kinds.{kind_at, created_at};
-ghost use Rattle.repo_api.specs.Locking.{with_lock};
-ghost use Rattle.repo_api.specs.Opening.{new_repository};
-ghost use Rattle.repo_api.specs.RevisionProperties.{property_refusal, with_changed_property};
-ghost use Rattle.repo_api.specs.States.{youngest};
-ghost use Rattle.held.specs.Contents.{held_state};
-ghost use Rattle.held.specs.Growing.{HasSame};
+ghost use Rattle.dates.specs.{Dates.IsDateText, declared.TheConstants.LAST_MOMENT};
+ghost use Rattle.repo_api.specs.{Kinds.{created_at, kind_at}, Locking.with_lock, Opening.new_repository};
+ghost use Rattle.repo_api.specs.{RevisionProperties.{property_refusal, with_changed_property}, States.youngest};
+ghost use Rattle.held.specs.{Contents.held_state, Growing.HasSame};
 ghost use Rattle.world.specs.Whole.{world_content};
 
 use crate::committing::with_commit;

@@ -1,5 +1,4 @@
-use Rattle.std.proofs.Common.{◌≡◌, ℕ, ◌*◌, [], ◌∷◌, ◌++◌, pos, ap, ◌∙◌, Some, Option, Bool, if◌then◌else◌, false, ◌*ℤ◌, arith, w64}
-use Rattle.std.proofs.lemmas.Result.{IfOk-weaker}
+use Rattle.std.proofs.{Common.{◌≡◌, ℕ, ◌*◌, [], ◌∷◌, ◌++◌, pos, ap, ◌∙◌, Some, Option, Bool, if◌then◌else◌, false, ◌*ℤ◌, arith, w64}, lemmas.Result.IfOk-weaker}
 use Rattle.std.proofs.lemmas.Int.{to_z_pos}
 use Rattle.jiff.specs.Words.{civil_nanos, datetime_text}
 use Rattle.dates.proofs.date_text.Goals as goal

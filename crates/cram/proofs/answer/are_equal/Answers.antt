@@ -1,6 +1,4 @@
-use Rattle.std.proofs.lemmas.Bool.Decides.{Decides-eqb}
-use Rattle.std.proofs.lemmas.List.{length_push}
-use Rattle.std.proofs.lemmas.Slice.Zip.{zip_turn, zip_end}
+use Rattle.std.proofs.{lemmas.Bool.Decides.Decides-eqb, lemmas.List.length_push, lemmas.Slice.Zip.{zip_turn, zip_end}}
 use Rattle.cram.proofs.Equal.{difference_none, difference_more, difference_all}
 use Rattle.cram.proofs.answer.are_equal.Goals as goal
 

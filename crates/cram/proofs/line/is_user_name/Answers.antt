@@ -1,5 +1,4 @@
-use Rattle.std.proofs.Common.{◌≡◌, refl, Bool, true, false, ◌&&◌, not, ap, sym, ◌∙◌, rules, tests}
-use Rattle.std.proofs.lemmas.Iterator.{YieldsList-from_slice}
+use Rattle.std.proofs.{Common.{◌≡◌, refl, Bool, true, false, ◌&&◌, not, ap, sym, ◌∙◌, rules, tests}, lemmas.Iterator.YieldsList-from_slice}
 use Rattle.std.proofs.lemmas.Iterator.Search.{any_from_yields_List}
 use Rattle.cram.specs.Line.{is_blank, has_right_length}
 use Rattle.cram.proofs.line.is_user_name.Goals as goal

@@ -1,9 +1,5 @@
-use Rattle.std.proofs.Common.{◌∙◌, rules, tests}
-use Rattle.std.proofs.lemmas.List.{take_rest}
-use Rattle.std.proofs.lemmas.Iterator.{YieldsList-from_slice}
-use Rattle.std.proofs.lemmas.Iterator.Consumers.{count_from_yields_List}
-use Rattle.std.proofs.lemmas.Iterator.Search.{YieldsList-from_take_while}
-use Rattle.std.proofs.lemmas.List.Folds.{length-prefix_len}
+use Rattle.std.proofs.{Common.{◌∙◌, rules, tests}, lemmas.List.take_rest, lemmas.Iterator.YieldsList-from_slice}
+use Rattle.std.proofs.{lemmas.Iterator.Consumers.count_from_yields_List, lemmas.Iterator.Search.YieldsList-from_take_while, lemmas.List.Folds.length-prefix_len}
 use Rattle.cram.specs.Line.{is_blank}
 use Rattle.cram.proofs.line.without_first_blanks.Goals as goal
 

@@ -1,9 +1,6 @@
-use Rattle.std.proofs.Common.{◌∙◌, rules, tests}
+use Rattle.std.proofs.{Common.{◌∙◌, rules, tests}, lemmas.Iterator.Adapters.YieldsList-from_rev_slice, lemmas.Iterator.Consumers.count_from_yields_List}
+use Rattle.std.proofs.{lemmas.Iterator.Search.YieldsList-from_take_while, lemmas.List.Folds.length-prefix_len}
 use Rattle.std.specs.Prelude.{reverse}
-use Rattle.std.proofs.lemmas.Iterator.Adapters.{YieldsList-from_rev_slice}
-use Rattle.std.proofs.lemmas.Iterator.Consumers.{count_from_yields_List}
-use Rattle.std.proofs.lemmas.Iterator.Search.{YieldsList-from_take_while}
-use Rattle.std.proofs.lemmas.List.Folds.{length-prefix_len}
 use Rattle.cram.specs.Line.{is_blank}
 use Rattle.cram.proofs.line.without_last_blanks.Goals as goal
 

@@ -1,9 +1,7 @@
 use Rattle.std.proofs.Common.{arith, sym, subst, ◌∙◌, ◌≡◌, ◌≤◌, take, length, get_or, Some, None}
 use Rattle.repo_api.specs.States.{trees_in}
-use Rattle.drive_reports.specs.Finding.{IsLastAbove}
-use Rattle.drive_reports.specs.Reported.{reported}
-use Rattle.drive_reports.proofs.Deciding.{shows_both, placed_in, unplaced_in, held_by}
-use Rattle.drive_reports.proofs.Finding.{none_at, placed_at, surely_at, unplaced_at}
+use Rattle.drive_reports.specs.{Finding.IsLastAbove, Reported.reported}
+use Rattle.drive_reports.proofs.{Deciding.{shows_both, placed_in, unplaced_in, held_by}, Finding.{none_at, placed_at, surely_at, unplaced_at}}
 use Rattle.drive_reports.proofs.reported.+graft_among.Goals as goal
 
 pub returns-then-is_surely_placed : goal.returns-then-is_surely_placed

@@ -1,6 +1,5 @@
 use Rattle.repo_api.specs.States.{trees_in}
-use Rattle.drive_reports.specs.Places.{is_grafted_over}
-use Rattle.drive_reports.specs.Reported.{reported}
+use Rattle.drive_reports.specs.{Places.is_grafted_over, Reported.reported}
 use Rattle.drive_reports.proofs.Parts.{found_here, found_beneath}
 use Rattle.drive_reports.proofs.reported.reported_at.Goals as goal
 

@@ -1,5 +1,4 @@
-use Rattle.std.proofs.Common.{rules, arith, ◌≡◌, true, Some, length, drop, ◌∙◌}
-use Rattle.std.proofs.lemmas.List.{length-drop}
+use Rattle.std.proofs.{Common.{rules, arith, ◌≡◌, true, Some, length, drop, ◌∙◌}, lemmas.List.length-drop}
 use Rattle.std.specs.Prelude.{is_some}
 use Rattle.repo_api.specs.States.{trees_in}
 use Rattle.drive_reports.specs.Reported.{shown_by}

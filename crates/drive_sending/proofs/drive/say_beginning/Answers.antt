@@ -1,6 +1,5 @@
-use Rattle.std.proofs.Common.{◌∷◌, [], refl}
+use Rattle.std.proofs.{Common.{◌∷◌, [], refl}, lemmas.Result.err_from_is_err_and}
 use Rattle.std.specs.Prelude.{Some}
-use Rattle.std.proofs.lemmas.Result.{err_from_is_err_and}
 use Rattle.wire_edits.specs.declared.editing.EditorCommand.TheVariants.{TargetRevision, OpenRoot}
 use Rattle.drive_rules.specs.Steps.EntryKind.{DirectoryKind}
 use Rattle.drive_sending.specs.Tokens.{token_of}

@@ -1,11 +1,9 @@
-use Rattle.std.proofs.Common.{◌∷◌, ◌++◌, []}
-use Rattle.std.proofs.lemmas.Result.{err_from_is_err_and}
+use Rattle.std.proofs.{Common.{◌∷◌, ◌++◌, []}, lemmas.Result.err_from_is_err_and}
 use Rattle.wire_edits.specs.declared.editing.EditorCommand.TheVariants.{CloseDirectory}
 use Rattle.drive_rules.specs.Steps.EntryKind.{DirectoryKind}
 use Rattle.drive_sides.proofs.Existing.{some_visits}
 use Rattle.drive_sides.specs.Plans.{whole}
-use Rattle.drive_sending.specs.Commands.{root_commands, plan_commands}
-use Rattle.drive_sending.specs.Tokens.{token_of}
+use Rattle.drive_sending.specs.{Commands.{root_commands, plan_commands}, Tokens.token_of}
 use Rattle.drive_sending.proofs.Written.{first_part, sent_behind}
 use Rattle.drive_sending.proofs.drive.say_body.Goals as goal
 

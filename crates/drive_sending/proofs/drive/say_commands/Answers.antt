@@ -1,12 +1,10 @@
-use Rattle.std.proofs.Common.{◌∷◌, ◌++◌, []}
+use Rattle.std.proofs.{Common.{◌∷◌, ◌++◌, []}, lemmas.Result.err_from_is_err_and}
 use Rattle.std.specs.Prelude.{Some}
-use Rattle.std.proofs.lemmas.Result.{err_from_is_err_and}
 use Rattle.wire_edits.specs.declared.editing.EditorCommand.TheVariants.{TargetRevision, OpenRoot, CloseEdit}
 use Rattle.drive_rules.specs.Steps.EntryKind.{DirectoryKind}
 use Rattle.drive_sides.proofs.Existing.{some_visits}
 use Rattle.drive_sides.specs.Plans.{whole}
-use Rattle.drive_sending.specs.Commands.{body_commands}
-use Rattle.drive_sending.specs.Tokens.{token_of}
+use Rattle.drive_sending.specs.{Commands.body_commands, Tokens.token_of}
 use Rattle.drive_sending.proofs.Written.{first_part, sent_behind}
 use Rattle.drive_sending.proofs.drive.say_commands.Goals as goal
 

@@ -1,5 +1,4 @@
-use Rattle.std.proofs.Common.{◌∷◌, [], map}
-use Rattle.std.proofs.lemmas.Result.{err_from_is_err_and}
+use Rattle.std.proofs.{Common.{◌∷◌, [], map}, lemmas.Result.err_from_is_err_and}
 use Rattle.drive_sides.proofs.Existing.{some_visits}
 use Rattle.drive_sides.specs.Plans.{whole}
 use Rattle.drive_sending.proofs.drive.say_planned.Goals as goal

@@ -1,5 +1,4 @@
-use Rattle.std.proofs.Common.{◌∷◌, [], refl}
-use Rattle.std.proofs.lemmas.Result.{err_from_is_err_and}
+use Rattle.std.proofs.{Common.{◌∷◌, [], refl}, lemmas.Result.err_from_is_err_and}
 use Rattle.wire_edits.specs.declared.editing.EditorCommand.TheVariants.{CloseEdit}
 use Rattle.drive_sides.specs.Plans.{whole}
 use Rattle.drive_sending.specs.Commands.{body_commands}

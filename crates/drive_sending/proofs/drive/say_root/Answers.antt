@@ -1,8 +1,7 @@
-use Rattle.std.proofs.lemmas.Result.{err_from_is_err_and}
+use Rattle.std.proofs.{lemmas.Result.err_from_is_err_and, Common.{subst, sym, ◌∙◌}}
 use Rattle.drive_sides.specs.Plans.{whole}
 use Rattle.wire_replies.specs.Sinks.{Writes}
 use Rattle.drive_sending.proofs.drive.say_root.Goals as goal
-use Rattle.std.proofs.Common.{subst, sym, ◌∙◌}
 use Rattle.wire_replies.proofs.Parts.{part_none}
 use Rattle.drive_sending.specs.Driving.{command_bytes}
 use Rattle.drive_sending.proofs.Roots.{root_told}

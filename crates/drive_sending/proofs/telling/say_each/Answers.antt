@@ -1,9 +1,7 @@
-use Rattle.std.proofs.Common.{◌∷◌, [], map}
-use Rattle.std.proofs.lemmas.Result.{err_from_is_err_and}
+use Rattle.std.proofs.{Common.{◌∷◌, [], map, ◌+◌, drop, ap}, lemmas.Result.err_from_is_err_and}
 use Rattle.reporter.specs.Visits.{kind_if}
 use Rattle.drive_sending.specs.Commands.{property_command}
 use Rattle.drive_sending.proofs.telling.say_each.Goals as goal
-use Rattle.std.proofs.Common.{◌+◌, drop, ap}
 use Rattle.drive_sending.proofs.Written.{going_on, going_failed, next_left}
 
 pub returns-in_err-say_made : goal.returns-in_err-say_made

@@ -1,5 +1,4 @@
-use Rattle.std.proofs.Common.{◌∷◌, ◌++◌, [], map}
-use Rattle.std.proofs.lemmas.Result.{err_from_is_err_and}
+use Rattle.std.proofs.{Common.{◌∷◌, ◌++◌, [], map}, lemmas.Result.err_from_is_err_and}
 use Rattle.wire_edits.specs.declared.editing.EditorCommand.TheVariants.{CloseFile}
 use Rattle.drive_rules.specs.Steps.EntryKind.{FileKind}
 use Rattle.drive_sending.specs.Commands.{text_commands, checksum_sent, property_command}

@@ -1,12 +1,9 @@
 use Rattle.drive_rules.specs.Steps.EntryKind.{DirectoryKind}
 use Rattle.reporter.specs.Visits.{kind_if}
-use Rattle.drive_sending.specs.Commands.{news_commands}
-use Rattle.drive_sending.specs.Tokens.{token_of}
+use Rattle.drive_sending.specs.{Commands.news_commands, Tokens.token_of, Driving.command_bytes}
 use Rattle.wire_replies.specs.Sinks.{Writes}
 use Rattle.drive_sending.proofs.telling.say_news.Goals as goal
-use Rattle.std.proofs.Common.{◌+◌, subst}
-use Rattle.drive_sending.specs.Driving.{command_bytes}
-use Rattle.std.proofs.Common.{◌≡◌}
+use Rattle.std.proofs.Common.{◌+◌, subst, ◌≡◌}
 
 pub returns-then-entrance : goal.returns-then-entrance
 returns-then-entrance g c =

@@ -1,10 +1,8 @@
-use Rattle.std.proofs.Common.{map}
+use Rattle.std.proofs.Common.{map, subst}
 use Rattle.reporter.specs.Visits.{kind_if}
-use Rattle.drive_sending.specs.Commands.{property_command}
+use Rattle.drive_sending.specs.{Commands.property_command, Driving.command_bytes}
 use Rattle.wire_replies.specs.Sinks.{Writes}
 use Rattle.drive_sending.proofs.telling.say_properties.Goals as goal
-use Rattle.std.proofs.Common.{subst}
-use Rattle.drive_sending.specs.Driving.{command_bytes}
 
 pub returns : goal.returns
 returns g c =

@@ -1,9 +1,8 @@
 use Rattle.drive_rules.specs.Steps.EntryKind.{DirectoryKind}
-use Rattle.drive_sending.specs.Commands.{news_commands}
+use Rattle.drive_sending.specs.{Commands.news_commands, Driving.command_bytes}
 use Rattle.wire_replies.specs.Sinks.{Writes}
 use Rattle.drive_sending.proofs.telling.say_root_news.Goals as goal
 use Rattle.std.proofs.Common.{subst}
-use Rattle.drive_sending.specs.Driving.{command_bytes}
 
 pub returns : goal.returns
 returns g c = λ purpose.

@@ -1,7 +1,5 @@
-use Rattle.std.proofs.Common.{◌∷◌, ◌++◌, [], map, length}
-use Rattle.std.specs.Prelude.{None}
-use Rattle.std.specs.Int.{div_ceil}
-use Rattle.std.proofs.lemmas.Result.{err_from_is_err_and}
+use Rattle.std.proofs.{Common.{◌∷◌, ◌++◌, [], map, length}, lemmas.Result.err_from_is_err_and}
+use Rattle.std.specs.{Prelude.None, Int.div_ceil}
 use Rattle.wire_edits.specs.declared.editing.EditorCommand.TheVariants.{ApplyTextDelta, TextDeltaChunk, TextDeltaEnd}
 use Rattle.svndiff0.specs.Document.{header}
 use Rattle.drive_sending.specs.Commands.{windows}

@@ -1,16 +1,12 @@
-use Rattle.std.proofs.Common.{◌∷◌, []}
-use Rattle.std.proofs.lemmas.Result.{err_from_is_err_and}
+use Rattle.std.proofs.{Common.{◌∷◌, [], ◌+◌, subst}, lemmas.Result.err_from_is_err_and}
 use Rattle.reporter.specs.Visits.{kind_if}
 use Rattle.drive_sides.specs.Plans.{whole}
-use Rattle.drive_sending.specs.Commands.{news_commands, add_command, added_entry, news_told}
-use Rattle.drive_sending.specs.Tokens.{token_of}
+use Rattle.drive_sending.specs.{Commands.{news_commands, add_command, added_entry, news_told}, Tokens.token_of, Driving.command_bytes}
 use Rattle.drive_sending.proofs.Written.{first_part, sent_behind}
 use Rattle.drive_sending.proofs.visits.say_add.Goals as goal
-use Rattle.std.proofs.Common.{◌+◌, subst}
 use Rattle.std.specs.Prelude.{true}
 use Rattle.wire_replies.specs.Sinks.{Writes}
 use Rattle.wire_replies.proofs.Parts.{part_none}
-use Rattle.drive_sending.specs.Driving.{command_bytes}
 
 pub returns-in_err-news : goal.returns-in_err-news
 returns-in_err-news g c =

@@ -1,5 +1,4 @@
-use Rattle.std.proofs.Common.{arith}
-use Rattle.std.proofs.lemmas.Result.{err_from_is_err_and}
+use Rattle.std.proofs.{Common.arith, lemmas.Result.err_from_is_err_and}
 use Rattle.drive_sides.specs.Plans.{whole}
 use Rattle.drive_sending.proofs.Visited.{said_all, said_failed, said_next, said_part}
 use Rattle.drive_sending.proofs.visits.say_visits.Goals as goal

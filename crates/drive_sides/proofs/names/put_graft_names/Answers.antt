@@ -1,7 +1,5 @@
-use Rattle.std.proofs.Common.{◌||◌, sym, ap, ◌∙◌, take, option_copied}
-use Rattle.std.proofs.lemmas.List.Folds.{list_any_more}
-use Rattle.std.specs.List.{list_any}
-use Rattle.std.specs.Prelude.{is_some}
+use Rattle.std.proofs.{Common.{◌||◌, sym, ap, ◌∙◌, take, option_copied}, lemmas.List.Folds.list_any_more}
+use Rattle.std.specs.{List.list_any, Prelude.is_some}
 use Rattle.svnpath.specs.Paths.{same_component}
 use Rattle.repo_api.specs.Readings.{name_in}
 use Rattle.drive_sides.specs.Names.{is_name_among}

@@ -1,5 +1,4 @@
-use Rattle.std.proofs.Common.{◌||◌, sym, ap, ◌∙◌, take}
-use Rattle.std.proofs.lemmas.List.Folds.{list_any_more}
+use Rattle.std.proofs.{Common.{◌||◌, sym, ap, ◌∙◌, take}, lemmas.List.Folds.list_any_more}
 use Rattle.std.specs.List.{list_any}
 use Rattle.svnpath.specs.Paths.{same_component}
 use Rattle.drive_sides.specs.Names.{is_name_among}

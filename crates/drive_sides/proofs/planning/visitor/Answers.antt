@@ -1,12 +1,10 @@
 use Rattle.std.proofs.Common.{◌≡◌, true, [], sym, ◌∙◌, subst}
 use Rattle.svnpath.specs.Paths.{PathValue}
 use Rattle.drive_rules.specs.Places.{is_in_directory}
-use Rattle.reporter.specs.Nesting.{AreNested}
-use Rattle.reporter.specs.Walks.{BothHold}
+use Rattle.reporter.specs.{Nesting.AreNested, Walks.BothHold}
 use Rattle.drive_reports.specs.Targets.{old_tree, new_tree}
 use Rattle.drive_sides.specs.Plans.{whole}
-use Rattle.drive_sides.proofs.Listing.{if_ok_both}
-use Rattle.drive_sides.proofs.Planned.{IsRightFor, directory_of, root_old, root_new, root_plan, target_plan, not_root}
+use Rattle.drive_sides.proofs.{Listing.if_ok_both, Planned.{IsRightFor, directory_of, root_old, root_new, root_plan, target_plan, not_root}}
 use Rattle.drive_sides.proofs.planning.visitor.Goals as goal
 
 pub of_root-requires : goal.of_root-requires

@@ -1,6 +1,4 @@
-use Rattle.std.specs.BTreeMap.{is_at}
-use Rattle.std.specs.Cmp.Lexicographic.{slice_cmp}
-use Rattle.std.specs.Ordering.{nat_cmp}
+use Rattle.std.specs.{BTreeMap.is_at, Cmp.Lexicographic.slice_cmp, Ordering.nat_cmp}
 use Rattle.edit_rules.proofs.Kept.{written_over}
 use Rattle.edit_rules.proofs.texts.text_edit_under.Goals as goal
 

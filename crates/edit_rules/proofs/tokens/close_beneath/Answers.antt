@@ -1,6 +1,5 @@
-use Rattle.std.proofs.Common.{rules}
+use Rattle.std.proofs.{Common.rules, lemmas.Map.Made.filter_same_pairs}
 use Rattle.std.specs.Prelude.{not}
-use Rattle.std.proofs.lemmas.Map.Made.{filter_same_pairs}
 use Rattle.svnpath.specs.Paths.{is_at_or_under}
 use Rattle.edit_rules.specs.Tokens.{path_of}
 use Rattle.edit_rules.proofs.tokens.close_beneath.Goals as goal

@@ -1,7 +1,5 @@
-use Rattle.std.proofs.Common.{rules, ◌||◌}
-use Rattle.std.specs.Prelude.{not, ◌==◌}
-use Rattle.std.specs.Cmp.Lexicographic.{pointwise}
-use Rattle.std.proofs.lemmas.Map.Made.{filter_same_pairs}
+use Rattle.std.proofs.{Common.{rules, ◌||◌}, lemmas.Map.Made.filter_same_pairs}
+use Rattle.std.specs.{Prelude.{not, ◌==◌}, Cmp.Lexicographic.pointwise}
 use Rattle.svnpath.specs.Paths.{is_at_or_under}
 use Rattle.edit_rules.specs.Tokens.{path_of}
 use Rattle.edit_rules.proofs.tokens.close_others_beneath.Goals as goal

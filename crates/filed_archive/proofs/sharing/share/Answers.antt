@@ -1,7 +1,6 @@
 use Rattle.std.proofs.Common.{◌≡◌, ◌∙◌, refl, sym, ap, subst, rules, [], ◌∷◌, false, None}
-use Rattle.access.specs.Points.{Point, content_of}
-use Rattle.published.specs.Events.{point_of}
-use Rattle.published.specs.Events.Event.{Opened}
+use Rattle.access.specs.Points.{content_of, Point}
+use Rattle.published.specs.{Events.point_of, Events.Event.Opened}
 use Rattle.repo_api.specs.Soundness.{AreSound}
 use Rattle.filed_archive.proofs.sharing.share.Goals as goal
 

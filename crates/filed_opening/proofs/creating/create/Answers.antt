@@ -1,9 +1,7 @@
 use Rattle.std.proofs.Common.{None, ap, ◌∙◌}
 use Rattle.store_files.specs.declared.name.FileName.TheVariants.{Locks}
 use Rattle.repostore.proofs.Steps.{weaker, ok_gives}
-use Rattle.repostore.specs.Creating.{opening_files, IsFreeOrHas}
-use Rattle.repostore.specs.Current.{count_in}
-use Rattle.repostore.specs.Files.{Files}
+use Rattle.repostore.specs.{Creating.{IsFreeOrHas, opening_files}, Current.count_in, Files.Files}
 use Rattle.filed_opening.specs.Creating.{IsFreeOrNew}
 use Rattle.filed_opening.proofs.Created.{has_new, has_new_at, free_or_new}
 use Rattle.filed_opening.proofs.creating.create.Goals as goal

@@ -1,16 +1,9 @@
 use Rattle.std.proofs.Common.{sym, ap, subst, ◌∙◌, ◌++◌, ◌∷◌, [], refl, ◌≡◌, append-nil}
-use Rattle.std.specs.FinMap.{entries}
+use Rattle.std.specs.{FinMap.entries, Prelude.is_some}
 use Rattle.repo_api.specs.StateLaws.{entries_of}
-use Rattle.filed_trees.specs.Changes.{changes_by}
-use Rattle.filed_trees.specs.Comparing.{AreForAll, AreNew}
-use Rattle.filed_trees.proofs.Reading.{tabled_read}
-use Rattle.filed_trees.specs.Readable.{AreReadable, IsReadableFile}
-use Rattle.filed_trees.proofs.Judged.{no_part}
-use Rattle.filed_trees.proofs.Reading.{for_all}
-use Rattle.std.specs.Prelude.{is_some}
-use Rattle.filed_trees.specs.Tables.{HasRows}
+use Rattle.filed_trees.specs.{Changes.changes_by, Comparing.{AreForAll, AreNew}, Readable.{AreReadable, IsReadableFile}, Tables.HasRows}
+use Rattle.filed_trees.proofs.{Reading.{tabled_read, for_all}, Judged.no_part, Heights.are_high}
 use Rattle.noderevs.specs.Held.{blocks_of}
-use Rattle.filed_trees.proofs.Heights.{are_high}
 use Rattle.filed_trees.proofs.blocks.read_next.Goals as goal
 
 pub returns-in_ok-changes-in-Ok-clause-tabled : goal.returns-in_ok-changes-in-Ok-clause-tabled

@@ -1,9 +1,6 @@
 use Rattle.std.proofs.Common.{rules, arith, ◌≡◌, ◌⊎◌, ◌++◌, ◌∷◌, [], Vec, Global, ⊎_elim, refl, map, take, inl, inr, sym, ap, subst, ◌∙◌}
-use Rattle.std.proofs.lemmas.List.{take_all}
-use Rattle.std.proofs.lemmas.List.Elements.{All-more, All-same, Contains-append_left, Contains-append_right}
-use Rattle.std.specs.Borrow.{Bor}
-use Rattle.std.specs.Map.Iter.{deref}
-use Rattle.std.specs.Prelude.{Contains, IsSome}
+use Rattle.std.proofs.{lemmas.List.take_all, lemmas.List.Elements.{All-more, All-same, Contains-append_left, Contains-append_right}}
+use Rattle.std.specs.{Borrow.Bor, Map.Iter.deref, Prelude.{Contains, IsSome}}
 use Rattle.svnpath.specs.Paths.{Component}
 use Rattle.noderevs.specs.declared.node_rev.NodeId.{NodeId}
 use Rattle.next_blocks.proofs.Listed.{of_each}

@@ -1,6 +1,5 @@
 use Rattle.std.proofs.Common.{◌⊎◌, take}
-use Rattle.std.specs.Borrow.{Bor}
-use Rattle.std.specs.Prelude.{All, Contains, IsSome}
+use Rattle.std.specs.{Borrow.Bor, Prelude.{All, Contains, IsSome}}
 use Rattle.svnpath.specs.Paths.{Component}
 use Rattle.noderevs.specs.declared.node_rev.NodeId.{NodeId}
 use Rattle.filed_trees.specs.Comparing.{id_at}

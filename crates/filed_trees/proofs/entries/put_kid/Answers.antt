@@ -1,7 +1,6 @@
 use Rattle.std.proofs.Common.{rules, ◌≡◌, ap, ◌∙◌}
 use Rattle.noderevs.specs.Nodes.{kid_named}
-use Rattle.filed_trees.proofs.Entering.{put_named}
-use Rattle.filed_trees.proofs.Kept.{if_ok}
+use Rattle.filed_trees.proofs.{Entering.put_named, Kept.if_ok}
 use Rattle.std.specs.FinMap.{insert}
 use Rattle.filed_trees.proofs.entries.put_kid.Goals as goal
 

@@ -1,14 +1,9 @@
-use Rattle.std.proofs.Common.{Some, take, sym, subst, rules, ◌≡◌, Err}
-use Rattle.std.proofs.lemmas.List.{take_all}
-use Rattle.std.proofs.lemmas.List.Elements.{All-more, All-same}
+use Rattle.std.proofs.{Common.{Some, take, sym, subst, rules, ◌≡◌, Err}, lemmas.List.take_all, lemmas.List.Elements.{All-more, All-same}}
 use Rattle.std.specs.Prelude.{IsSomeAnd, All}
 use Rattle.fsfs_nodes.specs.declared.entries.DirectoryEntry.{DirectoryEntry}
 use Rattle.noderevs.specs.Nodes.{kid_named}
-use Rattle.filed_trees.specs.Comparing.{id_at, tables_of}
-use Rattle.filed_trees.specs.Tables.{IsAt}
-use Rattle.filed_trees.proofs.Entering.{named_still, placed_here, placed_still}
-use Rattle.filed_trees.specs.Readable.{IsTabled, Judges}
-use Rattle.filed_trees.proofs.Judged.{no_part}
+use Rattle.filed_trees.specs.{Comparing.{id_at, tables_of}, Tables.IsAt, Readable.{IsTabled, Judges}}
+use Rattle.filed_trees.proofs.{Entering.{named_still, placed_here, placed_still}, Judged.no_part}
 use Rattle.filed_trees.proofs.entries.put_kids.Goals as goal
 
 pub loop-entry-preserved : goal.loop-entry-preserved

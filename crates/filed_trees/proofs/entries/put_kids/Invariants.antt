@@ -1,9 +1,7 @@
 use Rattle.std.proofs.Common.{Some, take}
 use Rattle.std.specs.Prelude.{All, IsSomeAnd}
 use Rattle.noderevs.specs.Nodes.{kid_named}
-use Rattle.filed_trees.specs.Comparing.{AreNamed, id_at, tables_of}
-use Rattle.filed_trees.specs.Tables.{IsAt}
-use Rattle.filed_trees.specs.Readable.{IsTabled}
+use Rattle.filed_trees.specs.{Comparing.{AreNamed, id_at, tables_of}, Tables.IsAt, Readable.IsTabled}
 use Rattle.filed_trees.proofs.entries.put_kids.Given as goal
 
 abbrev pub invariant-loop-entry : goal.invariant-loop-entry

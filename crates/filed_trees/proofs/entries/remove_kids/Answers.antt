@@ -1,6 +1,4 @@
-use Rattle.std.proofs.Common.{◌≡◌, take, refl, sym, ap, subst, ◌∙◌}
-use Rattle.std.proofs.lemmas.List.{take_all}
-use Rattle.std.proofs.lemmas.List.Elements.{All-contains, All-more, All-same}
+use Rattle.std.proofs.{Common.{◌≡◌, take, refl, sym, ap, subst, ◌∙◌}, lemmas.List.take_all, lemmas.List.Elements.{All-contains, All-more, All-same}}
 use Rattle.svnpath.specs.Paths.{Component}
 use Rattle.noderevs.specs.Nodes.{kid_named}
 use Rattle.filed_trees.proofs.Entering.{removed_named}

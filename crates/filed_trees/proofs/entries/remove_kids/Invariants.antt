@@ -1,8 +1,7 @@
 use Rattle.std.proofs.Common.{◌≡◌, Some, take}
 use Rattle.std.specs.Prelude.{All}
 use Rattle.svnpath.specs.Paths.{Component}
-use Rattle.noderevs.specs.Nodes.{kid_named}
-use Rattle.noderevs.specs.declared.node_rev.NodeId.{NodeId}
+use Rattle.noderevs.specs.{Nodes.kid_named, declared.node_rev.NodeId.NodeId}
 use Rattle.filed_trees.proofs.entries.remove_kids.Given as goal
 
 abbrev pub invariant-loop-name : goal.invariant-loop-name

@@ -1,15 +1,9 @@
 use Rattle.std.proofs.Common.{Some, sym, subst, ⊎_elim}
 use Rattle.std.specs.Prelude.{All, Contains, IsSome, IsSomeAnd}
 use Rattle.svnpath.specs.Paths.{Component}
-use Rattle.noderevs.specs.Nodes.{kid_named}
-use Rattle.noderevs.specs.declared.node_rev.NodeId.{NodeId}
-use Rattle.filed_trees.specs.Comparing.{AreNamed, id_at, tables_of}
-use Rattle.filed_trees.specs.Tables.{IsAt}
-use Rattle.filed_trees.proofs.Entering.{at_entry, both_ok, of_some, some_of}
-use Rattle.filed_trees.proofs.Named.{names_agree}
-use Rattle.filed_trees.specs.Readable.{IsTabled}
-use Rattle.filed_trees.proofs.Judged.{still_judged}
-use Rattle.filed_trees.proofs.Once.{entries_right, right_entries}
+use Rattle.noderevs.specs.{Nodes.kid_named, declared.node_rev.NodeId.NodeId}
+use Rattle.filed_trees.specs.{Comparing.{AreNamed, id_at, tables_of}, Tables.IsAt, Readable.IsTabled}
+use Rattle.filed_trees.proofs.{Entering.{at_entry, both_ok, of_some, some_of}, Named.names_agree, Judged.still_judged, Once.{entries_right, right_entries}}
 use Rattle.filed_trees.proofs.entries.set_kids.Goals as goal
 
 pub returns-clause-kids : goal.returns-clause-kids

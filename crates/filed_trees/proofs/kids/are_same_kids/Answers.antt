@@ -1,11 +1,8 @@
-use Rattle.std.proofs.Common.{◌≡◌, Some, sym, subst, ◌∙◌, true}
-use Rattle.std.proofs.lemmas.Bool.{false≢true}
+use Rattle.std.proofs.{Common.{◌≡◌, Some, sym, subst, ◌∙◌, true}, lemmas.Bool.false≢true}
 use Rattle.std.specs.Prelude.{All}
-use Rattle.noderevs.specs.Nodes.{kid_of}
-use Rattle.filed_trees.proofs.Named.{same_kids, of_listed}
-use Rattle.filed_trees.proofs.kids.are_same_kids.Goals.{then-are_kids_of, else-are_kids_of}
+use Rattle.noderevs.specs.{Nodes.kid_of, declared.node_rev.NodeRev.NodeRev}
+use Rattle.filed_trees.proofs.{Named.{same_kids, of_listed}, kids.are_same_kids.Goals.{then-are_kids_of, else-are_kids_of}}
 use Rattle.svnpath.specs.Paths.{Component}
-use Rattle.noderevs.specs.declared.node_rev.NodeRev.{NodeRev}
 use Rattle.filed_trees.proofs.kids.are_same_kids.Goals as goal
 
 pub returns : goal.returns

@@ -1,12 +1,8 @@
-use Rattle.std.proofs.Common.{rules, ℕ, suc, ◌≡◌, ◌+◌, ◌<◌, ◌∷◌, None, Some, drop, sym, ap, ◌∙◌, add-one, arith, length}
-use Rattle.std.proofs.Math.Seq.{drop-cons}
+use Rattle.std.proofs.{Common.{rules, ℕ, suc, ◌≡◌, ◌+◌, ◌<◌, ◌∷◌, None, Some, drop, sym, ap, ◌∙◌, add-one, arith, length}, Math.Seq.drop-cons}
 use Rattle.std.proofs.lemmas.Option.{slice_get-get_or}
-use Rattle.std.specs.Option.{option_or}
-use Rattle.std.specs.Prelude.{IsSome, slice_get}
-use Rattle.filed_trees.specs.Pieces.{entry_named}
-use Rattle.filed_trees.specs.Comparing.{id_at}
-use Rattle.filed_trees.proofs.Named.{name_more}
-use Rattle.filed_trees.proofs.Once.{all_names, one_name, repeated}
+use Rattle.std.specs.{Option.option_or, Prelude.{IsSome, slice_get}}
+use Rattle.filed_trees.specs.{Pieces.entry_named, Comparing.id_at}
+use Rattle.filed_trees.proofs.{Named.name_more, Once.{all_names, one_name, repeated}}
 use Rattle.filed_trees.proofs.kids.ids_by_name.Goals as goal
 
 pub loop-entry-preserved : goal.loop-entry-preserved

@@ -1,8 +1,7 @@
 use Rattle.std.proofs.Common.{◌≡◌, drop}
 use Rattle.std.specs.Option.{option_or}
 use Rattle.svnpath.specs.Paths.{Component}
-use Rattle.filed_trees.specs.Pieces.{entry_named}
-use Rattle.filed_trees.specs.Comparing.{id_at}
+use Rattle.filed_trees.specs.{Pieces.entry_named, Comparing.id_at}
 use Rattle.filed_trees.proofs.Once.{HaveNames}
 use Rattle.filed_trees.proofs.kids.ids_by_name.Given as goal
 

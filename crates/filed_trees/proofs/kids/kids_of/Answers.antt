@@ -1,7 +1,5 @@
-use Rattle.std.proofs.Common.{◌≡◌, [], map, drop, ◌++◌, ap, sym, ◌∙◌}
-use Rattle.std.proofs.lemmas.List.{append-nil, at_drop_all}
-use Rattle.std.specs.FinMap.{entries}
-use Rattle.std.specs.Map.Iter.{deref}
+use Rattle.std.proofs.{Common.{◌≡◌, [], map, drop, ◌++◌, ap, sym, ◌∙◌}, lemmas.List.{append-nil, at_drop_all}}
+use Rattle.std.specs.{FinMap.entries, Map.Iter.deref}
 use Rattle.filed_trees.specs.Comparing.{named_kid}
 use Rattle.filed_trees.proofs.Named.{among, are_kids, entry_found}
 use Rattle.filed_trees.proofs.kids.kids_of.Goals as goal

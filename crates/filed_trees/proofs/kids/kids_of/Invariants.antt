@@ -1,7 +1,6 @@
 -- The entries so far, and those that are left.
 use Rattle.std.proofs.Common.{◌≡◌, map, drop, ◌++◌}
-use Rattle.std.specs.FinMap.{entries}
-use Rattle.std.specs.Map.Iter.{deref}
+use Rattle.std.specs.{FinMap.entries, Map.Iter.deref}
 use Rattle.filed_trees.specs.Comparing.{named_kid}
 use Rattle.filed_trees.proofs.kids.kids_of.Given as goal
 

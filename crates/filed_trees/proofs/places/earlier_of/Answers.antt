@@ -1,10 +1,8 @@
-use Rattle.std.proofs.Common.{rules, ◌≡◌, ◌<◌, ◌≤◌, length, None, Some, sym, ap, subst, ◌∙◌, arith}
-use Rattle.std.proofs.lemmas.Option.{slice_get-get_or, slice_get_within}
+use Rattle.std.proofs.{Common.{rules, ◌≡◌, ◌<◌, ◌≤◌, length, None, Some, sym, ap, subst, ◌∙◌, arith}, lemmas.Option.{slice_get-get_or, slice_get_within}}
 use Rattle.std.specs.Prelude.{IsSomeAnd, option_and_then, slice_get}
 use Rattle.noderevs.specs.Held.{node_at}
 use Rattle.filed_trees.specs.Readable.{Finds, IsTabled}
-use Rattle.filed_trees.proofs.Compared.{is_there}
-use Rattle.filed_trees.proofs.Entering.{of_some, some_within}
+use Rattle.filed_trees.proofs.{Compared.is_there, Entering.{of_some, some_within}}
 use Rattle.filed_trees.proofs.places.earlier_of.Goals as goal
 
 pub returns-in_err-node-clause-finds : goal.returns-in_err-node-clause-finds

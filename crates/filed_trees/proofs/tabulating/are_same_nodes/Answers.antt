@@ -1,9 +1,6 @@
-use Rattle.std.proofs.Common.{rules, ◌≡◌, length, None, Some, refl, sym, ap, subst, ◌∙◌}
-use Rattle.std.proofs.lemmas.Bool.{false≢true}
-use Rattle.std.proofs.lemmas.Option.{slice_get-get_or}
+use Rattle.std.proofs.{Common.{rules, ◌≡◌, length, None, Some, refl, sym, ap, subst, ◌∙◌}, lemmas.Bool.false≢true, lemmas.Option.slice_get-get_or}
 use Rattle.std.specs.Prelude.{slice_get}
-use Rattle.noderevs.specs.Held.{node_at}
-use Rattle.noderevs.specs.declared.node_rev.NodeId.{NodeId}
+use Rattle.noderevs.specs.{Held.node_at, declared.node_rev.NodeId.NodeId}
 use Rattle.filed_trees.specs.Comparing.{AreSame}
 use Rattle.filed_trees.proofs.Reading.{all_same, end_there, none_there, one_same}
 use Rattle.filed_trees.proofs.tabulating.are_same_nodes.Goals as goal

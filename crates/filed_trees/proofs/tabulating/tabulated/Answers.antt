@@ -1,19 +1,11 @@
-use Rattle.std.proofs.Common.{◌≡◌, ◌++◌, ◌∷◌, [], length, Ok, sym, ap, subst, ◌∙◌, rules, Err, List}
+use Rattle.std.proofs.{Common.{◌≡◌, ◌++◌, ◌∷◌, [], length, Ok, sym, ap, subst, ◌∙◌, rules, Err, List}, lemmas.Bool.false≢true}
 use Rattle.std.specs.FinMap.{same_entries_map}
-use Rattle.fsfs_reading.specs.Pieces.{revision_of}
-use Rattle.filed_trees.specs.Tables.{AreTabled}
-use Rattle.filed_trees.proofs.Reading.{tabled_same}
-use Rattle.std.proofs.lemmas.Bool.{false≢true}
+use Rattle.fsfs_reading.specs.{Pieces.revision_of, declared.piece.FilePiece.FilePiece}
+use Rattle.filed_trees.specs.{Tables.AreTabled, Comparing.IsLast, Readable.{IsReadableFile, Judges}, Values.IsFiledNext}
+use Rattle.filed_trees.proofs.{Reading.tabled_same, Judged.no_part, OneRepository.{last_changes_are, last_nodes, last_root_is}, Read.same_Ok}
 use Rattle.noderevs.specs.Held.{root_at}
 use Rattle.fsfs_lines.specs.declared.fault.FileFault.{FileFault}
 use Rattle.fsfs_parts.specs.declared.change.FileChange.{FileChange}
-use Rattle.fsfs_reading.specs.declared.piece.FilePiece.{FilePiece}
-use Rattle.filed_trees.specs.Comparing.{IsLast}
-use Rattle.filed_trees.specs.Readable.{IsReadableFile, Judges}
-use Rattle.filed_trees.specs.Values.{IsFiledNext}
-use Rattle.filed_trees.proofs.Judged.{no_part}
-use Rattle.filed_trees.proofs.OneRepository.{last_changes_are, last_nodes, last_root_is}
-use Rattle.filed_trees.proofs.Read.{same_Ok}
 use Rattle.filed_trees.proofs.tabulating.tabulated.Goals as goal
 
 pub returns-in-Ok-true-clause-tabled : goal.returns-in-Ok-true-clause-tabled

@@ -1,6 +1,5 @@
-use Rattle.std.proofs.Common.{rules, ◌≡◌, ◌+◌, ◌*◌, ◌-◌, true, drop, get_or, sym, ap, ◌∙◌, arith}
-use Rattle.std.proofs.lemmas.List.{drop_more}
-use Rattle.repostore.specs.Current.{counted, number_behind, is_digit}
+use Rattle.std.proofs.{Common.{rules, ◌≡◌, ◌+◌, ◌*◌, ◌-◌, true, drop, get_or, sym, ap, ◌∙◌, arith}, lemmas.List.drop_more}
+use Rattle.repostore.specs.Current.{counted, is_digit, number_behind}
 use Rattle.filed_world.proofs.Counts.{too_many, digit_more}
 use Rattle.filed_world.proofs.counting.count_of.Goals as goal
 

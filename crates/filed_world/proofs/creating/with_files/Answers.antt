@@ -1,10 +1,8 @@
 use Rattle.std.proofs.Common.{suc, [], Some, None, refl, sym, ap, subst, ◌∙◌, length}
 use Rattle.std.specs.Prelude.{codes}
 use Rattle.repo_api.specs.States.{RepoState}
-use Rattle.repostore.specs.Files.{Files}
-use Rattle.repostore.specs.Reading.{with_one_more}
-use Rattle.filed_world.specs.Reading.{AreFirst, HasRead}
-use Rattle.filed_world.specs.Creating.{new_files}
+use Rattle.repostore.specs.{Files.Files, Reading.with_one_more}
+use Rattle.filed_world.specs.{Reading.{AreFirst, HasRead}, Creating.new_files}
 use Rattle.filed_world.proofs.Opened.{is_new}
 use Rattle.filed_world.proofs.creating.with_files.Goals as goal
 

@@ -1,8 +1,6 @@
 use Rattle.std.proofs.Common.{rules, ◌∙◌}
-use Rattle.std.specs.Prelude.{not, if◌then◌else◌}
-use Rattle.std.specs.BTreeMap.{is_at}
-use Rattle.svnpath.specs.Paths.{path_cmp, is_at_or_under}
-use Rattle.svnpath.specs.PathLaws.{at_is}
+use Rattle.std.specs.{Prelude.{not, if◌then◌else◌}, BTreeMap.is_at}
+use Rattle.svnpath.specs.{PathLaws.at_is, Paths.{is_at_or_under, path_cmp}}
 use Rattle.repo_api.specs.Edits.{touched}
 use Rattle.revision_data.specs.Found.{found}
 use Rattle.revision_data.proofs.Retained.{lookup-retained}

@@ -1,11 +1,6 @@
-use Rattle.std.proofs.Common.{◌≡◌, rules, true, Some, None, sym, ap, ◌∙◌}
-use Rattle.std.proofs.lemmas.Map.Iter.{rest_more, btree_map_turn}
-use Rattle.std.specs.Prelude.{if◌then◌else◌}
-use Rattle.std.specs.Option.{option_or}
-use Rattle.std.specs.List.{list_any}
-use Rattle.std.specs.Map.{keys_of}
-use Rattle.std.specs.Map.Iter.{deref_pair}
-use Rattle.svnpath.specs.Paths.{path_cmp_total, same_path, is_at_or_under}
+use Rattle.std.proofs.{Common.{◌≡◌, rules, true, Some, None, sym, ap, ◌∙◌}, lemmas.Map.Iter.{rest_more, btree_map_turn}}
+use Rattle.std.specs.{Prelude.if◌then◌else◌, Option.option_or, List.list_any, Map.keys_of, Map.Iter.deref_pair}
+use Rattle.svnpath.specs.Paths.{is_at_or_under, path_cmp_total, same_path}
 use Rattle.revision_data.specs.Found.{found}
 use Rattle.flatrepo.specs.EntryChanges.{copied_entry, landed}
 use Rattle.flatrepo.proofs.Copied.{target, lands, start_copy, copy_more}

@@ -1,8 +1,5 @@
 use Rattle.std.proofs.Common.{◌≡◌, None}
-use Rattle.std.specs.Prelude.{if◌then◌else◌}
-use Rattle.std.specs.Option.{option_or}
-use Rattle.std.specs.List.{list_any}
-use Rattle.std.specs.Map.{keys_of}
+use Rattle.std.specs.{Prelude.if◌then◌else◌, Option.option_or, List.list_any, Map.keys_of}
 use Rattle.svnpath.specs.Paths.{PathValue}
 use Rattle.revision_data.specs.Found.{found}
 use Rattle.flatrepo.specs.EntryChanges.{landed}

@@ -1,6 +1,5 @@
 use Rattle.std.proofs.Common.{refl, sym, ap, ◌∙◌}
-use Rattle.std.specs.Prelude.{is_some}
-use Rattle.std.specs.Option.{option_copied_mut}
+use Rattle.std.specs.{Prelude.is_some, Option.option_copied_mut}
 use Rattle.flatrepo.specs.EntryChanges.{with_properties}
 use Rattle.flatrepo.proofs.Parts.{part_written, part_missing}
 use Rattle.flatrepo.proofs.entries.put_properties.Goals as goal

@@ -1,7 +1,6 @@
 -- Those that are found and those of the paths that are left are all.
 use Rattle.std.proofs.Common.{◌≡◌, ◌++◌, map}
-use Rattle.std.specs.Map.{keys_of}
-use Rattle.std.specs.Map.Iter.{deref}
+use Rattle.std.specs.{Map.keys_of, Map.Iter.deref}
 use Rattle.repo_api.specs.Readings.{names_among}
 use Rattle.flatrepo.proofs.names.names_beneath.Given as goal
 

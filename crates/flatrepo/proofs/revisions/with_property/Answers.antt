@@ -1,9 +1,7 @@
-use Rattle.std.proofs.Common.{◌≡◌, ◌<◌, rules, tests, Some, option_map, length, sym, ap, ◌∙◌}
-use Rattle.std.proofs.lemmas.List.{map-set}
+use Rattle.std.proofs.{Common.{◌≡◌, ◌<◌, rules, tests, Some, option_map, length, sym, ap, ◌∙◌}, lemmas.List.map-set}
 use Rattle.std.proofs.lemmas.Option.{slice_get-map, slice_get-get_or}
 use Rattle.std.specs.Prelude.{slice_get, slice_set}
-use Rattle.repo_api.specs.Kinds.{or_empty}
-use Rattle.repo_api.specs.RevisionProperties.{property_changed}
+use Rattle.repo_api.specs.{Kinds.or_empty, RevisionProperties.property_changed}
 use Rattle.flatrepo.specs.Contents.{values}
 use Rattle.flatrepo.proofs.revisions.with_property.Goals as goal
 

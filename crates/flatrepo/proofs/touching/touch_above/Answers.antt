@@ -1,12 +1,9 @@
 use Rattle.std.proofs.Common.{rules, true, ◌∙◌}
-use Rattle.std.specs.Prelude.{if◌then◌else◌}
-use Rattle.std.specs.BTreeMap.{is_at}
-use Rattle.svnpath.specs.Paths.{path_cmp, is_at_or_under}
-use Rattle.svnpath.specs.PathLaws.{at_is}
+use Rattle.std.specs.{Prelude.if◌then◌else◌, BTreeMap.is_at}
+use Rattle.svnpath.specs.{PathLaws.at_is, Paths.{is_at_or_under, path_cmp}}
 use Rattle.repo_api.specs.Edits.{touched}
 use Rattle.revision_data.specs.Found.{found}
-use Rattle.revision_data.proofs.Retained.{lookup-retained}
-use Rattle.revision_data.proofs.Written.{map_if}
+use Rattle.revision_data.proofs.{Retained.lookup-retained, Written.map_if}
 use Rattle.flatrepo.proofs.touching.touch_above.Goals as goal
 
 pub returns : goal.returns

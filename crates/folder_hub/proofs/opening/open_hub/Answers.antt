@@ -1,7 +1,6 @@
 use Rattle.std.proofs.Common.{sym, subst, ap, ◌∙◌}
 use Rattle.hub_runs.specs.State.{HubState}
-use Rattle.store_access.specs.Keeping.{StandsFor}
-use Rattle.store_access.specs.Stored.{point_in}
+use Rattle.store_access.specs.{Keeping.StandsFor, Stored.point_in}
 use Rattle.world.specs.Whole.{txn_state_of}
 use Rattle.filed_world.specs.Files.{filed_content}
 use Rattle.filed_trees.specs.StandsFor as files

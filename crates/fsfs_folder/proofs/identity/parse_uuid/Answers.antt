@@ -1,5 +1,4 @@
-use Rattle.std.proofs.Common.{sym}
-use Rattle.std.proofs.lemmas.Bool.{false≢true}
+use Rattle.std.proofs.{Common.sym, lemmas.Bool.false≢true}
 use Rattle.fsfs_folder.proofs.Names.{no_uuid}
 use Rattle.fsfs_folder.proofs.identity.parse_uuid.Goals as goal
 

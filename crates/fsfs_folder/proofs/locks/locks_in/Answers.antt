@@ -1,7 +1,5 @@
-use Rattle.std.proofs.Common.{◌≡◌, ◌-◌, ◌<◌, ◌∷◌, length, inl, inr, ⊎_elim, subst, rules}
-use Rattle.std.proofs.lemmas.Result.{err_from_is_err_and}
-use Rattle.repo_api.specs.declared.limits.TheConstants.{LOCK_LIMIT}
-use Rattle.repo_api.specs.Properties.{PropertyList}
+use Rattle.std.proofs.{Common.{◌≡◌, ◌-◌, ◌<◌, ◌∷◌, length, inl, inr, ⊎_elim, subst, rules}, lemmas.Result.err_from_is_err_and}
+use Rattle.repo_api.specs.{declared.limits.TheConstants.LOCK_LIMIT, Properties.PropertyList}
 use Rattle.fsfs_folder.specs.Locks.{locks_within}
 use Rattle.fsfs_folder.proofs.Loops.{locks_behind, no_lock, next_lock}
 use Rattle.fsfs_folder.proofs.locks.locks_in.Goals as goal

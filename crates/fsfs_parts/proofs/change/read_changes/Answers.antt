@@ -1,6 +1,4 @@
-use Rattle.std.proofs.Common.{length, sym, ap, ◌∙◌, inl, inr}
-use Rattle.std.proofs.lemmas.Result.{err_from_is_err_and}
-use Rattle.std.proofs.lemmas.List.{nil_from_length}
+use Rattle.std.proofs.{Common.{length, sym, ap, ◌∙◌, inl, inr}, lemmas.Result.err_from_is_err_and, lemmas.List.nil_from_length}
 use Rattle.std.proofs.lemmas.Bool.{eqb-true, eqb-false}
 use Rattle.fsfs_parts.proofs.Loops.{none_left, no_change, goes_on, some_left}
 use Rattle.fsfs_parts.proofs.change.read_changes.Goals as goal

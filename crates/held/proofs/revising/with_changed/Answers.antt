@@ -1,7 +1,5 @@
-use Rattle.std.proofs.Common.{sym, ap, ◌∙◌}
-use Rattle.std.proofs.lemmas.Option.{slice_get_within}
+use Rattle.std.proofs.{Common.{sym, ap, ◌∙◌}, lemmas.Option.slice_get_within, lemmas.Result.IfOk-weaker}
 use Rattle.std.specs.Prelude.{option_copied}
-use Rattle.std.proofs.lemmas.Result.{IfOk-weaker}
 use Rattle.held.proofs.Again.{set_missing}
 use Rattle.held.proofs.revising.with_changed.Goals as goal
 

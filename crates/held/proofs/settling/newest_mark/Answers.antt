@@ -1,13 +1,9 @@
-use Rattle.std.proofs.Common.{rules, ◌≡◌, ◌≤◌, ◌+◌, [], ◌∷◌, ◌++◌, take, length, max, Some, refl, sym, ap, subst, ◌∙◌}
-use Rattle.std.proofs.lemmas.List.{take_more}
+use Rattle.std.proofs.{Common.{rules, ◌≡◌, ◌≤◌, ◌+◌, [], ◌∷◌, ◌++◌, take, length, max, Some, refl, sym, ap, subst, ◌∙◌}, lemmas.List.take_more}
 use Rattle.std.specs.Prelude.{IsSome}
 use Rattle.svnpath.specs.Paths.{Component}
-use Rattle.noderevs.specs.Held.{node_at}
-use Rattle.noderevs.specs.Nodes.{kid_at}
-use Rattle.noderevs.specs.Views.{find_id, shared_tree}
+use Rattle.noderevs.specs.{Held.node_at, Nodes.kid_at, Views.{find_id, shared_tree}}
 use Rattle.held.specs.Settling.{IsSettledFrom}
-use Rattle.held.proofs.Marks.{IsNoneLater, own_at, next_name, settled_end}
-use Rattle.held.proofs.Seen.{find_on}
+use Rattle.held.proofs.{Marks.{IsNoneLater, own_at, next_name, settled_end}, Seen.find_on}
 use Rattle.held.proofs.settling.newest_mark.Goals as goal
 
 pub loop-name-preserved : goal.loop-name-preserved

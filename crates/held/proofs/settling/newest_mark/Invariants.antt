@@ -1,7 +1,6 @@
 use Rattle.std.proofs.Common.{◌≡◌, take, Some}
 use Rattle.std.specs.Prelude.{IsSome}
-use Rattle.noderevs.specs.Held.{node_at}
-use Rattle.noderevs.specs.Views.{find_id, shared_tree}
+use Rattle.noderevs.specs.{Held.node_at, Views.{find_id, shared_tree}}
 use Rattle.held.proofs.Marks.{IsNoneLater}
 use Rattle.held.proofs.settling.newest_mark.Given as goal
 

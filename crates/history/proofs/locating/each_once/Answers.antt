@@ -1,7 +1,6 @@
 use Rattle.std.proofs.Common.{◌∙◌, ◌++◌, ◌∷◌, [], sym, ap, arith, get_or}
-use Rattle.history.proofs.Once.{once_new, once_again, seen_more, not_seen, was_seen}
+use Rattle.history.proofs.{Once.{once_new, once_again, seen_more, not_seen, was_seen}, locating.each_once.Goals.{then-branch+in_ok-push, else-branch}}
 use Rattle.history.proofs.locating.each_once.Goals as goal
-use Rattle.history.proofs.locating.each_once.Goals.{then-branch+in_ok-push, else-branch}
 
 pub loop-revision-preserved : goal.loop-revision-preserved
 loop-revision-preserved c = record {

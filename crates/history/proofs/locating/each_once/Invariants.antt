@@ -1,9 +1,7 @@
 -- Each of those so far stands there once, and is seen.
 use Rattle.std.proofs.Common.{◌≡◌, ℕ, take}
-use Rattle.std.specs.BTreeSet.{contains}
-use Rattle.std.specs.Ordering.{nat_cmp}
-use Rattle.history.specs.Logs.{is_among}
-use Rattle.history.specs.Locations.{each_once}
+use Rattle.std.specs.{BTreeSet.contains, Ordering.nat_cmp}
+use Rattle.history.specs.{Logs.is_among, Locations.each_once}
 use Rattle.history.proofs.locating.each_once.Given as goal
 
 abbrev pub invariant-loop-revision : goal.invariant-loop-revision

@@ -1,7 +1,6 @@
 use Rattle.std.proofs.Common.{ap, arith}
-use Rattle.history.proofs.Once.{located_some, located_none}
+use Rattle.history.proofs.{Once.{located_some, located_none}, locating.located.Goals.{in-Some+in_ok-push, in_default}}
 use Rattle.history.proofs.locating.located.Goals as goal
-use Rattle.history.proofs.locating.located.Goals.{in-Some+in_ok-push, in_default}
 
 pub loop-revision-preserved : goal.loop-revision-preserved
 loop-revision-preserved g c =

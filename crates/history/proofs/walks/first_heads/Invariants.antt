@@ -1,8 +1,7 @@
 -- The walks of the paths so far.
 use Rattle.std.proofs.Common.{map, take}
 use Rattle.repo_api.specs.Histories.{history_of}
-use Rattle.history.specs.Logs.{oldest_asked, newest_asked, place_at}
-use Rattle.history.specs.Walks.{AreFirst}
+use Rattle.history.specs.{Logs.{oldest_asked, newest_asked, place_at}, Walks.AreFirst}
 use Rattle.history.proofs.walks.first_heads.Given as goal
 
 abbrev pub invariant-loop-path : goal.invariant-loop-path

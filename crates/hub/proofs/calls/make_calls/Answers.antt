@@ -1,5 +1,4 @@
-use Rattle.std.proofs.Common.{rules, ◌≡◌, [], ◌∷◌, ◌++◌, take, sym, ap, ◌∙◌, ◌+◌}
-use Rattle.std.proofs.lemmas.List.{take_more}
+use Rattle.std.proofs.{Common.{rules, ◌≡◌, [], ◌∷◌, ◌++◌, take, sym, ap, ◌∙◌, ◌+◌}, lemmas.List.take_more}
 use Rattle.hub.specs.declared.calls.Call.{Call}
 use Rattle.hub.proofs.Calling.{calls_next, calls_stop}
 use Rattle.hub.proofs.calls.make_calls.Goals as goal

@@ -1,6 +1,5 @@
-use Rattle.std.proofs.Common.{rules}
+use Rattle.std.proofs.{Common.rules, lemmas.Fn.filter_same}
 use Rattle.std.specs.Prelude.{not, ◌==◌}
-use Rattle.std.proofs.lemmas.Fn.{filter_same}
 use Rattle.hub.proofs.hub.drop_session.Goals as goal
 
 pub returns : goal.returns

@@ -1,5 +1,4 @@
-use Rattle.std.proofs.Common.{length, refl, arith}
-use Rattle.std.proofs.lemmas.Option.{slice_get_read}
+use Rattle.std.proofs.{Common.{length, refl, arith}, lemmas.Option.slice_get_read}
 use Rattle.hub.proofs.Places.{finds, none_more, none_to, none_found}
 use Rattle.hub.proofs.hub.index_of.Goals as goal
 

@@ -1,11 +1,8 @@
 -- What is built at each byte.
 use Rattle.std.proofs.Common.{◌≡◌, ◌+◌, ◌-◌, ◌<◌, suc, [], ◌∷◌, ◌++◌, length, get_or, drop, true, false, ◌==◌, sym, ap, ap₂, ◌∙◌, arith, rules}
-use Rattle.std.proofs.lemmas.Result.{IfOk-weaker}
-use Rattle.std.proofs.lemmas.Bool.Decides.{nat_tests}
-use Rattle.items.specs.View.{value_of, values_of}
-use Rattle.items.specs.Build.{read, row_reader}
-use Rattle.items.proofs.Views.{view-Number, view-List}
-use Rattle.items.proofs.Fronts.{all_dropped, read_nothing, read_list, read_number, read_letters, read_other}
+use Rattle.std.proofs.{lemmas.Result.IfOk-weaker, lemmas.Bool.Decides.nat_tests}
+use Rattle.items.specs.{View.{value_of, values_of}, Build.{read, row_reader}}
+use Rattle.items.proofs.{Views.{view-Number, view-List}, Fronts.{all_dropped, read_nothing, read_list, read_number, read_letters, read_other}}
 use Rattle.items.proofs.Turns.{row_on, row_closes, row_stops, row_ends, row_reads}
 use Rattle.items.proofs.build.+build.Goals as goal
 

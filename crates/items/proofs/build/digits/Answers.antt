@@ -1,8 +1,7 @@
 -- Behind the digits nothing more is read.
 use Rattle.std.proofs.Common.{◌≡◌, length, drop, sym, ap, ◌∙◌, arith}
 use Rattle.items.specs.Build.{numeral_at}
-use Rattle.items.proofs.Turns.{digits_stop, digits_end}
-use Rattle.items.proofs.Fronts.{all_dropped}
+use Rattle.items.proofs.{Turns.{digits_stop, digits_end}, Fronts.all_dropped}
 use Rattle.items.proofs.build.digits.Goals as goal
 
 pub returns-then-not-is_ascii_digit : goal.returns-then-not-is_ascii_digit

@@ -1,11 +1,9 @@
 -- Digits, and what lies behind them.
-use Rattle.std.proofs.Common.{◌≡◌, ◌≢◌, ◌⊎◌, inl, inr, ◌<◌, ◌-◌, length, get_or, take, drop, ap, ap₂, ◌∙◌, arith}
-use Rattle.std.proofs.lemmas.Bool.Decides.{nat_tests}
+use Rattle.std.proofs.{Common.{◌≡◌, ◌≢◌, ◌⊎◌, inl, inr, ◌<◌, ◌-◌, length, get_or, take, drop, ap, ap₂, ◌∙◌, arith}, lemmas.Bool.Decides.nat_tests}
 use Rattle.items.specs.Values.{string}
-use Rattle.items.proofs.Views.{view-Number, view-Str}
-use Rattle.items.proofs.Fronts.{all_dropped, counted_number, counted_string}
-use Rattle.items.proofs.build.read_counted.Goals as goal
+use Rattle.items.proofs.{Views.{view-Number, view-Str}, Fronts.{all_dropped, counted_number, counted_string}}
 use Rattle.items.proofs.build.read_counted.Goals.{then-is_empty-via-then-is_empty, then-is_empty-via-else-is_empty+then-rest-ne58}
+use Rattle.items.proofs.build.read_counted.Goals as goal
 
 pub returns-then-is_empty : goal.returns-then-is_empty
 returns-then-is_empty c =

@@ -1,9 +1,7 @@
 -- A letter, and the bytes of a word behind it.
 use Rattle.std.proofs.Common.{◌-◌, length, take, drop, sym, ap, ◌∙◌, subst}
-use Rattle.items.specs.Word.{IsWord}
-use Rattle.items.specs.Values.{word}
-use Rattle.items.proofs.Views.{view-Word}
-use Rattle.items.proofs.Fronts.{all_dropped, word_of, word_read}
+use Rattle.items.specs.{Word.IsWord, Values.word}
+use Rattle.items.proofs.{Views.view-Word, Fronts.{all_dropped, word_of, word_read}}
 use Rattle.items.proofs.build.read_word.Goals as goal
 
 pub from_vec-requires : goal.from_vec-requires

@@ -1,8 +1,7 @@
 -- Behind the whitespace nothing more is passed over.
 use Rattle.std.proofs.Common.{◌≡◌, length, drop, sym, ap, ◌∙◌, arith}
 use Rattle.items.specs.Build.{behind_spaces}
-use Rattle.items.proofs.Turns.{spaces_stop, spaces_end}
-use Rattle.items.proofs.Fronts.{all_dropped}
+use Rattle.items.proofs.{Turns.{spaces_stop, spaces_end}, Fronts.all_dropped}
 use Rattle.items.proofs.build.skip_spaces.Goals as goal
 
 pub returns-then-not-is_space : goal.returns-then-not-is_space

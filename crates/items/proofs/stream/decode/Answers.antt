@@ -1,12 +1,8 @@
 -- The pieces so far, and then all of them.
-use Rattle.std.proofs.Common.{◌≡◌, ◌+◌, ◌++◌, take, drop, take_all, sym, ap, ◌∙◌, arith}
-use Rattle.std.proofs.lemmas.Result.{err_from_is_err_and}
+use Rattle.std.proofs.{Common.{◌≡◌, ◌+◌, ◌++◌, take, drop, take_all, sym, ap, ◌∙◌, arith}, lemmas.Result.err_from_is_err_and}
 use Rattle.std.specs.List.{flat_map}
-use Rattle.items.specs.Stream.{Splits}
-use Rattle.items.specs.View.{values_of}
-use Rattle.items.proofs.Rows.{decoded_none, decoded_more}
-use Rattle.items.proofs.Failed.{fault_of_stream, flat-more, flat-split}
-use Rattle.items.proofs.Unique.{one_split}
+use Rattle.items.specs.{Stream.Splits, View.values_of}
+use Rattle.items.proofs.{Rows.{decoded_none, decoded_more}, Failed.{fault_of_stream, flat-more, flat-split}, Unique.one_split}
 use Rattle.items.proofs.stream.decode.Goals as goal
 
 pub loop-piece-init : goal.loop-piece-init

@@ -1,8 +1,6 @@
 -- An item more, and then none.
 use Rattle.std.proofs.Common.{◌≡◌, ◌++◌, ◌∷◌, [], sym, subst, rules}
-use Rattle.items.specs.Unread.{Unread}
-use Rattle.items.specs.Reading.{HasNone}
-use Rattle.items.specs.Decoding.{TakesSome}
+use Rattle.items.specs.{Unread.Unread, Reading.HasNone, Decoding.TakesSome}
 use Rattle.items.proofs.Rows.{takes_item}
 use Rattle.items.proofs.stream.take_all.Goals as goal
 

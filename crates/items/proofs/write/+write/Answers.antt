@@ -1,12 +1,7 @@
 -- One item more is written.
-use Rattle.std.proofs.Common.{◌≡◌, ◌+◌, ◌++◌, ◌∷◌, [], List, take, sym, ap, ◌∙◌, subst, append_assoc}
-use Rattle.std.proofs.lemmas.List.{take_more}
-use Rattle.items.specs.View.{value_of, values_of}
-use Rattle.items.specs.Print.{printed, row_printed}
-use Rattle.items.specs.declared.item.Item.{Item}
-use Rattle.items.specs.Written.{HaveWords}
-use Rattle.items.proofs.Wrote.{words-snoc}
-use Rattle.items.proofs.Printed.{row_printed-snoc}
+use Rattle.std.proofs.{Common.{◌≡◌, ◌+◌, ◌++◌, ◌∷◌, [], List, take, sym, ap, ◌∙◌, subst, append_assoc}, lemmas.List.take_more}
+use Rattle.items.specs.{View.{value_of, values_of}, Print.{printed, row_printed}, declared.item.Item.Item, Written.HaveWords}
+use Rattle.items.proofs.{Wrote.words-snoc, Printed.row_printed-snoc}
 use Rattle.items.proofs.write.+write.Goals as goal
 
 pub append_list-loop-item-preserved : goal.append_list-loop-item-preserved

@@ -1,7 +1,5 @@
 use Rattle.std.proofs.Common.{◌≡◌, ◌++◌, ◌∷◌, [], take}
-use Rattle.items.specs.Print.{row_printed}
-use Rattle.items.specs.Written.{HaveWords}
-use Rattle.items.specs.View.{values_of}
+use Rattle.items.specs.{Print.row_printed, Written.HaveWords, View.values_of}
 use Rattle.items.proofs.write.+write.Given as goal
 
 abbrev pub invariant-append_list-loop-item : goal.invariant-append_list-loop-item

@@ -1,6 +1,4 @@
-use Rattle.std.proofs.Common.{List, length, of_calls, refl, rules, sym}
-use Rattle.std.proofs.lemmas.Fn.{always_returns_same}
-use Rattle.std.proofs.lemmas.Option.{slice_get_read}
+use Rattle.std.proofs.{Common.{List, length, of_calls, refl, rules, sym}, lemmas.Fn.always_returns_same, lemmas.Option.slice_get_read}
 use Rattle.svnpath.specs.Paths.{path_cmp}
 use Rattle.repo_api.specs.Histories.{Changed}
 use Rattle.next_blocks.proofs.Searching.{hit, miss}

@@ -1,6 +1,5 @@
 use Rattle.std.proofs.Common.{◌≡◌, true, sym, subst, ◌∙◌}
-use Rattle.svnpath.specs.PathLaws.{same_path_is, same_path_refl}
-use Rattle.svnpath.specs.Paths.{same_path}
+use Rattle.svnpath.specs.{PathLaws.{same_path_is, same_path_refl}, Paths.same_path}
 use Rattle.next_blocks.proofs.kids.is_same_path.Goals as goal
 
 pub returns : goal.returns

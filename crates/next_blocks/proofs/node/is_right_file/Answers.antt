@@ -1,9 +1,6 @@
-use Rattle.std.proofs.Common.{◌≡◌, false, List, ℕ, refl, sym, ◌∙◌}
-use Rattle.std.proofs.lemmas.Bool.{false≢true}
+use Rattle.std.proofs.{Common.{◌≡◌, false, List, ℕ, refl, sym, ◌∙◌}, lemmas.Bool.false≢true}
 use Rattle.std.specs.Arc.{arc_value}
-use Rattle.repo_api.specs.Trees.{is_directory_content}
-use Rattle.repo_api.specs.declared.entry.Content.{Content}
-use Rattle.repo_api.specs.declared.entry.Content.TheVariants.{Directory, File}
+use Rattle.repo_api.specs.{Trees.is_directory_content, declared.entry.Content.Content, declared.entry.Content.TheVariants.{Directory, File}}
 use Rattle.next_blocks.proofs.node.is_right_file.Goals as goal
 
 file_of : (content : Content) → is_directory_content content ≡ false → (text : List ℕ) × (content ≡ File text)

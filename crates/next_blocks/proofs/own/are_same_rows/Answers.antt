@@ -1,5 +1,4 @@
-use Rattle.std.proofs.Common.{rules, ◌≡◌, true, false, refl, sym, ◌∙◌, arith}
-use Rattle.std.proofs.lemmas.Bool.{false≢true}
+use Rattle.std.proofs.{Common.{rules, ◌≡◌, true, false, refl, sym, ◌∙◌, arith}, lemmas.Bool.false≢true}
 use Rattle.std.specs.Map.Iter.{deref_pair}
 use Rattle.next_blocks.proofs.Lists.{both_more, both_at_end, same_at}
 use Rattle.next_blocks.proofs.own.are_same_rows.Goals as goal

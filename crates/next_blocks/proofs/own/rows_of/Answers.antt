@@ -1,7 +1,5 @@
-use Rattle.std.proofs.Common.{◌≡◌, map, subst}
-use Rattle.std.specs.Map.Iter.{deref_pair}
-use Rattle.std.specs.Prelude.{IfOk}
-use Rattle.std.proofs.lemmas.Iterator.Consumers.{map_from_collect, YieldsList-from_rest}
+use Rattle.std.proofs.{Common.{◌≡◌, map, subst}, lemmas.Iterator.Consumers.{map_from_collect, YieldsList-from_rest}}
+use Rattle.std.specs.{Map.Iter.deref_pair, Prelude.IfOk}
 use Rattle.next_blocks.proofs.own.rows_of.Goals as goal
 
 pub returns : goal.returns

@@ -33,8 +33,7 @@ use denote.Triple.Entry.{on_entry, alive}
 use denote.Triple.Spec.{Meets, triple_of}
 use denote.Triple.Table.{entered}
 use denote.Triple.Walked.{says, Stays, stay_dropped, walk_of, ends_at, Goes-dropped, walk_Meets}
-use Rattle.noted.specs.contracts.Noted.of.{ended, clauses}
-use Rattle.noted.specs.contracts.Noted.of.Key.{name as #self}
+use Rattle.noted.specs.{contracts.Noted.of.{ended, clauses}, contracts.Noted.of.Key.name as #self}
 use Rattle.noted.proofs.Noted.of.Statement as stated
 use Rattle.noted.proofs.Noted.of.Code as code
 

@@ -1,5 +1,4 @@
-use Rattle.std.proofs.Common.{◌++◌, ◌∷◌, [], map, sym, ap, ◌∙◌}
-use Rattle.std.proofs.lemmas.List.{append-nil, map_push}
+use Rattle.std.proofs.{Common.{◌++◌, ◌∷◌, [], map, sym, ap, ◌∙◌}, lemmas.List.{append-nil, map_push}}
 use Rattle.std.specs.Map.Iter.{deref_pair}
 use Rattle.svnpath.specs.Paths.{path_cmp-IsAntisymmetric}
 use Rattle.pathlocks.proofs.Ways.{one_at, none_at}

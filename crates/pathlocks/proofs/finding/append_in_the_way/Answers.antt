@@ -1,7 +1,5 @@
-use Rattle.std.proofs.Common.{◌++◌, map, sym, ap, ◌∙◌}
-use Rattle.std.proofs.lemmas.List.{append-nil}
-use Rattle.std.specs.Map.Iter.{deref_pair}
-use Rattle.std.specs.Prelude.{option_copied}
+use Rattle.std.proofs.{Common.{◌++◌, map, sym, ap, ◌∙◌}, lemmas.List.append-nil}
+use Rattle.std.specs.{Map.Iter.deref_pair, Prelude.option_copied}
 use Rattle.pathlocks.proofs.Ways.{left, finds_below, finds_after, finds_none}
 use Rattle.pathlocks.proofs.finding.append_in_the_way.Goals as goal
 

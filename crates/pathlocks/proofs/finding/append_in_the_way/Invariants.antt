@@ -1,7 +1,5 @@
 use Rattle.std.proofs.Common.{◌++◌, map}
-use Rattle.std.specs.List.{filter}
-use Rattle.std.specs.Map.Iter.{deref_pair}
-use Rattle.std.specs.Prelude.{option_copied}
+use Rattle.std.specs.{List.filter, Map.Iter.deref_pair, Prelude.option_copied}
 use Rattle.repo_api.specs.Locking.{is_reached}
 use Rattle.pathlocks.proofs.Ways.{Finds}
 use Rattle.pathlocks.proofs.finding.append_in_the_way.Given as goal

@@ -1,6 +1,5 @@
-use Rattle.std.specs.Map.Iter.{deref_pair}
+use Rattle.std.specs.{Map.Iter.deref_pair, List.filter}
 use Rattle.std.proofs.Common.{◌≡◌, ◌++◌, map, sym, ap, subst, ◌∙◌}
-use Rattle.std.specs.List.{filter}
 use Rattle.svnpath.specs.Paths.{is_at_or_under}
 use Rattle.pathlocks.proofs.Runs.{Ends, from, ends_from, under_from, kept, ended, ends_rest}
 use Rattle.pathlocks.proofs.finding.append_under.Goals as goal

@@ -1,6 +1,5 @@
-use Rattle.std.specs.List.{filter}
+use Rattle.std.specs.{List.filter, Map.Iter.deref_pair}
 use Rattle.svnpath.specs.Paths.{is_at_or_under}
-use Rattle.std.specs.Map.Iter.{deref_pair}
 use Rattle.std.proofs.Common.{◌≡◌, ◌++◌, map}
 use Rattle.pathlocks.proofs.Runs.{Ends}
 use Rattle.pathlocks.proofs.finding.append_under.Given as goal

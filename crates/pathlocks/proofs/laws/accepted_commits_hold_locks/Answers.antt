@@ -1,9 +1,5 @@
-use Rattle.repo_api.specs.Commits.{limit_refusal}
-use Rattle.repo_api.specs.Locking.{check_refusal}
-use Rattle.repo_api.specs.MergedMaps.{has_conflict}
-use Rattle.repo_api.specs.States.{tree_at, youngest}
-use Rattle.pathlocks.proofs.AllHeld.{all_held}
-use Rattle.pathlocks.proofs.Changing.{first_none, front_none}
+use Rattle.repo_api.specs.{Commits.limit_refusal, Locking.check_refusal, MergedMaps.has_conflict, States.{tree_at, youngest}}
+use Rattle.pathlocks.proofs.{AllHeld.all_held, Changing.{first_none, front_none}}
 use Rattle.pathlocks.proofs.laws.accepted_commits_hold_locks.Goals as goal
 
 pub returns : goal.returns

@@ -1,8 +1,5 @@
-use Rattle.std.proofs.Common.{map, drop, ◌+◌, sym, ap, ◌∙◌}
-use Rattle.std.proofs.lemmas.List.{at_drop_more}
-use Rattle.std.specs.Map.Iter.{deref_pair}
-use Rattle.std.specs.Option.{option_or}
-use Rattle.std.specs.Prelude.{option_copied}
+use Rattle.std.proofs.{Common.{map, drop, ◌+◌, sym, ap, ◌∙◌}, lemmas.List.at_drop_more}
+use Rattle.std.specs.{Map.Iter.deref_pair, Option.option_or, Prelude.option_copied}
 use Rattle.pathlocks.specs.Handed.{is_lent}
 use Rattle.repo_api.specs.Locking.{first_refusal, way_refusal}
 use Rattle.pathlocks.proofs.refusing.first_refusal.Goals as goal

@@ -1,6 +1,5 @@
 use Rattle.std.proofs.Common.{◌≡◌, map, drop}
-use Rattle.std.specs.Map.Iter.{deref_pair}
-use Rattle.std.specs.Prelude.{option_copied}
+use Rattle.std.specs.{Map.Iter.deref_pair, Prelude.option_copied}
 use Rattle.pathlocks.specs.Handed.{is_lent}
 use Rattle.repo_api.specs.Locking.{first_refusal}
 use Rattle.pathlocks.proofs.refusing.first_refusal.Given as goal

@@ -1,7 +1,6 @@
 use Rattle.std.proofs.Common.{sym, ap, ◌∙◌}
-use Rattle.std.specs.Option.{is_none}
-use Rattle.std.specs.Prelude.{option_copied}
-use Rattle.repo_api.specs.Locking.{is_held, holder_refusal}
+use Rattle.std.specs.{Option.is_none, Prelude.option_copied}
+use Rattle.repo_api.specs.Locking.{holder_refusal, is_held}
 use Rattle.pathlocks.proofs.Held.{not_some}
 use Rattle.pathlocks.proofs.refusing.is_held.Goals as goal
 

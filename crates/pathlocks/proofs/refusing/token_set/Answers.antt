@@ -1,5 +1,4 @@
-use Rattle.std.proofs.Common.{◌||◌, take, sym, ap, ◌∙◌}
-use Rattle.std.proofs.lemmas.List.Folds.{list_any_more}
+use Rattle.std.proofs.{Common.{◌||◌, take, sym, ap, ◌∙◌}, lemmas.List.Folds.list_any_more}
 use Rattle.svnpath.specs.Paths.{same_component}
 use Rattle.pathlocks.specs.Handed.{is_lent}
 use Rattle.repo_api.specs.Locking.{is_handed_in}

@@ -1,15 +1,8 @@
-use Rattle.std.proofs.Common.{cond, [], ◌∷◌, ◌++◌, Some, None, refl, sym, arith}
-use Rattle.std.proofs.lemmas.Bool.{false≢true}
-use Rattle.std.proofs.lemmas.List.Elements.{Contains-get_or}
-use Rattle.std.specs.BTreeMap.{is_at}
-use Rattle.std.specs.Prelude.{IsSome, Contains}
-use Rattle.svnpath.specs.Components.{IsRightPath}
-use Rattle.svnpath.specs.Paths.{PathValue, Component, path_cmp}
+use Rattle.std.proofs.{Common.{cond, [], ◌∷◌, ◌++◌, Some, None, refl, sym, arith}, lemmas.Bool.false≢true, lemmas.List.Elements.Contains-get_or}
+use Rattle.std.specs.{BTreeMap.is_at, Prelude.{IsSome, Contains}}
+use Rattle.svnpath.specs.{Components.IsRightPath, Paths.{Component, path_cmp, PathValue}}
 use Rattle.svnpath.proofs.BeneathLemmas.{root_right}
-use Rattle.repo_api.specs.Opening.{opening_root, opening_tree}
-use Rattle.repo_api.specs.States.{tree_of}
-use Rattle.repo_api.specs.StateLaws.{get_path}
-use Rattle.repo_api.specs.Trees.{Tree, IsTree, text_of}
+use Rattle.repo_api.specs.{Opening.{opening_root, opening_tree}, StateLaws.get_path, States.tree_of, Trees.{IsTree, text_of, Tree}}
 use Rattle.repo_laws.proofs.Keeping.{IsShort, no_text, tree_by_paths}
 use Rattle.repo_laws.proofs.laws.opening_is_a_tree.Goals as goal
 

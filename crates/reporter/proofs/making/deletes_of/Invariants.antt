@@ -1,6 +1,5 @@
 use Rattle.std.proofs.Common.{◌≡◌, take, map}
-use Rattle.reporter.specs.declared.visit.Visit.TheVariants.{Delete}
-use Rattle.reporter.specs.Walks.{going}
+use Rattle.reporter.specs.{declared.visit.Visit.TheVariants.Delete, Walks.going}
 use Rattle.reporter.proofs.making.deletes_of.Given as goal
 
 abbrev pub invariant-loop-path : goal.invariant-loop-path

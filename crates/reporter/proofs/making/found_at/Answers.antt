@@ -1,13 +1,9 @@
-use Rattle.std.proofs.Common.{◌≡◌, false, ◌||◌, not, sym, ap, ◌∙◌, subst}
-use Rattle.std.proofs.lemmas.Bool.{false≢true}
-use Rattle.std.proofs.lemmas.Result.{IfOk-weaker}
+use Rattle.std.proofs.{Common.{◌≡◌, false, ◌||◌, not, sym, ap, ◌∙◌, subst}, lemmas.Bool.false≢true, lemmas.Result.IfOk-weaker}
 use Rattle.std.specs.Prelude.{is_some}
-use Rattle.reporter.proofs.Plans.{absent, comes, entry_plan, staying}
-use Rattle.reporter.proofs.Reasons.{Reason}
-use Rattle.reporter.proofs.making.found_at.Goals.{then-is_anew, else-is_anew, else-not-comes-via-then-not-comes+in_ok-has_news+else-not-branch, else-not-comes-via-else-not-comes}
+use Rattle.reporter.proofs.{Plans.{absent, comes, entry_plan, staying}, Reasons.Reason, making.found_at.Goals.{then-is_anew, else-is_anew}}
+use Rattle.reporter.proofs.making.found_at.Goals.{else-not-comes-via-then-not-comes+in_ok-has_news+else-not-branch, else-not-comes-via-else-not-comes}
 use Rattle.reporter.proofs.making.found_at.Goals as goal
-use Rattle.reporter.specs.Left.{IsEntry, IsPlanOf}
-use Rattle.reporter.specs.Walks.{goes}
+use Rattle.reporter.specs.{Left.{IsEntry, IsPlanOf}, Walks.goes}
 
 pub returns-then-not-is_present : goal.returns-then-not-is_present
 returns-then-not-is_present g c = λ vs is.

@@ -1,7 +1,6 @@
 -- Nothing that goes is left, and what is left now may follow what was left before.
 use Rattle.std.proofs.Common.{◌≡◌, List, [], length}
-use Rattle.reporter.specs.Left.{IsLeftIn}
-use Rattle.reporter.specs.declared.visit.Visit.{Visit}
+use Rattle.reporter.specs.{Left.IsLeftIn, declared.visit.Visit.Visit}
 use Rattle.reporter.proofs.making.next_entry.Given as goal
 
 abbrev pub invariant-loop-path : goal.invariant-loop-path

@@ -1,5 +1,4 @@
-use Rattle.std.proofs.Common.{◌++◌, sym, subst}
-use Rattle.std.proofs.lemmas.Result.{IfOk-weaker}
+use Rattle.std.proofs.{Common.{◌++◌, sym, subst}, lemmas.Result.IfOk-weaker}
 use Rattle.reporter.proofs.Leaving.{LeftOf}
 use Rattle.reporter.proofs.making.next_found.Goals as goal
 

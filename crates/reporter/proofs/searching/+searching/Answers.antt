@@ -1,12 +1,9 @@
-use Rattle.std.proofs.Common.{arith, ◌≡◌, false, not, sym, ◌∙◌, subst, inr, ◌+◌, ◌<◌, length}
-use Rattle.std.proofs.lemmas.List.{take_all}
-use Rattle.std.proofs.lemmas.Result.{IfOk-weaker}
+use Rattle.std.proofs.{Common.{arith, ◌≡◌, false, not, sym, ◌∙◌, subst, inr, ◌+◌, ◌<◌, length}, lemmas.List.take_all, lemmas.Result.IfOk-weaker}
 use Rattle.std.specs.Prelude.{is_some}
 use Rattle.svnpath.specs.PathLaws.{under_itself}
 use Rattle.drive_rules.proofs.Joined.{or_false}
 use Rattle.reporter.specs.Walks.{IsChild, AreChildren, AreAll, goes}
-use Rattle.reporter.proofs.Planning.{same_length, not_false}
-use Rattle.reporter.proofs.Plans.{absent, alike, below_file, same}
+use Rattle.reporter.proofs.{Planning.{same_length, not_false}, Plans.{absent, alike, below_file, same}}
 use Rattle.reporter.proofs.Reasons.{SaysNothing, coming_reason, going_reason, nothing_said_below, one_more, reason_above}
 use Rattle.reporter.proofs.searching.+searching.Goals as goal
 

@@ -1,11 +1,8 @@
 use Rattle.std.proofs.Common.{rules, true, ◌∙◌}
-use Rattle.std.specs.Prelude.{not, if◌then◌else◌}
-use Rattle.std.specs.BTreeMap.{is_at}
-use Rattle.svnpath.specs.Paths.{path_cmp, same_path, is_at_or_under}
-use Rattle.svnpath.specs.PathLaws.{at_is}
+use Rattle.std.specs.{Prelude.{not, if◌then◌else◌}, BTreeMap.is_at}
+use Rattle.svnpath.specs.{PathLaws.at_is, Paths.{is_at_or_under, path_cmp, same_path}}
 use Rattle.revision_data.specs.Found.{found}
-use Rattle.revision_data.proofs.Retained.{lookup-retained}
-use Rattle.revision_data.proofs.Written.{kept_if}
+use Rattle.revision_data.proofs.{Retained.lookup-retained, Written.kept_if}
 use Rattle.revision_data.proofs.noting.forget_beneath.Goals as goal
 
 pub returns : goal.returns

@@ -1,6 +1,5 @@
 use Rattle.std.proofs.Common.{refl, sym, ap, ◌∙◌}
-use Rattle.std.specs.Prelude.{is_some}
-use Rattle.std.specs.Option.{option_copied_mut}
+use Rattle.std.specs.{Prelude.is_some, Option.option_copied_mut}
 use Rattle.revision_data.proofs.Written.{written, missing}
 use Rattle.revision_data.proofs.noting.replace.Goals as goal
 

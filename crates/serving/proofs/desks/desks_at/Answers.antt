@@ -1,6 +1,5 @@
-use Rattle.std.proofs.Common.{rules, subst, sym}
+use Rattle.std.proofs.{Common.{rules, subst, sym}, lemmas.List.Elements.{All-push, All-rest}}
 use Rattle.std.specs.Prelude.{All}
-use Rattle.std.proofs.lemmas.List.Elements.{All-push, All-rest}
 use Rattle.access.specs.Points.{content_of}
 use Rattle.repo_api.specs.Soundness.{AreSound}
 use Rattle.serving.proofs.desks.desks_at.Goals as goal

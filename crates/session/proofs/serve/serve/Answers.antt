@@ -1,6 +1,5 @@
 use Rattle.access.specs.Points.{content_of}
-use Rattle.machine.specs.Hearing.Input.{Broken}
-use Rattle.machine.specs.Machine.{InputStep}
+use Rattle.machine.specs.{Hearing.Input.Broken, Machine.InputStep}
 use Rattle.session_replies.proofs.Steps.{said, unparted}
 use Rattle.session.proofs.Answered.{broken_answer, broken_nothing, step_broken}
 use Rattle.session.proofs.serve.serve.Goals as goal

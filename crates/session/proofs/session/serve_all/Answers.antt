@@ -1,6 +1,4 @@
-use Rattle.std.proofs.Common.{sym, ◌∙◌}
-use Rattle.std.proofs.lemmas.Result.{err_from_is_err_and}
-use Rattle.std.proofs.lemmas.Bool.{false≢true}
+use Rattle.std.proofs.{Common.{sym, ◌∙◌}, lemmas.Result.err_from_is_err_and, lemmas.Bool.false≢true}
 use Rattle.session.specs.Taking.{input_of}
 use Rattle.machine.proofs.Resting.{rests_served, trees_failed}
 use Rattle.session.proofs.Runs.{start, more, finish, stop, halt}

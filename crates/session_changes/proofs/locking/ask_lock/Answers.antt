@@ -1,11 +1,9 @@
 use Rattle.std.proofs.Common.{[], ◌∷◌, refl}
 use Rattle.wire_replies.specs.declared.reply.Reply.TheVariants as replies
-use Rattle.repo_api.specs.Accepted.Accepted.{Locks}
-use Rattle.repo_api.specs.Locking.{lock_refusal, lock_of}
-use Rattle.machine.specs.Commands.{lock_answer, env_without_token}
+use Rattle.repo_api.specs.{Accepted.Accepted.Locks, Locking.{lock_of, lock_refusal}}
+use Rattle.machine.specs.Commands.{env_without_token, lock_answer}
 use Rattle.session_replies.specs.Telling.{told_before}
-use Rattle.session_replies.proofs.Steps.{stepped}
-use Rattle.session_replies.proofs.Changes.{made, not_made}
+use Rattle.session_replies.proofs.{Steps.stepped, Changes.{made, not_made}}
 use Rattle.session_changes.proofs.locking.ask_lock.Goals as goal
 
 pub returns-in-Ok-lock : goal.returns-in-Ok-lock

@@ -1,11 +1,9 @@
 use Rattle.std.proofs.Common.{[], ◌∷◌, refl}
 use Rattle.wire_replies.specs.declared.reply.Reply.TheVariants as replies
-use Rattle.repo_api.specs.Accepted.Accepted.{Unlocks}
-use Rattle.repo_api.specs.Locking.{unlock_refusal}
+use Rattle.repo_api.specs.{Accepted.Accepted.Unlocks, Locking.unlock_refusal}
 use Rattle.machine.specs.Answers.{change_answer}
 use Rattle.session_replies.specs.Telling.{told_before}
-use Rattle.session_replies.proofs.Steps.{stepped}
-use Rattle.session_replies.proofs.Changes.{made, not_made}
+use Rattle.session_replies.proofs.{Steps.stepped, Changes.{made, not_made}}
 use Rattle.session_changes.proofs.unlocking.ask_unlock.Goals as goal
 
 pub returns-in-Ok : goal.returns-in-Ok

@@ -2,9 +2,8 @@ use Rattle.svnpath.specs.Texts.{joined}
 use Rattle.access.specs.Points.{content_of}
 use Rattle.machine.specs.Commands.{UnlockStep}
 use Rattle.session_replies.specs.Telling.{told_before}
-use Rattle.session_replies.proofs.Steps.{stepped, leads_behind, only_says}
+use Rattle.session_replies.proofs.{Steps.{stepped, leads_behind, only_says}, Changes.stepped_is}
 use Rattle.session_changes.specs.Asked.{UnlockAsked}
-use Rattle.session_replies.proofs.Changes.{stepped_is}
 use Rattle.session_changes.proofs.Changes.{unlock_is, unlock_refused, fault_is}
 use Rattle.session_changes.proofs.unlocking.unlock.Goals as goal
 

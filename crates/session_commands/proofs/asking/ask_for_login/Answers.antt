@@ -1,8 +1,6 @@
 use Rattle.std.proofs.Common.{[], ◌∷◌, refl, subst}
 use Rattle.wire_replies.specs.declared.reply.Reply.TheVariants.{Login}
-use Rattle.machine.specs.Answers.{says}
-use Rattle.machine.specs.Steps.{Answered}
-use Rattle.machine.specs.declared.phase.Phase.TheVariants.{LoggingIn}
+use Rattle.machine.specs.{Answers.says, Steps.Answered, declared.phase.Phase.TheVariants.LoggingIn}
 use Rattle.session_replies.proofs.Steps.{stood}
 use Rattle.session_commands.proofs.asking.ask_for_login.Goals as goal
 

@@ -1,4 +1,4 @@
-use Rattle.machine.specs.Commands.{lock_tokens, asked_by, commit_begins}
+use Rattle.machine.specs.Commands.{asked_by, commit_begins, lock_tokens}
 use Rattle.session_replies.specs.Telling.{told_before}
 use Rattle.session_replies.proofs.Steps.{behind_answered}
 use Rattle.session_commands.proofs.own.begin_commit.Goals as goal

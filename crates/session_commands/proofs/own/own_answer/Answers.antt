@@ -3,8 +3,7 @@ use Rattle.svnpath.specs.Urls.{path_of_text}
 use Rattle.refusals.specs.declared.Refusal.TheVariants as refusals
 use Rattle.wire_replies.specs.declared.reply.Reply.TheVariants as replies
 use Rattle.access.specs.Points.{content_of}
-use Rattle.machine.specs.Answers.{says, serves}
-use Rattle.machine.specs.Commands.{drive_ask, lock_tokens, asked_by, commit_begins, reparented}
+use Rattle.machine.specs.{Answers.{says, serves}, Commands.{asked_by, commit_begins, drive_ask, lock_tokens, reparented}}
 use Rattle.machine.specs.declared.phase.Phase.TheVariants.{Serving}
 use Rattle.drive_reports.specs.Refusing.{begun_report}
 use Rattle.session_commands.proofs.Answered.{begins, moves, answered, opened}

@@ -1,6 +1,5 @@
 use Rattle.std.proofs.Common.{◌≡◌, Some, None, sym, ap, ◌∙◌}
-use Rattle.machine.specs.Machine.{ending_of}
-use Rattle.machine.specs.declared.ending.Ending.TheVariants.{Commits, GivesUp}
+use Rattle.machine.specs.{Machine.ending_of, declared.ending.Ending.TheVariants.{Commits, GivesUp}}
 use Rattle.session_replies.proofs.Steps.{stepped, unparted, parted}
 use Rattle.session_commits.proofs.Edits.{aborts, ends_so}
 use Rattle.session_commits.proofs.edit.edit_command.Goals as goal

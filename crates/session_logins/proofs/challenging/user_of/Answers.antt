@@ -1,8 +1,6 @@
-use Rattle.std.proofs.Common.{None, sym, subst}
-use Rattle.std.proofs.lemmas.Result.{IfOk-weaker}
+use Rattle.std.proofs.{Common.{None, sym, subst}, lemmas.Result.IfOk-weaker}
 use Rattle.std.specs.Prelude.{◌≡◌, ◌≢◌}
-use Rattle.cram.specs.Answer.{IsAnswerOf}
-use Rattle.cram.specs.declared.fault.CramFault.TheVariants.{NoMemory}
+use Rattle.cram.specs.{Answer.IsAnswerOf, declared.fault.CramFault.TheVariants.NoMemory}
 use Rattle.session_logins.proofs.challenging.user_of.Goals as goal
 
 pub returns-in-Err : goal.returns-in-Err

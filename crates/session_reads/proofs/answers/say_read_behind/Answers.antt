@@ -1,5 +1,4 @@
-use Rattle.std.proofs.Common.{◌++◌, subst}
-use Rattle.std.proofs.lemmas.Result.{err_from_is_err_and}
+use Rattle.std.proofs.{Common.{◌++◌, subst}, lemmas.Result.err_from_is_err_and}
 use Rattle.repo_api.specs.States.{RepoState}
 use Rattle.wire_replies.specs.Sinks.{Says}
 use Rattle.wire_replies.proofs.Parts.{part_none, part_first, said_behind}

@@ -1,5 +1,4 @@
-use Rattle.machine.specs.Commands.{read_replies}
-use Rattle.machine.specs.declared.phase.Phase.TheVariants.{Serving}
+use Rattle.machine.specs.{Commands.read_replies, declared.phase.Phase.TheVariants.Serving}
 use Rattle.session_replies.specs.Telling.{told_before}
 use Rattle.session_replies.proofs.Steps.{stood}
 use Rattle.session_reads.proofs.Listed.{listed}

@@ -1,5 +1,4 @@
-use Rattle.std.proofs.Common.{[], ◌∷◌, sym}
-use Rattle.std.proofs.lemmas.Result.{err_from_is_err_and}
+use Rattle.std.proofs.{Common.{[], ◌∷◌, sym}, lemmas.Result.err_from_is_err_and}
 use Rattle.wire_replies.proofs.Parts.{part_first, said_behind}
 use Rattle.machine.specs.Readings.{file_told, text_told}
 use Rattle.session_reads.proofs.files.say_file_at.Goals as goal

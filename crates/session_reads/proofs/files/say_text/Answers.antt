@@ -1,5 +1,4 @@
-use Rattle.std.proofs.Common.{[], ◌∷◌}
-use Rattle.std.proofs.lemmas.Result.{err_from_is_err_and}
+use Rattle.std.proofs.{Common.{[], ◌∷◌}, lemmas.Result.err_from_is_err_and}
 use Rattle.wire_replies.specs.Replies.{contents}
 use Rattle.wire_replies.specs.declared.reply.Reply.TheVariants as replies
 use Rattle.wire_replies.proofs.Parts.{part_first, said_behind}

@@ -1,5 +1,4 @@
-use Rattle.std.proofs.Common.{map}
-use Rattle.std.proofs.lemmas.Result.{err_from_is_err_and}
+use Rattle.std.proofs.{Common.map, lemmas.Result.err_from_is_err_and}
 use Rattle.repo_api.specs.Histories.{history_of}
 use Rattle.history.specs.Walks.{to_come}
 use Rattle.wire_replies.specs.declared.reply.Reply.TheVariants as replies

@@ -1,7 +1,6 @@
 use Rattle.std.proofs.Common.{sym, subst, List}
-use Rattle.wire_replies.specs.declared.reply.Reply.{Reply}
+use Rattle.wire_replies.specs.{declared.reply.Reply.Reply, Sinks.Says}
 use Rattle.session_reads.proofs.Listed.{log_listed}
-use Rattle.wire_replies.specs.Sinks.{Says}
 use Rattle.session_reads.proofs.logs.say_log.Goals as goal
 
 pub returns-in-None : goal.returns-in-None

@@ -1,7 +1,6 @@
 use Rattle.std.proofs.Common.{List, ℕ, sym, ap, subst, ◌∙◌}
 use Rattle.std.specs.Prelude.{Result, Ok}
-use Rattle.svnpath.specs.Paths.{PathValue}
-use Rattle.svnpath.specs.declared.fault.PathFault.{PathFault}
+use Rattle.svnpath.specs.{Paths.PathValue, declared.fault.PathFault.PathFault}
 use Rattle.machine.specs.Histories.{all_joined, log_replies}
 use Rattle.wire_replies.specs.Sinks.{Says}
 use Rattle.session_reads.proofs.logs.say_named.Goals as goal

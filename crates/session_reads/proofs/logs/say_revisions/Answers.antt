@@ -1,5 +1,4 @@
-use Rattle.std.proofs.Common.{ap, ◌∙◌}
-use Rattle.std.proofs.lemmas.Result.{err_from_is_err_and}
+use Rattle.std.proofs.{Common.{ap, ◌∙◌}, lemmas.Result.err_from_is_err_and}
 use Rattle.repo_api.specs.Histories.{history_of}
 use Rattle.history.specs.Walks.{next_then, to_come}
 use Rattle.machine.specs.Histories.{revision_told}

@@ -1,6 +1,6 @@
 use Rattle.std.proofs.Common.{sym, ap, ◌∙◌}
 use Rattle.std.specs.Prelude.{option_copied}
-use Rattle.repo_api.specs.Kinds.{properties_at, or_empty}
+use Rattle.repo_api.specs.Kinds.{or_empty, properties_at}
 use Rattle.wire_replies.specs.declared.reply.Reply.TheVariants as replies
 use Rattle.session_reads.proofs.reading.rev_proplist.Goals as goal
 

@@ -1,5 +1,4 @@
-use Rattle.std.proofs.Common.{[], ◌∷◌}
-use Rattle.std.proofs.lemmas.Result.{err_from_is_err_and}
+use Rattle.std.proofs.{Common.{[], ◌∷◌}, lemmas.Result.err_from_is_err_and}
 use Rattle.wire_edits.specs.declared.editing.EditorCommand.TheVariants.{AbortEdit}
 use Rattle.refusals.specs.declared.Refusal.TheVariants.{EditAborted}
 use Rattle.wire_replies.specs.declared.reply.Reply.TheVariants.{Edit, Failure}

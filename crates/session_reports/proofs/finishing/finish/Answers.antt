@@ -1,6 +1,5 @@
 use Rattle.std.proofs.Common.{[], refl}
-use Rattle.drive_wire.specs.Reporting.Drawn.{Fails}
-use Rattle.drive_wire.specs.Reporting.{EndStep}
+use Rattle.drive_wire.specs.{Reporting.Drawn.Fails, Reporting.EndStep}
 use Rattle.machine.specs.Reports.{drawn_answer, Draws}
 use Rattle.session_replies.proofs.Steps.{told_all, said, behind_answered}
 use Rattle.session_reports.proofs.Drawing.{drives, fails, lost}

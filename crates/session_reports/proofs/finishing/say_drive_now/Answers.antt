@@ -1,7 +1,6 @@
 use Rattle.std.proofs.Common.{inl, subst, sym}
 use Rattle.std.specs.Prelude.{MatchResult}
-use Rattle.repo_api.specs.Soundness.{AreTrees}
-use Rattle.repo_api.specs.States.{RepoState}
+use Rattle.repo_api.specs.{Soundness.AreTrees, States.RepoState}
 use Rattle.session_reports.specs.Finishing.{IsAnswered, IsUnanswered}
 use Rattle.session_reports.proofs.finishing.say_drive_now.Goals as goal
 

@@ -4,7 +4,7 @@ use Rattle.access.specs.Points.{content_of}
 use Rattle.drive_reports.specs.Refusing.{ReportState}
 use Rattle.wire_reports.specs.Reporting.{name_of}
 use Rattle.drive_wire.specs.Reporting.{ReportStep, refused_drawn}
-use Rattle.machine.specs.Reports.{ReportingStep, drawn_answer}
+use Rattle.machine.specs.Reports.{drawn_answer, ReportingStep}
 use Rattle.session_replies.proofs.Steps.{said}
 use Rattle.session_reports.proofs.Drawing.{drawn_nothing}
 use Rattle.session_reports.proofs.reporting_item.report_item.Goals as goal

@@ -1,6 +1,5 @@
 use Rattle.std.proofs.Common.{◌≡◌, take, map}
-use Rattle.std.specs.Map.{keys_of}
-use Rattle.std.specs.Map.Iter.{deref}
+use Rattle.std.specs.{Map.keys_of, Map.Iter.deref}
 use Rattle.shared_map.specs.Entries.{all_entries}
 use Rattle.shared_map.proofs.listing.names_of.Given as goal
 

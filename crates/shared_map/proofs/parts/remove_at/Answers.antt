@@ -1,6 +1,5 @@
 use Rattle.std.proofs.Common.{ap, ◌∙◌}
-use Rattle.std.specs.List.{remove}
-use Rattle.std.specs.Prelude.{is_ok}
+use Rattle.std.specs.{List.remove, Prelude.is_ok}
 use Rattle.shared_map.specs.Entries.{values}
 use Rattle.shared_map.proofs.Copies.{kept_or_copied, at_err, on_err, values_remove}
 use Rattle.shared_map.proofs.parts.remove_at.Goals as goal

@@ -1,5 +1,4 @@
-use Rattle.std.proofs.Common.{◌≡◌, length, ap, arith, ◌∙◌}
-use Rattle.std.proofs.lemmas.List.{length-map}
+use Rattle.std.proofs.{Common.{◌≡◌, length, ap, arith, ◌∙◌}, lemmas.List.length-map}
 use Rattle.std.specs.FinMap.Entries.{put}
 use Rattle.shared_map.specs.Entries.{by_bytes, values, part_entries}
 use Rattle.shared_map.proofs.Maps.{put_size}

@@ -1,8 +1,6 @@
-use Rattle.std.proofs.Common.{◌≡◌, ◌<◌, length, ap, arith, rules, ◌∙◌}
-use Rattle.std.proofs.lemmas.List.{length-map}
+use Rattle.std.proofs.{Common.{◌≡◌, ◌<◌, length, ap, arith, rules, ◌∙◌}, lemmas.List.length-map}
 use Rattle.shared_map.specs.Entries.{part_entries}
-use Rattle.shared_map.proofs.Copies.{read, to_some}
-use Rattle.shared_map.proofs.Places.{filled_at}
+use Rattle.shared_map.proofs.{Copies.{read, to_some}, Places.filled_at}
 use Rattle.shared_map.proofs.putting.put_entry.Goals as goal
 
 pub put_in_two-requires-clause-full : goal.put_in_two-requires-clause-full

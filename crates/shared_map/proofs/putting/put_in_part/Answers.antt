@@ -1,6 +1,5 @@
 use Rattle.std.proofs.Common.{◌≡◌, sym, ap, subst, ◌∙◌}
-use Rattle.std.specs.FinMap.Entries.{is_sorted, put}
-use Rattle.std.specs.Prelude.{T, is_ok}
+use Rattle.std.specs.{FinMap.Entries.{is_sorted, put}, Prelude.{T, is_ok}}
 use Rattle.shared_map.specs.Entries.{by_bytes, part_entries}
 use Rattle.shared_map.proofs.Copies.{kept_or_copied, at_err, on_err, ok_then, err_then}
 use Rattle.shared_map.proofs.putting.put_in_part.Goals as goal

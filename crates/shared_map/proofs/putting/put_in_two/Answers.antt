@@ -1,9 +1,7 @@
 use Rattle.std.proofs.Common.{◌≡◌, length, sym, ap, subst, arith, rules, ◌∙◌}
-use Rattle.std.specs.FinMap.Entries.{is_sorted, put}
-use Rattle.std.specs.Prelude.{T, slice_set}
+use Rattle.std.specs.{FinMap.Entries.{is_sorted, put}, Prelude.{T, slice_set}}
 use Rattle.shared_map.specs.Entries.{by_bytes, values, part_entries, all_entries, AreParts}
-use Rattle.shared_map.proofs.Copies.{read, within, of_some}
-use Rattle.shared_map.proofs.Places.{part_sorted, put_in_both, are_both}
+use Rattle.shared_map.proofs.{Copies.{read, within, of_some}, Places.{part_sorted, put_in_both, are_both}}
 use Rattle.shared_map.proofs.putting.put_in_two.Goals as goal
 
 pub halves-requires-clause-sorted : goal.halves-requires-clause-sorted

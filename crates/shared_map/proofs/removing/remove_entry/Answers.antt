@@ -1,11 +1,8 @@
-use Rattle.std.proofs.Common.{◌≡◌, ◌<◌, ◌+◌, take, drop, length, sym, ap, subst, arith, rules, ◌∙◌}
-use Rattle.std.proofs.lemmas.List.{length-map}
-use Rattle.std.specs.FinMap.Entries.{is_sorted}
-use Rattle.std.specs.Prelude.{T, slice_get, IsSomeAnd}
-use Rattle.std.specs.declared.cmp.Ordering.TheVariants.{Equal}
+use Rattle.std.proofs.{Common.{◌≡◌, ◌<◌, ◌+◌, take, drop, length, sym, ap, subst, arith, rules, ◌∙◌}, lemmas.List.length-map}
+use Rattle.std.specs.{FinMap.Entries.is_sorted, Prelude.{T, slice_get, IsSomeAnd}, declared.cmp.Ordering.TheVariants.Equal}
 use Rattle.shared_map.specs.Entries.{by_bytes, values, part_entries, all_entries, AreParts, IsBetween}
-use Rattle.shared_map.proofs.Copies.{read, within, same_some, ok_then, err_then, both_then}
-use Rattle.shared_map.proofs.Places.{part_sorted, filled_at, none_there, not_there, one_gone, last_gone, part_gone, are_fewer, are_kept, are_without, without_in_parts, same_in_parts}
+use Rattle.shared_map.proofs.{Copies.{read, within, same_some, ok_then, err_then, both_then}, Places.{part_sorted, filled_at, none_there, not_there, one_gone}}
+use Rattle.shared_map.proofs.Places.{last_gone, part_gone, are_fewer, are_kept, are_without, without_in_parts, same_in_parts}
 use Rattle.shared_map.proofs.removing.remove_entry.Goals as goal
 
 pub search-requires : goal.search-requires

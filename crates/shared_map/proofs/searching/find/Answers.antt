@@ -1,11 +1,7 @@
-use Rattle.std.proofs.Common.{◌≡◌, ◌<◌, ◌+◌, Some, take, drop, length, sym, ap, subst, arith, rules, ◌∙◌}
-use Rattle.std.proofs.lemmas.List.{length-map}
-use Rattle.std.specs.FinMap.Entries.{is_sorted}
-use Rattle.std.specs.Prelude.{T, slice_get, IsSomeAnd}
-use Rattle.std.specs.declared.cmp.Ordering.TheVariants.{Equal}
+use Rattle.std.proofs.{Common.{◌≡◌, ◌<◌, ◌+◌, Some, take, drop, length, sym, ap, subst, arith, rules, ◌∙◌}, lemmas.List.length-map}
+use Rattle.std.specs.{FinMap.Entries.is_sorted, Prelude.{T, slice_get, IsSomeAnd}, declared.cmp.Ordering.TheVariants.Equal}
 use Rattle.shared_map.specs.Entries.{by_bytes, values, part_entries, IsBetween}
-use Rattle.shared_map.proofs.Copies.{read, value_read, within, of_some}
-use Rattle.shared_map.proofs.Places.{part_sorted, found_in, one_found, none_found}
+use Rattle.shared_map.proofs.{Copies.{read, value_read, within, of_some}, Places.{part_sorted, found_in, one_found, none_found}}
 use Rattle.shared_map.proofs.searching.find.Goals as goal
 
 pub search-requires : goal.search-requires

@@ -1,10 +1,6 @@
 use Rattle.std.proofs.Common.{◌≡◌, ◌+◌, ◌-◌, ◌/◌, drop, sym, ap, subst, ◌∙◌, arith}
-use Rattle.shared_map.specs.Entries.{values, part_entries, all_entries, is_before}
-use Rattle.shared_map.proofs.Copies.{read}
-use Rattle.shared_map.proofs.Maps.{total}
-use Rattle.shared_map.proofs.Ordered.{Below}
-use Rattle.shared_map.specs.Entries.{by_bytes}
-use Rattle.shared_map.proofs.Places.{home_low, home_high}
+use Rattle.shared_map.specs.Entries.{values, part_entries, all_entries, is_before, by_bytes}
+use Rattle.shared_map.proofs.{Copies.read, Maps.total, Ordered.Below, Places.{home_low, home_high}}
 use Rattle.shared_map.proofs.searching.home.Goals as goal
 
 pub loop-low-preserved-then-is_before : goal.loop-low-preserved-then-is_before

@@ -1,7 +1,6 @@
 use Rattle.std.proofs.Common.{◌+◌, ◌-◌, ◌/◌, sym, ◌∙◌, arith}
 use Rattle.shared_map.specs.Entries.{values}
-use Rattle.shared_map.proofs.Copies.{value_read}
-use Rattle.shared_map.proofs.Places.{past, not_yet, here}
+use Rattle.shared_map.proofs.{Copies.value_read, Places.{past, not_yet, here}}
 use Rattle.shared_map.proofs.searching.search.Goals as goal
 
 pub returns-in-Equal-clause-around : goal.returns-in-Equal-clause-around

@@ -1,6 +1,5 @@
 use Rattle.std.proofs.Common.{ℕ, List, refl, subst}
-use Rattle.std.specs.Prelude.{IfOk, OnOk}
-use Rattle.std.specs.Io.KnownBytes.{Appends}
+use Rattle.std.specs.{Prelude.{IfOk, OnOk}, Io.KnownBytes.Appends}
 use Rattle.hub.specs.Calls.{ConnectsAs}
 use Rattle.streams.specs.Stream.{scene}
 use Rattle.conversations.proofs.Conversing.{was_ok}

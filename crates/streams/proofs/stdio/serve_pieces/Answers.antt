@@ -1,8 +1,6 @@
 use Rattle.std.proofs.Common.{◌≡◌, ◌<◌, ◌≤◌, length, take, sym, subst, ◌∙◌, arith}
-use Rattle.std.specs.Io.{ReadsAtMost}
-use Rattle.std.specs.Io.KnownBytes.{Appends, ReadConsumes}
-use Rattle.hub.specs.declared.hub.HubFault.{HubFault}
-use Rattle.hub.specs.Calls.{FeedBreaks}
+use Rattle.std.specs.{Io.ReadsAtMost, Io.KnownBytes.{Appends, ReadConsumes}}
+use Rattle.hub.specs.{declared.hub.HubFault.HubFault, Calls.FeedBreaks}
 use Rattle.streams.specs.Stream.{scene, HearsPieces, HearsUntil}
 use Rattle.conversations.proofs.Conversing.{was_ok}
 use Rattle.streams.proofs.Runs.{hears_more, hears_until, if_hub, if_read}

@@ -1,7 +1,7 @@
 use Rattle.std.proofs.Common.{◌∙◌, ap}
 use Rattle.svndiff0.proofs.Stages.{Begins, begins_header, begins_windows, fronts_join}
-use Rattle.svndiff0.proofs.reading.read_on.Goals as goal
 use Rattle.svndiff0.proofs.reading.read_on.Goals.{in-Header+in_ok-windows-in-Header+in-Some, in-Windows}
+use Rattle.svndiff0.proofs.reading.read_on.Goals as goal
 
 pub returns-clause-reads : goal.returns-clause-reads
 returns-clause-reads c =

@@ -1,10 +1,9 @@
 use Rattle.std.proofs.Common.{◌≡◌, ◌+◌, ◌-◌, inl, inr, take, drop, ap, sym, ◌∙◌, refl, Ok, Some, ◌++◌, arith, rules, length}
 use Rattle.std.proofs.lemmas.Result.{err_from_is_err_and}
-use Rattle.svndiff0.specs.Window.{and_rest}
-use Rattle.svndiff0.specs.Instruction.{instructions_of, target_of}
+use Rattle.svndiff0.specs.{Window.and_rest, Instruction.{instructions_of, target_of}}
 use Rattle.svndiff0.proofs.Windows.{window_by_head, body_beyond, body_short, IsWhole, body_whole, disagree, agree, part_is, part_len}
-use Rattle.svndiff0.proofs.window.apply_window.Goals as goal
 use Rattle.svndiff0.proofs.window.apply_window.Goals.{then-sums-head-via-then-sums-head, then-sums-head-via-else-sums-head+then-sums-head-2}
+use Rattle.svndiff0.proofs.window.apply_window.Goals as goal
 
 pub returns-in_err-head-clause-applies : goal.returns-in_err-head-clause-applies
 returns-in_err-head-clause-applies c =

@@ -1,8 +1,6 @@
-use Rattle.std.proofs.Common.{ap, sym, ◌∙◌}
-use Rattle.std.proofs.lemmas.Result.{err_from_is_err_and}
+use Rattle.std.proofs.{Common.{ap, sym, ◌∙◌}, lemmas.Result.err_from_is_err_and}
 use Rattle.svndiff0.specs.Document.{going}
-use Rattle.svndiff0.proofs.Sections.{grows_more}
-use Rattle.svndiff0.proofs.Documents.{window_shorter, reached_more, reached_end, reached_fault}
+use Rattle.svndiff0.proofs.{Sections.grows_more, Documents.{window_shorter, reached_more, reached_end, reached_fault}}
 use Rattle.svndiff0.proofs.window.apply_windows.Goals as goal
 
 pub returns-in_err-behind-clause-applies : goal.returns-in_err-behind-clause-applies

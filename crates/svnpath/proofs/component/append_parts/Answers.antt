@@ -1,13 +1,9 @@
 -- Each part of the text is the next of `slice_split`, and a component is read from it and pushed.
-use Rattle.std.proofs.Common.{map, inl, inr, rules, tests}
-use Rattle.std.proofs.lemmas.Iterator.Consumers.{YieldsList-turn, YieldsList-end}
-use Rattle.std.proofs.lemmas.Iterator.Splits.{YieldsList-from_slice_split}
-use Rattle.std.proofs.lemmas.List.{length_push}
-use Rattle.std.proofs.lemmas.Result.{err_from_is_err_and}
+use Rattle.std.proofs.{Common.{map, inl, inr, rules, tests}, lemmas.Iterator.Consumers.{YieldsList-turn, YieldsList-end}}
+use Rattle.std.proofs.{lemmas.Iterator.Splits.YieldsList-from_slice_split, lemmas.List.length_push, lemmas.Result.err_from_is_err_and}
 use Rattle.svnpath.proofs.BeneathLemmas.{beneath_right, parts_kept, parts_refused, parts_done}
 use Rattle.std.specs.List.{slice_split}
-use Rattle.svnpath.specs.Spelled.{read_part}
-use Rattle.svnpath.specs.Texts.{is_slash}
+use Rattle.svnpath.specs.{Spelled.read_part, Texts.is_slash}
 use Rattle.svnpath.proofs.component.append_parts.Goals as goal
 
 pub loop-part-preserved : goal.loop-part-preserved

@@ -1,8 +1,6 @@
 use Rattle.std.proofs.Common.{◌≡◌, map, drop, length}
 use Rattle.std.specs.List.{slice_split}
-use Rattle.svnpath.specs.Components.{beneath}
-use Rattle.svnpath.specs.Spelled.{read_part}
-use Rattle.svnpath.specs.Texts.{is_slash}
+use Rattle.svnpath.specs.{Components.beneath, Spelled.read_part, Texts.is_slash}
 use Rattle.svnpath.proofs.component.append_parts.Given as goal
 
 -- what is left beneath the components so far is all beneath the first ones

@@ -1,6 +1,5 @@
 -- `from_utf8` succeeds where the bytes are UTF-8.
-use Rattle.std.proofs.Common.{◌≡◌, ℕ, List, Result, Ok, Err, is_ok, MatchResult, sym, ◌∙◌}
-use Rattle.std.proofs.lemmas.Bool.{false_from_ne_true}
+use Rattle.std.proofs.{Common.{◌≡◌, ℕ, List, Result, Ok, Err, is_ok, MatchResult, sym, ◌∙◌}, lemmas.Bool.false_from_ne_true}
 use Rattle.std.proofs.lemmas.Str.{IsUtf8-from_is_utf8, is_utf8-from_IsUtf8}
 use Rattle.std.specs.Str.{is_utf8, IsUtf8}
 use Rattle.svnpath.proofs.component.is_text.Goals as goal

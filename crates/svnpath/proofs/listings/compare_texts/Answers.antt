@@ -1,7 +1,6 @@
 -- What is left of the texts compares as they do: an end or another byte decides.
 use Rattle.std.proofs.Common.{sym, ◌∙◌}
-use Rattle.std.specs.Cmp.Lexicographic.{slice_cmp}
-use Rattle.std.specs.Ordering.{nat_cmp}
+use Rattle.std.specs.{Cmp.Lexicographic.slice_cmp, Ordering.nat_cmp}
 use Rattle.svnpath.proofs.TextOrders.{same_first, first_decides}
 use Rattle.svnpath.proofs.listings.compare_texts.Goals as goal
 

@@ -1,6 +1,5 @@
 -- A text that is UTF-8 is what `parse_url` says; another is no URL.
-use Rattle.std.proofs.Common.{None, inl, sym, ap, ◌∙◌}
-use Rattle.std.proofs.lemmas.Bool.{cond-true, cond-false, false_from_ne_true}
+use Rattle.std.proofs.{Common.{None, inl, sym, ap, ◌∙◌}, lemmas.Bool.{cond-true, cond-false, false_from_ne_true}}
 use Rattle.std.proofs.lemmas.Str.{IsUtf8-from_is_utf8, is_utf8-from_IsUtf8}
 use Rattle.url.specs.Parser.{parse_url}
 use Rattle.svnpath.specs.Urls.{url_or_fault}

@@ -1,6 +1,5 @@
 -- The parts of a text are the first, and those of what stands behind its slash.
-use Rattle.std.proofs.Common.{◌+◌, ◌∷◌, take, sym, ap, ◌∙◌}
-use Rattle.std.proofs.lemmas.List.{take_rest}
+use Rattle.std.proofs.{Common.{◌+◌, ◌∷◌, take, sym, ap, ◌∙◌}, lemmas.List.take_rest}
 use Rattle.std.specs.List.{slice_split}
 use Rattle.svnpath.proofs.TextLemmas.{slice_split_at_slash, slice_split_no_slash}
 use Rattle.svnpath.specs.Texts.{is_slash}

@@ -1,16 +1,10 @@
-use Rattle.std.proofs.Common.{◌≡◌, true, Err, option_map, sym, ap, subst, ◌∙◌}
-use Rattle.std.proofs.lemmas.Result.{err_from_is_err_and}
+use Rattle.std.proofs.{Common.{◌≡◌, true, Err, option_map, sym, ap, subst, ◌∙◌}, lemmas.Result.err_from_is_err_and}
 use Rattle.svnpath.specs.Paths.{PathValue}
-use Rattle.repo_api.specs.Merge.{is_in_conflict, sealed, merged_entry}
-use Rattle.noderevs.specs.Held.{node_at, trees_of}
-use Rattle.noderevs.specs.Views.{shared_tree}
-use Rattle.txntree.specs.declared.open.OpenNode.{OpenNode}
-use Rattle.txntree.specs.declared.tree.TxnTree.{TxnTree}
-use Rattle.txntree.specs.Spots.{flat}
-use Rattle.txntree.specs.Spots.Spot.{Opened}
+use Rattle.repo_api.specs.Merge.{is_in_conflict, merged_entry, sealed}
+use Rattle.noderevs.specs.{Held.{node_at, trees_of}, Views.shared_tree}
+use Rattle.txntree.specs.{declared.open.OpenNode.OpenNode, declared.tree.TxnTree.TxnTree, Spots.flat, Spots.Spot.Opened}
 use Rattle.treemerge.specs.Merges.{IsTold, spot_tree, IsConflictUnder, IfConflict}
-use Rattle.treemerge.proofs.Conflicts.{conflict_on, conflict_at_root, root_fit}
-use Rattle.treemerge.proofs.Sealed.{merged_sealed, spot_is}
+use Rattle.treemerge.proofs.{Conflicts.{conflict_on, conflict_at_root, root_fit}, Sealed.{merged_sealed, spot_is}}
 use Rattle.treemerge.proofs.merging.merge.Goals as goal
 
 pub returns-in_err-root-clause-conflict : goal.returns-in_err-root-clause-conflict

@@ -1,22 +1,12 @@
-use Rattle.std.proofs.Common.{Some, refl, sym, ap, subst, ◌∙◌}
-use Rattle.std.specs.Prelude.{if◌then◌else◌}
-use Rattle.std.specs.BTreeMap.{is_at}
-use Rattle.std.specs.Cmp.Lexicographic.{slice_cmp}
-use Rattle.std.specs.List.Sorted.{IsStrictlySortedBy}
-use Rattle.std.specs.Map.{lookup, keys_of}
-use Rattle.std.specs.Map.Iter.{deref_pair}
-use Rattle.std.specs.Ordering.{nat_cmp}
-use Rattle.std.proofs.lemmas.Map.Iter.{rest_more, rest_all}
+use Rattle.std.proofs.{Common.{Some, refl, sym, ap, subst, ◌∙◌}, lemmas.Map.Iter.{rest_more, rest_all}}
+use Rattle.std.specs.{Prelude.if◌then◌else◌, BTreeMap.is_at, Cmp.Lexicographic.slice_cmp, List.Sorted.IsStrictlySortedBy, Map.{lookup, keys_of}}
+use Rattle.std.specs.{Map.Iter.deref_pair, Ordering.nat_cmp}
 use Rattle.repo_api.specs.declared.entry.Mark.TheVariants.{Open}
 use Rattle.svnpath.specs.Paths.{same_component}
-use Rattle.txntree.specs.Sealing.{first_of}
-use Rattle.txntree.specs.Spots.{changed_at, change_spot}
-use Rattle.txntree.specs.declared.open.Change.TheViews.{roll-OpenNode}
-use Rattle.txntree.proofs.Seals.{first_here}
-use Rattle.txntree.proofs.Walking.{gone_spot, is_spot}
+use Rattle.txntree.specs.{Sealing.first_of, Spots.{change_spot, changed_at}, declared.open.Change.TheViews.roll-OpenNode}
+use Rattle.txntree.proofs.{Seals.first_here, Walking.{gone_spot, is_spot}}
 use Rattle.txnmove.specs.Moves.{IsWalking, IsMovedAt}
-use Rattle.txnmove.proofs.Walk.{walk_begins, walk_goes_on}
-use Rattle.txnmove.proofs.Twins.{unchanged_moved, change_moved, node_moved, gone_moved, gone_made, is_made, is_moved}
+use Rattle.txnmove.proofs.{Walk.{walk_begins, walk_goes_on}, Twins.{unchanged_moved, change_moved, node_moved, gone_moved, gone_made, is_made, is_moved}}
 use Rattle.txnmove.proofs.moving.+moved.Goals as goal
 
 pub moved-loop-name-init : goal.moved-loop-name-init

@@ -2,8 +2,7 @@ use Rattle.std.proofs.Common.{option_map, sym, ap, ◌∙◌}
 use Rattle.std.specs.Prelude.{option_copied}
 use Rattle.noderevs.specs.Held.{node_at}
 use Rattle.txntree.specs.Spots.{flat, change_spot}
-use Rattle.txntree.proofs.Sharing.{unchanged_entry}
-use Rattle.txntree.proofs.Walking.{gone_spot, nothing_there}
+use Rattle.txntree.proofs.{Sharing.unchanged_entry, Walking.{gone_spot, nothing_there}}
 use Rattle.txntree.proofs.open.+content.Goals as goal
 
 pub Change::content_at-returns-in-Gone : goal.Change::content_at-returns-in-Gone

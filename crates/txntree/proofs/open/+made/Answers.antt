@@ -3,8 +3,7 @@ use Rattle.std.specs.Prelude.{option_copied}
 use Rattle.repo_api.specs.Kinds.{created_of}
 use Rattle.noderevs.specs.Held.{node_at}
 use Rattle.txntree.specs.Spots.{flat, change_spot}
-use Rattle.txntree.proofs.Sharing.{unchanged_entry}
-use Rattle.txntree.proofs.Walking.{gone_spot, nothing_there}
+use Rattle.txntree.proofs.{Sharing.unchanged_entry, Walking.{gone_spot, nothing_there}}
 use Rattle.txntree.proofs.open.+made.Goals as goal
 
 pub Change::made_at-returns-in-Gone : goal.Change::made_at-returns-in-Gone

@@ -1,21 +1,11 @@
-use Rattle.std.proofs.Common.{◌++◌, ◌∷◌, [], None, Some, length, refl, sym, ap, subst, ◌∙◌}
-use Rattle.std.specs.Map.Iter.{deref_pair}
-use Rattle.std.proofs.lemmas.Map.Iter.{rest_more, rest_all}
+use Rattle.std.proofs.{Common.{◌++◌, ◌∷◌, [], None, Some, length, refl, sym, ap, subst, ◌∙◌}, lemmas.Map.Iter.{rest_more, rest_all}, lemmas.Result.on_ok_weaker}
+use Rattle.std.specs.{Map.Iter.deref_pair, Cmp.Lexicographic.slice_cmp, Ordering.nat_cmp, List.Sorted.IsStrictlySortedBy, Map.keys_of}
 use Rattle.repo_api.specs.declared.entry.Mark.TheVariants.{Made}
-use Rattle.std.specs.Cmp.Lexicographic.{slice_cmp}
-use Rattle.std.specs.Ordering.{nat_cmp}
-use Rattle.std.specs.List.Sorted.{IsStrictlySortedBy}
-use Rattle.std.specs.Map.{keys_of}
-use Rattle.noderevs.specs.Heights.{IsHeight}
-use Rattle.noderevs.specs.Held.{node_at}
-use Rattle.txntree.specs.Spots.{change_spot}
-use Rattle.txntree.specs.Sealing.{IsSealing, first_of, with_sealed, kid_trees, SameBut}
-use Rattle.noderevs.specs.Nodes.{with_block}
-use Rattle.std.proofs.lemmas.Result.{on_ok_weaker}
-use Rattle.txntree.proofs.Entries.{named_put, named_gone, there_put, there_gone}
-use Rattle.txntree.proofs.High.{after_high}
-use Rattle.txntree.proofs.Walking.{is_spot, gone_spot}
-use Rattle.txntree.proofs.Seals.{sealed_gone, sealed_put, begins, goes_on, first_here, first_gone, sorted_rest, after_grows, after_closed, after_there, after_ends, after_under, under_put, under_none, others_put}
+use Rattle.noderevs.specs.{Heights.IsHeight, Held.node_at, Nodes.with_block}
+use Rattle.txntree.specs.{Spots.change_spot, Sealing.{IsSealing, first_of, with_sealed, kid_trees, SameBut}}
+use Rattle.txntree.proofs.{Entries.{named_put, named_gone, there_put, there_gone}, High.after_high, Walking.{is_spot, gone_spot}, Seals.sealed_gone}
+use Rattle.txntree.proofs.Seals.{sealed_put, begins, goes_on, first_here, first_gone, sorted_rest, after_grows, after_closed, after_there, after_ends}
+use Rattle.txntree.proofs.Seals.{after_under, under_put, under_none, others_put}
 use Rattle.txntree.proofs.open.+seal.Goals as goal
 
 pub Change::sealed-returns-in-Gone-clause-there : goal.Change::sealed-returns-in-Gone-clause-there

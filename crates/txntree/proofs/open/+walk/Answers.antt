@@ -1,18 +1,11 @@
-use Rattle.std.proofs.Common.{rules, IsErrOf, Some, Err, refl, sym, ap, subst, is_some, ◌∙◌}
-use Rattle.std.specs.Option.{option_copied_mut}
-use Rattle.std.proofs.lemmas.Result.{err_from_is_err_and, on_ok_weaker, on_err_weaker}
+use Rattle.std.proofs.{Common.{rules, IsErrOf, Some, Err, refl, sym, ap, subst, is_some, ◌∙◌}, lemmas.Result.{err_from_is_err_and, on_ok_weaker, on_err_weaker}}
+use Rattle.std.specs.{Option.option_copied_mut, Prelude.if◌then◌else◌}
 use Rattle.svnpath.specs.Paths.{same_component}
-use Rattle.noderevs.specs.Held.{node_at}
-use Rattle.noderevs.specs.Nodes.{kid_at}
-use Rattle.txntree.specs.Spots.{changed_at, change_spot, find, flat}
-use Rattle.txntree.specs.Walks.{at_path, made_there, Lacks}
-use Rattle.txntree.specs.Spots.Spot.{Opened}
-use Rattle.std.specs.Prelude.{if◌then◌else◌}
-use Rattle.txntree.specs.declared.open.Change.TheVariants.{Is}
-use Rattle.txntree.specs.declared.open.EditFault.TheVariants.{Missing}
-use Rattle.txntree.specs.declared.open.Change.TheViews.{the_lemmas}
-use Rattle.txntree.proofs.Walking.{is_spot, branch_written, branch_kept, put_opened, put_refused, opened_first, lacks_beneath, lacks_shared}
+use Rattle.noderevs.specs.{Held.node_at, Nodes.kid_at}
+use Rattle.txntree.specs.{Spots.{changed_at, change_spot, find, flat}, Walks.{at_path, made_there, Lacks}, Spots.Spot.Opened}
+use Rattle.txntree.specs.{declared.open.Change.TheVariants.Is, declared.open.EditFault.TheVariants.Missing, declared.open.Change.TheViews.the_lemmas}
 use Rattle.txntree.specs.Bases.{IsBased}
+use Rattle.txntree.proofs.Walking.{is_spot, branch_written, branch_kept, put_opened, put_refused, opened_first, lacks_beneath, lacks_shared}
 use Rattle.txntree.proofs.Bases.{based_written, based_refused, based_put, fit_over}
 use Rattle.txntree.proofs.open.+walk.Goals as goal
 

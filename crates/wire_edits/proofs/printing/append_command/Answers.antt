@@ -1,8 +1,7 @@
 -- each command is sent as the item of its form
 use Rattle.std.proofs.Common.{◌≡◌, ◌++◌, OnOk, sym, subst}
 use Rattle.items.specs.Print.{printed}
-use Rattle.wire_edits.specs.Printing.{command_item}
-use Rattle.wire_edits.specs.declared.editing.EditorCommand.{EditorCommand}
+use Rattle.wire_edits.specs.{Printing.command_item, declared.editing.EditorCommand.EditorCommand}
 use Rattle.wire_edits.proofs.printing.append_command.Goals as goal
 
 -- src/printing.rt:30:1

@@ -1,5 +1,4 @@
-use Rattle.std.proofs.Common.{rules, arith, ◌≡◌, ◌+◌, ◌≤◌}
-use Rattle.std.proofs.lemmas.Result.{err_from_is_err_and}
+use Rattle.std.proofs.{Common.{rules, arith, ◌≡◌, ◌+◌, ◌≤◌}, lemmas.Result.err_from_is_err_and}
 use Rattle.wire_replies.proofs.Telling.{piece_count, piece_written, piece_failed, end_said}
 use Rattle.wire_replies.proofs.contents.say_contents.Goals as goal
 

@@ -1,9 +1,6 @@
 use Rattle.std.proofs.Common.{◌*◌, map}
 use Rattle.std.specs.List.{range_with_len}
-use Rattle.wire_replies.specs.Pieces.{piece_from}
-use Rattle.wire_replies.specs.Replies.{print}
-use Rattle.wire_replies.specs.declared.contents.TheConstants.{PIECE}
-use Rattle.wire_replies.specs.declared.reply.Reply.TheVariants.{Piece}
+use Rattle.wire_replies.specs.{Pieces.piece_from, Replies.print, declared.contents.TheConstants.PIECE, declared.reply.Reply.TheVariants.Piece}
 use Rattle.wire_replies.proofs.contents.say_contents.Given as goal
 
 abbrev pub invariant-loop-n : goal.invariant-loop-n

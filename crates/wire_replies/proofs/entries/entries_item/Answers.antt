@@ -1,8 +1,5 @@
-use Rattle.std.proofs.Common.{rules, ◌≡◌, ◌∙◌, map, ap, append-nil}
-use Rattle.std.proofs.lemmas.List.{drop_all}
-use Rattle.items.specs.declared.item.Item.{List, the_lemmas}
-use Rattle.items.specs.Values.{list}
-use Rattle.items.specs.View.{row_of, value_of, values_of}
+use Rattle.std.proofs.{Common.{rules, ◌≡◌, ◌∙◌, map, ap, append-nil}, lemmas.List.drop_all}
+use Rattle.items.specs.{declared.item.Item.{List, the_lemmas}, Values.list, View.{row_of, value_of, values_of}}
 use Rattle.wire_replies.proofs.EntryRows.{tree_of_entry, row_of-entries}
 use Rattle.wire_replies.proofs.entries.entries_item.Goals as goal
 

@@ -1,7 +1,6 @@
 use Rattle.std.specs.Prelude.{Ok}
 use Rattle.std.proofs.Common.{◌∙◌, map, ap, refl}
-use Rattle.items.specs.Values.{word}
-use Rattle.items.specs.View.{value_of}
+use Rattle.items.specs.{Values.word, View.value_of}
 use Rattle.wire_replies.proofs.Made.{made_behind, if_made, six_behind}
 use Rattle.wire_replies.proofs.entries.with_node.Goals as goal
 

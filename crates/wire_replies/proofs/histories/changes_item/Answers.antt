@@ -1,8 +1,6 @@
 use Rattle.std.proofs.Common.{rules, ◌≡◌, ◌+◌, [], ◌∷◌, ◌++◌, ◌∙◌, map, drop, ap, sym, append-nil, append_assoc}
 use Rattle.std.proofs.lemmas.List.{drop_all, drop_more, map-append}
-use Rattle.items.specs.declared.item.Item.{List, the_lemmas}
-use Rattle.items.specs.Values.{list}
-use Rattle.items.specs.View.{row_of, value_of, values_of}
+use Rattle.items.specs.{declared.item.Item.{List, the_lemmas}, Values.list, View.{row_of, value_of, values_of}}
 use Rattle.wire_replies.specs.Replies.{change_tree}
 use Rattle.wire_replies.proofs.ChangeRows.{row_of-changes}
 use Rattle.wire_replies.proofs.histories.changes_item.Goals as goal

@@ -1,8 +1,6 @@
 use Rattle.std.specs.Prelude.{Ok}
 use Rattle.std.proofs.Common.{rules, ◌≡◌, ◌∙◌, map, ap, refl}
-use Rattle.items.specs.declared.item.Item.{List, the_lemmas}
-use Rattle.items.specs.Values.{list}
-use Rattle.items.specs.View.{row_of, value_of, values_of}
+use Rattle.items.specs.{declared.item.Item.{List, the_lemmas}, Values.list, View.{row_of, value_of, values_of}}
 use Rattle.wire_replies.proofs.Made.{made_behind}
 use Rattle.wire_replies.proofs.histories.log_entry_item.Goals as goal
 

@@ -1,7 +1,5 @@
 use Rattle.std.proofs.Common.{rules, ◌≡◌, ◌∙◌, map, ap, refl}
-use Rattle.items.specs.declared.item.Item.{List, the_lemmas}
-use Rattle.items.specs.Values.{string, list}
-use Rattle.items.specs.View.{row_of, value_of, values_of}
+use Rattle.items.specs.{declared.item.Item.{List, the_lemmas}, Values.{list, string}, View.{row_of, value_of, values_of}}
 use Rattle.wire_replies.proofs.Made.{made_behind}
 use Rattle.wire_replies.proofs.locks.lock_item.Goals as goal
 

@@ -1,7 +1,5 @@
 use Rattle.std.proofs.Common.{rules, ◌≡◌, [], ◌++◌, ◌∙◌, map, ap, sym, append-nil}
-use Rattle.items.specs.declared.item.Item.{List, the_lemmas}
-use Rattle.items.specs.Values.{list}
-use Rattle.items.specs.View.{row_of, value_of, values_of}
+use Rattle.items.specs.{declared.item.Item.{List, the_lemmas}, Values.list, View.{row_of, value_of, values_of}}
 use Rattle.wire_replies.proofs.PropertyRows.{property_tree, row_of-properties}
 use Rattle.wire_replies.proofs.properties.properties_item.Goals as goal
 

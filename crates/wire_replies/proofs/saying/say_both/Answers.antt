@@ -1,5 +1,4 @@
-use Rattle.std.proofs.Common.{[], ◌∷◌}
-use Rattle.std.proofs.lemmas.Result.{err_from_is_err_and}
+use Rattle.std.proofs.{Common.{[], ◌∷◌}, lemmas.Result.err_from_is_err_and}
 use Rattle.wire_replies.proofs.Parts.{part_first, said_behind}
 use Rattle.wire_replies.proofs.saying.say_both.Goals as goal
 

@@ -1,5 +1,4 @@
-use Rattle.std.proofs.Common.{ap, ◌∙◌}
-use Rattle.std.proofs.Math.Logic.{∥∥₁_map}
+use Rattle.std.proofs.{Common.{ap, ◌∙◌}, Math.Logic.∥∥₁_map}
 use Rattle.held.specs.Contents.{held_state, revisions_of}
 use Rattle.next_blocks.proofs.Sound.{block_mapped, block_next, block_placed, sound_after}
 use Rattle.world.proofs.adding.with_next.Goals as goal

@@ -1,12 +1,9 @@
 use Rattle.std.proofs.Common.{rules, sym, ap, ◌∙◌}
 use Rattle.std.specs.Prelude.{IsErrOf}
 use Rattle.txntree.specs.Whole.{txn_tree}
-use Rattle.held.specs.Maps.{IsMapOf}
-use Rattle.held.specs.declared.committing.CommitFault.TheVariants.{Conflict}
-use Rattle.held.specs.declared.held.Held.{Held}
+use Rattle.held.specs.{Maps.IsMapOf, declared.committing.CommitFault.TheVariants.Conflict, declared.held.Held.Held}
 use Rattle.world.specs.Whole.{txn_map, txn_state_of}
-use Rattle.world.proofs.Keeping.{told_here}
-use Rattle.world.proofs.Mapping.{txn_map_is, txn_sound}
+use Rattle.world.proofs.{Keeping.told_here, Mapping.{txn_map_is, txn_sound}}
 use Rattle.world.proofs.committing.merged.Goals as goal
 
 pub merged-requires-clause-told : goal.merged-requires-clause-told

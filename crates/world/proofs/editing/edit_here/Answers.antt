@@ -1,21 +1,12 @@
-use Rattle.std.proofs.Common.{◌≡◌, [], refl, sym, subst, append-nil}
-use Rattle.std.proofs.Math.Logic.{∥∥₁_map, ∥∥₁_map₂}
-use Rattle.std.specs.Prelude.{Option}
-use Rattle.std.specs.FinMap.{get}
+use Rattle.std.proofs.{Common.{◌≡◌, [], refl, sym, subst, append-nil}, Math.Logic.{∥∥₁_map, ∥∥₁_map₂}}
+use Rattle.std.specs.{Prelude.Option, FinMap.get}
 use Rattle.svnpath.specs.Paths.{PathValue}
-use Rattle.repo_api.specs.Changes.{changes_after}
-use Rattle.repo_api.specs.Edits.{edited}
-use Rattle.repo_api.specs.RightEdits.{IsRightEdit}
-use Rattle.repo_api.specs.States.{IsBeginning, changes_of, trees_in}
-use Rattle.noderevs.specs.Held.{node_at, root_at}
-use Rattle.noderevs.specs.declared.node_rev.NodeId.{NodeId}
-use Rattle.txntree.specs.Whole.{txn_tree, IsSound}
-use Rattle.held.specs.Contents.{revisions_of}
-use Rattle.held.specs.declared.held.Held.{Held}
-use Rattle.world.specs.Open.{IsOpen}
-use Rattle.world.specs.Whole.{txn_state_of}
-use Rattle.world.proofs.Mapping.{by_result, on_err, right_over, state_stays, txn_map_is, txn_sound}
-use Rattle.world.proofs.Opening.{edited_open, edited_txn, open_stays}
+use Rattle.repo_api.specs.{Changes.changes_after, Edits.edited, RightEdits.IsRightEdit, States.{changes_of, IsBeginning, trees_in}}
+use Rattle.noderevs.specs.{Held.{node_at, root_at}, declared.node_rev.NodeId.NodeId}
+use Rattle.txntree.specs.Whole.{IsSound, txn_tree}
+use Rattle.held.specs.{Contents.revisions_of, declared.held.Held.Held}
+use Rattle.world.specs.{Open.IsOpen, Whole.txn_state_of}
+use Rattle.world.proofs.{Mapping.{by_result, on_err, right_over, state_stays, txn_map_is, txn_sound}, Opening.{edited_open, edited_txn, open_stays}}
 use Rattle.world.proofs.editing.edit_here.Goals as goal
 
 pub edit_parts-requires : goal.edit_parts-requires

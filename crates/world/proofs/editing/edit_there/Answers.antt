@@ -1,21 +1,12 @@
-use Rattle.std.proofs.Common.{◌≡◌, ◌<◌, length, refl, sym, ap, subst, ◌∙◌}
-use Rattle.std.proofs.Math.Logic.{∥∥₁_map₂}
+use Rattle.std.proofs.{Common.{◌≡◌, ◌<◌, length, refl, sym, ap, subst, ◌∙◌}, Math.Logic.∥∥₁_map₂}
 use Rattle.std.specs.Prelude.{Option}
 use Rattle.svnpath.specs.Paths.{PathValue}
-use Rattle.repo_api.specs.Edits.{edited}
-use Rattle.repo_api.specs.RightEdits.{IsRightEdit}
-use Rattle.repo_api.specs.States.{trees_in}
-use Rattle.noderevs.specs.Held.{node_at, root_at}
-use Rattle.noderevs.specs.declared.node_rev.NodeId.{NodeId}
-use Rattle.txntree.specs.Whole.{txn_tree, IsSound}
-use Rattle.held.specs.Contents.{revisions_of}
-use Rattle.held.specs.Maps.{IsMapOf}
-use Rattle.held.specs.declared.held.Held.{Held}
-use Rattle.world.specs.Open.{IsOpen}
-use Rattle.world.specs.Whole.{txn_map, txn_state_of}
-use Rattle.world.proofs.Lists.{still_within}
-use Rattle.world.proofs.Mapping.{on_err, state_stays, txn_map_is, txn_sound}
-use Rattle.world.proofs.Opening.{edited_open, edited_txn}
+use Rattle.repo_api.specs.{Edits.edited, RightEdits.IsRightEdit, States.trees_in}
+use Rattle.noderevs.specs.{Held.{node_at, root_at}, declared.node_rev.NodeId.NodeId}
+use Rattle.txntree.specs.Whole.{IsSound, txn_tree}
+use Rattle.held.specs.{Contents.revisions_of, Maps.IsMapOf, declared.held.Held.Held}
+use Rattle.world.specs.{Open.IsOpen, Whole.{txn_map, txn_state_of}}
+use Rattle.world.proofs.{Lists.still_within, Mapping.{on_err, state_stays, txn_map_is, txn_sound}, Opening.{edited_open, edited_txn}}
 use Rattle.world.proofs.editing.edit_there.Goals as goal
 
 pub edit_parts-requires : goal.edit_parts-requires

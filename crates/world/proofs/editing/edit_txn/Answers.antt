@@ -1,13 +1,9 @@
-use Rattle.std.proofs.Common.{◌≡◌, length, sym, ap, subst, ◌∙◌}
-use Rattle.std.proofs.Math.Logic.{∥∥₁_map}
+use Rattle.std.proofs.{Common.{◌≡◌, length, sym, ap, subst, ◌∙◌}, Math.Logic.∥∥₁_map}
 use Rattle.std.specs.Prelude.{OnOk}
-use Rattle.repo_api.specs.RightEdits.{IsRightEdit}
-use Rattle.repo_api.specs.States.{IsEdited, tree_of, trees_in}
-use Rattle.held.specs.Contents.{held_state, revisions_of}
-use Rattle.held.specs.declared.held.Held.{Held}
+use Rattle.repo_api.specs.{RightEdits.IsRightEdit, States.{IsEdited, tree_of, trees_in}}
+use Rattle.held.specs.{Contents.{held_state, revisions_of}, declared.held.Held.Held}
 use Rattle.world.specs.Whole.{txn_map, txn_state_of}
-use Rattle.world.proofs.Keeping.{same_revisions}
-use Rattle.world.proofs.Lists.{as_many}
+use Rattle.world.proofs.{Keeping.same_revisions, Lists.as_many}
 use Rattle.world.proofs.editing.edit_txn.Goals as goal
 
 pub edit_here-requires-clause-sound : goal.edit_here-requires-clause-sound

@@ -1,7 +1,6 @@
 use Rattle.std.proofs.Common.{◌≡◌, ◌<◌, ◌≤◌, ◌++◌, length, take, refl, sym, subst, ◌∙◌, arith}
-use Rattle.std.specs.Io.{ReadsAtMost}
-use Rattle.std.specs.Io.KnownBytes.{Appends, ReadConsumes}
-use Rattle.machine.specs.Steps.{FeedWritten, FeedLost}
+use Rattle.std.specs.{Io.ReadsAtMost, Io.KnownBytes.{Appends, ReadConsumes}}
+use Rattle.machine.specs.Steps.{FeedLost, FeedWritten}
 use Rattle.conversations.specs.Conversation.{sight, Breaks}
 use Rattle.conversations.proofs.Conversing.{begins, converses_end, converses_more, breaks_at, was_ok, if_lost}
 use Rattle.conversations.proofs.worker.Worker.converse.Goals as goal

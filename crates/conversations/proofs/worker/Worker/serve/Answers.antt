@@ -1,6 +1,5 @@
 use Rattle.std.proofs.Common.{ℕ, List, subst, ◌∙◌}
-use Rattle.std.specs.Prelude.{OnOk}
-use Rattle.std.specs.Io.KnownBytes.{Appends}
+use Rattle.std.specs.{Prelude.OnOk, Io.KnownBytes.Appends}
 use Rattle.conversations.specs.Conversation.{sight}
 use Rattle.conversations.proofs.Conversing.{was_ok, then_serves}
 use Rattle.conversations.proofs.worker.Worker.serve.Goals as goal

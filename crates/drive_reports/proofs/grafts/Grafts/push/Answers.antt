@@ -1,15 +1,8 @@
-use Rattle.std.proofs.Common.{arith, ◌≡◌, ◌-◌, ◌++◌, ◌∷◌, [], ◌||◌, length, take, Some, ap, sym, subst, ◌∙◌}
-use Rattle.std.proofs.Math.Seq.{take-append_seam}
-use Rattle.std.proofs.lemmas.List.{length_push}
-use Rattle.std.proofs.lemmas.List.Elements.{All-nil, All-cons, All-append}
-use Rattle.std.proofs.lemmas.List.Folds.{list_any-append}
-use Rattle.std.specs.Prelude.{if◌then◌else◌, vec_len}
-use Rattle.std.specs.List.{list_any}
+use Rattle.std.proofs.{Common.{arith, ◌≡◌, ◌-◌, ◌++◌, ◌∷◌, [], ◌||◌, length, take, Some, ap, sym, subst, ◌∙◌}, Math.Seq.take-append_seam}
+use Rattle.std.proofs.{lemmas.List.length_push, lemmas.List.Elements.{All-nil, All-cons, All-append}, lemmas.List.Folds.list_any-append}
+use Rattle.std.specs.{Prelude.{if◌then◌else◌, vec_len}, List.list_any}
 use Rattle.svnpath.specs.Paths.{PathValue, same_path}
-use Rattle.drive_reports.specs.Depths.{is_shallow}
-use Rattle.drive_reports.specs.Finding.{AreFound, place_of}
-use Rattle.drive_reports.specs.Named.{AreNamed, IsNamed}
-use Rattle.drive_reports.specs.declared.graft.Graft.{Graft}
+use Rattle.drive_reports.specs.{Depths.is_shallow, Finding.{AreFound, place_of}, Named.{AreNamed, IsNamed}, declared.graft.Graft.Graft}
 use Rattle.drive_reports.proofs.Finding.{found_more, or_nothing}
 use Rattle.drive_reports.proofs.grafts.Grafts.push.Goals as goal
 

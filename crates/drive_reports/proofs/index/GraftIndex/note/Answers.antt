@@ -1,6 +1,5 @@
 use Rattle.std.proofs.Common.{rules, ◌≡◌, Some, cond, ap, length, ◌∙◌}
-use Rattle.svnpath.specs.Paths.{same_path}
-use Rattle.svnpath.specs.PathLaws.{at_is_same}
+use Rattle.svnpath.specs.{PathLaws.at_is_same, Paths.same_path}
 use Rattle.drive_reports.specs.Finding.{place_of}
 use Rattle.drive_reports.proofs.index.GraftIndex.note.Goals as goal
 

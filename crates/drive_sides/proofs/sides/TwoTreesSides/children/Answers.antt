@@ -2,8 +2,7 @@ use Rattle.std.proofs.Common.{◌||◌, sym, ap, subst, ◌∙◌}
 use Rattle.reporter.specs.Walks.{AreAll, AreChildren}
 use Rattle.reporter.proofs.Children.{children_all, children_are}
 use Rattle.drive_reports.specs.Targets.{new_tree, old_tree}
-use Rattle.drive_sides.specs.Names.{graft_names, is_name_among}
-use Rattle.drive_sides.specs.Plans.{whole}
+use Rattle.drive_sides.specs.{Names.{graft_names, is_name_among}, Plans.whole}
 use Rattle.drive_sides.proofs.Listing.{if_ok, if_ok_both, new_named, old_named}
 use Rattle.drive_sides.proofs.sides.TwoTreesSides.children.Goals as goal
 

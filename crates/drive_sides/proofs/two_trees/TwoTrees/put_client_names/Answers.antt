@@ -2,8 +2,7 @@ use Rattle.std.proofs.Common.{◌∷◌, [], ◌++◌, ◌∙◌}
 use Rattle.drive_rules.proofs.Joined.{or_left, or_right}
 use Rattle.repo_api.specs.Readings.{names_at}
 use Rattle.drive_reports.specs.Targets.{client_tree}
-use Rattle.drive_sides.specs.Names.{is_name_among}
-use Rattle.drive_sides.specs.Plans.{whole}
+use Rattle.drive_sides.specs.{Names.is_name_among, Plans.whole}
 use Rattle.drive_sides.proofs.Listing.{among_place, on_ok}
 use Rattle.drive_sides.proofs.two_trees.TwoTrees.put_client_names.Goals as goal
 

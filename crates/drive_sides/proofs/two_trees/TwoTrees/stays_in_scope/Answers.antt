@@ -1,7 +1,6 @@
 use Rattle.std.proofs.Common.{◌∙◌, ◌++◌, ◌∷◌, [], ap}
 use Rattle.drive_rules.specs.Scopes.{own_or_inherited}
-use Rattle.drive_reports.specs.Reported.{reported_entries}
-use Rattle.drive_reports.specs.Targets.{client_tree, limit_of, target_tree}
+use Rattle.drive_reports.specs.{Reported.reported_entries, Targets.{client_tree, limit_of, target_tree}}
 use Rattle.drive_sides.specs.Plans.{whole}
 use Rattle.drive_sides.proofs.Reaching.{stops, goes_on, ends}
 use Rattle.drive_sides.proofs.two_trees.TwoTrees.stays_in_scope.Goals as goal

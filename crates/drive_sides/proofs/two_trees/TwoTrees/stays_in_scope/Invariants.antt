@@ -1,6 +1,5 @@
 use Rattle.std.proofs.Common.{drop}
-use Rattle.drive_reports.specs.Reported.{reported_entries}
-use Rattle.drive_reports.specs.Targets.{client_tree, limit_of, target_tree}
+use Rattle.drive_reports.specs.{Reported.reported_entries, Targets.{client_tree, limit_of, target_tree}}
 use Rattle.drive_sides.specs.Plans.{whole}
 use Rattle.drive_sides.proofs.Reaching.{IsSoFar}
 use Rattle.drive_sides.proofs.two_trees.TwoTrees.stays_in_scope.Given as goal

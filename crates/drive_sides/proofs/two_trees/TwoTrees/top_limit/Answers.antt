@@ -1,8 +1,6 @@
 use Rattle.std.proofs.Common.{◌≡◌, Option, Some, None, refl, sym, ap, ◌∙◌}
 use Rattle.svnpath.specs.Paths.{PathValue}
-use Rattle.drive_rules.specs.Scopes.{top_limit}
-use Rattle.drive_rules.specs.Scopes.DepthLimit.{Reported}
-use Rattle.drive_rules.specs.declared.depth.Depth.{Depth}
+use Rattle.drive_rules.specs.{Scopes.top_limit, Scopes.DepthLimit.Reported, declared.depth.Depth.Depth}
 use Rattle.drive_reports.specs.Targets.{client_tree, limit_of, reported_depth}
 use Rattle.drive_sides.specs.Plans.{whole}
 use Rattle.drive_sides.proofs.two_trees.TwoTrees.top_limit.Goals as goal

@@ -1,11 +1,7 @@
 use Rattle.std.proofs.Common.{Some, ap, sym, subst, ◌≡◌, ◌∙◌}
 use Rattle.svnpath.specs.Paths.{PathValue}
-use Rattle.repo_api.specs.declared.entry.NodeKind.{NodeKind}
-use Rattle.repo_api.specs.declared.edit.EditOp.{EditOp}
-use Rattle.edit_rules.specs.Soundness.{IsRightIn}
-use Rattle.edit_rules.specs.Tokens.{with_token, others_closed_beneath}
-use Rattle.edit_rules.specs.Edits.{EditState, standing}
-use Rattle.edit_rules.specs.Editor.{copy_edit, added_opened}
+use Rattle.repo_api.specs.{declared.entry.NodeKind.NodeKind, declared.edit.EditOp.EditOp}
+use Rattle.edit_rules.specs.{Editor.{added_opened, copy_edit}, Edits.{EditState, standing}, Soundness.IsRightIn, Tokens.{others_closed_beneath, with_token}}
 use Rattle.editor.proofs.Steps.{reopened, path_of_added}
 use Rattle.editor.proofs.editor.CommitEditor.add_copy.Goals as goal
 

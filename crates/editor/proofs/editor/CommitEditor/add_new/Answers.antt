@@ -1,11 +1,7 @@
 use Rattle.std.proofs.Common.{◌≡◌, ℕ, List, ap, sym, subst, ◌∙◌, None}
 use Rattle.svnpath.specs.Paths.{PathValue}
-use Rattle.edit_rules.specs.Tokens.{opened_under}
+use Rattle.edit_rules.specs.{Editor.added_edit, Edits.{EditState, standing}, Refusing.add_refusal, Soundness.IsRightIn, Tokens.opened_under}
 use Rattle.repo_api.specs.declared.edit.EditOp.{EditOp}
-use Rattle.edit_rules.specs.Edits.{EditState, standing}
-use Rattle.edit_rules.specs.Soundness.{IsRightIn}
-use Rattle.edit_rules.specs.Refusing.{add_refusal}
-use Rattle.edit_rules.specs.Editor.{added_edit}
 use Rattle.editor.proofs.Steps.{placed_first}
 use Rattle.editor.proofs.editor.CommitEditor.add_new.Goals as goal
 

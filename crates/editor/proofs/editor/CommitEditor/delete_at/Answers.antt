@@ -1,7 +1,6 @@
 use Rattle.std.proofs.Common.{ap, ◌∙◌}
 use Rattle.repo_api.specs.declared.edit.EditOp.TheVariants as edits
-use Rattle.edit_rules.specs.Edits.{EditState}
-use Rattle.edit_rules.specs.Tokens.{closed_beneath}
+use Rattle.edit_rules.specs.{Edits.EditState, Tokens.closed_beneath}
 use Rattle.editor.proofs.Steps.{reopened}
 use Rattle.editor.proofs.editor.CommitEditor.delete_at.Goals as goal
 

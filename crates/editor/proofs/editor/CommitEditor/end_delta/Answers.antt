@@ -1,7 +1,5 @@
 use Rattle.std.proofs.Common.{sym, subst}
-use Rattle.edit_rules.specs.Edits.{EditState}
-use Rattle.edit_rules.specs.Soundness.{IsRightIn}
-use Rattle.edit_rules.specs.declared.opened.DeltaState.TheVariants.{Reading}
+use Rattle.edit_rules.specs.{Edits.EditState, Soundness.IsRightIn, declared.opened.DeltaState.TheVariants.Reading}
 use Rattle.editor.proofs.TextSteps.{ends}
 use Rattle.editor.proofs.editor.CommitEditor.end_delta.Goals as goal
 

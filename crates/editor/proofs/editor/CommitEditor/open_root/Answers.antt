@@ -1,6 +1,5 @@
 use Rattle.std.proofs.Common.{ap, ◌∙◌}
-use Rattle.edit_rules.specs.Tokens.{with_token}
-use Rattle.edit_rules.specs.declared.opened.Opened.{Opened}
+use Rattle.edit_rules.specs.{Tokens.with_token, declared.opened.Opened.Opened}
 use Rattle.editor.proofs.Steps.{opens}
 use Rattle.editor.proofs.editor.CommitEditor.open_root.Goals as goal
 

@@ -2,8 +2,7 @@ use Rattle.std.proofs.Common.{ap, subst, ◌∙◌}
 use Rattle.std.specs.Arc.{arc_value}
 use Rattle.noderevs.specs.Nodes.{kid_named}
 use Rattle.filed_trees.specs.Comparing.{IsBody, tables_of}
-use Rattle.filed_trees.proofs.Entering.{nothing_named}
-use Rattle.filed_trees.proofs.Kept.{directory_content, file_content}
+use Rattle.filed_trees.proofs.{Entering.nothing_named, Kept.{directory_content, file_content}}
 use Rattle.filed_trees.proofs.blocks.Reading.content.Goals as goal
 
 pub returns-in_ok-text-in-File-clause-content : goal.returns-in_ok-text-in-File-clause-content

@@ -1,8 +1,6 @@
 use Rattle.std.proofs.Common.{None, [], sym, ap, subst, ◌∙◌}
 use Rattle.noderevs.specs.Nodes.{kid_named}
-use Rattle.filed_trees.specs.Pieces.{entries_at}
-use Rattle.filed_trees.specs.Comparing.{IsBody, earlier_text, tables_of}
-use Rattle.filed_trees.specs.Tables.{IsAt}
+use Rattle.filed_trees.specs.{Pieces.entries_at, Comparing.{IsBody, earlier_text, tables_of}, Tables.IsAt}
 use Rattle.filed_trees.proofs.Entering.{nothing_named}
 use Rattle.filed_trees.proofs.blocks.Reading.kids.Goals as goal
 

@@ -1,9 +1,6 @@
-use Rattle.filed_trees.proofs.Compared.{compared_filed, was_filed}
-use Rattle.filed_trees.specs.Readable.{IsKept, IsReadable, IsTabled, Judges}
-use Rattle.filed_trees.proofs.Judged.{no_part}
-use Rattle.filed_trees.proofs.Asked.{is_before, readable_content, readable_properties}
+use Rattle.filed_trees.proofs.{Compared.{compared_filed, was_filed}, Judged.no_part, Asked.{is_before, readable_content, readable_properties}}
+use Rattle.filed_trees.specs.{Readable.{IsKept, IsReadable, IsTabled, Judges}, Comparing.tables_of}
 use Rattle.std.proofs.Common.{rules, ◌≡◌, Err, refl, sym, subst}
-use Rattle.filed_trees.specs.Comparing.{tables_of}
 use Rattle.filed_trees.proofs.blocks.Reading.node.Goals as goal
 
 pub returns-clause-filed : goal.returns-clause-filed

@@ -1,19 +1,10 @@
 use Rattle.std.proofs.Common.{rules, ◌≡◌, ◌+◌, ◌++◌, ◌∷◌, [], length, map, Some, option_map, sym, ap, subst, ◌∙◌, arith, length-append, Err, take}
-use Rattle.std.proofs.lemmas.List.{length-map, take_all}
-use Rattle.std.proofs.lemmas.Option.{slice_get-get_or, slice_get-map}
-use Rattle.std.specs.Borrow.{Bor}
+use Rattle.std.proofs.{lemmas.List.{length-map, take_all}, lemmas.Option.{slice_get-get_or, slice_get-map}, lemmas.List.Elements.{All-more, All-same}}
+use Rattle.std.specs.{Borrow.Bor, Prelude.All}
 use Rattle.fsfs_reading.specs.declared.piece.FilePiece.{FilePiece}
-use Rattle.filed_trees.specs.Tables.{placed_of}
-use Rattle.filed_trees.specs.Comparing.{IsOfLast, revision_in, tables_of, HaveHeights}
-use Rattle.filed_trees.proofs.Reading.{AreRead, all_read, one_read}
-use Rattle.filed_trees.specs.Readable.{IsReadable, IsTabled, Judges}
-use Rattle.filed_trees.proofs.Judged.{no_part}
-use Rattle.std.proofs.lemmas.List.Elements.{All-more, All-same}
-use Rattle.std.specs.Prelude.{All}
-use Rattle.noderevs.specs.Held.{node_at}
-use Rattle.noderevs.specs.Heights.{IsHeight}
-use Rattle.noderevs.specs.Nodes.{with_block}
-use Rattle.filed_trees.proofs.Heights.{heights_more}
+use Rattle.filed_trees.specs.{Tables.placed_of, Comparing.{IsOfLast, revision_in, tables_of, HaveHeights}, Readable.{IsReadable, IsTabled, Judges}}
+use Rattle.filed_trees.proofs.{Reading.{AreRead, all_read, one_read}, Judged.no_part, Heights.heights_more}
+use Rattle.noderevs.specs.{Heights.IsHeight, Held.node_at, Nodes.with_block}
 use Rattle.filed_trees.proofs.blocks.Reading.nodes.Goals as goal
 
 pub loop-row-preserved : goal.loop-row-preserved

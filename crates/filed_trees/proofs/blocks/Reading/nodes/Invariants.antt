@@ -1,11 +1,8 @@
 use Rattle.std.proofs.Common.{◌≡◌, ◌<◌, length, map, take}
 use Rattle.std.specs.Prelude.{All, slice_get}
-use Rattle.noderevs.specs.declared.node_rev.NodeId.{NodeId}
-use Rattle.filed_trees.specs.Pieces.{RevisionBytes}
-use Rattle.filed_trees.specs.Tables.{IsPlaced, placed_of}
-use Rattle.filed_trees.specs.Comparing.{AreFor, IsOfLast, revision_in, tables_of, HaveHeights}
+use Rattle.noderevs.specs.{declared.node_rev.NodeId.NodeId, Held.node_at}
+use Rattle.filed_trees.specs.{Pieces.RevisionBytes, Tables.{IsPlaced, placed_of}, Comparing.{AreFor, IsOfLast, revision_in, tables_of, HaveHeights}}
 use Rattle.filed_trees.specs.Readable.{IsReadable, IsTabled}
-use Rattle.noderevs.specs.Held.{node_at}
 use Rattle.filed_trees.proofs.blocks.Reading.nodes.Given as goal
 
 abbrev pub invariant-loop-row : goal.invariant-loop-row

@@ -3,22 +3,14 @@ use Rattle.repo_api.specs.Histories.{history_of}
 use Rattle.noderevs.specs.Held.{blocks_of}
 use Rattle.repostore.specs.Reading.{with_one_more}
 use Rattle.world.specs.Whole.{world_content}
-use Rattle.filed_world.specs.Reading.{AreRead, so_far}
-use Rattle.filed_world.proofs.Taken.{next_tabled, next_read, next_history}
-use Rattle.filed_trees.specs.StandsFor.{revision_bytes}
-use Rattle.std.specs.FinMap.{entries}
-use Rattle.std.specs.Prelude.{slice_get}
-use Rattle.std.specs.Result.{result_ok}
+use Rattle.filed_world.specs.{Reading.{AreRead, so_far}, Histories.HasHistory}
+use Rattle.filed_world.proofs.{Taken.{next_tabled, next_read, next_history}, First.{block, change, comes_first, first_history, history_first, is_at}}
+use Rattle.filed_world.proofs.Next.{nothing}
+use Rattle.filed_trees.specs.{Readable.Judges, StandsFor.revision_bytes, Tables.AreTabled, Values.IsFiledNext}
+use Rattle.std.specs.{FinMap.entries, Prelude.slice_get, Result.result_ok}
 use Rattle.fsfs_folder.specs.Properties.{properties_of}
 use Rattle.held.proofs.Seen.{held_changes}
-use Rattle.filed_trees.specs.Readable.{Judges}
-use Rattle.filed_trees.specs.Tables.{AreTabled}
-use Rattle.filed_trees.specs.Values.{IsFiledNext}
-use Rattle.filed_trees.proofs.Judged.{no_part}
-use Rattle.filed_trees.proofs.Seen.{none_tabled}
-use Rattle.filed_world.specs.Histories.{HasHistory}
-use Rattle.filed_world.proofs.First.{block, change, comes_first, first_history, history_first, is_at}
-use Rattle.filed_world.proofs.Next.{nothing}
+use Rattle.filed_trees.proofs.{Judged.no_part, Seen.none_tabled}
 use Rattle.filed_world.proofs.filed_world.FiledWorld.compared.Goals as goal
 
 pub returns-in_ok-with_table-in-Ok-clause-read : goal.returns-in_ok-with_table-in-Ok-clause-read

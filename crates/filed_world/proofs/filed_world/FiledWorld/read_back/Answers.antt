@@ -2,14 +2,11 @@ use Rattle.std.proofs.Common.{◌≡◌, ◌++◌, ◌∷◌, [], length, sym, a
 use Rattle.std.specs.FinMap.{entries, same_entries_map}
 use Rattle.repo_api.specs.Histories.{history_of}
 use Rattle.noderevs.specs.Held.{blocks_of}
-use Rattle.world.specs.Adding.{MayComeNext}
-use Rattle.world.specs.Whole.{world_content}
+use Rattle.world.specs.{Adding.MayComeNext, Whole.world_content}
 use Rattle.filed_trees.specs.Tables.{AreTabled}
 use Rattle.filed_trees.proofs.Reading.{tabled_same}
-use Rattle.filed_world.specs.Histories.{IsHistory, with_next}
-use Rattle.filed_world.specs.Reading.{read_history}
-use Rattle.filed_world.proofs.Further.{all_said, as_read, history_of_next}
-use Rattle.filed_world.proofs.Newest.{newest_changes}
+use Rattle.filed_world.specs.{Histories.{IsHistory, with_next}, Reading.read_history}
+use Rattle.filed_world.proofs.{Further.{all_said, as_read, history_of_next}, Newest.newest_changes}
 use Rattle.filed_world.proofs.filed_world.FiledWorld.read_back.Goals as goal
 
 pub returns-in-Ok-with_read : goal.returns-in-Ok-with_read

@@ -1,10 +1,6 @@
 use Rattle.std.proofs.Common.{◌≡◌, ◌++◌, ◌∷◌, [], Ok, length, sym, ap, subst, ◌∙◌, arith, append-nil, rules, Err}
-use Rattle.std.specs.Prelude.{IsSome, is_some}
-use Rattle.std.specs.Result.{result_ok}
-use Rattle.noderevs.specs.Heights.{AreHigh}
-use Rattle.noderevs.specs.Held.{blocks_of, node_at}
-use Rattle.noderevs.specs.Nodes.{with_block}
-use Rattle.noderevs.specs.declared.nodes.Nodes.{Nodes}
+use Rattle.std.specs.{Prelude.{IsSome, is_some}, Result.result_ok}
+use Rattle.noderevs.specs.{Heights.AreHigh, Held.{blocks_of, node_at}, Nodes.with_block, declared.nodes.Nodes.Nodes}
 use Rattle.fsfs_folder.specs.Properties.{properties_of}
 use Rattle.fsfs_judging.specs.Judging.{judged_revision}
 use Rattle.fsfs_reading.specs.Pieces.{revision_of}

@@ -1,11 +1,8 @@
-use Rattle.filed_world.proofs.Next.{first_comes, nothing}
-use Rattle.filed_world.proofs.Taken.{ok_then}
+use Rattle.filed_world.proofs.{Next.{first_comes, nothing}, Taken.ok_then, First.{list_with, new_with}}
 use Rattle.std.proofs.Common.{◌≡◌, Some, ap}
-use Rattle.std.specs.Prelude.{is_some}
-use Rattle.std.specs.Result.{result_ok}
+use Rattle.std.specs.{Prelude.is_some, Result.result_ok}
 use Rattle.fsfs_folder.specs.Properties.{properties_of}
 use Rattle.filed_trees.proofs.Judged.{still_judged}
-use Rattle.filed_world.proofs.First.{list_with, new_with}
 use Rattle.filed_world.proofs.filed_world.FiledWorld.with_first_revision.Goals as goal
 
 pub returns-clause-read : goal.returns-clause-read

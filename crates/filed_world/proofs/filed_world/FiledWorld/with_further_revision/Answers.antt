@@ -1,20 +1,14 @@
 use Rattle.std.proofs.Common.{◌≡◌, ◌++◌, ◌∷◌, [], Some, length, sym, ap, subst, ◌∙◌, arith, rules, Err, refl}
-use Rattle.std.specs.Prelude.{slice_get, IsSome, is_some}
-use Rattle.std.specs.FinMap.{entries}
-use Rattle.std.specs.Result.{result_ok}
+use Rattle.std.specs.{Prelude.{slice_get, IsSome, is_some}, FinMap.entries, Result.result_ok}
 use Rattle.noderevs.specs.Held.{blocks_of}
 use Rattle.noderevs.proofs.Pushing.{last_place}
 use Rattle.world.specs.Adding.{MayComeNext}
 use Rattle.repostore.specs.Reading.{with_one_more}
 use Rattle.fsfs_folder.specs.Properties.{properties_of}
-use Rattle.filed_trees.specs.Readable.{Judges}
-use Rattle.filed_trees.specs.StandsFor.{revision_bytes}
-use Rattle.filed_trees.specs.Tables.{AreTabled}
+use Rattle.filed_trees.specs.{Readable.Judges, StandsFor.revision_bytes, Tables.AreTabled}
 use Rattle.filed_trees.proofs.Judged.{still_judged}
-use Rattle.filed_world.specs.Histories.{HasHistory, with_next}
-use Rattle.filed_world.specs.Reading.{AreRead, read_history}
-use Rattle.filed_world.proofs.Further.{all_said, comes_next, has_room, history_of_next, if_judged, may_come}
-use Rattle.filed_world.proofs.Next.{next_comes, whole}
+use Rattle.filed_world.specs.{Histories.{HasHistory, with_next}, Reading.{AreRead, read_history}}
+use Rattle.filed_world.proofs.{Further.{all_said, comes_next, has_room, history_of_next, if_judged, may_come}, Next.{next_comes, whole}}
 use Rattle.filed_world.proofs.Taken.{next_history, next_read, ok_both}
 use Rattle.filed_world.proofs.filed_world.FiledWorld.with_further_revision.Goals as goal
 

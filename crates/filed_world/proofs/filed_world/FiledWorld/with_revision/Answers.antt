@@ -3,14 +3,10 @@ use Rattle.std.specs.Prelude.{slice_get}
 use Rattle.repostore.specs.Files.{with_revision}
 use Rattle.held.proofs.Seen.{held_many}
 use Rattle.fsfs_folder.specs.declared.current.Current.{Current}
-use Rattle.filed_trees.specs.StandsFor.{revision_bytes}
-use Rattle.filed_world.specs.Files.{AreFilesOf}
-use Rattle.filed_world.proofs.Changed.{many_tables, revision_added}
-use Rattle.filed_world.proofs.Newest.{youngest_is}
+use Rattle.filed_trees.specs.{StandsFor.revision_bytes, Tables.AreTabled}
+use Rattle.filed_world.specs.{Files.AreFilesOf, Reading.IsReadBack}
+use Rattle.filed_world.proofs.{Changed.{many_tables, revision_added}, Newest.youngest_is, Further.committed_history}
 use Rattle.noderevs.specs.Held.{blocks_of}
-use Rattle.filed_trees.specs.Tables.{AreTabled}
-use Rattle.filed_world.specs.Reading.{IsReadBack}
-use Rattle.filed_world.proofs.Further.{committed_history}
 use Rattle.filed_world.proofs.filed_world.FiledWorld.with_revision.Goals as goal
 
 pub returns-clause-number : goal.returns-clause-number

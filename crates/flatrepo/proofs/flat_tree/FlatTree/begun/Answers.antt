@@ -1,5 +1,4 @@
-use Rattle.std.proofs.Common.{[], ap, ◌∙◌}
-use Rattle.std.proofs.lemmas.Map.Entries.{entries_from_clone}
+use Rattle.std.proofs.{Common.{[], ap, ◌∙◌}, lemmas.Map.Entries.entries_from_clone}
 use Rattle.repo_api.specs.Edits.{touched_above}
 use Rattle.revision_data.specs.Found.{found}
 use Rattle.flatrepo.proofs.MapEdits.{touch_seen}

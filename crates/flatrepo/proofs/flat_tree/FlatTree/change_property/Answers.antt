@@ -1,15 +1,12 @@
 use Rattle.std.proofs.Common.{◌≡◌, sym, ap, ◌∙◌}
-use Rattle.std.specs.FinMap.{get, from_entries}
-use Rattle.std.specs.Option.{option_copied}
+use Rattle.std.specs.{FinMap.{get, from_entries}, Option.option_copied}
 use Rattle.svnpath.specs.Paths.{path_cmp}
 use Rattle.repo_api.specs.States.{tree_of}
 use Rattle.revision_data.proofs.Seen.{seen_at}
 use Rattle.flatrepo.specs.EntryChanges.{with_change, with_properties}
-use Rattle.flatrepo.proofs.MapEdits.{part_seen}
-use Rattle.flatrepo.proofs.Parts.{changed_as, not_there}
-use Rattle.flatrepo.proofs.Rules.{revised_as}
-use Rattle.flatrepo.proofs.flat_tree.FlatTree.change_property.Goals as goal
+use Rattle.flatrepo.proofs.{MapEdits.part_seen, Parts.{changed_as, not_there}, Rules.revised_as}
 use Rattle.flatrepo.proofs.flat_tree.FlatTree.change_property.Goals.{in-None, in-Some+in_ok-properties-in-Some}
+use Rattle.flatrepo.proofs.flat_tree.FlatTree.change_property.Goals as goal
 
 pub returns-clause-ok : goal.returns-clause-ok
 returns-clause-ok c = λ q.

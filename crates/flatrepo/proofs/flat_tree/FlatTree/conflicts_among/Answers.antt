@@ -1,6 +1,4 @@
-use Rattle.std.proofs.Common.{rules, tests, ◌∙◌}
-use Rattle.std.proofs.lemmas.Iterator.Consumers.{YieldsList-from_rest}
-use Rattle.std.proofs.lemmas.Iterator.Search.{any_from_yields_List}
+use Rattle.std.proofs.{Common.{rules, tests, ◌∙◌}, lemmas.Iterator.Consumers.YieldsList-from_rest, lemmas.Iterator.Search.any_from_yields_List}
 use Rattle.std.specs.Map.{keys_of}
 use Rattle.flatrepo.specs.Merging.{conflict_at}
 use Rattle.flatrepo.proofs.Keys.{any_seen}

@@ -1,8 +1,6 @@
-use Rattle.std.proofs.Common.{rules, tests, ◌+◌, ◌&&◌, length, ◌∙◌}
-use Rattle.std.proofs.lemmas.Iterator.Consumers.{YieldsList-from_rest}
+use Rattle.std.proofs.{Common.{rules, tests, ◌+◌, ◌&&◌, length, ◌∙◌}, lemmas.Iterator.Consumers.YieldsList-from_rest}
 use Rattle.std.proofs.lemmas.Iterator.Search.{any_from_yields_List}
-use Rattle.std.specs.Prelude.{nat_lt}
-use Rattle.std.specs.Map.{keys_of}
+use Rattle.std.specs.{Prelude.nat_lt, Map.keys_of}
 use Rattle.svnpath.specs.Paths.{is_at_or_under}
 use Rattle.flatrepo.proofs.Keys.{any_seen}
 use Rattle.flatrepo.proofs.flat_tree.FlatTree.has_deeper.Goals as goal

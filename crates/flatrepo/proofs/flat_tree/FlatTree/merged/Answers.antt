@@ -1,13 +1,7 @@
 use Rattle.std.proofs.Common.{None, is_some, sym, ap, ◌∙◌}
-use Rattle.std.specs.Prelude.{if◌then◌else◌}
-use Rattle.std.specs.Option.{option_or}
-use Rattle.std.specs.FinMap.{get, from_entries}
+use Rattle.std.specs.{Prelude.if◌then◌else◌, Option.option_or, FinMap.{get, from_entries}}
 use Rattle.svnpath.specs.Paths.{path_cmp}
-use Rattle.repo_api.specs.Merge.{merged}
-use Rattle.repo_api.specs.MergedMaps.{merged_map}
-use Rattle.repo_api.specs.MergeLaws.{get_merged_map}
-use Rattle.repo_api.specs.States.{tree_of}
-use Rattle.repo_api.specs.StateLaws.{same_tree, get_path}
+use Rattle.repo_api.specs.{Merge.merged, MergeLaws.get_merged_map, MergedMaps.merged_map, StateLaws.{get_path, same_tree}, States.tree_of}
 use Rattle.revision_data.specs.Found.{found}
 use Rattle.flatrepo.proofs.Merged.{put_both}
 use Rattle.flatrepo.proofs.flat_tree.FlatTree.merged.Goals as goal

@@ -1,6 +1,5 @@
 use Rattle.std.proofs.Common.{map, sym, ap, ◌∙◌}
-use Rattle.repo_api.specs.Readings.{names_among, names_in}
-use Rattle.repo_api.specs.StateLaws.{entries_of}
+use Rattle.repo_api.specs.{Readings.{names_among, names_in}, StateLaws.entries_of}
 use Rattle.flatrepo.proofs.flat_tree.FlatTree.names.Goals as goal
 
 pub returns-in-Ok : goal.returns-in-Ok

@@ -1,15 +1,9 @@
-use Rattle.std.proofs.Common.{None, is_some, sym, ap, ◌∙◌}
-use Rattle.std.proofs.lemmas.Map.Iter.{rest_more}
-use Rattle.std.specs.Prelude.{if◌then◌else◌}
-use Rattle.std.specs.Option.{option_or}
-use Rattle.std.specs.List.{list_any}
-use Rattle.std.specs.BTreeMap.{is_at}
-use Rattle.std.specs.Map.Iter.{deref}
+use Rattle.std.proofs.{Common.{None, is_some, sym, ap, ◌∙◌}, lemmas.Map.Iter.rest_more}
+use Rattle.std.specs.{Prelude.if◌then◌else◌, Option.option_or, List.list_any, BTreeMap.is_at, Map.Iter.deref}
 use Rattle.svnpath.specs.Paths.{path_cmp}
 use Rattle.revision_data.specs.Found.{found}
 use Rattle.flatrepo.specs.Merging.{merged_at}
-use Rattle.flatrepo.proofs.Anys.{found_key}
-use Rattle.flatrepo.proofs.Merged.{put_more}
+use Rattle.flatrepo.proofs.{Anys.found_key, Merged.put_more}
 use Rattle.revision_data.proofs.Seen.{seen_at}
 use Rattle.flatrepo.proofs.flat_tree.FlatTree.put_merged.Goals as goal
 

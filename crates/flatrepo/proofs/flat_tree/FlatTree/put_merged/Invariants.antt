@@ -1,9 +1,6 @@
 use Rattle.std.proofs.Common.{◌≡◌, None}
-use Rattle.std.specs.Prelude.{if◌then◌else◌}
-use Rattle.std.specs.Option.{option_or}
-use Rattle.std.specs.List.{list_any}
-use Rattle.std.specs.BTreeMap.{is_at}
-use Rattle.svnpath.specs.Paths.{PathValue, path_cmp}
+use Rattle.std.specs.{Prelude.if◌then◌else◌, Option.option_or, List.list_any, BTreeMap.is_at}
+use Rattle.svnpath.specs.Paths.{path_cmp, PathValue}
 use Rattle.revision_data.specs.Found.{found}
 use Rattle.flatrepo.specs.Merging.{merged_at, put_over}
 use Rattle.flatrepo.proofs.flat_tree.FlatTree.put_merged.Given as goal

@@ -1,11 +1,7 @@
-use Rattle.std.proofs.Common.{None, option_map, sym, ap, ◌∙◌}
-use Rattle.std.proofs.lemmas.Map.Entries.{entries_from_clone}
-use Rattle.std.specs.Prelude.{if◌then◌else◌}
-use Rattle.std.specs.Option.{option_or}
+use Rattle.std.proofs.{Common.{None, option_map, sym, ap, ◌∙◌}, lemmas.Map.Entries.entries_from_clone}
+use Rattle.std.specs.{Prelude.if◌then◌else◌, Option.option_or}
 use Rattle.svnpath.specs.Paths.{is_at_or_under}
-use Rattle.repo_api.specs.Edits.{touched, deleted}
-use Rattle.repo_api.specs.States.{tree_of}
-use Rattle.repo_api.specs.StateLaws.{get_path}
+use Rattle.repo_api.specs.{Edits.{deleted, touched}, StateLaws.get_path, States.tree_of}
 use Rattle.revision_data.specs.Found.{found}
 use Rattle.flatrepo.specs.EntryChanges.{landed}
 use Rattle.flatrepo.proofs.Landed.{copied_over, landed_same}

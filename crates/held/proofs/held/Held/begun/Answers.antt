@@ -1,8 +1,6 @@
 use Rattle.std.proofs.Common.{◌≡◌, Some, sym, ap, subst, ◌∙◌}
-use Rattle.repo_api.specs.Edits.{begun}
-use Rattle.repo_api.specs.States.{youngest}
-use Rattle.noderevs.specs.Held.{node_at, root_at}
-use Rattle.noderevs.specs.Views.{shared_tree}
+use Rattle.repo_api.specs.{Edits.begun, States.youngest}
+use Rattle.noderevs.specs.{Held.{node_at, root_at}, Views.shared_tree}
 use Rattle.txntree.specs.Whole.{IsSound}
 use Rattle.held.specs.Contents.{held_state}
 use Rattle.held.proofs.Seen.{root_there}

@@ -1,7 +1,5 @@
-use Rattle.std.proofs.Common.{sym, ap, subst, ◌∙◌}
-use Rattle.std.proofs.lemmas.Result.{on_ok_weaker}
-use Rattle.repo_api.specs.Edits.{edited}
-use Rattle.repo_api.specs.RightEdits.{IsRightEdit}
+use Rattle.std.proofs.{Common.{sym, ap, subst, ◌∙◌}, lemmas.Result.on_ok_weaker}
+use Rattle.repo_api.specs.{Edits.edited, RightEdits.IsRightEdit}
 use Rattle.txntree.specs.Whole.{txn_tree}
 use Rattle.held.proofs.Seen.{trees_seen}
 use Rattle.held.proofs.held.Held.edit.Goals as goal

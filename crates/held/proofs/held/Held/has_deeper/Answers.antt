@@ -1,7 +1,5 @@
 use Rattle.std.proofs.Common.{sym, subst}
-use Rattle.noderevs.specs.Beneath.{IsShallow}
-use Rattle.noderevs.specs.Held.{node_at}
-use Rattle.noderevs.specs.Views.{shared_tree}
+use Rattle.noderevs.specs.{Beneath.IsShallow, Held.node_at, Views.shared_tree}
 use Rattle.held.proofs.Deep.{none_past, deeper_is}
 use Rattle.held.proofs.held.Held.has_deeper.Goals as goal
 

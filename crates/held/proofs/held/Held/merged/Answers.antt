@@ -1,15 +1,9 @@
 use Rattle.std.proofs.Common.{◌≡◌, true, length, sym, ap, subst, ◌∙◌}
-use Rattle.repo_api.specs.Merge.{is_in_conflict}
-use Rattle.repo_api.specs.MergedMaps.{merged_map}
-use Rattle.repo_api.specs.States.{tree_at, youngest}
+use Rattle.repo_api.specs.{Merge.is_in_conflict, MergedMaps.merged_map, States.{tree_at, youngest}}
 use Rattle.noderevs.specs.Held.{count, trees_of}
-use Rattle.txntree.specs.Whole.{txn_tree}
-use Rattle.txntree.specs.declared.tree.TxnTree.{TxnTree}
-use Rattle.held.specs.Contents.{held_state, revisions_of}
-use Rattle.held.specs.Maps.{IsMapOf}
-use Rattle.held.specs.Sealed.{sealed_tree}
-use Rattle.held.proofs.Merging.{merged_is, clean_is, conflict_at, conflict_of}
-use Rattle.held.proofs.Seen.{held_seen, held_many}
+use Rattle.txntree.specs.{Whole.txn_tree, declared.tree.TxnTree.TxnTree}
+use Rattle.held.specs.{Contents.{held_state, revisions_of}, Maps.IsMapOf, Sealed.sealed_tree}
+use Rattle.held.proofs.{Merging.{merged_is, clean_is, conflict_at, conflict_of}, Seen.{held_seen, held_many}}
 use Rattle.held.proofs.held.Held.merged.Goals as goal
 
 pub returns-in-Ok-clause-map : goal.returns-in-Ok-clause-map

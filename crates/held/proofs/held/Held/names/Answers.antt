@@ -1,10 +1,6 @@
-use Rattle.std.proofs.Common.{◌≡◌, map, sym, ap, ◌∙◌, option_and_then}
-use Rattle.std.proofs.lemmas.Result.{IfOk-weaker}
-use Rattle.std.specs.FinMap.{keys}
-use Rattle.std.specs.Map.Iter.{deref}
-use Rattle.std.specs.Prelude.{option_copied, slice_get}
-use Rattle.repo_api.specs.Readings.{names_in}
-use Rattle.repo_api.specs.States.{tree_in}
+use Rattle.std.proofs.{Common.{◌≡◌, map, sym, ap, ◌∙◌, option_and_then}, lemmas.Result.IfOk-weaker}
+use Rattle.std.specs.{FinMap.keys, Map.Iter.deref, Prelude.{option_copied, slice_get}}
+use Rattle.repo_api.specs.{Readings.names_in, States.tree_in}
 use Rattle.held.specs.Contents.{revisions_of}
 use Rattle.noderevs.specs.Held.{node_at}
 use Rattle.held.proofs.Named.{names_held, names_missing}

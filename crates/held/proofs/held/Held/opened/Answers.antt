@@ -1,7 +1,6 @@
 use Rattle.std.proofs.Common.{◌≡◌, ◌<◌, [], ◌∷◌, length, ap, sym, subst, arith, ◌∙◌}
 use Rattle.noderevs.specs.Held.{blocks_of, trees_of}
-use Rattle.held.proofs.Again.{same_state}
-use Rattle.held.proofs.Opened.{opening_placed, opening_shown, opening_is}
+use Rattle.held.proofs.{Again.same_state, Opened.{opening_placed, opening_shown, opening_is}}
 use Rattle.held.proofs.held.Held.opened.Goals as goal
 
 pub invariant_of-result : goal.invariant_of-result

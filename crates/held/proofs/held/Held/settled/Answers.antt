@@ -1,6 +1,5 @@
 use Rattle.std.proofs.Common.{subst}
-use Rattle.noderevs.specs.Held.{node_at}
-use Rattle.noderevs.specs.Views.{shared_tree}
+use Rattle.noderevs.specs.{Held.node_at, Views.shared_tree}
 use Rattle.held.specs.Settling.{IsSettledFrom}
 use Rattle.held.proofs.Marks.{quiet_held}
 use Rattle.held.proofs.held.Held.settled.Goals as goal

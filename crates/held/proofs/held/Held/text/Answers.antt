@@ -1,7 +1,6 @@
 use Rattle.std.proofs.Common.{sym, ap, ◌∙◌}
-use Rattle.repo_api.specs.Kinds.{text_of}
-use Rattle.noderevs.specs.Held.{node_at}
-use Rattle.noderevs.specs.Views.{shared_tree}
+use Rattle.repo_api.specs.Trees.{text_of}
+use Rattle.noderevs.specs.{Held.node_at, Views.shared_tree}
 use Rattle.held.proofs.Seen.{held_seen}
 use Rattle.held.proofs.held.Held.text.Goals as goal
 

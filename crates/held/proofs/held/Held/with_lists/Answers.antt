@@ -1,6 +1,5 @@
 use Rattle.std.proofs.Common.{◌≡◌, ◌<◌, length, refl, ap, sym, subst, ◌∙◌}
-use Rattle.noderevs.specs.Held.{blocks_of}
-use Rattle.noderevs.specs.Nodes.{node_in, root_in}
+use Rattle.noderevs.specs.{Held.blocks_of, Nodes.{node_in, root_in}}
 use Rattle.held.specs.Placed.{ArePlaced}
 use Rattle.held.proofs.Again.{shown_again, revisions_again, same_state}
 use Rattle.held.proofs.held.Held.with_lists.Goals as goal

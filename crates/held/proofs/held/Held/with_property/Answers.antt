@@ -1,5 +1,4 @@
-use Rattle.std.proofs.Common.{length, ap, ◌∙◌}
-use Rattle.std.proofs.lemmas.List.{length-set}
+use Rattle.std.proofs.{Common.{length, ap, ◌∙◌}, lemmas.List.length-set}
 use Rattle.held.proofs.held.Held.with_property.Goals as goal
 
 pub with_lists-requires : goal.with_lists-requires

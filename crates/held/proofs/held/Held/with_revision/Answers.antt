@@ -1,12 +1,7 @@
-use Rattle.std.proofs.Common.{◌≡◌, ◌<◌, ◌+◌, length, sym, ap, subst, arith, ◌∙◌}
-use Rattle.std.proofs.lemmas.List.{length_push}
-use Rattle.noderevs.specs.Held.{blocks_of, trees_of}
-use Rattle.held.specs.Contents.{block_tree}
-use Rattle.held.proofs.OneMore.{grown, grown_is}
-use Rattle.noderevs.specs.Nodes.{node_in, root_in}
-use Rattle.held.specs.Placed.{ArePlaced}
-use Rattle.held.proofs.Placing.{placed_pushed}
-use Rattle.held.proofs.Seen.{held_many}
+use Rattle.std.proofs.{Common.{◌≡◌, ◌<◌, ◌+◌, length, sym, ap, subst, arith, ◌∙◌}, lemmas.List.length_push}
+use Rattle.noderevs.specs.{Held.{blocks_of, trees_of}, Nodes.{node_in, root_in}}
+use Rattle.held.specs.{Contents.block_tree, Placed.ArePlaced}
+use Rattle.held.proofs.{OneMore.{grown, grown_is}, Placing.placed_pushed, Seen.held_many}
 use Rattle.held.proofs.held.Held.with_revision.Goals as goal
 
 pub with_block-requires-clause-room : goal.with_block-requires-clause-room

@@ -1,16 +1,10 @@
 use Rattle.std.proofs.Common.{◌≡◌, Some, sym, subst, ◌∙◌, option_map}
 use Rattle.svnpath.specs.Paths.{PathValue}
 use Rattle.repo_api.specs.Merge.{sealed}
-use Rattle.noderevs.specs.Held.{node_at, count}
-use Rattle.noderevs.specs.Nodes.{with_block}
-use Rattle.noderevs.specs.Soundness.{IsNext}
-use Rattle.noderevs.specs.Views.{shared_tree}
-use Rattle.txntree.specs.Sealing.{IsBlockOf}
-use Rattle.txntree.specs.Whole.{txn_tree}
-use Rattle.held.specs.Contents.{block_tree}
-use Rattle.held.specs.Sealed.{sealed_tree}
-use Rattle.held.proofs.PlacedBlocks.{block_placed, map_again}
-use Rattle.held.proofs.Seen.{held_many}
+use Rattle.noderevs.specs.{Held.{count, node_at}, Nodes.with_block, Soundness.IsNext, Views.shared_tree}
+use Rattle.txntree.specs.{Sealing.IsBlockOf, Whole.txn_tree}
+use Rattle.held.specs.{Contents.block_tree, Sealed.sealed_tree}
+use Rattle.held.proofs.{PlacedBlocks.{block_placed, map_again}, Seen.held_many}
 use Rattle.held.proofs.held.Held.with_tree.Goals as goal
 
 pub seal-requires : goal.seal-requires

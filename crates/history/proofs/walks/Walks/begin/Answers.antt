@@ -1,7 +1,6 @@
 use Rattle.std.proofs.Common.{◌∙◌, ap}
 use Rattle.repo_api.specs.Histories.{history_of}
-use Rattle.history.specs.Logs.{oldest_asked, newest_asked, log_places}
-use Rattle.history.specs.Walks.{coming}
+use Rattle.history.specs.{Logs.{oldest_asked, newest_asked, log_places}, Walks.coming}
 use Rattle.history.proofs.ToCome.{comes_first}
 use Rattle.history.proofs.walks.Walks.begin.Goals as goal
 

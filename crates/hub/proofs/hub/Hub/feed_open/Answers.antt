@@ -3,9 +3,8 @@ use Rattle.repo_api.specs.States.{IsBeginning}
 use Rattle.access.specs.Points.{content_of}
 use Rattle.hub_runs.specs.State.{hub_at}
 use Rattle.hub.proofs.Feeding.{Feed, IsFed, finds_here, is_entry, entry_rests, is_fed, fed_feeds, fed_later, lost_breaks, lost_later, fed_holds}
-use Rattle.hub.proofs.hub.Hub.feed_open.Given.{Over}
+use Rattle.hub.proofs.{hub.Hub.feed_open.Given.Over, hub.Hub.feed_open.Goals.{in-Ok, in-Err}}
 use Rattle.hub.proofs.hub.Hub.feed_open.Goals as goal
-use Rattle.hub.proofs.hub.Hub.feed_open.Goals.{in-Ok, in-Err}
 
 pub index_mut-entry-requires : goal.index_mut-entry-requires
 index_mut-entry-requires g c =

@@ -1,6 +1,6 @@
 use Rattle.std.proofs.Common.{◌≡◌, ℕ, List, None, false, refl, sym, subst, ◌∙◌}
 use Rattle.machine.specs.Stages.{SessionState}
-use Rattle.hub_runs.specs.State.{HubState, Finds, session_of}
+use Rattle.hub_runs.specs.State.{Finds, HubState, session_of}
 use Rattle.hub.proofs.hub.Hub.feed_to.Goals as goal
 
 pub returns-in_default-clause-err : goal.returns-in_default-clause-err

@@ -1,14 +1,8 @@
 -- Each end of the scan.
 use Rattle.std.proofs.Common.{◌≡◌, ◌+◌, ◌<◌, ℕ, List, length, take, slice_index, sym, ap, ◌∙◌, subst}
-use Rattle.items.specs.declared.scan.End.{End}
+use Rattle.items.specs.{declared.scan.End.End, Values.{ItemValue, limits}, Stream.IsItem, Scan.step, Run.{IsScanned, EndsSo}, Unread.Unread}
+use Rattle.items.specs.{Reading.{HasNone, IsFaultOf}, Faults.fault_of}
 use Rattle.items.specs.declared.scan.Step.TheVariants as steps
-use Rattle.items.specs.Values.{ItemValue, limits}
-use Rattle.items.specs.Stream.{IsItem}
-use Rattle.items.specs.Scan.{step}
-use Rattle.items.specs.Run.{IsScanned, EndsSo}
-use Rattle.items.specs.Unread.{Unread}
-use Rattle.items.specs.Reading.{HasNone, IsFaultOf}
-use Rattle.items.specs.Faults.{fault_of}
 use Rattle.items.proofs.Scanned.{none_scanned, none_yet, item_there, wrong_there, is_fault}
 use Rattle.items.proofs.reader.ItemReader.next.Goals as goal
 

@@ -1,6 +1,4 @@
-use Rattle.std.proofs.Common.{take, refl, sym, subst, ◌∙◌}
-use Rattle.std.proofs.lemmas.Bool.{false≢true}
-use Rattle.std.proofs.lemmas.List.{take_all}
+use Rattle.std.proofs.{Common.{take, refl, sym, subst, ◌∙◌}, lemmas.Bool.false≢true, lemmas.List.take_all}
 use Rattle.std.proofs.lemmas.List.Elements.{All-contains, All-more, All-same}
 use Rattle.repo_api.specs.Histories.{Changed}
 use Rattle.next_blocks.specs.Rules.{IsMarked, past_of}

@@ -1,10 +1,6 @@
-use Rattle.std.proofs.Common.{Some, map, take, refl, sym, ap, subst, ◌∙◌}
-use Rattle.std.proofs.lemmas.Bool.{false≢true}
-use Rattle.std.proofs.lemmas.List.{take_all}
-use Rattle.std.proofs.lemmas.Option.{slice_get-get_or}
+use Rattle.std.proofs.{Common.{Some, map, take, refl, sym, ap, subst, ◌∙◌}, lemmas.Bool.false≢true, lemmas.List.take_all, lemmas.Option.slice_get-get_or}
 use Rattle.std.proofs.lemmas.List.Elements.{All-more, All-same}
-use Rattle.std.specs.Borrow.{Bor}
-use Rattle.std.specs.Map.Iter.{deref}
+use Rattle.std.specs.{Borrow.Bor, Map.Iter.deref}
 use Rattle.svnpath.specs.Paths.{Component}
 use Rattle.noderevs.specs.declared.node_rev.NodeId.{NodeId}
 use Rattle.next_blocks.specs.Rules.{IsRightKid, past_of}

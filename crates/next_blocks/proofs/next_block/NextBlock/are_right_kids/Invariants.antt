@@ -1,6 +1,5 @@
 use Rattle.std.proofs.Common.{take}
-use Rattle.std.specs.Borrow.{Bor}
-use Rattle.std.specs.List.{All}
+use Rattle.std.specs.{Borrow.Bor, List.All}
 use Rattle.svnpath.specs.Paths.{Component}
 use Rattle.noderevs.specs.declared.node_rev.NodeId.{NodeId}
 use Rattle.next_blocks.specs.Rules.{IsRightKid, past_of}

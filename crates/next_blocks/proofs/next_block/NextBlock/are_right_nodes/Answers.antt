@@ -1,5 +1,4 @@
-use Rattle.std.proofs.Common.{◌≡◌, ◌<◌, ℕ, Some, length, get_or, slice_get, ⊎_elim, refl, sym, ap, subst, arith, ◌∙◌}
-use Rattle.std.proofs.lemmas.Bool.{cases_lt, false≢true}
+use Rattle.std.proofs.{Common.{◌≡◌, ◌<◌, ℕ, Some, length, get_or, slice_get, ⊎_elim, refl, sym, ap, subst, arith, ◌∙◌}, lemmas.Bool.{cases_lt, false≢true}}
 use Rattle.std.proofs.lemmas.Option.{get_or_from_slice_get, slice_get-get_or, slice_get_within}
 use Rattle.noderevs.specs.declared.node_rev.NodeRev.{NodeRev}
 use Rattle.next_blocks.specs.Rules.{IsRightNode, past_of}

@@ -1,9 +1,7 @@
-use Rattle.std.proofs.Common.{◌≡◌, ⊎_elim, inl, sym, ap, arith, ◌∙◌}
-use Rattle.std.proofs.lemmas.Option.{none-some, slice_get_past}
+use Rattle.std.proofs.{Common.{◌≡◌, ⊎_elim, inl, sym, ap, arith, ◌∙◌}, lemmas.Option.{none-some, slice_get_past}}
 use Rattle.repo_api.specs.Marks.{shown}
 use Rattle.noderevs.proofs.Finding.{nothing_under}
-use Rattle.noderevs.specs.Held.{blocks_of, count, node_at, root_at}
-use Rattle.noderevs.specs.Views.{shared_tree}
+use Rattle.noderevs.specs.{Held.{blocks_of, count, node_at, root_at}, Views.shared_tree}
 use Rattle.std.specs.Prelude.{option_map}
 use Rattle.next_blocks.specs.Rules.{shown_by}
 use Rattle.next_blocks.proofs.next_block.NextBlock.names_own.Goals as goal

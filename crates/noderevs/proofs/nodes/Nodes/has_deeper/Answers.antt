@@ -1,9 +1,7 @@
 use Rattle.std.proofs.Common.{◌≡◌, Some, None, option_and_then, sym, ap, ◌∙◌}
 use Rattle.std.specs.Prelude.{option_copied}
-use Rattle.noderevs.specs.Held.{node_at}
-use Rattle.noderevs.specs.Views.{find_id}
-use Rattle.noderevs.proofs.Finding.{tree_under}
-use Rattle.noderevs.proofs.Heights.{low_at, none_deeper_at, none_at, not_less, less_is_false}
+use Rattle.noderevs.specs.{Held.node_at, Views.find_id}
+use Rattle.noderevs.proofs.{Finding.tree_under, Heights.{low_at, none_deeper_at, none_at, not_less, less_is_false}}
 use Rattle.noderevs.proofs.nodes.Nodes.has_deeper.Goals as goal
 
 pub returns-in-Some-clause-yes : goal.returns-in-Some-clause-yes

@@ -1,14 +1,6 @@
-use Rattle.std.proofs.Common.{◌≡◌, ◌≤◌, ◌⊎◌, ◌∷◌, ◌+◌, map, drop, sym, ap, subst, ◌∙◌}
-use Rattle.std.proofs.lemmas.List.{at_drop_more, at_drop_all}
-use Rattle.std.specs.Cmp.Lexicographic.{slice_cmp}
-use Rattle.std.specs.List.Sorted.{IsStrictlySortedBy}
-use Rattle.std.specs.Map.{keys_of}
-use Rattle.std.specs.Map.Iter.{deref}
-use Rattle.std.specs.Ordering.{nat_cmp}
-use Rattle.std.specs.Prelude.{IfSome, IsSomeAnd}
-use Rattle.noderevs.specs.Heights.{higher}
-use Rattle.noderevs.specs.Held.{node_at}
-use Rattle.noderevs.specs.Nodes.{with_block}
+use Rattle.std.proofs.{Common.{◌≡◌, ◌≤◌, ◌⊎◌, ◌∷◌, ◌+◌, map, drop, sym, ap, subst, ◌∙◌}, lemmas.List.{at_drop_more, at_drop_all}}
+use Rattle.std.specs.{Cmp.Lexicographic.slice_cmp, List.Sorted.IsStrictlySortedBy, Map.keys_of, Map.Iter.deref, Ordering.nat_cmp, Prelude.{IfSome, IsSomeAnd}}
+use Rattle.noderevs.specs.{Heights.higher, Held.node_at, Nodes.with_block}
 use Rattle.noderevs.proofs.Heights.{IsRising, rising_begins, rising_goes_on, rising_ends}
 use Rattle.noderevs.proofs.nodes.Nodes.height_over.Goals as goal
 

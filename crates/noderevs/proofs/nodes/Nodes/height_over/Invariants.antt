@@ -1,7 +1,6 @@
 use Rattle.std.proofs.Common.{drop, map}
 use Rattle.std.specs.Map.Iter.{deref}
-use Rattle.noderevs.specs.Held.{node_at}
-use Rattle.noderevs.specs.Nodes.{with_block}
+use Rattle.noderevs.specs.{Held.node_at, Nodes.with_block}
 use Rattle.noderevs.proofs.Heights.{IsRising}
 use Rattle.noderevs.proofs.nodes.Nodes.height_over.Given as goal
 

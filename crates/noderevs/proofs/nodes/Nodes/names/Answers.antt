@@ -1,10 +1,6 @@
 use Rattle.std.proofs.Common.{option_and_then, ap, subst, ◌∙◌}
-use Rattle.std.specs.Cmp.Lexicographic.{slice_cmp}
-use Rattle.std.specs.List.Sorted.{IsStrictlySortedBy}
-use Rattle.std.specs.Ordering.{nat_cmp}
-use Rattle.noderevs.specs.Beneath.{kid_names}
-use Rattle.noderevs.specs.Held.{node_at}
-use Rattle.noderevs.specs.Views.{find_id}
+use Rattle.std.specs.{Cmp.Lexicographic.slice_cmp, List.Sorted.IsStrictlySortedBy, Ordering.nat_cmp}
+use Rattle.noderevs.specs.{Beneath.kid_names, Held.node_at, Views.find_id}
 use Rattle.noderevs.proofs.Names.{none_sorted}
 use Rattle.noderevs.proofs.nodes.Nodes.names.Goals as goal
 

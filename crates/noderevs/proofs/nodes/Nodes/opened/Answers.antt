@@ -1,11 +1,7 @@
 use Rattle.std.proofs.Common.{◌≡◌, [], ◌∷◌, ◌++◌, Some, length, sym, ap, ◌∙◌}
 use Rattle.svnpath.specs.Paths.{PathValue}
-use Rattle.repo_api.specs.Opening.{opening_tree}
-use Rattle.repo_api.specs.States.{tree_of}
-use Rattle.noderevs.specs.Held.{blocks_of, node_at, count, trees_of}
-use Rattle.noderevs.specs.Nodes.{node_in, with_block}
-use Rattle.noderevs.specs.OpeningBlocks.{AreOpening}
-use Rattle.noderevs.specs.Views.{shared_tree}
+use Rattle.repo_api.specs.{Opening.opening_tree, States.tree_of}
+use Rattle.noderevs.specs.{Held.{blocks_of, node_at, count, trees_of}, Nodes.{node_in, with_block}, OpeningBlocks.AreOpening, Views.shared_tree}
 use Rattle.noderevs.specs.declared.nodes.Nodes.{Nodes}
 use Rattle.noderevs.proofs.FirstBlock.{opening_trees, ok_weaker}
 use Rattle.noderevs.proofs.nodes.Nodes.opened.Goals as goal

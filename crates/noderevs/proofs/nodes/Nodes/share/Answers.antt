@@ -1,7 +1,5 @@
 use Rattle.std.proofs.Common.{sym, subst}
-use Rattle.noderevs.specs.Nodes.{node_in, root_in}
-use Rattle.noderevs.specs.Heights.{AreHigh}
-use Rattle.noderevs.specs.Soundness.{AreKidsThere, AreRootsThere, AreApart}
+use Rattle.noderevs.specs.{Nodes.{node_in, root_in}, Heights.AreHigh, Soundness.{AreKidsThere, AreRootsThere, AreApart}}
 use Rattle.noderevs.proofs.nodes.Nodes.share.Goals as goal
 
 pub invariant_of-result : goal.invariant_of-result

@@ -1,9 +1,5 @@
 use Rattle.std.proofs.Common.{◌++◌, ◌∷◌, [], length, sym, ap, subst, ◌∙◌}
-use Rattle.noderevs.specs.Held.{blocks_of}
-use Rattle.noderevs.specs.Nodes.{node_in, root_in}
-use Rattle.noderevs.specs.Heights.{AreHigh}
-use Rattle.noderevs.specs.Soundness.{AreKidsThere, AreRootsThere, AreApart}
-use Rattle.noderevs.specs.Views.{shared_tree}
+use Rattle.noderevs.specs.{Held.blocks_of, Nodes.{node_in, root_in}, Heights.AreHigh, Soundness.{AreKidsThere, AreRootsThere, AreApart}, Views.shared_tree}
 use Rattle.noderevs.proofs.Pushing.{pushed_look, kids_pushed, roots_pushed, high_pushed, apart_pushed, last_tree, other_tree}
 use Rattle.noderevs.proofs.nodes.Nodes.with_block.Goals as goal
 

@@ -1,10 +1,6 @@
 use Rattle.std.proofs.Common.{◌≡◌, ◌++◌, map, sym, ap, subst, ◌∙◌}
-use Rattle.std.specs.Prelude.{IfOk}
-use Rattle.std.specs.Map.Iter.{deref_pair}
-use Rattle.std.specs.FinMap.{entries}
-use Rattle.std.specs.List.{filter}
-use Rattle.svnpath.specs.Listings.{listing}
-use Rattle.svnpath.specs.Paths.{is_at_or_under}
+use Rattle.std.specs.{Prelude.IfOk, Map.Iter.deref_pair, FinMap.entries, List.filter}
+use Rattle.svnpath.specs.{Listings.listing, Paths.is_at_or_under}
 use Rattle.pathlocks.proofs.Maps.{entries_of}
 use Rattle.pathlocks.proofs.locks.Locks.at_or_under.Goals as goal
 

@@ -1,6 +1,5 @@
 use Rattle.std.proofs.Common.{map, sym, ap, ◌∙◌}
-use Rattle.std.specs.Map.Iter.{deref_pair}
-use Rattle.std.specs.Prelude.{option_copied}
+use Rattle.std.specs.{Map.Iter.deref_pair, Prelude.option_copied}
 use Rattle.repo_api.specs.Locking.{first_refusal}
 use Rattle.pathlocks.proofs.locks.Locks.check.Goals as goal
 

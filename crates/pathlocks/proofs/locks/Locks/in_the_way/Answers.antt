@@ -1,8 +1,5 @@
 use Rattle.std.proofs.Common.{◌≡◌, ◌++◌, map, sym, ap, subst, ◌∙◌}
-use Rattle.std.specs.Prelude.{IfOk}
-use Rattle.std.specs.Map.Iter.{deref_pair}
-use Rattle.std.specs.FinMap.{entries}
-use Rattle.std.specs.List.{filter}
+use Rattle.std.specs.{Prelude.IfOk, Map.Iter.deref_pair, FinMap.entries, List.filter}
 use Rattle.svnpath.specs.Listings.{listing}
 use Rattle.repo_api.specs.Locking.{is_reached}
 use Rattle.pathlocks.proofs.Maps.{entries_of}

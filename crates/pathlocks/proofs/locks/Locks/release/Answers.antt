@@ -1,5 +1,4 @@
-use Rattle.std.proofs.Common.{rules, ◌≡◌, ◌+◌, ◌++◌, ◌∷◌, [], take, refl, sym, ap, ◌∙◌}
-use Rattle.std.proofs.lemmas.List.{take_more}
+use Rattle.std.proofs.{Common.{rules, ◌≡◌, ◌+◌, ◌++◌, ◌∷◌, [], take, refl, sym, ap, ◌∙◌}, lemmas.List.take_more}
 use Rattle.std.specs.Prelude.{option_copied}
 use Rattle.repo_api.specs.Locking.{is_held}
 use Rattle.pathlocks.proofs.Releases.{Releases, begins, hit, miss, is_there, same_releases}

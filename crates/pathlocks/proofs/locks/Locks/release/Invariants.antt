@@ -1,7 +1,6 @@
 use Rattle.std.proofs.Common.{◌≡◌, ◌+◌, ◌≤◌, length, take}
-use Rattle.std.specs.FinMap.{from_entries, len}
-use Rattle.std.specs.Prelude.{option_copied}
-use Rattle.repo_api.specs.Locking.{released, after_release}
+use Rattle.std.specs.{FinMap.{from_entries, len}, Prelude.option_copied}
+use Rattle.repo_api.specs.Locking.{after_release, released}
 use Rattle.pathlocks.proofs.locks.Locks.release.Given as goal
 
 -- the pairs so far are released, and there is room for the others

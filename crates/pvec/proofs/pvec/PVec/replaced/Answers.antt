@@ -1,6 +1,5 @@
 use Rattle.std.proofs.Common.{◌≡◌, ◌<◌, ◌-◌, ◌*◌, length, sym, ap, subst, arith, ◌∙◌}
-use Rattle.std.specs.List.{flat_map}
-use Rattle.std.specs.Prelude.{slice_set}
+use Rattle.std.specs.{List.flat_map, Prelude.slice_set}
 use Rattle.pvec.specs.Parts.{values, leaf_items, branch_items, items_of}
 use Rattle.pvec.proofs.Counted.{in_branches, in_leaves, counted, within, set_first, set_second, set_third}
 use Rattle.pvec.proofs.pvec.PVec.replaced.Goals as goal

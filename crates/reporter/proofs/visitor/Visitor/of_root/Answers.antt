@@ -1,7 +1,5 @@
-use Rattle.std.proofs.Common.{[], false, subst}
-use Rattle.std.proofs.lemmas.Result.{IfOk-weaker}
-use Rattle.reporter.proofs.Leaving.{alone_left}
-use Rattle.reporter.proofs.Planning.{root_opened}
+use Rattle.std.proofs.{Common.{[], false, subst}, lemmas.Result.IfOk-weaker}
+use Rattle.reporter.proofs.{Leaving.alone_left, Planning.root_opened}
 use Rattle.reporter.specs.Left.{IsLeft, IsPlanBelow}
 use Rattle.reporter.proofs.visitor.Visitor.of_root.Goals as goal
 

@@ -1,8 +1,6 @@
-use Rattle.std.proofs.Common.{[], ◌∷◌, false, subst}
-use Rattle.std.proofs.lemmas.Result.{IfOk-weaker}
+use Rattle.std.proofs.{Common.{[], ◌∷◌, false, subst}, lemmas.Result.IfOk-weaker}
 use Rattle.reporter.proofs.Leaving.{alone_left, left_as, top_nests, top_right}
-use Rattle.reporter.specs.Left.{IsLeft}
-use Rattle.reporter.specs.Walks.{deletes_of}
+use Rattle.reporter.specs.{Left.IsLeft, Walks.deletes_of}
 use Rattle.reporter.proofs.visitor.Visitor.of_top.Goals as goal
 
 pub returns-clause-right : goal.returns-clause-right

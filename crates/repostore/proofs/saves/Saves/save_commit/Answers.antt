@@ -1,9 +1,7 @@
 use Rattle.std.proofs.Common.{[], ◌∷◌, sym, ◌∙◌, inl, arith, length-append}
 use Rattle.store_files.specs.declared.name.FileName.TheVariants.{Current}
-use Rattle.repostore.specs.Files.{RevisionFiles, HasFiles, with_revision, HasEither}
-use Rattle.repostore.specs.Saving.{HasNext}
-use Rattle.repostore.proofs.Reaching.{published, publishing, counts_few}
-use Rattle.repostore.proofs.Steps.{swapped, replaced}
+use Rattle.repostore.specs.{Files.{RevisionFiles, HasFiles, with_revision, HasEither}, Saving.HasNext}
+use Rattle.repostore.proofs.{Reaching.{published, publishing, counts_few}, Steps.{swapped, replaced}}
 use Rattle.repostore.proofs.saves.Saves.save_commit.Goals as goal
 
 pub returns-in_err-publish-clause-any_moment : goal.returns-in_err-publish-clause-any_moment

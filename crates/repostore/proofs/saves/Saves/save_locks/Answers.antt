@@ -1,8 +1,7 @@
 use Rattle.std.proofs.Common.{◌∙◌, inl}
 use Rattle.store_files.specs.declared.name.FileName.TheVariants.{Locks}
 use Rattle.repostore.specs.Files.{HasFiles, with_locks, HasEither}
-use Rattle.repostore.proofs.Reaching.{locks_are, locks_may_be}
-use Rattle.repostore.proofs.Steps.{begun, swapped, replaced, ok_gives_both}
+use Rattle.repostore.proofs.{Reaching.{locks_are, locks_may_be}, Steps.{begun, swapped, replaced, ok_gives_both}}
 use Rattle.repostore.proofs.saves.Saves.save_locks.Goals as goal
 
 pub returns-clause-saved : goal.returns-clause-saved

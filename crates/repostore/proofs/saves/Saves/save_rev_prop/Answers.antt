@@ -1,8 +1,7 @@
 use Rattle.std.proofs.Common.{◌<◌, sym, ◌∙◌, inl, arith, length}
 use Rattle.store_files.specs.declared.name.FileName.TheVariants.{Properties}
 use Rattle.repostore.specs.Files.{HasFiles, with_properties, HasEither}
-use Rattle.repostore.proofs.Reaching.{properties_are, properties_may_be, length-second}
-use Rattle.repostore.proofs.Steps.{begun, swapped, replaced, ok_gives_both}
+use Rattle.repostore.proofs.{Reaching.{properties_are, properties_may_be, length-second}, Steps.{begun, swapped, replaced, ok_gives_both}}
 use Rattle.repostore.proofs.saves.Saves.save_rev_prop.Goals as goal
 
 pub returns-clause-saved : goal.returns-clause-saved

@@ -1,10 +1,7 @@
 use Rattle.std.proofs.Common.{◌≡◌, ◌≤◌, Some, arith, length}
-use Rattle.store_files.specs.Folders.{Folder}
-use Rattle.store_files.specs.declared.name.FileName.TheVariants.{Revision, Properties}
-use Rattle.repostore.specs.Files.{HasFiles}
-use Rattle.repostore.specs.Saving.{HasNext}
-use Rattle.repostore.proofs.Reaching.{behind_revision, behind_properties, behind_properties_too, next_is}
-use Rattle.repostore.proofs.Steps.{begun, wrote, with_bytes, ok_gives_both}
+use Rattle.store_files.specs.{Folders.Folder, declared.name.FileName.TheVariants.{Revision, Properties}}
+use Rattle.repostore.specs.{Files.HasFiles, Saving.HasNext}
+use Rattle.repostore.proofs.{Reaching.{behind_revision, behind_properties, behind_properties_too, next_is}, Steps.{begun, wrote, with_bytes, ok_gives_both}}
 use Rattle.repostore.proofs.saves.Saves.write_revision.Goals as goal
 
 pub returns-in_err-write_new-clause-going : goal.returns-in_err-write_new-clause-going

@@ -1,6 +1,5 @@
 use Rattle.std.proofs.Common.{[], sym, subst}
-use Rattle.std.specs.List.Sorted.{IsStrictlySortedBy}
-use Rattle.std.specs.Map.{keys_of}
+use Rattle.std.specs.{List.Sorted.IsStrictlySortedBy, Map.keys_of}
 use Rattle.svnpath.specs.Paths.{path_cmp}
 use Rattle.revision_data.proofs.change_list.ChangeList.new.Goals as goal
 

@@ -2,10 +2,8 @@ use Rattle.std.proofs.Common.{None, sym, ap, ◌∙◌}
 use Rattle.std.specs.Prelude.{if◌then◌else◌}
 use Rattle.svnpath.specs.Paths.{same_path}
 use Rattle.repo_api.specs.StateLaws.{get_path}
-use Rattle.revision_data.specs.Found.{found}
-use Rattle.revision_data.specs.Prepared.{path_of}
-use Rattle.revision_data.proofs.Noted.{taken_back, left_alone}
-use Rattle.revision_data.proofs.Seen.{seen_at}
+use Rattle.revision_data.specs.{Found.found, Prepared.path_of}
+use Rattle.revision_data.proofs.{Noted.{taken_back, left_alone}, Seen.seen_at}
 use Rattle.revision_data.proofs.txn_changes.TxnChanges.take_back.Goals as goal
 
 pub returns-then-note : goal.returns-then-note

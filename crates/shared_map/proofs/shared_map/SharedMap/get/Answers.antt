@@ -1,6 +1,5 @@
 use Rattle.std.proofs.Common.{sym, ap, ◌∙◌}
-use Rattle.std.specs.FinMap.{get}
-use Rattle.std.specs.FinMap.Entries.{find}
+use Rattle.std.specs.{FinMap.get, FinMap.Entries.find}
 use Rattle.shared_map.specs.Entries.{by_bytes, all_entries}
 use Rattle.shared_map.proofs.Maps.{map_get}
 use Rattle.shared_map.proofs.shared_map.SharedMap.get.Goals as goal

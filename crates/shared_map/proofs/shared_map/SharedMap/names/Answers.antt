@@ -1,10 +1,7 @@
 use Rattle.std.proofs.Common.{◌≡◌, map, sym, ap, ◌∙◌}
-use Rattle.std.specs.FinMap.{keys}
-use Rattle.std.specs.Map.{keys_of}
-use Rattle.std.specs.Map.Iter.{deref}
+use Rattle.std.specs.{FinMap.keys, Map.keys_of, Map.Iter.deref}
 use Rattle.shared_map.specs.Entries.{all_entries}
-use Rattle.shared_map.proofs.Copies.{if_ok}
-use Rattle.shared_map.proofs.Maps.{map_entries, names_rise}
+use Rattle.shared_map.proofs.{Copies.if_ok, Maps.{map_entries, names_rise}}
 use Rattle.shared_map.proofs.shared_map.SharedMap.names.Goals as goal
 
 pub returns-clause-names : goal.returns-clause-names

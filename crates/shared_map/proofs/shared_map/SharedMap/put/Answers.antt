@@ -1,9 +1,7 @@
 use Rattle.std.proofs.Common.{ap, ◌∙◌}
-use Rattle.std.specs.FinMap.{insert}
-use Rattle.std.specs.FinMap.Entries.{put}
+use Rattle.std.specs.{FinMap.insert, FinMap.Entries.put}
 use Rattle.shared_map.specs.Entries.{by_bytes, all_entries}
-use Rattle.shared_map.proofs.Copies.{ok_then}
-use Rattle.shared_map.proofs.Maps.{map_put}
+use Rattle.shared_map.proofs.{Copies.ok_then, Maps.map_put}
 use Rattle.shared_map.proofs.shared_map.SharedMap.put.Goals as goal
 
 pub returns-clause-ok : goal.returns-clause-ok

@@ -1,8 +1,7 @@
 use Rattle.std.proofs.Common.{ap, ◌∙◌}
 use Rattle.std.specs.FinMap.{remove}
 use Rattle.shared_map.specs.Entries.{all_entries}
-use Rattle.shared_map.proofs.Copies.{ok_then}
-use Rattle.shared_map.proofs.Maps.{map_remove}
+use Rattle.shared_map.proofs.{Copies.ok_then, Maps.map_remove}
 use Rattle.shared_map.proofs.shared_map.SharedMap.remove.Goals as goal
 
 pub returns-clause-ok : goal.returns-clause-ok

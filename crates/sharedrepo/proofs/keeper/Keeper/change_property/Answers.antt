@@ -1,6 +1,5 @@
 use Rattle.std.proofs.Common.{inl, refl, sym, subst, ◌∙◌}
-use Rattle.access.specs.Points.{Point}
-use Rattle.access.specs.Changing.{ChangesPropertyAt}
+use Rattle.access.specs.{Changing.ChangesPropertyAt, Points.Point}
 use Rattle.published.specs.Moments.{shared_rules, stays}
 use Rattle.sharedrepo.specs.Standing.{now_of}
 use Rattle.sharedrepo.proofs.keeper.Keeper.change_property.Goals as goal

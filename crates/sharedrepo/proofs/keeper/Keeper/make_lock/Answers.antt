@@ -1,13 +1,9 @@
 use Rattle.std.proofs.Common.{◌≡◌, None, Some, Err, refl, ap, sym, subst, ◌∙◌}
-use Rattle.access.specs.Points.{Point, content_of}
+use Rattle.access.specs.Points.{content_of, Point}
 use Rattle.published.specs.Moments.{added}
-use Rattle.repo_api.specs.Accepted.{Accepted, IfRefused}
-use Rattle.repo_api.specs.Accepted.Accepted.{Locks}
-use Rattle.repo_api.specs.States.{RepoState}
-use Rattle.sharedrepo.specs.Archives.{IsMade}
-use Rattle.sharedrepo.specs.Standing.{Standing, now_of}
+use Rattle.repo_api.specs.{Accepted.{Accepted, IfRefused}, Accepted.Accepted.Locks, Locking.lock_refusal, States.RepoState}
+use Rattle.sharedrepo.specs.{Archives.IsMade, Standing.{Standing, now_of}}
 use Rattle.sharedrepo.proofs.Changing.{quiet_right, next_by, settled_by, refused, not_begun}
-use Rattle.repo_api.specs.Locking.{lock_refusal}
 use Rattle.sharedrepo.proofs.keeper.Keeper.make_lock.Goals as goal
 
 pub settle-requires-clause-next : goal.settle-requires-clause-next

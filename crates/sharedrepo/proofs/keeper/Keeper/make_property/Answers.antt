@@ -1,12 +1,9 @@
 use Rattle.std.proofs.Common.{◌≡◌, Some, Err, refl, sym, subst}
 use Rattle.access.specs.Points.{content_of}
 use Rattle.published.specs.Moments.{added}
-use Rattle.repo_api.specs.Accepted.{Accepted, IfRefused}
-use Rattle.repo_api.specs.Accepted.Accepted.{ChangesProperty}
-use Rattle.sharedrepo.specs.Archives.{IsMade}
-use Rattle.sharedrepo.specs.Standing.{Standing, now_of}
+use Rattle.repo_api.specs.{Accepted.{Accepted, IfRefused}, Accepted.Accepted.ChangesProperty, RevisionProperties.property_refusal}
+use Rattle.sharedrepo.specs.{Archives.IsMade, Standing.{Standing, now_of}}
 use Rattle.sharedrepo.proofs.Changing.{quiet_right, next_by, settled_by, refused, not_begun}
-use Rattle.repo_api.specs.RevisionProperties.{property_refusal}
 use Rattle.sharedrepo.proofs.keeper.Keeper.make_property.Goals as goal
 
 pub settle-requires-clause-next : goal.settle-requires-clause-next

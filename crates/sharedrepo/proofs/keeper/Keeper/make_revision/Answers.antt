@@ -1,16 +1,9 @@
 use Rattle.std.proofs.Common.{◌≡◌, ◌∙◌, refl, sym, ap, subst, length, None, Some, Err}
-use Rattle.access.specs.Points.{Point, content_of}
-use Rattle.access.specs.Changing.{IsFailure}
+use Rattle.access.specs.{Changing.IsFailure, Points.{content_of, Point}}
 use Rattle.published.specs.Moments.{added}
-use Rattle.repo_api.specs.Accepted.{Accepted, IfRefused}
-use Rattle.repo_api.specs.Accepted.Accepted.{Commits}
-use Rattle.repo_api.specs.Commits.{commit_refusal}
-use Rattle.repo_api.specs.States.{RepoState, IsBeginning, youngest}
-use Rattle.sharedrepo.specs.Archives.{IsMade}
-use Rattle.sharedrepo.specs.Settling.{SettlesTo}
-use Rattle.sharedrepo.specs.Standing.{Standing, now_of}
-use Rattle.sharedrepo.proofs.Changing.{next_by, accepted_now, commit_fails, number_is, refused, not_begun}
-use Rattle.sharedrepo.proofs.Keeping.{files_now}
+use Rattle.repo_api.specs.{Accepted.{Accepted, IfRefused}, Accepted.Accepted.Commits, Commits.commit_refusal, States.{IsBeginning, RepoState, youngest}}
+use Rattle.sharedrepo.specs.{Archives.IsMade, Settling.SettlesTo, Standing.{Standing, now_of}}
+use Rattle.sharedrepo.proofs.{Changing.{next_by, accepted_now, commit_fails, number_is, refused, not_begun}, Keeping.files_now}
 use Rattle.sharedrepo.proofs.keeper.Keeper.make_revision.Goals as goal
 
 pub settle-requires-clause-next : goal.settle-requires-clause-next

@@ -1,13 +1,9 @@
 use Rattle.std.proofs.Common.{◌≡◌, None, Some, Err, refl, ap, sym, subst, ◌∙◌}
-use Rattle.access.specs.Points.{Point, content_of}
+use Rattle.access.specs.Points.{content_of, Point}
 use Rattle.published.specs.Moments.{added}
-use Rattle.repo_api.specs.Accepted.{Accepted, IfRefused}
-use Rattle.repo_api.specs.Accepted.Accepted.{Unlocks}
-use Rattle.repo_api.specs.States.{RepoState}
-use Rattle.sharedrepo.specs.Archives.{IsMade}
-use Rattle.sharedrepo.specs.Standing.{Standing, now_of}
+use Rattle.repo_api.specs.{Accepted.{Accepted, IfRefused}, Accepted.Accepted.Unlocks, Locking.unlock_refusal, States.RepoState}
+use Rattle.sharedrepo.specs.{Archives.IsMade, Standing.{Standing, now_of}}
 use Rattle.sharedrepo.proofs.Changing.{quiet_right, next_by, settled_by, refused, not_begun}
-use Rattle.repo_api.specs.Locking.{unlock_refusal}
 use Rattle.sharedrepo.proofs.keeper.Keeper.make_unlock.Goals as goal
 
 pub settle-requires-clause-next : goal.settle-requires-clause-next

@@ -1,8 +1,7 @@
 use Rattle.std.proofs.Common.{◌≡◌, ◌≤◌, arith, true, false, true≢false, ap, sym, subst, ◌∙◌, Option}
 use Rattle.access.specs.Points.{Point}
 use Rattle.repo_api.specs.Accepted.{Accepted}
-use Rattle.published.specs.Events.{point_of}
-use Rattle.published.specs.Moments.{GoesOn}
+use Rattle.published.specs.{Events.point_of, Moments.GoesOn}
 use Rattle.sharedrepo.specs.Standing.{Standing, now_of, pending_in}
 use Rattle.sharedrepo.proofs.keeper.Keeper.meet.Goals as goal
 

@@ -1,13 +1,9 @@
 use Rattle.std.proofs.Common.{◌≡◌, ◌<◌, ◌∷◌, [], length, sym, ap, subst, ◌∙◌, List, Bool, false, Option, Some, Ok, Err}
 use Rattle.access.specs.Points.{Point}
-use Rattle.published.specs.Events.{Event, state_of, point_of, accepted_by}
-use Rattle.published.specs.Events.Event.{Makes}
+use Rattle.published.specs.{Events.{Event, state_of, point_of, accepted_by}, Events.Event.Makes}
 use Rattle.published.proofs.Histories.{longer_yet, next_may, next_state, state_more}
-use Rattle.repo_api.specs.Accepted.{Accepted, IsAccepted, changed}
-use Rattle.repo_api.specs.States.{RepoState}
-use Rattle.sharedrepo.specs.Archives.{IsNext, FilesFor, Kept}
-use Rattle.sharedrepo.specs.Settling.{SettlesTo}
-use Rattle.sharedrepo.specs.Standing.{Standing, now_of, pending_in}
+use Rattle.repo_api.specs.{Accepted.{Accepted, changed, IsAccepted}, States.RepoState}
+use Rattle.sharedrepo.specs.{Archives.{IsNext, FilesFor, Kept}, Settling.SettlesTo, Standing.{Standing, now_of, pending_in}}
 use Rattle.sharedrepo.proofs.Keeping.{files_after, not_saved, saved, files_now}
 use Rattle.sharedrepo.proofs.keeper.Keeper.settle.Goals as goal
 

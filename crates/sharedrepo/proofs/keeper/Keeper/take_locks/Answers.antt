@@ -1,15 +1,9 @@
 use Rattle.std.proofs.Common.{◌≡◌, true, None, Some, Err, refl, ap, sym, subst, ◌∙◌}
-use Rattle.access.specs.Points.{Point, content_of}
+use Rattle.access.specs.Points.{content_of, Point}
 use Rattle.published.specs.Moments.{added}
-use Rattle.repo_api.specs.Accepted.{Accepted, IfRefused}
-use Rattle.repo_api.specs.Accepted.Accepted.{Releases}
-use Rattle.repo_api.specs.States.{RepoState}
-use Rattle.sharedrepo.specs.Archives.{IsMade}
-use Rattle.sharedrepo.specs.Standing.{Standing, now_of}
-use Rattle.sharedrepo.proofs.Changing.{quiet_right, next_by, settled_by, refused, not_begun}
-use Rattle.sharedrepo.proofs.Changing.{nothing_refuses}
-use Rattle.sharedrepo.proofs.Keeping.{files_now}
-use Rattle.repo_api.specs.Locking.{releases}
+use Rattle.repo_api.specs.{Accepted.{Accepted, IfRefused}, Accepted.Accepted.Releases, Locking.releases, States.RepoState}
+use Rattle.sharedrepo.specs.{Archives.IsMade, Standing.{Standing, now_of}}
+use Rattle.sharedrepo.proofs.{Changing.{quiet_right, next_by, settled_by, refused, not_begun, nothing_refuses}, Keeping.files_now}
 use Rattle.sharedrepo.proofs.keeper.Keeper.take_locks.Goals as goal
 
 pub settle-requires-clause-next : goal.settle-requires-clause-next

@@ -1,7 +1,6 @@
 use Rattle.std.proofs.Common.{subst, refl, le_refl}
 use Rattle.access.specs.Points.{Point}
-use Rattle.published.specs.Events.{point_of}
-use Rattle.published.specs.Moments.{GoesOn}
+use Rattle.published.specs.{Events.point_of, Moments.GoesOn}
 use Rattle.sharedrepo.specs.Standing.{pending_in}
 use Rattle.sharedrepo.proofs.seat.Seat.look.Goals as goal
 

@@ -1,12 +1,8 @@
 use Rattle.std.proofs.Common.{◌≡◌, ap, ◌∙◌, length, subst}
-use Rattle.repo_api.specs.States.{RepoState}
-use Rattle.repo_api.specs.Commits.{committed}
-use Rattle.repo_api.specs.Locking.{without_released}
-use Rattle.access.specs.Points.{Point, content_of}
-use Rattle.store_access.specs.Stored.{stored_at, point_in, without_handed}
-use Rattle.store_access.specs.Keeping.{LeavesEither}
-use Rattle.store_access.proofs.Changes.{released}
-use Rattle.store_access.proofs.Stops.{unmoved, one_of_either, commit_released}
+use Rattle.repo_api.specs.{Commits.committed, Locking.without_released, States.RepoState}
+use Rattle.access.specs.Points.{content_of, Point}
+use Rattle.store_access.specs.{Stored.{stored_at, point_in, without_handed}, Keeping.LeavesEither}
+use Rattle.store_access.proofs.{Changes.released, Stops.{unmoved, one_of_either, commit_released}}
 use Rattle.store_access.proofs.stored.StoredRepository.commit_and_release.Goals as goal
 
 pub returns-in-Ok-settle_revision-clause-point : goal.returns-in-Ok-settle_revision-clause-point

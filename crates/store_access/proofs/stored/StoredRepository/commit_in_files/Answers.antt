@@ -1,5 +1,4 @@
-use Rattle.repo_api.specs.Commits.{committed}
-use Rattle.repo_api.specs.Locking.{without_released}
+use Rattle.repo_api.specs.{Commits.committed, Locking.without_released}
 use Rattle.store_access.proofs.Stops.{unmoved, one_of_either}
 use Rattle.store_access.proofs.stored.StoredRepository.commit_in_files.Goals as goal
 

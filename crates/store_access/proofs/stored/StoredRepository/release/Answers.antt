@@ -1,10 +1,8 @@
 use Rattle.std.proofs.Common.{◌≡◌, true, rules, subst, sym}
 use Rattle.repo_api.specs.Locking.{releases, without_released}
-use Rattle.access.specs.Points.{Point}
-use Rattle.access.specs.declared.access.Released.{Released}
+use Rattle.access.specs.{Points.Point, declared.access.Released.Released}
 use Rattle.store_access.specs.Stored.{point_in, ReleasesBy}
-use Rattle.store_access.proofs.Changes.{release_saved}
-use Rattle.store_access.proofs.Stops.{unmoved}
+use Rattle.store_access.proofs.{Changes.release_saved, Stops.unmoved}
 use Rattle.store_access.proofs.stored.StoredRepository.release.Goals as goal
 
 pub returns-then-not-releases-clause-stop : goal.returns-then-not-releases-clause-stop

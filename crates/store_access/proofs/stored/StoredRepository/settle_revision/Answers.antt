@@ -1,6 +1,5 @@
 use Rattle.std.proofs.Common.{refl, Some, ◌+◌, ◌∙◌, ap, sym, subst}
-use Rattle.repostore.specs.Current.{count_in}
-use Rattle.repostore.specs.Files.{Files, with_revision}
+use Rattle.repostore.specs.{Current.count_in, Files.{Files, with_revision}}
 use Rattle.store_access.proofs.Stops.{kept_next, kept_still, saves_either}
 use Rattle.store_access.proofs.stored.StoredRepository.settle_revision.Goals as goal
 

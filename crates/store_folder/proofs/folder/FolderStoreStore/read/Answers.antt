@@ -1,9 +1,6 @@
 use Rattle.std.proofs.Common.{◌≡◌, [], ◌∷◌, List, Result, Err, sym, ap, ◌∙◌, subst}
-use Rattle.store_files.specs.Moments.{HasCause}
-use Rattle.store_files.specs.Names.{kind_of, number_of}
-use Rattle.store_files.specs.declared.fault.StoreFault.{StoreFault}
-use Rattle.store_folder.specs.Answers.{trouble_number}
-use Rattle.store_folder.specs.Replay.{failed_in}
+use Rattle.store_files.specs.{Moments.HasCause, Names.{kind_of, number_of}, declared.fault.StoreFault.StoreFault}
+use Rattle.store_folder.specs.{Answers.trouble_number, Replay.failed_in}
 use Rattle.store_folder.proofs.Counting.{failed_call}
 use Rattle.store_folder.proofs.folder.FolderStoreStore.read.Goals as goal
 

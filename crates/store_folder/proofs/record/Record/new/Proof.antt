@@ -21,9 +21,8 @@ use denote.Triple.Entry.{on_entry}
 use denote.Triple.Spec.{Meets, triple_of}
 use denote.Triple.Table.{entered}
 use denote.Triple.Walked.{says, ends_at, walked, walk_Meets}
-use Rattle.store_folder.specs.declared.record.Record.{Record}
+use Rattle.store_folder.specs.{declared.record.Record.Record, contracts.record.Record.new.Key.name as #it}
 use Rattle.store_folder.specs.contracts.record.Record as T
-use Rattle.store_folder.specs.contracts.record.Record.new.Key.{name as #it}
 use Rattle.store_folder.specs.contracts.record.Record.new as it
 use Rattle.store_folder.proofs.record.Record.new.Statement as stated
 use Rattle.store_folder.proofs.record.Record.new.Code as code

@@ -1,5 +1,5 @@
 -- An empty body. The borrow is opened and closed at another ghost value.
-use Rattle.std.proofs.Common.{ℕ, List, [], ◌∷◌, refl, MutBor}
+use Rattle.std.proofs.Common.{ℕ, List, [], ◌∷◌, refl, MutBor, ◌<◌, ◌^◌, length}
 use seplogic.Ra.Ura.{Ura}
 use mir.Syntax.{named}
 use mir.Val.{Val, vunit, vptr}
@@ -25,10 +25,8 @@ use denote.Triple.Entry.{on_entry}
 use denote.Triple.Spec.{Meets, triple_of}
 use denote.Triple.Table.{entered}
 use denote.Triple.Walked.{says, Stays, stay_ref, walk_of, AllGo, Goes-ref, Walks, ends_at, walked, walk_Meets}
-use Rattle.store_folder.specs.declared.record.Record.{Record}
-use Rattle.store_folder.specs.Note.{event_of}
+use Rattle.store_folder.specs.{declared.record.Record.Record, Note.event_of, contracts.record.Record.note.Key.name as #it}
 use Rattle.store_folder.specs.contracts.record.Record as T
-use Rattle.store_folder.specs.contracts.record.Record.note.Key.{name as #it}
 use Rattle.store_folder.specs.contracts.record.Record.note as it
 use Rattle.store_folder.proofs.record.Record.note.Statement as stated
 use Rattle.store_folder.proofs.record.Record.note.Code as code
@@ -37,7 +35,6 @@ use denote.Builtin.{u8, u64}
 use denote.Exit.{yes}
 use denote.Slice.{ShrSlice, slice_val, shr_slice_vals, shr_slice_Tells}
 use denote.Triple.Walked.{stay_none_slice, Goes-none_slice}
-use Rattle.std.proofs.Common.{◌<◌, ◌^◌, length}
 
 abbrev Arg : Type 0
 Arg = MutBor Record × (Bor (List ℕ) × (Bor (List ℕ) × Unit {0}))

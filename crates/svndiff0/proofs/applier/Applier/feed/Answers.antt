@@ -1,9 +1,6 @@
-use Rattle.std.proofs.Common.{◌≡◌, ◌∙◌, refl}
-use Rattle.svndiff0.specs.declared.stage.Stage.TheVariants.{Broken}
-use Rattle.std.proofs.lemmas.Result.{err_from_is_err_and}
-use Rattle.svndiff0.specs.Targets.{target_bytes}
-use Rattle.svndiff0.proofs.Stages.{left_is, fed_view, sound_view, same_view, cut_is, feeds_broken}
-use Rattle.svndiff0.proofs.Documents.{fed_more}
+use Rattle.std.proofs.{Common.{◌≡◌, ◌∙◌, refl}, lemmas.Result.err_from_is_err_and}
+use Rattle.svndiff0.specs.{declared.stage.Stage.TheVariants.Broken, Targets.target_bytes}
+use Rattle.svndiff0.proofs.{Stages.{left_is, fed_view, sound_view, same_view, cut_is, feeds_broken}, Documents.fed_more}
 use Rattle.svndiff0.proofs.applier.Applier.feed.Goals as goal
 
 pub returns-in-Broken-clause-pieces : goal.returns-in-Broken-clause-pieces

@@ -1,6 +1,5 @@
 -- The empty text has no components; another has those that `append_parts` puts beneath the path.
-use Rattle.std.proofs.Common.{inl, inr, sym}
-use Rattle.std.proofs.lemmas.Result.{err_from_is_err_and}
+use Rattle.std.proofs.{Common.{inl, inr, sym}, lemmas.Result.err_from_is_err_and}
 use Rattle.svnpath.proofs.TextLemmas.{beneath_empty, beneath_plain}
 use Rattle.svnpath.proofs.path.Path.extended.Goals as goal
 

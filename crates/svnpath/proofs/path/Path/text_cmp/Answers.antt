@@ -1,7 +1,6 @@
 -- Right paths of one text are one path.
 use Rattle.std.proofs.Common.{rules, sym, ◌∙◌}
-use Rattle.svnpath.proofs.ParsedTexts.{same_path_text}
-use Rattle.svnpath.proofs.TextOrders.{same_texts}
+use Rattle.svnpath.proofs.{ParsedTexts.same_path_text, TextOrders.same_texts}
 use Rattle.svnpath.proofs.path.Path.text_cmp.Goals as goal
 
 pub returns-clause-value : goal.returns-clause-value

@@ -1,14 +1,8 @@
-use Rattle.std.proofs.Common.{sym, ap, subst, ◌∙◌}
-use Rattle.std.proofs.lemmas.Result.{on_ok_weaker}
+use Rattle.std.proofs.{Common.{sym, ap, subst, ◌∙◌}, lemmas.Result.on_ok_weaker}
 use Rattle.repo_api.specs.Edits.{grafted}
 use Rattle.noderevs.specs.Held.{node_at}
-use Rattle.txntree.specs.Spots.{flat, change_spot}
-use Rattle.txntree.specs.Spots.Spot.{Opened}
-use Rattle.txntree.proofs.Grafts.{adds_are_grafts}
-use Rattle.txntree.specs.Bases.{IsBased}
-use Rattle.txntree.proofs.Walking.{is_spot}
-use Rattle.txntree.proofs.Bases.{is_new}
-use Rattle.txntree.specs.declared.open.Change.TheVariants.{Is}
+use Rattle.txntree.specs.{Spots.{flat, change_spot}, Spots.Spot.Opened, Bases.IsBased, declared.open.Change.TheVariants.Is}
+use Rattle.txntree.proofs.{Grafts.adds_are_grafts, Walking.is_spot, Bases.is_new}
 use Rattle.txntree.proofs.open.OpenNode.add.Goals as goal
 
 pub returns-clause-ok : goal.returns-clause-ok

@@ -1,14 +1,7 @@
 use Rattle.std.proofs.Common.{length, sym, ap, subst, ◌∙◌}
-use Rattle.noderevs.specs.Held.{node_at}
-use Rattle.noderevs.specs.Nodes.{IsClosed}
-use Rattle.txntree.specs.Spots.{flat}
-use Rattle.txntree.specs.Spots.Spot.{Opened}
-use Rattle.noderevs.specs.Nodes.{with_block}
-use Rattle.txntree.specs.Sealing.{sealed_at, AreUnder}
-use Rattle.noderevs.specs.Heights.{AreHigh}
-use Rattle.txntree.proofs.High.{empty_high}
-use Rattle.txntree.proofs.Seals.{empty_closed}
-use Rattle.txntree.proofs.Blocks.{block_of}
+use Rattle.noderevs.specs.{Heights.AreHigh, Held.node_at, Nodes.{IsClosed, with_block}}
+use Rattle.txntree.specs.{Spots.flat, Spots.Spot.Opened, Sealing.{sealed_at, AreUnder}}
+use Rattle.txntree.proofs.{High.empty_high, Seals.empty_closed, Blocks.block_of}
 use Rattle.txntree.proofs.open.OpenNode.block.Goals as goal
 
 pub returns-clause-whole : goal.returns-clause-whole

@@ -1,15 +1,9 @@
-use Rattle.std.proofs.Common.{refl, sym, ap, subst, ◌∙◌}
-use Rattle.std.proofs.lemmas.Result.{on_ok_weaker}
-use Rattle.repo_api.specs.Edits.{grafted}
-use Rattle.repo_api.specs.declared.entry.Mark.TheVariants.{Open}
-use Rattle.txntree.specs.declared.open.Change.TheViews.{roll-OpenNode}
-use Rattle.noderevs.specs.Held.{node_at}
-use Rattle.txntree.specs.Spots.{flat, change_spot}
-use Rattle.txntree.specs.Spots.Spot.{Opened}
-use Rattle.txntree.specs.Bases.{IsBased}
-use Rattle.txntree.proofs.Walking.{is_spot, copy_is}
-use Rattle.txntree.proofs.Bases.{based_again, is_new}
+use Rattle.std.proofs.{Common.{refl, sym, ap, subst, ◌∙◌}, lemmas.Result.on_ok_weaker}
+use Rattle.repo_api.specs.{Edits.grafted, declared.entry.Mark.TheVariants.Open}
+use Rattle.txntree.specs.{declared.open.Change.TheViews.roll-OpenNode, Spots.{flat, change_spot}, Spots.Spot.Opened, Bases.IsBased}
 use Rattle.txntree.specs.declared.open.Change.TheVariants.{Is}
+use Rattle.noderevs.specs.Held.{node_at}
+use Rattle.txntree.proofs.{Walking.{is_spot, copy_is}, Bases.{based_again, is_new}}
 use Rattle.txntree.proofs.open.OpenNode.copy.Goals as goal
 
 pub returns-clause-ok : goal.returns-clause-ok

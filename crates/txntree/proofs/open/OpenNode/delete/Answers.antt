@@ -1,13 +1,8 @@
-use Rattle.std.proofs.Common.{sym, ap, subst, ◌∙◌}
-use Rattle.std.proofs.lemmas.Result.{on_ok_weaker}
+use Rattle.std.proofs.{Common.{sym, ap, subst, ◌∙◌}, lemmas.Result.on_ok_weaker}
 use Rattle.repo_api.specs.Edits.{grafted}
 use Rattle.noderevs.specs.Held.{node_at}
-use Rattle.txntree.specs.Spots.{flat, change_spot}
-use Rattle.txntree.specs.Spots.Spot.{Opened}
-use Rattle.txntree.specs.Bases.{IsBased, IsNew}
-use Rattle.txntree.proofs.Walking.{gone_spot, nothing_there}
-use Rattle.txntree.proofs.Bases.{nothing_based, nothing_new}
-use Rattle.txntree.specs.declared.open.Change.TheVariants.{Gone}
+use Rattle.txntree.specs.{Spots.{flat, change_spot}, Spots.Spot.Opened, Bases.{IsBased, IsNew}, declared.open.Change.TheVariants.Gone}
+use Rattle.txntree.proofs.{Walking.{gone_spot, nothing_there}, Bases.{nothing_based, nothing_new}}
 use Rattle.txntree.proofs.open.OpenNode.delete.Goals as goal
 
 pub returns-clause-ok : goal.returns-clause-ok

@@ -1,9 +1,7 @@
-use Rattle.std.proofs.Common.{◌++◌, ◌∷◌, [], sym, ap, ◌∙◌}
-use Rattle.std.proofs.lemmas.Result.{on_ok_weaker}
+use Rattle.std.proofs.{Common.{◌++◌, ◌∷◌, [], sym, ap, ◌∙◌}, lemmas.Result.on_ok_weaker}
 use Rattle.repo_api.specs.Edits.{grafted}
 use Rattle.noderevs.specs.Held.{node_at}
-use Rattle.txntree.specs.Spots.{flat, change_spot}
-use Rattle.txntree.specs.Spots.Spot.{Opened}
+use Rattle.txntree.specs.{Spots.{flat, change_spot}, Spots.Spot.Opened}
 use Rattle.txntree.proofs.Grafts.{grafts_are_changes}
 use Rattle.txntree.proofs.open.OpenNode.put.Goals as goal
 

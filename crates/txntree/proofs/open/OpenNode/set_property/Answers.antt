@@ -1,10 +1,7 @@
-use Rattle.std.proofs.Common.{ap, ◌∙◌}
-use Rattle.std.proofs.lemmas.Result.{on_ok_weaker}
+use Rattle.std.proofs.{Common.{ap, ◌∙◌}, lemmas.Result.on_ok_weaker}
 use Rattle.repo_api.specs.Edits.{with_value}
 use Rattle.noderevs.specs.Held.{node_at}
-use Rattle.txntree.specs.Spots.{flat}
-use Rattle.txntree.specs.Spots.Spot.{Opened}
-use Rattle.txntree.specs.Walks.{at_path, here}
+use Rattle.txntree.specs.{Spots.flat, Spots.Spot.Opened, Walks.{at_path, here}}
 use Rattle.txntree.proofs.Grafts.{revisions_are_changes}
 use Rattle.txntree.proofs.open.OpenNode.set_property.Goals as goal
 

@@ -1,16 +1,10 @@
 use Rattle.std.proofs.Common.{◌≡◌, [], Some, option_map, sym, subst, ◌∙◌}
 use Rattle.repo_api.specs.Merge.{sealed}
 use Rattle.svnpath.specs.Paths.{PathValue}
-use Rattle.noderevs.specs.Held.{node_at, blocks_of}
-use Rattle.noderevs.specs.Nodes.{with_block, IsBefore}
-use Rattle.noderevs.specs.Views.{shared_tree}
+use Rattle.noderevs.specs.{Held.{blocks_of, node_at}, Nodes.{IsBefore, with_block}, Views.shared_tree}
 use Rattle.noderevs.proofs.Pushing.{next_is_free}
-use Rattle.txntree.specs.Sealing.{sealed_at}
-use Rattle.txntree.specs.Spots.{flat}
-use Rattle.txntree.specs.Spots.Spot.{Shared, Opened}
-use Rattle.txntree.specs.Whole.{txn_tree}
-use Rattle.txntree.proofs.Blocks.{closed_is, next_if, ok_weaker}
-use Rattle.txntree.proofs.Sharing.{shared_flat}
+use Rattle.txntree.specs.{Sealing.sealed_at, Spots.flat, Spots.Spot.{Shared, Opened}, Whole.txn_tree}
+use Rattle.txntree.proofs.{Blocks.{closed_is, next_if, ok_weaker}, Sharing.shared_flat}
 use Rattle.txntree.proofs.tree.TxnTree.seal.Goals as goal
 
 pub returns-clause-next : goal.returns-clause-next

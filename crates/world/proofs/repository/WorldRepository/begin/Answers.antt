@@ -1,12 +1,9 @@
-use Rattle.std.proofs.Common.{◌≡◌, ◌<◌, length, refl, sym, ap, subst, ◌∙◌}
-use Rattle.std.proofs.Math.Logic.{∥∥₁_map}
+use Rattle.std.proofs.{Common.{◌≡◌, ◌<◌, length, refl, sym, ap, subst, ◌∙◌}, Math.Logic.∥∥₁_map}
 use Rattle.svnpath.specs.Paths.{PathValue}
-use Rattle.repo_api.specs.Edits.{begun}
-use Rattle.repo_api.specs.States.{youngest}
+use Rattle.repo_api.specs.{Edits.begun, States.youngest}
 use Rattle.noderevs.specs.Held.{node_at, root_at, trees_of}
-use Rattle.txntree.specs.Whole.{txn_tree, IsSound}
-use Rattle.held.specs.Contents.{held_state, revisions_of}
-use Rattle.held.specs.declared.held.Held.{Held}
+use Rattle.txntree.specs.Whole.{IsSound, txn_tree}
+use Rattle.held.specs.{Contents.{held_state, revisions_of}, declared.held.Held.Held}
 use Rattle.world.specs.Open.{IsOpen}
 use Rattle.world.proofs.Opening.{begun_open, begun_txn}
 use Rattle.world.proofs.repository.WorldRepository.begin.Goals as goal

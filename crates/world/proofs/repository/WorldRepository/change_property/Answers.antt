@@ -1,6 +1,5 @@
-use Rattle.std.proofs.Common.{ap, ◌∙◌}
-use Rattle.std.proofs.Math.Logic.{∥∥₁_map}
-use Rattle.held.specs.Contents.{revisions_of, held_state}
+use Rattle.std.proofs.{Common.{ap, ◌∙◌}, Math.Logic.∥∥₁_map}
+use Rattle.held.specs.Contents.{held_state, revisions_of}
 use Rattle.world.proofs.Keeping.{same_revisions}
 use Rattle.world.proofs.repository.WorldRepository.change_property.Goals as goal
 

@@ -1,5 +1,5 @@
 use Rattle.std.proofs.Common.{sym, ap, ◌∙◌}
-use Rattle.repo_api.specs.Kinds.{text_of}
+use Rattle.repo_api.specs.Trees.{text_of}
 use Rattle.txntree.specs.Whole.{txn_tree}
 use Rattle.held.specs.declared.held.Held.{Held}
 use Rattle.world.proofs.Mapping.{txn_map_is}

@@ -1,5 +1,4 @@
-use Rattle.std.proofs.Common.{rules}
-use Rattle.std.proofs.lemmas.List.Elements.{All-rest}
+use Rattle.std.proofs.{Common.rules, lemmas.List.Elements.All-rest}
 use Rattle.access.specs.Points.{content_of}
 use Rattle.repo_api.specs.Soundness.{AreSound}
 use Rattle.serving.proofs.serving.fn.run_pool.scope.Goals as goal

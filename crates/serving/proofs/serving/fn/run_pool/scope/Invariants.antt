@@ -1,5 +1,4 @@
-use Rattle.std.specs.Prelude.{All}
-use Rattle.std.specs.Vec.Iter.{into_iter_items}
+use Rattle.std.specs.{Prelude.All, Vec.Iter.into_iter_items}
 use Rattle.access.specs.Points.{content_of}
 use Rattle.repo_api.specs.Soundness.{AreSound}
 use Rattle.serving.proofs.serving.fn.run_pool.scope.Given as goal
