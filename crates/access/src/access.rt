@@ -1,7 +1,7 @@
 //! A repository as a session reaches it.
 ghost use Rattle.std.specs.Prelude.{◌≡◌, ◌≤◌, true, IfOk};
 ghost use Rattle.repo_api.specs.{Accepted.{Accepted, changed}, Soundness.AreSound, States.{IsBeginning, tree_of}, Transactions.IsMarkedTxn, Trees.IsTree};
-ghost use Rattle.access.specs.{Points.{Point, AccessRules, content_of}, Changing.{CommitsAt, LocksAt, UnlocksAt, ChangesPropertyAt}};
+ghost use Rattle.access.specs.{Points.{Point, AccessRules, content_of}, Changing.{CommitsAt, LocksAt, UnlocksAt, ChangesPropertyAt, Happens}};
 
 use repo_api::{ChangeFault, CommitAsk, LockAsk, PropertyAsk, Repository, UnlockAsk};
 use std::alloc::AllocError;
@@ -57,24 +57,21 @@ pub trait RepoAccess {
             (content_of (point self.old)).revisions }
         requires tree { IsTree (tree_of (Self.View.txn_state txn).tree) }
         requires marked { IsMarkedTxn (Self.View.txn_state txn) }
-        ensures { (at : Point) × rules.between (point self.old) at
-            × CommitsAt rules ask (Self.View.txn_state txn) at result (point self.new) };
+        ensures { Happens rules (CommitsAt rules ask (Self.View.txn_state txn))
+            (point self.old) result (point self.new) };
 
     /// Locks the path of a file, in place of a lock that stands there if that may be stolen.
     fn lock(&mut self, ask: LockAsk) -> Result<(), ChangeFault>
-        ensures { (at : Point) × rules.between (point self.old) at
-            × LocksAt rules ask at result (point self.new) };
+        ensures { Happens rules (LocksAt rules ask) (point self.old) result (point self.new) };
 
     /// Takes the lock at a path away.
     fn unlock(&mut self, ask: &UnlockAsk) -> Result<(), ChangeFault>
-        ensures { (at : Point) × rules.between (point self.old) at
-            × UnlocksAt rules ask.now at result (point self.new) };
+        ensures { Happens rules (UnlocksAt rules ask.now) (point self.old) result (point self.new) };
 
     /// Makes this the value of a property of a revision, or takes the property out where there is no
     /// value, if the value before is the one that is asked for.
     fn change_property(&mut self, ask: PropertyAsk) -> Result<(), ChangeFault>
-        ensures { (at : Point) × rules.between (point self.old) at
-            × ChangesPropertyAt rules ask at result (point self.new) };
+        ensures { Happens rules (ChangesPropertyAt rules ask) (point self.old) result (point self.new) };
 
     ghost stays: { (p : Point) → rules.between p p };
 

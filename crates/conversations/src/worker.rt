@@ -1,10 +1,10 @@
 //! One session between a reader and a writer, at a repository that others may change.
-ghost use Rattle.std.specs.{Prelude.{◌≡◌, ◌++◌, [], ◌∷◌, true, OnOk, OnErr, IfOk, IfErr}, Io.KnownBytes.{Appends, IsAtEnd}};
+ghost use Rattle.std.specs.{Prelude.{◌≡◌, [], ◌∷◌, true, IfOk, IfErr}, Io.KnownBytes.Appends};
 ghost use Rattle.repo_api.specs.Soundness.{AreSound};
 ghost use Rattle.access.specs.Points.{content_of};
 ghost use Rattle.wire_replies.specs.Replies.{print};
-ghost use Rattle.machine.specs.{Stages.{is_open, StandsOn}, Steps.{FeedLost, FeedWritten}, declared.phase.Phase.TheVariants.Greeted};
-ghost use Rattle.conversations.specs.Conversation.{sight, Answers, Breaks, Converses, Hears, Serves, Stops, IfRead, IfLost};
+ghost use Rattle.machine.specs.Stages.{is_open, StandsOn};
+ghost use Rattle.conversations.specs.Conversation.{sight, Conversed, Fed, Served};
 
 use crate::envs::EnvSource;
 use crate::fault::TalkFault;
@@ -78,14 +78,9 @@ impl<'w, A: RepoAccess + Drop, E: EnvSource + Drop, G: Gate, W: Watch> Worker<'w
         ensures options { self.new.options.now ≡ self.old.options.now }
         ensures envs { self.new.envs ≡ self.old.envs }
         ensures rests { StandsOn session.new.phase (content_of (A.point self.new.access)) }
-        ensures ok { OnOk result (FeedWritten A.rules self.old.options.now env
-            (A.point self.old.access) session.old.phase (session.old.rest ++ piece.now)
-            session.new.rest (A.point self.new.access) session.new.phase
-            (Appends (O.contents output.old) (O.contents output.new))) }
-        ensures read { IfRead result ⊥ }
-        ensures lost { IfLost result (FeedLost A.rules self.old.options.now env
-            (A.point self.old.access) session.old.phase (session.old.rest ++ piece.now)
-            (A.point self.new.access) (Appends (O.contents output.old) (O.contents output.new))) }
+        ensures fed { Fed result A.rules self.old.options.now env (A.point self.old.access)
+            session.old piece.now (A.point self.new.access) session.new
+            (Appends (O.contents output.old) (O.contents output.new)) }
     {
         let alloc = self.alloc;
         let had_user = session.user().is_some();
@@ -132,23 +127,11 @@ impl<'w, A: RepoAccess + Drop, E: EnvSource + Drop, G: Gate, W: Watch> Worker<'w
     ) -> Result<(), TalkFault>
         requires { AreSound (content_of (A.point self.old.access)).revisions }
         ensures sound { AreSound (content_of (A.point self.new.access)).revisions }
-        ensures served { OnOk result ((phase : _) × (rest : _)
-            × Converses A.rules self.old.options.now E.gives
-            (sight (A.point self.old.access) (I.remaining input.old) (O.contents output.old)
-            self.old.envs) phase rest
-            (sight (A.point self.new.access) (I.remaining input.new) (O.contents output.new)
-            self.new.envs)
-            × (is_open phase ≡ true → IsAtEnd (I.remaining input.new))) }
-        ensures read { IfRead result (Hears A.rules self.old.options.now E.gives
+        ensures conversed { Conversed result A.rules self.old.options.now E.gives
             (sight (A.point self.old.access) (I.remaining input.old) (O.contents output.old)
             self.old.envs)
             (sight (A.point self.new.access) (I.remaining input.new) (O.contents output.new)
-            self.new.envs)) }
-        ensures lost { IfLost result (Breaks A.rules self.old.options.now E.gives
-            (sight (A.point self.old.access) (I.remaining input.old) (O.contents output.old)
-            self.old.envs)
-            (sight (A.point self.new.access) (I.remaining input.new) (O.contents output.new)
-            self.new.envs)) }
+            self.new.envs) }
     {
         let mut session = Session::new(self.alloc);
         let mut buffer = [0; PIECE];
@@ -180,21 +163,11 @@ impl<'w, A: RepoAccess + Drop, E: EnvSource + Drop, G: Gate, W: Watch> Worker<'w
     ) -> Result<(), TalkFault>
         requires { AreSound (content_of (A.point self.old.access)).revisions }
         ensures sound { AreSound (content_of (A.point self.new.access)).revisions }
-        ensures served { OnOk result (Serves A.rules self.old.options.now E.gives
+        ensures served { Served result A.rules self.old.options.now E.gives
             (sight (A.point self.old.access) (I.remaining input.old) (O.contents output.old)
             self.old.envs)
             (sight (A.point self.new.access) (I.remaining input.new) (O.contents output.new)
-            self.new.envs)) }
-        ensures answered { IfRead result (Answers A.rules self.old.options.now E.gives
-            (sight (A.point self.old.access) (I.remaining input.old) (O.contents output.old)
-            self.old.envs)
-            (sight (A.point self.new.access) (I.remaining input.new) (O.contents output.new)
-            self.new.envs)) }
-        ensures stopped { IfLost result (Stops A.rules self.old.options.now E.gives
-            (sight (A.point self.old.access) (I.remaining input.old) (O.contents output.old)
-            self.old.envs)
-            (sight (A.point self.new.access) (I.remaining input.new) (O.contents output.new)
-            self.new.envs)) }
+            self.new.envs) }
     {
         let out = greeting(self.alloc)?;
         write_and_flush(output, out.as_slice()).map_err(TalkFault::Write)?;

@@ -4,12 +4,12 @@ use Rattle.std.proofs.{Common.{Option, Some, None, refl, sym, ap, ◌∙◌, sub
 use Rattle.std.proofs.{lemmas.List.{take_more, length-append, length-take-le}, lemmas.List.Sums.fold-append}
 use Rattle.std.specs.Prelude.{IsTrue, IsSomeAnd, is_some, option_and_then}
 use Rattle.svnpath.specs.{PathLaws.{same_path_is, same_path_refl, under_is, under_itself}, Paths.{is_at_or_under, PathValue, same_path}}
-use Rattle.repo_api.specs.{Soundness.AreTrees, States.Revision, Trees.{is_directory, Tree}}
+use Rattle.repo_api.specs.{Soundness.AreTrees, States.{RepoState, Revision, trees_in}, Trees.{is_directory, Tree}}
 use Rattle.drive_rules.specs.Scopes.{below, HoldsTogether}
 use Rattle.drive_rules.proofs.{Joined.or_false, Entries.under_more}
-use Rattle.drive_reports.specs.{Places.{AllHoldTogether, is_grafted_over}, Reported.{ReportedEntry, ReportedTree, reported_entries, in_subtree, in_graft}}
-use Rattle.drive_reports.specs.{Reported.{shown_by, has_directory, has_place, path_above, with_graft, is_surely_placed, reported}, declared.graft.Graft.Graft}
-use Rattle.drive_reports.specs.declared.graft.Subtree.{Subtree}
+use Rattle.drive_reports.specs.{Places.{AllHoldTogether, IsShownBy, is_grafted_over}, Reported.{ReportedEntry, ReportedTree, reported_entries, in_subtree}}
+use Rattle.drive_reports.specs.Reported.{in_graft, shown_by, has_directory, has_place, path_above, with_graft, is_surely_placed, reported}
+use Rattle.drive_reports.specs.{declared.graft.Graft.Graft, declared.graft.Subtree.Subtree}
 use Rattle.drive_reports.proofs.{Drives.each_holds, Holding.{all_hold, comparable, longer_below, above_under, below_longer}}
 
 -- one graft more
@@ -179,9 +179,9 @@ pub shows_here : (trees : ℕ → Tree) (top : PathValue) (gs : List Graft) (cou
     → reported trees top (take count gs) p ≡ shown_by trees p found
 shows_here trees top gs count p found shows = shows p (under_itself p) (none_itself gs p)
 
-pub shows_both : (trees : ℕ → Tree) (top : PathValue) (gs : List Graft) (count : ℕ) (p : PathValue) (found : Option Graft) → Shows trees top gs count p found
-    → record { here : reported trees top (take count gs) p ≡ shown_by trees p found; beneath : Shows trees top gs count p found }
-shows_both trees top gs count p found shows = record { here = shows_here trees top gs count p found shows; beneath = shows }
+pub shows_both : (c : RepoState) (top : PathValue) (gs : List Graft) (count : ℕ) (p : PathValue) (found : Option Graft) → Shows (trees_in c.revisions) top gs count p found
+    → IsShownBy c top (take count gs) gs p found
+shows_both c top gs count p found shows = record { here = shows_here (trees_in c.revisions) top gs count p found shows; beneath = shows }
 
 -- a graft with no place, or not at or above the path
 pub later_by : (trees : ℕ → Tree) (top : PathValue) (gs : List Graft) (count : ℕ) (p : PathValue) (n : ℕ) (g : Graft) → AreLater trees top gs count p n → 0 < n → n ≤ length gs → g ≡ get_or gs (n - 1) g

@@ -5,7 +5,7 @@ use Rattle.std.specs.{Option.option_or, Prelude.is_some}
 use Rattle.svnpath.specs.{Components.{beneath, component_fault, depth_fault, first_fault, IsComponent, unless_fault}, PathLaws.rest_append}
 use Rattle.svnpath.specs.{Paths.{Component, PathValue}, Texts.{components_of, joined, without_first_slash, without_last_slash}}
 use Rattle.svnpath.specs.declared.fault.PathFault.{PathFault}
-use Rattle.drive_reports.specs.Named.{IsNamed}
+use Rattle.drive_reports.specs.Named.{IsNamed, IsNamedBeneath}
 
 some_none : {A : Type 0} {x : A} → Some x ≡ None → ⊥
 some_none e = false≢true (sym (ap is_some e))
@@ -28,11 +28,6 @@ beneath_named base cs p e = by (first_fault (length base) cs) refl e
     by : (f : Option PathFault) → first_fault (length base) cs ≡ f → unless_fault f (base ++ cs) ≡ Ok p → (p ≡ base ++ cs) × IsNamed cs
     by None is h = (cc h, faultless (length base) cs is)
     by (Some fault) is h = cc h
-
--- a path beneath another, with right components from there on
-pub record IsNamedBeneath (base p : PathValue) : Type 0 where
-  pub whole : p ≡ base ++ drop (length base) p
-  pub named : IsNamed (drop (length base) p)
 
 pub joined_named : (base : PathValue) (text : List ℕ) (p : PathValue) → joined base text ≡ Ok p → IsNamedBeneath base p
 joined_named base text p e =

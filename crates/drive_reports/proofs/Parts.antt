@@ -1,12 +1,13 @@
 -- What a graft shows beneath a path is a subtree of its own.
 use Rattle.std.proofs.Common.{◌≡◌, ℕ, Bool, true, false, cond, List, [], ◌∷◌, ◌++◌, length, drop, Option, Some, None, refl, sym, ap, ◌∙◌, option_map}
 use Rattle.std.proofs.{lemmas.Bool.false≢true, lemmas.List.{append_assoc, append-nil}}
-use Rattle.std.specs.Prelude.{not, is_some, option_and_then, option_copied, Result, Ok, Err, IfOk, IfSome}
+use Rattle.std.specs.Prelude.{not, is_some, option_and_then, option_copied, IfSome}
 use Rattle.svnpath.specs.{PathLaws.{rest_append, under_append, under_is}, Paths.{Component, is_at_or_under, PathValue}}
-use Rattle.repo_api.specs.{Trees.{is_directory, Tree}, declared.entry.Entry.Entry}
+use Rattle.repo_api.specs.{States.{RepoState, trees_in}, Trees.{is_directory, Tree}, declared.entry.Entry.Entry}
 use Rattle.drive_rules.specs.{Scopes.depth_below, declared.depth.Depth.Depth, declared.depth.Depth.TheVariants.{Empty, Files, Immediates, Infinity}}
 use Rattle.drive_rules.proofs.Entries.{under_more}
-use Rattle.drive_reports.specs.{Places.{part_below, in_place, reported_subtree}, Reported.{ReportedEntry, in_subtree, in_graft, left_by, reported_as, shown_by}}
+use Rattle.drive_reports.specs.Places.{part_below, in_place, reported_subtree, IsPlacedAt, IsShownBy}
+use Rattle.drive_reports.specs.Reported.{ReportedEntry, in_subtree, in_graft, left_by, reported_as, shown_by, ReportedTree, reported}
 use Rattle.drive_reports.specs.{declared.graft.Graft.Graft, declared.graft.Subtree.Subtree, declared.reported.ReportedPlace.ReportedPlace}
 
 -- what is left of what is shown is all of it
@@ -101,18 +102,29 @@ none_of : {A : Type 0} (o : Option A) → false ≡ is_some o → o ≡ None
 none_of None h = refl
 none_of (Some x) h = absurd (false≢true h)
 
-pub found_here : {E : Type 0} (trees : ℕ → Tree) (had : Option ReportedEntry) (p : PathValue) (g : Graft) (found : Result (Option ReportedPlace) E) → had ≡ shown_by trees p (Some g)
-    → IfOk found (λ f. is_some f ≡ is_some (shown_by trees p (Some g)))
-    → IfOk found (λ f. (rest : List Component) → IfSome f (λ place. shown_by trees (p ++ rest) (Some g) ≡ in_place trees place rest))
-    → IfOk found (λ f. had ≡ option_and_then (λ place. in_place trees place []) f)
-found_here trees had p g (Ok None) is stands part = is ∙ none_of (shown_by trees p (Some g)) stands
-found_here trees had p g (Ok (Some place)) is stands part = is ∙ ap (λ q. shown_by trees q (Some g)) (sym (append-nil p)) ∙ part []
-found_here trees had p g (Err e) is stands part = tt
+-- nothing is had
+pub none_placed : (c : RepoState) (had : ReportedTree) (grafts : List Graft) (p : PathValue) → false ≡ is_some (had p) → IsPlacedAt c had grafts p None
+none_placed c had grafts p none = record { here = none_of (had p) none; stands = none; beneath = λ rest free. tt }
 
-pub found_beneath : {E : Type 0} (trees : ℕ → Tree) (had : PathValue → Option ReportedEntry) (over : PathValue → Bool) (p : PathValue) (g : Graft) (found : Result (Option ReportedPlace) E)
-    → ((q : PathValue) → is_at_or_under q p ≡ true → over q ≡ false → had q ≡ shown_by trees q (Some g))
-    → IfOk found (λ f. (rest : List Component) → IfSome f (λ place. shown_by trees (p ++ rest) (Some g) ≡ in_place trees place rest))
-    → IfOk found (λ f. (rest : List Component) → over (p ++ rest) ≡ false → IfSome f (λ place. had (p ++ rest) ≡ in_place trees place rest))
-found_beneath trees had over p g (Ok None) beneath part = λ rest free. tt
-found_beneath trees had over p g (Ok (Some place)) beneath part = λ rest free. beneath (p ++ rest) (under_append p rest) free ∙ part rest
-found_beneath trees had over p g (Err e) beneath part = tt
+-- what is shown at a path stands at a place
+pub shown_placed : (c : RepoState) (g : Graft) (p : PathValue) (place : ReportedPlace) → is_some (shown_by (trees_in c.revisions) p (Some g)) ≡ true
+    → ((rest : List Component) → shown_by (trees_in c.revisions) (p ++ rest) (Some g) ≡ in_place (trees_in c.revisions) place rest)
+    → IsPlacedAt c (λ q. shown_by (trees_in c.revisions) q (Some g)) [] p (Some place)
+shown_placed c g p place some part = record {
+  here = ap (λ q. shown_by (trees_in c.revisions) q (Some g)) (sym (append-nil p)) ∙ part [];
+  stands = sym some;
+  beneath = λ rest free. part rest;
+}
+
+-- so does what is had, by the graft that shows it
+pub placed_by : (c : RepoState) (top : PathValue) (first grafts : List Graft) (p : PathValue) (g : Graft) (found : Option ReportedPlace) → IsShownBy c top first grafts p (Some g)
+    → IsPlacedAt c (λ q. shown_by (trees_in c.revisions) q (Some g)) [] p found → IsPlacedAt c (reported (trees_in c.revisions) top first) grafts p found
+placed_by c top first grafts p g found by placed = record {
+  here = by.here ∙ placed.here;
+  stands = placed.stands ∙ ap is_some (sym by.here);
+  beneath = λ rest free. if_placed (λ place. in_place (trees_in c.revisions) place rest) found (by.beneath (p ++ rest) (under_append p rest) free) (placed.beneath rest refl);
+}
+  where
+    if_placed : (f : ReportedPlace → Option ReportedEntry) (o : Option ReportedPlace) {x y : Option ReportedEntry} → x ≡ y → IfSome o (λ place. y ≡ f place) → IfSome o (λ place. x ≡ f place)
+    if_placed f None e h = tt
+    if_placed f (Some place) e h = e ∙ h

@@ -1,7 +1,8 @@
 -- Where grafts stand in the order of their report.
-use Rattle.std.specs.{Prelude.{◌≡◌, ◌<◌, ℕ, nat_lt, Bool, true, false, if◌then◌else◌, List, length, Option, Some, None, slice_get}, Map.lookup, BTreeMap.is_at}
+use Rattle.std.specs.{Prelude.{◌≡◌, ◌<◌, ℕ, nat_lt, Bool, true, false, if◌then◌else◌, List, [], ◌∷◌, ◌++◌, length, Option, Some, None, slice_get}, Map.lookup}
+use Rattle.std.specs.BTreeMap.{is_at}
 use Rattle.svnpath.specs.Paths.{is_at_or_under, path_cmp, PathValue, same_path}
-use Rattle.drive_reports.specs.declared.graft.Graft.{Graft}
+use Rattle.drive_reports.specs.{declared.graft.Graft.Graft, declared.index.GraftIndex.GraftIndex}
 
 -- the last of the first so many grafts of which this is so, by its place in the order
 abbrev pub IsLastOf : (Graft → Bool) → List Graft → ℕ → Option ℕ → Type 0
@@ -37,3 +38,9 @@ pub record AreFound (grafts : List Graft) (newest : List (PathValue × ℕ))
   pub last : (p : PathValue) → IsLastAt p grafts (length grafts) (place_of newest p)
   pub before : (i : ℕ) (g : Graft) (o : Option ℕ) → slice_get grafts i ≡ Some g
       → slice_get older i ≡ Some o → IsLastAt g.path grafts i o
+
+-- one graft more was noted, at a path
+pub record IsNoted (p : PathValue) (old new : GraftIndex) : Type 0 where
+  pub newest : (q : PathValue) → place_of new.newest.entries q
+      ≡ (if same_path p q then Some (length old.older.items) else place_of old.newest.entries q)
+  pub older : new.older.items ≡ old.older.items ++ place_of old.newest.entries p ∷ []

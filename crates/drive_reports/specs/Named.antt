@@ -1,5 +1,5 @@
 -- Paths that a client can name.
-use Rattle.std.specs.Prelude.{List, All}
+use Rattle.std.specs.Prelude.{◌≡◌, ◌++◌, List, All, drop, length}
 use Rattle.svnpath.specs.{Components.IsComponent, Paths.PathValue}
 use Rattle.drive_reports.specs.declared.graft.Graft.{Graft}
 
@@ -10,3 +10,8 @@ IsNamed p = All IsComponent p
 -- each graft stands at such a path
 abbrev pub AreNamed : List Graft → Type 0
 AreNamed grafts = All (λ g. IsNamed g.path) grafts
+
+-- a path beneath another, with right components from there on
+pub record IsNamedBeneath (base p : PathValue) : Type 0 where
+  pub whole : p ≡ base ++ drop (length base) p
+  pub named : IsNamed (drop (length base) p)

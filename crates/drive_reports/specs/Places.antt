@@ -1,10 +1,11 @@
 -- What a client has at a path and beneath it.
-use Rattle.std.specs.{Prelude.{ℕ, Bool, false, ◌&&◌, List, [], ◌∷◌, Option, None, option_copied}, List.list_any}
+use Rattle.std.specs.Prelude.{◌≡◌, ℕ, Bool, false, true, ◌&&◌, List, [], ◌∷◌, ◌++◌, IfSome, Option, None, is_some, option_and_then, option_copied}
+use Rattle.std.specs.List.{list_any}
 use Rattle.svnpath.specs.Paths.{Component, is_at_or_under, PathValue}
-use Rattle.repo_api.specs.{States.{Revision, trees_in}, Trees.Tree}
+use Rattle.repo_api.specs.{States.{RepoState, Revision, trees_in}, Trees.Tree}
 use Rattle.drive_rules.specs.{Scopes.{below, depth_below, HoldsTogether}, declared.depth.Depth.Depth}
-use Rattle.drive_reports.specs.{Reported.{ReportedEntry, in_subtree}, declared.graft.Graft.Graft, declared.graft.Subtree.Subtree}
-use Rattle.drive_reports.specs.declared.reported.ReportedPlace.{ReportedPlace}
+use Rattle.drive_reports.specs.{Reported.{ReportedEntry, ReportedTree, in_subtree, reported, shown_by}, declared.graft.Graft.Graft}
+use Rattle.drive_reports.specs.{declared.graft.Subtree.Subtree, declared.reported.ReportedPlace.ReportedPlace}
 
 -- what stands in a revision stands in a directory of it
 abbrev pub AllHoldTogether : List Revision → Type 0
@@ -34,3 +35,20 @@ in_place trees place rest =
     in_subtree trees place.path
     (reported_subtree place.revision place.starts_empty place.depth (option_copied place.token))
     rest
+
+-- What a client has at a path, by the first of the grafts of a report, is what one of them shows, or
+-- nothing where there is none. So it is beneath, where no graft of the report stands over it.
+pub record IsShownBy (c : RepoState) (top : PathValue) (first grafts : List Graft) (p : PathValue)
+    (found : Option Graft) : Type 0 where
+  pub here : reported (trees_in c.revisions) top first p ≡ shown_by (trees_in c.revisions) p found
+  pub beneath : (q : PathValue) → is_at_or_under q p ≡ true → is_grafted_over grafts p q ≡ false
+      → reported (trees_in c.revisions) top first q ≡ shown_by (trees_in c.revisions) q found
+
+-- What is had at a path is what stands at this place, or nothing where there is none. So it is
+-- beneath, where none of the grafts stands over it.
+pub record IsPlacedAt (c : RepoState) (had : ReportedTree) (grafts : List Graft) (p : PathValue)
+    (found : Option ReportedPlace) : Type 0 where
+  pub here : had p ≡ option_and_then (λ place. in_place (trees_in c.revisions) place []) found
+  pub stands : is_some found ≡ is_some (had p)
+  pub beneath : (rest : List Component) → is_grafted_over grafts p (p ++ rest) ≡ false
+      → IfSome found (λ place. had (p ++ rest) ≡ in_place (trees_in c.revisions) place rest)

@@ -36,6 +36,13 @@ target_tree c ask q =
     then trees_in c.revisions ask.revision (goal_path ask q)
     else None
 
+-- the entries of both, by a report that has come to its end
+abbrev pub client_entries : RepoState → WholeReport → Tree
+client_entries c report = reported_entries (client_tree c report)
+
+abbrev pub target_entries : RepoState → WholeReport → Tree
+target_entries c report = target_tree c report.ask
+
 -- ---- stale tokens
 
 -- the token is that of the lock, if there is one
@@ -66,19 +73,23 @@ abbrev pub limit_of : ReportedTree → ReportRoot → DepthAsked → DepthLimit
 limit_of had root (asks.Given depth) = Given depth
 limit_of had root asks.AsReported = Reported (reported_depth had) root.depth
 
+-- so it goes by a report that has come to its end
+abbrev pub drive_limit : RepoState → WholeReport → DepthLimit
+drive_limit c report = limit_of (client_tree c report) report.root report.ask.depth
+
 -- the paths that the drive is of
 abbrev pub drive_scope : RepoState → WholeReport → PathValue → Bool
 drive_scope c report =
-    scope_of (limit_of (client_tree c report) report.root report.ask.depth)
-    (reported_entries (client_tree c report)) (target_tree c report.ask) report.ask.target
+    scope_of (drive_limit c report) (client_entries c report) (target_entries c report)
+    report.ask.target
 
 -- what the client has of these paths
 abbrev pub old_tree : RepoState → WholeReport → Tree
-old_tree c report = within (drive_scope c report) (reported_entries (client_tree c report))
+old_tree c report = within (drive_scope c report) (client_entries c report)
 
 -- and what it is to have of them
 abbrev pub new_tree : RepoState → WholeReport → Tree
-new_tree c report = within (drive_scope c report) (target_tree c report.ask)
+new_tree c report = within (drive_scope c report) (target_entries c report)
 
 -- the paths of the drive whose token is stale
 abbrev pub stale_in : RepoState → WholeReport → PathValue → Bool

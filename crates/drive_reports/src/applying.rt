@@ -1,9 +1,9 @@
 //! What the commands of a report make of it.
-ghost use Rattle.std.specs.Prelude.{◌≡◌, Some, option_copied, IfOk};
+ghost use Rattle.std.specs.Prelude.{◌≡◌, option_copied, IfOk};
 ghost use Rattle.repo_api.specs.Soundness.{AreTrees};
-ghost use Rattle.drive_reports.specs.{Judging.JudgesReport, Named.IsNamed, Refusing.{is_in_order, may_be_absent, first_root, graft_of, set_path_graft}};
-ghost use Rattle.drive_reports.specs.Refusing.{set_path_answer, delete_path_graft, delete_path_answer, report_with_graft, kept_report, has_goal, has_anchor};
-ghost use Rattle.drive_reports.specs.Refusing.{finish_root};
+ghost use Rattle.drive_reports.specs.{Judging.{JudgesReport, JudgesAnd}, Named.IsNamed, Refusing.{is_in_order, may_be_absent, first_root, graft_of}};
+ghost use Rattle.drive_reports.specs.Refusing.{set_path_graft, set_path_answer, delete_path_graft, delete_path_answer, report_with_graft, kept_report};
+ghost use Rattle.drive_reports.specs.Refusing.{has_goal, has_anchor, finish_root};
 
 use crate::ask::{DriveAsk, Purpose};
 use crate::graft::{Graft, Subtree};
@@ -99,9 +99,8 @@ fn set_path_graft<R: Repository>(
     link: Link<'_>,
 ) -> Result<(ReportRoot, Graft), NotDone>
     requires { AreTrees (R.content view.now).revisions }
-    ensures judged { JudgesReport result (set_path_graft (R.content view.now) name.now report.now
-        link.entry.reported.now (option_copied link.entry.url)) }
-    ensures named { IfOk result (λ made. IsNamed made.1.path) }
+    ensures { JudgesAnd (λ made. IsNamed made.1.path) result (set_path_graft (R.content view.now)
+        name.now report.now link.entry.reported.now (option_copied link.entry.url)) }
 {
     let ask = &report.ask;
     let top = ask.target.as_path();
@@ -128,8 +127,7 @@ fn delete_path_graft(
     report: &OpenReport<Grafts>,
     text: &ByteString,
 ) -> Result<Graft, NotDone>
-    ensures judged { JudgesReport result (delete_path_graft report.now text.now) }
-    ensures named { IfOk result (λ graft. IsNamed graft.path) }
+    ensures { JudgesAnd (λ g. IsNamed g.path) result (delete_path_graft report.now text.now) }
 {
     judge(report.root.is_some(), Refusal::MalformedData)?;
     let path = report_path(alloc, &report.ask, text)?;

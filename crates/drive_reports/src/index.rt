@@ -1,8 +1,7 @@
 //! Finds the grafts of a report by their paths.
-ghost use Rattle.std.specs.{Prelude.{◌≡◌, ◌++◌, ◌∷◌, [], Option, Some, length, if◌then◌else◌, OnOk, OnErr}, List.list_any, Map.keys_of};
-ghost use Rattle.svnpath.specs.Paths.{PathValue, same_path};
+ghost use Rattle.std.specs.{Prelude.{◌≡◌, [], OnOk, OnErr}, List.list_any, Map.keys_of};
 ghost use Rattle.drive_rules.specs.Scopes.{below};
-ghost use Rattle.drive_reports.specs.Finding.{place_of};
+ghost use Rattle.drive_reports.specs.Finding.{IsNoted};
 
 use std::alloc::{AllocError, Global};
 use std::collections::BTreeMap;
@@ -32,11 +31,7 @@ impl GraftIndex {
 
     /// Notes one graft more, at a path.
     pub fn note(&mut self, path: &Path) -> Result<(), AllocError>
-        ensures newest { OnOk result ((q : PathValue) → place_of self.new.newest.entries q
-            ≡ (if same_path path.now q then Some (length self.old.older.items)
-            else place_of self.old.newest.entries q)) }
-        ensures older { OnOk result (self.new.older.items
-            ≡ self.old.older.items ++ place_of self.old.newest.entries path.now ∷ []) }
+        ensures ok { OnOk result (IsNoted path.now self.old self.new) }
         ensures err { OnErr result ((self.new.newest.entries ≡ self.old.newest.entries)
             × (self.new.older.items ≡ self.old.older.items)) }
     {

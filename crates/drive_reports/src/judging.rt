@@ -1,9 +1,9 @@
 //! The rules by which a command of a report is refused, each by itself.
-ghost use Rattle.std.specs.Prelude.{◌≡◌, ◌++◌, drop, length, is_some, option_copied, IfOk};
+ghost use Rattle.std.specs.Prelude.{◌≡◌, is_some, option_copied};
 ghost use Rattle.repo_api.specs.{States.trees_in, Trees.is_directory_there};
 ghost use Rattle.svnpath.specs.Texts.{joined};
-ghost use Rattle.drive_reports.specs.{Depths.{graft_depth, depth_asked, shallow}, Judging.JudgesReport, Named.IsNamed};
-ghost use Rattle.drive_reports.specs.Refusing.{ok_if, or_refusal, url_or, revision_read};
+ghost use Rattle.drive_reports.specs.{Depths.{graft_depth, depth_asked, shallow}, Judging.{JudgesReport, JudgesAnd}};
+ghost use Rattle.drive_reports.specs.{Refusing.{ok_if, or_refusal, url_or, revision_read}, Named.IsNamedBeneath};
 
 use crate::ask::{DepthAsked, Purpose};
 use byte_string::ByteString;
@@ -28,9 +28,7 @@ pub(crate) fn judge(holds: bool, refusal: Refusal) -> Result<(), NotDone>
 
 /// Finds the path that a text names beneath another.
 pub(crate) fn path_named(alloc: Global, base: &Path, text: &ByteString) -> Result<Path, NotDone>
-    ensures judged { JudgesReport result (or_refusal (joined base.now text.now)) }
-    ensures beneath { IfOk result (λ p. p ≡ base.now ++ drop (length base.now) p) }
-    ensures named { IfOk result (λ p. IsNamed (drop (length base.now) p)) }
+    ensures { JudgesAnd (IsNamedBeneath base.now) result (or_refusal (joined base.now text.now)) }
 {
     Ok(base.join(alloc, text.as_slice())?)
 }

@@ -25,8 +25,7 @@ pub struct OpenReport<G> {
 impl OpenReport<Grafts> {
     /// Does nothing: its contract says that a client can name the target, and the path of each graft.
     pub fn are_named(&self)
-        ensures target { IsNamed self.now.ask.target }
-        ensures grafts { AreNamed self.now.grafts }
+        ensures { IsNamed self.now.ask.target × AreNamed self.now.grafts }
     {
         let _target = self.ask.target.as_path();
         self.grafts.are_named();

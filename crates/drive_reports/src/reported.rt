@@ -1,11 +1,10 @@
 //! What a client has, by its report.
-ghost use Rattle.std.specs.Prelude.{◌≡◌, ◌≤◌, ◌+◌, ◌++◌, [], true, false, List, Option, Some, option_copied, option_map, option_and_then, is_some, length};
-ghost use Rattle.std.specs.Prelude.{take, IfOk, IfSome};
+ghost use Rattle.std.specs.Prelude.{◌≡◌, ◌≤◌, ◌+◌, [], List, Option, Some, option_copied, option_map, length, take, IfOk};
 ghost use Rattle.repo_api.specs.{Kinds.kind_of, States.trees_in, declared.entry.Entry.Entry};
-ghost use Rattle.svnpath.specs.Paths.{Component, is_at_or_under, PathValue};
+ghost use Rattle.svnpath.specs.Paths.{Component};
 ghost use Rattle.drive_rules.specs.Scopes.{depth_below};
-ghost use Rattle.drive_reports.specs.Places.{AllHoldTogether, in_place, is_grafted_over, part_below, reported_subtree};
-ghost use Rattle.drive_reports.specs.Reported.{has_directory, has_place, in_subtree, is_surely_placed, left_by, reported, shown_by};
+ghost use Rattle.drive_reports.specs.Places.{AllHoldTogether, part_below, reported_subtree, IsPlacedAt, IsShownBy};
+ghost use Rattle.drive_reports.specs.Reported.{has_directory, has_place, is_surely_placed, left_by, reported, shown_by};
 
 use crate::graft::{Graft, Subtree};
 use crate::grafts::Grafts;
@@ -98,14 +97,9 @@ fn graft_among<'a, R: Repository>(
 ) -> Result<Option<&'a Graft>, AllocError>
     requires trees { AllHoldTogether (R.content view.now).revisions }
     requires count { first.count ≤ length first.grafts.now }
-    ensures here { IfOk result (λ found. reported (trees_in (R.content view.now).revisions) top.now
-        (take first.entry.count first.entry.grafts.now) path.now
-        ≡ shown_by (trees_in (R.content view.now).revisions) path.now (option_copied found)) }
-    ensures beneath { IfOk result (λ found. (q : PathValue) → is_at_or_under q path.now ≡ true
-        → is_grafted_over first.entry.grafts.now path.now q ≡ false
-        → reported (trees_in (R.content view.now).revisions) top.now
-        (take first.entry.count first.entry.grafts.now) q
-        ≡ shown_by (trees_in (R.content view.now).revisions) q (option_copied found)) }
+    ensures { IfOk result (λ found. IsShownBy (R.content view.now) top.now
+        (take first.entry.count first.entry.grafts.now) first.entry.grafts.now path.now
+        (option_copied found)) }
 {
     let FirstGrafts { grafts, mut count } = first;
     while let Some(place) = grafts.last_above(alloc, path, count)? {
@@ -136,13 +130,8 @@ fn graft_at<'a, R: Repository>(
     path: &Path,
 ) -> Result<Option<&'a Graft>, AllocError>
     requires { AllHoldTogether (R.content view.now).revisions }
-    ensures here { IfOk result (λ found. reported (trees_in (R.content view.now).revisions) top.now
-        grafts.now path.now
-        ≡ shown_by (trees_in (R.content view.now).revisions) path.now (option_copied found)) }
-    ensures beneath { IfOk result (λ found. (q : PathValue) → is_at_or_under q path.now ≡ true
-        → is_grafted_over grafts.now path.now q ≡ false
-        → reported (trees_in (R.content view.now).revisions) top.now grafts.now q
-        ≡ shown_by (trees_in (R.content view.now).revisions) q (option_copied found)) }
+    ensures { IfOk result (λ found. IsShownBy (R.content view.now) top.now grafts.now grafts.now
+        path.now (option_copied found)) }
 {
     let count = grafts.as_slice().len();
     graft_among(alloc, view, top, FirstGrafts { grafts, count }, path)
@@ -202,11 +191,8 @@ fn shown_at<'a, R: Repository>(
     graft: &'a Graft,
     path: &Path,
 ) -> Result<Option<ReportedPlace<'a>>, AllocError>
-    ensures stands { IfOk result (λ found. is_some found
-        ≡ is_some (shown_by (trees_in (R.content view.now).revisions) path.now (Some graft.now))) }
-    ensures part { IfOk result (λ found. (rest : List Component) → IfSome found (λ place.
-        shown_by (trees_in (R.content view.now).revisions) (path.now ++ rest) (Some graft.now)
-        ≡ in_place (trees_in (R.content view.now).revisions) place rest)) }
+    ensures { IfOk result (IsPlacedAt (R.content view.now)
+        (λ q. shown_by (trees_in (R.content view.now).revisions) q (Some graft.now)) [] path.now) }
 {
     let Some(subtree) = &graft.subtree else {
         return Ok(None);
@@ -228,16 +214,8 @@ pub fn reported_at<'a, R: Repository>(
     path: &Path,
 ) -> Result<Option<ReportedPlace<'a>>, AllocError>
     requires { AllHoldTogether (R.content view.now).revisions }
-    ensures here { IfOk result (λ found. reported (trees_in (R.content view.now).revisions) top.now
-        grafts.now path.now ≡ option_and_then
-        (λ place. in_place (trees_in (R.content view.now).revisions) place []) found) }
-    ensures stands { IfOk result (λ found. is_some found
-        ≡ is_some (reported (trees_in (R.content view.now).revisions) top.now grafts.now
-        path.now)) }
-    ensures beneath { IfOk result (λ found. (rest : List Component)
-        → is_grafted_over grafts.now path.now (path.now ++ rest) ≡ false → IfSome found (λ place.
-        reported (trees_in (R.content view.now).revisions) top.now grafts.now (path.now ++ rest)
-        ≡ in_place (trees_in (R.content view.now).revisions) place rest)) }
+    ensures { IfOk result (IsPlacedAt (R.content view.now)
+        (reported (trees_in (R.content view.now).revisions) top.now grafts.now) grafts.now path.now) }
 {
     match graft_at(alloc, view, top, grafts, path)? {
         None => Ok(None),

@@ -1,6 +1,6 @@
 //! Which paths of the repository the paths of a report stand for.
 ghost use Rattle.std.specs.Prelude.{◌≡◌, ◌++◌, IfOk};
-ghost use Rattle.drive_reports.specs.{Judging.JudgesReport, Named.IsNamed, Refusing.report_path, Reported.{path_above, origin, own_source}};
+ghost use Rattle.drive_reports.specs.{Named.IsNamed, Refusing.report_path, Reported.{path_above, origin, own_source}, Judging.JudgesAnd};
 
 use crate::ask::DriveAsk;
 use crate::grafts::Grafts;
@@ -19,8 +19,7 @@ fn under_anchor(alloc: Global, anchor: &Path, path: &Path) -> Result<Path, Alloc
 
 /// Finds the path that a text names beneath the target, from the anchor on.
 pub(crate) fn report_path(alloc: Global, ask: &DriveAsk, text: &ByteString) -> Result<Path, NotDone>
-    ensures judged { JudgesReport result (report_path ask.now text.now) }
-    ensures named { IfOk result IsNamed }
+    ensures { JudgesAnd IsNamed result (report_path ask.now text.now) }
 {
     let own = under_anchor(alloc, &ask.anchor, ask.target.as_path())?;
     let path = path_named(alloc, &own, text)?;

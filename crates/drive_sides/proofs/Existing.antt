@@ -13,8 +13,8 @@ use Rattle.drive_rules.specs.{Scopes.{below, depth_below}, Steps.{node_of, prope
 use Rattle.drive_rules.specs.declared.depth.Depth.TheVariants.{Empty, Files, Immediates, Infinity}
 use Rattle.drive_news.proofs.Changes.{none_changed}
 use Rattle.drive_news.specs.{News.property_changes, Places.{AreLike, AreUnlike}}
-use Rattle.reporter.proofs.{Children.{AreDistinct, children_all, children_are}, Existing.{IsDecided, IsListed, some_left}}
-use Rattle.reporter.specs.{Left.IsLeft, declared.unvisited.Unvisited.Unvisited, declared.visit.Visit.Visit}
+use Rattle.reporter.proofs.{Children.{AreDistinct, children_all, children_are}, Existing.{IsDecided, some_left}}
+use Rattle.reporter.specs.{Left.IsLeft, Walks.IsListed, declared.unvisited.Unvisited.Unvisited, declared.visit.Visit.Visit}
 use Rattle.drive_reports.proofs.Holding.{comparable}
 use Rattle.drive_reports.specs.Reported.{ReportedTree, has_place, in_graft, in_subtree, left_by, reported_as, with_graft}
 use Rattle.drive_reports.specs.{Targets.{WholeReport, goal_path, new_tree, old_tree, stale_in}, declared.graft.Graft.Graft, declared.graft.Subtree.Subtree}

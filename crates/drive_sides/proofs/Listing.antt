@@ -144,10 +144,6 @@ new_named s report p first mid after target keeps grafts holds c some =
     grafts c ∙ or_left (is_name_among mid c) (is_name_among (graft_names p report.grafts) c)
     (keeps c (target c (under_target s report.ask p (in_new s report p (above_child (new_tree s report) p c holds some))) (in_new s report (p ++ c ∷ []) some)))
 
-pub if_ok : {T E : Type 0} {P Q : T → Type 0} → ((x : T) → P x → Q x) → (r : Result T E) → IfOk r P → IfOk r Q
-if_ok f (Ok x) p = f x p
-if_ok f (Err e) p = tt
-
 pub if_ok_both : {T E : Type 0} {P Q S : T → Type 0} → ((x : T) → P x → Q x → S x) → (r : Result T E) → IfOk r P → IfOk r Q → IfOk r S
 if_ok_both f (Ok x) p q = f x p q
 if_ok_both f (Err e) p q = tt

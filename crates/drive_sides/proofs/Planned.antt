@@ -9,13 +9,14 @@ use Rattle.repo_api.specs.{Soundness.AreTrees, States.{RepoState, trees_in}, Tre
 use Rattle.drive_rules.specs.{Places.is_in_directory, Scopes.{scope_of, under}}
 use Rattle.drive_wire.specs.Sent.{seen_by}
 use Rattle.drive_news.specs.News.{own_steps_of}
-use Rattle.reporter.specs.{Nesting.AreNested, Visits.IsRightPlan, Walks.BothHold, declared.visit.Visit.Visit, declared.visit.Visit.TheVariants.Open}
+use Rattle.reporter.specs.{Left.{IsRootPlan, IsTopPlan}, Nesting.AreNested, Visits.IsRightPlan, Walks.BothHold, declared.visit.Visit.Visit}
+use Rattle.reporter.specs.declared.visit.Visit.TheVariants.{Open}
 use Rattle.drive_reports.proofs.Drives.{both_hold}
 use Rattle.drive_reports.specs.{Refusing.{OpenState, ◌>>=◌, ok_if, has_goal, has_anchor, finish_root}, Reported.{ReportedEntry, reported_entries}}
 use Rattle.drive_reports.specs.Targets.{WholeReport, client_tree, drive_scope, limit_of, target_tree, reported_tree, old_tree, new_tree, stale_in}
 use Rattle.drive_reports.specs.declared.report.ReportRoot.{ReportRoot}
 use Rattle.drive_reports.specs.Reported as reported
-use Rattle.drive_sides.specs.Plans.{IsPlan, whole}
+use Rattle.drive_sides.specs.Plans.{IsPlan, drive_trees, whole}
 
 -- ---- what is known of a report that has come to its end
 
@@ -80,20 +81,18 @@ pub both_sides : (c : RepoState) (report : WholeReport) → AreTrees c.revisions
 both_sides c report trees = record { old_holds = (both_hold c report trees).0; new_holds = (both_hold c report trees).1 }
 
 -- of the whole tree
-pub root_plan : (c : RepoState) (report : WholeReport) (visits : List Visit) → AreTrees c.revisions → report.ask.target ≡ [] → (BothHold (old_tree c report) (new_tree c report) [] → IsRightFor c report [] (Open [] true ∷ visits))
-    → AreNested (new_tree c report) [] [] visits → IsPlan c report visits
-root_plan c report visits trees is right nests = record {
-  right = subst (λ (t : PathValue). IsRightFor c report t (cond (same_path t []) (Open [] true ∷ visits) visits)) (sym is) (right (subst (BothHold (old_tree c report) (new_tree c report)) is (both_sides c report trees)));
-  nests = subst (λ (t : PathValue). AreNested (new_tree c report) t [] visits) (sym is) nests;
+pub root_plan : (c : RepoState) (report : WholeReport) (visits : List Visit) → AreTrees c.revisions → report.ask.target ≡ [] → IsRootPlan (drive_trees c report) visits → IsPlan c report visits
+root_plan c report visits trees is plan = record {
+  right = subst (λ (t : PathValue). IsRightFor c report t (cond (same_path t []) (Open [] true ∷ visits) visits)) (sym is) (plan.right (subst (BothHold (old_tree c report) (new_tree c report)) is (both_sides c report trees)));
+  nests = subst (λ (t : PathValue). AreNested (new_tree c report) t [] visits) (sym is) plan.nests;
 }
 
 -- of a target
 pub target_plan : (c : RepoState) (report : WholeReport) (visits : List Visit) → AreTrees c.revisions → same_path report.ask.target [] ≡ false
-    → (BothHold (old_tree c report) (new_tree c report) report.ask.target → IsRightFor c report report.ask.target visits)
-    → ((d : PathValue) → is_in_directory report.ask.target d report.ask.target ≡ true → AreNested (new_tree c report) report.ask.target d visits) → IsPlan c report visits
-target_plan c report visits trees apart right nests = record {
-  right = subst (λ b. IsRightFor c report report.ask.target (cond b (Open [] true ∷ visits) visits)) (sym apart) (right (both_sides c report trees));
-  nests = nests [] inside;
+    → IsTopPlan (drive_trees c report) report.ask.target visits → IsPlan c report visits
+target_plan c report visits trees apart plan = record {
+  right = subst (λ b. IsRightFor c report report.ask.target (cond b (Open [] true ∷ visits) visits)) (sym apart) (plan.right (both_sides c report trees));
+  nests = plan.nests [] inside;
 }
   where
     inside : is_in_directory report.ask.target [] report.ask.target ≡ true

@@ -1,11 +1,12 @@
 -- Where both sides are the same.
+use Rattle.drive_sides.specs.{Depths.IsWhole, Plans.drive_trees}
 use Rattle.std.proofs.Common.{◌≡◌, ℕ, Bool, true, false, cond, ◌&&◌, ◌||◌, List, [], ◌∷◌, ◌++◌, length, drop, Option, Some, None, refl, sym, ap, ◌∙◌, subst}
 use Rattle.std.proofs.{Common.option_map, lemmas.List.{append_assoc, append-nil}}
 use Rattle.std.specs.{List.list_any, Prelude.{option_and_then, option_copied}}
 use Rattle.svnpath.specs.{PathLaws.{rest_append, under_append, under_is}, Paths.{Component, is_at_or_under, PathValue}}
 use Rattle.repo_api.specs.{Readings.IsSameAt, States.{RepoState, trees_in}, Trees.Tree, declared.entry.Entry.Entry}
 use Rattle.drive_rules.proofs.{Entries.under_more, Joined.or_false}
-use Rattle.drive_rules.specs.{Scopes.{below, depth_below}, declared.depth.Depth.TheVariants.Infinity}
+use Rattle.drive_rules.specs.Scopes.{below, depth_below}
 use Rattle.reporter.specs.Walks.{AreAlike}
 use Rattle.drive_reports.proofs.Whole.{in_whole}
 use Rattle.drive_reports.specs.{Places.{in_place, is_grafted_over, reported_subtree}, Reported.{ReportedEntry, reported_entries, left_by, reported_as}}
@@ -41,15 +42,15 @@ and_none false b h = refl
 -- where a place is the same as what is to be there, and the client has all of it, with no token that is stale
 pub alike : (s : RepoState) (report : WholeReport) (p : PathValue) (place : ReportedPlace)
     → ((rest : List Component) → is_grafted_over report.grafts p (p ++ rest) ≡ false → client_tree s report (p ++ rest) ≡ in_place (trees_in s.revisions) place rest)
-    → list_any (λ (g : Graft). below p g.path) report.grafts ≡ false → place.starts_empty ≡ false → place.depth ≡ Infinity → IsSameAt s place.revision place.path report.ask.revision (goal_path report.ask p)
-    → is_at_or_under p report.ask.target ≡ true → is_stale s report p ≡ false → AreAlike (old_tree s report) (new_tree s report) (stale_in s report) p
-alike s report p place beneath none full deep equal up fresh q under =
+    → list_any (λ (g : Graft). below p g.path) report.grafts ≡ false → IsWhole place → IsSameAt s place.revision place.path report.ask.revision (goal_path report.ask p)
+    → is_at_or_under p report.ask.target ≡ true → is_stale s report p ≡ false → AreAlike (drive_trees s report) p
+alike s report p place beneath none full equal up fresh q under =
     subst (λ x. (old_tree s report x ≡ new_tree s report x) × (stale_in s report x ≡ false)) (sym (under_is q p under)) (same (drop (length p) q), no_stale (drop (length p) q))
   where
     entry : (rest : List Component) → reported_entries (client_tree s report) (p ++ rest) ≡ target_tree s report.ask (p ++ rest)
     entry rest =
         ap (option_map (λ (h : ReportedEntry). h.entry)) (beneath rest (none_over report.grafts p (p ++ rest) none))
-        ∙ in_whole (trees_in s.revisions) place.path (reported_subtree place.revision place.starts_empty place.depth (option_copied place.token)) rest full deep
+        ∙ in_whole (trees_in s.revisions) place.path (reported_subtree place.revision place.starts_empty place.depth (option_copied place.token)) rest full.0 full.1
         ∙ equal rest
         ∙ ap (trees_in s.revisions report.ask.revision) (sym (goal_more report.ask p rest up))
         ∙ sym (ap (λ b. cond b (trees_in s.revisions report.ask.revision (goal_path report.ask (p ++ rest))) None) (under_more (p ++ rest) p report.ask.target (under_append p rest) up))

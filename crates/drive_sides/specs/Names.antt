@@ -1,5 +1,5 @@
 -- Names of what stands straight beneath a path.
-use Rattle.std.specs.{Prelude.{◌≡◌, Bool, false, List, [], ◌∷◌, ◌++◌, map}, List.list_any}
+use Rattle.std.specs.{Prelude.{◌≡◌, ◌||◌, Bool, false, List, [], ◌∷◌, ◌++◌, map}, List.list_any}
 use Rattle.svnpath.specs.Paths.{Component, PathValue, same_component}
 use Rattle.repo_api.specs.Readings.{names_among}
 use Rattle.drive_reports.specs.declared.graft.Graft.{Graft}
@@ -7,6 +7,11 @@ use Rattle.drive_reports.specs.declared.graft.Graft.{Graft}
 -- the name is one of these
 abbrev pub is_name_among : List Component → Component → Bool
 is_name_among names c = list_any (same_component c) names
+
+-- these names were put among others
+abbrev pub ArePut : List Component → List Component → List Component → Type 0
+ArePut more old new =
+    (c : Component) → is_name_among new c ≡ (is_name_among old c || is_name_among more c)
 
 -- no name is there twice
 abbrev pub AreDistinct : List Component → Type 0

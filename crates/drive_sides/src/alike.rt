@@ -1,6 +1,7 @@
 //! What a client has whole.
-ghost use Rattle.std.specs.Prelude.{◌≡◌, true, false};
+ghost use Rattle.std.specs.Prelude.{◌≡◌, true};
 ghost use Rattle.repo_api.specs.Readings.{IsSameAt};
+ghost use Rattle.drive_sides.specs.Depths.{IsWhole};
 
 use drive_reports::ReportedPlace;
 use drive_rules::Depth;
@@ -9,7 +10,7 @@ use svnpath::Path;
 
 /// Says whether a client has all that exists at a place and beneath it.
 fn is_whole(place: &ReportedPlace<'_>) -> bool
-    ensures { result ≡ true → (place.now.starts_empty ≡ false) × (place.now.depth ≡ Depth.Infinity) }
+    ensures { result ≡ true → IsWhole place.now }
 {
     if place.starts_empty {
         return false;
@@ -30,10 +31,8 @@ pub(crate) fn has_same<R: Repository>(
     revision: u64,
     path: &Path,
 ) -> bool
-    ensures whole { result ≡ true → (place.now.starts_empty ≡ false)
-        × (place.now.depth ≡ Depth.Infinity) }
-    ensures same { result ≡ true → IsSameAt (R.content view.now) place.now.revision
-        place.now.path revision path.now }
+    ensures { result ≡ true → IsWhole place.now
+        × IsSameAt (R.content view.now) place.now.revision place.now.path revision path.now }
 {
     is_whole(place) && view.is_same(place.revision, &place.path, revision, path)
 }

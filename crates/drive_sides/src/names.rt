@@ -1,8 +1,7 @@
 //! The names of what a directory has on either side.
-ghost use Rattle.std.specs.Prelude.{◌≡◌, ◌||◌, IfOk, OnOk, option_copied};
-ghost use Rattle.svnpath.specs.Paths.{Component};
+ghost use Rattle.std.specs.Prelude.{◌≡◌, IfOk, OnOk, option_copied};
 ghost use Rattle.repo_api.specs.Readings.{name_in, names_at};
-ghost use Rattle.drive_sides.specs.Names.{children_of, graft_names, is_name_among, AreDistinct};
+ghost use Rattle.drive_sides.specs.Names.{children_of, graft_names, AreDistinct, ArePut};
 
 use byte_string::ByteString;
 use drive_reports::Graft;
@@ -18,9 +17,8 @@ pub(crate) fn put_names<R: Repository>(
     path: &Path,
     names: &mut BTreeSet<ByteString>,
 ) -> Result<(), AllocError>
-    ensures { OnOk result ((c : Component) → is_name_among names.new.keys c
-        ≡ (is_name_among names.old.keys c
-        || is_name_among (names_at (R.content view.now) revision path.now) c)) }
+    ensures { OnOk result (ArePut (names_at (R.content view.now) revision path.now)
+        names.old.keys names.new.keys) }
 {
     let found = view.names(revision, path)?;
     for name in &found {
@@ -48,8 +46,7 @@ pub(crate) fn put_graft_names(
     path: &Path,
     names: &mut BTreeSet<ByteString>,
 ) -> Result<(), AllocError>
-    ensures { OnOk result ((c : Component) → is_name_among names.new.keys c
-        ≡ (is_name_among names.old.keys c || is_name_among (graft_names path.now grafts.now) c)) }
+    ensures { OnOk result (ArePut (graft_names path.now grafts.now) names.old.keys names.new.keys) }
 {
     for graft in grafts {
         let Some(name) = name_in(path, &graft.path) else {

@@ -3,7 +3,7 @@ ghost use Rattle.std.specs.Prelude.{◌≡◌, true, Option, IfOk};
 ghost use Rattle.svnpath.specs.Paths.{is_at_or_under};
 ghost use Rattle.repo_api.specs.{Kinds.kind_of, declared.entry.Entry.Entry};
 ghost use Rattle.drive_rules.specs.Scopes.{depth_said, includes, includes_child, keeps_reported, own_or_inherited, top_limit};
-ghost use Rattle.drive_reports.specs.{Reported.reported_entries, Targets.{client_tree, drive_scope, limit_of, reported_depth, target_tree}};
+ghost use Rattle.drive_reports.specs.Targets.{client_tree, drive_scope, reported_depth, drive_limit, client_entries, target_entries};
 ghost use Rattle.drive_sides.specs.{OnTrees.on_trees, Plans.whole, Depths.FollowsWholeReport};
 
 use crate::two_trees::TwoTrees;
@@ -68,8 +68,7 @@ fn asks_as_reported(depth: DepthAsked) -> bool
 impl<'a, R: Repository> TwoTrees<'a, R> {
     /// Finds the depth that was reported of a directory.
     fn reported_depth(&self, alloc: Global, path: &Path) -> Result<Option<Depth>, AllocError>
-        ensures { IfOk result (λ depth. depth ≡ reported_depth
-            (on_trees self.now client_tree) path.now) }
+        ensures { IfOk result (λ d. d ≡ reported_depth (on_trees self.now client_tree) path.now) }
     {
         match self.client_place(alloc, path)? {
             None => Ok(None),
@@ -85,8 +84,7 @@ impl<'a, R: Repository> TwoTrees<'a, R> {
 
     /// Finds the depth that was said of a directory.
     fn own_depth(&self, alloc: Global, path: &Path) -> Result<Option<Depth>, AllocError>
-        ensures { IfOk result (λ depth. depth ≡ depth_said (limit_of
-            (on_trees self.now client_tree) self.now.root self.now.report.now.ask.depth) path.now) }
+        ensures { IfOk result (λ d. d ≡ depth_said (on_trees self.now drive_limit) path.now) }
     {
         match self.report.ask.depth {
             DepthAsked::Given(_) => Ok(None),
@@ -96,8 +94,7 @@ impl<'a, R: Repository> TwoTrees<'a, R> {
 
     /// Finds the depth of the top.
     fn top_limit(&self, alloc: Global) -> Result<Depth, AllocError>
-        ensures { IfOk result (λ depth. depth ≡ top_limit (limit_of
-            (on_trees self.now client_tree) self.now.root self.now.report.now.ask.depth)
+        ensures { IfOk result (λ d. d ≡ top_limit (on_trees self.now drive_limit)
             self.now.report.now.ask.target) }
     {
         match self.report.ask.depth {
@@ -113,8 +110,8 @@ impl<'a, R: Repository> TwoTrees<'a, R> {
 
     /// Says whether a drive as deep as was reported is of a path because the client has it.
     fn keeps_reported(&self, old: NodeKind) -> bool
-        ensures { (e : Option Entry) → old ≡ kind_of e → result ≡ keeps_reported (limit_of
-            (on_trees self.now client_tree) self.now.root self.now.report.now.ask.depth) e }
+        ensures { (e : Option Entry) → old ≡ kind_of e
+            → result ≡ keeps_reported (on_trees self.now drive_limit) e }
     {
         match self.report.ask.depth {
             DepthAsked::Given(_) => false,
@@ -124,10 +121,8 @@ impl<'a, R: Repository> TwoTrees<'a, R> {
 
     /// Says whether a directory of this depth lets its child of this path into the scope.
     fn includes(&self, alloc: Global, depth: Depth, child: &Path) -> Result<bool, AllocError>
-        ensures { IfOk result (λ answer. answer ≡ includes (limit_of
-            (on_trees self.now client_tree) self.now.root self.now.report.now.ask.depth)
-            (reported_entries (on_trees self.now client_tree))
-            (target_tree (R.content self.now.view.now) self.now.report.now.ask) depth child.now) }
+        ensures { IfOk result (λ answer. answer ≡ includes (on_trees self.now drive_limit)
+            (on_trees self.now client_entries) (on_trees self.now target_entries) depth child.now) }
     {
         let old = self.client_kind(alloc, child)?;
         let new = self.target_kind(alloc, child)?;

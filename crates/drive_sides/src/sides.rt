@@ -14,7 +14,7 @@ use svnpath::Path;
 impl<'a, R: Repository> TwoTrees<'a, R> {
     ghost use Rattle.std.specs.Prelude.{◌≡◌, ◌∷◌, ◌++◌, [], false, true, is_some, IfOk, OnOk};
     ghost use Rattle.svnpath.specs.Paths.{Component, is_at_or_under};
-    ghost use Rattle.drive_reports.specs.{Places.is_grafted_over, Targets.{client_tree, drive_scope, new_tree, old_tree, target_tree}};
+    ghost use Rattle.drive_reports.specs.{Places.is_grafted_over, Targets.{client_tree, drive_scope, new_tree, old_tree, target_entries}};
     ghost use Rattle.drive_sides.specs.{Names.is_name_among, OnTrees.on_trees};
     ghost use Rattle.drive_news.specs.Places.{Compares};
 
@@ -22,8 +22,8 @@ impl<'a, R: Repository> TwoTrees<'a, R> {
     fn target_names(&self, alloc: Global, path: &Path) -> Result<BTreeSet<ByteString>, AllocError>
         ensures { IfOk result (λ names. (c : Component)
             → is_at_or_under path.now self.now.report.now.ask.target ≡ true
-            → is_some (target_tree (R.content self.now.view.now) self.now.report.now.ask
-            (path.now ++ c ∷ [])) ≡ true → is_name_among names.keys c ≡ true) }
+            → is_some (on_trees self.now target_entries (path.now ++ c ∷ [])) ≡ true
+            → is_name_among names.keys c ≡ true) }
     {
         let ask = &self.report.ask;
         let mut names = BTreeSet::new(alloc);

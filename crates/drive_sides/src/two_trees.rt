@@ -21,9 +21,8 @@ impl<'a, R: Repository> TwoTrees<'a, R> {
     /// Makes the two trees of the drive of a report, over a repository each of whose trees is a tree.
     pub fn new(view: &'a R, report: &'a OpenReport<Grafts>, root: ReportRoot) -> Self
         requires { AreTrees (R.content view.now).revisions }
-        ensures view { result.view.now ≡ view.now }
-        ensures report { result.report.now ≡ report.now }
-        ensures root { result.root ≡ root }
+        ensures { (result.view.now ≡ view.now) × (result.report.now ≡ report.now)
+            × (result.root ≡ root) }
     {
         TwoTrees { view, report, root }
     }

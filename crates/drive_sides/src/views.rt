@@ -1,8 +1,8 @@
 //! What stands on either side, whether the drive is of it or not.
-ghost use Rattle.std.specs.Prelude.{◌≡◌, ◌++◌, [], true, false, List, option_and_then, is_some, IfOk, IfSome};
-ghost use Rattle.svnpath.specs.Paths.{Component, is_at_or_under};
-ghost use Rattle.repo_api.specs.{Kinds.kind_of, States.trees_in};
-ghost use Rattle.drive_reports.specs.{Places.{in_place, is_grafted_over}, Reported.reported_entries, Targets.{client_tree, goal_path, target_tree}};
+ghost use Rattle.std.specs.Prelude.{◌≡◌, true, IfOk};
+ghost use Rattle.svnpath.specs.Paths.{is_at_or_under};
+ghost use Rattle.repo_api.specs.Kinds.{kind_of};
+ghost use Rattle.drive_reports.specs.{Targets.{client_tree, goal_path, client_entries, target_entries}, Places.IsPlacedAt};
 ghost use Rattle.drive_sides.specs.OnTrees.{on_trees};
 
 use crate::two_trees::TwoTrees;
@@ -14,9 +14,8 @@ use svnpath::Path;
 
 /// Gives what a client has at a place.
 pub(crate) fn had_at<'a>(place: &'a ReportedPlace<'_>) -> Had<'a>
-    ensures revision { result.place.revision ≡ place.now.revision }
-    ensures path { result.place.path.now ≡ place.now.path }
-    ensures starts_empty { result.starts_empty ≡ place.now.starts_empty }
+    ensures { (result.place.revision ≡ place.now.revision) × (result.place.path.now ≡ place.now.path)
+        × (result.starts_empty ≡ place.now.starts_empty) }
 {
     Had {
         place: Place {
@@ -34,15 +33,8 @@ impl<'a, R: Repository> TwoTrees<'a, R> {
         alloc: Global,
         path: &Path,
     ) -> Result<Option<ReportedPlace<'a>>, AllocError>
-        ensures here { IfOk result (λ found. on_trees self.now client_tree path.now
-            ≡ option_and_then (λ place.
-            in_place (trees_in (R.content self.now.view.now).revisions) place []) found) }
-        ensures stands { IfOk result (λ found. is_some found ≡ is_some
-            (on_trees self.now client_tree path.now)) }
-        ensures beneath { IfOk result (λ found. (rest : List Component)
-            → is_grafted_over self.now.report.now.grafts path.now (path.now ++ rest) ≡ false
-            → IfSome found (λ place. on_trees self.now client_tree (path.now ++ rest)
-            ≡ in_place (trees_in (R.content self.now.view.now).revisions) place rest)) }
+        ensures { IfOk result (IsPlacedAt (R.content self.now.view.now)
+            (on_trees self.now client_tree) self.now.report.now.grafts path.now) }
     {
         let report = self.report;
         reported_at(
@@ -56,8 +48,7 @@ impl<'a, R: Repository> TwoTrees<'a, R> {
 
     /// Finds the kind of what the client has at a path.
     pub(crate) fn client_kind(&self, alloc: Global, path: &Path) -> Result<NodeKind, AllocError>
-        ensures { IfOk result (λ kind. kind ≡ kind_of (reported_entries
-            (on_trees self.now client_tree) path.now)) }
+        ensures { IfOk result (λ kind. kind ≡ kind_of (on_trees self.now client_entries path.now)) }
     {
         match self.client_place(alloc, path)? {
             None => Ok(NodeKind::Absent),
@@ -76,8 +67,7 @@ impl<'a, R: Repository> TwoTrees<'a, R> {
 
     /// Finds the kind of what is to exist at a path.
     pub(crate) fn target_kind(&self, alloc: Global, path: &Path) -> Result<NodeKind, AllocError>
-        ensures { IfOk result (λ kind. kind ≡ kind_of (target_tree
-            (R.content self.now.view.now) self.now.report.now.ask path.now)) }
+        ensures { IfOk result (λ kind. kind ≡ kind_of (on_trees self.now target_entries path.now)) }
     {
         let ask = &self.report.ask;
         if !path.is_at_or_under(ask.target.as_path()) {

@@ -77,15 +77,21 @@ tokens_added tokens token opened None = with_token tokens token opened
 tokens_added tokens token opened (Some source) =
     others_closed_beneath (with_token tokens token opened) (path_of opened) token
 
--- the entry is added, and opened under its token
+-- an entry is added at this path, new or a copy of this source, and opened under its token
+abbrev pub AddsAt : RepoState → EditState → Bool → AddedEntry → PathValue → Option Source
+    → EditState → Type 0
+AddsAt c old is_file entry p source new =
+    Edits c old (added_edit is_file (standing old.txn p) p source)
+    (tokens_added old.tokens entry.token (added_opened is_file p source) source) new
+
+-- the entry is added
 pub record Adds (c : RepoState) (old : EditState) (is_file : Bool) (entry : AddedEntry)
     (new : EditState) : Type 0 where
   pub path : PathValue
   pub is_path : joined old.path entry.path ≡ Ok path
   pub source : Option Source
   pub is_source : source_of old.name entry.source ≡ Ok source
-  pub edits : Edits c old (added_edit is_file (standing old.txn path) path source)
-      (tokens_added old.tokens entry.token (added_opened is_file path source) source) new
+  pub edits : AddsAt c old is_file entry path source new
 
 abbrev pub property_edit : PathValue → List ℕ → Option (List ℕ) → EditOp
 property_edit p name None = edits.RemoveProperty p name

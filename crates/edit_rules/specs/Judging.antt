@@ -1,9 +1,11 @@
 -- What the judging of a command answers.
-use Rattle.std.specs.Prelude.{◌≡◌, Option, Some, None, Result, Ok, Err}
-use Rattle.svnpath.specs.declared.fault.PathFault.{PathFault}
+use Rattle.std.specs.Prelude.{◌≡◌, Bool, Option, Some, None, OnErr, OnOk, Result, Ok, Err}
+use Rattle.svnpath.specs.{Paths.PathValue, declared.fault.PathFault.PathFault}
 use Rattle.refusals.specs.{declared.Refusal.Refusal, Faults.IfRefusedBy, declared.fault.NotDone.NotDone}
 use Rattle.refusals.specs.declared.fault.NotDone.TheVariants as faults
-use Rattle.edit_rules.specs.{Edits.EditState, Refusing.path_fault, Editor.given_up}
+use Rattle.repo_api.specs.{States.RepoState, declared.change.Source.Source}
+use Rattle.wire_edits.specs.{declared.editing.AddedEntry.AddedEntry, declared.editing.EditorCommand.EditorCommand}
+use Rattle.edit_rules.specs.{Edits.EditState, Refusing.{add_at_refusal, command_refusal, path_fault}, Editor.{AddsAt, Applies, given_up}}
 
 -- it goes on where nothing is refused, and ends by what is
 abbrev pub Judges : {T : Type 0} → Result T NotDone → Option Refusal → Type 0
@@ -20,3 +22,22 @@ Names (Err fault) wanted = IfRefusedBy fault (λ r. path_fault wanted ≡ Some r
 abbrev pub Leaves : EditState → NotDone → EditState → Type 0
 Leaves old (faults.Refused r) new = given_up new ≡ given_up old
 Leaves old faults.NoMemory new = new ≡ old
+
+-- it is done where nothing is refused; where something is, or memory runs out, the edit stays as it
+-- was
+abbrev pub DoneUnless : {T : Type 0} → Result T NotDone → Option Refusal → EditState
+    → (EditState → Type 0) → EditState → Type 0
+DoneUnless r refusal old does new = Judges r refusal × OnOk r (does new) × OnErr r (new ≡ old)
+
+-- so is what a command does
+abbrev pub CarriesOut : {T : Type 0} → Result T NotDone → RepoState → EditState → EditorCommand
+    → EditState → Type 0
+CarriesOut r c old command new =
+    DoneUnless r (command_refusal c old command) old (Applies c old command) new
+
+-- so is an entry added at this path, new or a copy of this source
+abbrev pub CarriesOutAdding : {T : Type 0} → Result T NotDone → RepoState → EditState → Bool
+    → AddedEntry → PathValue → Option Source → EditState → Type 0
+CarriesOutAdding r c old is_file entry p source new =
+    DoneUnless r (add_at_refusal c old is_file entry p source) old
+    (AddsAt c old is_file entry p source) new

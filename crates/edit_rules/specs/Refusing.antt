@@ -168,14 +168,19 @@ adding_refusal c e is_file entry p (Some source) =
     first (room_refusal (copies_under e.tokens entry.parent) (standing e.txn p))
     (source_refusal c is_file p source)
 
+-- at the path that is named, from the source that is, if one is
+abbrev pub add_at_refusal : RepoState → EditState → Bool → AddedEntry → PathValue → Option Source
+    → Option Refusal
+add_at_refusal c e is_file entry p source =
+    first (place_refusal e entry.parent entry.token p) (adding_refusal c e is_file entry p source)
+
 -- a directory or a file, new or a copy
 abbrev pub add_entry_refusal : RepoState → EditState → Bool → AddedEntry
     → Result PathValue PathFault
     → Result (Option Source) PathFault → Option Refusal
 add_entry_refusal c e is_file entry (Err fault) source = Some (path_refusal fault)
 add_entry_refusal c e is_file entry (Ok p) (Err fault) = Some (path_refusal fault)
-add_entry_refusal c e is_file entry (Ok p) (Ok source) =
-    first (place_refusal e entry.parent entry.token p) (adding_refusal c e is_file entry p source)
+add_entry_refusal c e is_file entry (Ok p) (Ok source) = add_at_refusal c e is_file entry p source
 
 abbrev pub open_directory_refusal : EditState → OpenedEntry → Result PathValue PathFault
     → Option Refusal

@@ -4,7 +4,7 @@ use Rattle.svndiff0.specs.Applying.{HasRead}
 use Rattle.svnpath.specs.{Components.IsRightPath, Paths.PathValue}
 use Rattle.repo_api.specs.{RightEdits.IsRightEdit, States.{RepoState, tree_of, trees_in, TxnState}, Transactions.IsMarkedTxn}
 use Rattle.repo_api.specs.{Trees.{HasDirectory, HasFile, IsTree, Tree}, declared.edit.EditOp.EditOp}
-use Rattle.edit_rules.specs.{Tokens.Tokens, Edits.EditState, declared.opened.DeltaState.DeltaState}
+use Rattle.edit_rules.specs.{Tokens.Tokens, Editor.RestsOn, Edits.EditState, declared.opened.DeltaState.DeltaState}
 use Rattle.edit_rules.specs.{declared.opened.DeltaState.TheVariants.{NotBegun, Reading, Ended}, declared.opened.Opened.Opened}
 use Rattle.edit_rules.specs.declared.opened.Opened.TheVariants.{Directory, File}
 
@@ -29,6 +29,10 @@ IsSoundIn path (Some t) tokens =
 
 abbrev pub IsSoundEdit : EditState → Type 0
 IsSoundEdit e = IsSoundIn e.path e.txn e.tokens
+
+-- so it is of an edit that rests on this repository
+abbrev pub IsSoundOn : EditState → RepoState → Type 0
+IsSoundOn e c = RestsOn e c × IsSoundEdit e
 
 -- there is a transaction, in which the edit may be made
 abbrev pub IsRightIn : RepoState → Option TxnState → EditOp → Type 0

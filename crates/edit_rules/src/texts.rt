@@ -2,7 +2,7 @@
 ghost use Rattle.std.specs.Prelude.{◌≡◌, Some, Ok, IfOk};
 ghost use Rattle.svnpath.specs.Paths.{PathValue};
 ghost use Rattle.svndiff0.specs.{Applying.Applying, Document.outcome};
-ghost use Rattle.edit_rules.specs.{Texts.SetsText, Tokens.opened_under, Refusing.end_delta_refusal, Judging.Judges};
+ghost use Rattle.edit_rules.specs.{Texts.MakesTextEdit, Tokens.opened_under, Refusing.end_delta_refusal, Judging.Judges};
 
 use crate::opened::{DeltaState, Opened};
 use byte_string::ByteString;
@@ -17,8 +17,7 @@ pub fn text_edit_under(
     tokens: &mut BTreeMap<ByteString, Opened>,
     token: &ByteString,
 ) -> Result<EditOp, NotDone>
-    ensures judged { Judges result (end_delta_refusal (opened_under tokens.old.entries token.now)) }
-    ensures op { IfOk result (λ op. SetsText (opened_under tokens.old.entries token.now) op) }
+    ensures op { MakesTextEdit result (opened_under tokens.old.entries token.now) }
     ensures same { tokens.new.entries ≡ tokens.old.entries }
 {
     match tokens.get_mut(token) {
@@ -29,8 +28,7 @@ pub fn text_edit_under(
 
 /// Makes the edit of a text by a file's text delta.
 fn text_edit(opened: &mut Opened) -> Result<EditOp, NotDone>
-    ensures judged { Judges result (end_delta_refusal (Some opened.old)) }
-    ensures op { IfOk result (λ op. SetsText (Some opened.old) op) }
+    ensures op { MakesTextEdit result (Some opened.old) }
     ensures same { opened.new ≡ opened.old }
 {
     match opened {

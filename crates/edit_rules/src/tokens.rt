@@ -3,7 +3,7 @@ ghost use Rattle.std.specs.Prelude.{◌≡◌, Some, OnOk, IfErr, option_copied}
 ghost use Rattle.svnpath.specs.Paths.{PathValue};
 ghost use Rattle.svndiff0.specs.Applying.{Applying, fed};
 ghost use Rattle.edit_rules.specs.Tokens.{opened_under, directory_of, copies_under, with_change, closed_beneath, others_closed_beneath, has_unfinished};
-ghost use Rattle.edit_rules.specs.{Refusing.chunk_refusal, Judging.Judges};
+ghost use Rattle.edit_rules.specs.{Refusing.chunk_refusal, Judging.Judges, Texts.ReadsBytes};
 ghost use Rattle.refusals.specs.Faults.{IfNoMemory};
 
 use crate::opened::{DeltaState, Opened};
@@ -85,14 +85,9 @@ pub fn feed_under(
     token: &ByteString,
     bytes: &[u8],
 ) -> Result<(), NotDone>
-    ensures judged { Judges result (chunk_refusal bytes.now
-        (opened_under tokens.old.entries token.now)) }
-    ensures ok { OnOk result ((p : PathValue) × (a : Applying)
-        × (opened_under tokens.old.entries token.now ≡ Some (Opened.File p (DeltaState.Reading a)))
-        × (tokens.new.entries ≡ with_change tokens.old.entries token.now
-        (Opened.File p (DeltaState.Reading (fed a bytes.now))))) }
-    ensures err { IfErr result (λ fault. IfNoMemory fault
-        (tokens.new.entries ≡ tokens.old.entries)) }
+    ensures { ReadsBytes result bytes.now (opened_under tokens.old.entries token.now)
+        (λ o. tokens.new.entries ≡ with_change tokens.old.entries token.now o)
+        (tokens.new.entries ≡ tokens.old.entries) }
 {
     let mut fed = Err(NotDone::Refused(Refusal::MalformedData));
     if let Some(opened) = tokens.get_mut(token) {
@@ -103,11 +98,8 @@ pub fn feed_under(
 
 /// Reads the next bytes of a file's text delta.
 fn feed_opened(opened: &mut Opened, bytes: &[u8]) -> Result<(), NotDone>
-    ensures judged { Judges result (chunk_refusal bytes.now (Some opened.old)) }
-    ensures ok { OnOk result ((p : PathValue) × (a : Applying)
-        × (opened.old ≡ Opened.File p (DeltaState.Reading a))
-        × (opened.new ≡ Opened.File p (DeltaState.Reading (fed a bytes.now)))) }
-    ensures err { IfErr result (λ fault. IfNoMemory fault (opened.new ≡ opened.old)) }
+    ensures { ReadsBytes result bytes.now (Some opened.old) (λ o. opened.new ≡ o)
+        (opened.new ≡ opened.old) }
 {
     match opened {
         Opened::File(_, delta) => feed(delta, bytes),

@@ -1,10 +1,9 @@
 //! Texts of files.
-ghost use Rattle.std.specs.{Prelude.{◌≡◌, Some, OnOk, OnErr, IfOk, IfErr, Ok, is_some, true}, Arc.arc_value};
+ghost use Rattle.std.specs.{Prelude.{◌≡◌, Some, OnOk, IfOk, IfErr}, Arc.arc_value};
 ghost use Rattle.svnpath.specs.Paths.{PathValue};
-ghost use Rattle.edit_rules.specs.{Editor.{BeginsDelta, Closes, EndsDelta, FeedsDelta, ReadsUnder, RestsOn, Under, unread}, Edits.file_text};
-ghost use Rattle.edit_rules.specs.{Judging.{Judges, Leaves}, Refusing.{begin_delta_refusal, checksum_refusal, chunk_refusal, close_file_refusal}};
-ghost use Rattle.edit_rules.specs.{Refusing.{closed_text_refusal, end_delta_refusal, open_under}, Soundness.IsSoundEdit, Texts.SetsText};
-ghost use Rattle.edit_rules.specs.Tokens.{opened_under, path_of, with_change};
+ghost use Rattle.edit_rules.specs.{Editor.{FeedsDelta, RestsOn}, Edits.file_text, Judging.{CarriesOut, Judges, Leaves}, Soundness.IsSoundOn};
+ghost use Rattle.edit_rules.specs.Texts.{MakesTextEdit};
+ghost use Rattle.edit_rules.specs.Refusing.{begin_delta_refusal, checksum_refusal, chunk_refusal, close_file_refusal, closed_text_refusal, open_under};
 
 use crate::editor::CommitEditor;
 use byte_string::ByteString;
@@ -16,6 +15,7 @@ use repo_api::{EditOp, FileText, Repository};
 use std::sync::Arc;
 use svndiff0::Applier;
 use svnpath::Path;
+use wire_edits::EditorCommand;
 
 impl<R: Repository> CommitEditor<R> {
     /// Begins a text delta over a file's text.
@@ -26,10 +26,8 @@ impl<R: Repository> CommitEditor<R> {
         repository: &R,
     ) -> Result<(), NotDone>
         requires { RestsOn self.old (R.content repository.now) }
-        ensures judged { Judges result (begin_delta_refusal self.old checksum.now
-            (open_under self.old token.now)) }
-        ensures ok { OnOk result (BeginsDelta self.old token.now self.new) }
-        ensures err { OnErr result (self.new ≡ self.old) }
+        ensures { CarriesOut result (R.content repository.now) self.old
+            (EditorCommand.ApplyTextDelta token.now checksum.now) self.new }
     {
         let base = self.base_under(token, checksum, repository)?;
         set_delta(
@@ -89,12 +87,9 @@ impl<R: Repository> CommitEditor<R> {
 
     /// Ends a text delta: its text is the file's.
     pub(crate) fn end_delta(&mut self, token: &ByteString, repository: &R) -> Result<(), NotDone>
-        requires rests { RestsOn self.old (R.content repository.now) }
-        requires sound { IsSoundEdit self.old }
-        ensures judged { Judges result (end_delta_refusal (open_under self.old token.now)) }
-        ensures ok { OnOk result (EndsDelta
-            (R.content repository.now) self.old token.now self.new) }
-        ensures err { OnErr result (self.new ≡ self.old) }
+        requires { IsSoundOn self.old (R.content repository.now) }
+        ensures { CarriesOut result (R.content repository.now) self.old
+            (EditorCommand.TextDeltaEnd token.now) self.new }
     {
         let op = self.text_edit(token)?;
         edits_are_right();
@@ -105,8 +100,7 @@ impl<R: Repository> CommitEditor<R> {
 
     /// Makes the edit of a text by the delta that is being read under the token. The text is not copied.
     fn text_edit(&mut self, token: &ByteString) -> Result<EditOp, NotDone>
-        ensures judged { Judges result (end_delta_refusal (open_under self.old token.now)) }
-        ensures op { IfOk result (λ op. SetsText (open_under self.old token.now) op) }
+        ensures op { MakesTextEdit result (open_under self.old token.now) }
         ensures same { self.new ≡ self.old }
     {
         if self.txn.is_none() {
@@ -123,10 +117,8 @@ impl<R: Repository> CommitEditor<R> {
         repository: &R,
     ) -> Result<(), NotDone>
         requires { RestsOn self.old (R.content repository.now) }
-        ensures judged { Judges result (close_file_refusal self.old checksum.now
-            (open_under self.old token.now)) }
-        ensures ok { OnOk result (Closes self.old token.now self.new) }
-        ensures err { OnErr result (self.new ≡ self.old) }
+        ensures { CarriesOut result (R.content repository.now) self.old
+            (EditorCommand.CloseFile token.now checksum.now) self.new }
     {
         self.judge_file_token(token, checksum, repository)?;
         self.tokens.remove(token);

@@ -1,7 +1,7 @@
 //! The editor of a commit.
 ghost use Rattle.std.specs.{Prelude.{◌≡◌, Ok, Err, None, OnOk, IfOk, IfErr, MatchResult, string_bytes}, Arc.arc_value};
 ghost use Rattle.edit_rules.specs.{Editor.{Applies, finished, given_up, NotApplied, RestsOn}, Edits.{created, file_text, new_edit, standing}};
-ghost use Rattle.edit_rules.specs.{Judging.{Judges, Leaves}, Refusing.{before_root, edit_refusal}, Soundness.IsSoundEdit};
+ghost use Rattle.edit_rules.specs.{Judging.{Judges, Leaves}, Refusing.{before_root, edit_refusal}, Soundness.{IsSoundEdit, IsSoundOn}};
 
 use crate::room::EDIT_LIMIT;
 use byte_string::ByteString;
@@ -93,8 +93,7 @@ impl<R: Repository> CommitEditor<R> {
 
     /// Carries a command out, unless the edit was given up.
     fn carry_out(&mut self, command: &EditorCommand, repository: &R) -> Result<(), NotDone>
-        requires rests { RestsOn self.old (R.content repository.now) }
-        requires sound { IsSoundEdit self.old }
+        requires { IsSoundOn self.old (R.content repository.now) }
         ensures judged { Judges result (edit_refusal
             (R.content repository.now) self.old command.now) }
         ensures ok { OnOk result (Applies

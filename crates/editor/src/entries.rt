@@ -1,10 +1,11 @@
 //! Entries of a commit: what is opened, added, deleted and closed.
 ghost use Rattle.std.specs.Prelude.{◌≡◌, Ok, None, Some, OnOk, OnErr, IfOk, IfErr, is_some, true, option_copied, if◌then◌else◌};
 ghost use Rattle.svnpath.specs.Texts.{joined};
-ghost use Rattle.edit_rules.specs.Editor.{added_edit, added_opened, Adds, Closes, copy_edit, Edits, Named, opened_directory, Opens, OpensRoot, RestsOn};
-ghost use Rattle.edit_rules.specs.{Editor.tokens_added, Edits.standing, Judging.{Judges, Leaves}, Refusing.{absent_refusal, add_entry_refusal, add_refusal}};
-ghost use Rattle.edit_rules.specs.Refusing.{close_directory_refusal, delete_entry_refusal, first, open_directory_refusal, open_file_refusal, open_root_refusal};
-ghost use Rattle.edit_rules.specs.{Refusing.{open_under, parent_refusal, place_refusal, source_of, source_refusal}, Soundness.{IsRightIn, IsSoundEdit}};
+ghost use Rattle.edit_rules.specs.{Editor.{Adds, Closes, copy_edit, Edits, opened_directory, Opens, RestsOn}, Edits.standing};
+ghost use Rattle.edit_rules.specs.{Judging.{CarriesOut, CarriesOutAdding, DoneUnless, Judges}, Refusing.{absent_refusal, add_at_refusal, add_entry_refusal}};
+ghost use Rattle.edit_rules.specs.Refusing.{add_refusal, close_directory_refusal, delete_entry_refusal, first, open_directory_refusal, open_file_refusal};
+ghost use Rattle.edit_rules.specs.Refusing.{open_root_refusal, open_under, parent_refusal, place_refusal, source_of, source_refusal};
+ghost use Rattle.edit_rules.specs.Soundness.{IsRightIn, IsSoundOn};
 ghost use Rattle.edit_rules.specs.Tokens.{closed_beneath, copies_under, directory_of, is_placed, is_within, opened_under, with_token};
 
 use crate::editor::CommitEditor;
@@ -18,7 +19,7 @@ use refusals::{NotDone, Refusal};
 use repo_api::{EditOp, NodeKind, Repository, Source};
 use std::alloc::AllocError;
 use svnpath::{DEPTH_LIMIT, Path};
-use wire_edits::{AbsentEntry, AddedEntry, DeletedEntry, OpenedEntry};
+use wire_edits::{AbsentEntry, AddedEntry, DeletedEntry, EditorCommand, OpenedEntry};
 
 /// Makes a directory that is open.
 fn opened_directory(path: Path, revision: Option<u64>, in_copy: bool) -> Opened
@@ -106,10 +107,8 @@ impl<R: Repository> CommitEditor<R> {
         token: &ByteString,
         repository: &R,
     ) -> Result<(), NotDone>
-        ensures judged { Judges result (open_root_refusal (R.content repository.now) self.old) }
-        ensures ok { OnOk result (OpensRoot
-            (R.content repository.now) self.old revision token.now self.new) }
-        ensures err { OnErr result (self.new ≡ self.old) }
+        ensures { CarriesOut result (R.content repository.now) self.old
+            (EditorCommand.OpenRoot revision token.now) self.new }
     {
         self.judge_root(repository)?;
         let token = token.clone()?;
@@ -138,14 +137,11 @@ impl<R: Repository> CommitEditor<R> {
         entry: &AddedEntry,
         repository: &R,
     ) -> Result<(), NotDone>
-        requires rests { RestsOn self.old (R.content repository.now) }
-        requires sound { IsSoundEdit self.old }
-        ensures judged { Judges result (add_entry_refusal
-            (R.content repository.now) self.old is_file entry.now
-            (joined self.old.path entry.now.path) (source_of self.old.name entry.now.source)) }
-        ensures ok { OnOk result (Adds
-            (R.content repository.now) self.old is_file entry.now self.new) }
-        ensures err { OnErr result (self.new ≡ self.old) }
+        requires { IsSoundOn self.old (R.content repository.now) }
+        ensures { DoneUnless result
+            (add_entry_refusal (R.content repository.now) self.old is_file entry.now
+            (joined self.old.path entry.now.path) (source_of self.old.name entry.now.source))
+            self.old (Adds (R.content repository.now) self.old is_file entry.now) self.new }
     {
         let path = path_named(self.alloc, &self.path, &entry.path)?;
         let source = source_named(self.alloc, self.name.as_str(), &entry.source)?;
@@ -163,16 +159,10 @@ impl<R: Repository> CommitEditor<R> {
         source: &Option<Source>,
         repository: &R,
     ) -> Result<(), NotDone>
-        requires rests { RestsOn self.old (R.content repository.now) }
-        requires sound { IsSoundEdit self.old }
+        requires sound { IsSoundOn self.old (R.content repository.now) }
         requires named { joined self.old.path entry.now.path ≡ Ok path.now }
-        ensures judged { Judges result (add_entry_refusal
-            (R.content repository.now) self.old is_file entry.now (Ok path.now)
-            (Ok source.now)) }
-        ensures ok { OnOk result (Edits (R.content repository.now) self.old
-            (added_edit is_file (standing self.old.txn path.now) path.now source.now)
-            (tokens_added self.old.tokens entry.now.token (added_opened is_file path.now source.now) source.now) self.new) }
-        ensures err { OnErr result (self.new ≡ self.old) }
+        ensures { CarriesOutAdding result (R.content repository.now) self.old is_file entry.now
+            path.now source.now self.new }
     {
         match source {
             None => self.add_new(is_file, entry, path, repository),
@@ -188,15 +178,10 @@ impl<R: Repository> CommitEditor<R> {
         path: &Path,
         repository: &R,
     ) -> Result<(), NotDone>
-        requires rests { RestsOn self.old (R.content repository.now) }
-        requires sound { IsSoundEdit self.old }
+        requires sound { IsSoundOn self.old (R.content repository.now) }
         requires named { joined self.old.path entry.now.path ≡ Ok path.now }
-        ensures judged { Judges result (add_entry_refusal
-            (R.content repository.now) self.old is_file entry.now (Ok path.now) (Ok None)) }
-        ensures ok { OnOk result (Edits (R.content repository.now) self.old
-            (added_edit is_file (standing self.old.txn path.now) path.now None)
-            (with_token self.old.tokens entry.now.token (added_opened is_file path.now None)) self.new) }
-        ensures err { OnErr result (self.new ≡ self.old) }
+        ensures { CarriesOutAdding result (R.content repository.now) self.old is_file entry.now
+            path.now None self.new }
     {
         self.judge_new(entry, path, repository)?;
         edits_are_right();
@@ -232,16 +217,10 @@ impl<R: Repository> CommitEditor<R> {
         source: &Source,
         repository: &R,
     ) -> Result<(), NotDone>
-        requires rests { RestsOn self.old (R.content repository.now) }
-        requires sound { IsSoundEdit self.old }
+        requires sound { IsSoundOn self.old (R.content repository.now) }
         requires named { joined self.old.path entry.now.path ≡ Ok path.now }
-        ensures judged { Judges result (add_entry_refusal
-            (R.content repository.now) self.old is_file entry.now (Ok path.now)
-            (Ok (Some source.now))) }
-        ensures ok { OnOk result (Edits (R.content repository.now) self.old
-            (copy_edit (standing self.old.txn path.now) path.now source.now)
-            (tokens_added self.old.tokens entry.now.token (added_opened is_file path.now (Some source.now)) (Some source.now)) self.new) }
-        ensures err { OnErr result (self.new ≡ self.old) }
+        ensures { CarriesOutAdding result (R.content repository.now) self.old is_file entry.now
+            path.now (Some source.now) self.new }
     {
         self.judge_copy(is_file, entry, path, source, repository)?;
         edits_are_right();
@@ -263,9 +242,8 @@ impl<R: Repository> CommitEditor<R> {
         repository: &R,
     ) -> Result<(), NotDone>
         requires { RestsOn self.now (R.content repository.now) }
-        ensures { Judges result (add_entry_refusal
-            (R.content repository.now) self.now is_file entry.now (Ok path.now)
-            (Ok (Some source.now))) }
+        ensures { Judges result (add_at_refusal (R.content repository.now) self.now is_file entry.now
+            path.now (Some source.now)) }
     {
         self.judge_place(&entry.parent, &entry.token, path)?;
         judge_room(
@@ -339,14 +317,9 @@ impl<R: Repository> CommitEditor<R> {
         entry: &DeletedEntry,
         repository: &R,
     ) -> Result<(), NotDone>
-        requires rests { RestsOn self.old (R.content repository.now) }
-        requires sound { IsSoundEdit self.old }
-        ensures judged { Judges result (delete_entry_refusal self.old entry.now
-            (joined self.old.path entry.now.path)) }
-        ensures ok { OnOk result (Named self.old entry.now.path (λ p. Edits
-            (R.content repository.now) self.old (EditOp.Delete p)
-            (closed_beneath self.old.tokens p) self.new)) }
-        ensures err { OnErr result (self.new ≡ self.old) }
+        requires { IsSoundOn self.old (R.content repository.now) }
+        ensures { CarriesOut result (R.content repository.now) self.old
+            (EditorCommand.DeleteEntry entry.now) self.new }
     {
         let path = path_named(self.alloc, &self.path, &entry.path)?;
         self.delete_at(entry, &path, repository)?;
@@ -361,12 +334,10 @@ impl<R: Repository> CommitEditor<R> {
         path: &Path,
         repository: &R,
     ) -> Result<(), NotDone>
-        requires rests { RestsOn self.old (R.content repository.now) }
-        requires sound { IsSoundEdit self.old }
-        ensures judged { Judges result (delete_entry_refusal self.old entry.now (Ok path.now)) }
-        ensures ok { OnOk result (Edits (R.content repository.now) self.old (EditOp.Delete path.now)
-            (closed_beneath self.old.tokens path.now) self.new) }
-        ensures err { OnErr result (self.new ≡ self.old) }
+        requires { IsSoundOn self.old (R.content repository.now) }
+        ensures { DoneUnless result (delete_entry_refusal self.old entry.now (Ok path.now)) self.old
+            (Edits (R.content repository.now) self.old (EditOp.Delete path.now)
+            (closed_beneath self.old.tokens path.now)) self.new }
     {
         self.judge_delete(entry, path, repository)?;
         edits_are_right();
@@ -398,13 +369,8 @@ impl<R: Repository> CommitEditor<R> {
         repository: &R,
     ) -> Result<(), NotDone>
         requires { RestsOn self.old (R.content repository.now) }
-        ensures judged { Judges result (open_directory_refusal self.old entry.now
-            (joined self.old.path entry.now.path)) }
-        ensures ok { OnOk result (Named self.old entry.now.path (λ p. Opens self.old entry.now.token
-            (Opened.Directory (opened_directory p entry.now.revision
-            (copies_under self.old.tokens entry.now.parent)))
-            self.new)) }
-        ensures err { OnErr result (self.new ≡ self.old) }
+        ensures { CarriesOut result (R.content repository.now) self.old
+            (EditorCommand.OpenDirectory entry.now) self.new }
     {
         let path = path_named(self.alloc, &self.path, &entry.path)?;
         self.judge_open_directory(entry, &path, repository)?;
@@ -434,11 +400,8 @@ impl<R: Repository> CommitEditor<R> {
     /// Opens a file.
     pub(crate) fn open_file(&mut self, entry: &OpenedEntry, repository: &R) -> Result<(), NotDone>
         requires { RestsOn self.old (R.content repository.now) }
-        ensures judged { Judges result (open_file_refusal self.old entry.now
-            (joined self.old.path entry.now.path)) }
-        ensures ok { OnOk result (Named self.old entry.now.path
-            (λ p. Opens self.old entry.now.token (Opened.File p DeltaState.NotBegun) self.new)) }
-        ensures err { OnErr result (self.new ≡ self.old) }
+        ensures { CarriesOut result (R.content repository.now) self.old
+            (EditorCommand.OpenFile entry.now) self.new }
     {
         let path = path_named(self.alloc, &self.path, &entry.path)?;
         self.judge_open_file(entry, &path, repository)?;
@@ -480,9 +443,8 @@ impl<R: Repository> CommitEditor<R> {
 
     /// Closes a directory.
     pub(crate) fn close_directory(&mut self, token: &ByteString) -> Result<(), NotDone>
-        ensures judged { Judges result (close_directory_refusal (open_under self.old token.now)) }
-        ensures ok { OnOk result (Closes self.old token.now self.new) }
-        ensures err { OnErr result (self.new ≡ self.old) }
+        ensures { DoneUnless result (close_directory_refusal (open_under self.old token.now)) self.old
+            (Closes self.old token.now) self.new }
     {
         self.judge_directory_token(token)?;
         self.tokens.remove(token);

@@ -1,7 +1,7 @@
 //! Properties of entries.
-ghost use Rattle.std.specs.Prelude.{◌≡◌, Some, OnOk, OnErr, IfOk, option_copied};
-ghost use Rattle.edit_rules.specs.{Editor.{ChangesProperty, property_edit, RestsOn}, Judging.Judges};
-ghost use Rattle.edit_rules.specs.{Refusing.{directory_property_refusal, file_property_refusal, open_under}, Soundness.IsSoundEdit, Tokens.path_of};
+ghost use Rattle.std.specs.Prelude.{◌≡◌, Some, IfOk};
+ghost use Rattle.edit_rules.specs.{Editor.{property_edit, RestsOn}, Judging.{CarriesOut, Judges}};
+ghost use Rattle.edit_rules.specs.{Refusing.{directory_property_refusal, file_property_refusal, open_under}, Soundness.IsSoundOn, Tokens.path_of};
 
 use crate::editor::CommitEditor;
 use byte_string::ByteString;
@@ -10,7 +10,7 @@ use refusals::{NotDone, Refusal};
 use repo_api::{EditOp, Repository};
 use std::alloc::AllocError;
 use svnpath::Path;
-use wire_edits::PropertyChange;
+use wire_edits::{EditorCommand, PropertyChange};
 
 impl<R: Repository> CommitEditor<R> {
     /// Changes a property of a directory.
@@ -19,13 +19,9 @@ impl<R: Repository> CommitEditor<R> {
         change: &PropertyChange,
         repository: &R,
     ) -> Result<(), NotDone>
-        requires rests { RestsOn self.old (R.content repository.now) }
-        requires sound { IsSoundEdit self.old }
-        ensures judged { Judges result (directory_property_refusal self.old.txn change.now.name
-            (open_under self.old change.now.token)) }
-        ensures ok { OnOk result (ChangesProperty
-            (R.content repository.now) self.old change.now self.new) }
-        ensures err { OnErr result (self.new ≡ self.old) }
+        requires { IsSoundOn self.old (R.content repository.now) }
+        ensures { CarriesOut result (R.content repository.now) self.old
+            (EditorCommand.ChangeDirectoryProperty change.now) self.new }
     {
         let op = self.directory_property(&change.token, change, repository)?;
         edits_are_right();
@@ -66,13 +62,9 @@ impl<R: Repository> CommitEditor<R> {
         change: &PropertyChange,
         repository: &R,
     ) -> Result<(), NotDone>
-        requires rests { RestsOn self.old (R.content repository.now) }
-        requires sound { IsSoundEdit self.old }
-        ensures judged { Judges result (file_property_refusal change.now.name
-            (open_under self.old change.now.token)) }
-        ensures ok { OnOk result (ChangesProperty
-            (R.content repository.now) self.old change.now self.new) }
-        ensures err { OnErr result (self.new ≡ self.old) }
+        requires { IsSoundOn self.old (R.content repository.now) }
+        ensures { CarriesOut result (R.content repository.now) self.old
+            (EditorCommand.ChangeFileProperty change.now) self.new }
     {
         let op = self.file_property(&change.token, change)?;
         edits_are_right();

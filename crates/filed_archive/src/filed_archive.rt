@@ -1,6 +1,6 @@
 //! A repository in files that a keeper alone changes.
 ghost use Rattle.std.specs.Prelude.{◌≡◌, false};
-ghost use Rattle.store_files.specs.Folders.{Folder};
+ghost use Rattle.repostore.specs.Saving.{Stands};
 ghost use Rattle.store_access.specs.Keeping.{Keeps, HasRepository};
 
 use repostore::Saves;
@@ -12,7 +12,7 @@ use store_files::Store;
 pub struct FiledArchive<F: Filed, S: Store> {
     pub(crate) repository: F,
     pub(crate) saves: Saves<S>,
-    ghost kept: { ∥ Keeps S.is_honest S.holds S.may_leave F.is_of saves repository ∥₁ },
+    ghost kept: { ∥ Keeps S.Store F.is_of saves repository ∥₁ },
 }
 
 impl<F: Filed, S: Store> FiledArchive<F, S> {
@@ -36,12 +36,9 @@ impl<F: Filed, S: Store> FiledArchive<F, S> {
     /// what a stop leaves now.
     pub fn store(&self) -> &S
         ensures store { result.now ≡ self.now.saves.store }
-        ensures holds { S.is_honest self.now.saves.store → self.now.saves.is_halted ≡ false
-            → ∥ HasRepository F.content F.is_of (F.content self.now.repository)
-            (S.holds self.now.saves.store) ∥₁ }
-        ensures leaves { S.is_honest self.now.saves.store → self.now.saves.is_halted ≡ false
-            → (f : Folder) → S.may_leave self.now.saves.store f
-            → ∥ HasRepository F.content F.is_of (F.content self.now.repository) f ∥₁ }
+        ensures stands { S.is_honest self.now.saves.store → self.now.saves.is_halted ≡ false
+            → Stands S.Store self.now.saves.store
+            (λ f. ∥ HasRepository F.content F.is_of (F.content self.now.repository) f ∥₁) }
     {
         self.saves.store()
     }

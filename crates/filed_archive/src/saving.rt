@@ -1,9 +1,8 @@
 //! What a change writes is saved, and then the repository is the next one.
-ghost use Rattle.std.specs.Prelude.{◌≡◌, ◌⊎◌, ◌↔◌, false, true, OnOk, IsErr, IsErrOf};
-ghost use Rattle.store_files.specs.Moments.{HasRisen, LeavesOnly};
+ghost use Rattle.std.specs.Prelude.{◌≡◌, false, true, IsErrOf};
 ghost use Rattle.filed_archive.specs.Writing.{Fits, Writes, is_revision, kept_in, written};
 ghost use Rattle.repo_api.specs.Accepted.{Accepted, changed};
-ghost use Rattle.repostore.specs.{Files.{Files, HasEither}, Saving.IsSaved};
+ghost use Rattle.repostore.specs.{Files.Files, Saving.{IsSaved, SaveMakes, SaveEnds}};
 ghost use Rattle.sharedrepo.specs.Archives.{SaveLeaves};
 ghost use Rattle.store_access.specs.Keeping.{LeavesEither};
 
@@ -35,28 +34,11 @@ fn told(is_halted: bool, fault: StoreFault) -> SaveFault
 
 /// Saves what a change writes. Only of a revision the device may fail without a halt.
 fn save_files<S: Store>(saves: &mut Saves<S>, new: &ChangedFiles) -> Result<(), StoreFault>
-    ensures saved { (files : Files) → IsSaved S.is_honest S.holds S.may_leave saves.old files
-        → Fits new.now files
-        → OnOk result (IsSaved S.is_honest S.holds S.may_leave saves.new (written new.now files)) }
-    ensures refused { (files : Files) → IsSaved S.is_honest S.holds S.may_leave saves.old files
-        → IsErr result → saves.new.is_halted ≡ false
-        → IsSaved S.is_honest S.holds S.may_leave saves.new files }
-    ensures any_moment { (files : Files) → IsSaved S.is_honest S.holds S.may_leave saves.old files
-        → Fits new.now files
-        → LeavesOnly S.moment S.left_since saves.old.store saves.new.store
-        (HasEither files (written new.now files)) }
-    ensures honest { S.is_honest saves.old.store ↔ S.is_honest saves.new.store }
-    ensures by_device { saves.new.is_halted ≡ true
-        → (saves.old.is_halted ≡ true) ⊎ IsErrOf result StoreFault.Device }
+    ensures saved { (files : Files) → IsSaved S.Store saves.old files → Fits new.now files
+        → SaveMakes S.Store saves.old saves.new result files (written new.now files) }
+    ensures ends { SaveEnds S.Store saves.old saves.new result }
     ensures halts { IsErrOf result StoreFault.Device → saves.new.is_halted ≡ false
         → is_revision new.now ≡ true }
-    ensures halted { IsErrOf result StoreFault.Halted → saves.old.is_halted ≡ true }
-    ensures device { IsErrOf result StoreFault.Device
-        → HasRisen (S.failed saves.old.store) (S.failed saves.new.store) }
-    ensures steady { (IsErrOf result StoreFault.Device → ⊥)
-        → S.failed saves.new.store ≡ S.failed saves.old.store }
-    ensures only { IsErr result → IsErrOf result StoreFault.Device
-        ⊎ IsErrOf result StoreFault.NoMemory ⊎ IsErrOf result StoreFault.Halted }
 {
     match new {
         ChangedFiles::Revision(new) => saves.save_commit(
@@ -82,9 +64,8 @@ impl<F: Filed, S: Store> FiledArchive<F, S> {
         ensures stop { (e : Accepted)
             → Writes F.content F.is_of self.old.repository unsaved e
             → S.is_honest self.old.saves.store
-            → ∥ LeavesEither F.content F.is_of S.moment S.left_since self.old.saves.store
-            self.new.saves.store (F.content self.old.repository)
-            (changed (F.content self.old.repository) e) ∥₁ }
+            → ∥ LeavesEither F.content F.is_of S.Store self.old.saves.store self.new.saves.store
+            (F.content self.old.repository) (changed (F.content self.old.repository) e) ∥₁ }
     {
         let Unsaved { next, files } = unsaved;
         match save_files(&mut self.saves, &files) {

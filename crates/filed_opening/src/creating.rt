@@ -1,7 +1,7 @@
 //! A new repository in a folder.
 ghost use Rattle.std.specs.Prelude.{◌≡◌, ◌≤◌, ℕ, List, Option, None, IsSome, OnOk, IsErr, IsErrOf};
 ghost use Rattle.dates.specs.declared.TheConstants.{LAST_MOMENT};
-ghost use Rattle.store_files.specs.{Folders.IsSame, Moments.{HasRisen, LeavesOnly}, declared.name.FileName.TheVariants.{Format, Locks}};
+ghost use Rattle.store_files.specs.{Folders.IsSame, Moments.HasRisen, Stops.LeavesOnly, declared.name.FileName.TheVariants.{Format, Locks}};
 ghost use Rattle.repostore.specs.{Creating.IsFreeWith, Saving.Stands};
 ghost use Rattle.filed_opening.specs.Creating.{HasNew, IsFreeOrNew};
 
@@ -30,18 +30,15 @@ pub fn create<S: Store>(
         → OnOk result ∥ HasNew uuid moment (S.holds store.new) ∥₁ }
     // A stop at any moment of the call leaves no `format`, so that `create` may be asked again, or
     // the whole new repository.
-    ensures stop { S.is_honest store.new
-        → Stands S.is_honest S.holds S.may_leave store.old (IsFreeWith None)
-        → LeavesOnly S.moment S.left_since store.old store.new (λ f. ∥ IsFreeOrNew uuid moment f ∥₁) }
-    ensures kept { S.is_honest store.new
-        → Stands S.is_honest S.holds S.may_leave store.old (IsFreeWith None)
-        → OnOk result (Stands S.is_honest S.holds S.may_leave store.new
-        (λ f. ∥ HasNew uuid moment f ∥₁)) }
+    ensures stop { S.is_honest store.new → Stands S.Store store.old (IsFreeWith None)
+        → LeavesOnly S.Store store.old store.new (λ f. ∥ IsFreeOrNew uuid moment f ∥₁) }
+    ensures kept { S.is_honest store.new → Stands S.Store store.old (IsFreeWith None)
+        → OnOk result (Stands S.Store store.new (λ f. ∥ HasNew uuid moment f ∥₁)) }
     // So does a fault, where it is known which bytes stand.
     ensures again { (locks : Option (List ℕ)) → S.is_honest store.new
-        → Stands S.is_honest S.holds S.may_leave store.old (IsFreeWith locks)
+        → Stands S.Store store.old (IsFreeWith locks)
         → IsErr result → S.in_doubt store.new ≡ S.in_doubt store.old
-        → Stands S.is_honest S.holds S.may_leave store.new (IsFreeWith locks) }
+        → Stands S.Store store.new (IsFreeWith locks) }
     ensures device { IsErrOf result StoreFault.Device
         → HasRisen (S.failed store.old) (S.failed store.new) }
 {

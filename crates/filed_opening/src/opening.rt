@@ -1,8 +1,8 @@
 //! A repository opened from its files.
 ghost use Rattle.std.specs.Prelude.{◌≡◌, ◌⊎◌, IfOk, IfErr};
 ghost use Rattle.repo_api.specs.States.{RepoState};
-ghost use Rattle.store_files.specs.{Folders.{Folder, IsSame}, Moments.HasRisen};
-ghost use Rattle.repostore.specs.{Reading.{IfFaulty, IsFaulty}, Saving.OnlyReads};
+ghost use Rattle.store_files.specs.Folders.{Folder, IsSame};
+ghost use Rattle.repostore.specs.Opening.{IsUnopened};
 ghost use Rattle.store_access.specs.Keeping.{HasRepository, StandsFor};
 ghost use Rattle.filed_trees.specs.StandsFor as files;
 ghost use Rattle.filed_world.specs.Files.{IsOf, filed_content};
@@ -31,12 +31,7 @@ pub fn open<S: Store>(alloc: Global, store: S) -> Result<FolderRepository<S>, Un
     ensures failed { IfErr result (λ unopened. S.is_honest unopened.store
         → (c : RepoState) → HasRepository filed_content IsOf c (S.holds store)
         → (unopened.fault ≡ StoreFault.Device) ⊎ (unopened.fault ≡ StoreFault.NoMemory)) }
-    ensures faulty { IfErr result (λ unopened. S.is_honest unopened.store
-        → IfFaulty unopened.fault (IsFaulty folder_faults (S.holds store))) }
-    ensures device { IfErr result (λ unopened. unopened.fault ≡ StoreFault.Device
-        → HasRisen (S.failed store) (S.failed unopened.store)) }
-    ensures unchanged { IfErr result (λ unopened. OnlyReads S.is_honest S.holds S.may_leave
-        S.moment S.left_since S.in_doubt S.failed store unopened.store) }
+    ensures unopened { IfErr result (λ unopened. IsUnopened S.Store folder_faults store unopened) }
 {
     open_repository::<S, FolderReader>(alloc, store)
 }

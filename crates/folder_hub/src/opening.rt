@@ -1,8 +1,8 @@
 //! A hub over a repository that is opened from its files.
 ghost use Rattle.std.specs.Prelude.{◌≡◌, ◌⊎◌, IfOk, IfErr, false};
 ghost use Rattle.repo_api.specs.States.{RepoState};
-ghost use Rattle.store_files.specs.{Folders.{Folder, IsSame}, Moments.HasRisen};
-ghost use Rattle.repostore.specs.{Reading.{IfFaulty, IsFaulty}, Saving.OnlyReads};
+ghost use Rattle.store_files.specs.Folders.{Folder, IsSame};
+ghost use Rattle.repostore.specs.{Opening.IsUnopened, Saving.Stands};
 ghost use Rattle.store_access.specs.Keeping.{HasRepository};
 ghost use Rattle.filed_world.specs.Files.{IsOf, filed_content};
 ghost use Rattle.filed_opening.specs.Faults.{folder_faults};
@@ -34,12 +34,7 @@ pub fn open_hub<S: Store>(
     ensures failed { IfErr result (λ unopened. S.is_honest unopened.store
         → (c : RepoState) → HasRepository filed_content IsOf c (S.holds store)
         → (unopened.fault ≡ StoreFault.Device) ⊎ (unopened.fault ≡ StoreFault.NoMemory)) }
-    ensures faulty { IfErr result (λ unopened. S.is_honest unopened.store
-        → IfFaulty unopened.fault (IsFaulty folder_faults (S.holds store))) }
-    ensures device { IfErr result (λ unopened. unopened.fault ≡ StoreFault.Device
-        → HasRisen (S.failed store) (S.failed unopened.store)) }
-    ensures unchanged { IfErr result (λ unopened. OnlyReads S.is_honest S.holds S.may_leave
-        S.moment S.left_since S.in_doubt S.failed store unopened.store) }
+    ensures unopened { IfErr result (λ unopened. IsUnopened S.Store folder_faults store unopened) }
 {
     let repository = open(alloc, store)?;
     opened_trees_are_sound(repository.repository());
@@ -49,11 +44,8 @@ pub fn open_hub<S: Store>(
 /// Shows the store of a hub's files. While changes are made, what it reads has the files of the hub's repository,
 /// and so has what a stop leaves now.
 pub fn store_of<S: Store>(hub: &FolderHub<S>) -> &S
-    ensures holds { S.is_honest result.now → hub.now.halted ≡ false
-        → ∥ HasRepository filed_content IsOf hub.now.content (S.holds result.now) ∥₁ }
-    ensures leaves { S.is_honest result.now → hub.now.halted ≡ false
-        → (f : Folder) → S.may_leave result.now f
-        → ∥ HasRepository filed_content IsOf hub.now.content f ∥₁ }
+    ensures { S.is_honest result.now → hub.now.halted ≡ false
+        → Stands S.Store result.now (λ f. ∥ HasRepository filed_content IsOf hub.now.content f ∥₁) }
 {
     hub.access().store()
 }

@@ -6,29 +6,30 @@ use Rattle.machine.specs.declared.env.Env.{Env}
 use Rattle.hub_runs.specs.{Done.{HasDone, HaveDone}, Runs.{Event, HubRun}, State.HubState}
 use Rattle.hub.specs.{Calls.CallRun, CallLaws.CallsHaveDone, declared.calls.Call.Call, declared.calls.Outcome.Outcome}
 
--- this holds of the hub before events and the hub after them, whatever happens
-abbrev pub WhateverHappens : (HubState → HubState → Type 0) → Type 0
-WhateverHappens P =
+-- this holds of each run of events
+abbrev pub OfRuns : ((old : HubState) (env : Env) (events : List Event) (told : List Reply)
+    (new : HubState) (after : Env) → HubRun old env events told new after → Type 0) → Type 0
+OfRuns P =
     (old new : HubState) (env after : Env) (events : List Event) (told : List Reply)
-    → HubRun old env events told new after → P old new
+    (run : HubRun old env events told new after) → P old env events told new after run
 
--- of the hub before calls and after them, whatever calls come
-abbrev pub WhateverCallsCome : (HubState → HubState → Type 0) → Type 0
-WhateverCallsCome P =
+-- this holds of each run of calls
+abbrev pub OfCalls : ((old : HubState) (calls : List Call) (outcomes : List Outcome) (new : HubState)
+    → CallRun old calls outcomes new → Type 0) → Type 0
+OfCalls P =
     (old new : HubState) (calls : List Call) (outcomes : List Outcome)
-    → CallRun old calls outcomes new → P old new
+    (run : CallRun old calls outcomes new) → P old calls outcomes new run
 
+-- this holds of the hub before and after, whatever happens, and whatever calls come
 abbrev pub Always : (HubState → HubState → Type 0) → Type 0
-Always P = WhateverHappens P × WhateverCallsCome P
+Always P = OfRuns (λ old _ _ _ new _ _. P old new) × OfCalls (λ old _ _ new _. P old new)
 
 -- this holds of the changes that were asked for meanwhile: of those of an event, of events, of calls
 abbrev pub AlwaysBy : (HubState → List Accepted → HubState → Type 0) → Type 0
 AlwaysBy P =
     ((old new : HubState) (env after : Env) (event : Event) (changes : List Accepted) (told : List Reply)
     → HasDone old env event changes told new after → P old changes new)
-    × ((old new : HubState) (env after : Env) (events : List Event) (told : List Reply)
-    (run : HubRun old env events told new after) (changes : List Accepted)
+    × OfRuns (λ old env events told new after run. (changes : List Accepted)
     → HaveDone old env events told new after run changes → P old changes new)
-    × ((old new : HubState) (calls : List Call) (outcomes : List Outcome)
-    (run : CallRun old calls outcomes new) (changes : List Accepted)
+    × OfCalls (λ old calls outcomes new run. (changes : List Accepted)
     → CallsHaveDone old calls outcomes new run changes → P old changes new)

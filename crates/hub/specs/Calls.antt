@@ -1,5 +1,5 @@
 -- What the calls of a hub do.
-use Rattle.std.specs.Prelude.{◌≡◌, ◌⊎◌, ℕ, ◌+◌, ◌<◌, ◌≤◌, ◌^◌, true, false, List, [], ◌∷◌, ◌++◌, length, None}
+use Rattle.std.specs.Prelude.{◌≡◌, ◌⊎◌, ℕ, ◌+◌, ◌<◌, ◌≤◌, ◌^◌, true, false, List, [], ◌∷◌, ◌++◌, length, None, Result, MatchResult}
 use Rattle.wire_replies.specs.{declared.reply.Reply.Reply, Replies.print}
 use Rattle.machine.specs.declared.env.Env.{Env}
 use Rattle.hub.specs.{declared.hub.TheConstants.MAX_SESSIONS, declared.hub.HubFault.HubFault}
@@ -54,6 +54,14 @@ FeedBreaks old env n piece NoMemory new writes =
     (old.halted ≡ false) × BreaksOff old env n piece new writes
 FeedBreaks old env n piece Halted new writes = FeedFails old env n piece Halted new × writes []
 FeedBreaks old env n piece Full new writes = ⊥
+
+-- a piece was heard, and what it causes was written; or, where there is an error, why no more than
+-- a part of it was
+abbrev pub FedTo : {T : Type 0} → Result T HubFault → HubState → Env → ℕ → List ℕ → HubState
+    → (List ℕ → Type 0) → Type 0
+FedTo r old env n piece new writes =
+    MatchResult r (λ _. FeedsTo old env n piece new writes)
+    (λ fault. FeedBreaks old env n piece fault new writes)
 
 abbrev pub CallStep : HubState → Call → Outcome → HubState → Type 0
 CallStep old Connect (Connected n out) new = ConnectsAs old n out.items new

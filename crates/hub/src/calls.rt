@@ -50,9 +50,8 @@ fn add_call<A: SoleAccess>(
     call: &Call,
     outcomes: &mut Vec<Outcome>,
 ) -> Result<(), AllocError>
-    ensures ok { OnOk result ((outcome : Outcome) × CallStep hub.old call.now outcome hub.new
-        × (outcomes.new.items ≡ outcomes.old.items ++ outcome ∷ [])) }
-    ensures err { OnErr result ((outcome : Outcome) × CallStep hub.old call.now outcome hub.new) }
+    ensures { (outcome : Outcome) × CallStep hub.old call.now outcome hub.new
+        × OnOk result (outcomes.new.items ≡ outcomes.old.items ++ outcome ∷ []) }
 {
     match outcomes.push(make_call(hub, call)) {
         Ok(()) => Ok(()),

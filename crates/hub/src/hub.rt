@@ -1,11 +1,11 @@
 //! Many sessions over one repository.
 ghost use Rattle.std.specs.Prelude.{◌≡◌, if◌then◌else◌, ◌+◌, ◌<◌, ◌≤◌, ◌++◌, [], ◌∷◌, ℕ, List, Bool, true, false, not, ◌&&◌, length, MatchOption, IfOk, IfErr};
-ghost use Rattle.std.specs.Prelude.{OnOk, OnErr, None, is_some};
+ghost use Rattle.std.specs.Prelude.{OnOk, OnErr, Ok, None, is_some};
 ghost use Rattle.repo_api.specs.{Opening.new_repository, Soundness.AreSound};
 ghost use Rattle.access.specs.{Points.content_of, Sole.point_at};
 ghost use Rattle.wire_replies.specs.Replies.{print};
 ghost use Rattle.hub_runs.specs.{Runs.{BreaksOff, Feeds, HubStep, new_session}, Runs.Event.Drops, State.{Finds, hub_at, session_of, without}};
-ghost use Rattle.hub.specs.Calls.{IsFull, ConnectsAs, ConnectFails, FeedsAs, FeedFails, FeedsTo, FeedBreaks};
+ghost use Rattle.hub.specs.Calls.{IsFull, ConnectsAs, ConnectFails, FeedsAs, FeedFails, FedTo};
 
 use crate::laws::new_repositories_are_sound;
 use access::{SoleAccess, SoleRepository};
@@ -125,9 +125,7 @@ impl<R: Repository> Hub<SoleRepository<R>> {
     /// Makes a hub without sessions over a repository in memory that nobody else has, whose trees are sound.
     pub fn over(alloc: Global, repository: R, options: Options) -> Result<Self, HubFault>
         requires { AreSound (R.content repository).revisions }
-        ensures ok { IfOk result (λ hub. hub
-            ≡ hub_at options (point_at (R.content repository)) [] 0) }
-        ensures err { IfErr result (λ fault. fault ≡ HubFault.NoMemory) }
+        ensures { result ≡ Ok (hub_at options (point_at (R.content repository)) [] 0) }
     {
         Ok(Hub::with_access(alloc, SoleRepository::new(repository), options))
     }
@@ -136,9 +134,7 @@ impl<R: Repository> Hub<SoleRepository<R>> {
     pub fn over_new(alloc: Global, repository: R, options: Options) -> Result<Self, HubFault>
         requires { (uuid : ℕ) × (date : List ℕ)
             × (R.content repository ≡ new_repository uuid date) }
-        ensures ok { IfOk result (λ hub. hub
-            ≡ hub_at options (point_at (R.content repository)) [] 0) }
-        ensures err { IfErr result (λ fault. fault ≡ HubFault.NoMemory) }
+        ensures { result ≡ Ok (hub_at options (point_at (R.content repository)) [] 0) }
     {
         new_repositories_are_sound();
         Hub::over(alloc, repository, options)
@@ -162,21 +158,15 @@ impl<A: SoleAccess> Hub<A> {
 
     /// Says how the repository is reached.
     pub fn access(&self) -> &A
-        ensures content { content_of (A.point result.now) ≡ self.now.content }
-        ensures halted { (A.point result.now).halted ≡ self.now.halted }
-        ensures failures { (A.point result.now).failures ≡ self.now.failures }
-        ensures pending { (A.point result.now).pending ≡ self.now.pending }
+        ensures { self.now ≡ hub_at self.now.settings (A.point result.now) self.now.sessions
+            self.now.used }
     {
         &self.access
     }
 
     /// Lets go of its sessions: how the repository is reached, and the options.
     pub fn into_parts(self) -> (A, Options)
-        ensures content { content_of (A.point result.0) ≡ self.content }
-        ensures halted { (A.point result.0).halted ≡ self.halted }
-        ensures failures { (A.point result.0).failures ≡ self.failures }
-        ensures pending { (A.point result.0).pending ≡ self.pending }
-        ensures settings { result.1 ≡ self.settings }
+        ensures { self ≡ hub_at result.1 (A.point result.0) self.sessions self.used }
     {
         let Hub {
             alloc: _,
@@ -273,10 +263,8 @@ impl<A: SoleAccess> Hub<A> {
         piece: &[u8],
         turn: &mut Turn<S>,
     ) -> Result<(), HubFault>
-        ensures ok { OnOk result (FeedsTo self.old turn.old.env number piece.now self.new
-            (S.writes turn.old.out turn.new.out)) }
-        ensures err { IfErr result (λ e. FeedBreaks self.old turn.old.env number piece.now e self.new
-            (S.writes turn.old.out turn.new.out)) }
+        ensures { FedTo result self.old turn.old.env number piece.now self.new
+            (S.writes turn.old.out turn.new.out) }
     {
         if self.access.is_halted() {
             return Err(HubFault::Halted);

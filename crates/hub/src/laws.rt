@@ -12,10 +12,9 @@ ghost use Rattle.access.specs.Points.{content_of, last_count, Point};
 ghost use Rattle.machine.specs.{Hearing.{Input, Yields}, Hearing.Input.Whole, Machine.MachineEdit, Settings.Settings, Stages.SessionState};
 ghost use Rattle.machine.specs.{declared.env.Env.Env, declared.phase.Client.Client, declared.phase.Phase.TheVariants.{Serving, Editing}};
 ghost use Rattle.hub_runs.specs.{Asked.IsAsked, Done.{GoesOnBy, HasDone, HaveDone}, Laws.{AllKeepSides, IsUnbroken, KeepsConstants, KeepsOtherProperties}};
-ghost use Rattle.hub_runs.specs.{Laws.{KeepsProperties, MakesNewTokens, new_hub, RespectLocks, TellsFailure}, Runs.{Event, HubRun, HubStep, with_rest}};
+ghost use Rattle.hub_runs.specs.{Laws.{KeepsProperties, MakesNewTokens, new_hub, RespectLocks, TellsFailure}, Runs.{Event, HubStep, with_rest}};
 ghost use Rattle.hub_runs.specs.State.{HasTrees, hub_at, HubState, session_of};
-ghost use Rattle.hub.specs.{CallLaws.{CallsMakeNewTokens, CallsHaveDone}, Always.{Always, AlwaysBy}, Calls.CallRun, declared.calls.Call.Call};
-ghost use Rattle.hub.specs.declared.calls.Outcome.{Outcome};
+ghost use Rattle.hub.specs.{CallLaws.{CallsMakeNewTokens, CallsHaveDone}, Always.{Always, AlwaysBy, OfCalls, OfRuns}};
 
 /// Shows that the trees and changes of revisions that exist stay the same, whatever happens, and whatever calls come.
 pub fn revisions_stay()
@@ -43,12 +42,10 @@ pub fn changes_are_asked_for()
     ensures event { (old new : HubState) (env after : Env) (event : Event) (told : List Reply)
         → HubStep old env event told new after
         → (changes : List Accepted) × HasDone old env event changes told new after }
-    ensures events { (old new : HubState) (env after : Env) (events : List Event) (told : List Reply)
-        (run : HubRun old env events told new after)
-        → (changes : List Accepted) × HaveDone old env events told new after run changes }
-    ensures calls { (old new : HubState) (calls : List Call) (outcomes : List Outcome)
-        (run : CallRun old calls outcomes new)
-        → (changes : List Accepted) × CallsHaveDone old calls outcomes new run changes }
+    ensures events { OfRuns (λ old env events told new after run. (changes : List Accepted)
+        × HaveDone old env events told new after run changes) }
+    ensures calls { OfCalls (λ old calls outcomes new run. (changes : List Accepted)
+        × CallsHaveDone old calls outcomes new run changes) }
 {
     machine::steps_keep_trees();
     repo_laws::commits_keep_both_sides();
@@ -97,14 +94,10 @@ pub fn locks_are_respected()
 pub fn no_two_locks_have_one_token()
     ensures at_first { (settings : Settings) (uuid : ℕ) (date : List ℕ)
         → HaveOwnTokens (new_hub settings uuid date).content.locks }
-    ensures events { (old new : HubState) (env after : Env) (events : List Event) (told : List Reply)
-        (run : HubRun old env events told new after)
-        → HaveOwnTokens old.content.locks → MakesNewTokens old env events told new after run
-        → HaveOwnTokens new.content.locks }
-    ensures calls { (old new : HubState) (calls : List Call) (outcomes : List Outcome)
-        (run : CallRun old calls outcomes new)
-        → HaveOwnTokens old.content.locks → CallsMakeNewTokens old calls outcomes new run
-        → HaveOwnTokens new.content.locks }
+    ensures events { OfRuns (λ old env events told new after run. HaveOwnTokens old.content.locks
+        → MakesNewTokens old env events told new after run → HaveOwnTokens new.content.locks) }
+    ensures calls { OfCalls (λ old calls outcomes new run. HaveOwnTokens old.content.locks
+        → CallsMakeNewTokens old calls outcomes new run → HaveOwnTokens new.content.locks) }
 {
     pathlocks::accepted_commits_hold_locks();
     pathlocks::unnamed_locks_stay();

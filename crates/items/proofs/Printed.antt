@@ -1,13 +1,7 @@
 -- What is printed for rows.
-use Rattle.std.proofs.Common.{◌≡◌, ℕ, List, [], ◌∷◌, ◌++◌, refl, sym, ap, ◌∙◌, append_assoc, append-nil}
-use Rattle.items.specs.{declared.item.Item.Item, View.{value_of, values_of}, Print.{printed, row_printed, Grows}}
+use Rattle.std.proofs.Common.{◌≡◌, ℕ, List, [], ◌∷◌, ◌++◌, sym, ap, ◌∙◌, append_assoc, append-nil}
+use Rattle.items.specs.{declared.item.Item.Item, View.{value_of, values_of}, Print.{printed, row_printed}}
 
 pub row_printed-snoc : (items : List Item) (i : Item) → row_printed (values_of (items ++ (i ∷ []))) ≡ row_printed (values_of items) ++ printed (value_of i)
 row_printed-snoc [] i = append-nil (printed (value_of i))
 row_printed-snoc (x ∷ xs) i = ap (λ r. printed (value_of x) ++ r) (row_printed-snoc xs i) ∙ sym (append_assoc (printed (value_of x)) (row_printed (values_of xs)) (printed (value_of i)))
-
-pub grows_more : (old mid new : List ℕ) → Grows old mid → Grows mid new → Grows old new
-grows_more old mid new g h = (g.0 ++ h.0, h.1 ∙ ap (λ x. x ++ h.0) g.1 ∙ append_assoc old g.0 h.0)
-
-pub grows : (old added : List ℕ) → Grows old (old ++ added)
-grows old added = (added, refl)

@@ -1,11 +1,11 @@
 -- What becomes of a session's steps: each happens at one point of the repository, and its replies
 -- are written, or a
 -- part of them where memory or the sink fails.
-use Rattle.std.specs.{Prelude.{◌≡◌, ◌⊎◌, ℕ, true, List, [], ◌∷◌, ◌++◌, Option, Some, None, Result, MatchResult}, Option.option_to_list}
-use Rattle.repo_api.specs.Accepted.{Accepted}
+use Rattle.std.specs.{Prelude.{◌≡◌, ◌⊎◌, ℕ, true, List, [], ◌∷◌, ◌++◌, Option, Some, None, Result, IfOk, MatchResult}, Option.option_to_list}
+use Rattle.repo_api.specs.{Accepted.Accepted, States.RepoState}
 use Rattle.wire_replies.specs.{declared.reply.Reply.Reply, Replies.print, Sinks.WritesPart}
 use Rattle.access.specs.{Changing.{IsFailure, IsHalt}, Points.{AccessRules, content_of, Point}}
-use Rattle.machine.specs.{declared.env.Env.Env, Stages.{Stage, is_open}, Settings.Settings, Hearing.{Input, Yields, HasNoMore}}
+use Rattle.machine.specs.{declared.env.Env.Env, declared.turn.Turn.Turn, Stages.{Stage, is_open}, Settings.Settings, Hearing.{Input, Yields, HasNoMore}}
 use Rattle.machine.specs.{Answers.{Verdict, Effect, Answer, Step}, Machine.{InputStep, UnreleasedStep}, Answers.Verdict.{Written, NotWritten, Unknown}}
 
 -- ---- at a point of the repository
@@ -76,33 +76,46 @@ StepOrPart rules step part p q writes =
 
 -- ---- as results
 
--- an answer is written, and the session stands where it says, with these words left; or, where there
--- is an error, a part of it is written
-abbrev pub Answered : {E : Type 0} → Result Stage E → Env → (List ℕ → Type 0) → Answer → Type 0
-Answered r env' writes a =
-    MatchResult r (λ phase'. AnswerWritten a phase' env' writes)
-    (λ _. WritesPart writes (print a.replies))
+-- this value is made, unless there is an error
+abbrev pub Makes : {T E : Type 0} → Result T E → T → Type 0
+Makes r value = IfOk r (λ made. made ≡ value)
+
+-- from a turn to another an answer is written, and the session stands where it says, with these words
+-- left; or, where there is an error, a part of it is written
+abbrev pub Answered : {S E : Type 0} → Result Stage E → (S → S → List ℕ → Type 0) → Turn S → Turn S
+    → Answer → Type 0
+Answered r writes old new a =
+    MatchResult r (λ phase'. AnswerWritten a phase' new.env (writes old.out new.out))
+    (λ _. WritesPart (writes old.out new.out) (print a.replies))
 
 -- so it is where there is an answer; where there is none, there is an error, and nothing is written
-abbrev pub AnsweredIfAny : {E : Type 0} → Result Stage E → Env → (List ℕ → Type 0) → Option Answer
-    → Type 0
-AnsweredIfAny r env' writes (Some a) = Answered r env' writes a
-AnsweredIfAny r env' writes None = MatchResult r (λ _. ⊥) (λ _. writes [])
+abbrev pub AnsweredIfAny : {S E : Type 0} → Result Stage E → (S → S → List ℕ → Type 0) → Turn S
+    → Turn S → Option Answer → Type 0
+AnsweredIfAny r writes old new (Some a) = Answered r writes old new a
+AnsweredIfAny r writes old new None = MatchResult r (λ _. ⊥) (λ _. writes old.out new.out [])
 
--- from a point to another a step has happened and is written; or, where there is an error, it has
--- not happened, or a part of it is written
-abbrev pub Stepped : {E : Type 0} → Result Stage E → Env → (List ℕ → Type 0) → AccessRules → Point
-    → Point → Step → Type 0
-Stepped r env' writes rules p q step =
-    MatchResult r (λ phase'. StepWritten rules step p q phase' env' writes)
-    (λ _. StepOrNothing rules step p q writes)
+-- from a turn to another, and from a point that is reached to another, a step has happened and is
+-- written; or, where there is an error, it has not happened, or a part of it is written
+abbrev pub Stepped : {S A E : Type 0} → Result Stage E → (S → S → List ℕ → Type 0) → Turn S → Turn S
+    → AccessRules → (A → Point) → A → A → Step → Type 0
+Stepped r writes old new rules point before after step =
+    MatchResult r (λ phase'. StepWritten rules step (point before) (point after) phase' new.env
+    (writes old.out new.out))
+    (λ _. StepOrNothing rules step (point before) (point after) (writes old.out new.out))
 
 -- so it is of a step of which a part may happen alone, where there is an error
-abbrev pub SteppedInPart : {E : Type 0} → Result Stage E → Env → (List ℕ → Type 0) → AccessRules
-    → Point → Point → Step → Step → Type 0
-SteppedInPart r env' writes rules p q step part =
-    MatchResult r (λ phase'. StepWritten rules step p q phase' env' writes)
-    (λ _. StepOrPart rules step part p q writes)
+abbrev pub SteppedInPart : {S A E : Type 0} → Result Stage E → (S → S → List ℕ → Type 0) → Turn S
+    → Turn S → AccessRules → (A → Point) → A → A → Step → Step → Type 0
+SteppedInPart r writes old new rules point before after step part =
+    MatchResult r (λ phase'. StepWritten rules step (point before) (point after) phase' new.env
+    (writes old.out new.out))
+    (λ _. StepOrPart rules step part (point before) (point after) (writes old.out new.out))
+
+-- the repository is looked at, between two points that are reached: so it is with what it contains at
+-- the later
+abbrev pub Looks : {A : Type 0} → AccessRules → (A → Point) → A → A → (RepoState → Type 0) → Type 0
+Looks rules point before after IsSo =
+    rules.between (point before) (point after) × IsSo (content_of (point after))
 
 -- ---- a stream's inputs
 

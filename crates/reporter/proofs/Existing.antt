@@ -4,21 +4,14 @@ use Rattle.std.proofs.{lemmas.Bool.false≢true, lemmas.List.Elements.{All-head,
 use Rattle.std.specs.Prelude.{is_some, All}
 use Rattle.svnpath.specs.{PathLaws.under_itself, Paths.PathValue}
 use Rattle.repo_api.specs.Trees.{is_directory_there}
-use Rattle.drive_rules.specs.{Drives.Differs, Scopes.HoldsTogether}
 use Rattle.reporter.specs.{declared.unvisited.Unvisited.Unvisited, declared.visit.Visit.Visit, declared.visit.Visit.TheVariants.{Open, Add}}
 use Rattle.reporter.specs.{Left.{ArePlansOf, IsLeft, IsPlanBelow, IsPlanOf, behind}, Nesting.entry_visits}
-use Rattle.reporter.specs.Walks.{WalkedTrees, AreAll, AreChildren, IsChild, IsSame, IsShorter, deletes_of, goes}
+use Rattle.reporter.specs.Walks.{WalkedTrees, IsChild, IsDue, IsListed, IsSame, IsShorter, deletes_of, goes}
 use Rattle.reporter.proofs.{Planning.same_length, Plans.{Leads, absent, added, below_directory, below_file, comes, opened, same, staying}, Visiting.reason_of}
 
 -- something is to be said of an entry itself, or it is the same
 abbrev pub IsDecided : WalkedTrees → PathValue → Type 0
-IsDecided t p = (Differs t.old t.new p ⊎ (t.stale p ≡ true)) ⊎ IsSame t.old t.new t.stale p
-
--- the paths are those of what a directory has on either side
-pub record IsListed (t : WalkedTrees) (p : PathValue) (xs : List PathValue) : Type 0 where
-  pub children : AreChildren p xs
-  pub all_old : HoldsTogether p t.old → AreAll t.old p xs
-  pub all_new : HoldsTogether p t.new → AreAll t.new p xs
+IsDecided t p = IsDue t p ⊎ IsSame t p
 
 module _ (t : WalkedTrees) (bound : ℕ) (ends : IsShorter t.new bound) (leads : Leads t) (decided : (p : PathValue) → IsDecided t p) (listed : (p : PathValue) → (xs : List PathValue) × IsListed t p xs) where
   -- so many names more than a path has no entry under it
@@ -45,7 +38,7 @@ module _ (t : WalkedTrees) (bound : ℕ) (ends : IsShorter t.new bound) (leads :
       by true directory =
           let l : (xs : List PathValue) × IsListed t p xs = listed p in
           let e : (vs : List Visit) × ArePlansOf t anew l.0 vs = each_plan n anew p l.0 plan short l.1.children.each in
-          (deletes_of anew t.old t.new l.0 ++ e.0, λ f. absurd (false≢true (sym f)), below_directory t anew p l.0 e.0 l.1.children l.1.all_old l.1.all_new e.1)
+          (deletes_of anew t.old t.new l.0 ++ e.0, λ f. absurd (false≢true (sym f)), below_directory t anew p l.0 e.0 l.1 e.1)
 
   entry_plan : (n : ℕ) (anew : Bool) (p : PathValue) → ((c : Bool) (x : PathValue) → bound ≤ length x + n → Plan c x) → bound ≤ length p + suc n → is_some (t.new p) ≡ true → Plan anew p
   entry_plan n anew p plan short stands = by (comes t anew p) refl

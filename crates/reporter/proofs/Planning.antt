@@ -10,8 +10,8 @@ use Rattle.drive_rules.specs.Steps.{may_change, Node, node_at, node_of, Step}
 use Rattle.drive_rules.proofs.Joined.{or_cases, or_left, or_right, or_false, and_front, any_append, reach_named, joined, nothing, none_some}
 use Rattle.drive_rules.proofs.Entries.{rescoped, under_more, below_under, IsCut, cut, kept, left_out}
 use Rattle.reporter.specs.{declared.visit.Visit.Visit, declared.visit.Visit.TheVariants.{Open, Delete, Close}, Nesting.entry_visits}
-use Rattle.reporter.specs.{Visits.{plan_steps, visit_steps}, Walks.{any_under, BothHold, LeadsOver, AreApart, IsChild, AreChildren, AreAll, AreAlike, goes}}
-use Rattle.reporter.specs.Walks.{going, without_all, old_side, left_of, deletes_of}
+use Rattle.reporter.specs.{Visits.{plan_steps, visit_steps}, Walks.{any_under, BothHold, LeadsOver, AreApart, IsChild, AreChildren, AreAll, goes, going}}
+use Rattle.reporter.specs.Walks.{without_all, old_side, left_of, deletes_of}
 use Rattle.reporter.proofs.Visiting.{false_or, entry_opened}
 
 abbrev pub Own : Type 0
@@ -347,7 +347,7 @@ nothing_new seen stale true r t p none old sound = nothing_both seen stale (λ _
 nothing_new seen stale false r t p none old sound = nothing_both seen stale r t p (λ q u. none_under r p q sound.old_holds (old refl) u) (λ q u. none_under t p q sound.new_holds none u)
 
 -- nothing is plan_steps where both trees are alike
-pub nothing_alike : (seen : Node → Node) (stale : PathValue → Bool) (anew : Bool) (r t : Tree) (p : PathValue) → anew ≡ false → AreAlike r t stale p → IsRight seen (under p) stale (old_side anew r) t []
+pub nothing_alike : (seen : Node → Node) (stale : PathValue → Bool) (anew : Bool) (r t : Tree) (p : PathValue) → anew ≡ false → ((q : PathValue) → is_at_or_under q p ≡ true → (r q ≡ t q) × (stale q ≡ false)) → IsRight seen (under p) stale (old_side anew r) t []
 nothing_alike seen stale true r t p kept alike = absurd (false≢true (sym kept))
 nothing_alike seen stale false r t p kept alike =
     nothing seen (under p) stale r t (λ q h. (ap (option_map node_of) (alike q h).0, λ both. (ap (option_map _) (alike q h).0, (alike q h).1)))

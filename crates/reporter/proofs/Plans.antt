@@ -4,11 +4,11 @@ use Rattle.std.proofs.{lemmas.Bool.false≢true, lemmas.List.append_assoc, lemma
 use Rattle.std.specs.Prelude.{is_some, All}
 use Rattle.svnpath.specs.Paths.{is_at_or_under, PathValue}
 use Rattle.repo_api.specs.Trees.{is_directory_there, Tree}
-use Rattle.drive_rules.specs.{Drives.{HasReason, IsRight}, Scopes.{HoldsTogether, under}, Steps.Step}
+use Rattle.drive_rules.specs.{Drives.IsRight, Scopes.under, Steps.Step}
 use Rattle.drive_rules.proofs.{Joined.{or_false, reach_named, joined, nothing}, Entries.{rescoped, under_more}}
 use Rattle.reporter.specs.{declared.visit.Visit.Visit, declared.visit.Visit.TheVariants.{Open, Add}, Left.{IsPlanOf, IsPlanBelow, IsEntry, ArePlansOf}}
-use Rattle.reporter.specs.{Nesting.{AreNested, entry_visit, entry_visits}, Visits.{IsRightPlan, plan_steps}, Walks.{WalkedTrees, any_under, BothHold, IsSame}}
-use Rattle.reporter.specs.Walks.{AreApart, IsChild, AreChildren, AreAll, AreAlike, LeadsOver, goes, old_side, left_of, deletes_of}
+use Rattle.reporter.specs.{Nesting.{AreNested, entry_visit, entry_visits}, Visits.{IsRightPlan, plan_steps}, Walks.{WalkedTrees, any_under, BothHold}}
+use Rattle.reporter.specs.Walks.{HasReasonAt, IsListed, IsSame, AreApart, IsChild, AreAlike, LeadsOver, goes, old_side, left_of, deletes_of}
 use Rattle.reporter.proofs.{Nested.{nested_nothing, nested_append, nested_deletes, nested_entry, child_inside}, Planning.{any_more, reseated, left_under}}
 use Rattle.reporter.proofs.Planning.{all_children, left_all, with_cuts, nothing_new, nothing_alike, nothing_below, child_sound, plan_steps_append, stays_gone}
 use Rattle.reporter.proofs.{Planning.{with_close, added_entry, not_false}, Visiting.{false_or, entry_anew, entry_opened, entry_same}}
@@ -41,7 +41,7 @@ absent t anew p none = record {
 }
 
 -- all stays as it is
-pub alike : (t : WalkedTrees) (p : PathValue) → goes (t.old p) (t.new p) ≡ false → AreAlike t.old t.new t.stale p → IsPlanOf t false p []
+pub alike : (t : WalkedTrees) (p : PathValue) → goes (t.old p) (t.new p) ≡ false → AreAlike t p → IsPlanOf t false p []
 alike t p stays same = record {
   right = λ sound.
       subst (λ b. IsRightPlan t.seen (under p) t.stale (old_side b t.old) t.new t.own []) (sym stays) (nothing_alike t.seen t.stale false t.old t.new p refl same);
@@ -49,11 +49,11 @@ alike t p stays same = record {
 }
 
 -- the entry stays as it is, and nothing is said below it
-pub same : (t : WalkedTrees) (p : PathValue) → goes (t.old p) (t.new p) ≡ false → IsSame t.old t.new t.stale p → IsPlanBelow t false p [] → IsPlanOf t false p []
+pub same : (t : WalkedTrees) (p : PathValue) → goes (t.old p) (t.new p) ≡ false → IsSame t p → IsPlanBelow t false p [] → IsPlanOf t false p []
 same t p stays is plan = record {
   right = λ sound.
       subst (λ b. IsRightPlan t.seen (under p) t.stale (old_side b t.old) t.new t.own []) (sym stays)
-      (entry_same t.seen t.stale t.old t.new t.own p false [] refl refl is (plan.right sound));
+      (entry_same t.seen t.stale t.old t.new t.own p false [] refl refl is.node is.created is.fresh (plan.right sound));
   nests = λ top d inside. nested_nothing t.new top d;
 }
 
@@ -70,7 +70,7 @@ added t anew dir p rest leads new stands kind file plan = record {
 }
 
 pub opened : (t : WalkedTrees) (anew dir : Bool) (p : PathValue) (rest : List Visit) → Leads t → comes t anew p ≡ false → is_some (t.new p) ≡ true → dir ≡ is_directory_there (t.new p) → (dir ≡ false → rest ≡ [])
-    → (BothHold t.old t.new p → HasReason t.stale t.old t.new p) → IsPlanBelow t false p rest → IsPlanOf t anew p (entry_visits dir (Open p dir) rest)
+    → (BothHold t.old t.new p → HasReasonAt t p) → IsPlanBelow t false p rest → IsPlanOf t anew p (entry_visits dir (Open p dir) rest)
 opened t anew dir p rest leads kept stands kind file reason plan = record {
   right = λ sound.
       subst (λ b. IsRightPlan t.seen (under p) t.stale (old_side b t.old) t.new t.own (entry_visits dir (Open p dir) rest)) (left_side t anew p kept)
@@ -85,7 +85,7 @@ opened t anew dir p rest leads kept stands kind file reason plan = record {
 
 -- an entry that comes, or that stays and has a reason, and what is below it
 pub entry_plan : (t : WalkedTrees) (anew dir : Bool) (p : PathValue) (vs : List Visit) → Leads t → is_some (t.new p) ≡ true → dir ≡ is_directory_there (t.new p)
-    → (comes t anew p ≡ false → HasReason t.stale t.old t.new p) → IsEntry t (comes t anew p) dir p vs → IsPlanOf t anew p vs
+    → (comes t anew p ≡ false → HasReasonAt t p) → IsEntry t (comes t anew p) dir p vs → IsPlanOf t anew p vs
 entry_plan t anew dir p vs leads stands kind reason e = subst (IsPlanOf t anew p) (sym e.is) (by (comes t anew p) refl e.plan)
   where
     by : (b : Bool) → comes t anew p ≡ b → IsPlanBelow t b p e.rest → IsPlanOf t anew p (entry_visits dir (entry_visit b dir p) e.rest)
@@ -146,13 +146,13 @@ one_place (x ∷ xs) zero d e lt = refl
 one_place (x ∷ xs) (suc i) d e lt = one_place xs i d e (omega (lt, arith))
 
 -- what goes, and then plans of all entries
-pub below_directory : (t : WalkedTrees) (anew : Bool) (p : PathValue) (xs : List PathValue) (vs : List Visit) → AreChildren p xs → (HoldsTogether p t.old → AreAll t.old p xs) → (HoldsTogether p t.new → AreAll t.new p xs) → ArePlansOf t anew xs vs
+pub below_directory : (t : WalkedTrees) (anew : Bool) (p : PathValue) (xs : List PathValue) (vs : List Visit) → IsListed t p xs → ArePlansOf t anew xs vs
     → IsPlanBelow t anew p (deletes_of anew t.old t.new xs ++ vs)
-below_directory t anew p xs vs children all_old all_new plans = record {
+below_directory t anew p xs vs listed plans = record {
   right = λ sound.
-      with_cuts anew t.seen t.stale t.old t.new t.own p xs vs sound.old_holds sound.new_holds children
-      (all_children t.seen t.stale (left_of anew t.old t.new xs) t.new p xs (plan_steps t.own vs) children (left_all anew t.old t.new p xs (all_old sound.old_holds)) (all_new sound.new_holds)
-      (plans_right t anew p (left_of anew t.old t.new xs) xs vs sound children.each children.apart
-      (λ i d lt. left_under anew t.old t.new p (get_or xs i d) xs i children lt (one_place xs i d (get_or xs i d) lt) (children.each i d lt)) plans));
-  nests = λ top. nested_append t.new top p (deletes_of anew t.old t.new xs) vs (nested_deletes anew t.old t.new top p xs children.each) (plans_nested t anew top p xs vs children.each plans);
+      with_cuts anew t.seen t.stale t.old t.new t.own p xs vs sound.old_holds sound.new_holds listed.children
+      (all_children t.seen t.stale (left_of anew t.old t.new xs) t.new p xs (plan_steps t.own vs) listed.children (left_all anew t.old t.new p xs (listed.all_old sound.old_holds)) (listed.all_new sound.new_holds)
+      (plans_right t anew p (left_of anew t.old t.new xs) xs vs sound listed.children.each listed.children.apart
+      (λ i d lt. left_under anew t.old t.new p (get_or xs i d) xs i listed.children lt (one_place xs i d (get_or xs i d) lt) (listed.children.each i d lt)) plans));
+  nests = λ top. nested_append t.new top p (deletes_of anew t.old t.new xs) vs (nested_deletes anew t.old t.new top p xs listed.children.each) (plans_nested t anew top p xs vs listed.children.each plans);
 }

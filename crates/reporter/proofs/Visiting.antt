@@ -8,7 +8,7 @@ use Rattle.drive_rules.specs.{Drives.{created_revision, HasReason, IsInBoth, IsO
 use Rattle.drive_rules.specs.Steps.{is_named, is_of_kind, Node, node_at, node_of, Step}
 use Rattle.drive_rules.proofs.{Joined.{or_left, nothing}, Entries.{around, opened, fresh, below_under, no_length, under_more}}
 use Rattle.reporter.specs.{declared.visit.Visit.Visit, declared.visit.Visit.TheVariants.{Open, Add, Delete, Close}, Nesting.AreNested}
-use Rattle.reporter.specs.{Visits.{kind_if, entry_kind, plan_steps}, Walks.{goes, old_side, IsSame, IsNeeded, LeadsOver}}
+use Rattle.reporter.specs.{Visits.{kind_if, entry_kind, plan_steps}, Walks.{goes, old_side, IsNeeded, LeadsOver}}
 use Rattle.reporter.proofs.Nested.{nested_opens}
 
 pub false_or : (b : Bool) → (b ≡ true → ⊥) → b ≡ false
@@ -94,12 +94,12 @@ entry_added seen stale old r t own p rest none new leads right =
 
 -- nothing is plan_steps of an entry that is the same and below which nothing is plan_steps
 pub entry_same : (seen : Node → Node) (stale : PathValue → Bool) (r t : Tree) (own : PathValue → Bool → List Step) (p : PathValue) (anew : Bool) (rest : List Visit)
-    → anew ≡ false → rest ≡ [] → IsSame r t stale p
+    → anew ≡ false → rest ≡ [] → node_at r p ≡ node_at t p → created_revision r p ≡ created_revision t p → stale p ≡ false
     → IsRight seen (below p) stale (old_side anew r) t (plan_steps own rest) → IsRight seen (under p) stale (old_side anew r) t (plan_steps own rest)
-entry_same seen stale r t own p true rest kept empty same right = absurd (false≢true (sym kept))
-entry_same seen stale r t own p false rest kept empty same right =
+entry_same seen stale r t own p true rest kept empty node created fresh right = absurd (false≢true (sym kept))
+entry_same seen stale r t own p false rest kept empty node created fresh right =
     around seen stale r t p [] (plan_steps own rest) (λ q h. refl)
-    (nothing seen (same_path p) stale r t (λ q h. subst (λ x. (node_at r x ≡ node_at t x) × (IsInBoth r t x → (created_revision r x ≡ created_revision t x) × (stale x ≡ false))) (same_path_is p q h) (same.node, λ both. (same.created, same.fresh))))
+    (nothing seen (same_path p) stale r t (λ q h. subst (λ x. (node_at r x ≡ node_at t x) × (IsInBoth r t x → (created_revision r x ≡ created_revision t x) × (stale x ≡ false))) (same_path_is p q h) (node, λ both. (created, fresh))))
     right
 
 pub entry_anew : (seen : Node → Node) (stale : PathValue → Bool) (r t : Tree) (own : PathValue → Bool → List Step) (p : PathValue) (anew : Bool) (rest : List Visit)

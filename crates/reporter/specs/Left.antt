@@ -2,9 +2,9 @@
 use Rattle.std.specs.Prelude.{◌≡◌, Bool, true, false, ◌||◌, List, [], ◌∷◌, ◌++◌}
 use Rattle.svnpath.specs.Paths.{PathValue}
 use Rattle.drive_rules.specs.{Places.is_in_directory, Scopes.{below, under}}
-use Rattle.reporter.specs.{Nesting.{AreNested, entry_visit, entry_visits}, Visits.IsRightPlan, Walks.{WalkedTrees, BothHold, goes, old_side}}
+use Rattle.reporter.specs.{Nesting.{AreNested, entry_visit, entry_visits}, Visits.IsRightPlan, Walks.{WalkedTrees, BothHold, deletes_of, goes, old_side}}
 use Rattle.reporter.specs.{declared.unvisited.Found.Found, declared.unvisited.Found.TheVariants.{Nothing, Single, Entered}}
-use Rattle.reporter.specs.{declared.unvisited.Unvisited.Unvisited, declared.visit.Visit.Visit, declared.visit.Visit.TheVariants.Close}
+use Rattle.reporter.specs.{declared.unvisited.Unvisited.Unvisited, declared.visit.Visit.Visit, declared.visit.Visit.TheVariants.{Close, Open}}
 
 -- ---- plans
 
@@ -32,6 +32,22 @@ pub record IsEntry (t : WalkedTrees) (anew directory : Bool) (p : PathValue) (vs
   pub file : directory ≡ false → rest ≡ []
   pub plan : IsPlanBelow t anew p rest
 
+-- an entry stays, and nothing is to be said of it or of what is under it
+abbrev pub IsSilent : WalkedTrees → PathValue → Type 0
+IsSilent t p = (goes (t.old p) (t.new p) ≡ false) × IsPlanOf t false p []
+
+-- these visits below the root, which is opened before, are a right drive and have their places
+pub record IsRootPlan (t : WalkedTrees) (vs : List Visit) : Type 0 where
+  pub right : BothHold t.old t.new []
+      → IsRightPlan t.seen (under []) t.stale t.old t.new t.own (Open [] true ∷ vs)
+  pub nests : AreNested t.new [] [] vs
+
+-- so are these, from a top on
+pub record IsTopPlan (t : WalkedTrees) (top : PathValue) (vs : List Visit) : Type 0 where
+  pub right : BothHold t.old t.new top
+      → IsRightPlan t.seen (under top) t.stale t.old t.new t.own vs
+  pub nests : (d : PathValue) → is_in_directory top d top ≡ true → AreNested t.new top d vs
+
 -- visits of each of the paths, one after the other
 abbrev pub ArePlansOf : WalkedTrees → Bool → List PathValue → List Visit → Type 0
 ArePlansOf t anew [] vs = vs ≡ []
@@ -40,6 +56,13 @@ ArePlansOf t anew (p ∷ ps) vs =
     × ArePlansOf t anew ps later
 
 -- ---- what is left
+
+-- of these paths all is left: what goes, and then each entry
+pub record IsUnvisited (t : WalkedTrees) (anew : Bool) (ps : List PathValue) (d : Unvisited)
+    : Type 0 where
+  pub deletes : d.deletes.items ≡ deletes_of anew t.old t.new ps
+  pub entries : d.entries.items ≡ ps
+  pub is_anew : d.is_anew ≡ anew
 
 -- these may be the visits of what is left in a directory
 abbrev pub IsLeftIn : WalkedTrees → Unvisited → List Visit → Type 0
@@ -65,3 +88,9 @@ IsFound t Nothing vs = vs ≡ []
 IsFound t (Single v) vs = vs ≡ v ∷ []
 IsFound t (Entered v d) vs =
     (rest : List Visit) × (vs ≡ v ∷ (rest ++ Close ∷ [])) × IsLeftIn t d rest
+
+-- what was found comes next in a directory; where nothing was found, nothing was left
+pub record IsNextFound (t : WalkedTrees) (old new : Unvisited) (found : Found) : Type 0 where
+  pub next : (vs more : List Visit) → IsFound t found vs → IsLeftIn t new more
+      → IsLeftIn t old (vs ++ more)
+  pub end : found ≡ Nothing → IsLeftIn t old []

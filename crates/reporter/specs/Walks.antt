@@ -2,10 +2,10 @@
 use Rattle.std.specs.Prelude.{◌≡◌, ◌<◌, ℕ, Bool, true, false, not, if◌then◌else◌, is_some, List, [], ◌∷◌, ◌++◌, Option, Some, None, IsSome, ◌⊎◌, length, All}
 use Rattle.std.specs.{Prelude.{option_map, filter, map}, List.list_any}
 use Rattle.svnpath.specs.Paths.{Component, is_at_or_under, PathValue}
-use Rattle.repo_api.specs.{Trees.{HasFile, is_directory, Tree}, declared.entry.Entry.Entry}
-use Rattle.drive_rules.specs.{Drives.{created_revision, Differs, HasOtherText, IsOfOneKind}, Scopes.{below, HoldsTogether, tree_without}}
+use Rattle.repo_api.specs.{Kinds.kind_of, Trees.{HasFile, is_directory, is_directory_there, Tree}, declared.entry.Entry.Entry}
+use Rattle.drive_rules.specs.{Drives.{created_revision, Differs, HasOtherText, HasReason, IsOfOneKind}, Scopes.{below, HoldsTogether, tree_without}}
 use Rattle.drive_rules.specs.Steps.{after_steps, all_meet, empty_content, has_step, is_text, IsOwn, no_properties, Node, node_at}
-use Rattle.reporter.specs.{declared.visit.Visit.Visit, declared.visit.Visit.TheVariants.Delete, Visits.{OwnSteps, entry_kind}}
+use Rattle.reporter.specs.{declared.kinds.Kinds.Kinds, declared.visit.Visit.Visit, declared.visit.Visit.TheVariants.Delete, Visits.{OwnSteps, entry_kind}}
 
 -- ---- both trees
 
@@ -17,6 +17,11 @@ pub record WalkedTrees : Type 0 where
   pub stale : PathValue → Bool
   pub seen : Node → Node
   pub own : OwnSteps
+
+-- what stands at a path on both sides
+pub record AreKindsAt (t : WalkedTrees) (p : PathValue) (kinds : Kinds) : Type 0 where
+  pub old : kinds.old ≡ kind_of (t.old p)
+  pub new : kinds.new ≡ kind_of (t.new p)
 
 -- ---- lists of paths
 
@@ -42,6 +47,12 @@ pub record AreChildren (p : PathValue) (xs : List PathValue) : Type 0 where
 -- what stands below p is at or under one of the paths
 abbrev pub AreAll : Tree → PathValue → List PathValue → Type 0
 AreAll t p xs = (q : PathValue) → below p q ≡ true → any_under xs q ≡ false → t q ≡ None
+
+-- the paths are those of what a directory has on either side
+pub record IsListed (t : WalkedTrees) (p : PathValue) (xs : List PathValue) : Type 0 where
+  pub children : AreChildren p xs
+  pub all_old : HoldsTogether p t.old → AreAll t.old p xs
+  pub all_new : HoldsTogether p t.new → AreAll t.new p xs
 
 -- no entry has a path this long
 abbrev pub IsShorter : Tree → ℕ → Type 0
@@ -87,15 +98,29 @@ pub record BothHold (old new : Tree) (p : PathValue) : Type 0 where
   pub new_holds : HoldsTogether p new
 
 -- nothing has changed at the path itself
-pub record IsSame (old new : Tree) (stale : PathValue → Bool) (p : PathValue) : Type 0 where
-  pub node : node_at old p ≡ node_at new p
-  pub created : created_revision old p ≡ created_revision new p
-  pub fresh : stale p ≡ false
+pub record IsSame (t : WalkedTrees) (p : PathValue) : Type 0 where
+  pub node : node_at t.old p ≡ node_at t.new p
+  pub created : created_revision t.old p ≡ created_revision t.new p
+  pub fresh : t.stale p ≡ false
 
 -- at the path and under it both trees have the same, and no token is stale
-abbrev pub AreAlike : Tree → Tree → (PathValue → Bool) → PathValue → Type 0
-AreAlike old new stale p =
-    (q : PathValue) → is_at_or_under q p ≡ true → (old q ≡ new q) × (stale q ≡ false)
+abbrev pub AreAlike : WalkedTrees → PathValue → Type 0
+AreAlike t p =
+    (q : PathValue) → is_at_or_under q p ≡ true → (t.old q ≡ t.new q) × (t.stale q ≡ false)
+
+-- something is to be said of the entry itself: it differs, or its token is stale
+abbrev pub IsDue : WalkedTrees → PathValue → Type 0
+IsDue t p = Differs t.old t.new p ⊎ (t.stale p ≡ true)
+
+-- the path may be named
+abbrev pub HasReasonAt : WalkedTrees → PathValue → Type 0
+HasReasonAt t p = HasReason t.stale t.old t.new p
+
+-- an entry is to stand there as a directory or a file, and stays unless it comes anew
+pub record MayEnter (t : WalkedTrees) (anew directory : Bool) (p : PathValue) : Type 0 where
+  pub stands : is_some (t.new p) ≡ true
+  pub kind : directory ≡ is_directory_there (t.new p)
+  pub stays : anew ≡ false → goes (t.old p) (t.new p) ≡ false
 
 -- the path is named: it is the root, or something below it is, or something is to be said of the
 -- entry itself

@@ -1,8 +1,7 @@
 //! The visits of one directory, made one after another.
-ghost use Rattle.std.specs.Prelude.{◌≡◌, ◌∷◌, ◌++◌, [], false, IfOk, is_some, List, true};
-ghost use Rattle.repo_api.specs.Trees.{is_directory_there};
-ghost use Rattle.reporter.specs.{Left.{IsEntry, IsFound, IsLeftIn, IsPlanBelow, IsPlanOf}, Nesting.entry_visit, Walks.{deletes_of, goes}};
-ghost use Rattle.reporter.specs.declared.visit.Visit.{Visit};
+ghost use Rattle.std.specs.Prelude.{◌≡◌, ◌∷◌, [], false, IfOk, List};
+ghost use Rattle.reporter.specs.{Left.{IsEntry, IsFound, IsLeftIn, IsPlanBelow, IsPlanOf, IsUnvisited, IsNextFound}, Nesting.entry_visit};
+ghost use Rattle.reporter.specs.{Walks.{deletes_of, MayEnter}, declared.visit.Visit.Visit};
 
 use crate::kinds::{goes, is_added};
 use crate::searching::has_news;
@@ -42,10 +41,7 @@ fn unvisited_among<S: Sides>(
     paths: Vec<Path>,
     is_anew: bool,
 ) -> Result<Unvisited, AllocError>
-    ensures deletes { IfOk result (λ here. here.deletes.items
-        ≡ deletes_of is_anew (S.trees sides.now).old (S.trees sides.now).new paths.items) }
-    ensures entries { IfOk result (λ here. here.entries.items ≡ paths.items) }
-    ensures is_anew { IfOk result (λ here. here.is_anew ≡ is_anew) }
+    ensures { IfOk result (IsUnvisited (S.trees sides.now) is_anew paths.items) }
 {
     let deletes = deletes_of(alloc, sides, &paths, is_anew)?;
     Ok(Unvisited {
@@ -61,10 +57,7 @@ pub(crate) fn unvisited_top<S: Sides>(
     sides: &S,
     top: &Path,
 ) -> Result<Unvisited, AllocError>
-    ensures deletes { IfOk result (λ here. here.deletes.items
-        ≡ deletes_of false (S.trees sides.now).old (S.trees sides.now).new (top.now ∷ [])) }
-    ensures entries { IfOk result (λ here. here.entries.items ≡ top.now ∷ []) }
-    ensures is_anew { IfOk result (λ here. here.is_anew ≡ false) }
+    ensures { IfOk result (IsUnvisited (S.trees sides.now) false (top.now ∷ [])) }
 {
     let mut paths = Vec::new(alloc);
     paths.push(top.clone()?)?;
@@ -104,10 +97,7 @@ fn entered<S: Sides>(
     is_anew: bool,
     is_directory: bool,
 ) -> Result<Found, AllocError>
-    requires stands { is_some ((S.trees sides.now).new path) ≡ true }
-    requires kind { is_directory ≡ is_directory_there ((S.trees sides.now).new path) }
-    requires stays { is_anew ≡ false
-        → goes ((S.trees sides.now).old path) ((S.trees sides.now).new path) ≡ false }
+    requires { MayEnter (S.trees sides.now) is_anew is_directory path }
     ensures { IfOk result (λ found. (vs : List Visit) → IsFound (S.trees sides.now) found vs
         → IsEntry (S.trees sides.now) is_anew is_directory path vs) }
 {
@@ -146,11 +136,7 @@ pub(crate) fn next_found<S: Sides>(
     sides: &S,
     here: &mut Unvisited,
 ) -> Result<Found, AllocError>
-    ensures next { IfOk result (λ found. (vs more : List Visit) → IsFound (S.trees sides.now) found vs
-        → IsLeftIn (S.trees sides.now) here.new more
-        → IsLeftIn (S.trees sides.now) here.old (vs ++ more)) }
-    ensures end { IfOk result (λ found. found ≡ Found.Nothing
-        → IsLeftIn (S.trees sides.now) here.old []) }
+    ensures { IfOk result (IsNextFound (S.trees sides.now) here.old here.new) }
 {
     if let Some(visit) = here.deletes.pop_front() {
         return Ok(Found::Single(visit));
@@ -161,11 +147,7 @@ pub(crate) fn next_found<S: Sides>(
 /// Finds what is visited next of the entries of a directory, where nothing is left that goes.
 fn next_entry<S: Sides>(alloc: Global, sides: &S, here: &mut Unvisited) -> Result<Found, AllocError>
     requires { here.old.deletes.items ≡ [] }
-    ensures next { IfOk result (λ found. (vs more : List Visit) → IsFound (S.trees sides.now) found vs
-        → IsLeftIn (S.trees sides.now) here.new more
-        → IsLeftIn (S.trees sides.now) here.old (vs ++ more)) }
-    ensures end { IfOk result (λ found. found ≡ Found.Nothing
-        → IsLeftIn (S.trees sides.now) here.old []) }
+    ensures { IfOk result (IsNextFound (S.trees sides.now) here.old here.new) }
 {
     while let Some(path) = here.entries.pop_front() {
         let found = found_at(alloc, sides, path, here.is_anew)?;

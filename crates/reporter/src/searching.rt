@@ -1,8 +1,6 @@
 //! Whether a walk over two trees names anything at a path or under it.
-ghost use Rattle.std.specs.Prelude.{◌≡◌, [], false, true, IfOk, is_some};
-ghost use Rattle.repo_api.specs.Trees.{is_directory_there};
-ghost use Rattle.drive_rules.specs.Drives.{HasReason};
-ghost use Rattle.reporter.specs.{Left.{IsPlanOf, IsPlanBelow}, Walks.goes};
+ghost use Rattle.std.specs.Prelude.{◌≡◌, [], false, true, IfOk, is_some, MatchBool};
+ghost use Rattle.reporter.specs.{Left.{IsPlanBelow, IsSilent}, Walks.{MayEnter, HasReasonAt}};
 
 use crate::kinds::{goes, is_added};
 use crate::sides::Sides;
@@ -13,12 +11,8 @@ use svnpath::Path;
 /// what is under it.
 #[cycle(searching)]
 fn is_named<S: Sides>(alloc: Global, sides: &S, path: &Path) -> Result<bool, AllocError>
-    ensures named { IfOk result (λ named. named ≡ true → HasReason (S.trees sides.now).stale
-        (S.trees sides.now).old (S.trees sides.now).new path.now) }
-    ensures stays { IfOk result (λ named. named ≡ false
-        → goes ((S.trees sides.now).old path.now) ((S.trees sides.now).new path.now) ≡ false) }
-    ensures none { IfOk result (λ named. named ≡ false
-        → IsPlanOf (S.trees sides.now) false path.now []) }
+    ensures { IfOk result (λ named. MatchBool named (HasReasonAt (S.trees sides.now) path.now)
+        (IsSilent (S.trees sides.now) path.now)) }
 {
     let kinds = sides.kinds(alloc, path)?;
     if !kinds.new.is_present() {
@@ -38,15 +32,9 @@ pub(crate) fn has_news<S: Sides>(
     path: &Path,
     is_directory: bool,
 ) -> Result<bool, AllocError>
-    requires stands { is_some ((S.trees sides.now).new path.now) ≡ true }
-    requires kind { is_directory ≡ is_directory_there ((S.trees sides.now).new path.now) }
-    requires stood { is_some ((S.trees sides.now).old path.now) ≡ true }
-    requires stays { goes ((S.trees sides.now).old path.now) ((S.trees sides.now).new path.now)
-        ≡ false }
-    ensures named { IfOk result (λ named. named ≡ true → HasReason (S.trees sides.now).stale
-        (S.trees sides.now).old (S.trees sides.now).new path.now) }
-    ensures none { IfOk result (λ named. named ≡ false
-        → IsPlanOf (S.trees sides.now) false path.now []) }
+    requires { MayEnter (S.trees sides.now) false is_directory path.now }
+    ensures { IfOk result (λ named. MatchBool named (HasReasonAt (S.trees sides.now) path.now)
+        (IsSilent (S.trees sides.now) path.now)) }
 {
     if sides.is_alike(alloc, path)? {
         return Ok(false);
@@ -64,10 +52,8 @@ pub(crate) fn has_news<S: Sides>(
 #[cycle(searching)]
 fn has_news_below<S: Sides>(alloc: Global, sides: &S, path: &Path) -> Result<bool, AllocError>
     requires stands { is_some ((S.trees sides.now).new path.now) ≡ true }
-    ensures named { IfOk result (λ named. named ≡ true → HasReason (S.trees sides.now).stale
-        (S.trees sides.now).old (S.trees sides.now).new path.now) }
-    ensures none { IfOk result (λ named. named ≡ false
-        → IsPlanBelow (S.trees sides.now) false path.now []) }
+    ensures { IfOk result (λ named. MatchBool named (HasReasonAt (S.trees sides.now) path.now)
+        (IsPlanBelow (S.trees sides.now) false path.now [])) }
 {
     let children = sides.children(alloc, path)?;
     for child in &children {

@@ -1,8 +1,6 @@
 //! Two trees side by side.
-ghost use Rattle.std.specs.Prelude.{◌≡◌, ◌⊎◌, ℕ, false, true, IfOk};
-ghost use Rattle.repo_api.specs.Kinds.{kind_of};
-ghost use Rattle.drive_rules.specs.{Drives.Differs, Scopes.HoldsTogether};
-ghost use Rattle.reporter.specs.Walks.{WalkedTrees, AreChildren, AreAll, IsSame, IsShorter, AreAlike, LeadsOver};
+ghost use Rattle.std.specs.Prelude.{◌≡◌, ℕ, true, IfOk, MatchBool};
+ghost use Rattle.reporter.specs.Walks.{WalkedTrees, IsSame, IsShorter, AreAlike, LeadsOver, AreKindsAt, IsListed, IsDue};
 
 use crate::kinds::Kinds;
 use std::alloc::{AllocError, Global};
@@ -23,28 +21,19 @@ pub trait Sides {
 
     /// Says what exists at the path on both sides.
     fn kinds(&self, alloc: Global, path: &Path) -> Result<Kinds, AllocError>
-        ensures old { IfOk result (λ kinds. kinds.old ≡ kind_of ((trees self.now).old path.now)) }
-        ensures new { IfOk result (λ kinds. kinds.new ≡ kind_of ((trees self.now).new path.now)) };
+        ensures { IfOk result (AreKindsAt (trees self.now) path.now) };
 
     /// Gives the paths of what a directory has on either side.
     fn children(&self, alloc: Global, path: &Path) -> Result<Vec<Path>, AllocError>
-        ensures children { IfOk result (λ v. AreChildren path.now v.items) }
-        ensures all_old { IfOk result (λ v. HoldsTogether path.now (trees self.now).old
-            → AreAll (trees self.now).old path.now v.items) }
-        ensures all_new { IfOk result (λ v. HoldsTogether path.now (trees self.now).new
-            → AreAll (trees self.now).new path.now v.items) };
+        ensures { IfOk result (λ v. IsListed (trees self.now) path.now v.items) };
 
     /// Says whether all is the same at the path and under it, with no stale token. A false answer
     /// is always right, and makes the walk longer.
     fn is_alike(&self, alloc: Global, path: &Path) -> Result<bool, AllocError>
-        ensures { IfOk result (λ alike. alike ≡ true → AreAlike (trees self.now).old
-            (trees self.now).new (trees self.now).stale path.now) };
+        ensures { IfOk result (λ alike. alike ≡ true → AreAlike (trees self.now) path.now) };
 
     /// Says whether something is to be said of the entry itself.
     fn is_due(&self, alloc: Global, path: &Path) -> Result<bool, AllocError>
-        ensures due { IfOk result (λ due. due ≡ true
-            → Differs (trees self.now).old (trees self.now).new path.now
-            ⊎ ((trees self.now).stale path.now ≡ true)) }
-        ensures same { IfOk result (λ due. due ≡ false → IsSame (trees self.now).old
-            (trees self.now).new (trees self.now).stale path.now) };
+        ensures { IfOk result (λ due. MatchBool due (IsDue (trees self.now) path.now)
+            (IsSame (trees self.now) path.now)) };
 }

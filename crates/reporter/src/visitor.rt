@@ -16,25 +16,17 @@ pub struct Visitor {
 }
 
 impl Visitor {
-    ghost use Rattle.std.specs.Prelude.{◌≡◌, ◌∷◌, [], true, IfOk, IfSome, List, None};
-    ghost use Rattle.svnpath.specs.Paths.{PathValue};
+    ghost use Rattle.std.specs.Prelude.{◌≡◌, ◌∷◌, [], IfOk, List, MatchOption};
     ghost use Rattle.repo_api.specs.Trees.{HasDirectory};
-    ghost use Rattle.drive_rules.specs.{Places.is_in_directory, Scopes.under};
-    ghost use Rattle.reporter.specs.{Left.behind, Nesting.AreNested, Visiting.MayVisit, Visits.IsRightPlan, Walks.BothHold, declared.visit.Visit.Visit};
-    ghost use Rattle.reporter.specs.declared.visit.Visit.TheVariants.{Open};
+    ghost use Rattle.reporter.specs.{Left.{behind, IsRootPlan, IsTopPlan}, Visiting.{MayVisit, IsNext}, declared.visit.Visit.Visit};
 
     /// Makes the visits of a drive of the whole tree: what it does below the root, which is opened
     /// before.
     pub fn of_root<S: Sides>(alloc: Global, sides: &S) -> Result<Self, AllocError>
         requires old { HasDirectory (S.trees sides.now).old [] }
         requires new { HasDirectory (S.trees sides.now).new [] }
-        ensures right { IfOk result (λ v. (vs : List Visit) → MayVisit (S.trees sides.now) v vs
-            → BothHold (S.trees sides.now).old (S.trees sides.now).new []
-            → IsRightPlan (S.trees sides.now).seen (under []) (S.trees sides.now).stale
-            (S.trees sides.now).old (S.trees sides.now).new (S.trees sides.now).own
-            (Open [] true ∷ vs)) }
-        ensures nests { IfOk result (λ v. (vs : List Visit) → MayVisit (S.trees sides.now) v vs
-            → AreNested (S.trees sides.now).new [] [] vs) }
+        ensures { IfOk result (λ v. (vs : List Visit) → MayVisit (S.trees sides.now) v vs
+            → IsRootPlan (S.trees sides.now) vs) }
     {
         let below = unvisited_below(alloc, sides, &Path::root(alloc), false)?;
         Visitor::of(alloc, below)
@@ -42,13 +34,8 @@ impl Visitor {
 
     /// Makes the visits of a drive from its top on.
     pub fn of_top<S: Sides>(alloc: Global, sides: &S, top: &Path) -> Result<Self, AllocError>
-        ensures right { IfOk result (λ v. (vs : List Visit) → MayVisit (S.trees sides.now) v vs
-            → BothHold (S.trees sides.now).old (S.trees sides.now).new top.now
-            → IsRightPlan (S.trees sides.now).seen (under top.now) (S.trees sides.now).stale
-            (S.trees sides.now).old (S.trees sides.now).new (S.trees sides.now).own vs) }
-        ensures nests { IfOk result (λ v. (vs : List Visit) → MayVisit (S.trees sides.now) v vs
-            → (d : PathValue) → is_in_directory top.now d top.now ≡ true
-            → AreNested (S.trees sides.now).new top.now d vs) }
+        ensures { IfOk result (λ v. (vs : List Visit) → MayVisit (S.trees sides.now) v vs
+            → IsTopPlan (S.trees sides.now) top.now vs) }
     {
         let here = unvisited_top(alloc, sides, top)?;
         Visitor::of(alloc, here)
@@ -70,11 +57,7 @@ impl Visitor {
     ///
     /// `AllocError` when out of memory.
     pub fn next<S: Sides>(&mut self, alloc: Global, sides: &S) -> Result<Option<Visit>, AllocError>
-        ensures next { IfOk result (λ found. IfSome found (λ visit. (vs : List Visit)
-            → MayVisit (S.trees sides.now) self.new vs
-            → MayVisit (S.trees sides.now) self.old (visit ∷ vs))) }
-        ensures end { IfOk result (λ found. found ≡ None
-            → MayVisit (S.trees sides.now) self.old []) }
+        ensures { IfOk result (IsNext (S.trees sides.now) self.old self.new) }
     {
         let Some(mut here) = self.open.pop_front() else {
             return Ok(None);
@@ -95,9 +78,8 @@ impl Visitor {
 
     /// Gives the visit that closes a directory, unless it was the last.
     fn closed(&self) -> Option<Visit>
-        ensures some { IfSome result (λ visit. (vs : List Visit)
+        ensures { MatchOption result (self.now.open.items ≡ []) (λ visit. (vs : List Visit)
             → behind self.now.open.items vs ≡ visit ∷ vs) }
-        ensures none { result ≡ None → self.now.open.items ≡ [] }
     {
         if self.open.is_empty() {
             None

@@ -1,7 +1,8 @@
 -- How the files of a new repository are written.
 use Rattle.std.proofs.Common.{◌≡◌, ◌≢◌, ◌⊎◌, inl, inr, ⊎_elim, ap, ◌∙◌, ℕ, List, [], ◌∷◌, Option, Some, arith}
 use Rattle.std.specs.Prelude.{◌<◌, ◌↔◌, Result, IsErr, IsErrOf}
-use Rattle.store_files.specs.{Folders.{Folder, IsSame, SameBut, Scribbled, text_of}, Moments.{Elapses, LeavesOnly}, declared.name.FileName.FileName}
+use Rattle.store_files.specs.{Folders.{Folder, IsSame, SameBut, Scribbled, text_of}, Moments.Elapses, Stops.LeavesOnly, declared.name.FileName.FileName}
+use Rattle.store_files.specs.declared.store.Store.{Ghosts}
 use Rattle.store_files.specs.declared.name.FileName.TheVariants.{Format, Kind, Uuid, Current, Locks, Revision, Properties, RepositoryFormat}
 use Rattle.store_files.specs.{declared.fault.StoreFault.StoreFault, declared.fault.StoreFault.TheVariants.{Device, NoMemory}}
 use Rattle.repostore.specs.{Current.count_in, Files.{Files, HasFiles}, Saving.{Stands, Going}, Creating.{IsFreeWith, IsFreeOrHas}}
@@ -58,20 +59,19 @@ module _ (locks : Option (List ℕ)) (format around kind uuid revision propertie
   opening_may_be d f same there (inl e) = inl (e ∙ there.0.free)
   opening_may_be d f same there (inr is) = inr (opening_is d f same there is)
 
-module _ {S : Type 0} (is_honest : S → Type 0) (holds : S → Folder)
-    (may_leave : S → Folder → Type 0) (moment : S → ℕ) (left_since : S → ℕ → Folder → Type 0) (locks : Option (List ℕ)) where
+module _ {S : Type 0} (s : Ghosts S) (locks : Option (List ℕ)) where
   abbrev pub Writing : S → S → Written → Type 0
-  Writing start now ws = Going is_honest holds may_leave moment left_since start now (IsFreeWith locks) (Begins locks ws)
+  Writing start now ws = Going s start now (IsFreeWith locks) (Begins locks ws)
 
   abbrev pub Free : S → Type 0
-  Free store = Stands is_honest holds may_leave store (IsFreeWith locks)
+  Free store = Stands s store (IsFreeWith locks)
 
   abbrev pub Leaves : S → S → (Folder → Type 0) → Type 0
-  Leaves = LeavesOnly moment left_since
+  Leaves = LeavesOnly s
 
-  pub starts : (store : S) → ((f : Folder) → is_honest store → left_since store (moment store) f → may_leave store f) → Free store → Writing store store []
+  pub starts : (store : S) → ((f : Folder) → s.is_honest store → s.left_since store (s.moment store) f → s.may_leave store f) → Free store → Writing store store []
   starts store only_now free =
-      let at = begun is_honest holds may_leave moment left_since store (IsFreeWith locks) only_now free in
+      let at = begun s store (IsFreeWith locks) only_now free in
       record {
         stands = record { honest = free.honest; read = (free.read, tt); left = λ f l. (free.left f l, tt) };
         run = at.run;
@@ -79,19 +79,19 @@ module _ {S : Type 0} (is_honest : S → Type 0) (holds : S → Folder)
 
   -- a file is written, whatever the call answers
   pub one_more : (start old new : S) (name : FileName) (ws : Written) → Format ≢ name → Locks ≢ name → AreOthers name ws → Writing start old ws
-      → (is_honest old ↔ is_honest new) → (is_honest old → SameBut name (holds old) (holds new))
-      → (is_honest old → (f : Folder) → may_leave new f → Scribbled (may_leave old) name f)
-      → (is_honest old → Elapses (moment old) (moment new) (left_since old) (left_since new) (Scribbled (may_leave old) name))
+      → (s.is_honest old ↔ s.is_honest new) → (s.is_honest old → SameBut name (s.holds old) (s.holds new))
+      → (s.is_honest old → (f : Folder) → s.may_leave new f → Scribbled (s.may_leave old) name f)
+      → (s.is_honest old → Elapses (s.moment old) (s.moment new) (s.left_since old) (s.left_since new) (Scribbled (s.may_leave old) name))
       → Writing start new ws
   one_more start old new name ws format lock others so_far honest same stop time =
-      wrote is_honest holds may_leave moment left_since start old new name (IsFreeWith locks) (Begins locks ws) (Begins locks ws) so_far honest same stop time
+      wrote s start old new name (IsFreeWith locks) (Begins locks ws) (Begins locks ws) so_far honest same stop time
       (λ d f but there. still_begins name locks ws d f format lock others but there) (λ f there. there.0)
 
   -- and it has its bytes
   pub is_written : (start now : S) (name : FileName) (bytes : List ℕ) (ws : Written) → Writing start now ws
-      → holds now name ≡ Some bytes → ((f : Folder) → may_leave now f → f name ≡ Some bytes) → Writing start now ((name, bytes) ∷ ws)
+      → s.holds now name ≡ Some bytes → ((f : Folder) → s.may_leave now f → f name ≡ Some bytes) → Writing start now ((name, bytes) ∷ ws)
   is_written start now name bytes ws so_far read left =
-      with_bytes is_honest holds may_leave moment left_since start now name bytes (IsFreeWith locks) (Begins locks ws) (Begins locks ((name, bytes) ∷ ws)) so_far read left
+      with_bytes s start now name bytes (IsFreeWith locks) (Begins locks ws) (Begins locks ((name, bytes) ∷ ws)) so_far read left
       (λ f there is. (there.0, (is, there.1)))
 
   pub is_free : (start now : S) (ws : Written) → Writing start now ws → Free now
@@ -102,12 +102,12 @@ module _ {S : Type 0} (is_honest : S → Type 0) (holds : S → Folder)
   }
 
   pub leaves_free : (start now : S) (files : Files) → Leaves start now (IsFreeWith locks) → Leaves start now (IsFreeOrHas files)
-  leaves_free start now files run = weaker is_honest holds may_leave moment left_since start now (IsFreeWith locks) (IsFreeOrHas files) (λ f free. inl free.free) run
+  leaves_free start now files run = weaker s start now (IsFreeWith locks) (IsFreeOrHas files) (λ f free. inl free.free) run
 
   -- whether `format` is there is read
-  pub looked : (old new : S) → ((f : Folder) → is_honest old → left_since old (moment old) f → may_leave old f) → Free old → is_honest new
-      → (is_honest old → IsSame (holds old) (holds new)) → (is_honest old → (f : Folder) → may_leave new f → may_leave old f)
-      → (is_honest old → Elapses (moment old) (moment new) (left_since old) (left_since new) (may_leave old))
+  pub looked : (old new : S) → ((f : Folder) → s.is_honest old → s.left_since old (s.moment old) f → s.may_leave old f) → Free old → s.is_honest new
+      → (s.is_honest old → IsSame (s.holds old) (s.holds new)) → (s.is_honest old → (f : Folder) → s.may_leave new f → s.may_leave old f)
+      → (s.is_honest old → Elapses (s.moment old) (s.moment new) (s.left_since old) (s.left_since new) (s.may_leave old))
       → Free new × Leaves old new (IsFreeWith locks)
   looked old new only_now free honest same stop time =
       let h = free.honest in (
@@ -116,22 +116,22 @@ module _ {S : Type 0} (is_honest : S → Type 0) (holds : S → Folder)
           read = record { free = same h Format ∙ free.read.free; locks_are = same h Locks ∙ free.read.locks_are };
           left = λ f l. free.left f (stop h f l);
         },
-        goes_on is_honest holds may_leave moment left_since old old new (IsFreeWith locks) (may_leave old)
-            (begun is_honest holds may_leave moment left_since old (IsFreeWith locks) only_now free).run (time h) free.left,
+        goes_on s old old new (IsFreeWith locks) (s.may_leave old)
+            (begun s old (IsFreeWith locks) only_now free).run (time h) free.left,
       )
 
   -- and what is left behind that
   pub behind : (old mid new : S) (files : Files) → Leaves old mid (IsFreeWith locks) → Leaves mid new (IsFreeOrHas files) → Leaves old new (IsFreeOrHas files)
   behind old mid new files first then =
-      weaker is_honest holds may_leave moment left_since old new (λ f. IsFreeWith locks f ⊎ IsFreeOrHas files f) (IsFreeOrHas files)
-      (λ f. ⊎_elim (λ free. inl free.free) (λ has. has)) (join moment left_since old mid new (IsFreeWith locks) (IsFreeOrHas files) first then)
+      weaker s old new (λ f. IsFreeWith locks f ⊎ IsFreeOrHas files f) (IsFreeOrHas files)
+      (λ f. ⊎_elim (λ free. inl free.free) (λ has. has)) (join s old mid new (IsFreeWith locks) (IsFreeOrHas files) first then)
 
   -- the last call, where nothing was changed
-  pub not_replaced : (start old new : S) (ws : Written) (before after : ℕ) (result : Result (Unit {0}) StoreFault) → Writing start old ws → IsErr result → is_honest new → before ≡ after
+  pub not_replaced : (start old new : S) (ws : Written) (before after : ℕ) (result : Result (Unit {0}) StoreFault) → Writing start old ws → IsErr result → s.is_honest new → before ≡ after
       → (IsErrOf result Device → before < after) → (IsErr result → IsErrOf result Device ⊎ IsErrOf result NoMemory)
-      → (IsErrOf result NoMemory → IsSame (holds old) (holds new)) → (IsErrOf result NoMemory → (f : Folder) → may_leave new f → may_leave old f) → Free new
+      → (IsErrOf result NoMemory → IsSame (s.holds old) (s.holds new)) → (IsErrOf result NoMemory → (f : Folder) → s.may_leave new f → s.may_leave old f) → Free new
   not_replaced start old new ws before after result so_far failed honest steady doubt only same left =
       ⊎_elim (λ device. absurd (omega (arith, steady, doubt device)))
-      (λ memory. unchanged is_honest holds may_leave moment left_since old new (Begins locks ws) (IsFreeWith locks) so_far.stands honest
+      (λ memory. unchanged s old new (Begins locks ws) (IsFreeWith locks) so_far.stands honest
       (record { read = same memory; left = left memory })
       (λ d f is there. record { free = is Format ∙ there.0.free; locks_are = is Locks ∙ there.0.locks_are })) (only failed)

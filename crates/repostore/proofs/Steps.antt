@@ -1,25 +1,25 @@
 -- How a run of calls goes on.
 use Rattle.std.proofs.Common.{◌≡◌, refl, ◌⊎◌, inl, inr, ⊎_elim, ℕ, List, Some, arith, le_refl}
 use Rattle.std.specs.Prelude.{◌↔◌, Result, Ok, Err, OnOk}
-use Rattle.store_files.specs.{Folders.{Folder, SameBut, Scribbled, Swapped}, Moments.{Elapses, LeavesOnly}, declared.name.FileName.FileName}
+use Rattle.store_files.specs.{Folders.{Folder, SameBut, Scribbled, Swapped}, Moments.Elapses, Stops.LeavesOnly, declared.name.FileName.FileName}
+use Rattle.store_files.specs.declared.store.Store.{Ghosts}
 use Rattle.repostore.specs.Saving.{Stands, Going, Replaces, IsWritten, IsUnchanged}
 
-module _ {S : Type 0} (is_honest : S → Type 0) (holds : S → Folder)
-    (may_leave : S → Folder → Type 0) (moment : S → ℕ) (left_since : S → ℕ → Folder → Type 0) where
+module _ {S : Type 0} (s : Ghosts S) where
   abbrev pub Here : S → (Folder → Type 0) → Type 0
-  Here = Stands is_honest holds may_leave
+  Here = Stands s
 
   abbrev pub On : S → S → (Folder → Type 0) → (Folder → Type 0) → Type 0
-  On = Going is_honest holds may_leave moment left_since
+  On = Going s
 
   -- before the first call
   pub begun : (store : S) (P : Folder → Type 0)
-      → ((f : Folder) → is_honest store → left_since store (moment store) f → may_leave store f)
+      → ((f : Folder) → s.is_honest store → s.left_since store (s.moment store) f → s.may_leave store f)
       → Here store P → On store store P P
   begun store P only_now here = record {
     stands = here;
     run = record {
-      later = le_refl (moment store);
+      later = le_refl (s.moment store);
       each = λ f left. here.left f (only_now f here.honest left);
       before = λ t f le left. inl left;
     };
@@ -27,18 +27,18 @@ module _ {S : Type 0} (is_honest : S → Type 0) (holds : S → Folder)
 
   -- one call more, during which a stop leaves what has P
   pub goes_on : (start old new : S) (P during : Folder → Type 0)
-      → LeavesOnly moment left_since start old P
-      → Elapses (moment old) (moment new) (left_since old) (left_since new) during
-      → ((f : Folder) → during f → P f) → LeavesOnly moment left_since start new P
+      → LeavesOnly s start old P
+      → Elapses (s.moment old) (s.moment new) (s.left_since old) (s.left_since new) during
+      → ((f : Folder) → during f → P f) → LeavesOnly s start new P
   goes_on start old new P during so_far time here = record {
     later = omega (arith, so_far.later, time.later);
-    each = λ f left. ⊎_elim (so_far.each f) (here f) (time.nothing_else (moment start) f so_far.later left);
+    each = λ f left. ⊎_elim (so_far.each f) (here f) (time.nothing_else (s.moment start) f so_far.later left);
     before = λ t f le left. ⊎_elim (so_far.before t f le) (λ now. inr (here f now)) (time.nothing_else t f (omega (arith, le, so_far.later)) left);
   }
 
   -- what has P has R too
   pub weaker : (start now : S) (P R : Folder → Type 0) → ((f : Folder) → P f → R f)
-      → LeavesOnly moment left_since start now P → LeavesOnly moment left_since start now R
+      → LeavesOnly s start now P → LeavesOnly s start now R
   weaker start now P R more run = record {
     later = run.later;
     each = λ f left. more f (run.each f left);
@@ -47,30 +47,30 @@ module _ {S : Type 0} (is_honest : S → Type 0) (holds : S → Folder)
 
   -- a file is written, whatever the call answers
   pub wrote : (start old new : S) (name : FileName) (P Q R : Folder → Type 0) → On start old P Q
-      → (is_honest old ↔ is_honest new) → (is_honest old → SameBut name (holds old) (holds new))
-      → (is_honest old → (f : Folder) → may_leave new f → Scribbled (may_leave old) name f)
-      → (is_honest old → Elapses (moment old) (moment new) (left_since old) (left_since new) (Scribbled (may_leave old) name))
+      → (s.is_honest old ↔ s.is_honest new) → (s.is_honest old → SameBut name (s.holds old) (s.holds new))
+      → (s.is_honest old → (f : Folder) → s.may_leave new f → Scribbled (s.may_leave old) name f)
+      → (s.is_honest old → Elapses (s.moment old) (s.moment new) (s.left_since old) (s.left_since new) (Scribbled (s.may_leave old) name))
       → ((d f : Folder) → SameBut name d f → Q d → R f) → ((f : Folder) → R f → P f) → On start new P R
   wrote start old new name P Q R so_far honest others stop time step more =
       let was = so_far.stands in
-      let scribbled : (f : Folder) → Scribbled (may_leave old) name f → R f = λ f s. step s.old f s.others (was.left s.old s.left) in
+      let scribbled : (f : Folder) → Scribbled (s.may_leave old) name f → R f = λ f s. step s.old f s.others (was.left s.old s.left) in
       record {
         stands = record {
           honest = honest.0 was.honest;
-          read = step (holds old) (holds new) (others was.honest) was.read;
+          read = step (s.holds old) (s.holds new) (others was.honest) was.read;
           left = λ f left. scribbled f (stop was.honest f left);
         };
-        run = goes_on start old new P (Scribbled (may_leave old) name) so_far.run (time was.honest) (λ f s. more f (scribbled f s));
+        run = goes_on start old new P (Scribbled (s.may_leave old) name) so_far.run (time was.honest) (λ f s. more f (scribbled f s));
       }
 
   -- and once it is written, it has its bytes
   pub with_bytes : (start now : S) (name : FileName) (bytes : List ℕ) (P Q R : Folder → Type 0) → On start now P Q
-      → holds now name ≡ Some bytes → ((f : Folder) → may_leave now f → f name ≡ Some bytes)
+      → s.holds now name ≡ Some bytes → ((f : Folder) → s.may_leave now f → f name ≡ Some bytes)
       → ((f : Folder) → Q f → f name ≡ Some bytes → R f) → On start now P R
   with_bytes start now name bytes P Q R so_far read left step = record {
     stands = record {
       honest = so_far.stands.honest;
-      read = step (holds now) so_far.stands.read read;
+      read = step (s.holds now) so_far.stands.read read;
       left = λ f l. step f (so_far.stands.left f l) (left f l);
     };
     run = so_far.run;
@@ -78,31 +78,31 @@ module _ {S : Type 0} (is_honest : S → Type 0) (holds : S → Folder)
 
   -- a file is replaced, whatever the call answers
   pub swapped : (start old new : S) (name : FileName) (bytes : List ℕ) (P Q R : Folder → Type 0) → On start old P Q
-      → Replaces is_honest holds may_leave moment left_since name bytes old new
+      → Replaces s name bytes old new
       → ((d f : Folder) → SameBut name d f → Q d → (f name ≡ d name) ⊎ (f name ≡ Some bytes) → R f)
-      → ((f : Folder) → P f → R f) → LeavesOnly moment left_since start new R
+      → ((f : Folder) → P f → R f) → LeavesOnly s start new R
   swapped start old new name bytes P Q R so_far call step more =
-      goes_on start old new R (Swapped (may_leave old) name bytes) (weaker start old P R more so_far.run) call.time
+      goes_on start old new R (Swapped (s.may_leave old) name bytes) (weaker start old P R more so_far.run) call.time
       (λ f s. step s.old f s.others (so_far.stands.left s.old s.left) s.either)
 
   -- and once it is replaced, it has its bytes
   pub replaced : (start old new : S) (name : FileName) (bytes : List ℕ) (P Q R : Folder → Type 0) → On start old P Q
-      → Replaces is_honest holds may_leave moment left_since name bytes old new
-      → IsWritten is_honest holds may_leave name bytes new
+      → Replaces s name bytes old new
+      → IsWritten s name bytes new
       → ((d f : Folder) → SameBut name d f → Q d → f name ≡ Some bytes → R f) → Here new R
   replaced start old new name bytes P Q R so_far call done step = record {
     honest = call.honest;
-    read = step (holds old) (holds new) call.others so_far.stands.read done.read;
+    read = step (s.holds old) (s.holds new) call.others so_far.stands.read done.read;
     left = λ f l. let s = call.stop f l in step s.old f s.others (so_far.stands.left s.old s.left) (done.left f l);
   }
 
   -- where nothing was changed, what stood stands
-  pub unchanged : (old new : S) (Q R : Folder → Type 0) → Here old Q → is_honest new
-      → IsUnchanged is_honest holds may_leave old new
+  pub unchanged : (old new : S) (Q R : Folder → Type 0) → Here old Q → s.is_honest new
+      → IsUnchanged s old new
       → ((d f : Folder) → ((n : FileName) → f n ≡ d n) → Q d → R f) → Here new R
   unchanged old new Q R here honest same step = record {
     honest = honest;
-    read = step (holds old) (holds new) same.read here.read;
+    read = step (s.holds old) (s.holds new) same.read here.read;
     left = λ f l. step f f (λ n. refl) (here.left f (same.left f l));
   }
 

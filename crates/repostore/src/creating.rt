@@ -1,7 +1,7 @@
 //! The files of a repository that is new.
-ghost use Rattle.std.specs.Prelude.{◌≡◌, ◌∷◌, [], ◌↔◌, ℕ, List, Option, Some, None, IsSome, OnOk, IsErr, IsErrOf};
-ghost use Rattle.store_files.specs.{Folders.IsSame, Moments.{HasCause, HasRisen, LeavesOnly}};
-ghost use Rattle.repostore.specs.{Current.count_in, Files.HasFiles, Creating.{opening_files, IsFreeWith, IsFreeOrHas}, Saving.Stands};
+ghost use Rattle.std.specs.Prelude.{◌≡◌, ◌↔◌, ℕ, List, Option, Some, None, IsSome, OnOk, IsErrOf};
+ghost use Rattle.store_files.specs.{Folders.IsSame, Moments.{HasCause, HasRisen}};
+ghost use Rattle.repostore.specs.{Current.count_in, Files.HasFiles, Creating.{Creates, opening_files, IsFreeWith}, Saving.Stands};
 
 use std::alloc::Global;
 use store_files::{FileName, Store, StoreFault};
@@ -33,22 +33,10 @@ pub fn create<S: Store>(
         → OnOk result (HasFiles (opening_files opening.entry (S.holds store.old FileName.Locks))
         (S.holds store.new)) }
     // A stop at any moment of the call leaves no `format`, so that `create` may be asked again, or
-    // the whole new repository.
-    ensures stop { (locks : Option (List ℕ)) → S.is_honest store.new
-        → Stands S.is_honest S.holds S.may_leave store.old (IsFreeWith locks)
-        → count_in opening.entry.current.now ≡ Some 1
-        → LeavesOnly S.moment S.left_since store.old store.new
-        (IsFreeOrHas (opening_files opening.entry locks)) }
-    ensures kept { (locks : Option (List ℕ)) → S.is_honest store.new
-        → Stands S.is_honest S.holds S.may_leave store.old (IsFreeWith locks)
-        → count_in opening.entry.current.now ≡ Some 1
-        → OnOk result (Stands S.is_honest S.holds S.may_leave store.new
-        (HasFiles (opening_files opening.entry locks))) }
-    // So does a fault, where it is known which bytes stand.
-    ensures again { (locks : Option (List ℕ)) → S.is_honest store.new
-        → Stands S.is_honest S.holds S.may_leave store.old (IsFreeWith locks)
-        → IsErr result → S.in_doubt store.new ≡ S.in_doubt store.old
-        → Stands S.is_honest S.holds S.may_leave store.new (IsFreeWith locks) }
+    // the whole new repository. So does a fault, where it is known which bytes stand.
+    ensures creates { (locks : Option (List ℕ)) → S.is_honest store.new
+        → Stands S.Store store.old (IsFreeWith locks)
+        → Creates S.Store opening.entry locks store.old store.new result }
     ensures device { IsErrOf result StoreFault.Device
         → HasRisen (S.failed store.old) (S.failed store.new) }
 {
@@ -64,20 +52,9 @@ fn write_opening<S: Store>(store: &mut S, opening: Opening<'_>) -> Result<(), St
     ensures made { S.is_honest store.old → count_in opening.entry.current.now ≡ Some 1
         → OnOk result (HasFiles (opening_files opening.entry (S.holds store.old FileName.Locks))
         (S.holds store.new)) }
-    ensures stop { (locks : Option (List ℕ))
-        → Stands S.is_honest S.holds S.may_leave store.old (IsFreeWith locks)
-        → count_in opening.entry.current.now ≡ Some 1
-        → LeavesOnly S.moment S.left_since store.old store.new
-        (IsFreeOrHas (opening_files opening.entry locks)) }
-    ensures kept { (locks : Option (List ℕ))
-        → Stands S.is_honest S.holds S.may_leave store.old (IsFreeWith locks)
-        → count_in opening.entry.current.now ≡ Some 1
-        → OnOk result (Stands S.is_honest S.holds S.may_leave store.new
-        (HasFiles (opening_files opening.entry locks))) }
-    ensures again { (locks : Option (List ℕ))
-        → Stands S.is_honest S.holds S.may_leave store.old (IsFreeWith locks)
-        → IsErr result → S.in_doubt store.new ≡ S.in_doubt store.old
-        → Stands S.is_honest S.holds S.may_leave store.new (IsFreeWith locks) }
+    ensures creates { (locks : Option (List ℕ))
+        → Stands S.Store store.old (IsFreeWith locks)
+        → Creates S.Store opening.entry locks store.old store.new result }
     ensures cause { HasCause (S.failed store.old) (S.failed store.new) result }
 {
     store.write_new(FileName::RepositoryFormat, opening.repository_format)?;

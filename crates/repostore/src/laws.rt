@@ -1,6 +1,6 @@
 //! What the promises of saves say together.
 ghost use Rattle.std.specs.Prelude.{◌≡◌, ◌⊎◌};
-ghost use Rattle.store_files.specs.{Folders.Folder, Moments.LeavesOnly};
+ghost use Rattle.store_files.specs.{Folders.Folder, Stops.LeavesOnly};
 ghost use Rattle.repostore.specs.Files.{Files, HasFiles, HasEither};
 
 use store_files::Store;
@@ -16,8 +16,8 @@ pub fn a_stop_is_opened_as_old_or_new()
 /// them or from after the second.
 pub fn runs_of_saves_join<S: Store>()
     ensures { (start mid end : S) (before between behind : Files)
-        → LeavesOnly S.moment S.left_since start mid (HasEither before between)
-        → LeavesOnly S.moment S.left_since mid end (HasEither between behind)
-        → LeavesOnly S.moment S.left_since start end
+        → LeavesOnly S.Store start mid (HasEither before between)
+        → LeavesOnly S.Store mid end (HasEither between behind)
+        → LeavesOnly S.Store start end
         (λ f. HasEither before between f ⊎ HasEither between behind f) }
 {}

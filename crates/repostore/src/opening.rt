@@ -1,9 +1,9 @@
 //! The files of a repository read back.
-ghost use Rattle.std.specs.Prelude.{◌≡◌, ◌⊎◌, Some, IfOk, IfErr, OnOk, IsErrOf};
-ghost use Rattle.store_files.specs.{Folders.{bytes_of, Folder, IsSame, text_of}, Moments.{HasCause, HasRisen}};
+ghost use Rattle.std.specs.Prelude.{◌≡◌, ◌⊎◌, Some, IfOk, IfErr, OnOk};
+ghost use Rattle.store_files.specs.{Folders.{bytes_of, Folder, IsSame, text_of}, Moments.HasCause};
 ghost use Rattle.repostore.specs.{Current.count_in, Files.{Files, HasFiles, revision_files, reached}, Reading.{Faulty, HasTaken, IsFaulty, HasFaultyRevision}};
-ghost use Rattle.repostore.specs.Reading.{IfFaulty, IfFindsFaulty, IfStoreFindsFaulty, with_head, with_one_more, with_read_locks, read_below};
-ghost use Rattle.repostore.specs.Saving.{IsSaved, OnlyReads};
+ghost use Rattle.repostore.specs.Reading.{IfFindsFaulty, IfStoreFindsFaulty, with_head, with_one_more, with_read_locks, read_below};
+ghost use Rattle.repostore.specs.{Opening.{IsUnopened, OnlyReads, Reads}, Saving.IsSaved};
 
 use crate::saves::Saves;
 use fsfs_lines::FileFault;
@@ -60,15 +60,9 @@ pub fn open<S: Store, R: Reader>(alloc: Global, store: S) -> Result<(Saves<S>, R
     ensures saved { IfOk result (λ opened. S.is_honest opened.0.store
         → ((f : Folder) → S.may_leave store f → IsSame (S.holds store) f)
         → (files : Files) → HasFiles files (S.holds store)
-        → IsSaved S.is_honest S.holds S.may_leave opened.0 files) }
-    ensures reads { IfOk result (λ opened. OnlyReads S.is_honest S.holds S.may_leave S.moment
-        S.left_since S.in_doubt S.failed store opened.0.store) }
-    ensures faulty { IfErr result (λ unopened. S.is_honest unopened.store
-        → IfFaulty unopened.fault (IsFaulty R.faulty (S.holds store))) }
-    ensures device { IfErr result (λ unopened. unopened.fault ≡ StoreFault.Device
-        → HasRisen (S.failed store) (S.failed unopened.store)) }
-    ensures unchanged { IfErr result (λ unopened. OnlyReads S.is_honest S.holds S.may_leave S.moment
-        S.left_since S.in_doubt S.failed store unopened.store) }
+        → IsSaved S.Store opened.0 files) }
+    ensures reads { IfOk result (λ opened. OnlyReads S.Store store opened.0.store) }
+    ensures unopened { IfErr result (λ unopened. IsUnopened S.Store R.faulty store unopened) }
 {
     let mut store = store;
     match read_all(alloc, &mut store) {
@@ -86,16 +80,13 @@ pub fn open<S: Store, R: Reader>(alloc: Global, store: S) -> Result<(Saves<S>, R
 
 /// Reads all files, and answers how many revisions there are.
 fn read_all<S: Store, R: Reader>(alloc: Global, store: &mut S) -> Result<(R, u32), StoreFault>
-    ensures reads { OnlyReads S.is_honest S.holds S.may_leave S.moment S.left_since S.in_doubt
-        S.failed store.old store.new }
+    ensures reads { Reads S.Store store.old store.new result }
     ensures found { S.is_honest store.new → IfOk result (λ read. HasTaken R.took
         (S.holds store.old) read.0) }
     ensures count { S.is_honest store.new → IfOk result (λ read. count_in
         (text_of (S.holds store.old FileName.Current)) ≡ Some read.1) }
     ensures faulty { S.is_honest store.new → IfStoreFindsFaulty result (IsFaulty R.faulty
         (S.holds store.old)) }
-    ensures device { IsErrOf result StoreFault.Device
-        → HasRisen (S.failed store.old) (S.failed store.new) }
 {
     let (mut reader, count) = read_head(alloc, store)?;
     match read_rest(alloc, store, &mut reader, count) {
@@ -109,8 +100,7 @@ fn read_all<S: Store, R: Reader>(alloc: Global, store: &mut S) -> Result<(R, u32
 
 /// Reads the files that say what is there, and begins with them.
 fn read_head<S: Store, R: Reader>(alloc: Global, store: &mut S) -> Result<(R, u32), StoreFault>
-    ensures reads { OnlyReads S.is_honest S.holds S.may_leave S.moment S.left_since S.in_doubt
-        S.failed store.old store.new }
+    ensures reads { Reads S.Store store.old store.new result }
     ensures took { S.is_honest store.new → IfOk result (λ begun. R.took begun.0
         (read_below (S.holds store.old) 0)) }
     ensures count { S.is_honest store.new → IfOk result (λ begun. count_in
@@ -118,8 +108,6 @@ fn read_head<S: Store, R: Reader>(alloc: Global, store: &mut S) -> Result<(R, u3
     ensures faulty { S.is_honest store.new → IfStoreFindsFaulty result (R.faulty.head
         (S.holds store.old FileName.Format) (text_of (S.holds store.old FileName.Uuid))
         (text_of (S.holds store.old FileName.Current))) }
-    ensures device { IsErrOf result StoreFault.Device
-        → HasRisen (S.failed store.old) (S.failed store.new) }
 {
     let format = store.read(alloc, FileName::Format)?;
     let uuid = read_text(alloc, store, FileName::Uuid)?;
@@ -134,15 +122,12 @@ fn read_rest<S: Store, R: Reader>(
     reader: &mut R,
     count: u32,
 ) -> Result<(), StoreFault>
-    ensures reads { OnlyReads S.is_honest S.holds S.may_leave S.moment S.left_since S.in_doubt
-        S.failed store.old store.new }
+    ensures reads { Reads S.Store store.old store.new result }
     ensures took { S.is_honest store.new → R.took reader.old (read_below (S.holds store.old) 0)
         → OnOk result (R.took reader.new (reached (S.holds store.old) count)) }
     ensures faulty { S.is_honest store.new → R.took reader.old (read_below (S.holds store.old) 0)
         → IfStoreFindsFaulty result (HasFaultyRevision R.faulty (S.holds store.old) count
         ⊎ R.faulty.locks (S.holds store.old FileName.Locks)) }
-    ensures device { IsErrOf result StoreFault.Device
-        → HasRisen (S.failed store.old) (S.failed store.new) }
 {
     read_revisions(alloc, store, reader, count)?;
     read_locks(alloc, store, reader)
@@ -150,8 +135,7 @@ fn read_rest<S: Store, R: Reader>(
 
 /// Reads the bytes of a file; one that is missing has none.
 fn read_text<S: Store>(alloc: Global, store: &mut S, name: FileName) -> Result<Vec<u8>, StoreFault>
-    ensures reads { OnlyReads S.is_honest S.holds S.may_leave S.moment S.left_since S.in_doubt
-        S.failed store.old store.new }
+    ensures reads { OnlyReads S.Store store.old store.new }
     ensures found { S.is_honest store.new → IfOk result (λ found. found.items
         ≡ text_of (S.holds store.old name)) }
     ensures cause { HasCause (S.failed store.old) (S.failed store.new) result }
@@ -169,14 +153,11 @@ fn read_revisions<S: Store, R: Reader>(
     reader: &mut R,
     count: u32,
 ) -> Result<(), StoreFault>
-    ensures reads { OnlyReads S.is_honest S.holds S.may_leave S.moment S.left_since S.in_doubt
-        S.failed store.old store.new }
+    ensures reads { Reads S.Store store.old store.new result }
     ensures took { S.is_honest store.new → R.took reader.old (read_below (S.holds store.old) 0)
         → OnOk result (R.took reader.new (read_below (S.holds store.old) count)) }
     ensures faulty { S.is_honest store.new → R.took reader.old (read_below (S.holds store.old) 0)
         → IfStoreFindsFaulty result (HasFaultyRevision R.faulty (S.holds store.old) count) }
-    ensures device { IsErrOf result StoreFault.Device
-        → HasRisen (S.failed store.old) (S.failed store.new) }
 {
     for number in 0..count {
         read_revision(alloc, store, reader, number)?;
@@ -191,15 +172,12 @@ fn read_revision<S: Store, R: Reader>(
     reader: &mut R,
     number: u32,
 ) -> Result<(), StoreFault>
-    ensures reads { OnlyReads S.is_honest S.holds S.may_leave S.moment S.left_since S.in_doubt
-        S.failed store.old store.new }
+    ensures reads { Reads S.Store store.old store.new result }
     ensures took { S.is_honest store.new → OnOk result ((files : Files) → R.took reader.old files
         → R.took reader.new (with_one_more files (revision_files (S.holds store.old) number))) }
     ensures faulty { S.is_honest store.new → (files : Files) → R.took reader.old files
         → IfStoreFindsFaulty result (R.faulty.revision files.revisions
         (revision_files (S.holds store.old) number)) }
-    ensures device { IsErrOf result StoreFault.Device
-        → HasRisen (S.failed store.old) (S.failed store.new) }
 {
     let revision = read_text(alloc, store, FileName::Revision(number))?;
     let properties = read_text(alloc, store, FileName::Properties(number))?;
@@ -212,14 +190,11 @@ fn read_locks<S: Store, R: Reader>(
     store: &mut S,
     reader: &mut R,
 ) -> Result<(), StoreFault>
-    ensures reads { OnlyReads S.is_honest S.holds S.may_leave S.moment S.left_since S.in_doubt
-        S.failed store.old store.new }
+    ensures reads { Reads S.Store store.old store.new result }
     ensures took { S.is_honest store.new → OnOk result ((files : Files) → R.took reader.old files
         → R.took reader.new (with_read_locks files (S.holds store.old FileName.Locks))) }
     ensures faulty { S.is_honest store.new → IfStoreFindsFaulty result (R.faulty.locks
         (S.holds store.old FileName.Locks)) }
-    ensures device { IsErrOf result StoreFault.Device
-        → HasRisen (S.failed store.old) (S.failed store.new) }
 {
     let locks = store.read(alloc, FileName::Locks)?;
     Ok(reader.take_locks(locks)?)

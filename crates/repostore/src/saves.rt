@@ -1,8 +1,8 @@
 //! Changes saved to files.
-ghost use Rattle.std.specs.Prelude.{◌≡◌, ◌⊎◌, ◌<◌, ◌≤◌, ◌+◌, ◌↔◌, true, false, Some, length, OnOk, IsErr, IsErrOf};
-ghost use Rattle.store_files.specs.Moments.{HasCause, HasRisen, LeavesOnly};
-ghost use Rattle.repostore.specs.{Current.count_in, Files.{Files, with_revision, with_locks, with_properties, HasFiles, HasEither}};
-ghost use Rattle.repostore.specs.Saving.{IsSaved, Going, Replaces, IsWritten, IsUnchanged, HasNext};
+ghost use Rattle.std.specs.Prelude.{◌≡◌, ◌⊎◌, ◌<◌, ◌+◌, ◌↔◌, true, false, Some, OnOk, IsErr, IsErrOf};
+ghost use Rattle.store_files.specs.Moments.{HasCause};
+ghost use Rattle.repostore.specs.{Current.count_in, Files.{Files, with_revision, with_locks, with_properties, HasFiles}};
+ghost use Rattle.repostore.specs.Saving.{IsSaved, SaveMakes, SaveEnds, Going, Replaces, IsWritten, IsUnchanged, HasNext};
 
 use store_files::{FileName, Store, StoreFault};
 
@@ -24,36 +24,11 @@ impl<S: Store> Saves<S> {
         properties: &[u8],
         current: &[u8],
     ) -> Result<(), StoreFault>
-        ensures saved { (files : Files)
-            → IsSaved S.is_honest S.holds S.may_leave self.old files
+        ensures saved { (files : Files) → IsSaved S.Store self.old files
             → count_in current.now ≡ Some (self.old.count + 1)
-            → OnOk result (IsSaved S.is_honest S.holds S.may_leave self.new
-            (with_revision files (revision.now, properties.now) current.now)) }
-        // A fault that does not halt leaves the files as they were.
-        ensures refused { (files : Files)
-            → IsSaved S.is_honest S.holds S.may_leave self.old files
-            → IsErr result → self.new.is_halted ≡ false
-            → IsSaved S.is_honest S.holds S.may_leave self.new files }
-        // A stop at any moment of the call leaves the files from before it, or those with the revision.
-        ensures any_moment { (files : Files)
-            → IsSaved S.is_honest S.holds S.may_leave self.old files
-            → count_in current.now ≡ Some (self.old.count + 1)
-            → LeavesOnly S.moment S.left_since self.old.store self.new.store
-            (HasEither files (with_revision files (revision.now, properties.now) current.now)) }
-        ensures honest { S.is_honest self.old.store ↔ S.is_honest self.new.store }
-        ensures halts { (self.new.is_halted ≡ true)
-            ↔ ((self.old.is_halted ≡ true)
-            ⊎ (S.in_doubt self.old.store < S.in_doubt self.new.store)) }
-        ensures by_device { self.new.is_halted ≡ true
-            → (self.old.is_halted ≡ true) ⊎ IsErrOf result StoreFault.Device }
-        ensures halted { IsErrOf result StoreFault.Halted ↔ (self.old.is_halted ≡ true) }
-        ensures stays { self.old.is_halted ≡ true → self.new ≡ self.old }
-        ensures device { IsErrOf result StoreFault.Device
-            → HasRisen (S.failed self.old.store) (S.failed self.new.store) }
-        ensures steady { (IsErrOf result StoreFault.Device → ⊥)
-            → S.failed self.new.store ≡ S.failed self.old.store }
-        ensures only { IsErr result → IsErrOf result StoreFault.Device
-            ⊎ IsErrOf result StoreFault.NoMemory ⊎ IsErrOf result StoreFault.Halted }
+            → SaveMakes S.Store self.old self.new result files
+            (with_revision files (revision.now, properties.now) current.now) }
+        ensures ends { SaveEnds S.Store self.old self.new result }
     {
         if self.is_halted {
             return Err(StoreFault::Halted);
@@ -66,14 +41,10 @@ impl<S: Store> Saves<S> {
 
     /// Writes the files of the next revision, which are not reached yet.
     fn write_revision(&mut self, revision: &[u8], properties: &[u8]) -> Result<(), StoreFault>
-        ensures going { (files : Files)
-            → IsSaved S.is_honest S.holds S.may_leave self.old files
-            → Going S.is_honest S.holds S.may_leave S.moment S.left_since self.old.store
-            self.new.store (HasFiles files) (HasFiles files) }
-        ensures ok { (files : Files)
-            → IsSaved S.is_honest S.holds S.may_leave self.old files
-            → OnOk result (Going S.is_honest S.holds S.may_leave S.moment S.left_since
-            self.old.store self.new.store (HasFiles files)
+        ensures going { (files : Files) → IsSaved S.Store self.old files
+            → Going S.Store self.old.store self.new.store (HasFiles files) (HasFiles files) }
+        ensures ok { (files : Files) → IsSaved S.Store self.old files
+            → OnOk result (Going S.Store self.old.store self.new.store (HasFiles files)
             (HasNext files self.old.count revision.now properties.now)) }
         ensures honest { S.is_honest self.old.store ↔ S.is_honest self.new.store }
         ensures count { self.new.count ≡ self.old.count }
@@ -90,14 +61,11 @@ impl<S: Store> Saves<S> {
     /// Replaces a file. Where the device fails, no save is made any more.
     fn publish(&mut self, name: FileName, bytes: &[u8]) -> Result<(), StoreFault>
         ensures replaces { S.is_honest self.old.store
-            → Replaces S.is_honest S.holds S.may_leave S.moment S.left_since name bytes.now
-            self.old.store self.new.store }
+            → Replaces S.Store name bytes.now self.old.store self.new.store }
         ensures ok { S.is_honest self.old.store
-            → OnOk result (IsWritten S.is_honest S.holds S.may_leave name bytes.now
-            self.new.store) }
-        ensures refused { S.is_honest self.old.store → IsErr result
-            → self.new.is_halted ≡ false
-            → IsUnchanged S.is_honest S.holds S.may_leave self.old.store self.new.store }
+            → OnOk result (IsWritten S.Store name bytes.now self.new.store) }
+        ensures refused { S.is_honest self.old.store → IsErr result → self.new.is_halted ≡ false
+            → IsUnchanged S.Store self.old.store self.new.store }
         ensures count { self.new.count ≡ self.old.count }
         ensures honest { S.is_honest self.old.store ↔ S.is_honest self.new.store }
         ensures halts { (self.new.is_halted ≡ true)
@@ -131,32 +99,10 @@ impl<S: Store> Saves<S> {
 
     /// Saves the locks.
     pub fn save_locks(&mut self, locks: &[u8]) -> Result<(), StoreFault>
-        ensures saved { (files : Files)
-            → IsSaved S.is_honest S.holds S.may_leave self.old files
-            → OnOk result (IsSaved S.is_honest S.holds S.may_leave self.new
-            (with_locks files locks.now)) }
-        ensures refused { (files : Files)
-            → IsSaved S.is_honest S.holds S.may_leave self.old files
-            → IsErr result → self.new.is_halted ≡ false
-            → IsSaved S.is_honest S.holds S.may_leave self.new files }
-        ensures any_moment { (files : Files)
-            → IsSaved S.is_honest S.holds S.may_leave self.old files
-            → LeavesOnly S.moment S.left_since self.old.store self.new.store
-            (HasEither files (with_locks files locks.now)) }
-        ensures honest { S.is_honest self.old.store ↔ S.is_honest self.new.store }
-        ensures halts { (self.new.is_halted ≡ true)
-            ↔ ((self.old.is_halted ≡ true)
-            ⊎ (S.in_doubt self.old.store < S.in_doubt self.new.store)) }
-        ensures by_device { (self.new.is_halted ≡ true)
-            ↔ ((self.old.is_halted ≡ true) ⊎ IsErrOf result StoreFault.Device) }
-        ensures halted { IsErrOf result StoreFault.Halted ↔ (self.old.is_halted ≡ true) }
-        ensures stays { self.old.is_halted ≡ true → self.new ≡ self.old }
-        ensures device { IsErrOf result StoreFault.Device
-            → HasRisen (S.failed self.old.store) (S.failed self.new.store) }
-        ensures steady { (IsErrOf result StoreFault.Device → ⊥)
-            → S.failed self.new.store ≡ S.failed self.old.store }
-        ensures only { IsErr result → IsErrOf result StoreFault.Device
-            ⊎ IsErrOf result StoreFault.NoMemory ⊎ IsErrOf result StoreFault.Halted }
+        ensures saved { (files : Files) → IsSaved S.Store self.old files
+            → SaveMakes S.Store self.old self.new result files (with_locks files locks.now) }
+        ensures ends { SaveEnds S.Store self.old self.new result }
+        ensures device_halts { IsErrOf result StoreFault.Device → self.new.is_halted ≡ true }
     {
         if self.is_halted {
             return Err(StoreFault::Halted);
@@ -166,33 +112,12 @@ impl<S: Store> Saves<S> {
 
     /// Saves the properties of a revision that is there.
     pub fn save_rev_prop(&mut self, revision: u32, properties: &[u8]) -> Result<(), StoreFault>
-        ensures saved { (files : Files)
-            → IsSaved S.is_honest S.holds S.may_leave self.old files
-            → revision < self.old.count → OnOk result (IsSaved S.is_honest S.holds S.may_leave self.new
-            (with_properties files revision properties.now)) }
-        ensures refused { (files : Files)
-            → IsSaved S.is_honest S.holds S.may_leave self.old files
-            → IsErr result → self.new.is_halted ≡ false
-            → IsSaved S.is_honest S.holds S.may_leave self.new files }
-        ensures any_moment { (files : Files)
-            → IsSaved S.is_honest S.holds S.may_leave self.old files
+        ensures saved { (files : Files) → IsSaved S.Store self.old files
             → revision < self.old.count
-            → LeavesOnly S.moment S.left_since self.old.store self.new.store
-            (HasEither files (with_properties files revision properties.now)) }
-        ensures honest { S.is_honest self.old.store ↔ S.is_honest self.new.store }
-        ensures halts { (self.new.is_halted ≡ true)
-            ↔ ((self.old.is_halted ≡ true)
-            ⊎ (S.in_doubt self.old.store < S.in_doubt self.new.store)) }
-        ensures by_device { (self.new.is_halted ≡ true)
-            ↔ ((self.old.is_halted ≡ true) ⊎ IsErrOf result StoreFault.Device) }
-        ensures halted { IsErrOf result StoreFault.Halted ↔ (self.old.is_halted ≡ true) }
-        ensures stays { self.old.is_halted ≡ true → self.new ≡ self.old }
-        ensures device { IsErrOf result StoreFault.Device
-            → HasRisen (S.failed self.old.store) (S.failed self.new.store) }
-        ensures steady { (IsErrOf result StoreFault.Device → ⊥)
-            → S.failed self.new.store ≡ S.failed self.old.store }
-        ensures only { IsErr result → IsErrOf result StoreFault.Device
-            ⊎ IsErrOf result StoreFault.NoMemory ⊎ IsErrOf result StoreFault.Halted }
+            → SaveMakes S.Store self.old self.new result files
+            (with_properties files revision properties.now) }
+        ensures ends { SaveEnds S.Store self.old self.new result }
+        ensures device_halts { IsErrOf result StoreFault.Device → self.new.is_halted ≡ true }
     {
         if self.is_halted {
             return Err(StoreFault::Halted);

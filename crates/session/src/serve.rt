@@ -29,8 +29,7 @@ fn serve_item<R: Repository, A: RepoAccess<View = R>, S: ReplySink>(
     turn: &mut Turn<S>,
 ) -> Result<SessionPhase<R>, AllocError>
     requires rests { StandsOn phase (content_of (A.point access.old)) }
-    ensures { SteppedInPart result turn.new.env (S.writes turn.old.out turn.new.out) A.rules
-        (A.point access.old) (A.point access.new)
+    ensures { SteppedInPart result S.writes turn.old turn.new A.rules A.point access.old access.new
         (InputStep options.now turn.old.env phase (Whole (value_of item.now)))
         (UnreleasedStep turn.old.env phase (Whole (value_of item.now))) }
 {
@@ -52,7 +51,7 @@ fn serve_broken<R: Repository, S: ReplySink>(
     phase: SessionPhase<R>,
     turn: &mut Turn<S>,
 ) -> Result<SessionPhase<R>, AllocError>
-    ensures { Answered result turn.new.env (S.writes turn.old.out turn.new.out)
+    ensures { Answered result S.writes turn.old turn.new
         (if is_open phase then malformed turn.old.env else says turn.old.env Phase.Ended []) }
 {
     let was_open = phase.is_open();
@@ -73,8 +72,7 @@ pub fn serve<R: Repository, A: RepoAccess<View = R>, S: ReplySink>(
     turn: &mut Turn<S>,
 ) -> Result<SessionPhase<R>, AllocError>
     requires rests { StandsOn phase (content_of (A.point access.old)) }
-    ensures { SteppedInPart result turn.new.env (S.writes turn.old.out turn.new.out) A.rules
-        (A.point access.old) (A.point access.new)
+    ensures { SteppedInPart result S.writes turn.old turn.new A.rules A.point access.old access.new
         (InputStep options.now turn.old.env phase (input_of incoming))
         (UnreleasedStep turn.old.env phase (input_of incoming)) }
 {

@@ -14,17 +14,17 @@ use Rattle.session_changes.specs.Asked.{LockAsked, UnlockAsked}
 -- ---- a lock and an unlock
 
 module _ (env : Env) (client : Client) where
-  pub lock_is : (command : LockCommand) (ask : LockAsk) (found : Result PathValue PathFault) → found ≡ Ok ask.path → IsDateText env.moment ask.date
-      → ask ≡ lock_ask env client command ask.path ask.date → (at : Point) (a : Answer)
+  pub lock_is : (command : LockCommand) (ask : LockAsk) (found : Result PathValue PathFault) (path : PathValue) → found ≡ Ok path
+      → IsDateText env.moment ask.date → ask ≡ lock_ask env client command path ask.date → (at : Point) (a : Answer)
       → LockAsked env client ask at.halted (content_of at) a → LockStep env client command found at.halted (content_of at) a
-  lock_is command ask found is_path dated same at a asked =
+  lock_is command ask found path is_path dated same at a asked =
       let now = subst (λ (x : LockAsk). LockAsked env client x at.halted (content_of at) a) same asked in
       subst (λ (f : Result PathValue PathFault). LockStep env client command f at.halted (content_of at) a) (sym is_path) (ask.date, dated, now)
 
-  pub unlock_is : (command : UnlockCommand) (ask : UnlockAsk) (found : Result PathValue PathFault) → found ≡ Ok ask.path
-      → ask ≡ unlock_ask client command ask.path → (at : Point) (a : Answer)
+  pub unlock_is : (command : UnlockCommand) (ask : UnlockAsk) (found : Result PathValue PathFault) (path : PathValue) → found ≡ Ok path
+      → ask ≡ unlock_ask client command path → (at : Point) (a : Answer)
       → UnlockAsked env client ask at.halted (content_of at) a → UnlockStep env client command found at.halted (content_of at) a
-  unlock_is command ask found is_path same at a asked =
+  unlock_is command ask found path is_path same at a asked =
       let now = subst (λ (x : UnlockAsk). UnlockAsked env client x at.halted (content_of at) a) same asked in
       subst (λ (f : Result PathValue PathFault). UnlockStep env client command f at.halted (content_of at) a) (sym is_path) now
 

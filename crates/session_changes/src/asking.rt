@@ -1,9 +1,10 @@
 //! What a lock and an unlock ask for.
-ghost use Rattle.std.specs.Prelude.{◌≡◌, ◌⊎◌, Ok, Err, IfOk, MatchResult};
+ghost use Rattle.std.specs.Prelude.{◌≡◌, IfOk};
 ghost use Rattle.dates.specs.Dates.{IsDateText};
 ghost use Rattle.svnpath.specs.Texts.{joined};
 ghost use Rattle.repo_api.specs.Locking.{lock_of, owner_of};
-ghost use Rattle.machine.specs.Commands.{lock_ask, unlock_ask};
+ghost use Rattle.machine.specs.{Commands.{lock_ask, unlock_ask}, Steps.Makes};
+ghost use Rattle.session_changes.specs.Asked.{AsksAt};
 
 use crate::token::token_of;
 use byte_string::ByteString;
@@ -22,8 +23,8 @@ fn lock_ask(
     command: &LockCommand,
     path: Path,
 ) -> Result<LockAsk, AllocError>
-    ensures date { IfOk result (λ ask. IsDateText env.moment ask.date) }
-    ensures ask { IfOk result (λ ask. ask ≡ lock_ask env client.now command.now path ask.date) }
+    ensures { IfOk result (λ ask. IsDateText env.moment ask.date
+        × (ask ≡ lock_ask env client.now command.now path ask.date)) }
 {
     Ok(LockAsk {
         user: client.user.clone()?,
@@ -43,11 +44,9 @@ pub(crate) fn lock_asked_for(
     client: &Client,
     command: &LockCommand,
 ) -> Result<LockAsk, PathFault>
-    ensures path { MatchResult result
-        (λ ask. joined client.now.path command.now.path ≡ Ok ask.path)
-        (λ fault. (joined client.now.path command.now.path ≡ Err fault) ⊎ (fault ≡ PathFault.NoMemory)) }
-    ensures date { IfOk result (λ ask. IsDateText env.moment ask.date) }
-    ensures ask { IfOk result (λ ask. ask ≡ lock_ask env client.now command.now ask.path ask.date) }
+    ensures { AsksAt result (joined client.now.path command.now.path) (λ path ask.
+        IsDateText env.moment ask.date
+        × (ask ≡ lock_ask env client.now command.now path ask.date)) }
 {
     let path = client.path.join(alloc, command.path.as_slice())?;
     Ok(lock_ask(alloc, env, client, command, path)?)
@@ -55,7 +54,7 @@ pub(crate) fn lock_asked_for(
 
 /// Makes what an unlock asks of a path.
 fn unlock_ask(client: &Client, command: &UnlockCommand, path: Path) -> Result<UnlockAsk, AllocError>
-    ensures { IfOk result (λ ask. ask ≡ unlock_ask client.now command.now path) }
+    ensures { Makes result (unlock_ask client.now command.now path) }
 {
     Ok(UnlockAsk {
         user: client.user.clone()?,
@@ -71,10 +70,8 @@ pub(crate) fn unlock_asked_for(
     client: &Client,
     command: &UnlockCommand,
 ) -> Result<UnlockAsk, PathFault>
-    ensures path { MatchResult result
-        (λ ask. joined client.now.path command.now.path ≡ Ok ask.path)
-        (λ fault. (joined client.now.path command.now.path ≡ Err fault) ⊎ (fault ≡ PathFault.NoMemory)) }
-    ensures ask { IfOk result (λ ask. ask ≡ unlock_ask client.now command.now ask.path) }
+    ensures { AsksAt result (joined client.now.path command.now.path)
+        (λ path ask. ask ≡ unlock_ask client.now command.now path) }
 {
     let path = client.path.join(alloc, command.path.as_slice())?;
     Ok(unlock_ask(client, command, path)?)
@@ -89,7 +86,7 @@ pub(crate) struct MadeLock {
 
 /// Gives the owner of a lock of this user's.
 fn owner_of(alloc: Global, user: &Option<ByteString>) -> Result<ByteString, AllocError>
-    ensures { IfOk result (λ owner. owner ≡ owner_of user.now) }
+    ensures { Makes result (owner_of user.now) }
 {
     match user {
         None => Ok(ByteString::new(Vec::new(alloc))),
@@ -99,7 +96,7 @@ fn owner_of(alloc: Global, user: &Option<ByteString>) -> Result<ByteString, Allo
 
 /// Makes the lock that is asked for.
 fn lock_of(alloc: Global, ask: &LockAsk) -> Result<Lock, AllocError>
-    ensures { IfOk result (λ lock. lock ≡ lock_of ask.now) }
+    ensures { Makes result (lock_of ask.now) }
 {
     Ok(Lock {
         token: ask.token.clone()?,
@@ -111,7 +108,7 @@ fn lock_of(alloc: Global, ask: &LockAsk) -> Result<Lock, AllocError>
 
 /// Makes the lock that is asked for, and says where it is to be.
 pub(crate) fn made_lock(alloc: Global, ask: &LockAsk) -> Result<MadeLock, AllocError>
-    ensures { IfOk result (λ made. made ≡ record { path = ask.now.path; lock = lock_of ask.now }) }
+    ensures { Makes result (record { path = ask.now.path; lock = lock_of ask.now }) }
 {
     Ok(MadeLock {
         path: ask.path.clone()?,

@@ -23,8 +23,7 @@ fn tell_lock<R: Repository, S: ReplySink>(
     made: MadeLock,
     turn: &mut Turn<S>,
 ) -> Result<SessionPhase<R>, AllocError>
-    ensures { Answered result turn.new.env (S.writes turn.old.out turn.new.out)
-        (behind (told_before preface)
+    ensures { Answered result S.writes turn.old turn.new (behind (told_before preface)
         (serves (env_without_token turn.old.env) client (Reply.Lock made.path made.lock))) }
 {
     let MadeLock { path, lock } = made;
@@ -41,8 +40,7 @@ fn ask_lock<R: Repository, A: RepoAccess<View = R>, S: ReplySink>(
     access: &mut A,
     turn: &mut Turn<S>,
 ) -> Result<SessionPhase<R>, AllocError>
-    ensures { Stepped result turn.new.env (S.writes turn.old.out turn.new.out) A.rules
-        (A.point access.old) (A.point access.new)
+    ensures { Stepped result S.writes turn.old turn.new A.rules A.point access.old access.new
         (Behind (told_before preface) (LockAsked turn.old.env client ask)) }
 {
     match made_lock(turn.alloc, &ask) {
@@ -69,8 +67,7 @@ pub fn lock<R: Repository, A: RepoAccess<View = R>, S: ReplySink>(
     access: &mut A,
     turn: &mut Turn<S>,
 ) -> Result<SessionPhase<R>, AllocError>
-    ensures { Stepped result turn.new.env (S.writes turn.old.out turn.new.out) A.rules
-        (A.point access.old) (A.point access.new)
+    ensures { Stepped result S.writes turn.old turn.new A.rules A.point access.old access.new
         (Behind (told_before preface)
         (LockStep turn.old.env client command.now (joined client.path command.now.path))) }
 {

@@ -1,6 +1,5 @@
 //! The tokens of locks.
-ghost use Rattle.std.specs.Prelude.{◌≡◌, IfOk};
-ghost use Rattle.machine.specs.Commands.{token_text};
+ghost use Rattle.machine.specs.{Commands.token_text, Steps.Makes};
 
 use byte_string::ByteString;
 use std::alloc::{AllocError, Global};
@@ -8,7 +7,7 @@ use wire_replies::uuid_text;
 
 /// Makes the token from a word.
 pub(crate) fn token_of(alloc: Global, word: u128) -> Result<ByteString, AllocError>
-    ensures { IfOk result (λ token. token ≡ token_text word) }
+    ensures { Makes result (token_text word) }
 {
     let text = uuid_text(alloc, word)?;
     let mut token = Vec::from_slice(alloc, b"opaquelocktoken:")?;

@@ -24,8 +24,7 @@ fn ask_unlock<R: Repository, A: RepoAccess<View = R>, S: ReplySink>(
     access: &mut A,
     turn: &mut Turn<S>,
 ) -> Result<SessionPhase<R>, AllocError>
-    ensures { Stepped result turn.new.env (S.writes turn.old.out turn.new.out) A.rules
-        (A.point access.old) (A.point access.new)
+    ensures { Stepped result S.writes turn.old turn.new A.rules A.point access.old access.new
         (Behind (told_before preface) (UnlockAsked turn.old.env client ask.now)) }
 {
     match access.unlock(ask) {
@@ -42,8 +41,7 @@ pub fn unlock<R: Repository, A: RepoAccess<View = R>, S: ReplySink>(
     access: &mut A,
     turn: &mut Turn<S>,
 ) -> Result<SessionPhase<R>, AllocError>
-    ensures { Stepped result turn.new.env (S.writes turn.old.out turn.new.out) A.rules
-        (A.point access.old) (A.point access.new)
+    ensures { Stepped result S.writes turn.old turn.new A.rules A.point access.old access.new
         (Behind (told_before preface)
         (UnlockStep turn.old.env client command.now (joined client.path command.now.path))) }
 {

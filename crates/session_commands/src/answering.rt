@@ -25,7 +25,7 @@ fn refuse_unknown<R: Repository, S: ReplySink>(
     client: Client,
     turn: &mut Turn<S>,
 ) -> Result<SessionPhase<R>, AllocError>
-    ensures { Answered result turn.new.env (S.writes turn.old.out turn.new.out)
+    ensures { Answered result S.writes turn.old turn.new
         (serves turn.old.env client (Reply.Failure Refusal.UnknownCommand)) }
 {
     refuse(client, Preface::Nothing, Refusal::UnknownCommand, turn)
@@ -39,8 +39,7 @@ fn answer_now<R: Repository, A: RepoAccess<View = R>, S: ReplySink>(
     access: &mut A,
     turn: &mut Turn<S>,
 ) -> Result<SessionPhase<R>, AllocError>
-    ensures { Stepped result turn.new.env (S.writes turn.old.out turn.new.out) A.rules
-        (A.point access.old) (A.point access.new)
+    ensures { Stepped result S.writes turn.old turn.new A.rules A.point access.old access.new
         (KnownCommand false options.now turn.old.env client command) }
 {
     let preface = preface_of(&command);
@@ -61,8 +60,7 @@ fn answer_or_ask_login<R: Repository, A: RepoAccess<View = R>, S: ReplySink>(
     access: &mut A,
     turn: &mut Turn<S>,
 ) -> Result<SessionPhase<R>, AllocError>
-    ensures { Stepped result turn.new.env (S.writes turn.old.out turn.new.out) A.rules
-        (A.point access.old) (A.point access.new)
+    ensures { Stepped result S.writes turn.old turn.new A.rules A.point access.old access.new
         (MainStep options.now turn.old.env client (Ok command)) }
 {
     if wants_user(options, &client, &command) {
@@ -81,8 +79,7 @@ pub fn main_item<R: Repository, A: RepoAccess<View = R>, S: ReplySink>(
     access: &mut A,
     turn: &mut Turn<S>,
 ) -> Result<SessionPhase<R>, AllocError>
-    ensures { Stepped result turn.new.env (S.writes turn.old.out turn.new.out) A.rules
-        (A.point access.old) (A.point access.new)
+    ensures { Stepped result S.writes turn.old turn.new A.rules A.point access.old access.new
         (MainStep options.now turn.old.env client (main_command (value_of item.now))) }
 {
     match MainCommand::from_item(turn.alloc, item) {

@@ -1,6 +1,6 @@
 //! A login is asked for.
-ghost use Rattle.std.specs.Prelude.{◌≡◌, ◌∷◌, [], IfOk};
-ghost use Rattle.machine.specs.{Answers.says, Logins.asks, Steps.Answered};
+ghost use Rattle.std.specs.Prelude.{◌∷◌, []};
+ghost use Rattle.machine.specs.{Answers.says, Logins.asks, Steps.{Answered, Makes}};
 ghost use Rattle.wire_replies.specs.Sinks.{Says};
 
 use byte_string::ByteString;
@@ -16,7 +16,7 @@ pub fn await_choice<R: Repository, S: ReplySink>(
     reply: &Reply,
     turn: &mut Turn<S>,
 ) -> Result<SessionPhase<R>, AllocError>
-    ensures { Answered result turn.new.env (S.writes turn.old.out turn.new.out)
+    ensures { Answered result S.writes turn.old turn.new
         (says turn.old.env (Phase.LoggingIn login) (reply.now ∷ [])) }
 {
     let said = turn.out.say(reply);
@@ -25,7 +25,7 @@ pub fn await_choice<R: Repository, S: ReplySink>(
 
 /// Makes the request of a login to the repository of this name.
 fn login_reply(alloc: Global, options: &Options, offered: Offer) -> Result<Reply, AllocError>
-    ensures { IfOk result (λ reply. reply ≡ Reply.Login offered options.now.name) }
+    ensures { Makes result (Reply.Login offered options.now.name) }
 {
     let realm = ByteString::from_slice(alloc, options.name().as_bytes())?;
     Ok(Reply::Login(offered, realm))
@@ -52,8 +52,7 @@ pub fn ask_for_login<R: Repository, S: ReplySink>(
     login: OpenLogin,
     turn: &mut Turn<S>,
 ) -> Result<SessionPhase<R>, AllocError>
-    ensures { Answered result turn.new.env (S.writes turn.old.out turn.new.out)
-        (asks options.now turn.old.env login) }
+    ensures { Answered result S.writes turn.old turn.new (asks options.now turn.old.env login) }
 {
     let offered = offer(options, &login.waiting);
     let said = say_login(turn.alloc, options, offered, &mut turn.out);

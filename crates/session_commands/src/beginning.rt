@@ -1,10 +1,9 @@
 //! The beginning of a report.
-ghost use Rattle.std.specs.Prelude.{◌≡◌, ℕ, List, [], IfOk, option_copied};
+ghost use Rattle.std.specs.Prelude.{◌≡◌, ℕ, List, [], option_copied};
 ghost use Rattle.svnpath.specs.Paths.{PathValue};
 ghost use Rattle.repo_api.specs.States.{RepoState};
 ghost use Rattle.drive_reports.specs.Refusing.{ReportState, ask_of, begun_report};
-ghost use Rattle.access.specs.Points.{content_of};
-ghost use Rattle.machine.specs.{Answers.{behind, says}, Commands.drive_ask, Steps.Answered};
+ghost use Rattle.machine.specs.{Answers.{behind, says}, Commands.drive_ask, Steps.{Answered, Makes, Looks}};
 ghost use Rattle.session_replies.specs.Telling.{told_before};
 
 use access::RepoAccess;
@@ -50,9 +49,8 @@ pub(crate) fn begun_report<R: Repository, A: RepoAccess<View = R>>(
     command: &DriveCommand,
     access: &mut A,
 ) -> Result<Report<Grafts>, AllocError>
-    ensures ok { IfOk result (λ report. report ≡ begun_report
-        (drive_ask (content_of (A.point access.new)) options.now.name client.now.path command.now)) }
-    ensures later { A.rules.between (A.point access.old) (A.point access.new) }
+    ensures { Looks A.rules A.point access.old access.new (λ c. Makes result
+        (begun_report (drive_ask c options.now.name client.now.path command.now))) }
 {
     let view = access.look()?;
     let anchor = Anchor {
@@ -68,7 +66,7 @@ fn await_report<R: Repository, S: ReplySink>(
     preface: Preface,
     turn: &mut Turn<S>,
 ) -> Result<SessionPhase<R>, AllocError>
-    ensures { Answered result turn.new.env (S.writes turn.old.out turn.new.out)
+    ensures { Answered result S.writes turn.old turn.new
         (behind (told_before preface) (says turn.old.env (Phase.Reporting reporting) [])) }
 {
     let said = say_preface(preface, &mut turn.out);
@@ -82,9 +80,8 @@ pub(crate) fn open_report<R: Repository, S: ReplySink>(
     report: Result<Report<Grafts>, AllocError>,
     turn: &mut Turn<S>,
 ) -> Result<SessionPhase<R>, AllocError>
-    ensures { (told : ReportState) → IfOk report (λ made. made ≡ told) → Answered result
-        turn.new.env (S.writes turn.old.out turn.new.out)
-        (behind (told_before preface)
+    ensures { (told : ReportState) → Makes report told →
+        Answered result S.writes turn.old turn.new (behind (told_before preface)
         (says turn.old.env (Phase.Reporting (record { client = client; report = told })) [])) }
 {
     match report {

@@ -27,8 +27,7 @@ fn begin_commit<R: Repository, S: ReplySink>(
     preface: Preface,
     turn: &mut Turn<S>,
 ) -> Result<SessionPhase<R>, AllocError>
-    ensures { Answered result turn.new.env (S.writes turn.old.out turn.new.out)
-        (behind (told_before preface)
+    ensures { Answered result S.writes turn.old turn.new (behind (told_before preface)
         (commit_begins options.now turn.old.env client
         (asked_by command.now (lock_tokens client.path command.now.tokens)))) }
 {
@@ -47,7 +46,7 @@ fn tell_preface<R: Repository, S: ReplySink>(
     preface: Preface,
     turn: &mut Turn<S>,
 ) -> Result<SessionPhase<R>, AllocError>
-    ensures { Answered result turn.new.env (S.writes turn.old.out turn.new.out)
+    ensures { Answered result S.writes turn.old turn.new
         (behind (told_before preface) (says turn.old.env (Phase.Serving client) [])) }
 {
     let said = say_preface(preface, &mut turn.out);
@@ -62,8 +61,7 @@ pub fn own_answer<R: Repository, A: RepoAccess<View = R>, S: ReplySink>(
     access: &mut A,
     turn: &mut Turn<S>,
 ) -> Result<SessionPhase<R>, AllocError>
-    ensures { Stepped result turn.new.env (S.writes turn.old.out turn.new.out) A.rules
-        (A.point access.old) (A.point access.new)
+    ensures { Stepped result S.writes turn.old turn.new A.rules A.point access.old access.new
         (Behind (told_before request.entry.preface)
         (OwnStep options.now turn.old.env client request.entry.command.now)) }
 {

@@ -35,8 +35,7 @@ pub(crate) fn reparent<R: Repository, S: ReplySink>(
     preface: Preface,
     turn: &mut Turn<S>,
 ) -> Result<SessionPhase<R>, AllocError>
-    ensures { Answered result turn.new.env (S.writes turn.old.out turn.new.out)
-        (behind (told_before preface)
+    ensures { Answered result S.writes turn.old turn.new (behind (told_before preface)
         (reparented turn.old.env client (path_of_text url.now options.now.name))) }
 {
     match Path::from_url(turn.alloc, url.as_slice(), options.name()) {

@@ -18,12 +18,12 @@ use Rattle.access.specs.{declared.access.Released.Released, declared.access.Rele
 use Rattle.machine.specs.{Answers.{Answer, behind, change_answer, says, serves, Step}, Answers.Verdict.{NotWritten, Unknown, Written}, Machine.CloseStep}
 use Rattle.machine.specs.Machine.{CommandStep, commit_ask, CommitStep, EditingStep, EditStep, ending_of, gives_up, IsReleaseOf, JudgedEdit, MachineEdit}
 use Rattle.machine.specs.Machine.{made_answer, phase_after, Release, release_effect, release_fails, unreleased_answer, UnreleasedClose, UnreleasedEnd}
-use Rattle.machine.specs.{Machine.Release.{Fails, Released as FreedThere, Stays as StayThere}, Stages.Stage, Steps.{AnsweredIfAny, EffectAt, SteppedInPart}}
+use Rattle.machine.specs.{Machine.Release.{Fails, Released as FreedThere, Stays as StayThere}, Stages.Stage, Steps.EffectAt}
 use Rattle.machine.specs.{declared.commit_parameters.CommitParameters.CommitParameters, declared.env.Env.Env, declared.ending.Ending.Ending}
 use Rattle.machine.specs.declared.ending.Ending.TheVariants.{Commits as ToCommit, GivesUp}
 use Rattle.machine.specs.{declared.phase.Phase.TheVariants.{Serving, Editing, Skipping, Ended}, declared.phase.Client.Client}
 use Rattle.session_replies.specs.Telling.{fault_answer}
-use Rattle.session_replies.proofs.Steps.{Leads, leads_by, only_says, stepped, unparted, not_asked}
+use Rattle.session_replies.proofs.Steps.{AnsweredIfAnyWith, Leads, leads_by, only_says, stepped, SteppedInPartWith, unparted, not_asked}
 use Rattle.session_commits.specs.Telling.{commit_answer}
 
 -- ---- the steps of an edit
@@ -113,7 +113,7 @@ module _ {env : Env} {client : Client} {asked : CommitParameters} {date : List �
     -- one that is written, whatever became of the locks
     pub committed : (released : Released) → Came (Ok (record { revision = n; released = released }))
         → {E : Type 0} (r : Result Stage E) (env' : Env) (writes : List ℕ → Type 0)
-        → AnsweredIfAny r env' writes (commit_answer env client date author n released) → SteppedInPart r env' writes rules p q Closes Stays
+        → AnsweredIfAnyWith r env' writes (commit_answer env client date author n released) → SteppedInPartWith r env' writes rules p q Closes Stays
     committed Settled (at, later, (going, accepted, (number, (mid, added, inl (wants, freed))))) r env' writes said =
         unparted rules Closes Stays p q writes r env' (stepped (made at mid FreedThere later going accepted number added (subst (λ (b : Bool). IsReleaseOf b FreedThere) (sym wants) tt)
         (q, (mid, added, (q, freed, refl)), refl)) writes r env' said)
@@ -154,7 +154,7 @@ module _ {env : Env} {client : Client} {asked : CommitParameters} {date : List �
   led at a later step_is moves = leads_by a at later step_is moves
 
   pub not_committed : (fault : ChangeFault) → Came (Err fault) → {E : Type 0} (r : Result Stage E) (env' : Env) (writes : List ℕ → Type 0)
-      → AnsweredIfAny r env' writes (option_map (behind []) (fault_answer env client fault)) → SteppedInPart r env' writes rules p q Closes Stays
+      → AnsweredIfAnyWith r env' writes (option_map (behind []) (fault_answer env client fault)) → SteppedInPartWith r env' writes rules p q Closes Stays
   not_committed (change_faults.Refused why) (at, later, (going, refused, stays)) r env' writes said =
       let a = serves env client (replies.Failure why) in
       unparted rules Closes Stays p q writes r env' (stepped (led at a later (closes at false (Some why) a going refused refl) (at, refl, stays)) writes r env' said)

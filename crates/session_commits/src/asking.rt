@@ -1,9 +1,9 @@
 //! What a commit asks for.
-ghost use Rattle.std.specs.{Prelude.{◌≡◌, [], Ok, Err, IfOk, MatchResult, option_map}, List.list_all};
+ghost use Rattle.std.specs.{Prelude.{◌≡◌, [], Ok, Err, MatchResult, option_map}, List.list_all};
 ghost use Rattle.svnpath.specs.Components.{AnswersPath};
 ghost use Rattle.refusals.specs.Faults.{IfRefusedBy};
 ghost use Rattle.repo_api.specs.Judging.{is_property_name};
-ghost use Rattle.machine.specs.Commands.{are_named, asked_by, lock_tokens, set_all};
+ghost use Rattle.machine.specs.{Commands.{are_named, asked_by, lock_tokens, set_all}, Steps.Makes};
 
 use byte_string::ByteString;
 use commands::CommitCommand;
@@ -53,7 +53,7 @@ fn properties_of(
     alloc: Global,
     pairs: &[(ByteString, ByteString)],
 ) -> Result<Properties, AllocError>
-    ensures { IfOk result (λ ps. ps ≡ set_all [] pairs.now) }
+    ensures { Makes result (set_all [] pairs.now) }
 {
     let mut properties = Properties::new(alloc);
     for pair in pairs {
@@ -69,7 +69,7 @@ fn optional_properties(
     alloc: Global,
     pairs: &Option<Pairs>,
 ) -> Result<Option<Properties>, AllocError>
-    ensures { IfOk result (λ ps. ps ≡ option_map (set_all []) pairs.now) }
+    ensures { Makes result (option_map (set_all []) pairs.now) }
 {
     match pairs {
         None => Ok(None),
@@ -83,7 +83,7 @@ fn asked(
     command: &CommitCommand,
     tokens: LockTokens,
 ) -> Result<CommitParameters, AllocError>
-    ensures { IfOk result (λ asked. asked ≡ record {
+    ensures { Makes result (record {
       message = command.now.message;
       properties = option_map (set_all []) command.now.properties;
       tokens = tokens;
@@ -122,10 +122,9 @@ pub fn asked_by(
     base: &Path,
     command: &CommitCommand,
 ) -> Result<CommitParameters, NotDone>
-    ensures { MatchResult result
-        (λ asked. asked_by command.now (lock_tokens base.now command.now.tokens) ≡ Ok asked)
-        (λ fault. IfRefusedBy fault
-        (λ r. asked_by command.now (lock_tokens base.now command.now.tokens) ≡ Err r)) }
+    ensures { let wanted = asked_by command.now (lock_tokens base.now command.now.tokens) in
+        MatchResult result (λ asked. wanted ≡ Ok asked)
+        (λ fault. IfRefusedBy fault (λ r. wanted ≡ Err r)) }
 {
     match lock_tokens(alloc, base, command.tokens.as_slice()) {
         Ok(tokens) => asked_with(alloc, command, tokens),

@@ -1,5 +1,5 @@
 //! A commit: its beginning, its commands and its end.
-ghost use Rattle.std.specs.Prelude.{◌≡◌, ◌≤◌, ◌∷◌, [], Ok, Err, Some, None, IfOk, OnOk, IfErr, if◌then◌else◌};
+ghost use Rattle.std.specs.Prelude.{◌≡◌, ◌≤◌, ◌∷◌, [], Ok, Err, Some, None, IfOk, if◌then◌else◌, MatchResult};
 ghost use Rattle.items.specs.View.{value_of};
 ghost use Rattle.dates.specs.{Dates.IsDateText, declared.TheConstants.LAST_MOMENT};
 ghost use Rattle.repo_api.specs.{States.{IsBeginning, tree_of}, Transactions.IsMarkedTxn, Trees.IsTree};
@@ -9,7 +9,7 @@ ghost use Rattle.refusals.specs.Faults.{IfRefusedBy};
 ghost use Rattle.access.specs.Points.{content_of};
 ghost use Rattle.machine.specs.{Answers.says, Commands.{asked_by, commit_begins, lock_tokens}};
 ghost use Rattle.machine.specs.Machine.{CloseStep, commit_ask, EditingStep, EditStep, skipping_answer, UnreleasedClose, UnreleasedEnd};
-ghost use Rattle.machine.specs.Steps.{Answered, AnsweredIfAny, Stepped, SteppedInPart};
+ghost use Rattle.machine.specs.Steps.{Answered, AnsweredIfAny, Stepped, SteppedInPart, Makes, Looks};
 ghost use Rattle.session_commits.specs.Telling.{tells_made, commit_answer};
 ghost use Rattle.wire_replies.specs.Sinks.{Says};
 
@@ -40,7 +40,7 @@ fn new_editor<R: Repository>(
     options: &Options,
     path: &Path,
 ) -> Result<CommitEditor<R>, AllocError>
-    ensures { IfOk result (λ editor. editor ≡ new_edit path.now options.now.name) }
+    ensures { Makes result (new_edit path.now options.now.name) }
 {
     let name = String::from_str(alloc, options.name())?;
     Ok(CommitEditor::new(alloc, path.clone()?, name))
@@ -51,7 +51,7 @@ fn open_edit<R: Repository, S: ReplySink>(
     edit: SessionEdit<R>,
     turn: &mut Turn<S>,
 ) -> Result<SessionPhase<R>, AllocError>
-    ensures { Answered result turn.new.env (S.writes turn.old.out turn.new.out)
+    ensures { Answered result S.writes turn.old turn.new
         (says turn.old.env (Phase.Editing edit) (Reply.Success ∷ [])) }
 {
     let said = turn.out.say(&Reply::Success);
@@ -65,7 +65,7 @@ pub fn begin_edit<R: Repository, S: ReplySink>(
     command: &CommitCommand,
     turn: &mut Turn<S>,
 ) -> Result<SessionPhase<R>, AllocError>
-    ensures { Answered result turn.new.env (S.writes turn.old.out turn.new.out)
+    ensures { Answered result S.writes turn.old turn.new
         (commit_begins options.now turn.old.env client
         (asked_by command.now (lock_tokens client.path command.now.tokens))) }
 {
@@ -101,12 +101,10 @@ fn apply_now<R: Repository, A: RepoAccess<View = R>>(
 ) -> Result<(), NotDone>
     requires rests { RestsOn editor.old (content_of (A.point access.old)) }
     requires sound { IsSoundEdit editor.old }
-    ensures ok { OnOk result (
-        (edit_refusal (content_of (A.point access.new)) editor.old command.now ≡ None)
-        × Applies (content_of (A.point access.new)) editor.old command.now editor.new) }
-    ensures err { IfErr result (λ fault. IfRefusedBy fault
-        (λ r. edit_refusal (content_of (A.point access.new)) editor.old command.now ≡ Some r)) }
-    ensures later { A.rules.between (A.point access.old) (A.point access.new) }
+    ensures { Looks A.rules A.point access.old access.new (λ c. MatchResult result
+        (λ _. (edit_refusal c editor.old command.now ≡ None)
+        × Applies c editor.old command.now editor.new)
+        (λ fault. IfRefusedBy fault (λ r. edit_refusal c editor.old command.now ≡ Some r))) }
 {
     let view = access.look()?;
     editor.apply(command, &view)
@@ -121,8 +119,8 @@ fn apply_command<R: Repository, A: RepoAccess<View = R>, S: ReplySink>(
 ) -> Result<SessionPhase<R>, AllocError>
     requires rests { RestsOn edit.editor (content_of (A.point access.old)) }
     requires sound { IsSoundEdit edit.editor }
-    ensures { Stepped result turn.new.env (S.writes turn.old.out turn.new.out) A.rules
-        (A.point access.old) (A.point access.new) (EditStep turn.old.env edit command.now) }
+    ensures { Stepped result S.writes turn.old turn.new A.rules A.point access.old access.new
+        (EditStep turn.old.env edit command.now) }
 {
     let mut edit = edit;
     match apply_now(&mut edit.editor, command, access) {
@@ -142,7 +140,7 @@ fn commit_ask(
     asked: CommitParameters,
     date: &ByteString,
 ) -> Result<CommitAsk, AllocError>
-    ensures { IfOk result (λ ask. ask ≡ commit_ask client.now asked date.now) }
+    ensures { Makes result (commit_ask client.now asked date.now) }
 {
     let CommitParameters {
         message,
@@ -170,8 +168,7 @@ struct Told {
 /// Makes what a client is answered about a commit of this moment.
 fn commit_told(alloc: Global, moment: u64, user: &Option<ByteString>) -> Result<Told, AllocError>
     requires { moment ≤ LAST_MOMENT }
-    ensures date { IfOk result (λ told. IsDateText moment told.date) }
-    ensures author { IfOk result (λ told. told.author ≡ user.now) }
+    ensures { IfOk result (λ told. IsDateText moment told.date × (told.author ≡ user.now)) }
 {
     let date = date_bytes(alloc, moment)?;
     let author = user.clone()?;
@@ -186,9 +183,9 @@ fn ready_commit(
     asked: CommitParameters,
 ) -> Result<(CommitAsk, Told), AllocError>
     requires { moment ≤ LAST_MOMENT }
-    ensures date { IfOk result (λ ready. IsDateText moment ready.1.date) }
-    ensures author { IfOk result (λ ready. ready.1.author ≡ client.now.user) }
-    ensures ask { IfOk result (λ ready. ready.0 ≡ commit_ask client.now asked ready.1.date) }
+    ensures { IfOk result (λ ready. IsDateText moment ready.1.date
+        × (ready.1.author ≡ client.now.user)
+        × (ready.0 ≡ commit_ask client.now asked ready.1.date)) }
 {
     match commit_told(alloc, moment, &client.user) {
         Ok(told) => match commit_ask(alloc, client, asked, &told.date) {
@@ -251,7 +248,7 @@ fn tell_made<R: Repository, S: ReplySink>(
     told: Told,
     turn: &mut Turn<S>,
 ) -> Result<SessionPhase<R>, AllocError>
-    ensures { Answered result turn.new.env (S.writes turn.old.out turn.new.out)
+    ensures { Answered result S.writes turn.old turn.new
         (tells_made turn.old.env client revision told.date told.author fails) }
 {
     let Told { date, author } = told;
@@ -266,7 +263,7 @@ fn tell_commit<R: Repository, S: ReplySink>(
     told: Told,
     turn: &mut Turn<S>,
 ) -> Result<SessionPhase<R>, AllocError>
-    ensures { AnsweredIfAny result turn.new.env (S.writes turn.old.out turn.new.out)
+    ensures { AnsweredIfAny result S.writes turn.old turn.new
         (commit_answer turn.old.env client told.date told.author made.revision made.released) }
 {
     match made.released {
@@ -292,8 +289,7 @@ fn commit<R: Repository, A: RepoAccess<View = R>, S: ReplySink>(
         (content_of (A.point access.old)).revisions }
     requires tree { IsTree (tree_of (R.txn_state txn).tree) }
     requires marked { IsMarkedTxn (R.txn_state txn) }
-    ensures { SteppedInPart result turn.new.env (S.writes turn.old.out turn.new.out) A.rules
-        (A.point access.old) (A.point access.new)
+    ensures { SteppedInPart result S.writes turn.old turn.new A.rules A.point access.old access.new
         (CloseStep turn.old.env client asked (Ok (R.txn_state txn)))
         (UnreleasedClose turn.old.env client asked (Ok (R.txn_state txn))) }
 {
@@ -321,8 +317,7 @@ fn commit_edit<R: Repository, A: RepoAccess<View = R>, S: ReplySink>(
 ) -> Result<SessionPhase<R>, AllocError>
     requires rests { RestsOn edit.editor (content_of (A.point access.old)) }
     requires sound { IsSoundEdit edit.editor }
-    ensures { SteppedInPart result turn.new.env (S.writes turn.old.out turn.new.out) A.rules
-        (A.point access.old) (A.point access.new)
+    ensures { SteppedInPart result S.writes turn.old turn.new A.rules A.point access.old access.new
         (CloseStep turn.old.env edit.client edit.asked (finished edit.editor))
         (UnreleasedClose turn.old.env edit.client edit.asked (finished edit.editor)) }
 {
@@ -345,7 +340,7 @@ fn abort<R: Repository, S: ReplySink>(
     edit: SessionEdit<R>,
     turn: &mut Turn<S>,
 ) -> Result<SessionPhase<R>, AllocError>
-    ensures { Answered result turn.new.env (S.writes turn.old.out turn.new.out)
+    ensures { Answered result S.writes turn.old turn.new
         (says turn.old.env (Phase.Serving edit.client) (Reply.Success ∷ [])) }
 {
     let OpenEdit {
@@ -368,8 +363,7 @@ fn edit_command<R: Repository, A: RepoAccess<View = R>, S: ReplySink>(
 ) -> Result<SessionPhase<R>, AllocError>
     requires rests { RestsOn edit.editor (content_of (A.point access.old)) }
     requires sound { IsSoundEdit edit.editor }
-    ensures { SteppedInPart result turn.new.env (S.writes turn.old.out turn.new.out) A.rules
-        (A.point access.old) (A.point access.new)
+    ensures { SteppedInPart result S.writes turn.old turn.new A.rules A.point access.old access.new
         (EditingStep turn.old.env edit (Ok command.now))
         (UnreleasedEnd turn.old.env edit (Ok command.now)) }
 {
@@ -389,8 +383,7 @@ pub fn edit_item<R: Repository, A: RepoAccess<View = R>, S: ReplySink>(
 ) -> Result<SessionPhase<R>, AllocError>
     requires rests { RestsOn edit.editor (content_of (A.point access.old)) }
     requires sound { IsSoundEdit edit.editor }
-    ensures { SteppedInPart result turn.new.env (S.writes turn.old.out turn.new.out) A.rules
-        (A.point access.old) (A.point access.new)
+    ensures { SteppedInPart result S.writes turn.old turn.new A.rules A.point access.old access.new
         (EditingStep turn.old.env edit (editor_command (value_of item.now)))
         (UnreleasedEnd turn.old.env edit (editor_command (value_of item.now))) }
 {
@@ -418,7 +411,7 @@ pub fn skipped_item<R: Repository, S: ReplySink>(
     item: &Item,
     turn: &mut Turn<S>,
 ) -> Result<SessionPhase<R>, AllocError>
-    ensures { Answered result turn.new.env (S.writes turn.old.out turn.new.out)
+    ensures { Answered result S.writes turn.old turn.new
         (skipping_answer turn.old.env client (ends_edit (value_of item.now))) }
 {
     match ends_edit(item) {

@@ -16,7 +16,7 @@ pub fn give_up<R: Repository, S: ReplySink>(
     refusal: Refusal,
     turn: &mut Turn<S>,
 ) -> Result<SessionPhase<R>, AllocError>
-    ensures { Answered result turn.new.env (S.writes turn.old.out turn.new.out)
+    ensures { Answered result S.writes turn.old turn.new
         (gives_up turn.old.env edit.client refusal) }
 {
     let said = tell_refusal(refusal, &mut turn.out);

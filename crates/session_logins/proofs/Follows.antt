@@ -2,7 +2,8 @@
 use Rattle.std.proofs.Common.{ℕ, List, inl, inr}
 use Rattle.std.specs.Prelude.{Result, Ok, Err}
 use Rattle.access.specs.Points.{AccessRules, content_of, Point}
-use Rattle.machine.specs.{Answers.{Answer, Step}, Stages.Stage, Steps.{StepAt, Stepped}, declared.env.Env.Env}
+use Rattle.machine.specs.{Answers.{Answer, Step}, Stages.Stage, Steps.StepAt, declared.env.Env.Env}
+use Rattle.session_replies.proofs.Steps.{SteppedWith}
 
 module _ (rules : AccessRules) (first step : Step)
     (goes : (at : Point) (a : Answer) → first at.halted (content_of at) a → step at.halted (content_of at) a) (p q : Point) where
@@ -14,7 +15,7 @@ module _ (rules : AccessRules) (first step : Step)
     moves = happens.moves;
   }
 
-  pub follows : (writes : List ℕ → Type 0) {E : Type 0} (r : Result Stage E) (env' : Env) → Stepped r env' writes rules p q first → Stepped r env' writes
+  pub follows : (writes : List ℕ → Type 0) {E : Type 0} (r : Result Stage E) (env' : Env) → SteppedWith r env' writes rules p q first → SteppedWith r env' writes
       rules p q step
   follows writes (Ok phase') env' done = record {
     answer = done.answer;

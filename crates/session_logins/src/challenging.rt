@@ -1,7 +1,7 @@
 //! Challenges: how one is sent, and whose an answer to it is.
 ghost use Rattle.std.specs.Prelude.{◌≡◌, ◌≢◌, ◌∷◌, [], None, IfOk};
 ghost use Rattle.cram.specs.Answer.{IsAnswerOf};
-ghost use Rattle.machine.specs.{Answers.says, Logins.{challenge_of, challenges, logins_or_none, without_nonce}, Steps.Answered};
+ghost use Rattle.machine.specs.{Answers.says, Logins.{challenge_of, challenges, logins_or_none, without_nonce}, Steps.{Answered, Makes}};
 ghost use Rattle.wire_replies.specs.Sinks.{Says};
 
 use byte_string::ByteString;
@@ -15,7 +15,7 @@ use wire_replies::{Reply, ReplySink, say_new};
 
 /// Makes a challenge of this moment.
 fn new_challenge(alloc: Global, options: &Options, env: Env) -> Result<Challenge, AllocError>
-    ensures { IfOk result (λ challenge. challenge ≡ challenge_of options.now env) }
+    ensures { Makes result (challenge_of options.now env) }
 {
     match Challenge::new(alloc, env.nonce, env.moment, options.name()) {
         Ok(challenge) => Ok(challenge),
@@ -40,7 +40,7 @@ fn await_answer<R: Repository, S: ReplySink>(
     pending: OpenChallenge,
     turn: &mut Turn<S>,
 ) -> Result<SessionPhase<R>, AllocError>
-    ensures { Answered result turn.new.env (S.writes turn.old.out turn.new.out)
+    ensures { Answered result S.writes turn.old turn.new
         (says (without_nonce turn.old.env) (Phase.Challenged pending)
         (Reply.Challenge pending.challenge ∷ [])) }
 {
@@ -62,7 +62,7 @@ pub fn challenge<R: Repository, S: ReplySink>(
     login: OpenLogin,
     turn: &mut Turn<S>,
 ) -> Result<SessionPhase<R>, AllocError>
-    ensures { Answered result turn.new.env (S.writes turn.old.out turn.new.out)
+    ensures { Answered result S.writes turn.old turn.new
         (challenges options.now turn.old.env login) }
 {
     match new_challenge(turn.alloc, options, turn.env) {

@@ -46,7 +46,7 @@ fn end_refused<R: Repository, S: ReplySink>(
     refusal: Refusal,
     turn: &mut Turn<S>,
 ) -> Result<SessionPhase<R>, AllocError>
-    ensures { Answered result turn.new.env (S.writes turn.old.out turn.new.out)
+    ensures { Answered result S.writes turn.old turn.new
         (says turn.old.env Phase.Ended (Reply.Failure refusal ∷ [])) }
 {
     say_new(Reply::Failure(refusal), &mut turn.out)?;
@@ -59,7 +59,7 @@ fn answer_greeting<R: Repository, S: ReplySink>(
     greeting: &ClientGreeting,
     turn: &mut Turn<S>,
 ) -> Result<SessionPhase<R>, AllocError>
-    ensures { Answered result turn.new.env (S.writes turn.old.out turn.new.out)
+    ensures { Answered result S.writes turn.old turn.new
         (greeting_answer options.now turn.old.env (Ok greeting.now)) }
 {
     if !speaks(greeting) {
@@ -78,7 +78,7 @@ pub fn greeting_item<R: Repository, S: ReplySink>(
     item: &Item,
     turn: &mut Turn<S>,
 ) -> Result<SessionPhase<R>, AllocError>
-    ensures { Answered result turn.new.env (S.writes turn.old.out turn.new.out)
+    ensures { Answered result S.writes turn.old turn.new
         (greeting_answer options.now turn.old.env (client_greeting (value_of item.now))) }
 {
     match ClientGreeting::from_item(item) {

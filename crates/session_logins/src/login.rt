@@ -27,8 +27,7 @@ fn choose_mechanism<R: Repository, A: RepoAccess<View = R>, S: ReplySink>(
     access: &mut A,
     turn: &mut Turn<S>,
 ) -> Result<SessionPhase<R>, AllocError>
-    ensures { Stepped result turn.new.env (S.writes turn.old.out turn.new.out) A.rules
-        (A.point access.old) (A.point access.new)
+    ensures { Stepped result S.writes turn.old turn.new A.rules A.point access.old access.new
         (LoginStep options.now turn.old.env login (Ok response.now)) }
 {
     let offered = offer(options, &login.waiting);
@@ -44,8 +43,7 @@ fn end_login<R: Repository, S: ReplySink>(
     login: OpenLogin,
     turn: &mut Turn<S>,
 ) -> Result<SessionPhase<R>, AllocError>
-    ensures { Answered result turn.new.env (S.writes turn.old.out turn.new.out)
-        (malformed turn.old.env) }
+    ensures { Answered result S.writes turn.old turn.new (malformed turn.old.env) }
 {
     drop(login);
     end_malformed(turn)
@@ -59,8 +57,7 @@ pub fn login_item<R: Repository, A: RepoAccess<View = R>, S: ReplySink>(
     access: &mut A,
     turn: &mut Turn<S>,
 ) -> Result<SessionPhase<R>, AllocError>
-    ensures { Stepped result turn.new.env (S.writes turn.old.out turn.new.out) A.rules
-        (A.point access.old) (A.point access.new)
+    ensures { Stepped result S.writes turn.old turn.new A.rules A.point access.old access.new
         (LoginStep options.now turn.old.env login (auth_response (value_of item.now))) }
 {
     match AuthResponse::from_item(turn.alloc, item) {
@@ -99,8 +96,7 @@ fn end_challenge<R: Repository, A: RepoAccess<View = R>, S: ReplySink>(
     access: &mut A,
     turn: &mut Turn<S>,
 ) -> Result<SessionPhase<R>, AllocError>
-    ensures { Stepped result turn.new.env (S.writes turn.old.out turn.new.out) A.rules
-        (A.point access.old) (A.point access.new)
+    ensures { Stepped result S.writes turn.old turn.new A.rules A.point access.old access.new
         (OutcomeStep options.now turn.old.env login user) }
 {
     match user {
@@ -117,8 +113,7 @@ fn judge_answer<R: Repository, A: RepoAccess<View = R>, S: ReplySink>(
     access: &mut A,
     turn: &mut Turn<S>,
 ) -> Result<SessionPhase<R>, AllocError>
-    ensures { Stepped result turn.new.env (S.writes turn.old.out turn.new.out) A.rules
-        (A.point access.old) (A.point access.new)
+    ensures { Stepped result S.writes turn.old turn.new A.rules A.point access.old access.new
         (ChallengeStep options.now turn.old.env pending (Some answer.now)) }
 {
     let OpenChallenge { login, challenge } = pending;
@@ -141,8 +136,7 @@ pub fn challenge_item<R: Repository, A: RepoAccess<View = R>, S: ReplySink>(
     access: &mut A,
     turn: &mut Turn<S>,
 ) -> Result<SessionPhase<R>, AllocError>
-    ensures { Stepped result turn.new.env (S.writes turn.old.out turn.new.out) A.rules
-        (A.point access.old) (A.point access.new)
+    ensures { Stepped result S.writes turn.old turn.new A.rules A.point access.old access.new
         (ChallengeStep options.now turn.old.env pending (challenge_answer (value_of item.now))) }
 {
     match challenge_answer(item) {

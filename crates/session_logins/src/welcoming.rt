@@ -1,7 +1,6 @@
 //! What a client is told once it has logged in.
-ghost use Rattle.std.specs.Prelude.{◌≡◌, ◌∷◌, [], Some, IfOk};
-ghost use Rattle.access.specs.Points.{content_of};
-ghost use Rattle.machine.specs.{Answers.says, Logins.LoggedIn, Steps.{Answered, Stepped}};
+ghost use Rattle.std.specs.Prelude.{◌∷◌, [], Some};
+ghost use Rattle.machine.specs.{Answers.says, Logins.LoggedIn, Steps.{Answered, Stepped, Makes, Looks}};
 ghost use Rattle.wire_replies.specs.Sinks.{Says};
 
 use access::RepoAccess;
@@ -20,9 +19,8 @@ fn repos_info<R: Repository, A: RepoAccess<View = R>>(
     root: &ByteString,
     access: &mut A,
 ) -> Result<Reply, AllocError>
-    ensures ok { IfOk result (λ reply.
-        reply ≡ Reply.ReposInfo (content_of (A.point access.new)).uuid root.now) }
-    ensures later { A.rules.between (A.point access.old) (A.point access.new) }
+    ensures { Looks A.rules A.point access.old access.new
+        (λ c. Makes result (Reply.ReposInfo c.uuid root.now)) }
 {
     let root = root.clone()?;
     let view = access.look()?;
@@ -35,9 +33,8 @@ fn tell_welcome<R: Repository, A: RepoAccess<View = R>, S: ReplySink>(
     access: &mut A,
     out: &mut S,
 ) -> Result<(), AllocError>
-    ensures said { Says result (S.writes out.old out.new)
-        (Reply.Success ∷ Reply.ReposInfo (content_of (A.point access.new)).uuid root.now ∷ []) }
-    ensures later { A.rules.between (A.point access.old) (A.point access.new) }
+    ensures { Looks A.rules A.point access.old access.new (λ c. Says result
+        (S.writes out.old out.new) (Reply.Success ∷ Reply.ReposInfo c.uuid root.now ∷ [])) }
 {
     let info = repos_info(root, access)?;
     say_new_behind(Preface::Success, info, out)
@@ -49,10 +46,9 @@ fn welcome<R: Repository, A: RepoAccess<View = R>, S: ReplySink>(
     access: &mut A,
     turn: &mut Turn<S>,
 ) -> Result<SessionPhase<R>, AllocError>
-    ensures said { Answered result turn.new.env (S.writes turn.old.out turn.new.out)
-        (says turn.old.env (Phase.Serving client)
-        (Reply.Success ∷ Reply.ReposInfo (content_of (A.point access.new)).uuid client.root ∷ [])) }
-    ensures later { A.rules.between (A.point access.old) (A.point access.new) }
+    ensures { Looks A.rules A.point access.old access.new
+        (λ c. Answered result S.writes turn.old turn.new (says turn.old.env (Phase.Serving client)
+        (Reply.Success ∷ Reply.ReposInfo c.uuid client.root ∷ []))) }
 {
     let said = tell_welcome(&client.root, access, &mut turn.out);
     stands(Phase::Serving(client), said)
@@ -66,8 +62,7 @@ fn resume_command<R: Repository, A: RepoAccess<View = R>, S: ReplySink>(
     access: &mut A,
     turn: &mut Turn<S>,
 ) -> Result<SessionPhase<R>, AllocError>
-    ensures { Stepped result turn.new.env (S.writes turn.old.out turn.new.out) A.rules
-        (A.point access.old) (A.point access.new)
+    ensures { Stepped result S.writes turn.old turn.new A.rules A.point access.old access.new
         (LoggedIn options.now turn.old.env client (Some command)) }
 {
     let request = Request {
@@ -86,8 +81,7 @@ pub fn log_client_in<R: Repository, A: RepoAccess<View = R>, S: ReplySink>(
     access: &mut A,
     turn: &mut Turn<S>,
 ) -> Result<SessionPhase<R>, AllocError>
-    ensures { Stepped result turn.new.env (S.writes turn.old.out turn.new.out) A.rules
-        (A.point access.old) (A.point access.new)
+    ensures { Stepped result S.writes turn.old turn.new A.rules A.point access.old access.new
         (LoggedIn options.now turn.old.env login.client login.waiting) }
 {
     let OpenLogin { client, waiting } = login;

@@ -1,6 +1,6 @@
 //! Whether one more session may begin.
-ghost use Rattle.std.specs.Prelude.{◌≡◌, ◌-◌, true, false};
-ghost use Rattle.session_pool.specs.Places.{IsAdmitted};
+ghost use Rattle.std.specs.Prelude.{◌-◌, true, false};
+ghost use Rattle.session_pool.specs.Places.{IsAdmitted, StateIs};
 
 use crate::admission::Admission;
 use crate::places::{MAX_SESSIONS, Places};
@@ -8,9 +8,7 @@ use crate::places::{MAX_SESSIONS, Places};
 impl Places {
     /// Makes the places: all are free, and there was no session yet.
     pub(crate) fn new() -> Places
-        ensures taken { result.taken ≡ 0 }
-        ensures begun { result.begun ≡ 0 }
-        ensures halted { result.halted ≡ false }
+        ensures { StateIs result 0 0 false }
     {
         Places {
             taken: 0,
@@ -36,18 +34,14 @@ impl Places {
 
     /// Gives a place back.
     pub(crate) fn leave(&mut self)
-        ensures taken { self.new.taken ≡ self.old.taken - 1 }
-        ensures begun { self.new.begun ≡ self.old.begun }
-        ensures halted { self.new.halted ≡ self.old.halted }
+        ensures { StateIs self.new (self.old.taken - 1) self.old.begun self.old.halted }
     {
         self.taken = self.taken.saturating_sub(1);
     }
 
     /// Lets no session begin any more.
     pub(crate) fn halt(&mut self)
-        ensures taken { self.new.taken ≡ self.old.taken }
-        ensures begun { self.new.begun ≡ self.old.begun }
-        ensures halted { self.new.halted ≡ true }
+        ensures { StateIs self.new self.old.taken self.old.begun true }
     {
         self.halted = true;
     }

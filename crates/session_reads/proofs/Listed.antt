@@ -11,8 +11,8 @@ use Rattle.wire_replies.specs.declared.reply.Reply.TheVariants as replies
 use Rattle.access.specs.Points.{AccessRules, content_of, Point}
 use Rattle.machine.specs.Answers.{Behind, says, Shows, Step}
 use Rattle.machine.specs.Histories.{ended, listed_unless, locations_refusal, locations_replies, locations_told, log_ask, log_refusal, log_replies, log_told}
-use Rattle.machine.specs.{Stages.Stage, Steps.{Answered, Stepped}, declared.env.Env.Env, declared.phase.Client.Client, declared.phase.Phase.TheVariants.Serving}
-use Rattle.session_replies.proofs.Steps.{Leads, only_says, leads_behind, stepped}
+use Rattle.machine.specs.{Stages.Stage, declared.env.Env.Env, declared.phase.Client.Client, declared.phase.Phase.TheVariants.Serving}
+use Rattle.session_replies.proofs.Steps.{AnsweredWith, Leads, only_says, leads_behind, stepped, SteppedWith}
 
 -- a log that is not refused
 pub log_listed : (c : RepoState) (command : LogCommand) (paths : List PathValue) (ask : LogAsk) (r : Option Refusal) → ask ≡ log_ask c command → r ≡ log_refusal c ask paths → r ≡ None
@@ -37,5 +37,5 @@ module _ (rules : AccessRules) (told : RepoState → List Reply) (p q : Point) (
   leads = leads_behind before (only_says {step = Shows (λ c. says env (Serving client) (told c))} later refl)
 
   -- the step has happened as far as what is told was written
-  pub listed : {E : Type 0} (r : Result Stage E) (env' : Env) → Answered r env' writes (says env (Serving client) (before ++ told (content_of q))) → Stepped r env' writes rules p q Listing
+  pub listed : {E : Type 0} (r : Result Stage E) (env' : Env) → AnsweredWith r env' writes (says env (Serving client) (before ++ told (content_of q))) → SteppedWith r env' writes rules p q Listing
   listed r env' answered = stepped leads writes r env' answered

@@ -1,8 +1,7 @@
 //! What commands that read are answered. Where one of these fails, a part of what it says was written.
 ghost use Rattle.std.specs.Prelude.{◌≡◌, ◌++◌};
 ghost use Rattle.wire_replies.specs.Sinks.{Says};
-ghost use Rattle.access.specs.Points.{content_of};
-ghost use Rattle.machine.specs.{Answers.{Behind, Shows}, Commands.{read_answer, read_replies}, Steps.Stepped};
+ghost use Rattle.machine.specs.{Answers.{Behind, Shows}, Commands.{read_answer, read_replies}, Steps.{Stepped, Looks}};
 ghost use Rattle.session_replies.specs.Telling.{told_before};
 
 use crate::directories::get_dir;
@@ -64,10 +63,9 @@ fn say_read_behind<R: Repository, A: RepoAccess<View = R>, S: ReplySink>(
     access: &mut A,
     turn: &mut Turn<S>,
 ) -> Result<(), AllocError>
-    ensures said { Says result (S.writes turn.old.out turn.new.out)
-        (told_before preface
-        ++ read_replies base.now command.now (content_of (A.point access.new))) }
-    ensures later { A.rules.between (A.point access.old) (A.point access.new) }
+    ensures said { Looks A.rules A.point access.old access.new
+        (λ c. Says result (S.writes turn.old.out turn.new.out)
+        (told_before preface ++ read_replies base.now command.now c)) }
     ensures env { turn.new.env ≡ turn.old.env }
 {
     let view = access.look()?;
@@ -83,8 +81,7 @@ pub fn tell_read<R: Repository, A: RepoAccess<View = R>, S: ReplySink>(
     access: &mut A,
     turn: &mut Turn<S>,
 ) -> Result<SessionPhase<R>, AllocError>
-    ensures { Stepped result turn.new.env (S.writes turn.old.out turn.new.out) A.rules
-        (A.point access.old) (A.point access.new)
+    ensures { Stepped result S.writes turn.old turn.new A.rules A.point access.old access.new
         (Behind (told_before preface) (Shows (read_answer turn.old.env client command.now))) }
 {
     let said = say_read_behind(&client.path, command, preface, access, turn);

@@ -1,8 +1,8 @@
 //! Directories, and their entries.
-ghost use Rattle.std.specs.Prelude.{◌≡◌, IfOk, true};
+ghost use Rattle.std.specs.Prelude.{true};
 ghost use Rattle.svnpath.specs.Texts.{joined};
 ghost use Rattle.repo_api.specs.Kinds.{kind_at};
-ghost use Rattle.machine.specs.Readings.{directory_at, directory_reply, entries_told, entry_told, place_read};
+ghost use Rattle.machine.specs.{Readings.{directory_at, directory_reply, entries_told, entry_told, place_read}, Steps.Makes};
 
 use crate::entries::{node_info, shown_properties};
 use crate::places::place_read;
@@ -23,9 +23,8 @@ pub(crate) fn get_dir<R: Repository>(
     base: &Path,
     command: &GetDirCommand,
 ) -> Result<Reply, AllocError>
-    ensures { IfOk result (λ reply. reply ≡ directory_reply (R.content view.now) command.now
-        (place_read (R.content view.now) command.now.revision
-        (joined base.now command.now.path))) }
+    ensures { Makes result (directory_reply (R.content view.now) command.now
+        (place_read (R.content view.now) command.now.revision (joined base.now command.now.path))) }
 {
     match place_read(alloc, view, base, &command.path, command.revision)? {
         Ok(place) => directory_at(alloc, view, command, &place),
@@ -40,8 +39,7 @@ fn directory_at<R: Repository>(
     command: &GetDirCommand,
     place: &Place,
 ) -> Result<Reply, AllocError>
-    ensures { IfOk result (λ reply. reply ≡
-        directory_at (R.content view.now) command.now place.now
+    ensures { Makes result (directory_at (R.content view.now) command.now place.now
         (kind_at (R.content view.now) place.now.revision place.now.path)) }
 {
     match view.kind(place.revision, &place.path) {
@@ -62,8 +60,7 @@ fn entries_told<R: Repository>(
     place: &Place,
     wanted: bool,
 ) -> Result<EntryList, AllocError>
-    ensures { IfOk result (λ entries. entries ≡
-        entries_told (R.content view.now) place.now wanted) }
+    ensures { Makes result (entries_told (R.content view.now) place.now wanted) }
 {
     if wanted {
         all_entries(alloc, view, place)
@@ -78,7 +75,7 @@ fn all_entries<R: Repository>(
     view: &R,
     place: &Place,
 ) -> Result<EntryList, AllocError>
-    ensures { IfOk result (λ entries. entries ≡ entries_told (R.content view.now) place.now true) }
+    ensures { Makes result (entries_told (R.content view.now) place.now true) }
 {
     let names = view.names(place.revision, &place.path)?;
     let mut entries = Sequence::new(alloc);
@@ -96,7 +93,7 @@ fn entry_told<R: Repository>(
     place: &Place,
     name: &ByteString,
 ) -> Result<(ByteString, NodeInfo), AllocError>
-    ensures { IfOk result (λ entry. entry ≡ entry_told (R.content view.now) place.now name.now) }
+    ensures { Makes result (entry_told (R.content view.now) place.now name.now) }
 {
     let path = place.path.child(alloc, name.clone()?)?;
     let node = node_info(view, place.revision, &path)?;

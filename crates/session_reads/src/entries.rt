@@ -3,7 +3,7 @@ ghost use Rattle.std.specs.Prelude.{◌≡◌, IfOk, IsOkAnd};
 ghost use Rattle.svnpath.specs.Texts.{joined};
 ghost use Rattle.repo_api.specs.{Kinds.kind_at, Properties.with_property};
 ghost use Rattle.machine.specs.Readings.{are_any, changed_at, entry_properties, node_found, node_info, place_read, shown_properties, size_at, stat_reply};
-ghost use Rattle.machine.specs.Readings.{with_optional, with_revision};
+ghost use Rattle.machine.specs.{Readings.{with_optional, with_revision}, Steps.Makes};
 
 use crate::places::place_read;
 use crate::revisions::{author_of, date_of};
@@ -22,7 +22,7 @@ pub(crate) fn stat<R: Repository>(
     path: &ByteString,
     revision: Option<u64>,
 ) -> Result<Reply, AllocError>
-    ensures { IfOk result (λ reply. reply ≡ stat_reply (R.content view.now)
+    ensures { Makes result (stat_reply (R.content view.now)
         (place_read (R.content view.now) revision (joined base.now path.now))) }
 {
     match place_read(alloc, view, base, path, revision)? {
@@ -33,7 +33,7 @@ pub(crate) fn stat<R: Repository>(
 
 /// Gives what is known of what exists at a place, if anything does.
 fn node_found<R: Repository>(view: &R, place: &Place) -> Result<Option<NodeInfo>, AllocError>
-    ensures { IfOk result (λ node. node ≡ node_found
+    ensures { Makes result (node_found
         (node_info (R.content view.now) place.now.revision place.now.path)
         (kind_at (R.content view.now) place.now.revision place.now.path)) }
 {
@@ -51,7 +51,7 @@ pub(crate) fn node_info<R: Repository>(
     revision: u64,
     path: &Path,
 ) -> Result<NodeInfo, AllocError>
-    ensures { IfOk result (λ node. node ≡ node_info (R.content view.now) revision path.now) }
+    ensures { Makes result (node_info (R.content view.now) revision path.now) }
 {
     let created = changed_at(view, revision, path);
     Ok(NodeInfo {
@@ -106,8 +106,7 @@ pub(crate) fn shown_properties<R: Repository>(
     place: &Place,
     wanted: bool,
 ) -> Result<Properties, AllocError>
-    ensures { IfOk result (λ properties. properties ≡
-        shown_properties (R.content view.now) place.now wanted) }
+    ensures { Makes result (shown_properties (R.content view.now) place.now wanted) }
 {
     if wanted {
         let own = entry_properties(alloc, view, place)?;
@@ -124,8 +123,8 @@ fn entry_properties<R: Repository>(
     view: &R,
     place: &Place,
 ) -> Result<Properties, AllocError>
-    ensures { IfOk result (λ properties. properties ≡
-        entry_properties (R.content view.now) place.now.revision place.now.path) }
+    ensures { Makes result
+        (entry_properties (R.content view.now) place.now.revision place.now.path) }
 {
     match view.properties(place.revision, &place.path) {
         Some(properties) => properties.clone(),
@@ -141,7 +140,7 @@ fn with_revision<R: Repository>(
     revision: u64,
     properties: Properties,
 ) -> Result<Properties, AllocError>
-    ensures { IfOk result (λ more. more ≡ with_revision (R.content view.now) revision properties) }
+    ensures { Makes result (with_revision (R.content view.now) revision properties) }
 {
     let number = decimal_text(alloc, revision);
     let properties = with_made(alloc, properties, b"svn:entry:committed-rev", number)?;

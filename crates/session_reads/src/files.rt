@@ -1,9 +1,9 @@
 //! Files, and their texts.
-ghost use Rattle.std.specs.Prelude.{◌≡◌, ◌∷◌, ◌++◌, [], IfOk};
+ghost use Rattle.std.specs.Prelude.{◌≡◌, ◌∷◌, ◌++◌, []};
 ghost use Rattle.svnpath.specs.Texts.{joined};
 ghost use Rattle.repo_api.specs.Kinds.{text_at};
 ghost use Rattle.wire_replies.specs.{Replies.contents, Sinks.Says};
-ghost use Rattle.machine.specs.Readings.{file_at, file_replies, file_told, no_file, place_read, text_told};
+ghost use Rattle.machine.specs.{Readings.{file_at, file_replies, file_told, no_file, place_read, text_told}, Steps.Makes};
 
 use crate::entries::shown_properties;
 use crate::places::place_read;
@@ -80,8 +80,7 @@ fn file_told<R: Repository>(
     place: &Place,
     text: &FileText,
 ) -> Result<Reply, AllocError>
-    ensures { IfOk result (λ reply. reply ≡
-        file_told (R.content view.now) wants_properties place.now text.now) }
+    ensures { Makes result (file_told (R.content view.now) wants_properties place.now text.now) }
 {
     Ok(Reply::FileInfo(FileInfo {
         digest: Some(text.digest_text(alloc)?),

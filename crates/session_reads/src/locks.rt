@@ -1,8 +1,7 @@
 //! Replies that tell locks.
-ghost use Rattle.std.specs.Prelude.{◌≡◌, IfOk};
 ghost use Rattle.svnpath.specs.Texts.{joined};
 ghost use Rattle.repo_api.specs.Locking.{at_or_under};
-ghost use Rattle.machine.specs.Commands.{lock_at, locks_reply};
+ghost use Rattle.machine.specs.{Commands.{lock_at, locks_reply}, Steps.Makes};
 
 use byte_string::ByteString;
 use refusals::path_refusal;
@@ -19,8 +18,7 @@ pub(crate) fn get_lock<R: Repository>(
     base: &Path,
     path: &ByteString,
 ) -> Result<Reply, AllocError>
-    ensures { IfOk result (λ reply. reply ≡
-        locks_reply (lock_at (R.content view.now)) (joined base.now path.now)) }
+    ensures { Makes result (locks_reply (lock_at (R.content view.now)) (joined base.now path.now)) }
 {
     match base.join(alloc, path.as_slice()) {
         Ok(path) => Ok(Reply::Locks(lock_found(alloc, view, &path)?)),
@@ -36,8 +34,8 @@ pub(crate) fn get_locks<R: Repository>(
     base: &Path,
     path: &ByteString,
 ) -> Result<Reply, AllocError>
-    ensures { IfOk result (λ reply. reply ≡
-        locks_reply (at_or_under (R.content view.now).locks) (joined base.now path.now)) }
+    ensures { Makes result
+        (locks_reply (at_or_under (R.content view.now).locks) (joined base.now path.now)) }
 {
     match base.join(alloc, path.as_slice()) {
         Ok(path) => Ok(Reply::Locks(locks_found(alloc, view, &path)?)),
@@ -48,7 +46,7 @@ pub(crate) fn get_locks<R: Repository>(
 
 /// Finds the lock that exists at a path, if there is one.
 fn lock_found<R: Repository>(alloc: Global, view: &R, path: &Path) -> Result<LockList, AllocError>
-    ensures { IfOk result (λ locks. locks ≡ lock_at (R.content view.now) path.now) }
+    ensures { Makes result (lock_at (R.content view.now) path.now) }
 {
     match view.lock_at(path) {
         Some(lock) => copied_locks(alloc, &[(path, lock)]),
@@ -58,7 +56,7 @@ fn lock_found<R: Repository>(alloc: Global, view: &R, path: &Path) -> Result<Loc
 
 /// Finds the locks that exist at a path and under it.
 fn locks_found<R: Repository>(alloc: Global, view: &R, path: &Path) -> Result<LockList, AllocError>
-    ensures { IfOk result (λ locks. locks ≡ at_or_under (R.content view.now).locks path.now) }
+    ensures { Makes result (at_or_under (R.content view.now).locks path.now) }
 {
     let found = view.locks_under(path)?;
     copied_locks(alloc, found.as_slice())

@@ -1,6 +1,6 @@
 //! Revisions, as a log tells them.
-ghost use Rattle.std.specs.Prelude.{◌≡◌, true, IfOk};
-ghost use Rattle.machine.specs.Histories.{change_told, changes_told, message_of, revision_told};
+ghost use Rattle.std.specs.Prelude.{true};
+ghost use Rattle.machine.specs.{Histories.{change_told, changes_told, message_of, revision_told}, Steps.Makes};
 
 use crate::{author_of, date_of, revision_value};
 use byte_string::ByteString;
@@ -19,8 +19,7 @@ fn change_told<R: Repository>(
     path: &Path,
     change: &Change,
 ) -> Result<LoggedChange, AllocError>
-    ensures { IfOk result (λ told. told ≡ change_told (R.content view.now) revision
-        (path.now, change.now)) }
+    ensures { Makes result (change_told (R.content view.now) revision (path.now, change.now)) }
 {
     let kind = kind_shown(alloc, view, revision, path, change)?;
     LoggedChange::copied(path, change, kind)
@@ -32,7 +31,7 @@ fn all_changes<R: Repository>(
     view: &R,
     revision: u64,
 ) -> Result<ChangeList, AllocError>
-    ensures { IfOk result (λ told. told ≡ changes_told (R.content view.now) true revision) }
+    ensures { Makes result (changes_told (R.content view.now) true revision) }
 {
     let changes = pairs_by_text(alloc, view.changes(revision))?;
     let mut told = Sequence::new(alloc);
@@ -49,7 +48,7 @@ fn changes_told<R: Repository>(
     wanted: bool,
     revision: u64,
 ) -> Result<ChangeList, AllocError>
-    ensures { IfOk result (λ told. told ≡ changes_told (R.content view.now) wanted revision) }
+    ensures { Makes result (changes_told (R.content view.now) wanted revision) }
 {
     if wanted {
         all_changes(alloc, view, revision)
@@ -60,7 +59,7 @@ fn changes_told<R: Repository>(
 
 /// Gives the message of a revision.
 fn message_of<R: Repository>(view: &R, revision: u64) -> Result<Option<ByteString>, AllocError>
-    ensures { IfOk result (λ message. message ≡ message_of (R.content view.now) revision) }
+    ensures { Makes result (message_of (R.content view.now) revision) }
 {
     revision_value(view, b"svn:log", revision)
 }
@@ -72,8 +71,7 @@ pub(crate) fn revision_told<R: Repository>(
     wants_changes: bool,
     revision: u64,
 ) -> Result<Reply, AllocError>
-    ensures { IfOk result (λ reply. reply ≡
-        revision_told (R.content view.now) wants_changes revision) }
+    ensures { Makes result (revision_told (R.content view.now) wants_changes revision) }
 {
     Ok(Reply::LogEntry(LogEntry {
         changes: changes_told(alloc, view, wants_changes, revision)?,

@@ -1,7 +1,7 @@
 //! Paths in the revisions in which they are read.
-ghost use Rattle.std.specs.Prelude.{◌≡◌, IfOk};
+ghost use Rattle.std.specs.Prelude.{◌≡◌};
 ghost use Rattle.svnpath.specs.Texts.{joined};
-ghost use Rattle.machine.specs.Readings.{in_revision, place_read};
+ghost use Rattle.machine.specs.{Readings.{in_revision, place_read}, Steps.Makes};
 ghost use Rattle.drive_reports.specs.Refusing.{revision_read};
 
 use byte_string::ByteString;
@@ -46,8 +46,7 @@ pub(crate) fn place_read<R: Repository>(
     path: &ByteString,
     revision: Option<u64>,
 ) -> Result<Result<Place, Refusal>, AllocError>
-    ensures { IfOk result (λ place. place ≡
-        place_read (R.content view.now) revision (joined base.now path.now)) }
+    ensures { Makes result (place_read (R.content view.now) revision (joined base.now path.now)) }
 {
     match base.join(alloc, path.as_slice()) {
         Ok(path) => Ok(in_revision(path, revision_read(view, revision))),

@@ -1,9 +1,9 @@
 //! Replies to commands that read the tree and its revisions.
-ghost use Rattle.std.specs.Prelude.{◌≡◌, ℕ, Some, IfOk, MatchOption};
+ghost use Rattle.std.specs.Prelude.{◌≡◌, ℕ, Some, MatchOption};
 ghost use Rattle.svnpath.specs.Texts.{joined};
 ghost use Rattle.repo_api.specs.Kinds.{kind_at};
 ghost use Rattle.wire_replies.specs.declared.reply.Reply.{Reply};
-ghost use Rattle.machine.specs.Commands.{at_revision, check_path_reply, rev_proplist_reply};
+ghost use Rattle.machine.specs.{Commands.{at_revision, check_path_reply, rev_proplist_reply}, Steps.Makes};
 
 use byte_string::ByteString;
 use refusals::{Refusal, path_refusal};
@@ -41,8 +41,8 @@ pub(crate) fn check_path<R: Repository>(
     path: &ByteString,
     revision: Option<u64>,
 ) -> Result<Reply, AllocError>
-    ensures { IfOk result (λ reply.
-        reply ≡ check_path_reply (R.content view.now) revision (joined base.now path.now)) }
+    ensures { Makes result
+        (check_path_reply (R.content view.now) revision (joined base.now path.now)) }
 {
     match base.join(alloc, path.as_slice()) {
         Ok(path) => match known_revision(view, revision) {
@@ -60,7 +60,7 @@ pub(crate) fn rev_proplist<R: Repository>(
     view: &R,
     revision: u64,
 ) -> Result<Reply, AllocError>
-    ensures { IfOk result (λ reply. reply ≡ rev_proplist_reply (R.content view.now) revision) }
+    ensures { Makes result (rev_proplist_reply (R.content view.now) revision) }
 {
     match known_revision(view, Some(revision)) {
         Some(n) => match view.revision_properties(n) {

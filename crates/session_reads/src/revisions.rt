@@ -1,6 +1,6 @@
 //! Properties of revisions, and revisions by their dates.
-ghost use Rattle.std.specs.Prelude.{◌≡◌, IfOk, option_copied};
-ghost use Rattle.machine.specs.Readings.{author_of, dated_reply, property_reply, revision_date, revision_value, value_of_property};
+ghost use Rattle.std.specs.Prelude.{◌≡◌, option_copied};
+ghost use Rattle.machine.specs.{Readings.{author_of, dated_reply, property_reply, revision_date, revision_value, value_of_property}, Steps.Makes};
 
 use crate::places::revision_read;
 use byte_string::ByteString;
@@ -28,7 +28,7 @@ pub(crate) fn rev_prop<R: Repository>(
     revision: u64,
     name: &[u8],
 ) -> Result<Reply, AllocError>
-    ensures { IfOk result (λ reply. reply ≡ property_reply (R.content view.now) revision name.now) }
+    ensures { Makes result (property_reply (R.content view.now) revision name.now) }
 {
     match revision_read(view, Some(revision)) {
         Ok(n) => Ok(Reply::RevisionProperty(revision_value(view, name, n)?)),
@@ -38,14 +38,14 @@ pub(crate) fn rev_prop<R: Repository>(
 
 /// Gives the date of a revision.
 pub fn date_of<R: Repository>(view: &R, revision: u64) -> Result<Option<ByteString>, AllocError>
-    ensures { IfOk result (λ date. date ≡ revision_date (R.content view.now) revision) }
+    ensures { Makes result (revision_date (R.content view.now) revision) }
 {
     revision_value(view, b"svn:date", revision)
 }
 
 /// Gives the author of a revision.
 pub fn author_of<R: Repository>(view: &R, revision: u64) -> Result<Option<ByteString>, AllocError>
-    ensures { IfOk result (λ author. author ≡ author_of (R.content view.now) revision) }
+    ensures { Makes result (author_of (R.content view.now) revision) }
 {
     revision_value(view, b"svn:author", revision)
 }
@@ -56,7 +56,7 @@ pub fn revision_value<R: Repository>(
     name: &[u8],
     revision: u64,
 ) -> Result<Option<ByteString>, AllocError>
-    ensures { IfOk result (λ value. value ≡ revision_value (R.content view.now) name.now revision) }
+    ensures { Makes result (revision_value (R.content view.now) name.now revision) }
 {
     match view.revision_properties(revision) {
         Some(properties) => copy_optional(value_of_property(name, properties)),

@@ -9,10 +9,10 @@ use Rattle.wire_replies.specs.declared.reply.Reply.{Reply}
 use Rattle.wire_replies.specs.declared.reply.Reply.TheVariants as replies
 use Rattle.access.specs.{Changing.ReplacesAt, Points.{AccessRules, content_of, Point}}
 use Rattle.machine.specs.{Answers.{Answer, Behind, behind, change_answer, ChangeStep, says, serves, Step, Verdict}, Answers.Verdict.{Unknown, Written}}
-use Rattle.machine.specs.{Stages.Stage, Steps.{AnsweredIfAny, EffectAt, StepAt, Stepped}, declared.env.Env.Env, declared.phase.Client.Client}
+use Rattle.machine.specs.{Stages.Stage, Steps.{EffectAt, StepAt}, declared.env.Env.Env, declared.phase.Client.Client}
 use Rattle.machine.specs.declared.phase.Phase.TheVariants.{Serving, Ended}
 use Rattle.session_replies.specs.Telling.{fault_answer}
-use Rattle.session_replies.proofs.Steps.{Leads, leads_by, leads_behind, stepped, not_asked}
+use Rattle.session_replies.proofs.Steps.{AnsweredIfAnyWith, Leads, leads_by, leads_behind, stepped, SteppedWith, not_asked}
 
 -- ---- a change that was asked for
 
@@ -62,7 +62,7 @@ module _ (refusal : RepoState → Option Refusal) (e : Accepted) (env : Env) (cl
   -- one that was not made, and why is told
   pub not_made : {E : Type 0} (fault : ChangeFault) (r : Result Stage E) (env' : Env) (writes : List ℕ → Type 0)
       → answer (Unknown e) ≡ change_answer env client e [] (Unknown e) → Came (Err fault)
-      → AnsweredIfAny r env' writes (option_map (behind told) (fault_answer env client fault)) → Stepped r env' writes rules p q (Behind told Judged)
+      → AnsweredIfAnyWith r env' writes (option_map (behind told) (fault_answer env client fault)) → SteppedWith r env' writes rules p q (Behind told Judged)
   not_made (change_faults.Refused why) r env' writes halts came said = stepped (refused why came) writes r env' said
   not_made change_faults.StoreFailed r env' writes halts (at, later, (going, accepted, fails)) said = absurd fails
   not_made change_faults.Halted r env' writes halts came said = stepped (halted halts came) writes r env' said
@@ -80,7 +80,7 @@ module _ (rules : AccessRules) (told : List Reply) (step step' : Step) (p q : Po
   at_is a s = record { at = s.at; later = s.later; step_is = behind_is s.at a s.step_is; moves = s.moves }
 
   pub stepped_is : {E : Type 0} (r : Result Stage E) (env' : Env) (writes : List ℕ → Type 0)
-      → Stepped r env' writes rules p q (Behind told step) → Stepped r env' writes rules p q (Behind told step')
+      → SteppedWith r env' writes rules p q (Behind told step) → SteppedWith r env' writes rules p q (Behind told step')
   stepped_is (Ok phase') env' writes s = record {
     answer = s.answer;
     happens = at_is s.answer s.happens;

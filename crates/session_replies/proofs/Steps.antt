@@ -1,12 +1,30 @@
 -- A step of a session, and what becomes of its answer.
 use Rattle.std.proofs.{Common.{◌≡◌, ℕ, List, [], ◌++◌, refl, sym, subst, ◌∙◌, inl, inr}, lemmas.Bool.false≢true}
-use Rattle.std.specs.Prelude.{Result, Ok, Err, IsOk, IsErr, MatchResult}
+use Rattle.std.specs.Prelude.{Option, Some, None, Result, Ok, Err, IsOk, IsErr, MatchResult}
 use Rattle.wire_replies.specs.{declared.reply.Reply.Reply, Replies.print, Sinks.{Says, WritesPart}}
 use Rattle.wire_replies.proofs.Parts.{both_written, part_behind}
 use Rattle.access.specs.Points.{AccessRules, content_of, Point}
 use Rattle.machine.specs.{Answers.{Answer, Behind, behind, Effect, no_effect, says, Step}, Stages.Stage}
-use Rattle.machine.specs.Steps.{Answered, AnswerWritten, EffectAt, StepAt, StepOrNothing, StepOrPart, Stepped, SteppedInPart, StepWritten}
-use Rattle.machine.specs.declared.env.Env.{Env}
+use Rattle.machine.specs.{Steps.{AnswerWritten, EffectAt, StepAt, StepOrNothing, StepOrPart, StepWritten}, declared.env.Env.Env}
+
+-- ---- what `machine` says of turns, by the words that are left and the bytes that are written
+
+abbrev pub AnsweredWith : {E : Type 0} → Result Stage E → Env → (List ℕ → Type 0) → Answer → Type 0
+AnsweredWith r env' writes a = MatchResult r (λ phase'. AnswerWritten a phase' env' writes) (λ _. WritesPart writes (print a.replies))
+
+abbrev pub AnsweredIfAnyWith : {E : Type 0} → Result Stage E → Env → (List ℕ → Type 0) → Option Answer → Type 0
+AnsweredIfAnyWith r env' writes (Some a) = AnsweredWith r env' writes a
+AnsweredIfAnyWith r env' writes None = MatchResult r (λ _. ⊥) (λ _. writes [])
+
+abbrev pub SteppedWith : {E : Type 0} → Result Stage E → Env → (List ℕ → Type 0) → AccessRules → Point → Point → Step → Type 0
+SteppedWith r env' writes rules p q step =
+    MatchResult r (λ phase'. StepWritten rules step p q phase' env' writes) (λ _. StepOrNothing rules step p q writes)
+
+abbrev pub SteppedInPartWith : {E : Type 0} → Result Stage E → Env → (List ℕ → Type 0) → AccessRules → Point → Point → Step → Step → Type 0
+SteppedInPartWith r env' writes rules p q step part =
+    MatchResult r (λ phase'. StepWritten rules step p q phase' env' writes) (λ _. StepOrPart rules step part p q writes)
+
+-- ---- a step and its answer
 
 -- a step leads from a point to another, where the session stands there, and is to tell this
 pub record Leads (rules : AccessRules) (step : Step) (p q : Point) (env : Env) (phase : Stage) (told : List Reply) : Type 0 where
@@ -68,7 +86,7 @@ module _ {rules : AccessRules} {step : Step} {p q : Point} {env : Env} {phase : 
     told_part part = inr (leads.answer, leads.happens, subst (λ (rs : List Reply). WritesPart writes (print rs)) leads.told_is part)
 
     -- the step has happened as far as its answer was written
-    pub stepped : {E : Type 0} (r : Result Stage E) (env' : Env) → Answered r env' writes (says env phase told) → Stepped r env' writes rules p q step
+    pub stepped : {E : Type 0} (r : Result Stage E) (env' : Env) → AnsweredWith r env' writes (says env phase told) → SteppedWith r env' writes rules p q step
     stepped (Ok phase') env' written = told_all phase' env' written
     stepped (Err e) env' part = told_part part
 
@@ -78,14 +96,14 @@ module _ (rules : AccessRules) (step : Step) (p q : Point) (a : Answer)
   leads : Leads rules step p q a.env a.phase a.replies
   leads = leads_to a later is nothing
 
-  pub said : {E : Type 0} (r : Result Stage E) (env' : Env) → Answered r env' writes a → Stepped r env' writes rules p q step
+  pub said : {E : Type 0} (r : Result Stage E) (env' : Env) → AnsweredWith r env' writes a → SteppedWith r env' writes rules p q step
   said (Ok after) env' answered = told_all leads writes after env'
       (record { phase_after = answered.phase_after; env_after = answered.env_after; written = answered.written })
   said (Err e) env' part = told_part leads writes part
 
 -- where a session stands once its replies were written
 pub stood : {E F : Type 0} (r : Result Stage E) (phase : Stage) (said : Result (Unit {0}) F) (env env' : Env) (writes : List ℕ → Type 0) (told : List Reply)
-    → MatchResult r (λ after. (after ≡ phase) × IsOk said) (λ _. IsErr said) → env' ≡ env → Says said writes told → Answered r env' writes (says env phase told)
+    → MatchResult r (λ after. (after ≡ phase) × IsOk said) (λ _. IsErr said) → env' ≡ env → Says said writes told → AnsweredWith r env' writes (says env phase told)
 stood (Ok after) phase (Ok unit) env env' writes told (is, ok) same written = record {
   phase_after = is;
   env_after = same;
@@ -104,7 +122,7 @@ not_asked {rules = rules} {p = p} (at, later, stays) unwritten = inl (subst (λ 
 
 module _ (rules : AccessRules) (step part : Step) (p q : Point) (writes : List ℕ → Type 0) where
   -- it has happened as far as its answer was written, or it has not
-  pub unparted : {E : Type 0} (r : Result Stage E) (env' : Env) → Stepped r env' writes rules p q step → SteppedInPart r env' writes rules p q step part
+  pub unparted : {E : Type 0} (r : Result Stage E) (env' : Env) → SteppedWith r env' writes rules p q step → SteppedInPartWith r env' writes rules p q step part
   unparted (Ok phase') env' s = s
   unparted (Err e) env' s = inl s
 
@@ -114,7 +132,7 @@ module _ (rules : AccessRules) (step part : Step) (p q : Point) (writes : List �
     part_is (inl whole) = inl whole
     part_is (inr (a, s, unwritten)) = inr (a, record { at = s.at; later = s.later; step_is = is s.at a s.step_is; moves = s.moves }, unwritten)
 
-    pub parted : {E : Type 0} (r : Result Stage E) (env' : Env) → SteppedInPart r env' writes rules p q step part → SteppedInPart r env' writes rules p q
+    pub parted : {E : Type 0} (r : Result Stage E) (env' : Env) → SteppedInPartWith r env' writes rules p q step part → SteppedInPartWith r env' writes rules p q
         step part'
     parted (Ok phase') env' s = s
     parted (Err e) env' s = part_is s
@@ -123,7 +141,7 @@ module _ {S : Type 0} (writes : S → S → List ℕ → Type 0)
     (further : (s t u : S) (first second : List ℕ) → writes s t first → writes t u second → writes s u (first ++ second)) where
   -- an answer behind replies that were written
   pub behind_answered : {E : Type 0} (r : Result Stage E) (told : List Reply) (a : Answer) (env' : Env) (out mid out' : S)
-      → writes out mid (print told) → Answered r env' (writes mid out') a → Answered r env' (writes out out') (behind told a)
+      → writes out mid (print told) → AnsweredWith r env' (writes mid out') a → AnsweredWith r env' (writes out out') (behind told a)
   behind_answered (Ok phase) told a env' out mid out' before answered = record {
     phase_after = answered.phase_after;
     env_after = answered.env_after;

@@ -1,8 +1,8 @@
 //! The answer to a command, behind what comes before it. Where one of these fails, a part of what it says
 //! was written.
-ghost use Rattle.std.specs.Prelude.{◌≡◌, ◌∷◌, ◌++◌, [], IfOk, option_map};
+ghost use Rattle.std.specs.Prelude.{◌∷◌, ◌++◌, [], option_map};
 ghost use Rattle.wire_replies.specs.{declared.reply.Reply.Reply, Sinks.Says};
-ghost use Rattle.machine.specs.{Answers.{behind, says, serves}, Steps.{Answered, AnsweredIfAny}};
+ghost use Rattle.machine.specs.{Answers.{behind, says, serves}, Steps.{Answered, AnsweredIfAny, Makes}};
 ghost use Rattle.session_replies.specs.Telling.{told_before, fault_answer};
 
 use crate::preface::{Preface, say_new_behind};
@@ -20,7 +20,7 @@ fn say_made_behind<S: ReplySink>(
     reply: Result<Reply, AllocError>,
     out: &mut S,
 ) -> Result<(), AllocError>
-    ensures { (told : Reply) → IfOk reply (λ made. made ≡ told) → Says result
+    ensures { (told : Reply) → Makes reply told → Says result
         (S.writes out.old out.new) (told_before preface ++ told ∷ []) }
 {
     match reply {
@@ -36,8 +36,7 @@ pub fn tell<R: Repository, S: ReplySink>(
     reply: Result<Reply, AllocError>,
     turn: &mut Turn<S>,
 ) -> Result<SessionPhase<R>, AllocError>
-    ensures { (told : Reply) → IfOk reply (λ made. made ≡ told) → Answered result turn.new.env
-        (S.writes turn.old.out turn.new.out)
+    ensures { (told : Reply) → Makes reply told → Answered result S.writes turn.old turn.new
         (behind (told_before preface) (serves turn.old.env client told)) }
 {
     let said = say_made_behind(preface, reply, &mut turn.out);
@@ -51,7 +50,7 @@ pub fn refuse<R: Repository, S: ReplySink>(
     refusal: Refusal,
     turn: &mut Turn<S>,
 ) -> Result<SessionPhase<R>, AllocError>
-    ensures { Answered result turn.new.env (S.writes turn.old.out turn.new.out)
+    ensures { Answered result S.writes turn.old turn.new
         (behind (told_before preface) (serves turn.old.env client (Reply.Failure refusal))) }
 {
     tell(client, preface, Ok(Reply::Failure(refusal)), turn)
@@ -63,8 +62,7 @@ pub fn end_halted<R: Repository, S: ReplySink>(
     preface: Preface,
     turn: &mut Turn<S>,
 ) -> Result<SessionPhase<R>, AllocError>
-    ensures { Answered result turn.new.env (S.writes turn.old.out turn.new.out)
-        (behind (told_before preface)
+    ensures { Answered result S.writes turn.old turn.new (behind (told_before preface)
         (says turn.old.env Phase.Ended (Reply.Failure Refusal.StoreFailed ∷ []))) }
 {
     drop(unserved);
@@ -80,7 +78,7 @@ pub fn tell_fault<R: Repository, S: ReplySink>(
     fault: ChangeFault,
     turn: &mut Turn<S>,
 ) -> Result<SessionPhase<R>, AllocError>
-    ensures { AnsweredIfAny result turn.new.env (S.writes turn.old.out turn.new.out)
+    ensures { AnsweredIfAny result S.writes turn.old turn.new
         (option_map (behind (told_before preface)) (fault_answer turn.old.env client fault)) }
 {
     match fault {

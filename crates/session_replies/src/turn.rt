@@ -40,8 +40,7 @@ pub fn stands<R: Repository>(
 pub fn end_malformed<R: Repository, S: ReplySink>(
     turn: &mut Turn<S>,
 ) -> Result<SessionPhase<R>, AllocError>
-    ensures { Answered result turn.new.env (S.writes turn.old.out turn.new.out)
-        (malformed turn.old.env) }
+    ensures { Answered result S.writes turn.old turn.new (malformed turn.old.env) }
 {
     tell_refusal(Refusal::MalformedData, &mut turn.out)?;
     Ok(Phase::Ended)

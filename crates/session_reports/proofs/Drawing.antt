@@ -8,9 +8,9 @@ use Rattle.drive_reports.specs.{Judging.JudgesReport, Refusing.{◌>>=◌, OpenS
 use Rattle.refusals.specs.declared.fault.NotDone.TheVariants as faults
 use Rattle.drive_wire.specs.{Reporting.{Drawn, Finishes, EndStep}, Reporting.Drawn.{GoesOn, GivenUp, Fails, Drives, Malformed}, Sent.IsDrive}
 use Rattle.access.specs.Points.{AccessRules, content_of, Point}
-use Rattle.machine.specs.{Answers.{no_effect, says, Step}, Reports.{drawn_answer, Draws}, Stages.Stage, Steps.{StepOrNothing, Stepped}, declared.env.Env.Env}
+use Rattle.machine.specs.{Answers.{no_effect, says, Step}, Reports.{drawn_answer, Draws}, Stages.Stage, Steps.StepOrNothing, declared.env.Env.Env}
 use Rattle.machine.specs.{declared.phase.Client.Client, declared.phase.Phase.TheVariants.Driven}
-use Rattle.session_replies.proofs.Steps.{Leads, only_says, told_all, told_part}
+use Rattle.session_replies.proofs.Steps.{Leads, only_says, SteppedWith, told_all, told_part}
 use Rattle.drive_sides.specs.Plans.{whole}
 use Rattle.drive_sending.specs.Driving.{drive_replies}
 use Rattle.session_reports.specs.Finishing.{IsUnanswered}
@@ -26,7 +26,7 @@ drawn_nothing env client Malformed = refl
 -- a step that tells nothing
 pub untold : (rules : AccessRules) (step : Step) (p q : Point) (env : Env) (phase : Stage) (writes : List ℕ → Type 0)
     → rules.between p q → step q.halted (content_of q) (says env phase []) → writes [] → {E : Type 0} (r : Result Stage E) → IfOk r (λ after. after ≡ phase)
-    → Stepped r env writes rules p q step
+    → SteppedWith r env writes rules p q step
 untold rules step p q env phase writes later is nothing (Ok after) same =
     told_all (only_says later is) writes after env (record { phase_after = same; env_after = refl; written = nothing })
 untold rules step p q env phase writes later is nothing (Err e) same = inl (later, nothing)

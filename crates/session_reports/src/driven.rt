@@ -51,8 +51,7 @@ fn tell_aborted<R: Repository, S: ReplySink>(
     client: Client,
     turn: &mut Turn<S>,
 ) -> Result<SessionPhase<R>, AllocError>
-    ensures { Answered result turn.new.env (S.writes turn.old.out turn.new.out)
-        (says turn.old.env (Phase.Serving client)
+    ensures { Answered result S.writes turn.old turn.new (says turn.old.env (Phase.Serving client)
         (Reply.Edit EditorCommand.AbortEdit ∷ Reply.Failure Refusal.EditAborted ∷ [])) }
 {
     let said = say_given_up(&mut turn.out);
@@ -64,7 +63,7 @@ fn tell_taken<R: Repository, S: ReplySink>(
     client: Client,
     turn: &mut Turn<S>,
 ) -> Result<SessionPhase<R>, AllocError>
-    ensures { Answered result turn.new.env (S.writes turn.old.out turn.new.out)
+    ensures { Answered result S.writes turn.old turn.new
         (serves turn.old.env client Reply.Success) }
 {
     tell(client, Preface::Nothing, Ok(Reply::Success), turn)
@@ -76,7 +75,7 @@ pub fn driven_item<R: Repository, S: ReplySink>(
     item: &Item,
     turn: &mut Turn<S>,
 ) -> Result<SessionPhase<R>, AllocError>
-    ensures { Answered result turn.new.env (S.writes turn.old.out turn.new.out)
+    ensures { Answered result S.writes turn.old turn.new
         (driven_answer turn.old.env client (client_answer (value_of item.now))) }
 {
     match client_answer(item) {

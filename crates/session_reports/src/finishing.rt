@@ -1,9 +1,8 @@
 //! The end of a report: a drive, or why there is none.
-ghost use Rattle.std.specs.Prelude.{MatchResult};
 ghost use Rattle.repo_api.specs.Soundness.{AreSound, AreTrees};
 ghost use Rattle.access.specs.Points.{content_of};
-ghost use Rattle.session_reports.specs.Finishing.{IsAnswered, IsUnanswered};
-ghost use Rattle.machine.specs.{Reports.Draws, Steps.Stepped};
+ghost use Rattle.session_reports.specs.Finishing.{EndsReport};
+ghost use Rattle.machine.specs.{Reports.Draws, Steps.{Stepped, Looks}};
 ghost use Rattle.drive_wire.specs.Reporting.{EndStep};
 
 use crate::refused::tell_refused;
@@ -33,9 +32,7 @@ fn say_end<R: Repository, S: ReplySink>(
     out: &mut S,
 ) -> Result<(), NotDone>
     requires trees { AreTrees (R.content view.now).revisions }
-    ensures { MatchResult result
-        (λ _. IsAnswered (R.content view.now) report.now (S.writes out.old out.new))
-        (IsUnanswered (R.content view.now) report.now (S.writes out.old out.new)) }
+    ensures { EndsReport result (R.content view.now) report.now (S.writes out.old out.new) }
 {
     match drive_reports::finish(alloc, view, report) {
         Ok(root) => match say_drive(alloc, view, report, root, out) {
@@ -54,12 +51,8 @@ fn say_drive_now<R: Repository, A: RepoAccess<View = R>, S: ReplySink>(
     out: &mut S,
 ) -> Result<(), NotDone>
     requires trees { AreSound (content_of (A.point access.old)).revisions }
-    ensures drive { MatchResult result
-        (λ _. IsAnswered (content_of (A.point access.new)) report.now
-        (S.writes out.old out.new))
-        (IsUnanswered (content_of (A.point access.new)) report.now
-        (S.writes out.old out.new)) }
-    ensures later { A.rules.between (A.point access.old) (A.point access.new) }
+    ensures { Looks A.rules A.point access.old access.new
+        (λ c. EndsReport result c report.now (S.writes out.old out.new)) }
 {
     match access.look() {
         Ok(view) => say_end(alloc, &view, report, out),
@@ -74,8 +67,7 @@ pub(crate) fn finish<R: Repository, A: RepoAccess<View = R>, S: ReplySink>(
     turn: &mut Turn<S>,
 ) -> Result<SessionPhase<R>, AllocError>
     requires trees { AreSound (content_of (A.point access.old)).revisions }
-    ensures { Stepped result turn.new.env (S.writes turn.old.out turn.new.out) A.rules
-        (A.point access.old) (A.point access.new)
+    ensures { Stepped result S.writes turn.old turn.new A.rules A.point access.old access.new
         (Draws turn.old.env errand.client (EndStep errand.report)) }
 {
     let OpenErrand { client, report } = errand;

@@ -1,10 +1,10 @@
 //! The commands of a report that goes on.
-ghost use Rattle.std.specs.Prelude.{◌≡◌, Ok, IfOk, option_copied};
+ghost use Rattle.std.specs.Prelude.{◌≡◌, Ok, option_copied};
 ghost use Rattle.repo_api.specs.Soundness.{AreSound};
 ghost use Rattle.drive_reports.specs.Refusing.{delete_path_answer, kept_report, set_path_answer};
 ghost use Rattle.drive_wire.specs.Reporting.{OpenStep};
 ghost use Rattle.access.specs.Points.{content_of};
-ghost use Rattle.machine.specs.{Reports.Draws, Steps.Stepped};
+ghost use Rattle.machine.specs.{Reports.Draws, Steps.{Stepped, Makes, Looks}};
 
 use crate::finishing::{OpenErrand, finish};
 use access::RepoAccess;
@@ -27,10 +27,9 @@ fn set_path_now<R: Repository, A: RepoAccess<View = R>>(
     access: &mut A,
 ) -> Result<Report<Grafts>, AllocError>
     requires trees { AreSound (content_of (A.point access.old)).revisions }
-    ensures next { IfOk result (λ next. next ≡ kept_report (set_path_answer
-        (content_of (A.point access.new)) name.now report link.entry.reported.now
-        (option_copied link.entry.url))) }
-    ensures later { A.rules.between (A.point access.old) (A.point access.new) }
+    ensures { Looks A.rules A.point access.old access.new (λ c. Makes result
+        (kept_report (set_path_answer c name.now report link.entry.reported.now
+        (option_copied link.entry.url)))) }
 {
     match access.look() {
         Ok(view) => drive_reports::set_path(alloc, &view, name, report, link),
@@ -50,12 +49,12 @@ fn set_path<R: Repository, A: RepoAccess<View = R>>(
     access: &mut A,
 ) -> Result<SessionPhase<R>, AllocError>
     requires trees { AreSound (content_of (A.point access.old)).revisions }
-    ensures next { IfOk result (λ phase. phase ≡ Phase.Reporting (record {
-      client = errand.client;
-      report = kept_report (set_path_answer (content_of (A.point access.new)) options.now.name
-          errand.report link.entry.reported.now (option_copied link.entry.url));
-    })) }
-    ensures later { A.rules.between (A.point access.old) (A.point access.new) }
+    ensures { Looks A.rules A.point access.old access.new (λ c. Makes result
+        (Phase.Reporting (record {
+          client = errand.client;
+          report = kept_report (set_path_answer c options.now.name errand.report
+              link.entry.reported.now (option_copied link.entry.url));
+        }))) }
 {
     let OpenErrand { client, report } = errand;
     match set_path_now(alloc, options.name(), report, link, access) {
@@ -73,7 +72,7 @@ fn delete_path<R: Repository>(
     errand: OpenErrand,
     text: &ByteString,
 ) -> Result<SessionPhase<R>, AllocError>
-    ensures { IfOk result (λ phase. phase ≡ Phase.Reporting (record {
+    ensures { Makes result (Phase.Reporting (record {
       client = errand.client;
       report = kept_report (delete_path_answer errand.report text.now);
     })) }
@@ -106,8 +105,7 @@ pub(crate) fn take_command<R: Repository, A: RepoAccess<View = R>, S: ReplySink>
     turn: &mut Turn<S>,
 ) -> Result<SessionPhase<R>, AllocError>
     requires trees { AreSound (content_of (A.point access.old)).revisions }
-    ensures { Stepped result turn.new.env (S.writes turn.old.out turn.new.out) A.rules
-        (A.point access.old) (A.point access.new)
+    ensures { Stepped result S.writes turn.old turn.new A.rules A.point access.old access.new
         (Draws turn.old.env errand.client
         (OpenStep options.now.name errand.report (Ok command.now))) }
 {

@@ -22,7 +22,7 @@ pub(crate) fn tell_refused<R: Repository, S: ReplySink>(
     refusal: Refusal,
     turn: &mut Turn<S>,
 ) -> Result<SessionPhase<R>, AllocError>
-    ensures { Answered result turn.new.env (S.writes turn.old.out turn.new.out)
+    ensures { Answered result S.writes turn.old turn.new
         (drawn_answer turn.old.env client (Fails refusal)) }
 {
     refuse(client, Preface::NoLogin, refusal, turn)
@@ -43,7 +43,7 @@ pub(crate) fn refused_item<R: Repository, S: ReplySink>(
     item: &Item,
     turn: &mut Turn<S>,
 ) -> Result<SessionPhase<R>, AllocError>
-    ensures { Answered result turn.new.env (S.writes turn.old.out turn.new.out)
+    ensures { Answered result S.writes turn.old turn.new
         (drawn_answer turn.old.env client (refused_drawn refusal (name_of (value_of item.now)))) }
 {
     match read_name(item) {

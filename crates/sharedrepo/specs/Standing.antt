@@ -1,9 +1,9 @@
 -- How a keeper stands between calls, as contracts see it.
-use Rattle.std.specs.Prelude.{◌≡◌, ◌<◌, List, true, length, Option, Some, None}
+use Rattle.std.specs.Prelude.{◌≡◌, ◌<◌, List, true, false, length, Option, Some, None, Result, Err}
 use Rattle.repo_api.specs.{Accepted.Accepted, States.{RepoState, TxnState}, declared.fault.ChangeFault.ChangeFault}
 use Rattle.repo_api.specs.declared.fault.ChangeFault.TheVariants as faults
 use Rattle.access.specs.Points.{Point}
-use Rattle.published.specs.{Edition.Edition, Events.{Event, state_of, point_of, IsHistory, accepted_by}, declared.event.AskedChange.AskedChange}
+use Rattle.published.specs.{Edition.Edition, Events.{Event, state_of, point_of, IsHistory, accepted_by}, Moments.GoesOn, declared.event.AskedChange.AskedChange}
 use Rattle.sharedrepo.specs.Archives.{Kept, FilesFor}
 
 -- the events, the repository, what is published, the archive, and the change that was being saved when
@@ -50,3 +50,12 @@ module _ {S : Type 0} (kept : S → Kept) where
   NotBegun faults.StoreFailed k = ⊥
   NotBegun faults.Halted k = (kept k.archive).halted ≡ true
   NotBegun faults.NoMemory k = Unit {0}
+
+  -- a call of a seat: where the seat knows of a halt, it is turned away and nothing changes. Else it
+  -- goes on to where the keeper stands, the change happens there, and it is shown what comes of it
+  abbrev pub Calls : {R : Type 0} → (Point → Result R ChangeFault → Point → Type 0) → Point
+      → Standing S → Result R ChangeFault → Point → Standing S → Type 0
+  Calls change seat k result seat' k' =
+      (seat.halted ≡ true → (result ≡ Err faults.Halted) × (seat' ≡ seat) × (k' ≡ k))
+      × (seat.halted ≡ false → GoesOn seat (now_of k) × change (now_of k) result (now_of k')
+      × (seat' ≡ now_of k'))

@@ -1,9 +1,9 @@
 //! The changes that a keeper makes for a seat of its.
-ghost use Rattle.std.specs.Prelude.{◌≡◌, ◌≤◌, true, false, Err};
-ghost use Rattle.access.specs.{Changing.{ChangesPropertyAt, CommitsAt, LocksAt, UnlocksAt}, Points.{content_of, Point}};
+ghost use Rattle.std.specs.Prelude.{◌≡◌, false};
+ghost use Rattle.access.specs.{Changing.{ChangesPropertyAt, CommitsAt, Happens, LocksAt, UnlocksAt}, Points.content_of};
 ghost use Rattle.published.specs.Moments.{GoesOn, shared_rules};
 ghost use Rattle.repo_api.specs.{States.{IsBeginning, tree_of}, Transactions.IsMarkedTxn, Trees.IsTree};
-ghost use Rattle.sharedrepo.specs.Standing.{IsSteady, now_of};
+ghost use Rattle.sharedrepo.specs.Standing.{Calls, IsSteady, now_of};
 
 use crate::archive::Archive;
 use crate::keeper::Keeper;
@@ -76,15 +76,9 @@ impl<
         requires rests { IsBeginning (R.txn_state txn).shown (content_of seat.old).revisions }
         requires tree { IsTree (tree_of (R.txn_state txn).tree) }
         requires marked { IsMarkedTxn (R.txn_state txn) }
-        ensures later { seat.old.halted ≡ false → GoesOn seat.old (now_of S.kept self.old) }
-        ensures made { seat.old.halted ≡ false
-            → CommitsAt shared_rules ask (R.txn_state txn) (now_of S.kept self.old) result
-            (now_of S.kept self.new) }
-        ensures told { seat.old.halted ≡ false → seat.new ≡ now_of S.kept self.new }
-        ensures halted { seat.old.halted ≡ true → (result ≡ Err ChangeFault.Halted)
-            × (seat.new ≡ seat.old) × (self.new ≡ self.old) }
-        ensures shared { (at : Point) × GoesOn seat.old at
-            × CommitsAt shared_rules ask (R.txn_state txn) at result
+        ensures call { Calls S.kept (CommitsAt shared_rules ask (R.txn_state txn)) seat.old self.old result
+            seat.new self.new }
+        ensures shared { Happens shared_rules (CommitsAt shared_rules ask (R.txn_state txn)) seat.old result
             seat.new }
         ensures steady { IsSteady S.kept self.new }
     {
@@ -105,16 +99,9 @@ impl<
         seat: &mut Seat<R, J, T>,
         ask: LockAsk,
     ) -> Result<(), ChangeFault>
-        ensures later { seat.old.halted ≡ false → GoesOn seat.old (now_of S.kept self.old) }
-        ensures made { seat.old.halted ≡ false
-            → LocksAt shared_rules ask (now_of S.kept self.old) result
-            (now_of S.kept self.new) }
-        ensures told { seat.old.halted ≡ false → seat.new ≡ now_of S.kept self.new }
-        ensures halted { seat.old.halted ≡ true → (result ≡ Err ChangeFault.Halted)
-            × (seat.new ≡ seat.old) × (self.new ≡ self.old) }
-        ensures shared { (at : Point) × GoesOn seat.old at
-            × LocksAt shared_rules ask at result
-            seat.new }
+        ensures call { Calls S.kept (LocksAt shared_rules ask) seat.old self.old result
+            seat.new self.new }
+        ensures shared { Happens shared_rules (LocksAt shared_rules ask) seat.old result seat.new }
         ensures steady { IsSteady S.kept self.new }
     {
         if self.turns_away(seat) {
@@ -134,15 +121,9 @@ impl<
         seat: &mut Seat<R, J, T>,
         ask: &UnlockAsk,
     ) -> Result<(), ChangeFault>
-        ensures later { seat.old.halted ≡ false → GoesOn seat.old (now_of S.kept self.old) }
-        ensures made { seat.old.halted ≡ false
-            → UnlocksAt shared_rules ask.now (now_of S.kept self.old) result
-            (now_of S.kept self.new) }
-        ensures told { seat.old.halted ≡ false → seat.new ≡ now_of S.kept self.new }
-        ensures halted { seat.old.halted ≡ true → (result ≡ Err ChangeFault.Halted)
-            × (seat.new ≡ seat.old) × (self.new ≡ self.old) }
-        ensures shared { (at : Point) × GoesOn seat.old at
-            × UnlocksAt shared_rules ask.now at result
+        ensures call { Calls S.kept (UnlocksAt shared_rules ask.now) seat.old self.old result
+            seat.new self.new }
+        ensures shared { Happens shared_rules (UnlocksAt shared_rules ask.now) seat.old result
             seat.new }
         ensures steady { IsSteady S.kept self.new }
     {
@@ -163,15 +144,9 @@ impl<
         seat: &mut Seat<R, J, T>,
         ask: PropertyAsk,
     ) -> Result<(), ChangeFault>
-        ensures later { seat.old.halted ≡ false → GoesOn seat.old (now_of S.kept self.old) }
-        ensures made { seat.old.halted ≡ false
-            → ChangesPropertyAt shared_rules ask (now_of S.kept self.old) result
-            (now_of S.kept self.new) }
-        ensures told { seat.old.halted ≡ false → seat.new ≡ now_of S.kept self.new }
-        ensures halted { seat.old.halted ≡ true → (result ≡ Err ChangeFault.Halted)
-            × (seat.new ≡ seat.old) × (self.new ≡ self.old) }
-        ensures shared { (at : Point) × GoesOn seat.old at
-            × ChangesPropertyAt shared_rules ask at result
+        ensures call { Calls S.kept (ChangesPropertyAt shared_rules ask) seat.old self.old result
+            seat.new self.new }
+        ensures shared { Happens shared_rules (ChangesPropertyAt shared_rules ask) seat.old result
             seat.new }
         ensures steady { IsSteady S.kept self.new }
     {

@@ -1,7 +1,7 @@
 //! The keeper under a lock, by which threads change the repository, each by a seat of its own.
 ghost use Rattle.std.specs.Prelude.{◌≡◌, false, None, ◌∷◌, [], All, IfOk};
-ghost use Rattle.access.specs.{Changing.{ChangesPropertyAt, CommitsAt, LocksAt, UnlocksAt}, Points.{content_of, Point}};
-ghost use Rattle.published.specs.{Events.point_of, Events.Event.Opened, Moments.{GoesOn, shared_rules}};
+ghost use Rattle.access.specs.{Changing.{ChangesPropertyAt, CommitsAt, Happens, LocksAt, UnlocksAt}, Points.content_of};
+ghost use Rattle.published.specs.{Events.point_of, Events.Event.Opened, Moments.shared_rules};
 ghost use Rattle.repo_api.specs.{Soundness.AreSound, States.{IsBeginning, tree_of}, Transactions.IsMarkedTxn, Trees.IsTree};
 
 use crate::archive::Archive;
@@ -95,8 +95,8 @@ impl<
         requires rests { IsBeginning (R.txn_state txn).shown (content_of seat.old).revisions }
         requires tree { IsTree (tree_of (R.txn_state txn).tree) }
         requires marked { IsMarkedTxn (R.txn_state txn) }
-        ensures { (at : Point) × GoesOn seat.old at
-            × CommitsAt shared_rules ask (R.txn_state txn) at result seat.new }
+        ensures { Happens shared_rules (CommitsAt shared_rules ask (R.txn_state txn)) seat.old result
+            seat.new }
     {
         let answer = self.keeper.lock(rt).commit(rt, seat, ask, txn);
         self.note(seat);
@@ -110,7 +110,7 @@ impl<
         seat: &mut Seat<R, J, T>,
         ask: LockAsk,
     ) -> Result<(), ChangeFault>
-        ensures { (at : Point) × GoesOn seat.old at × LocksAt shared_rules ask at result seat.new }
+        ensures { Happens shared_rules (LocksAt shared_rules ask) seat.old result seat.new }
     {
         let answer = self.keeper.lock(rt).lock(rt, seat, ask);
         self.note(seat);
@@ -124,8 +124,7 @@ impl<
         seat: &mut Seat<R, J, T>,
         ask: &UnlockAsk,
     ) -> Result<(), ChangeFault>
-        ensures { (at : Point) × GoesOn seat.old at
-            × UnlocksAt shared_rules ask.now at result seat.new }
+        ensures { Happens shared_rules (UnlocksAt shared_rules ask.now) seat.old result seat.new }
     {
         let answer = self.keeper.lock(rt).unlock(rt, seat, ask);
         self.note(seat);
@@ -140,8 +139,7 @@ impl<
         seat: &mut Seat<R, J, T>,
         ask: PropertyAsk,
     ) -> Result<(), ChangeFault>
-        ensures { (at : Point) × GoesOn seat.old at
-            × ChangesPropertyAt shared_rules ask at result seat.new }
+        ensures { Happens shared_rules (ChangesPropertyAt shared_rules ask) seat.old result seat.new }
     {
         let answer = self.keeper.lock(rt).change_property(rt, seat, ask);
         self.note(seat);

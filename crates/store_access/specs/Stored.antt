@@ -1,12 +1,16 @@
 -- A repository whose changes are saved before they are made.
 use Rattle.std.specs.Prelude.{◌≡◌, ◌⊎◌, ℕ, Bool, true, false, [], List, Option, Some, None, Result, Ok, Err}
-use Rattle.repo_api.specs.{Accepted.Accepted, Accepted.Accepted.{ChangesProperty, Commits, Locks, Releases, Unlocks}}
-use Rattle.repo_api.specs.{Locking.{HandedTokens, releases, without_released}, States.{RepoState, TxnState}, declared.fault.ChangeFault.ChangeFault}
-use Rattle.repo_api.specs.declared.fault.ChangeFault.TheVariants.{Refused, StoreFailed, Halted, NoMemory}
+use Rattle.repo_api.specs.{Accepted.Accepted, Accepted.Accepted.{ChangesProperty, Commits, Locks, Releases, Unlocks}, Commits.committed}
+use Rattle.repo_api.specs.{Locking.{HandedTokens, releases, without_released}, States.{RepoState, TxnState}, declared.ask.CommitAsk.CommitAsk}
+use Rattle.repo_api.specs.{declared.fault.ChangeFault.ChangeFault, declared.fault.ChangeFault.TheVariants.{Refused, StoreFailed, Halted, NoMemory}}
 use Rattle.access.specs.{declared.access.Released.Released, declared.handed.Handed.Handed, Changing.IsHalt, Points.{content_of, Point}}
 use Rattle.access.specs.declared.access.Released.TheVariants as releases_so
 use Rattle.repostore.specs.declared.saves.Saves.{Saves}
-use Rattle.store_access.specs.{declared.change.SavedChange.SavedChange, declared.change.SavedChange.TheVariants.{Commit, Lock, Unlock, Release, Property}}
+use Rattle.repo_api.specs.declared.repository.Repository as Repository
+use Rattle.store_files.specs.declared.store.Store as Store
+use Rattle.store_access.specs.declared.filed.Filed as Filed
+use Rattle.store_access.specs.{Keeping.{LeavesEither, LeavesOneOf}, declared.stored.StoredRepository.StoredRepository, declared.change.SavedChange.SavedChange}
+use Rattle.store_access.specs.declared.change.SavedChange.TheVariants.{Commit, Lock, Unlock, Release, Property}
 
 -- the change that is being saved
 abbrev pub accepted_by : {T : Type 0} → (T → TxnState) → SavedChange T → Accepted
@@ -74,3 +78,27 @@ without_handed c (Some handed) = without_released c handed.user handed.tokens
 abbrev pub ReleasesKept : Option Handed → Point → Released → Point → Type 0
 ReleasesKept None at released q = (released ≡ releases_so.Settled) × (q ≡ at)
 ReleasesKept (Some handed) at released q = ReleasesBy handed.user handed.tokens at released q
+
+module _ {F S T : Type 0} {f : Filed.Ghosts F T} {r : Repository.Ghosts F T} {s : Store.Ghosts S} where
+  -- where it is
+  abbrev pub point_of : StoredRepository F S T f r s → Point
+  point_of d = point_in r.content s.failed r.txn_state d.repository d.saves d.pending
+
+  -- while changes are saved to an honest store, a stop within a call leaves the files of what the
+  -- repository contained before it, or of this
+  abbrev pub StopLeaves : StoredRepository F S T f r s → StoredRepository F S T f r s → RepoState
+      → Type 0
+  StopLeaves old new after =
+      s.is_honest old.saves.store → old.saves.is_halted ≡ false
+      → ∥ LeavesEither r.content f.is_of s old.saves.store new.saves.store
+      (r.content old.repository) after ∥₁
+
+  -- and within a commit, the files with the revision, or also without the locks that were handed in
+  abbrev pub StopLeavesCommit : StoredRepository F S T f r s → StoredRepository F S T f r s
+      → CommitAsk → T → Type 0
+  StopLeavesCommit old new ask txn =
+      s.is_honest old.saves.store → old.saves.is_halted ≡ false
+      → ∥ LeavesOneOf r.content f.is_of s old.saves.store new.saves.store
+      (r.content old.repository) (committed (r.content old.repository) ask (r.txn_state txn))
+      (without_released (committed (r.content old.repository) ask (r.txn_state txn)) ask.author
+      ask.tokens) ∥₁

@@ -1,9 +1,9 @@
 //! A repository in files as a session reaches it.
 ghost use Rattle.std.specs.Prelude.{◌≡◌, false, true};
 ghost use Rattle.access.specs.{Changing.{ChangesPropertyAt, CommitsAt, LocksAt, UnlocksAt}, Handed.IsHandedIn, Sole.sole_rules};
-ghost use Rattle.repo_api.specs.{Commits.committed, Locking.{locked, unlocked, without_released}, RevisionProperties.with_changed_property};
-ghost use Rattle.repo_api.specs.{States.{IsBeginning, tree_of}, Transactions.IsMarkedTxn, Trees.IsTree};
-ghost use Rattle.store_access.specs.{Stored.point_in, Keeping.{LeavesEither, LeavesOneOf}};
+ghost use Rattle.repo_api.specs.{Locking.{locked, unlocked}, RevisionProperties.with_changed_property, States.{IsBeginning, tree_of}, Transactions.IsMarkedTxn};
+ghost use Rattle.repo_api.specs.Trees.{IsTree};
+ghost use Rattle.store_access.specs.Stored.{StopLeaves, StopLeavesCommit, point_of};
 
 use crate::change::{SavedChange, copied};
 use crate::filed::Filed;
@@ -22,17 +22,9 @@ impl<F: Filed, S: Store> StoredRepository<F, S> {
             (F.content self.old.repository).revisions }
         requires tree { IsTree (tree_of (F.txn_state txn).tree) }
         requires marked { IsMarkedTxn (F.txn_state txn) }
-        ensures point { CommitsAt sole_rules ask (F.txn_state txn)
-            (point_in F.content S.failed F.txn_state self.old.repository self.old.saves
-            self.old.pending) result
-            (point_in F.content S.failed F.txn_state self.new.repository self.new.saves
-            self.new.pending) }
-        ensures stop { S.is_honest self.old.saves.store → self.old.saves.is_halted ≡ false
-            → ∥ LeavesOneOf F.content F.is_of S.moment S.left_since self.old.saves.store
-            self.new.saves.store (F.content self.old.repository)
-            (committed (F.content self.old.repository) ask (F.txn_state txn))
-            (without_released (committed (F.content self.old.repository) ask (F.txn_state txn))
-            ask.author ask.tokens) ∥₁ }
+        ensures point { CommitsAt sole_rules ask (F.txn_state txn) (point_of self.old) result
+            (point_of self.new) }
+        ensures stop { StopLeavesCommit self.old self.new ask txn }
         ensures stays { self.old.saves.is_halted ≡ true → self.new.saves ≡ self.old.saves }
     {
         if self.saves.is_halted() {
@@ -61,17 +53,9 @@ impl<F: Filed, S: Store> StoredRepository<F, S> {
         requires tree { IsTree (tree_of (F.txn_state txn).tree) }
         requires marked { IsMarkedTxn (F.txn_state txn) }
         requires handed_in { IsHandedIn ask handed }
-        ensures point { CommitsAt sole_rules ask (F.txn_state txn)
-            (point_in F.content S.failed F.txn_state self.old.repository self.old.saves
-            self.old.pending) result
-            (point_in F.content S.failed F.txn_state self.new.repository self.new.saves
-            self.new.pending) }
-        ensures stop { S.is_honest self.old.saves.store
-            → ∥ LeavesOneOf F.content F.is_of S.moment S.left_since self.old.saves.store
-            self.new.saves.store (F.content self.old.repository)
-            (committed (F.content self.old.repository) ask (F.txn_state txn))
-            (without_released (committed (F.content self.old.repository) ask (F.txn_state txn))
-            ask.author ask.tokens) ∥₁ }
+        ensures point { CommitsAt sole_rules ask (F.txn_state txn) (point_of self.old) result
+            (point_of self.new) }
+        ensures stop { StopLeavesCommit self.old self.new ask txn }
     {
         match self.repository.committed(&ask, &txn) {
             Ok((next, new)) => {
@@ -96,15 +80,8 @@ impl<F: Filed, S: Store> StoredRepository<F, S> {
     /// Locks the path of a file, in place of a lock that stands there if that may be stolen. A stop at any moment of
     /// the call leaves the files of the repository from before it, or with the lock.
     pub fn lock_in_files(&mut self, ask: LockAsk) -> Result<(), ChangeFault>
-        ensures point { LocksAt sole_rules ask
-            (point_in F.content S.failed F.txn_state self.old.repository self.old.saves
-            self.old.pending) result
-            (point_in F.content S.failed F.txn_state self.new.repository self.new.saves
-            self.new.pending) }
-        ensures stop { S.is_honest self.old.saves.store → self.old.saves.is_halted ≡ false
-            → ∥ LeavesEither F.content F.is_of S.moment S.left_since self.old.saves.store
-            self.new.saves.store (F.content self.old.repository)
-            (locked (F.content self.old.repository) ask) ∥₁ }
+        ensures point { LocksAt sole_rules ask (point_of self.old) result (point_of self.new) }
+        ensures stop { StopLeaves self.old self.new (locked (F.content self.old.repository) ask) }
         ensures stays { self.old.saves.is_halted ≡ true → self.new.saves ≡ self.old.saves }
     {
         if self.saves.is_halted() {
@@ -119,15 +96,10 @@ impl<F: Filed, S: Store> StoredRepository<F, S> {
     /// Takes the lock at a path away. A stop at any moment of the call leaves the files of the repository
     /// from before it, or without the lock.
     pub fn unlock_in_files(&mut self, ask: &UnlockAsk) -> Result<(), ChangeFault>
-        ensures point { UnlocksAt sole_rules ask.now
-            (point_in F.content S.failed F.txn_state self.old.repository self.old.saves
-            self.old.pending) result
-            (point_in F.content S.failed F.txn_state self.new.repository self.new.saves
-            self.new.pending) }
-        ensures stop { S.is_honest self.old.saves.store → self.old.saves.is_halted ≡ false
-            → ∥ LeavesEither F.content F.is_of S.moment S.left_since self.old.saves.store
-            self.new.saves.store (F.content self.old.repository)
-            (unlocked (F.content self.old.repository) ask.now) ∥₁ }
+        ensures point { UnlocksAt sole_rules ask.now (point_of self.old) result
+            (point_of self.new) }
+        ensures stop { StopLeaves self.old self.new
+            (unlocked (F.content self.old.repository) ask.now) }
         ensures stays { self.old.saves.is_halted ≡ true → self.new.saves ≡ self.old.saves }
     {
         if self.saves.is_halted() {
@@ -146,15 +118,10 @@ impl<F: Filed, S: Store> StoredRepository<F, S> {
     /// value before is the one that is asked for. A stop at any moment of the call leaves the files of the repository
     /// from before it, or with the change.
     pub fn change_property_in_files(&mut self, ask: PropertyAsk) -> Result<(), ChangeFault>
-        ensures point { ChangesPropertyAt sole_rules ask
-            (point_in F.content S.failed F.txn_state self.old.repository self.old.saves
-            self.old.pending) result
-            (point_in F.content S.failed F.txn_state self.new.repository self.new.saves
-            self.new.pending) }
-        ensures stop { S.is_honest self.old.saves.store → self.old.saves.is_halted ≡ false
-            → ∥ LeavesEither F.content F.is_of S.moment S.left_since self.old.saves.store
-            self.new.saves.store (F.content self.old.repository)
-            (with_changed_property (F.content self.old.repository) ask.revision ask.name ask.value) ∥₁ }
+        ensures point { ChangesPropertyAt sole_rules ask (point_of self.old) result
+            (point_of self.new) }
+        ensures stop { StopLeaves self.old self.new
+            (with_changed_property (F.content self.old.repository) ask.revision ask.name ask.value) }
         ensures stays { self.old.saves.is_halted ≡ true → self.new.saves ≡ self.old.saves }
     {
         if self.saves.is_halted() {
@@ -171,11 +138,10 @@ impl<F: Filed, S: Store> RepoAccess for StoredRepository<F, S> {
     ghost use Rattle.std.specs.Prelude.{◌≡◌, refl};
     ghost use Rattle.std.proofs.Common.{◌∙◌};
     ghost use Rattle.access.specs.Sole.{adds_counts, same_keeps, same_lasts, same_sound, sole_rules};
-    ghost use Rattle.store_access.specs.Stored.{point_in};
 
     type View = F;
 
-    ghost point = { λ d. point_in F.content S.failed F.txn_state d.repository d.saves d.pending };
+    ghost point = { point_of };
 
     ghost rules = { sole_rules };
 

@@ -1,10 +1,10 @@
 //! A repository that can be written to files.
-ghost use Rattle.std.specs.Prelude.{◌≡◌, ◌+◌, ◌<◌, Option, Some, None, length, IfOk, OnOk, option_copied};
-ghost use Rattle.repo_api.specs.{Accepted.{IfRefused, IsOfMemory}, Commits.{commit_refusal, committed}};
-ghost use Rattle.repo_api.specs.Locking.{lock_refusal, locked, unlock_refusal, unlocked, without_released};
+ghost use Rattle.std.specs.Prelude.{◌≡◌, length, IfOk, option_copied};
+ghost use Rattle.repo_api.specs.{Commits.{commit_refusal, committed}, Locking.{lock_refusal, locked, unlock_refusal, unlocked, without_released}};
 ghost use Rattle.repo_api.specs.{RevisionProperties.{property_refusal, with_changed_property}, States.{IsBeginning, RepoState, tree_of}};
 ghost use Rattle.repo_api.specs.{Transactions.IsMarkedTxn, Trees.IsTree};
-ghost use Rattle.repostore.specs.{Current.count_in, Files.{Files, with_locks, with_properties, with_revision}};
+ghost use Rattle.repostore.specs.Files.{Files};
+ghost use Rattle.store_access.specs.Filing.{IsJudged, MakesLocks, WritesProperties, WritesRevision};
 
 use byte_string::ByteString;
 use repo_api::{ChangeFault, CommitAsk, LockAsk, LockTokens, PropertyAsk, Repository, UnlockAsk};
@@ -44,41 +44,25 @@ pub trait Filed: Repository {
             (Self.content self.now).revisions }
         requires tree { IsTree (tree_of (Self.txn_state txn.now).tree) }
         requires marked { IsMarkedTxn (Self.txn_state txn.now) }
-        ensures accepted { OnOk result (commit_refusal (Self.content self.now) ask.now
-            (Self.txn_state txn.now) ≡ None) }
+        ensures judged { IsJudged result (commit_refusal (Self.content self.now) ask.now
+            (Self.txn_state txn.now)) }
         ensures ok { IfOk result (λ made. Self.content made.0
             ≡ committed (Self.content self.now) ask.now (Self.txn_state txn.now)) }
         ensures number { IfOk result (λ made. made.1.number
             ≡ length (Self.content self.now).revisions) }
-        ensures files { IfOk result (λ made. (files : Files) → is_of self.now files
-            → (is_of made.0 (with_revision files (made.1.revision.items, made.1.properties.items)
-            made.1.current.items))
-            × (count_in made.1.current.items ≡ Some (length files.revisions + 1))) }
-        ensures refused { IfRefused result (λ r. commit_refusal (Self.content self.now) ask.now
-            (Self.txn_state txn.now) ≡ Some r) }
-        ensures memory { IsOfMemory result };
+        ensures files { IfOk result (λ made. WritesRevision is_of self.now made.1 made.0) };
 
     /// Makes the repository with the lock, and the file of its locks.
     fn locked(&self, ask: &LockAsk) -> Result<(Self, Vec<u8>), ChangeFault>
-        ensures accepted { OnOk result (lock_refusal (Self.content self.now) ask.now ≡ None) }
-        ensures ok { IfOk result (λ made. Self.content made.0
-            ≡ locked (Self.content self.now) ask.now) }
-        ensures files { IfOk result (λ made. (files : Files) → is_of self.now files
-            → is_of made.0 (with_locks files made.1.items)) }
-        ensures refused { IfRefused result (λ r. lock_refusal (Self.content self.now) ask.now
-            ≡ Some r) }
-        ensures memory { IsOfMemory result };
+        ensures judged { IsJudged result (lock_refusal (Self.content self.now) ask.now) }
+        ensures ok { IfOk result (MakesLocks is_of Self.content self.now
+            (locked (Self.content self.now) ask.now)) };
 
     /// Makes the repository without the lock, and the file of its locks.
     fn unlocked(&self, ask: &UnlockAsk) -> Result<(Self, Vec<u8>), ChangeFault>
-        ensures accepted { OnOk result (unlock_refusal (Self.content self.now) ask.now ≡ None) }
-        ensures ok { IfOk result (λ made. Self.content made.0
-            ≡ unlocked (Self.content self.now) ask.now) }
-        ensures files { IfOk result (λ made. (files : Files) → is_of self.now files
-            → is_of made.0 (with_locks files made.1.items)) }
-        ensures refused { IfRefused result (λ r. unlock_refusal (Self.content self.now) ask.now
-            ≡ Some r) }
-        ensures memory { IsOfMemory result };
+        ensures judged { IsJudged result (unlock_refusal (Self.content self.now) ask.now) }
+        ensures ok { IfOk result (MakesLocks is_of Self.content self.now
+            (unlocked (Self.content self.now) ask.now)) };
 
     /// Makes the repository without the locks that are the user's and were handed in, and the file of its locks.
     fn released(
@@ -86,24 +70,18 @@ pub trait Filed: Repository {
         user: Option<&ByteString>,
         tokens: &LockTokens,
     ) -> Result<(Self, Vec<u8>), ChangeFault>
-        ensures ok { IfOk result (λ made. Self.content made.0
-            ≡ without_released (Self.content self.now) (option_copied user.entry) tokens.now) }
-        ensures files { IfOk result (λ made. (files : Files) → is_of self.now files
-            → is_of made.0 (with_locks files made.1.items)) };
+        ensures ok { IfOk result (MakesLocks is_of Self.content self.now
+            (without_released (Self.content self.now) (option_copied user.entry) tokens.now)) };
 
     /// Makes the repository with a property of a revision changed, and the file of the revision's properties.
     fn property_changed(&self, ask: &PropertyAsk) -> Result<(Self, NewProperties), ChangeFault>
-        ensures accepted { OnOk result (property_refusal (Self.content self.now) ask.now ≡ None) }
+        ensures judged { IsJudged result (property_refusal (Self.content self.now) ask.now) }
         ensures ok { IfOk result (λ made. Self.content made.0
             ≡ with_changed_property (Self.content self.now) ask.now.revision ask.now.name
             ask.now.value) }
         ensures number { IfOk result (λ made. made.1.revision ≡ ask.now.revision) }
-        ensures files { IfOk result (λ made. (files : Files) → is_of self.now files
-            → (is_of made.0 (with_properties files ask.now.revision made.1.file.items))
-            × (ask.now.revision < length files.revisions)) }
-        ensures refused { IfRefused result (λ r. property_refusal (Self.content self.now) ask.now
-            ≡ Some r) }
-        ensures memory { IsOfMemory result };
+        ensures files { IfOk result (λ made. WritesProperties is_of self.now ask.now.revision
+            made.1.file.items made.0) };
 
     /// Files stand for one state at most.
     ghost one_state: { (files : Files) (a b : RepoState) → stands_for files a → stands_for files b

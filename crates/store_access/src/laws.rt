@@ -20,7 +20,7 @@ pub fn a_repository_stands_in_its_folder<F: Filed>()
 /// nothing else.
 pub fn a_stop_is_opened_as_before_or_after<F: Filed, S: Store>()
     ensures { (old new : S) (before after : RepoState)
-        → LeavesEither F.content F.is_of S.moment S.left_since old new before after
+        → LeavesEither F.content F.is_of S.Store old new before after
         → (found : RepoState) (f : Folder) → S.left_since new (S.moment old) f
         → StandsFor F.stands_for found f → (found ≡ before) ⊎ (found ≡ after) }
 {}

@@ -1,8 +1,8 @@
 //! A repository opened from its files.
 ghost use Rattle.std.specs.Prelude.{◌≡◌, Some, IfOk, IfErr, length};
 ghost use Rattle.repo_api.specs.States.{RepoState};
-ghost use Rattle.store_files.specs.{Folders.{Folder, IsSame}, Moments.HasRisen};
-ghost use Rattle.repostore.specs.{Current.count_in, Files.Files, Reading.{IfFaulty, IsFaulty}, Saving.OnlyReads};
+ghost use Rattle.store_files.specs.Folders.{Folder, IsSame};
+ghost use Rattle.repostore.specs.{Current.count_in, Files.Files, Opening.IsUnopened};
 ghost use Rattle.store_access.specs.Keeping.{HasRepository, StandsFor};
 
 use crate::filed::Filed;
@@ -36,12 +36,7 @@ pub fn open_repository<S: Store, L: Loader>(
     ensures same { IfOk result (λ opened. S.is_honest opened.saves.store
         → (c : RepoState) → HasRepository L.Repository.content L.Repository.is_of c (S.holds store)
         → L.Repository.content opened.repository ≡ c) }
-    ensures faulty { IfErr result (λ unopened. S.is_honest unopened.store
-        → IfFaulty unopened.fault (IsFaulty L.faulty (S.holds store))) }
-    ensures device { IfErr result (λ unopened. unopened.fault ≡ StoreFault.Device
-        → HasRisen (S.failed store) (S.failed unopened.store)) }
-    ensures unchanged { IfErr result (λ unopened. OnlyReads S.is_honest S.holds S.may_leave
-        S.moment S.left_since S.in_doubt S.failed store unopened.store) }
+    ensures unopened { IfErr result (λ unopened. IsUnopened S.Store L.faulty store unopened) }
 {
     let (saves, loader) = open::<S, L>(alloc, store)?;
     Ok(StoredRepository::new(loader.finish(), saves))

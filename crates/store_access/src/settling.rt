@@ -1,9 +1,9 @@
 //! Changes saved, and then made.
-ghost use Rattle.std.specs.Prelude.{◌≡◌, ◌+◌, ◌<◌, Some, false, true, length};
+ghost use Rattle.std.specs.Prelude.{◌≡◌, Some, false, true};
 ghost use Rattle.access.specs.Changing.{IsFailure};
 ghost use Rattle.repo_api.specs.Locking.{without_released};
-ghost use Rattle.repostore.specs.{Current.count_in, Files.{Files, with_locks, with_properties, with_revision}};
-ghost use Rattle.store_access.specs.{Stored.{point_in, accepted_by, SavesTo, ReleasesBy, ReleasesKept, released_as, without_handed}, Keeping.LeavesEither};
+ghost use Rattle.store_access.specs.Filing.{WritesLocks, WritesProperties, WritesRevision};
+ghost use Rattle.store_access.specs.Stored.{StopLeaves, accepted_by, point_of, SavesTo, ReleasesBy, ReleasesKept, released_as, without_handed};
 
 use crate::change::{SavedChange, forget};
 use crate::filed::{Filed, NewProperties, NewRevision};
@@ -59,16 +59,10 @@ impl<F: Filed, S: Store> StoredRepository<F, S> {
         change: SavedChange<F::Txn>,
     ) -> Result<(), ChangeFault>
         requires goes_on { self.old.saves.is_halted ≡ false }
-        requires files { (files : Files) → F.is_of self.old.repository files
-            → F.is_of next (with_locks files file.now) }
-        ensures point { SavesTo (λ q. ⊥) (accepted_by F.txn_state change)
-            (point_in F.content S.failed F.txn_state self.old.repository self.old.saves
-            self.old.pending) (F.content next) result
-            (point_in F.content S.failed F.txn_state self.new.repository self.new.saves
-            self.new.pending) }
-        ensures stop { S.is_honest self.old.saves.store
-            → ∥ LeavesEither F.content F.is_of S.moment S.left_since self.old.saves.store
-            self.new.saves.store (F.content self.old.repository) (F.content next) ∥₁ }
+        requires files { WritesLocks F.is_of self.old.repository file.now next }
+        ensures point { SavesTo (λ q. ⊥) (accepted_by F.txn_state change) (point_of self.old)
+            (F.content next) result (point_of self.new) }
+        ensures stop { StopLeaves self.old self.new (F.content next) }
     {
         match self.saves.save_locks(file) {
             Ok(()) => {
@@ -91,17 +85,11 @@ impl<F: Filed, S: Store> StoredRepository<F, S> {
         change: SavedChange<F::Txn>,
     ) -> Result<(), ChangeFault>
         requires goes_on { self.old.saves.is_halted ≡ false }
-        requires files { (files : Files) → F.is_of self.old.repository files
-            → (F.is_of next (with_properties files new.now.revision new.now.file.items))
-            × (new.now.revision < length files.revisions) }
-        ensures point { SavesTo (λ q. ⊥) (accepted_by F.txn_state change)
-            (point_in F.content S.failed F.txn_state self.old.repository self.old.saves
-            self.old.pending) (F.content next) result
-            (point_in F.content S.failed F.txn_state self.new.repository self.new.saves
-            self.new.pending) }
-        ensures stop { S.is_honest self.old.saves.store
-            → ∥ LeavesEither F.content F.is_of S.moment S.left_since self.old.saves.store
-            self.new.saves.store (F.content self.old.repository) (F.content next) ∥₁ }
+        requires files { WritesProperties F.is_of self.old.repository new.now.revision
+            new.now.file.items next }
+        ensures point { SavesTo (λ q. ⊥) (accepted_by F.txn_state change) (point_of self.old)
+            (F.content next) result (point_of self.new) }
+        ensures stop { StopLeaves self.old self.new (F.content next) }
     {
         match self.saves.save_rev_prop(new.revision, &new.file) {
             Ok(()) => {
@@ -124,21 +112,11 @@ impl<F: Filed, S: Store> StoredRepository<F, S> {
         change: SavedChange<F::Txn>,
     ) -> Result<(), ChangeFault>
         requires goes_on { self.old.saves.is_halted ≡ false }
-        requires files { (files : Files) → F.is_of self.old.repository files
-            → (F.is_of next (with_revision files (new.now.revision.items, new.now.properties.items)
-            new.now.current.items))
-            × (count_in new.now.current.items ≡ Some (length files.revisions + 1)) }
-        ensures point { SavesTo (IsFailure (point_in F.content S.failed F.txn_state
-            self.old.repository self.old.saves self.old.pending))
-            (accepted_by F.txn_state change)
-            (point_in F.content S.failed F.txn_state self.old.repository self.old.saves
-            self.old.pending) (F.content next) result
-            (point_in F.content S.failed F.txn_state self.new.repository self.new.saves
-            self.new.pending) }
+        requires files { WritesRevision F.is_of self.old.repository new.now next }
+        ensures point { SavesTo (IsFailure (point_of self.old)) (accepted_by F.txn_state change)
+            (point_of self.old) (F.content next) result (point_of self.new) }
         ensures honest { S.is_honest self.old.saves.store → S.is_honest self.new.saves.store }
-        ensures stop { S.is_honest self.old.saves.store
-            → ∥ LeavesEither F.content F.is_of S.moment S.left_since self.old.saves.store
-            self.new.saves.store (F.content self.old.repository) (F.content next) ∥₁ }
+        ensures stop { StopLeaves self.old self.new (F.content next) }
     {
         match self
             .saves
@@ -159,15 +137,9 @@ impl<F: Filed, S: Store> StoredRepository<F, S> {
     /// Releases what was handed in.
     pub(crate) fn release_handed(&mut self, handed: Option<Handed>) -> Released
         requires { self.old.saves.is_halted ≡ false }
-        ensures point { ReleasesKept handed
-            (point_in F.content S.failed F.txn_state self.old.repository self.old.saves
-            self.old.pending) result
-            (point_in F.content S.failed F.txn_state self.new.repository self.new.saves
-            self.new.pending) }
-        ensures stop { S.is_honest self.old.saves.store
-            → ∥ LeavesEither F.content F.is_of S.moment S.left_since self.old.saves.store
-            self.new.saves.store (F.content self.old.repository)
-            (without_handed (F.content self.old.repository) handed) ∥₁ }
+        ensures point { ReleasesKept handed (point_of self.old) result (point_of self.new) }
+        ensures stop { StopLeaves self.old self.new
+            (without_handed (F.content self.old.repository) handed) }
     {
         match handed {
             None => Released::Settled,
@@ -178,15 +150,10 @@ impl<F: Filed, S: Store> StoredRepository<F, S> {
     /// Releases the locks that are the user's and were handed in, if there are any.
     fn release(&mut self, handed: Handed) -> Released
         requires { self.old.saves.is_halted ≡ false }
-        ensures point { ReleasesBy handed.user handed.tokens
-            (point_in F.content S.failed F.txn_state self.old.repository self.old.saves
-            self.old.pending) result
-            (point_in F.content S.failed F.txn_state self.new.repository self.new.saves
-            self.new.pending) }
-        ensures stop { S.is_honest self.old.saves.store
-            → ∥ LeavesEither F.content F.is_of S.moment S.left_since self.old.saves.store
-            self.new.saves.store (F.content self.old.repository)
-            (without_released (F.content self.old.repository) handed.user handed.tokens) ∥₁ }
+        ensures point { ReleasesBy handed.user handed.tokens (point_of self.old) result
+            (point_of self.new) }
+        ensures stop { StopLeaves self.old self.new
+            (without_released (F.content self.old.repository) handed.user handed.tokens) }
     {
         if !self
             .repository

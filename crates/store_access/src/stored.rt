@@ -1,6 +1,6 @@
 //! A repository in files that one hub alone has.
 ghost use Rattle.std.specs.Prelude.{◌≡◌, false};
-ghost use Rattle.store_files.specs.Folders.{Folder};
+ghost use Rattle.repostore.specs.Saving.{Stands};
 ghost use Rattle.store_access.specs.Keeping.{Keeps, HasRepository};
 
 use crate::change::SavedChange;
@@ -16,13 +16,13 @@ pub struct StoredRepository<F: Filed, S: Store> {
     pub(crate) saves: Saves<S>,
     /// The change that was being saved when changes came to a halt.
     pub(crate) pending: Option<SavedChange<F::Txn>>,
-    ghost kept: { ∥ Keeps S.is_honest S.holds S.may_leave F.is_of saves repository ∥₁ },
+    ghost kept: { ∥ Keeps S.Store F.is_of saves repository ∥₁ },
 }
 
 impl<F: Filed, S: Store> StoredRepository<F, S> {
     /// Makes the access to a repository and its files.
     pub fn new(repository: F, saves: Saves<S>) -> Self
-        requires { ∥ Keeps S.is_honest S.holds S.may_leave F.is_of saves repository ∥₁ }
+        requires { ∥ Keeps S.Store F.is_of saves repository ∥₁ }
         ensures repository { result.repository ≡ repository }
         ensures saves { result.saves ≡ saves }
     {
@@ -44,7 +44,7 @@ impl<F: Filed, S: Store> StoredRepository<F, S> {
     pub fn into_parts(self) -> (F, Saves<S>)
         ensures repository { result.0 ≡ self.repository }
         ensures saves { result.1 ≡ self.saves }
-        ensures kept { ∥ Keeps S.is_honest S.holds S.may_leave F.is_of result.1 result.0 ∥₁ }
+        ensures kept { ∥ Keeps S.Store F.is_of result.1 result.0 ∥₁ }
     {
         let StoredRepository {
             repository,
@@ -59,12 +59,9 @@ impl<F: Filed, S: Store> StoredRepository<F, S> {
     /// what a stop leaves now.
     pub fn store(&self) -> &S
         ensures store { result.now ≡ self.now.saves.store }
-        ensures holds { S.is_honest self.now.saves.store → self.now.saves.is_halted ≡ false
-            → ∥ HasRepository F.content F.is_of (F.content self.now.repository)
-            (S.holds self.now.saves.store) ∥₁ }
-        ensures leaves { S.is_honest self.now.saves.store → self.now.saves.is_halted ≡ false
-            → (f : Folder) → S.may_leave self.now.saves.store f
-            → ∥ HasRepository F.content F.is_of (F.content self.now.repository) f ∥₁ }
+        ensures stands { S.is_honest self.now.saves.store → self.now.saves.is_halted ≡ false
+            → Stands S.Store self.now.saves.store
+            (λ f. ∥ HasRepository F.content F.is_of (F.content self.now.repository) f ∥₁) }
     {
         self.saves.store()
     }

@@ -1,4 +1,4 @@
--- What a stop leaves, at a moment and since one, and why a call fails.
+-- How time goes on for a store, and why a call fails.
 use Rattle.std.specs.Prelude.{◌≡◌, ◌⊎◌, ◌≤◌, ◌<◌, ℕ, Result, IsErr, IsErrOf}
 use Rattle.std.proofs.Common.{arith}
 use Rattle.store_files.specs.{Folders.Folder, declared.fault.StoreFault.StoreFault, declared.fault.StoreFault.TheVariants.{Device, NoMemory}}
@@ -10,15 +10,6 @@ pub record Elapses (before now : ℕ) (past since : ℕ → Folder → Type 0)
   pub later : before ≤ now
   pub nothing_else : (t : ℕ) (f : Folder) → t ≤ before → since t f → past t f ⊎ during f
   pub keeps : (t : ℕ) (f : Folder) → t ≤ before → past t f → since t f
-
--- a stop at any moment since old leaves a folder that has P
-pub record LeavesOnly {S : Type 0} (moment : S → ℕ) (left_since : S → ℕ → Folder → Type 0)
-    (old new : S) (P : Folder → Type 0) : Type 0 where
-  pub later : moment old ≤ moment new
-  pub each : (f : Folder) → left_since new (moment old) f → P f
-  -- for a run that began earlier
-  pub before : (t : ℕ) (f : Folder) → t ≤ moment old → left_since new t f
-      → left_since old t f ⊎ P f
 
 -- the count of failures stays at its greatest value
 abbrev pub last_count : ℕ

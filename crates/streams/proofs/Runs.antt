@@ -1,11 +1,11 @@
 -- What is heard grows by a piece.
 use Rattle.std.proofs.Common.{◌≡◌, ℕ, ◌<◌, ◌≤◌, true, List, [], ◌∷◌, ◌++◌, length, refl, sym, subst, inr}
 use Rattle.std.proofs.KnownBytes.{Consumes-nil, Appends-nil, Consumes-trans, Appends-trans, Consumes-kept}
-use Rattle.std.specs.{Prelude.{Option, Result, Ok, Err, OnOk, IsErrAnd}, Io.KnownBytes.{Consumes, Appends, Keeps}}
+use Rattle.std.specs.{Prelude.{Option, Result, Ok, Err, IsErrAnd}, Io.KnownBytes.{Consumes, Appends, Keeps}}
 use Rattle.machine.specs.declared.env.Env.{Env}
-use Rattle.hub.specs.{declared.hub.HubFault.HubFault, Calls.{ConnectsAs, FeedsAs, FeedBreaks}}
+use Rattle.hub.specs.Calls.{ConnectsAs, FeedsAs}
 use Rattle.streams.specs.{declared.fault.ServeFault.ServeFault, declared.fault.ServeFault.TheVariants.{Read, Write, Hub}}
-use Rattle.streams.specs.Stream.{Scene, scene, HearsPieces, is_hearing, IsServed, HearsUntil, Answered, AnswersStream, ServesStreams, HubFails, IfRead, IfHub}
+use Rattle.streams.specs.Stream.{Scene, scene, HearsPieces, is_hearing, Answered, PieceSent, PiecesSent, StreamServed}
 use Rattle.conversations.specs.Pieces.{Piece, bytes_of, GivesAll}
 use Rattle.conversations.proofs.Growing.{fed_piece, gives_more, bytes_of-more}
 use Rattle.streams.proofs.Joining.{draws_more}
@@ -66,52 +66,29 @@ answered {E} gives n old greeted greeting connects unread written unasked new h 
 
 -- ---- what is known of a result
 
-abbrev as_err : (T : Type 0) → ServeFault → Result T ServeFault
+abbrev pub as_err : (T : Type 0) → ServeFault → Result T ServeFault
 as_err T e = Err e
 
--- a fault is handed out as it is
-hub_as : (T U : Type 0) (P Q : HubFault → Type 0) → ((fault : HubFault) → P fault → Q fault) → (e : ServeFault) → IfHub (as_err U e) P → IfHub (as_err T e) Q
-hub_as T U P Q f (Read error) known = tt
-hub_as T U P Q f (Write error) known = tt
-hub_as T U P Q f (Hub fault) known = f fault known
+handed : {T : Type 0} (K : Result T ServeFault → Type 0) (r : Result T ServeFault) (e : ServeFault) → IsErrAnd r (λ x. x ≡ e) → K (Err e) → K r
+handed K (Ok x) e bad known = absurd bad
+handed K (Err x) e same known = subst (λ (y : ServeFault). K (Err y)) (sym same) known
 
-read_as : (T U : Type 0) (P : Type 0) (e : ServeFault) → IfRead (as_err U e) ⊥ → IfRead (as_err T e) P
-read_as T U P (Read error) known = absurd known
-read_as T U P (Write error) known = tt
-read_as T U P (Hub fault) known = tt
-
-handed : {T : Type 0} (K : Result T ServeFault → Type 0) (ok : (x : T) → K (Ok x)) (r : Result T ServeFault) (e : ServeFault) → IsErrAnd r (λ x. x ≡ e) → K (Err e) → K r
-handed K ok (Ok x) e same known = ok x
-handed K ok (Err x) e same known = subst (λ (y : ServeFault). K (Err y)) (sym same) known
-
-pub if_hub : {T : Type 0} (U : Type 0) (r : Result T ServeFault) (e : ServeFault) (P Q : HubFault → Type 0) → ((fault : HubFault) → P fault → Q fault)
-    → IsErrAnd r (λ x. x ≡ e) → IfHub (as_err U e) P → IfHub r Q
-if_hub {T} U r e P Q f same known = handed (λ (x : Result T ServeFault). IfHub x Q) (λ x. tt) r e same (hub_as T U P Q f e known)
-
-pub if_read : {T : Type 0} (U : Type 0) (r : Result T ServeFault) (e : ServeFault) (P : Type 0) → IsErrAnd r (λ x. x ≡ e) → IfRead (as_err U e) ⊥ → IfRead r P
-if_read {T} U r e P same known = handed (λ (x : Result T ServeFault). IfRead x P) (λ x. tt) r e same (read_as T U P e known)
-
--- serving ends by the fault of a feed
-pub hears_until : {E : Type 0} (gives : E → Env → E → Type 0) (n : ℕ) (old mid new : Scene E) (env : Env) (bytes : List ℕ) (fault : HubFault)
+-- serving ends by the fault of a feed, or nothing is known
+pub failed_at : {T E : Type 0} (U : Type 0) (r : Result T ServeFault) (e : ServeFault) (gives : E → Env → E → Type 0) (n : ℕ) (old mid new : Scene E) (env : Env) (bytes : List ℕ)
     → HearsPieces gives n old mid → is_hearing mid.hub n ≡ true → gives mid.envs env new.envs → Consumes mid.input new.input bytes
-    → FeedBreaks mid.hub env n bytes fault new.hub (Appends mid.output new.output) → HearsUntil gives n fault old new
-hears_until gives n old mid new env bytes fault h hearing given read fails =
-    (mid, h, record { hearing = hearing; env = env; given = given; bytes = bytes; read = read; fails = fails })
+    → PieceSent (as_err U e) mid.hub env n bytes new.hub (Appends mid.output new.output) → IsErrAnd r (λ x. x ≡ e) → PiecesSent r gives n old new
+failed_at {T} {E} U r e gives n old mid new env bytes h hearing given read sent same =
+    handed (λ (z : Result T ServeFault). PiecesSent z gives n old new) r e same (by e sent)
+  where
+    by : (e : ServeFault) → PieceSent (as_err U e) mid.hub env n bytes new.hub (Appends mid.output new.output) → PiecesSent (as_err T e) gives n old new
+    by (Read error) bad = absurd bad
+    by (Write error) none = tt
+    by (Hub fault) fails = (mid, h, record { hearing = hearing; env = env; given = given; bytes = bytes; read = read; fails = fails })
 
 -- what happened to a greeted session happened to one that was connected
 module _ {E T : Type 0} (gives : E → Env → E → Type 0) (n : ℕ) (old greeted new : Scene E) (all : (s : Scene E) → HearsPieces gives n greeted s → Answered gives n old s) where
-  pub then_serves : (r : Result T ServeFault) → OnOk r (HearsPieces gives n greeted new) → OnOk r (IsServed n new) → OnOk r (ServesStreams gives old new)
-  then_serves (Ok x) h served = (n, all new h, served)
-  then_serves (Err e) h served = tt
-
-  pub then_answers : (r : Result T ServeFault) → IfRead r (HearsPieces gives n greeted new) → IfRead r (AnswersStream gives old new)
-  then_answers (Ok x) h = tt
-  then_answers (Err (Read error)) h = (n, all new h)
-  then_answers (Err (Write error)) h = tt
-  then_answers (Err (Hub fault)) h = tt
-
-  pub then_fails : (r : Result T ServeFault) → IfHub r (λ fault. HearsUntil gives n fault greeted new) → IfHub r (λ fault. HubFails gives fault old new)
-  then_fails (Ok x) h = tt
-  then_fails (Err (Read error)) h = tt
-  then_fails (Err (Write error)) h = tt
-  then_fails (Err (Hub fault)) (before, h, stops) = inr (n, before, all before h, stops)
+  pub then_served : (r : Result T ServeFault) → PiecesSent r gives n greeted new → StreamServed r gives old new
+  then_served (Ok x) (h, served) = (n, all new h, served)
+  then_served (Err (Read error)) h = (n, all new h)
+  then_served (Err (Write error)) h = tt
+  then_served (Err (Hub fault)) (before, h, stops) = inr (n, before, all before h, stops)

@@ -3,7 +3,7 @@ use Rattle.std.specs.Prelude.{◌≡◌, ◌⊎◌, ℕ, Bool, true, ◌&&◌, n
 use Rattle.std.specs.Io.KnownBytes.{Consumes, Appends, IsAtEnd}
 use Rattle.wire_replies.specs.{declared.reply.Reply.Reply, Replies.print}
 use Rattle.machine.specs.{Hearing.Yields, Stages.SessionState, declared.env.Env.Env}
-use Rattle.hub.specs.{declared.hub.HubFault.HubFault, Calls.{ConnectsAs, ConnectFails, FeedBreaks}}
+use Rattle.hub.specs.{declared.hub.HubFault.HubFault, Calls.{ConnectsAs, ConnectFails, FeedBreaks, FeedsTo}}
 use Rattle.hub_runs.specs.{Runs.{Event, HubRun, IfOpen, InputsAre, with_rest}, Runs.Event.{HandsIn, Hears}, State.{HubState, session_of}}
 use Rattle.conversations.specs.Pieces.{Piece, bytes_of, inputs_of, GivesAll, ComesInPieces}
 use Rattle.streams.specs.{declared.fault.ServeFault.ServeFault, declared.fault.ServeFault.TheVariants.{Read, Write, Hub}}
@@ -128,16 +128,34 @@ AnswersUntil {E} gives fault old new =
 abbrev pub HubFails : {E : Type 0} → (E → Env → E → Type 0) → HubFault → Scene E → Scene E → Type 0
 HubFails gives fault old new = IsTurnedAway fault old new ⊎ AnswersUntil gives fault old new
 
--- what is known where a read failed
-abbrev pub IfRead : {T : Type 0} → Result T ServeFault → Type 0 → Type 0
-IfRead (Ok x) P = Unit {0}
-IfRead (Err (Read error)) P = P
-IfRead (Err (Write error)) P = Unit {0}
-IfRead (Err (Hub fault)) P = Unit {0}
+-- What is known by how serving ended: well; by a read that failed; or by a hub's fault. Where a
+-- write failed nothing is known.
+abbrev pub MatchServe : {T : Type 0} → Result T ServeFault → Type 0 → Type 0 → (HubFault → Type 0)
+    → Type 0
+MatchServe (Ok x) well unread failed = well
+MatchServe (Err (Read error)) well unread failed = unread
+MatchServe (Err (Write error)) well unread failed = Unit {0}
+MatchServe (Err (Hub fault)) well unread failed = failed fault
 
--- what is known of a hub's fault
-abbrev pub IfHub : {T : Type 0} → Result T ServeFault → (HubFault → Type 0) → Type 0
-IfHub (Ok x) P = Unit {0}
-IfHub (Err (Read error)) P = Unit {0}
-IfHub (Err (Write error)) P = Unit {0}
-IfHub (Err (Hub fault)) P = P fault
+-- A piece was sent to a session of the hub, and what it causes was written; or the hub failed at
+-- it. No read is made.
+abbrev pub PieceSent : {T : Type 0} → Result T ServeFault → HubState → Env → ℕ → List ℕ → HubState
+    → (List ℕ → Type 0) → Type 0
+PieceSent r old env n piece new writes =
+    MatchServe r (FeedsTo old env n piece new writes) ⊥
+    (λ fault. FeedBreaks old env n piece fault new writes)
+
+-- A session was sent its input: to the end, or as long as it hears what comes; as far as it was
+-- read; or up to the piece at which the hub failed.
+abbrev pub PiecesSent : {T E : Type 0} → Result T ServeFault → (E → Env → E → Type 0) → ℕ → Scene E
+    → Scene E → Type 0
+PiecesSent r gives n old new =
+    MatchServe r (HearsPieces gives n old new × IsServed n new) (HearsPieces gives n old new)
+    (λ fault. HearsUntil gives n fault old new)
+
+-- A session was connected and greeted, and was sent its input so.
+abbrev pub StreamServed : {T E : Type 0} → Result T ServeFault → (E → Env → E → Type 0) → Scene E
+    → Scene E → Type 0
+StreamServed r gives old new =
+    MatchServe r (ServesStreams gives old new) (AnswersStream gives old new)
+    (λ fault. HubFails gives fault old new)

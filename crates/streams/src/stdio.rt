@@ -1,7 +1,6 @@
 //! One session over a reader and a writer.
-ghost use Rattle.std.specs.{Prelude.OnOk, Io.KnownBytes.Appends};
-ghost use Rattle.hub.specs.Calls.{FeedsTo, FeedBreaks};
-ghost use Rattle.streams.specs.Stream.{scene, AnswersStream, HearsPieces, HearsUntil, HubFails, IfHub, IfRead, IsServed, ServesStreams};
+ghost use Rattle.std.specs.Io.KnownBytes.{Appends};
+ghost use Rattle.streams.specs.Stream.{scene, PieceSent, PiecesSent, StreamServed};
 
 use crate::fault::ServeFault;
 use access::SoleAccess;
@@ -19,11 +18,8 @@ fn answer_piece<A: SoleAccess, W: Write>(
     env: Env,
     output: &mut W,
 ) -> Result<(), ServeFault>
-    ensures ok { OnOk result (FeedsTo hub.old env number piece.now hub.new
-        (Appends (W.contents output.old) (W.contents output.new))) }
-    ensures read { IfRead result ⊥ }
-    ensures stopped { IfHub result (λ fault. FeedBreaks hub.old env number piece.now fault hub.new
-        (Appends (W.contents output.old) (W.contents output.new))) }
+    ensures { PieceSent result hub.old env number piece.now hub.new
+        (Appends (W.contents output.old) (W.contents output.new)) }
 {
     let alloc = hub.alloc();
     let buffer = Vec::new(alloc);
@@ -66,17 +62,9 @@ fn serve_pieces<A: SoleAccess, R: Read, W: Write, E: EnvSource>(
     output: &mut W,
     envs: &mut E,
 ) -> Result<(), ServeFault>
-    ensures heard { OnOk result (HearsPieces E.gives number
+    ensures { PiecesSent result E.gives number
         (scene hub.old (R.remaining input.old) (W.contents output.old) envs.old)
-        (scene hub.new (R.remaining input.new) (W.contents output.new) envs.new)) }
-    ensures served { OnOk result (IsServed number
-        (scene hub.new (R.remaining input.new) (W.contents output.new) envs.new)) }
-    ensures read { IfRead result (HearsPieces E.gives number
-        (scene hub.old (R.remaining input.old) (W.contents output.old) envs.old)
-        (scene hub.new (R.remaining input.new) (W.contents output.new) envs.new)) }
-    ensures stopped { IfHub result (λ fault. HearsUntil E.gives number fault
-        (scene hub.old (R.remaining input.old) (W.contents output.old) envs.old)
-        (scene hub.new (R.remaining input.new) (W.contents output.new) envs.new)) }
+        (scene hub.new (R.remaining input.new) (W.contents output.new) envs.new) }
 {
     let mut buffer = [0; PIECE];
     for _ in 0..u64::MAX {
@@ -101,15 +89,9 @@ pub fn run_stdio<A: SoleAccess, R: Read, W: Write, E: EnvSource>(
     output: &mut W,
     envs: &mut E,
 ) -> Result<(), ServeFault>
-    ensures served { OnOk result (ServesStreams E.gives
+    ensures { StreamServed result E.gives
         (scene hub.old (R.remaining input.old) (W.contents output.old) envs.old)
-        (scene hub.new (R.remaining input.new) (W.contents output.new) envs.new)) }
-    ensures answered { IfRead result (AnswersStream E.gives
-        (scene hub.old (R.remaining input.old) (W.contents output.old) envs.old)
-        (scene hub.new (R.remaining input.new) (W.contents output.new) envs.new)) }
-    ensures stopped { IfHub result (λ fault. HubFails E.gives fault
-        (scene hub.old (R.remaining input.old) (W.contents output.old) envs.old)
-        (scene hub.new (R.remaining input.new) (W.contents output.new) envs.new)) }
+        (scene hub.new (R.remaining input.new) (W.contents output.new) envs.new) }
 {
     let (number, greeting) = hub.connect().map_err(ServeFault::Hub)?;
     write_and_flush(output, greeting.as_slice()).map_err(ServeFault::Write)?;

@@ -3,10 +3,12 @@ use Rattle.std.proofs.Common.{◌≡◌, ◌==◌, ℕ, ◌≤◌, false, List, 
 use Rattle.std.proofs.{lemmas.Bool.false≢true, lemmas.Option.slice_get_within}
 use Rattle.std.specs.Prelude.{Result, Ok, Err, IfOk, IfSome, IsSome, if◌then◌else◌, slice_get}
 use Rattle.svnpath.specs.Paths.{PathValue}
-use Rattle.repo_api.specs.{Merge.{closed, sealed}, declared.entry.Entry.Entry, declared.entry.Mark.Mark, declared.entry.Mark.TheVariants.{Open, Made}}
+use Rattle.repo_api.specs.{Merge.{closed, sealed}, Trees.Tree, declared.entry.Entry.Entry, declared.entry.Mark.Mark}
+use Rattle.repo_api.specs.declared.entry.Mark.TheVariants.{Open, Made}
 use Rattle.noderevs.specs.{Heights.AreHigh, Nodes.{IsBefore, IsClosed, IsThere, kid_at, Look, with_block}, Soundness.{AreKidsThere, IsNext}, Views.shared_entry}
 use Rattle.noderevs.specs.{declared.node_rev.Block.Block, declared.node_rev.NodeId.NodeId, declared.node_rev.NodeRev.NodeRev}
-use Rattle.txntree.specs.{Spots.{Spot, find, entry, flat}, Spots.Spot.{Nothing, Shared, Opened}, Sealing.{sealed_at, placed, IsUnder, AreUnder, IsBlockOf}}
+use Rattle.txntree.specs.{Spots.{Spot, find, entry, flat}, Spots.Spot.{Nothing, Shared, Opened}}
+use Rattle.txntree.specs.Sealing.{sealed_at, placed, IsUnder, AreUnder, IsBlockOf, IsSealOf}
 use Rattle.txntree.proofs.Seals.{same_number}
 
 abbrev last_or : Option Entry → Mark
@@ -108,11 +110,11 @@ pub kids_of_closed : (look : Look) → IsClosed look → AreKidsThere look
 kids_of_closed look closed id kid name is = subst (λ o. IfSome o (IsThere look)) is (closed id name)
 
 -- a block that was sealed may come next
-pub next_if : {Y : Type 0} (r : Result Block Y) (look : Look) (rev : ℕ) → IfOk r (λ b. IsClosed (with_block look rev b.nodes.items))
-    → IfOk r (λ b. IsThere (with_block look rev b.nodes.items) b.root) → IfOk r (λ b. AreHigh (with_block look rev b.nodes.items)) → IfOk r (λ b. IsBlockOf look rev b.nodes.items b.root) → IfOk r (IsNext look rev)
-next_if (Ok b) look rev closed there high whole =
-    record { kids = kids_of_closed (with_block look rev b.nodes.items) closed; root = there; high = high; apart = whole.once }
-next_if (Err e) look rev closed there high whole = closed
+pub next_if : {Y : Type 0} (r : Result Block Y) (look : Look) (rev : ℕ) (t : Tree) → AreHigh look → IfOk r (IsSealOf look rev t)
+    → IfOk r (λ b. IsThere (with_block look rev b.nodes.items) b.root) → IfOk r (IsNext look rev)
+next_if (Ok b) look rev t high sealed there =
+    record { kids = kids_of_closed (with_block look rev b.nodes.items) sealed.closed; root = there; high = sealed.high high; apart = sealed.whole.once }
+next_if (Err e) look rev t high sealed there = there
 
 pub ok_weaker : {X Y : Type 0} (r : Result X Y) (P Q : X → Type 0) → ((x : X) → P x → Q x) → IfOk r P → IfOk r Q
 ok_weaker (Ok x) P Q f h = f x h

@@ -7,11 +7,11 @@ use Rattle.std.specs.{Prelude.{Result, Ok, Err, OnOk, OnErr, IfOk, IsSome, IfSom
 use Rattle.std.specs.{Ordering.{nat_cmp, is_eq}, declared.cmp.Ordering.TheVariants.Less, List.AllByRecursion, List.Sorted.IsStrictlySortedBy, Map.keys_of}
 use Rattle.svnpath.specs.{PathLaws.{same_component_is, same_component_refl}, Paths.{Component, PathValue, same_component}}
 use Rattle.repo_api.specs.Merge.{sealed}
-use Rattle.noderevs.specs.{Heights.AreHigh, Nodes.{Grows, IsBefore, IsClosed, IsThere, kid_at, kid_named, kid_of, Kids, Look, with_block}, Views.shared_entry}
+use Rattle.noderevs.specs.{Nodes.{Grows, IsBefore, IsClosed, IsThere, kid_at, kid_named, kid_of, Kids, Look, with_block}, Views.shared_entry}
 use Rattle.noderevs.specs.{declared.node_rev.NodeId.NodeId, declared.node_rev.NodeRev.NodeRev}
 use Rattle.txntree.specs.{Spots.{Spot, changed_at, change_spot, shared_spot, over, step, find, flat, open_entry}, Spots.Spot.{Nothing, Shared, Opened}}
 use Rattle.txntree.specs.Sealing.{sealed_at, placed, IsUnder, IsUnderOne, AreUnder, AreUnderOne, SameBut, AreThere, with_sealed, kid_trees, unless_changed}
-use Rattle.txntree.specs.{Sealing.{IsSealing, first_of}, declared.open.OpenNode.OpenNode, declared.open.Change.Change}
+use Rattle.txntree.specs.{Sealing.{BlockGrows, IfClosed, IsSealing, first_of}, declared.open.OpenNode.OpenNode, declared.open.Change.Change}
 use Rattle.txntree.proofs.Names.{at_is_name}
 
 pub grows_same : (a : Look) → Grows a a
@@ -112,9 +112,7 @@ pub begins : (look : Look) (rev : ℕ) (path : PathValue) (self : OpenNode) (blo
     → ((n : Component) → left n ≡ changed_at self.changed n)
     → ((n : Component) → kid_named kids n ≡ kid_at look self.base n) → IsSealing look rev path self block block left kids
 begins look rev path self block left kids all copied = record {
-  grows = grows_same (with_block look rev block);
-  closed = λ c b h. h;
-  high = λ c b h x. x;
+  grown = record { grows = grows_same (with_block look rev block); closed = λ c b h. h; high = λ c b h x. x };
   there = λ closed before n. subst (λ o. IfSome o (IsThere (with_block look rev block))) (sym (copied n))
       (still_if look (with_block look rev block) (behind look rev block before) (kid_at look self.base n) (kids_there look closed self.base n));
   trees = λ closed before h n q.
@@ -132,30 +130,34 @@ begins look rev path self block left kids all copied = record {
         ∙ sym (sealed_already look rev ((path ++ n ∷ []) ++ q) (kid_at look self.base n) q)
     by closed before n q (Some change) = refl
 
+-- a block that grows twice
+pub grown_then : (look : Look) (rev : ℕ) (before now next : List NodeRev) → BlockGrows look rev before now → BlockGrows look rev now next → BlockGrows look rev before next
+grown_then look rev before now next first more = record {
+  grows = grows_then _ (with_block look rev now) _ first.grows more.grows;
+  closed = λ c b h. more.closed c b (first.closed c b h);
+  high = λ c b h x. more.high c b (first.closed c b h) (first.high c b h x);
+}
+
 -- one change more
 pub goes_on : (look : Look) (rev : ℕ) (path below : PathValue) (self : OpenNode) (before now next : List NodeRev) (left rest : Component → Option Change) (kids more : Kids)
     (name : Component) (change : Change) → IsSealing look rev path self before now left kids
     → Some change ≡ left name
     → ((n : Component) → rest n ≡ cond (same_component name n) None (left n))
     → below ≡ path ++ name ∷ []
-    → Grows (with_block look rev now) (with_block look rev next)
-    → (IsClosed look → IsBefore look rev → IsClosed (with_block look rev now) → IsClosed (with_block look rev next))
-    → (IsClosed look → IsBefore look rev → IsClosed (with_block look rev now) → AreHigh (with_block look rev now) → AreHigh (with_block look rev next))
+    → BlockGrows look rev now next
     → (AreThere (with_block look rev now) kids → AreThere (with_block look rev next) more)
-    → (IsClosed look → IsBefore look rev → IsClosed (with_block look rev now) → AreThere (with_block look rev now) kids → (n : Component) (q : PathValue)
+    → IfClosed look rev now (AreThere (with_block look rev now) kids → (n : Component) (q : PathValue)
     → kid_trees (with_block look rev next) more n q ≡ with_sealed look rev below name change (kid_trees (with_block look rev now) kids) n q)
-    → (IsClosed look → IsBefore look rev → IsClosed (with_block look rev now) → AreUnderOne (with_block look rev next) rev (length now) (length next) more)
+    → IfClosed look rev now (AreUnderOne (with_block look rev next) rev (length now) (length next) more)
     → SameBut name kids more
     → IsSealing look rev path self before next rest more
-goes_on look rev path below self before now next left rest kids more name change so was gone place grows closed high there sealed_one new others = record {
-  grows = grows_then _ (with_block look rev now) _ so.grows grows;
-  closed = λ c b h. closed c b (so.closed c b h);
-  high = λ c b h x. high c b (so.closed c b h) (so.high c b h x);
+goes_on look rev path below self before now next left rest kids more name change so was gone place grown there sealed_one new others = record {
+  grown = grown_then look rev before now next so.grown grown;
   there = λ c b. there (so.there c b);
   trees = λ c b h n q.
       ap (λ o. unless_changed look rev (path ++ n ∷ []) o (kid_trees (with_block look rev next) more n) q) (gone n)
-      ∙ by n q (same_component name n) refl (sealed_one c b (so.closed c b h) (so.there c b) n q) (so.trees c b h n q);
-  under = λ c b h k from to. ⊎_elim (λ lt. kept c b h k (so.under c b h k from lt)) (λ ge. new c b (so.closed c b h) k ge to) (cases_lt k (length now));
+      ∙ by n q (same_component name n) refl (sealed_one c b (so.grown.closed c b h) (so.there c b) n q) (so.trees c b h n q);
+  under = λ c b h k from to. ⊎_elim (λ lt. kept c b h k (so.under c b h k from lt)) (λ ge. new c b (so.grown.closed c b h) k ge to) (cases_lt k (length now));
   waiting = λ n some. waits n some (same_component name n) refl;
 }
   where
@@ -179,7 +181,7 @@ goes_on look rev path below self before now next left rest kids more name change
           (
             r,
             ap (λ o. find (with_block look rev next) r (shared_spot o)) (others n apart)
-                ∙ find_grows (with_block look rev now) (with_block look rev next) grows (so.closed c b h) (kid_named kids n) (so.there c b n) r ∙ is,
+                ∙ find_grows (with_block look rev now) (with_block look rev next) grown.grows (so.grown.closed c b h) (kid_named kids n) (so.there c b n) r ∙ is,
           ),
         )
 
@@ -330,7 +332,7 @@ ends look rev path self before now left kids node id so none here place mine own
 ends look rev path self before now left kids node id so none here place mine own c b h (n ∷ q) =
     ap (λ o. flat (with_block look rev (now ++ node ∷ [])) (shared_spot (option_and_then (kid_of n) o)) q) (put_place look rev now node id here place)
     ∙ ap (λ ks. flat (with_block look rev (now ++ node ∷ [])) (shared_spot (kid_named ks n)) q) mine
-    ∙ same_tree (with_block look rev now) (with_block look rev (now ++ node ∷ [])) (block_grows look rev now (node ∷ [])) (so.closed c b h) (kid_named kids n) (so.there c b n) q
+    ∙ same_tree (with_block look rev now) (with_block look rev (now ++ node ∷ [])) (block_grows look rev now (node ∷ [])) (so.grown.closed c b h) (kid_named kids n) (so.there c b n) q
     ∙ ap (λ o. unless_changed look rev (path ++ n ∷ []) o (kid_trees (with_block look rev now) kids n) q) (sym (none n))
     ∙ so.trees c b h n q
     ∙ ap (λ p. option_map (sealed rev p) (flat look (step look n (Opened self)) q)) (one_more path q n)
@@ -387,7 +389,7 @@ under_ends look rev path self before now left kids node id so here place mine c 
       n ∷ r,
       ap (λ o. find next r (shared_spot (option_and_then (kid_of n) o))) (put_place look rev now node id here place)
           ∙ ap (λ ks. find next r (shared_spot (kid_named ks n))) mine
-          ∙ find_grows (with_block look rev now) next (block_grows look rev now (node ∷ [])) (so.closed c b h) (kid_named kids n) (so.there c b n) r ∙ is,
+          ∙ find_grows (with_block look rev now) next (block_grows look rev now (node ∷ [])) (so.grown.closed c b h) (kid_named kids n) (so.there c b n) r ∙ is,
     )
 
 pub after_under : {Y : Type 0} (r : Result NodeId Y) (look : Look) (rev : ℕ) (path : PathValue) (self : OpenNode) (before now next : List NodeRev) (left : Component → Option Change) (kids : Kids)

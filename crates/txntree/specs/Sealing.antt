@@ -4,7 +4,7 @@ use Rattle.std.specs.{BTreeMap.is_at, Map.lookup, Cmp.Lexicographic.slice_cmp, O
 use Rattle.svnpath.specs.Paths.{Component, PathValue, same_component}
 use Rattle.repo_api.specs.{Merge.sealed, Trees.Tree, declared.entry.Entry.Entry}
 use Rattle.noderevs.specs.{Heights.AreHigh, Nodes.{Grows, IsBefore, IsClosed, IsThere, kid_at, kid_named, Kids, Look, with_block}}
-use Rattle.noderevs.specs.{declared.node_rev.NodeId.NodeId, declared.node_rev.NodeRev.NodeRev}
+use Rattle.noderevs.specs.{declared.node_rev.Block.Block, declared.node_rev.NodeId.NodeId, declared.node_rev.NodeRev.NodeRev}
 use Rattle.txntree.specs.{Spots.{flat, find, step, shared_spot, change_spot}, Spots.Spot.{Shared, Opened}, declared.open.OpenNode.OpenNode}
 use Rattle.txntree.specs.declared.open.Change.{Change}
 use Rattle.repo_api.specs.declared.entry.Mark.TheVariants as mark
@@ -60,20 +60,39 @@ pub record IsBlockOf (look : Look) (rev : ℕ) (block : List NodeRev) (root : No
   pub once : (j k : ℕ) (m n : NodeRev) → slice_get block j ≡ Some m → slice_get block k ≡ Some n
       → m.path ≡ n.path → j ≡ k
 
+-- what a tree is sealed as: a block whose nodes, with those that are there, are closed and have
+-- their heights, and whose root has that tree with closed marks
+pub record IsSealOf (look : Look) (rev : ℕ) (t : Tree) (b : Block) : Type 0 where
+  pub closed : IsClosed (with_block look rev b.nodes.items)
+  pub high : AreHigh look → AreHigh (with_block look rev b.nodes.items)
+  pub tree : (q : PathValue)
+      → flat (with_block look rev b.nodes.items) (Shared b.root) q ≡ sealed_at rev [] t q
+  pub whole : IsBlockOf look rev b.nodes.items b.root
+
+-- P, where the nodes that are there are closed, none is of the revision, and those of the block are
+-- closed with them
+abbrev pub IfClosed : Look → ℕ → List NodeRev → Type 0 → Type 0
+IfClosed look rev block P =
+    IsClosed look → IsBefore look rev → IsClosed (with_block look rev block) → P
+
+-- a block has grown: the nodes that were there stay, and all are closed and have their heights as
+-- before
+pub record BlockGrows (look : Look) (rev : ℕ) (before now : List NodeRev) : Type 0 where
+  pub grows : Grows (with_block look rev before) (with_block look rev now)
+  pub closed : IfClosed look rev before (IsClosed (with_block look rev now))
+  pub high : IfClosed look rev before (AreHigh (with_block look rev before)
+      → AreHigh (with_block look rev now))
+
 -- what a seal has done by the time that these changes are left
 pub record IsSealing (look : Look) (rev : ℕ) (path : PathValue) (self : OpenNode)
     (before now : List NodeRev) (left : Component → Option Change) (kids : Kids) : Type 0 where
-  pub grows : Grows (with_block look rev before) (with_block look rev now)
-  pub closed : IsClosed look → IsBefore look rev → IsClosed (with_block look rev before)
-      → IsClosed (with_block look rev now)
-  pub high : IsClosed look → IsBefore look rev → IsClosed (with_block look rev before)
-      → AreHigh (with_block look rev before) → AreHigh (with_block look rev now)
+  pub grown : BlockGrows look rev before now
   pub there : IsClosed look → IsBefore look rev → AreThere (with_block look rev now) kids
-  pub trees : IsClosed look → IsBefore look rev → IsClosed (with_block look rev before) → (n : Component) (q : PathValue)
+  pub trees : IfClosed look rev before ((n : Component) (q : PathValue)
       → unless_changed look rev (path ++ n ∷ []) (left n) (kid_trees (with_block look rev now) kids n) q
-      ≡ sealed_at rev (path ++ n ∷ []) (flat look (step look n (Opened self))) q
-  pub under : IsClosed look → IsBefore look rev → IsClosed (with_block look rev before)
-      → AreUnderOne (with_block look rev now) rev (length before) (length now) kids
+      ≡ sealed_at rev (path ++ n ∷ []) (flat look (step look n (Opened self))) q)
+  pub under : IfClosed look rev before
+      (AreUnderOne (with_block look rev now) rev (length before) (length now) kids)
   pub waiting : (n : Component) → IsSome (left n) → kid_named kids n ≡ kid_at look self.base n
 
 -- the first change of a name

@@ -1,8 +1,8 @@
 //! The edits of a transaction's tree.
-ghost use Rattle.std.specs.{Prelude.{◌≡◌, [], OnOk, OnErr, IfOk, IsErrOf, None, ◌⊎◌}, Arc.arc_value};
-ghost use Rattle.svnpath.specs.Paths.{PathValue};
-ghost use Rattle.repo_api.specs.Edits.{added, deleted, grafted, revised, with_text, with_value, without_value};
-ghost use Rattle.txntree.specs.{Bases.{IsBased, IsNew}, Laws.IsBare, Walks.{Lacks, LacksParent}, Spots.{flat, change_spot}, Spots.Spot.{Shared, Opened}};
+ghost use Rattle.std.specs.{Prelude.{◌≡◌, [], IfOk, None, ◌⊎◌}, Arc.arc_value};
+ghost use Rattle.repo_api.specs.Edits.{deleted, grafted, revised, with_text, with_value, without_value};
+ghost use Rattle.txntree.specs.{Bases.{IsBased, IsNew, KeepsBased}, Edits.{Applies, Edits, IfMissing}, Laws.leaf, Walks.{Lacks, LacksParent}};
+ghost use Rattle.txntree.specs.{Spots.{change_spot, change_tree, flat, open_tree}, Spots.Spot.{Shared, Opened}};
 ghost use Rattle.noderevs.specs.Held.{node_at};
 
 use crate::open::{Change, EditFault, Local, OpenNode};
@@ -14,7 +14,7 @@ use std::sync::Arc;
 use svnpath::Path;
 
 impl OpenNode {
-    /// Adds an entry at a path where nothing stands.
+    /// Puts a new entry at a path, with nothing beneath it.
     pub fn add(
         &mut self,
         alloc: Global,
@@ -22,16 +22,9 @@ impl OpenNode {
         path: &Path,
         content: Content,
     ) -> Result<(), EditFault>
-        ensures ok { IsBare (flat (node_at nodes.now) (Opened self.old)) path.now
-            → OnOk result ((q : PathValue) → flat (node_at nodes.now) (Opened self.new) q
-            ≡ added (flat (node_at nodes.now) (Opened self.old)) path.now content q) }
-        ensures err { OnErr result ((q : PathValue) → flat (node_at nodes.now) (Opened self.new) q
-            ≡ flat (node_at nodes.now) (Opened self.old) q) }
-        ensures based { IsBased (node_at nodes.now) (Opened self.old)
-            → IsBased (node_at nodes.now) (Opened self.new) }
-        ensures base { self.new.base ≡ self.old.base }
-        ensures missing { IsErrOf result EditFault.Missing
-            → LacksParent path.now (flat (node_at nodes.now) (Opened self.old)) }
+        ensures edit { Edits result nodes.now self.old self.new
+            (λ t. grafted t path.now (leaf content)) }
+        ensures missing { IfMissing result (LacksParent path.now (open_tree nodes.now self.old)) }
     {
         let node = OpenNode::fresh(alloc, content)?;
         self.put(alloc, nodes, path.components(), Change::Is(node))
@@ -39,15 +32,8 @@ impl OpenNode {
 
     /// Takes out what stands at a path and beneath it.
     pub fn delete(&mut self, alloc: Global, nodes: &Nodes, path: &Path) -> Result<(), EditFault>
-        ensures ok { OnOk result ((q : PathValue) → flat (node_at nodes.now) (Opened self.new) q
-            ≡ deleted (flat (node_at nodes.now) (Opened self.old)) path.now q) }
-        ensures err { OnErr result ((q : PathValue) → flat (node_at nodes.now) (Opened self.new) q
-            ≡ flat (node_at nodes.now) (Opened self.old) q) }
-        ensures based { IsBased (node_at nodes.now) (Opened self.old)
-            → IsBased (node_at nodes.now) (Opened self.new) }
-        ensures base { self.new.base ≡ self.old.base }
-        ensures missing { IsErrOf result EditFault.Missing
-            → LacksParent path.now (flat (node_at nodes.now) (Opened self.old)) }
+        ensures edit { Edits result nodes.now self.old self.new (λ t. deleted t path.now) }
+        ensures missing { IfMissing result (LacksParent path.now (open_tree nodes.now self.old)) }
     {
         self.put(alloc, nodes, path.components(), Change::Gone)
     }
@@ -60,15 +46,9 @@ impl OpenNode {
         path: &Path,
         text: FileText,
     ) -> Result<(), EditFault>
-        ensures ok { OnOk result ((q : PathValue) → flat (node_at nodes.now) (Opened self.new) q
-            ≡ revised (flat (node_at nodes.now) (Opened self.old)) path.now (with_text text) q) }
-        ensures err { OnErr result ((q : PathValue) → flat (node_at nodes.now) (Opened self.new) q
-            ≡ flat (node_at nodes.now) (Opened self.old) q) }
-        ensures based { IsBased (node_at nodes.now) (Opened self.old)
-            → IsBased (node_at nodes.now) (Opened self.new) }
-        ensures base { self.new.base ≡ self.old.base }
-        ensures missing { IsErrOf result EditFault.Missing
-            → Lacks path.now (flat (node_at nodes.now) (Opened self.old)) }
+        ensures edit { Edits result nodes.now self.old self.new
+            (λ t. revised t path.now (with_text text)) }
+        ensures missing { IfMissing result (Lacks path.now (open_tree nodes.now self.old)) }
     {
         let content = shared(alloc, Content::File(text))?;
         self.at(alloc, nodes, path.components(), Local::Content(content))
@@ -83,16 +63,9 @@ impl OpenNode {
         name: ByteString,
         value: ByteString,
     ) -> Result<(), EditFault>
-        ensures ok { OnOk result ((q : PathValue) → flat (node_at nodes.now) (Opened self.new) q
-            ≡ revised (flat (node_at nodes.now) (Opened self.old)) path.now
-            (with_value name value) q) }
-        ensures err { OnErr result ((q : PathValue) → flat (node_at nodes.now) (Opened self.new) q
-            ≡ flat (node_at nodes.now) (Opened self.old) q) }
-        ensures based { IsBased (node_at nodes.now) (Opened self.old)
-            → IsBased (node_at nodes.now) (Opened self.new) }
-        ensures base { self.new.base ≡ self.old.base }
-        ensures missing { IsErrOf result EditFault.Missing
-            → Lacks path.now (flat (node_at nodes.now) (Opened self.old)) }
+        ensures edit { Edits result nodes.now self.old self.new
+            (λ t. revised t path.now (with_value name value)) }
+        ensures missing { IfMissing result (Lacks path.now (open_tree nodes.now self.old)) }
     {
         self.at(
             alloc,
@@ -110,16 +83,9 @@ impl OpenNode {
         path: &Path,
         name: ByteString,
     ) -> Result<(), EditFault>
-        ensures ok { OnOk result ((q : PathValue) → flat (node_at nodes.now) (Opened self.new) q
-            ≡ revised (flat (node_at nodes.now) (Opened self.old)) path.now
-            (without_value name) q) }
-        ensures err { OnErr result ((q : PathValue) → flat (node_at nodes.now) (Opened self.new) q
-            ≡ flat (node_at nodes.now) (Opened self.old) q) }
-        ensures based { IsBased (node_at nodes.now) (Opened self.old)
-            → IsBased (node_at nodes.now) (Opened self.new) }
-        ensures base { self.new.base ≡ self.old.base }
-        ensures missing { IsErrOf result EditFault.Missing
-            → Lacks path.now (flat (node_at nodes.now) (Opened self.old)) }
+        ensures edit { Edits result nodes.now self.old self.new
+            (λ t. revised t path.now (without_value name)) }
+        ensures missing { IfMissing result (Lacks path.now (open_tree nodes.now self.old)) }
     {
         self.at(alloc, nodes, path.components(), Local::RemoveProperty(name))
     }
@@ -132,16 +98,11 @@ impl OpenNode {
         source: NodeId,
         path: &Path,
     ) -> Result<(), EditFault>
-        ensures ok { OnOk result ((q : PathValue) → flat (node_at nodes.now) (Opened self.new) q
-            ≡ grafted (flat (node_at nodes.now) (Opened self.old)) path.now (revised (flat
-            (node_at nodes.now) (Shared source)) [] (λ e. e)) q) }
-        ensures err { OnErr result ((q : PathValue) → flat (node_at nodes.now) (Opened self.new) q
-            ≡ flat (node_at nodes.now) (Opened self.old) q) }
-        ensures based { IsBased (node_at nodes.now) (Opened self.old)
-            → IsBased (node_at nodes.now) (Opened self.new) }
-        ensures base { self.new.base ≡ self.old.base }
-        ensures missing { IsErrOf result EditFault.Missing → (node_at nodes.now source ≡ None)
-            ⊎ LacksParent path.now (flat (node_at nodes.now) (Opened self.old)) }
+        ensures edit { Edits result nodes.now self.old self.new
+            (λ t. grafted t path.now
+            (revised (flat (node_at nodes.now) (Shared source)) [] (λ e. e))) }
+        ensures missing { IfMissing result ((node_at nodes.now source ≡ None)
+            ⊎ LacksParent path.now (open_tree nodes.now self.old)) }
     {
         let mut node = OpenNode::over(alloc, nodes, source)?;
         node.own = Mark::Open;
@@ -156,17 +117,13 @@ impl OpenNode {
         path: &[ByteString],
         change: Change,
     ) -> Result<(), EditFault>
-        ensures ok { OnOk result ((q : PathValue) → flat (node_at nodes.now) (Opened self.new) q
-            ≡ grafted (flat (node_at nodes.now) (Opened self.old)) path.now (flat
-            (node_at nodes.now) (change_spot change)) q) }
-        ensures err { OnErr result ((q : PathValue) → flat (node_at nodes.now) (Opened self.new) q
-            ≡ flat (node_at nodes.now) (Opened self.old) q) }
+        ensures tree { Applies result (open_tree nodes.now) self.old self.new
+            (λ t. grafted t path.now (change_tree nodes.now change)) }
         ensures based { IsBased (node_at nodes.now) (change_spot change)
-            → IsNew (change_spot change) → IsBased (node_at nodes.now) (Opened self.old)
-            → IsBased (node_at nodes.now) (Opened self.new) }
+            → IsNew (change_spot change)
+            → KeepsBased (node_at nodes.now) (Opened self.old) (Opened self.new) }
         ensures base { self.new.base ≡ self.old.base }
-        ensures missing { IsErrOf result EditFault.Missing
-            → LacksParent path.now (flat (node_at nodes.now) (Opened self.old)) }
+        ensures missing { IfMissing result (LacksParent path.now (open_tree nodes.now self.old)) }
     {
         let Some((name, above)) = path.split_last() else {
             return Err(EditFault::Missing);

@@ -1,8 +1,7 @@
 //! What stands at the paths of a transaction's tree.
 ghost use Rattle.std.specs.Prelude.{◌≡◌, option_copied, option_map};
 ghost use Rattle.repo_api.specs.Kinds.{created_of};
-ghost use Rattle.noderevs.specs.Held.{node_at};
-ghost use Rattle.txntree.specs.{Spots.{change_spot, flat}, Spots.Spot.Opened};
+ghost use Rattle.txntree.specs.Spots.{change_tree, open_tree};
 
 use crate::open::{Change, OpenNode};
 use byte_string::ByteString;
@@ -14,7 +13,7 @@ impl OpenNode {
     #[cycle(content)]
     pub fn content_at<'a>(&'a self, nodes: &'a Nodes, path: &[ByteString]) -> Option<&'a Content>
         ensures { option_copied result ≡ option_map (λ e. e.content)
-            (flat (node_at nodes.now) (Opened self.now) path.now) }
+            (open_tree nodes.now self.now path.now) }
     {
         let Some((name, rest)) = path.split_first() else {
             return Some(&self.content);
@@ -28,7 +27,7 @@ impl OpenNode {
     /// Gives the revision that last changed what exists at a path, at or under it: none where the transaction has.
     #[cycle(made)]
     pub fn made_at(&self, nodes: &Nodes, path: &[ByteString]) -> Option<u64>
-        ensures { result ≡ created_of (flat (node_at nodes.now) (Opened self.now) path.now) }
+        ensures { result ≡ created_of (open_tree nodes.now self.now path.now) }
     {
         let Some((name, rest)) = path.split_first() else {
             return None;
@@ -45,7 +44,7 @@ impl Change {
     #[cycle(content)]
     fn content_at<'a>(&'a self, nodes: &'a Nodes, path: &[ByteString]) -> Option<&'a Content>
         ensures { option_copied result ≡ option_map (λ e. e.content)
-            (flat (node_at nodes.now) (change_spot self.now) path.now) }
+            (change_tree nodes.now self.now path.now) }
     {
         match self {
             Change::Gone => None,
@@ -57,7 +56,7 @@ impl Change {
     /// where the transaction has, and where nothing exists.
     #[cycle(made)]
     fn made_at(&self, nodes: &Nodes, path: &[ByteString]) -> Option<u64>
-        ensures { result ≡ created_of (flat (node_at nodes.now) (change_spot self.now) path.now) }
+        ensures { result ≡ created_of (change_tree nodes.now self.now path.now) }
     {
         match self {
             Change::Gone => None,

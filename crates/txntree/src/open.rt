@@ -1,10 +1,10 @@
 //! The nodes that a transaction has changed.
-ghost use Rattle.std.specs.{Prelude.{◌≡◌, IfOk, OnOk, OnErr, IsErrOf, Some, None, true, false, [], ◌⊎◌, if◌then◌else◌}, Arc.arc_value};
+ghost use Rattle.std.specs.{Prelude.{◌≡◌, IfOk, OnOk, OnErr, Some, None, true, false, [], ◌⊎◌, if◌then◌else◌}, Arc.arc_value};
 ghost use Rattle.svnpath.specs.Paths.{Component, PathValue, same_component};
 ghost use Rattle.repo_api.specs.{Edits.begun, Properties.{with_property, without_property}, Trees.is_open_mark};
 ghost use Rattle.noderevs.specs.{Held.node_at, Nodes.Look};
-ghost use Rattle.txntree.specs.{Spots.{changed_at, change_spot, flat}, Bases.{IsBased, IsBasedLocal, IsRootKept}, Laws.leaf};
-ghost use Rattle.txntree.specs.{Walks.{at_path, made_there, Lacks}, Spots.Spot.{Shared, Opened}};
+ghost use Rattle.txntree.specs.{Spots.{changed_at, change_spot, change_tree, flat, open_tree}, Bases.{IsBased, IsBasedLocal, IsRootKept, KeepsBased}};
+ghost use Rattle.txntree.specs.{Edits.{Applies, IfMissing}, Laws.leaf, Walks.{at_path, made_there, Lacks}, Spots.Spot.{Shared, Opened}};
 
 use byte_string::ByteString;
 use noderevs::{NodeId, Nodes};
@@ -80,8 +80,8 @@ impl OpenNode {
 
     /// Takes the shared node as a transaction's own, which is changed beneath.
     pub fn over(alloc: Global, nodes: &Nodes, id: NodeId) -> Result<Self, EditFault>
-        ensures missing { IsErrOf result EditFault.Missing → node_at nodes.now id ≡ None }
-        ensures ok { IfOk result (λ n. (q : PathValue) → flat (node_at nodes.now) (Opened n) q
+        ensures missing { IfMissing result (node_at nodes.now id ≡ None) }
+        ensures ok { IfOk result (λ n. (q : PathValue) → open_tree nodes.now n q
             ≡ begun (flat (node_at nodes.now) (Shared id)) q) }
         ensures based { IfOk result (λ n. IsBased (node_at nodes.now) (Opened n)) }
         ensures base { IfOk result (λ n. n.base ≡ Some id) }
@@ -108,16 +108,11 @@ impl OpenNode {
         path: &[ByteString],
         local: Local,
     ) -> Result<(), EditFault>
-        ensures ok { OnOk result ((q : PathValue) → flat (node_at nodes.now) (Opened self.new) q
-            ≡ at_path path.now (made_there (node_at nodes.now) local) (flat (node_at nodes.now)
-            (Opened self.old)) q) }
-        ensures err { OnErr result ((q : PathValue) → flat (node_at nodes.now) (Opened self.new) q
-            ≡ flat (node_at nodes.now) (Opened self.old) q) }
-        ensures missing { IsErrOf result EditFault.Missing
-            → Lacks path.now (flat (node_at nodes.now) (Opened self.old)) }
+        ensures tree { Applies result (open_tree nodes.now) self.old self.new
+            (at_path path.now (made_there (node_at nodes.now) local)) }
+        ensures missing { IfMissing result (Lacks path.now (open_tree nodes.now self.old)) }
         ensures based { IsBasedLocal (node_at nodes.now) local
-            → IsBased (node_at nodes.now) (Opened self.old)
-            → IsBased (node_at nodes.now) (Opened self.new) }
+            → KeepsBased (node_at nodes.now) (Opened self.old) (Opened self.new) }
         ensures base { self.new.base ≡ self.old.base }
         ensures own { is_open_mark self.new.own ≡ false → is_open_mark self.old.own ≡ false }
     {
@@ -139,12 +134,10 @@ impl OpenNode {
 
     /// Makes a change at this node.
     fn make(&mut self, alloc: Global, local: Local) -> Result<(), AllocError>
-        ensures ok { OnOk result ((look : Look) (q : PathValue) → flat look (Opened self.new) q
-            ≡ made_there look local (flat look (Opened self.old)) q) }
-        ensures err { OnErr result ((look : Look) (q : PathValue) → flat look (Opened self.new) q
-            ≡ flat look (Opened self.old) q) }
-        ensures based { (look : Look) → IsBasedLocal look local → IsBased look (Opened self.old)
-            → IsBased look (Opened self.new) }
+        ensures tree { (look : Look) → Applies result (λ n. flat look (Opened n)) self.old self.new
+            (made_there look local) }
+        ensures based { (look : Look) → IsBasedLocal look local
+            → KeepsBased look (Opened self.old) (Opened self.new) }
         ensures base { self.new.base ≡ self.old.base }
         ensures own { is_open_mark self.new.own ≡ false → is_open_mark self.old.own ≡ false }
     {
@@ -177,19 +170,12 @@ impl Change {
         path: &[ByteString],
         local: Local,
     ) -> Result<(), EditFault>
-        ensures ok { OnOk result ((q : PathValue)
-            → flat (node_at nodes.now) (change_spot self.new) q
-            ≡ at_path path.now (made_there (node_at nodes.now) local) (flat (node_at nodes.now)
-            (change_spot self.old)) q) }
-        ensures err { OnErr result ((q : PathValue)
-            → flat (node_at nodes.now) (change_spot self.new) q
-            ≡ flat (node_at nodes.now) (change_spot self.old) q) }
-        ensures missing { IsErrOf result EditFault.Missing
-            → (flat (node_at nodes.now) (change_spot self.old) [] ≡ None)
-            ⊎ Lacks path.now (flat (node_at nodes.now) (change_spot self.old)) }
+        ensures tree { Applies result (change_tree nodes.now) self.old self.new
+            (at_path path.now (made_there (node_at nodes.now) local)) }
+        ensures missing { IfMissing result ((change_tree nodes.now self.old [] ≡ None)
+            ⊎ Lacks path.now (change_tree nodes.now self.old)) }
         ensures based { IsBasedLocal (node_at nodes.now) local
-            → IsBased (node_at nodes.now) (change_spot self.old)
-            → IsBased (node_at nodes.now) (change_spot self.new) }
+            → KeepsBased (node_at nodes.now) (change_spot self.old) (change_spot self.new) }
         ensures root { IsRootKept (change_spot self.old) (change_spot self.new) }
     {
         match self {

@@ -2,9 +2,9 @@
 ghost use Rattle.std.specs.Prelude.{◌≡◌, ◌++◌, ◌∷◌, [], length, IfOk, OnOk, OnErr};
 ghost use Rattle.repo_api.specs.Merge.{closed};
 ghost use Rattle.svnpath.specs.Paths.{Component, PathValue};
-ghost use Rattle.noderevs.specs.{Heights.AreHigh, Held.node_at, Nodes.{Grows, IsBefore, IsClosed, IsThere, mark_of, with_block}};
-ghost use Rattle.txntree.specs.{Spots.{change_spot, flat}, Spots.Spot.{Shared, Opened}};
-ghost use Rattle.txntree.specs.Sealing.{sealed_at, AreThere, with_sealed, kid_trees, AreUnder, AreUnderOne, SameBut, IsBlockOf};
+ghost use Rattle.noderevs.specs.{Held.node_at, Nodes.{IsBefore, IsClosed, IsThere, mark_of, with_block}};
+ghost use Rattle.txntree.specs.{Spots.{flat, open_tree}, Spots.Spot.Shared};
+ghost use Rattle.txntree.specs.Sealing.{sealed_at, AreThere, with_sealed, kid_trees, AreUnder, AreUnderOne, SameBut, BlockGrows, IfClosed, IsSealOf};
 
 use crate::open::{Change, OpenNode};
 use byte_string::ByteString;
@@ -18,19 +18,10 @@ use svnpath::Path;
 impl OpenNode {
     /// Gives the transaction's tree as the nodes of the revision: one for each path that it changed, and no other.
     pub fn block(&self, alloc: Global, nodes: &Nodes, rev: u32) -> Result<Block, AllocError>
-        ensures closed { IsClosed (node_at nodes.now) → IsBefore (node_at nodes.now) rev
-            → IfOk result (λ b. IsClosed (with_block (node_at nodes.now) rev b.nodes.items)) }
-        ensures high { IsClosed (node_at nodes.now) → IsBefore (node_at nodes.now) rev
-            → AreHigh (node_at nodes.now)
-            → IfOk result (λ b. AreHigh (with_block (node_at nodes.now) rev b.nodes.items)) }
+        ensures ok { IsClosed (node_at nodes.now) → IsBefore (node_at nodes.now) rev
+            → IfOk result (IsSealOf (node_at nodes.now) rev (open_tree nodes.now self.now)) }
         ensures there { IfOk result (λ b. IsThere
             (with_block (node_at nodes.now) rev b.nodes.items) b.root) }
-        ensures tree { IsClosed (node_at nodes.now) → IsBefore (node_at nodes.now) rev
-            → IfOk result (λ b. (q : PathValue)
-            → flat (with_block (node_at nodes.now) rev b.nodes.items) (Shared b.root) q
-            ≡ sealed_at rev [] (flat (node_at nodes.now) (Opened self.now)) q) }
-        ensures whole { IsClosed (node_at nodes.now) → IsBefore (node_at nodes.now) rev
-            → IfOk result (λ b. IsBlockOf (node_at nodes.now) rev b.nodes.items b.root) }
     {
         let mut block = Vec::new(alloc);
         let root = self.sealed(alloc, nodes, rev, Path::root(alloc), &mut block)?;
@@ -47,25 +38,15 @@ impl OpenNode {
         path: Path,
         block: &mut Vec<NodeRev>,
     ) -> Result<NodeId, AllocError>
-        ensures grows { Grows (with_block (node_at nodes.now) rev block.old.items)
-            (with_block (node_at nodes.now) rev block.new.items) }
-        ensures closed { IsClosed (node_at nodes.now) → IsBefore (node_at nodes.now) rev
-            → IsClosed (with_block (node_at nodes.now) rev block.old.items)
-            → IsClosed (with_block (node_at nodes.now) rev block.new.items) }
-        ensures high { IsClosed (node_at nodes.now) → IsBefore (node_at nodes.now) rev
-            → IsClosed (with_block (node_at nodes.now) rev block.old.items)
-            → AreHigh (with_block (node_at nodes.now) rev block.old.items)
-            → AreHigh (with_block (node_at nodes.now) rev block.new.items) }
+        ensures grown { BlockGrows (node_at nodes.now) rev block.old.items block.new.items }
         ensures there { IfOk result (IsThere (with_block (node_at nodes.now) rev block.new.items)) }
-        ensures ok { IsClosed (node_at nodes.now) → IsBefore (node_at nodes.now) rev
-            → IsClosed (with_block (node_at nodes.now) rev block.old.items)
-            → IfOk result (λ id. (q : PathValue)
+        ensures ok { IfClosed (node_at nodes.now) rev block.old.items
+            (IfOk result (λ id. (q : PathValue)
             → flat (with_block (node_at nodes.now) rev block.new.items) (Shared id) q
-            ≡ sealed_at rev path (flat (node_at nodes.now) (Opened self.now)) q) }
-        ensures under { IsClosed (node_at nodes.now) → IsBefore (node_at nodes.now) rev
-            → IsClosed (with_block (node_at nodes.now) rev block.old.items)
-            → IfOk result (AreUnder (with_block (node_at nodes.now) rev block.new.items) rev
-            (length block.old.items) (length block.new.items)) }
+            ≡ sealed_at rev path (open_tree nodes.now self.now) q)) }
+        ensures under { IfClosed (node_at nodes.now) rev block.old.items
+            (IfOk result (AreUnder (with_block (node_at nodes.now) rev block.new.items) rev
+            (length block.old.items) (length block.new.items))) }
     {
         let mut kids = nodes.kids(alloc, self.base)?;
         for (name, change) in &self.changed {
@@ -104,28 +85,18 @@ impl Change {
         kids: &mut SharedMap<NodeId>,
         block: &mut Vec<NodeRev>,
     ) -> Result<(), AllocError>
-        ensures grows { Grows (with_block (node_at nodes.now) rev block.old.items)
-            (with_block (node_at nodes.now) rev block.new.items) }
-        ensures closed { IsClosed (node_at nodes.now) → IsBefore (node_at nodes.now) rev
-            → IsClosed (with_block (node_at nodes.now) rev block.old.items)
-            → IsClosed (with_block (node_at nodes.now) rev block.new.items) }
-        ensures high { IsClosed (node_at nodes.now) → IsBefore (node_at nodes.now) rev
-            → IsClosed (with_block (node_at nodes.now) rev block.old.items)
-            → AreHigh (with_block (node_at nodes.now) rev block.old.items)
-            → AreHigh (with_block (node_at nodes.now) rev block.new.items) }
+        ensures grown { BlockGrows (node_at nodes.now) rev block.old.items block.new.items }
         ensures there { AreThere (with_block (node_at nodes.now) rev block.old.items) kids.old
             → OnOk result (AreThere (with_block (node_at nodes.now) rev block.new.items) kids.new) }
-        ensures ok { IsClosed (node_at nodes.now) → IsBefore (node_at nodes.now) rev
-            → IsClosed (with_block (node_at nodes.now) rev block.old.items)
-            → AreThere (with_block (node_at nodes.now) rev block.old.items) kids.old
+        ensures ok { IfClosed (node_at nodes.now) rev block.old.items
+            (AreThere (with_block (node_at nodes.now) rev block.old.items) kids.old
             → OnOk result ((n : Component) (q : PathValue)
             → kid_trees (with_block (node_at nodes.now) rev block.new.items) kids.new n q
             ≡ with_sealed (node_at nodes.now) rev path name self.now (kid_trees
-            (with_block (node_at nodes.now) rev block.old.items) kids.old) n q) }
-        ensures under { IsClosed (node_at nodes.now) → IsBefore (node_at nodes.now) rev
-            → IsClosed (with_block (node_at nodes.now) rev block.old.items)
-            → OnOk result (AreUnderOne (with_block (node_at nodes.now) rev block.new.items) rev
-            (length block.old.items) (length block.new.items) kids.new) }
+            (with_block (node_at nodes.now) rev block.old.items) kids.old) n q)) }
+        ensures under { IfClosed (node_at nodes.now) rev block.old.items
+            (OnOk result (AreUnderOne (with_block (node_at nodes.now) rev block.new.items) rev
+            (length block.old.items) (length block.new.items) kids.new)) }
         ensures others { OnOk result (SameBut name kids.old kids.new) }
     {
         match self {

@@ -2,11 +2,11 @@
 use Rattle.std.specs.Prelude.{ℕ, List, Option, Some, None, codes}
 use Rattle.items.specs.Values.{both, ItemValue, ItemValues, list, more, none, number, only, string, word}
 use Rattle.wire_edits.specs.{declared.editing.AbsentEntry.AbsentEntry, declared.editing.AddedEntry.AddedEntry, declared.editing.EditorCommand.EditorCommand}
-use Rattle.wire_edits.specs.declared.editing.EditorCommand.TheVariants.{TargetRevision, OpenRoot, DeleteEntry, AddDirectory, AddFile, OpenDirectory, OpenFile}
-use Rattle.wire_edits.specs.declared.editing.EditorCommand.TheVariants.{AbsentDirectory, AbsentFile, ChangeDirectoryProperty, ChangeFileProperty}
-use Rattle.wire_edits.specs.declared.editing.EditorCommand.TheVariants.{ApplyTextDelta, TextDeltaChunk, TextDeltaEnd, CloseDirectory, CloseFile, CloseEdit}
-use Rattle.wire_edits.specs.{declared.editing.EditorCommand.TheVariants.AbortEdit, declared.editing.OpenedEntry.OpenedEntry}
-use Rattle.wire_edits.specs.declared.editing.PropertyChange.{PropertyChange}
+use Rattle.wire_edits.specs.{declared.editing.DeletedEntry.DeletedEntry, declared.editing.EditorCommand.TheVariants.{TargetRevision, OpenRoot, DeleteEntry}}
+use Rattle.wire_edits.specs.declared.editing.EditorCommand.TheVariants.{AddDirectory, AddFile, OpenDirectory, OpenFile, AbsentDirectory, AbsentFile}
+use Rattle.wire_edits.specs.declared.editing.EditorCommand.TheVariants.{ChangeDirectoryProperty, ChangeFileProperty, ApplyTextDelta, TextDeltaChunk}
+use Rattle.wire_edits.specs.declared.editing.EditorCommand.TheVariants.{TextDeltaEnd, CloseDirectory, CloseFile, CloseEdit, AbortEdit}
+use Rattle.wire_edits.specs.{declared.editing.OpenedEntry.OpenedEntry, declared.editing.PropertyChange.PropertyChange}
 
 -- `[ rev ]`
 abbrev pub revision_item : Option ℕ → ItemValue
@@ -22,6 +22,14 @@ string_item (Some s) = list (only (string s))
 abbrev pub source_item : Option (List ℕ × ℕ) → ItemValue
 source_item None = list none
 source_item (Some source) = list (both (string source.0) (number source.1))
+
+-- `[ rev ] token`
+abbrev pub root_items : Option ℕ → List ℕ → ItemValues
+root_items revision token = both (revision_item revision) (string token)
+
+-- `path [ rev ] parent`
+abbrev pub deleted_items : DeletedEntry → ItemValues
+deleted_items e = more (string e.path) (root_items e.revision e.parent)
 
 -- `path parent token` in front of what stands behind them
 abbrev pub place_items : List ℕ → List ℕ → List ℕ → ItemValue → ItemValues
@@ -55,11 +63,8 @@ command name params = list (both (word name) (list params))
 -- the item that a command is sent as
 abbrev pub command_item : EditorCommand → ItemValue
 command_item (TargetRevision n) = command (codes "target-rev") (only (number n))
-command_item (OpenRoot revision token) =
-    command (codes "open-root") (both (revision_item revision) (string token))
-command_item (DeleteEntry e) =
-    command (codes "delete-entry")
-    (more (string e.path) (both (revision_item e.revision) (string e.parent)))
+command_item (OpenRoot revision token) = command (codes "open-root") (root_items revision token)
+command_item (DeleteEntry e) = command (codes "delete-entry") (deleted_items e)
 command_item (AddDirectory e) = command (codes "add-dir") (added_items e)
 command_item (AddFile e) = command (codes "add-file") (added_items e)
 command_item (OpenDirectory e) = command (codes "open-dir") (opened_items e)

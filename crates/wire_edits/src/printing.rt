@@ -1,8 +1,8 @@
 //! The bytes that commands of an edit are sent as.
-ghost use Rattle.std.specs.Prelude.{◌≡◌, ◌++◌, ◌∷◌, [], OnOk, OnErr};
-ghost use Rattle.items.specs.{Print.{Grows, printed, row_printed}, Values.{both, more, none, number, only, string, word}};
-ghost use Rattle.wire_edits.specs.Printing.{command, command_item, absent_items, added_items, checksum_items, opened_items, property_items, revision_item};
-ghost use Rattle.wire_edits.specs.Printing.{source_item, string_item};
+ghost use Rattle.std.specs.Prelude.{◌++◌, ◌∷◌, []};
+ghost use Rattle.items.specs.{Print.{AppendsBytes, AppendsItem, AppendsItems, WritesItem, printed}, Values.{both, none, number, only, string, word}};
+ghost use Rattle.wire_edits.specs.Printing.{command, command_item, absent_items, added_items, checksum_items, deleted_items, opened_items, property_items};
+ghost use Rattle.wire_edits.specs.Printing.{revision_item, root_items, source_item, string_item};
 
 use crate::editing::{
     AbsentEntry, AddedEntry, DeletedEntry, EditorCommand, OpenedEntry, PropertyChange,
@@ -13,8 +13,7 @@ use std::alloc::AllocError;
 
 /// Writes a command at the end, as the bytes of its item. An `Err` changes nothing.
 pub fn write_command(command: &EditorCommand, out: &mut Vec<u8>) -> Result<(), AllocError>
-    ensures ok { OnOk result (out.new.items ≡ out.old.items ++ printed (command_item command.now)) }
-    ensures err { OnErr result (out.new.items ≡ out.old.items) }
+    ensures { WritesItem result out.old (command_item command.now) out.new }
 {
     let len = out.len();
     let written = append_command(command, out);
@@ -28,8 +27,7 @@ pub fn write_command(command: &EditorCommand, out: &mut Vec<u8>) -> Result<(), A
 
 /// Appends the bytes of a command's item.
 fn append_command(command: &EditorCommand, out: &mut Vec<u8>) -> Result<(), AllocError>
-    ensures ok { OnOk result (out.new.items ≡ out.old.items ++ printed (command_item command.now)) }
-    ensures grows { Grows out.old.items out.new.items }
+    ensures { AppendsItem result out.old (command_item command.now) out.new }
 {
     match command {
         EditorCommand::TargetRevision(n) => append_revision_alone(b"target-rev", *n, out),
@@ -73,9 +71,8 @@ fn append_command(command: &EditorCommand, out: &mut Vec<u8>) -> Result<(), Allo
 
 /// Appends `( name ( `.
 fn append_name(name: &[u8], out: &mut Vec<u8>) -> Result<(), AllocError>
-    ensures ok { OnOk result (out.new.items
-        ≡ out.old.items ++ (40 ∷ 32 ∷ (printed (word name.now) ++ (40 ∷ 32 ∷ [])))) }
-    ensures grows { Grows out.old.items out.new.items }
+    ensures { AppendsBytes result out.old
+        (40 ∷ 32 ∷ (printed (word name.now) ++ (40 ∷ 32 ∷ []))) out.new }
 {
     out.extend_from_slice(b"( ")?;
     append_word(name, out)?;
@@ -84,16 +81,14 @@ fn append_name(name: &[u8], out: &mut Vec<u8>) -> Result<(), AllocError>
 
 /// Appends `) ) `.
 fn append_end(out: &mut Vec<u8>) -> Result<(), AllocError>
-    ensures ok { OnOk result (out.new.items ≡ out.old.items ++ (41 ∷ 32 ∷ 41 ∷ 32 ∷ [])) }
-    ensures grows { Grows out.old.items out.new.items }
+    ensures { AppendsBytes result out.old (41 ∷ 32 ∷ 41 ∷ 32 ∷ []) out.new }
 {
     out.extend_from_slice(b") ) ")
 }
 
 /// Appends `[ rev ]`.
 fn append_revision(revision: Option<u64>, out: &mut Vec<u8>) -> Result<(), AllocError>
-    ensures ok { OnOk result (out.new.items ≡ out.old.items ++ printed (revision_item revision)) }
-    ensures grows { Grows out.old.items out.new.items }
+    ensures { AppendsItem result out.old (revision_item revision) out.new }
 {
     out.extend_from_slice(b"( ")?;
     if let Some(n) = revision {
@@ -104,8 +99,7 @@ fn append_revision(revision: Option<u64>, out: &mut Vec<u8>) -> Result<(), Alloc
 
 /// Appends `[ string ]`.
 fn append_optional(text: &Option<ByteString>, out: &mut Vec<u8>) -> Result<(), AllocError>
-    ensures ok { OnOk result (out.new.items ≡ out.old.items ++ printed (string_item text.now)) }
-    ensures grows { Grows out.old.items out.new.items }
+    ensures { AppendsItem result out.old (string_item text.now) out.new }
 {
     out.extend_from_slice(b"( ")?;
     if let Some(text) = text {
@@ -116,8 +110,7 @@ fn append_optional(text: &Option<ByteString>, out: &mut Vec<u8>) -> Result<(), A
 
 /// Appends `[ copy-path copy-rev ]`.
 fn append_source(source: &Option<(ByteString, u64)>, out: &mut Vec<u8>) -> Result<(), AllocError>
-    ensures ok { OnOk result (out.new.items ≡ out.old.items ++ printed (source_item source.now)) }
-    ensures grows { Grows out.old.items out.new.items }
+    ensures { AppendsItem result out.old (source_item source.now) out.new }
 {
     out.extend_from_slice(b"( ")?;
     if let Some((path, revision)) = source {
@@ -129,9 +122,8 @@ fn append_source(source: &Option<(ByteString, u64)>, out: &mut Vec<u8>) -> Resul
 
 /// Appends `string string`.
 fn append_two(first: &ByteString, second: &ByteString, out: &mut Vec<u8>) -> Result<(), AllocError>
-    ensures ok { OnOk result (out.new.items ≡ out.old.items
-        ++ row_printed (both (string first.now) (string second.now))) }
-    ensures grows { Grows out.old.items out.new.items }
+    ensures { AppendsItems result out.old
+        (both (string first.now) (string second.now)) out.new }
 {
     append_string(first.as_slice(), out)?;
     append_string(second.as_slice(), out)
@@ -139,8 +131,7 @@ fn append_two(first: &ByteString, second: &ByteString, out: &mut Vec<u8>) -> Res
 
 /// Appends `( name ( ) )`.
 fn append_alone(name: &[u8], out: &mut Vec<u8>) -> Result<(), AllocError>
-    ensures ok { OnOk result (out.new.items ≡ out.old.items ++ printed (command name.now none)) }
-    ensures grows { Grows out.old.items out.new.items }
+    ensures { AppendsItem result out.old (command name.now none) out.new }
 {
     append_name(name, out)?;
     append_end(out)
@@ -148,9 +139,7 @@ fn append_alone(name: &[u8], out: &mut Vec<u8>) -> Result<(), AllocError>
 
 /// Appends `( name ( rev ) )`.
 fn append_revision_alone(name: &[u8], revision: u64, out: &mut Vec<u8>) -> Result<(), AllocError>
-    ensures ok { OnOk result (out.new.items ≡ out.old.items
-        ++ printed (command name.now (only (number revision)))) }
-    ensures grows { Grows out.old.items out.new.items }
+    ensures { AppendsItem result out.old (command name.now (only (number revision))) out.new }
 {
     append_name(name, out)?;
     append_number(revision, out)?;
@@ -163,9 +152,7 @@ fn append_root_params(
     token: &ByteString,
     out: &mut Vec<u8>,
 ) -> Result<(), AllocError>
-    ensures ok { OnOk result (out.new.items ≡ out.old.items
-        ++ row_printed (both (revision_item revision) (string token.now))) }
-    ensures grows { Grows out.old.items out.new.items }
+    ensures { AppendsItems result out.old (root_items revision token.now) out.new }
 {
     append_revision(revision, out)?;
     append_string(token.as_slice(), out)
@@ -178,9 +165,8 @@ fn append_root(
     token: &ByteString,
     out: &mut Vec<u8>,
 ) -> Result<(), AllocError>
-    ensures ok { OnOk result (out.new.items ≡ out.old.items ++ printed (command name.now
-        (both (revision_item revision) (string token.now)))) }
-    ensures grows { Grows out.old.items out.new.items }
+    ensures { AppendsItem result out.old
+        (command name.now (root_items revision token.now)) out.new }
 {
     append_name(name, out)?;
     append_root_params(revision, token, out)?;
@@ -189,10 +175,7 @@ fn append_root(
 
 /// Appends `path [ rev ] parent`.
 fn append_deleted_params(entry: &DeletedEntry, out: &mut Vec<u8>) -> Result<(), AllocError>
-    ensures ok { OnOk result (out.new.items ≡ out.old.items
-        ++ row_printed (more (string entry.now.path)
-        (both (revision_item entry.now.revision) (string entry.now.parent)))) }
-    ensures grows { Grows out.old.items out.new.items }
+    ensures { AppendsItems result out.old (deleted_items entry.now) out.new }
 {
     append_string(entry.path.as_slice(), out)?;
     append_root_params(entry.revision, &entry.parent, out)
@@ -200,10 +183,7 @@ fn append_deleted_params(entry: &DeletedEntry, out: &mut Vec<u8>) -> Result<(), 
 
 /// Appends `( name ( path [ rev ] parent ) )`.
 fn append_deleted(name: &[u8], entry: &DeletedEntry, out: &mut Vec<u8>) -> Result<(), AllocError>
-    ensures ok { OnOk result (out.new.items ≡ out.old.items
-        ++ printed (command name.now (more (string entry.now.path)
-        (both (revision_item entry.now.revision) (string entry.now.parent))))) }
-    ensures grows { Grows out.old.items out.new.items }
+    ensures { AppendsItem result out.old (command name.now (deleted_items entry.now)) out.new }
 {
     append_name(name, out)?;
     append_deleted_params(entry, out)?;
@@ -212,9 +192,7 @@ fn append_deleted(name: &[u8], entry: &DeletedEntry, out: &mut Vec<u8>) -> Resul
 
 /// Appends `path parent token [ copy-path copy-rev ]`.
 fn append_added_params(entry: &AddedEntry, out: &mut Vec<u8>) -> Result<(), AllocError>
-    ensures ok { OnOk result (out.new.items ≡ out.old.items
-        ++ row_printed (added_items entry.now)) }
-    ensures grows { Grows out.old.items out.new.items }
+    ensures { AppendsItems result out.old (added_items entry.now) out.new }
 {
     append_two(&entry.path, &entry.parent, out)?;
     append_string(entry.token.as_slice(), out)?;
@@ -223,9 +201,7 @@ fn append_added_params(entry: &AddedEntry, out: &mut Vec<u8>) -> Result<(), Allo
 
 /// Appends `( name ( path parent token [ copy-path copy-rev ] ) )`.
 fn append_added(name: &[u8], entry: &AddedEntry, out: &mut Vec<u8>) -> Result<(), AllocError>
-    ensures ok { OnOk result (out.new.items ≡ out.old.items
-        ++ printed (command name.now (added_items entry.now))) }
-    ensures grows { Grows out.old.items out.new.items }
+    ensures { AppendsItem result out.old (command name.now (added_items entry.now)) out.new }
 {
     append_name(name, out)?;
     append_added_params(entry, out)?;
@@ -234,9 +210,7 @@ fn append_added(name: &[u8], entry: &AddedEntry, out: &mut Vec<u8>) -> Result<()
 
 /// Appends `path parent token [ rev ]`.
 fn append_opened_params(entry: &OpenedEntry, out: &mut Vec<u8>) -> Result<(), AllocError>
-    ensures ok { OnOk result (out.new.items ≡ out.old.items
-        ++ row_printed (opened_items entry.now)) }
-    ensures grows { Grows out.old.items out.new.items }
+    ensures { AppendsItems result out.old (opened_items entry.now) out.new }
 {
     append_two(&entry.path, &entry.parent, out)?;
     append_string(entry.token.as_slice(), out)?;
@@ -245,9 +219,7 @@ fn append_opened_params(entry: &OpenedEntry, out: &mut Vec<u8>) -> Result<(), Al
 
 /// Appends `( name ( path parent token [ rev ] ) )`.
 fn append_opened(name: &[u8], entry: &OpenedEntry, out: &mut Vec<u8>) -> Result<(), AllocError>
-    ensures ok { OnOk result (out.new.items ≡ out.old.items
-        ++ printed (command name.now (opened_items entry.now))) }
-    ensures grows { Grows out.old.items out.new.items }
+    ensures { AppendsItem result out.old (command name.now (opened_items entry.now)) out.new }
 {
     append_name(name, out)?;
     append_opened_params(entry, out)?;
@@ -256,9 +228,7 @@ fn append_opened(name: &[u8], entry: &OpenedEntry, out: &mut Vec<u8>) -> Result<
 
 /// Appends `( name ( path parent ) )`.
 fn append_absent(name: &[u8], entry: &AbsentEntry, out: &mut Vec<u8>) -> Result<(), AllocError>
-    ensures ok { OnOk result (out.new.items ≡ out.old.items
-        ++ printed (command name.now (absent_items entry.now))) }
-    ensures grows { Grows out.old.items out.new.items }
+    ensures { AppendsItem result out.old (command name.now (absent_items entry.now)) out.new }
 {
     append_name(name, out)?;
     append_two(&entry.path, &entry.parent, out)?;
@@ -267,9 +237,7 @@ fn append_absent(name: &[u8], entry: &AbsentEntry, out: &mut Vec<u8>) -> Result<
 
 /// Appends `token name [ value ]`.
 fn append_property_params(change: &PropertyChange, out: &mut Vec<u8>) -> Result<(), AllocError>
-    ensures ok { OnOk result (out.new.items ≡ out.old.items
-        ++ row_printed (property_items change.now)) }
-    ensures grows { Grows out.old.items out.new.items }
+    ensures { AppendsItems result out.old (property_items change.now) out.new }
 {
     append_two(&change.token, &change.name, out)?;
     append_optional(&change.value, out)
@@ -281,9 +249,8 @@ fn append_property(
     change: &PropertyChange,
     out: &mut Vec<u8>,
 ) -> Result<(), AllocError>
-    ensures ok { OnOk result (out.new.items ≡ out.old.items
-        ++ printed (command name.now (property_items change.now))) }
-    ensures grows { Grows out.old.items out.new.items }
+    ensures { AppendsItem result out.old
+        (command name.now (property_items change.now)) out.new }
 {
     append_name(name, out)?;
     append_property_params(change, out)?;
@@ -296,9 +263,7 @@ fn append_checksum_params(
     checksum: &Option<ByteString>,
     out: &mut Vec<u8>,
 ) -> Result<(), AllocError>
-    ensures ok { OnOk result (out.new.items ≡ out.old.items
-        ++ row_printed (checksum_items token.now checksum.now)) }
-    ensures grows { Grows out.old.items out.new.items }
+    ensures { AppendsItems result out.old (checksum_items token.now checksum.now) out.new }
 {
     append_string(token.as_slice(), out)?;
     append_optional(checksum, out)
@@ -311,9 +276,8 @@ fn append_checksum(
     checksum: &Option<ByteString>,
     out: &mut Vec<u8>,
 ) -> Result<(), AllocError>
-    ensures ok { OnOk result (out.new.items ≡ out.old.items ++ printed (command name.now
-        (checksum_items token.now checksum.now))) }
-    ensures grows { Grows out.old.items out.new.items }
+    ensures { AppendsItem result out.old
+        (command name.now (checksum_items token.now checksum.now)) out.new }
 {
     append_name(name, out)?;
     append_checksum_params(token, checksum, out)?;
@@ -327,9 +291,8 @@ fn append_chunk(
     bytes: &ByteString,
     out: &mut Vec<u8>,
 ) -> Result<(), AllocError>
-    ensures ok { OnOk result (out.new.items ≡ out.old.items ++ printed (command name.now
-        (both (string token.now) (string bytes.now)))) }
-    ensures grows { Grows out.old.items out.new.items }
+    ensures { AppendsItem result out.old
+        (command name.now (both (string token.now) (string bytes.now))) out.new }
 {
     append_name(name, out)?;
     append_two(token, bytes, out)?;
@@ -338,9 +301,7 @@ fn append_chunk(
 
 /// Appends `( name ( token ) )`.
 fn append_token(name: &[u8], token: &ByteString, out: &mut Vec<u8>) -> Result<(), AllocError>
-    ensures ok { OnOk result (out.new.items ≡ out.old.items
-        ++ printed (command name.now (only (string token.now)))) }
-    ensures grows { Grows out.old.items out.new.items }
+    ensures { AppendsItem result out.old (command name.now (only (string token.now))) out.new }
 {
     append_name(name, out)?;
     append_string(token.as_slice(), out)?;

@@ -1,6 +1,6 @@
 //! Replies, as items and as bytes.
 ghost use Rattle.std.specs.Prelude.{◌≡◌, ◌++◌, IfOk, IsOkAnd, OnOk, OnErr, codes};
-ghost use Rattle.items.specs.{Print.{Grows, printed}, Values.{both, list, more, none, only, string, word}, View.{value_of, values_of}};
+ghost use Rattle.items.specs.{Print.{AppendsItem, WritesItem, printed}, Values.{both, list, more, none, only, string, word}, View.{value_of, values_of}};
 ghost use Rattle.wire_replies.specs.Replies.{reply_item, success, failure, mechanism_trees, capabilities, uuid_text, commit_info, release_fault};
 
 use crate::build::{list_item, number_item, optional_string_item, string_item, word_item};
@@ -88,8 +88,7 @@ pub enum Reply {
 impl Reply {
     /// Writes the reply at the end. An `Err` changes nothing.
     pub fn write(&self, alloc: Global, out: &mut Vec<u8>) -> Result<(), AllocError>
-        ensures ok { OnOk result (out.new.items ≡ out.old.items ++ printed (reply_item self.now)) }
-        ensures err { OnErr result (out.new.items ≡ out.old.items) }
+        ensures { WritesItem result out.old (reply_item self.now) out.new }
     {
         match self {
             Reply::Greeting => out.extend_from_slice(
@@ -157,9 +156,7 @@ fn write_made(made: Result<Item, AllocError>, out: &mut Vec<u8>) -> Result<(), A
 
 /// Writes the number of a revision at the end. An `Err` changes nothing.
 fn write_revision(n: u64, out: &mut Vec<u8>) -> Result<(), AllocError>
-    ensures ok { OnOk result (out.new.items ≡ out.old.items
-        ++ printed (reply_item (Reply.Revision n))) }
-    ensures err { OnErr result (out.new.items ≡ out.old.items) }
+    ensures { WritesItem result out.old (reply_item (Reply.Revision n)) out.new }
 {
     let len = out.len();
     let written = append_revision(n, out);
@@ -171,9 +168,7 @@ fn write_revision(n: u64, out: &mut Vec<u8>) -> Result<(), AllocError>
 
 // An `Err` leaves a part of the bytes behind the old ones.
 fn append_revision(n: u64, out: &mut Vec<u8>) -> Result<(), AllocError>
-    ensures ok { OnOk result (out.new.items ≡ out.old.items
-        ++ printed (reply_item (Reply.Revision n))) }
-    ensures grows { Grows out.old.items out.new.items }
+    ensures { AppendsItem result out.old (reply_item (Reply.Revision n)) out.new }
 {
     let mut buffer = itoa::Buffer::new();
     out.extend_from_slice(b"( success ( ")?;
@@ -183,8 +178,7 @@ fn append_revision(n: u64, out: &mut Vec<u8>) -> Result<(), AllocError>
 
 /// Writes a string at the end. An `Err` changes nothing.
 fn write_string(text: &[u8], out: &mut Vec<u8>) -> Result<(), AllocError>
-    ensures ok { OnOk result (out.new.items ≡ out.old.items ++ printed (string text.now)) }
-    ensures err { OnErr result (out.new.items ≡ out.old.items) }
+    ensures { WritesItem result out.old (string text.now) out.new }
 {
     let len = out.len();
     let written = append_string(text, out);
@@ -196,9 +190,7 @@ fn write_string(text: &[u8], out: &mut Vec<u8>) -> Result<(), AllocError>
 
 /// Writes what stands at a path at the end. An `Err` changes nothing.
 fn write_kind(kind: NodeKind, out: &mut Vec<u8>) -> Result<(), AllocError>
-    ensures ok { OnOk result (out.new.items ≡ out.old.items
-        ++ printed (reply_item (Reply.Kind kind))) }
-    ensures err { OnErr result (out.new.items ≡ out.old.items) }
+    ensures { WritesItem result out.old (reply_item (Reply.Kind kind)) out.new }
 {
     match kind {
         NodeKind::Absent => out.extend_from_slice(b"( success ( none ) ) "),

@@ -13,7 +13,7 @@ returns-then-is_surely_placed g t c =
     let few : c.loop-place.count ≤ length gs = let le = kept.0 in let all = c.requires.count in omega (le, all, arith) in
     let last = subst (λ o. IsLastAbove c.args.path.now gs c.loop-place.count o) c.in-Some.is c.in_ok-place.ensures in
     let is = subst (λ xs. graft ≡ get_or xs c.in-Some.place graft) c.as_slice.ensures c.index-as_slice-place.is in
-    shows_both trees c.args.top.now gs c.args.first.count c.args.path.now (Some graft)
+    shows_both (g.R.Repository.content c.args.view.now) c.args.top.now gs c.args.first.count c.args.path.now (Some graft)
     (surely_at trees c.args.top.now gs c.args.first.count c.args.path.now c.loop-place.count kept.1 few c.in-Some.place graft last is c.requires.trees (sym c.is_surely_placed.ensures ∙ c.if-is_surely_placed.true))
 
 pub returns-then-branch : goal.returns-then-branch
@@ -26,7 +26,7 @@ returns-then-branch g t c =
     let last = subst (λ o. IsLastAbove c.args.path.now gs c.loop-place.count o) c.in-Some.is c.in_ok-place.ensures in
     let is = subst (λ xs. graft ≡ get_or xs c.in-Some.place graft) c.as_slice.ensures c.index-as_slice-place.is in
     let had = reported trees c.args.top.now (take c.in-Some.place gs) in
-    shows_both trees c.args.top.now gs c.args.first.count c.args.path.now (Some graft)
+    shows_both (g.R.Repository.content c.args.view.now) c.args.top.now gs c.args.first.count c.args.path.now (Some graft)
     (placed_at trees c.args.top.now gs c.args.first.count c.args.path.now c.loop-place.count kept.1 few c.in-Some.place graft last is
     (placed_in c.args.top.now had graft
     (held_by trees c.args.top.now (take c.in-Some.place gs) graft _ _ _ c.in_ok-above.ensures c.in_ok-holder.ensures.here c.in_ok-shows_directory.ensures ∙ c.if-branch.true)))
@@ -53,6 +53,6 @@ returns g t c =
     let gs = c.args.first.grafts.now in
     let kept = c.loop-place.invariant in
     let few : c.loop-place.count ≤ length gs = let le = kept.0 in let all = c.requires.count in omega (le, all, arith) in
-    shows_both trees c.args.top.now gs c.args.first.count c.args.path.now None
+    shows_both (g.R.Repository.content c.args.view.now) c.args.top.now gs c.args.first.count c.args.path.now None
     (none_at trees c.args.top.now gs c.args.first.count c.args.path.now c.loop-place.count kept.1 few
     (subst (λ o. IsLastAbove c.args.path.now gs c.loop-place.count o) c.in_default.is c.in_ok-place.ensures))

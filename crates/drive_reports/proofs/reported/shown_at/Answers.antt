@@ -2,11 +2,12 @@ use Rattle.std.proofs.{Common.{rules, arith, ◌≡◌, true, Some, length, drop
 use Rattle.std.specs.Prelude.{is_some}
 use Rattle.repo_api.specs.States.{trees_in}
 use Rattle.drive_reports.specs.Reported.{shown_by}
-use Rattle.drive_reports.proofs.Parts.{shown_part, place_is}
+use Rattle.drive_reports.proofs.Parts.{shown_part, shown_placed, place_is}
 use Rattle.drive_reports.proofs.reported.shown_at.Goals as goal
 
-pub returns-clause-part : goal.returns-clause-part
-returns-clause-part g c =
+pub returns : goal.returns
+returns g c =
     let some : is_some (shown_by (trees_in (g.R.Repository.content c.args.view.now).revisions) c.args.path.now (Some c.args.graft.now)) ≡ true = search rules in
-    λ rest. shown_part (trees_in (g.R.Repository.content c.args.view.now).revisions) c.args.graft.now _ c.args.path.now rest c.in-Some.is some
-    ∙ place_is (trees_in (g.R.Repository.content c.args.view.now).revisions) c.place_in.result _ _ rest (c.place_in.ensures.path ∙ c.in_ok-from.ensures) (c.place_in.ensures.part (drop (length c.args.graft.now.path) c.args.path.now) (omega (arith, length-drop (length c.args.graft.now.path) c.args.path.now)))
+    shown_placed (g.R.Repository.content c.args.view.now) c.args.graft.now c.args.path.now c.place_in.result some (λ rest.
+    shown_part (trees_in (g.R.Repository.content c.args.view.now).revisions) c.args.graft.now _ c.args.path.now rest c.in-Some.is some
+    ∙ place_is (trees_in (g.R.Repository.content c.args.view.now).revisions) c.place_in.result _ _ rest (c.place_in.ensures.path ∙ c.in_ok-from.ensures) (c.place_in.ensures.part (drop (length c.args.graft.now.path) c.args.path.now) (omega (arith, length-drop (length c.args.graft.now.path) c.args.path.now))))

@@ -1,10 +1,9 @@
-use Rattle.std.proofs.Common.{◌≡◌, true, [], sym, ◌∙◌, subst}
+use Rattle.std.proofs.{Common.{[], sym, ◌∙◌, subst}, lemmas.Result.IfOk-weaker}
 use Rattle.svnpath.specs.Paths.{PathValue}
-use Rattle.drive_rules.specs.Places.{is_in_directory}
-use Rattle.reporter.specs.{Nesting.AreNested, Walks.BothHold}
+use Rattle.reporter.specs.Left.{IsTopPlan}
 use Rattle.drive_reports.specs.Targets.{old_tree, new_tree}
-use Rattle.drive_sides.specs.Plans.{whole}
-use Rattle.drive_sides.proofs.{Listing.if_ok_both, Planned.{IsRightFor, directory_of, root_old, root_new, root_plan, target_plan, not_root}}
+use Rattle.drive_sides.specs.Plans.{drive_trees, whole}
+use Rattle.drive_sides.proofs.Planned.{directory_of, root_old, root_new, root_plan, target_plan, not_root}
 use Rattle.drive_sides.proofs.planning.visitor.Goals as goal
 
 pub of_root-requires : goal.of_root-requires
@@ -15,10 +14,9 @@ of_root-requires g c = record {
 
 pub returns-then-is_root : goal.returns-then-is_root
 returns-then-is_root g c =
-    if_ok_both (λ v right nests. λ visits left. root_plan (g.R.Repository.content c.args.trees.now.view.now) (whole c.args.trees.now.report.now c.args.trees.now.root) visits c.requires.trees (sym c.as_path-top.ensures.path ∙ c.is_root.ensures.0 c.if-is_root.true) (right visits left) (nests visits left)) c.of_root.result c.of_root.ensures.right c.of_root.ensures.nests
+    IfOk-weaker c.of_root.result _ _ (λ v plan. λ visits left. root_plan (g.R.Repository.content c.args.trees.now.view.now) (whole c.args.trees.now.report.now c.args.trees.now.root) visits c.requires.trees (sym c.as_path-top.ensures.path ∙ c.is_root.ensures.0 c.if-is_root.true) (plan visits left)) c.of_root.ensures
 
 pub returns-else-is_root : goal.returns-else-is_root
 returns-else-is_root g c =
-    if_ok_both (λ v right nests. λ visits left. target_plan (g.R.Repository.content c.args.trees.now.view.now) (whole c.args.trees.now.report.now c.args.trees.now.root) visits c.requires.trees (not_root c.args.trees.now.report.now.ask.target c.is_root.result (λ is. c.is_root.ensures.1 (c.as_path-top.ensures.path ∙ is)) c.if-is_root.false)
-    (subst (λ (t : PathValue). BothHold (old_tree (g.R.Repository.content c.args.trees.now.view.now) (whole c.args.trees.now.report.now c.args.trees.now.root)) (new_tree (g.R.Repository.content c.args.trees.now.view.now) (whole c.args.trees.now.report.now c.args.trees.now.root)) t → IsRightFor (g.R.Repository.content c.args.trees.now.view.now) (whole c.args.trees.now.report.now c.args.trees.now.root) t visits) c.as_path-top.ensures.path (right visits left))
-    (subst (λ (t : PathValue). (d : PathValue) → is_in_directory t d t ≡ true → AreNested (new_tree (g.R.Repository.content c.args.trees.now.view.now) (whole c.args.trees.now.report.now c.args.trees.now.root)) t d visits) c.as_path-top.ensures.path (nests visits left))) c.of_top.result c.of_top.ensures.right c.of_top.ensures.nests
+    IfOk-weaker c.of_top.result _ _ (λ v plan. λ visits left. target_plan (g.R.Repository.content c.args.trees.now.view.now) (whole c.args.trees.now.report.now c.args.trees.now.root) visits c.requires.trees (not_root c.args.trees.now.report.now.ask.target c.is_root.result (λ is. c.is_root.ensures.1 (c.as_path-top.ensures.path ∙ is)) c.if-is_root.false)
+    (subst (λ (t : PathValue). IsTopPlan (drive_trees (g.R.Repository.content c.args.trees.now.view.now) (whole c.args.trees.now.report.now c.args.trees.now.root)) t visits) c.as_path-top.ensures.path (plan visits left))) c.of_top.ensures

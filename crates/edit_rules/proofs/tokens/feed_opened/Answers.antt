@@ -1,4 +1,7 @@
+use Rattle.edit_rules.proofs.Kept.{file_reads}
 use Rattle.edit_rules.proofs.tokens.feed_opened.Goals as goal
 
-pub returns-in-File-clause-judged : goal.returns-in-File-clause-judged
-returns-in-File-clause-judged c = rw c.in-File.is (c.feed.ensures.judged c.in-File.field-0)
+pub returns-in-File : goal.returns-in-File
+returns-in-File c =
+    let p = c.in-File.field-0 in
+    rw c.in-File.is (file_reads c.feed.result c.args.bytes.now p _ c.feed.new.delta (c.feed.ensures.judged p) c.feed.ensures.ok c.feed.ensures.err)

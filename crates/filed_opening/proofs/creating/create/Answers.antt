@@ -21,12 +21,12 @@ returns-clause-stop g c = λ honest stands.
     let s = g.S.Store in
     let made = c.in_ok-filed.ensures in
     let o = c.opening.result in
-    weaker s.is_honest s.holds s.may_leave s.moment s.left_since c.args.store.now c.create.new.store
+    weaker s c.args.store.now c.create.new.store
     (IsFreeOrHas (opening_files o None))
     (λ f. ∥ IsFreeOrNew c.args.uuid c.args.moment f ∥₁)
     (λ f is. ∣ free_or_new c.args.uuid c.args.moment c.in_ok-filed.filed c.in_ok-filed.files o
     made.content made.files c.opening.ensures f is ∣₁)
-    (c.create.ensures.stop None honest stands (ap (λ (fs : Files). count_in fs.current) c.opening.ensures ∙ made.count))
+    ((c.create.ensures.creates None honest stands).stop (ap (λ (fs : Files). count_in fs.current) c.opening.ensures ∙ made.count))
 
 pub returns-clause-kept : goal.returns-clause-kept
 returns-clause-kept g c = λ honest stands.
@@ -38,4 +38,7 @@ returns-clause-kept g c = λ honest stands.
       read = ∣ new _ kept.read ∣₁;
       left = λ f leaves. ∣ new f (kept.left f leaves) ∣₁;
     })
-    (c.create.ensures.kept None honest stands (ap (λ (fs : Files). count_in fs.current) c.opening.ensures ∙ made.count))
+    ((c.create.ensures.creates None honest stands).kept (ap (λ (fs : Files). count_in fs.current) c.opening.ensures ∙ made.count))
+
+pub returns-clause-again : goal.returns-clause-again
+returns-clause-again g c = λ locks honest stands. (c.create.ensures.creates locks honest stands).again

@@ -1,14 +1,8 @@
 use Rattle.hub.proofs.calls.add_call.Goals as goal
 use Rattle.hub.proofs.calls.add_call.Goals.{in-Ok, in-Err}
 
-pub returns-clause-ok : goal.returns-clause-ok
-returns-clause-ok g c = elim c.match-push.branch [
+pub returns : goal.returns
+returns g c = elim c.match-push.branch [
   | in-Ok w ↦ rw w.result-is (c.make_call.result, c.make_call.ensures, w.in-Ok.ensures.items)
-  | in-Err w ↦ rw w.result-is tt
-]
-
-pub returns-clause-err : goal.returns-clause-err
-returns-clause-err g c = elim c.match-push.branch [
-  | in-Ok w ↦ rw w.result-is tt
-  | in-Err w ↦ rw w.result-is (c.make_call.result, c.make_call.ensures)
+  | in-Err w ↦ rw w.result-is (c.make_call.result, c.make_call.ensures, tt)
 ]

@@ -3,4 +3,4 @@ use Rattle.hub.proofs.hub.greeting.Goals as goal
 
 pub returns : goal.returns
 returns c =
-    c.in_ok-write.ensures.ok ∙ ap (λ (xs : List ℕ). xs ++ _) c.new-out.ensures.items ∙ sym (append-nil _)
+    c.in_ok-write.ensures ∙ ap (λ (xs : List ℕ). xs ++ _) c.new-out.ensures.items ∙ sym (append-nil _)

@@ -11,7 +11,7 @@ append_list-loop-item-preserved t c =
     let item = c.item-item.result in
     let front = c.args.out.now.items ++ (40 ∷ 32 ∷ []) in
     let taken : take (i + 1) items ≡ take i items ++ (item ∷ []) = take_more items i item c.loop-item-test.true ∙ ap (λ x. take i items ++ (x ∷ [])) (sym c.item-item.is) in
-    let wrote = c.in_ok-append_item.ensures.ok
+    let wrote = c.in_ok-append_item.ensures.written
     ∙ ap (λ x. x ++ printed (value_of item)) c.loop-item.invariant.0
     ∙ append_assoc front (row_printed (values_of (take i items))) (printed (value_of item))
     ∙ ap (λ x. front ++ x) (sym (row_printed-snoc (take i items) item))

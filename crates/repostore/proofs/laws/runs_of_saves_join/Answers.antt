@@ -3,4 +3,4 @@ use Rattle.repostore.proofs.Joining.{join}
 use Rattle.repostore.proofs.laws.runs_of_saves_join.Goals as goal
 
 pub returns : goal.returns
-returns g c = λ start mid end before between behind a b. join g.S.Store.moment g.S.Store.left_since start mid end (HasEither before between) (HasEither between behind) a b
+returns g c = λ start mid end before between behind a b. join g.S.Store start mid end (HasEither before between) (HasEither between behind) a b

@@ -6,7 +6,7 @@ pub returns-in-Ok-clause-saved : goal.returns-in-Ok-clause-saved
 returns-in-Ok-clause-saved g c = λ honest rests files has.
     let s = g.S.Store in
     let old = s.holds c.args.store in
-    let reads = c.read_all.ensures.reads in
+    let reads = c.read_all.ensures.reads.0 in
     record {
       stands = record {
         honest = honest;

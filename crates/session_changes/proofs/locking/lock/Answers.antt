@@ -16,7 +16,7 @@ returns-in-Ok g c =
     stepped_is g.A.RepoAccess.rules (told_before c.args.preface)
     (LockAsked env client c.in-Ok.ask)
     (LockStep env client command (joined client.path command.path))
-    _ _ (lock_is env client command c.in-Ok.ask (joined client.path command.path) asked.path asked.date asked.ask)
+    _ _ (lock_is env client command c.in-Ok.ask (joined client.path command.path) asked.0 asked.1 asked.2.0 asked.2.1)
     c.ask_lock.result _ _ c.ask_lock.ensures
 
 pub returns-in_default : goal.returns-in_default
@@ -26,7 +26,7 @@ returns-in_default g c =
     let command = c.args.command.now in
     let now = g.A.RepoAccess.point c.args.access.now in
     let found = joined client.path command.path in
-    let is = fault_is found c.in-Err.fault c.in-Err.ensures.path c.in_default.not-NoMemory in
+    let is = fault_is found c.in-Err.fault c.in-Err.ensures c.in_default.not-NoMemory in
     let refused = rw c.path_refusal.ensures at c.refuse.ensures in
     let own = only_says {step = LockStep env client command found}
     (g.met.A.RepoAccess.stays now) (lock_refused env client command found c.in-Err.fault is now.halted (content_of now)) in

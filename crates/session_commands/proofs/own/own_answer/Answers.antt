@@ -18,8 +18,8 @@ returns-in-Drive g c =
     let now = content_of (g.A.RepoAccess.point c.begun_report-report.new.access) in
     let report = begun_report (drive_ask now c.args.options.now.name c.args.client.path c.in-Drive.command) in
     rw c.in-Drive.is
-    (opened _ _ (told_before c.args.request.preface) c.begun_report-report.ensures.later c.args.turn.now.env c.args.client report refl
-    _ c.begun_report-report.result c.open_report.result _ c.begun_report-report.ensures.ok c.open_report.ensures)
+    (opened _ _ (told_before c.args.request.preface) c.begun_report-report.ensures.0 c.args.turn.now.env c.args.client report refl
+    _ c.begun_report-report.result c.open_report.result _ c.begun_report-report.ensures.1 c.open_report.ensures)
 
 pub returns-in-Commit : goal.returns-in-Commit
 returns-in-Commit g c =

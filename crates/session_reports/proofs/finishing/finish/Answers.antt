@@ -7,8 +7,8 @@ use Rattle.session_reports.proofs.finishing.finish.Goals as goal
 
 pub returns-in-Ok : goal.returns-in-Ok
 returns-in-Ok g c =
-    let d = c.in-Ok.ensures.drive in
-    told_all (drives _ _ _ c.args.errand.report c.say_drive_now.ensures.later (g.met.A.RepoAccess.sound _ _ c.say_drive_now.ensures.later c.requires.trees).0
+    let d = c.in-Ok.ensures.1 in
+    told_all (drives _ _ _ c.args.errand.report c.say_drive_now.ensures.0 (g.met.A.RepoAccess.sound _ _ c.say_drive_now.ensures.0 c.requires.trees).0
     d.0 d.2.0 d.1 d.2.1) _ _ _ (record { phase_after = refl; env_after = refl; written = d.2.2 })
 
 pub returns-in-Err-Refused : goal.returns-in-Err-Refused
@@ -20,8 +20,8 @@ returns-in-Err-Refused g c =
     let rules = g.A.RepoAccess.rules in
     let p = g.A.RepoAccess.point c.args.access.now in
     let q = g.A.RepoAccess.point c.say_drive_now.new.access in
-    let later = c.say_drive_now.ensures.later in
-    let unanswered = rw c.in-Err-Refused.field-0-is at c.in-Err-Refused.ensures.drive in
+    let later = c.say_drive_now.ensures.0 in
+    let unanswered = rw c.in-Err-Refused.field-0-is at c.in-Err-Refused.ensures.1 in
     let step = Draws env client (EndStep report) in
     let a = drawn_answer env client (Fails r) in
     let is = fails rules env client report later (g.met.A.RepoAccess.sound p q later c.requires.trees).0 r unanswered.0 in
@@ -30,4 +30,4 @@ returns-in-Err-Refused g c =
 
 pub returns-in-Err-NoMemory : goal.returns-in-Err-NoMemory
 returns-in-Err-NoMemory g c =
-    lost _ _ _ c.args.errand.report c.say_drive_now.ensures.later (g.met.A.RepoAccess.sound _ _ c.say_drive_now.ensures.later c.requires.trees).0 _ (rw c.in-Err-NoMemory.field-0-is at c.in-Err-NoMemory.ensures.drive)
+    lost _ _ _ c.args.errand.report c.say_drive_now.ensures.0 (g.met.A.RepoAccess.sound _ _ c.say_drive_now.ensures.0 c.requires.trees).0 _ (rw c.in-Err-NoMemory.field-0-is at c.in-Err-NoMemory.ensures.1)

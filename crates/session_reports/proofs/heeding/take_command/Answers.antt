@@ -6,11 +6,11 @@ use Rattle.session_reports.proofs.heeding.take_command.Goals as goal
 
 pub returns-in-SetPath : goal.returns-in-SetPath
 returns-in-SetPath g c =
-    rw c.in-SetPath.is (untold _ _ _ _ c.args.turn.now.env _ _ c.set_path.ensures.later (GoesOn _, refl, refl) (g.met.S.ReplySink.nothing _) c.set_path.result c.set_path.ensures.next)
+    rw c.in-SetPath.is (untold _ _ _ _ c.args.turn.now.env _ _ c.set_path.ensures.0 (GoesOn _, refl, refl) (g.met.S.ReplySink.nothing _) c.set_path.result c.set_path.ensures.1)
 
 pub returns-in-LinkPath : goal.returns-in-LinkPath
 returns-in-LinkPath g c =
-    rw c.in-LinkPath.is (untold _ _ _ _ c.args.turn.now.env _ _ c.set_path-in-LinkPath.ensures.later (GoesOn _, refl, refl) (g.met.S.ReplySink.nothing _) c.set_path-in-LinkPath.result c.set_path-in-LinkPath.ensures.next)
+    rw c.in-LinkPath.is (untold _ _ _ _ c.args.turn.now.env _ _ c.set_path-in-LinkPath.ensures.0 (GoesOn _, refl, refl) (g.met.S.ReplySink.nothing _) c.set_path-in-LinkPath.result c.set_path-in-LinkPath.ensures.1)
 
 pub returns-in-DeletePath : goal.returns-in-DeletePath
 returns-in-DeletePath g c =

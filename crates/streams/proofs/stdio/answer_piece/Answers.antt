@@ -4,20 +4,20 @@ use Rattle.hub.proofs.Sinks.{breaks_as}
 use Rattle.conversations.proofs.Gathered.{all_written}
 use Rattle.streams.proofs.stdio.answer_piece.Goals as goal
 
-pub returns-in-Ok-fed-clause-ok : goal.returns-in-Ok-fed-clause-ok
-returns-in-Ok-fed-clause-ok g c =
+pub returns-in-Ok-fed : goal.returns-in-Ok-fed
+returns-in-Ok-fed g c =
     let contents = g.W.Write.contents in
     let t = c.feed_to-fed.new.turn.out in
     let u = c.finish-finished.new.self in
-    let feeds = c.in-Ok-fed.ensures.ok in
+    let feeds = c.in-Ok-fed.ensures in
     let name = c.finish-finished.ensures.same_reference ∙ feeds.2.0 in
     let gathered = (feeds.2.1 c.in-Ok.ensures.sound).1 in
     let landed : Appends (contents c.args.output.now) (contents u.output.now) feeds.0 =
     all_written (contents c.args.output.now) (contents t.output.now) (contents u.output.now) c.new-buffer.result.items t.buffer.items feeds.0 c.new-buffer.ensures.items gathered c.in-Ok.ensures.written in
     (feeds.0, feeds.1, search rules)
 
-pub returns-in-Ok-clause-stopped : goal.returns-in-Ok-clause-stopped
-returns-in-Ok-clause-stopped g c =
+pub returns-in-Ok : goal.returns-in-Ok
+returns-in-Ok g c =
     let contents = g.W.Write.contents in
     let t = c.feed_to-fed.new.turn.out in
     let u = c.finish-finished.new.self in
@@ -27,4 +27,4 @@ returns-in-Ok-clause-stopped g c =
     let gathered = (wrote.1 c.in-Ok.ensures.sound).1 in
     let landed : Appends (contents c.args.output.now) (contents u.output.now) bytes =
     all_written (contents c.args.output.now) (contents t.output.now) (contents u.output.now) c.new-buffer.result.items t.buffer.items bytes c.new-buffer.ensures.items gathered c.in-Ok.ensures.written in
-    search rules) c.in-Err-fed.fault c.in-Err-fed.ensures.err
+    search rules) c.in-Err-fed.fault c.in-Err-fed.ensures

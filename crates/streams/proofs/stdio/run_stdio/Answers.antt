@@ -3,7 +3,7 @@ use Rattle.std.specs.{Prelude.{IfOk, OnOk}, Io.KnownBytes.Appends}
 use Rattle.hub.specs.Calls.{ConnectsAs}
 use Rattle.streams.specs.Stream.{scene}
 use Rattle.conversations.proofs.Conversing.{was_ok}
-use Rattle.streams.proofs.Runs.{answered, then_serves, then_answers, then_fails}
+use Rattle.streams.proofs.Runs.{answered, then_served}
 use Rattle.streams.proofs.stdio.run_stdio.Goals as goal
 
 pub returns : goal.returns
@@ -20,8 +20,4 @@ returns g c =
     let written = subst (λ (xs : List ℕ). Appends (contents c.args.output.now) (contents c.write_and_flush.new.output) xs) c.as_slice.ensures.value ok in
     let all = answered g.E.EnvSource.gives n old greeted c.in_ok-number.greeting.items connects refl written refl in
     let new = scene c.serve_pieces.new.hub (remaining c.serve_pieces.new.input) (contents c.serve_pieces.new.output) c.serve_pieces.new.envs in
-    record {
-      served = then_serves g.E.EnvSource.gives n old greeted new all c.serve_pieces.result c.serve_pieces.ensures.heard c.serve_pieces.ensures.served;
-      answered = then_answers g.E.EnvSource.gives n old greeted new all c.serve_pieces.result c.serve_pieces.ensures.read;
-      stopped = then_fails g.E.EnvSource.gives n old greeted new all c.serve_pieces.result c.serve_pieces.ensures.stopped;
-    }
+    then_served g.E.EnvSource.gives n old greeted new all c.serve_pieces.result c.serve_pieces.ensures

@@ -4,8 +4,8 @@ use Rattle.repo_api.specs.declared.entry.Mark.TheVariants.{Made}
 use Rattle.noderevs.specs.{Heights.IsHeight, Held.node_at, Nodes.with_block}
 use Rattle.txntree.specs.{Spots.change_spot, Sealing.{IsSealing, first_of, with_sealed, kid_trees, SameBut}}
 use Rattle.txntree.proofs.{Entries.{named_put, named_gone, there_put, there_gone}, High.after_high, Walking.{is_spot, gone_spot}, Seals.sealed_gone}
-use Rattle.txntree.proofs.Seals.{sealed_put, begins, goes_on, first_here, first_gone, sorted_rest, after_grows, after_closed, after_there, after_ends}
-use Rattle.txntree.proofs.Seals.{after_under, under_put, under_none, others_put}
+use Rattle.txntree.proofs.Seals.{sealed_put, begins, goes_on, grown_then, first_here, first_gone, sorted_rest, after_grows, after_closed, after_there}
+use Rattle.txntree.proofs.Seals.{after_ends, after_under, under_put, under_none, others_put}
 use Rattle.txntree.proofs.open.+seal.Goals as goal
 
 pub Change::sealed-returns-in-Gone-clause-there : goal.Change::sealed-returns-in-Gone-clause-there
@@ -36,14 +36,14 @@ pub Change::sealed-returns-in_ok-id-in-Is-clause-there : goal.Change::sealed-ret
 Change::sealed-returns-in_ok-id-in-Is-clause-there t c = λ there.
     on_ok_weaker c.put.result
     (λ put. there_put (with_block (node_at c.args.nodes.now) c.args.rev c.args.block.now.items) (with_block (node_at c.args.nodes.now) c.args.rev c.sealed.new.block.items)
-    c.sealed.ensures.grows c.args.kids.now c.put.new.self c.args.name c.in_ok-id-in-Is.id c.in_ok-id-in-Is.ensures.there put there) c.put.ensures.ok
+    c.sealed.ensures.grown.grows c.args.kids.now c.put.new.self c.args.name c.in_ok-id-in-Is.id c.in_ok-id-in-Is.ensures.there put there) c.put.ensures.ok
 
 pub Change::sealed-returns-in_ok-id-in-Is-clause-ok : goal.Change::sealed-returns-in_ok-id-in-Is-clause-ok
 Change::sealed-returns-in_ok-id-in-Is-clause-ok t c = λ closed before block there.
     on_ok_weaker c.put.result
     (λ put. sealed_put (node_at c.args.nodes.now) c.args.rev c.args.block.now.items c.sealed.new.block.items c.args.path c.args.kids.now c.put.new.self c.args.name c.args.self.now c.in-Is.node c.in_ok-id-in-Is.id
     (ap change_spot c.in-Is.is ∙ is_spot c.in-Is.node) (named_put c.args.kids.now c.put.new.self c.args.name c.in_ok-id-in-Is.id put)
-    c.sealed.ensures.grows block there (c.in_ok-id-in-Is.ensures.ok closed before block)) c.put.ensures.ok
+    c.sealed.ensures.grown.grows block there (c.in_ok-id-in-Is.ensures.ok closed before block)) c.put.ensures.ok
 
 pub Change::sealed-returns-in_ok-id-in-Is-clause-under : goal.Change::sealed-returns-in_ok-id-in-Is-clause-under
 Change::sealed-returns-in_ok-id-in-Is-clause-under t c = λ closed before block.
@@ -79,21 +79,27 @@ OpenNode::sealed-loop-name-preserved t c =
           (subst (λ es. IsSealing look c.args.rev c.args.path c.args.self.now c.args.block.now.items c.loop-name.block.items (first_of es) c.loop-name.kids) turn c.loop-name.invariant.1)
           (first_here name change c.next.new.self) (first_gone name change c.next.new.self sorted)
           (c.in_ok-below.ensures ∙ ap (λ k. c.args.path ++ k ∷ []) c.in_ok-clone.ensures.cases)
-          c.sealed.ensures.grows c.sealed.ensures.closed c.sealed.ensures.high c.in_ok-sealed.ensures.there
+          c.sealed.ensures.grown c.in_ok-sealed.ensures.there
           (λ closed before block there n q. c.in_ok-sealed.ensures.ok closed before block there n q
           ∙ ap (λ k. with_sealed look c.args.rev c.in_ok-below.below k change (kid_trees (with_block look c.args.rev c.loop-name.block.items) c.loop-name.kids) n q) c.in_ok-clone-2.ensures.cases)
           c.in_ok-sealed.ensures.under
           (subst (λ k. SameBut k c.loop-name.kids c.sealed.new.kids) c.in_ok-clone-2.ensures.cases c.in_ok-sealed.ensures.others),
     )
 
-pub OpenNode::sealed-returns-clause-grows : goal.OpenNode::sealed-returns-clause-grows
-OpenNode::sealed-returns-clause-grows t c =
-    after_grows c.append.result (node_at c.args.nodes.now) c.args.rev c.args.block.now.items c.loop-name.block.items c.append.new.block.items _ c.append.ensures.ok c.append.ensures.err c.loop-name.invariant.1.grows
-
-pub OpenNode::sealed-returns-clause-closed : goal.OpenNode::sealed-returns-clause-closed
-OpenNode::sealed-returns-clause-closed t c = λ closed before block.
-    after_closed c.append.result (node_at c.args.nodes.now) c.args.rev c.loop-name.block.items c.append.new.block.items _ c.append.ensures.ok c.append.ensures.err
-    (c.loop-name.invariant.1.closed closed before block) (c.loop-name.invariant.1.there closed before)
+pub OpenNode::sealed-returns-clause-grown : goal.OpenNode::sealed-returns-clause-grown
+OpenNode::sealed-returns-clause-grown t c =
+    let look = node_at c.args.nodes.now in
+    let so = c.loop-name.invariant.1 in record {
+      grows = after_grows c.append.result look c.args.rev c.args.block.now.items c.loop-name.block.items c.append.new.block.items _ c.append.ensures.ok c.append.ensures.err so.grown.grows;
+      closed = λ closed before block.
+          after_closed c.append.result look c.args.rev c.loop-name.block.items c.append.new.block.items _ c.append.ensures.ok c.append.ensures.err
+          (so.grown.closed closed before block) (so.there closed before);
+      high = λ closed before block high.
+          after_high c.append.result look c.args.rev c.loop-name.block.items c.append.new.block.items _ c.append.ensures.ok c.append.ensures.err
+          (so.grown.closed closed before block) (so.there closed before)
+          (subst (λ b. IsHeight (with_block look c.args.rev b) c.loop-name.kids c.in_ok-height.height) c.deref.ensures.value c.in_ok-height.ensures)
+          (so.grown.high closed before block high);
+    }
 
 pub OpenNode::sealed-returns-clause-there : goal.OpenNode::sealed-returns-clause-there
 OpenNode::sealed-returns-clause-there t c =
@@ -113,13 +119,6 @@ OpenNode::sealed-returns-clause-under t c = λ closed before block.
     after_under c.append.result (node_at c.args.nodes.now) c.args.rev c.args.path c.args.self.now c.args.block.now.items c.loop-name.block.items c.append.new.block.items
     (first_of c.loop-name.name-iterator) c.loop-name.kids _ c.append.ensures.ok c.append.ensures.id c.loop-name.invariant.1 refl closed before block
 
-pub OpenNode::sealed-returns-clause-high : goal.OpenNode::sealed-returns-clause-high
-OpenNode::sealed-returns-clause-high t c = λ closed before block high.
-    after_high c.append.result (node_at c.args.nodes.now) c.args.rev c.loop-name.block.items c.append.new.block.items _ c.append.ensures.ok c.append.ensures.err
-    (c.loop-name.invariant.1.closed closed before block) (c.loop-name.invariant.1.there closed before)
-    (subst (λ b. IsHeight (with_block (node_at c.args.nodes.now) c.args.rev b) c.loop-name.kids c.in_ok-height.height) c.deref.ensures.value c.in_ok-height.ensures)
-    (c.loop-name.invariant.1.high closed before block high)
-
-pub OpenNode::sealed-returns-in_err-sealed-clause-high : goal.OpenNode::sealed-returns-in_err-sealed-clause-high
-OpenNode::sealed-returns-in_err-sealed-clause-high t c = λ closed before block high.
-    c.sealed.ensures.high closed before (c.loop-name.invariant.1.closed closed before block) (c.loop-name.invariant.1.high closed before block high)
+pub OpenNode::sealed-returns-in_err-sealed-clause-grown : goal.OpenNode::sealed-returns-in_err-sealed-clause-grown
+OpenNode::sealed-returns-in_err-sealed-clause-grown t c =
+    grown_then (node_at c.args.nodes.now) c.args.rev c.args.block.now.items c.loop-name.block.items c.sealed.new.block.items c.loop-name.invariant.1.grown c.sealed.ensures.grown

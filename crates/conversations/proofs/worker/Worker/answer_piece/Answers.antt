@@ -4,8 +4,8 @@ use Rattle.wire_replies.specs.Replies.{print}
 use Rattle.conversations.proofs.Gathered.{all_written}
 use Rattle.conversations.proofs.worker.Worker.answer_piece.Goals as goal
 
-pub returns-in-Ok-fed-clause-ok : goal.returns-in-Ok-fed-clause-ok
-returns-in-Ok-fed-clause-ok g c =
+pub returns-in-Ok-fed-clause-fed : goal.returns-in-Ok-fed-clause-fed
+returns-in-Ok-fed-clause-fed g c =
     let contents = g.O.Write.contents in
     let t = c.feed-fed.new.turn.out in
     let u = c.finish-finished.new.self in
@@ -24,8 +24,8 @@ returns-in-Ok-fed-clause-ok g c =
       written = search rules;
     }
 
-pub returns-in-Ok-clause-lost : goal.returns-in-Ok-clause-lost
-returns-in-Ok-clause-lost g c =
+pub returns-in-Ok-clause-fed : goal.returns-in-Ok-clause-fed
+returns-in-Ok-clause-fed g c =
     let contents = g.O.Write.contents in
     let t = c.feed-fed.new.turn.out in
     let u = c.finish-finished.new.self in

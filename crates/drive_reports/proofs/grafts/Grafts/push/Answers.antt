@@ -1,8 +1,7 @@
-use Rattle.std.proofs.{Common.{arith, ◌≡◌, ◌-◌, ◌++◌, ◌∷◌, [], ◌||◌, length, take, Some, ap, sym, subst, ◌∙◌}, Math.Seq.take-append_seam}
-use Rattle.std.proofs.{lemmas.List.length_push, lemmas.List.Elements.{All-nil, All-cons, All-append}, lemmas.List.Folds.list_any-append}
-use Rattle.std.specs.{Prelude.{if◌then◌else◌, vec_len}, List.list_any}
-use Rattle.svnpath.specs.Paths.{PathValue, same_path}
-use Rattle.drive_reports.specs.{Depths.is_shallow, Finding.{AreFound, place_of}, Named.{AreNamed, IsNamed}, declared.graft.Graft.Graft}
+use Rattle.std.proofs.{Common.{arith, ◌≡◌, ◌-◌, ◌++◌, ◌∷◌, [], ◌||◌, length, take, ap, sym, subst, ◌∙◌}, Math.Seq.take-append_seam, lemmas.List.length_push}
+use Rattle.std.proofs.{lemmas.List.Elements.{All-nil, All-cons, All-append}, lemmas.List.Folds.list_any-append}
+use Rattle.std.specs.{Prelude.vec_len, List.list_any}
+use Rattle.drive_reports.specs.{Depths.is_shallow, Finding.{AreFound, IsNoted}, Named.{AreNamed, IsNamed}, declared.graft.Graft.Graft}
 use Rattle.drive_reports.proofs.Finding.{found_more, or_nothing}
 use Rattle.drive_reports.proofs.grafts.Grafts.push.Goals as goal
 
@@ -24,15 +23,9 @@ invariant_of-self-in-Ok c =
     let named =
     All-append (λ (g : Graft). IsNamed g.path) gs (graft ∷ []) c.self.invariant.0
     (All-cons (λ (g : Graft). IsNamed g.path) graft [] c.requires (All-nil (λ (g : Graft). IsNamed g.path))) in
-    let put =
-    subst
-    (λ (p : PathValue). (q : PathValue) → place_of new.newest.entries q
-    ≡ (if same_path p q then Some (length old.older.items) else place_of old.newest.entries q))
-    at c.in-Ok.ensures.newest in
-    let pushed =
-    subst (λ (p : PathValue). new.older.items ≡ old.older.items ++ place_of old.newest.entries p ∷ []) at c.in-Ok.ensures.older in
+    let noted = subst (λ p. IsNoted p old new) at c.in-Ok.ensures.ok in
     let found =
-    found_more gs graft old.newest.entries new.newest.entries old.older.items new.older.items c.self.invariant.1 put pushed in
+    found_more gs graft old.newest.entries new.newest.entries old.older.items new.older.items c.self.invariant.1 noted.newest noted.older in
     let shallow : c.has_shallow_too-has_shallow.result ≡ list_any is_shallow (gs ++ graft ∷ []) =
     c.has_shallow_too-has_shallow.ensures
     ∙ ap (λ b. b || is_shallow graft) c.self.invariant.2

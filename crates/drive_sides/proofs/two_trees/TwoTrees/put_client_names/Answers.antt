@@ -12,6 +12,6 @@ returns-in-Some-clause-keeps g c =
 
 pub returns-in-Some-clause-adds : goal.returns-in-Some-clause-adds
 returns-in-Some-clause-adds g c =
-    let beneath = rw c.in-Some.is at c.in_ok-client_place.ensures.beneath in
+    let beneath = (rw c.in-Some.is at c.in_ok-client_place.ensures).beneath in
     on_ok (λ puts x free here there. puts x ∙ or_right (is_name_among c.args.names.now.keys x) (is_name_among (names_at (g.R.Repository.content c.args.self.now.view.now) c.in-Some.place.revision c.in-Some.place.path) x)
     (among_place (g.R.Repository.content c.args.self.now.view.now) c.in-Some.place (client_tree (g.R.Repository.content c.args.self.now.view.now) (whole c.args.self.now.report.now c.args.self.now.root) (c.args.path.now ++ x ∷ [])) x (beneath (x ∷ []) free) there)) c.put_names.result c.put_names.ensures

@@ -16,4 +16,4 @@ put_new-requires-clause-right g c =
     let is_op : c.new_edit.result ≡ added_edit c.args.is_file (standing e.txn c.args.path.now) c.args.path.now None =
     c.new_edit.ensures ∙ ap (λ (p : PathValue). added_edit c.args.is_file (standing e.txn p) p None) c.in_ok-added.ensures.cases in
     subst (λ (op : EditOp). IsRightIn (g.R.Repository.content c.args.repository.now) e.txn op) (sym is_op)
-    (c.edits_are_right.ensures.adds (g.R.Repository.content c.args.repository.now) e c.args.is_file c.args.entry.now c.args.path.now None c.requires.sound c.requires.named c.in_ok-judge_new.ensures)
+    (c.edits_are_right.ensures.adds (g.R.Repository.content c.args.repository.now) e c.args.is_file c.args.entry.now c.args.path.now None c.requires.sound.1 c.requires.named c.in_ok-judge_new.ensures)

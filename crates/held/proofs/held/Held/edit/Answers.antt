@@ -1,4 +1,4 @@
-use Rattle.std.proofs.{Common.{sym, ap, subst, ◌∙◌}, lemmas.Result.on_ok_weaker}
+use Rattle.std.proofs.{Common.{sym, ap, subst, ◌∙◌}, lemmas.Result.MatchResult-weaker}
 use Rattle.repo_api.specs.{Edits.edited, RightEdits.IsRightEdit}
 use Rattle.txntree.specs.Whole.{txn_tree}
 use Rattle.held.proofs.Seen.{trees_seen}
@@ -12,8 +12,11 @@ edit-requires c =
 
 pub returns-clause-ok : goal.returns-clause-ok
 returns-clause-ok c =
-    on_ok_weaker c.edit.result
-    (λ made q. made q
+    MatchResult-weaker c.edit.result c.edit.ensures.tree
+    (λ _ made q. made q
     ∙ ap (λ trees. edited trees (txn_tree c.args.self.now.nodes c.args.tree.now) c.args.op.now q)
     (sym (trees_seen c.args.self.now)))
-    c.edit.ensures.ok
+    (λ _ _. tt)
+
+pub returns-clause-err : goal.returns-clause-err
+returns-clause-err c = MatchResult-weaker c.edit.result c.edit.ensures.tree (λ _ _. tt) (λ _ kept. kept)

@@ -3,8 +3,8 @@ use Rattle.machine.specs.Stages.{SessionState}
 use Rattle.hub_runs.specs.State.{Finds, HubState, session_of}
 use Rattle.hub.proofs.hub.Hub.feed_to.Goals as goal
 
-pub returns-in_default-clause-err : goal.returns-in_default-clause-err
-returns-in_default-clause-err g c =
+pub returns-in_default : goal.returns-in_default
+returns-in_default g c =
     let none = subst (λ (xs : List (ℕ × SessionState)). session_of xs c.args.number ≡ None) c.deref.ensures.value c.in_default.ensures in
     let known = subst (λ (h : HubState). (h.halted ≡ false) × (session_of h.sessions c.args.number ≡ None)) c.self.view_is
     (sym c.is_halted.ensures ∙ c.if-is_halted.false, none) in

@@ -9,19 +9,14 @@ returns-clause-saved g c = λ files saved.
     let s = g.S.Store in
     let start = c.args.self.now.store in
     let new = c.publish.new.self.store in
-    let at = begun s.is_honest s.holds s.may_leave s.moment s.left_since start (HasFiles files) (λ f. g.met.S.Store.only_now start f) saved.stands in
-    ok_gives_both c.publish.result (λ written done. record {
-      stands = replaced s.is_honest s.holds s.may_leave s.moment s.left_since start start new Locks c.args.locks.now (HasFiles files) (HasFiles files) (HasFiles (with_locks files c.args.locks.now)) at
-          (c.publish.ensures.replaces saved.stands.honest) written (locks_are files c.args.locks.now);
-      count = c.publish.ensures.count ∙ saved.count;
-      goes_on = done ∙ saved.goes_on;
-    }) (c.publish.ensures.ok saved.stands.honest) c.publish.ensures.done
-
-pub returns-clause-any_moment : goal.returns-clause-any_moment
-returns-clause-any_moment g c = λ files saved.
-    let s = g.S.Store in
-    let start = c.args.self.now.store in
-    let new = c.publish.new.self.store in
-    let at = begun s.is_honest s.holds s.may_leave s.moment s.left_since start (HasFiles files) (λ f. g.met.S.Store.only_now start f) saved.stands in
-    swapped s.is_honest s.holds s.may_leave s.moment s.left_since start start new Locks c.args.locks.now (HasFiles files) (HasFiles files) (HasEither files (with_locks files c.args.locks.now)) at
-    (c.publish.ensures.replaces saved.stands.honest) (locks_may_be files c.args.locks.now) (λ f p. inl p)
+    let at = begun s start (HasFiles files) (λ f. g.met.S.Store.only_now start f) saved.stands in
+    record {
+      made = ok_gives_both c.publish.result (λ written done. record {
+        stands = replaced s start start new Locks c.args.locks.now (HasFiles files) (HasFiles files) (HasFiles (with_locks files c.args.locks.now)) at
+            (c.publish.ensures.replaces saved.stands.honest) written (locks_are files c.args.locks.now);
+        count = c.publish.ensures.count ∙ saved.count;
+        goes_on = done ∙ saved.goes_on;
+      }) (c.publish.ensures.ok saved.stands.honest) c.publish.ensures.done;
+      stop = swapped s start start new Locks c.args.locks.now (HasFiles files) (HasFiles files) (HasEither files (with_locks files c.args.locks.now)) at
+          (c.publish.ensures.replaces saved.stands.honest) (locks_may_be files c.args.locks.now) (λ f p. inl p);
+    }

@@ -10,20 +10,14 @@ returns-clause-saved g c = λ files saved there.
     let start = c.args.self.now.store in
     let new = c.publish.new.self.store in
     let lt : c.args.revision < length files.revisions = omega (arith, saved.count, there) in
-    let at = begun s.is_honest s.holds s.may_leave s.moment s.left_since start (HasFiles files) (λ f. g.met.S.Store.only_now start f) saved.stands in
-    ok_gives_both c.publish.result (λ written done. record {
-      stands = replaced s.is_honest s.holds s.may_leave s.moment s.left_since start start new (Properties c.args.revision) c.args.properties.now (HasFiles files) (HasFiles files) (HasFiles (with_properties files c.args.revision c.args.properties.now)) at
-          (c.publish.ensures.replaces saved.stands.honest) written (properties_are files c.args.revision c.args.properties.now lt);
-      count = c.publish.ensures.count ∙ saved.count ∙ sym (length-second files.revisions c.args.revision c.args.properties.now);
-      goes_on = done ∙ saved.goes_on;
-    }) (c.publish.ensures.ok saved.stands.honest) c.publish.ensures.done
-
-pub returns-clause-any_moment : goal.returns-clause-any_moment
-returns-clause-any_moment g c = λ files saved there.
-    let s = g.S.Store in
-    let start = c.args.self.now.store in
-    let new = c.publish.new.self.store in
-    let lt : c.args.revision < length files.revisions = omega (arith, saved.count, there) in
-    let at = begun s.is_honest s.holds s.may_leave s.moment s.left_since start (HasFiles files) (λ f. g.met.S.Store.only_now start f) saved.stands in
-    swapped s.is_honest s.holds s.may_leave s.moment s.left_since start start new (Properties c.args.revision) c.args.properties.now (HasFiles files) (HasFiles files) (HasEither files (with_properties files c.args.revision c.args.properties.now)) at
-    (c.publish.ensures.replaces saved.stands.honest) (properties_may_be files c.args.revision c.args.properties.now lt) (λ f p. inl p)
+    let at = begun s start (HasFiles files) (λ f. g.met.S.Store.only_now start f) saved.stands in
+    record {
+      made = ok_gives_both c.publish.result (λ written done. record {
+        stands = replaced s start start new (Properties c.args.revision) c.args.properties.now (HasFiles files) (HasFiles files) (HasFiles (with_properties files c.args.revision c.args.properties.now)) at
+            (c.publish.ensures.replaces saved.stands.honest) written (properties_are files c.args.revision c.args.properties.now lt);
+        count = c.publish.ensures.count ∙ saved.count ∙ sym (length-second files.revisions c.args.revision c.args.properties.now);
+        goes_on = done ∙ saved.goes_on;
+      }) (c.publish.ensures.ok saved.stands.honest) c.publish.ensures.done;
+      stop = swapped s start start new (Properties c.args.revision) c.args.properties.now (HasFiles files) (HasFiles files) (HasEither files (with_properties files c.args.revision c.args.properties.now)) at
+          (c.publish.ensures.replaces saved.stands.honest) (properties_may_be files c.args.revision c.args.properties.now lt) (λ f p. inl p);
+    }

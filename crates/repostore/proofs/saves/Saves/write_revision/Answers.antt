@@ -11,9 +11,9 @@ returns-in_err-write_new-clause-going g c = λ files saved.
     let start = c.args.self.now.store in
     let P = HasFiles files in
     let le : length files.revisions ≤ n = omega (arith, saved.count) in
-    let at = begun s.is_honest s.holds s.may_leave s.moment s.left_since start P (λ f. g.met.S.Store.only_now start f) saved.stands in
+    let at = begun s start P (λ f. g.met.S.Store.only_now start f) saved.stands in
     let w = c.write_new.ensures in
-    wrote s.is_honest s.holds s.may_leave s.moment s.left_since start start c.write_new.new.self (Revision n) P P P at w.honest w.others w.stop w.time
+    wrote s start start c.write_new.new.self (Revision n) P P P at w.honest w.others w.stop w.time
     (λ d f same. behind_revision d f files n le same) (λ f p. p)
 
 pub returns-clause-going : goal.returns-clause-going
@@ -23,12 +23,12 @@ returns-clause-going g c = λ files saved.
     let start = c.args.self.now.store in
     let P = HasFiles files in
     let le : length files.revisions ≤ n = omega (arith, saved.count) in
-    let at = begun s.is_honest s.holds s.may_leave s.moment s.left_since start P (λ f. g.met.S.Store.only_now start f) saved.stands in
+    let at = begun s start P (λ f. g.met.S.Store.only_now start f) saved.stands in
     let w = c.write_new.ensures in
-    let first = wrote s.is_honest s.holds s.may_leave s.moment s.left_since start start c.write_new.new.self (Revision n) P P P at w.honest w.others w.stop w.time
+    let first = wrote s start start c.write_new.new.self (Revision n) P P P at w.honest w.others w.stop w.time
     (λ d f same. behind_revision d f files n le same) (λ f p. p) in
     let v = c.write_new-2.ensures in
-    wrote s.is_honest s.holds s.may_leave s.moment s.left_since start c.write_new.new.self c.write_new-2.new.self (Properties n) P P P first v.honest v.others v.stop v.time
+    wrote s start c.write_new.new.self c.write_new-2.new.self (Properties n) P P P first v.honest v.others v.stop v.time
     (λ d f same. behind_properties d f files n le same) (λ f p. p)
 
 pub returns-clause-ok : goal.returns-clause-ok
@@ -39,17 +39,17 @@ returns-clause-ok g c = λ files saved.
     let P = HasFiles files in
     let Q : Folder → Type 0 = λ f. HasFiles files f × (f (Revision n) ≡ Some c.args.revision.now) in
     let le : length files.revisions ≤ n = omega (arith, saved.count) in
-    let at = begun s.is_honest s.holds s.may_leave s.moment s.left_since start P (λ f. g.met.S.Store.only_now start f) saved.stands in
+    let at = begun s start P (λ f. g.met.S.Store.only_now start f) saved.stands in
     let w = c.write_new.ensures in
-    let first = wrote s.is_honest s.holds s.may_leave s.moment s.left_since start start c.write_new.new.self (Revision n) P P P at w.honest w.others w.stop w.time
+    let first = wrote s start start c.write_new.new.self (Revision n) P P P at w.honest w.others w.stop w.time
     (λ d f same. behind_revision d f files n le same) (λ f p. p) in
     let u = c.in_ok-write_new.ensures in
-    let here = with_bytes s.is_honest s.holds s.may_leave s.moment s.left_since start c.write_new.new.self (Revision n) c.args.revision.now P P Q first
+    let here = with_bytes s start c.write_new.new.self (Revision n) c.args.revision.now P P Q first
     (u.written saved.stands.honest) (u.kept saved.stands.honest) (λ f has is. (has, is)) in
     let v = c.write_new-2.ensures in
-    let second = wrote s.is_honest s.holds s.may_leave s.moment s.left_since start c.write_new.new.self c.write_new-2.new.self (Properties n) P Q Q here v.honest v.others v.stop v.time
+    let second = wrote s start c.write_new.new.self c.write_new-2.new.self (Properties n) P Q Q here v.honest v.others v.stop v.time
     (λ d f same. behind_properties_too d f files n c.args.revision.now le same) (λ f q. q.0) in
     ok_gives_both c.write_new-2.result
-    (λ written kept. with_bytes s.is_honest s.holds s.may_leave s.moment s.left_since start c.write_new-2.new.self (Properties n) c.args.properties.now P Q (HasNext files n c.args.revision.now c.args.properties.now) second
+    (λ written kept. with_bytes s start c.write_new-2.new.self (Properties n) c.args.properties.now P Q (HasNext files n c.args.revision.now c.args.properties.now) second
     written kept (next_is files n c.args.revision.now c.args.properties.now))
     (v.written (w.honest.0 saved.stands.honest)) (v.kept (w.honest.0 saved.stands.honest))

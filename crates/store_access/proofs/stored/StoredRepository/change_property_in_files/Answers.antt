@@ -6,6 +6,6 @@ pub returns-in-Err-clause-stop : goal.returns-in-Err-clause-stop
 returns-in-Err-clause-stop g c = λ honest goes_on.
     let s = g.S.Store in
     let f = g.F.Filed in
-    unmoved s.is_honest s.holds s.may_leave s.moment s.left_since g.F.Repository.content f.is_of
+    unmoved s g.F.Repository.content f.is_of
     c.args.self.now.saves c.args.self.now.repository (with_changed_property (g.F.Repository.content c.args.self.now.repository) c.args.ask.revision c.args.ask.name c.args.ask.value)
     (λ d. g.met.S.Store.only_now c.args.self.now.saves.store d) c.args.self.now.kept goes_on honest

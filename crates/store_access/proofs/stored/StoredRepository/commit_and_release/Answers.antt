@@ -19,7 +19,7 @@ returns-in-Ok-settle_revision-clause-point g c =
     let number : c.in-Ok.new.number ≡ length old.revisions = cc c.in-Ok.ensures.number in
     let saved : mid ≡ stored_at (r.content c.in-Ok.next) at.halted at.failures at.pending = c.in-Ok-settle_revision.ensures.point in (
       c.requires.goes_on,
-      c.in-Ok.ensures.accepted,
+      c.in-Ok.ensures.judged.0,
       (
         number,
         (
@@ -31,7 +31,7 @@ returns-in-Ok-settle_revision-clause-point g c =
     )
 
 pub returns-in-Ok-settle_revision-clause-stop : goal.returns-in-Ok-settle_revision-clause-stop
-returns-in-Ok-settle_revision-clause-stop g c = λ honest.
+returns-in-Ok-settle_revision-clause-stop g c = λ honest goes_on.
     let s = g.S.Store in
     let f = g.F.Filed in
     let r = g.F.Repository in
@@ -39,27 +39,27 @@ returns-in-Ok-settle_revision-clause-stop g c = λ honest.
     let middle = c.settle_revision.new.self in
     let is : r.content c.in-Ok.next ≡ committed old c.args.ask (r.txn_state c.args.txn) = cc c.in-Ok.ensures.ok in
     let now : r.content middle.repository ≡ committed old c.args.ask (r.txn_state c.args.txn) = ap content_of c.in-Ok-settle_revision.ensures.point ∙ is in
-    commit_released s.moment s.left_since g.F.Repository.content f.is_of c.args.self.now.saves.store middle.saves.store c.release_handed.new.self.saves.store
+    commit_released s g.F.Repository.content f.is_of c.args.self.now.saves.store middle.saves.store c.release_handed.new.self.saves.store
     old (committed (g.F.Repository.content c.args.self.now.repository) c.args.ask (g.F.Repository.txn_state c.args.txn)) c.args.ask c.args.handed c.requires.handed_in
-    (subst (λ (x : RepoState). ∥ LeavesEither g.F.Repository.content f.is_of s.moment s.left_since c.args.self.now.saves.store middle.saves.store old x ∥₁) is (c.settle_revision.ensures.stop honest))
-    (subst (λ (x : RepoState). ∥ LeavesEither g.F.Repository.content f.is_of s.moment s.left_since middle.saves.store c.release_handed.new.self.saves.store x (without_handed x c.args.handed) ∥₁) now
-    (c.release_handed.ensures.stop (c.settle_revision.ensures.honest honest)))
+    (subst (λ (x : RepoState). ∥ LeavesEither g.F.Repository.content f.is_of s c.args.self.now.saves.store middle.saves.store old x ∥₁) is (c.settle_revision.ensures.stop honest goes_on))
+    (subst (λ (x : RepoState). ∥ LeavesEither g.F.Repository.content f.is_of s middle.saves.store c.release_handed.new.self.saves.store x (without_handed x c.args.handed) ∥₁) now
+    (c.release_handed.ensures.stop (c.settle_revision.ensures.honest honest) (ap (λ (p : Point). p.halted) c.in-Ok-settle_revision.ensures.point ∙ goes_on)))
 
 pub returns-in-Ok-clause-stop : goal.returns-in-Ok-clause-stop
-returns-in-Ok-clause-stop g c = λ honest.
+returns-in-Ok-clause-stop g c = λ honest goes_on.
     let s = g.S.Store in
     let f = g.F.Filed in
     let r = g.F.Repository in
     let old = (g.F.Repository.content c.args.self.now.repository) in
     let is : r.content c.in-Ok.next ≡ committed old c.args.ask (r.txn_state c.args.txn) = cc c.in-Ok.ensures.ok in
-    one_of_either s.moment s.left_since g.F.Repository.content f.is_of c.args.self.now.saves.store c.settle_revision.new.self.saves.store (g.F.Repository.content c.args.self.now.repository) (committed (g.F.Repository.content c.args.self.now.repository) c.args.ask (g.F.Repository.txn_state c.args.txn)) (without_released (committed (g.F.Repository.content c.args.self.now.repository) c.args.ask (g.F.Repository.txn_state c.args.txn)) c.args.ask.author c.args.ask.tokens)
-    (subst (λ (x : RepoState). ∥ LeavesEither g.F.Repository.content f.is_of s.moment s.left_since c.args.self.now.saves.store c.settle_revision.new.self.saves.store old x ∥₁) is (c.settle_revision.ensures.stop honest))
+    one_of_either s g.F.Repository.content f.is_of c.args.self.now.saves.store c.settle_revision.new.self.saves.store (g.F.Repository.content c.args.self.now.repository) (committed (g.F.Repository.content c.args.self.now.repository) c.args.ask (g.F.Repository.txn_state c.args.txn)) (without_released (committed (g.F.Repository.content c.args.self.now.repository) c.args.ask (g.F.Repository.txn_state c.args.txn)) c.args.ask.author c.args.ask.tokens)
+    (subst (λ (x : RepoState). ∥ LeavesEither g.F.Repository.content f.is_of s c.args.self.now.saves.store c.settle_revision.new.self.saves.store old x ∥₁) is (c.settle_revision.ensures.stop honest goes_on))
 
 pub returns-clause-stop : goal.returns-clause-stop
-returns-clause-stop g c = λ honest.
+returns-clause-stop g c = λ honest goes_on.
     let s = g.S.Store in
     let f = g.F.Filed in
-    one_of_either s.moment s.left_since g.F.Repository.content f.is_of c.args.self.now.saves.store c.args.self.now.saves.store (g.F.Repository.content c.args.self.now.repository) (committed (g.F.Repository.content c.args.self.now.repository) c.args.ask (g.F.Repository.txn_state c.args.txn)) (without_released (committed (g.F.Repository.content c.args.self.now.repository) c.args.ask (g.F.Repository.txn_state c.args.txn)) c.args.ask.author c.args.ask.tokens)
-    (unmoved s.is_honest s.holds s.may_leave s.moment s.left_since g.F.Repository.content f.is_of
+    one_of_either s g.F.Repository.content f.is_of c.args.self.now.saves.store c.args.self.now.saves.store (g.F.Repository.content c.args.self.now.repository) (committed (g.F.Repository.content c.args.self.now.repository) c.args.ask (g.F.Repository.txn_state c.args.txn)) (without_released (committed (g.F.Repository.content c.args.self.now.repository) c.args.ask (g.F.Repository.txn_state c.args.txn)) c.args.ask.author c.args.ask.tokens)
+    (unmoved s g.F.Repository.content f.is_of
     c.args.self.now.saves c.args.self.now.repository (committed (g.F.Repository.content c.args.self.now.repository) c.args.ask (g.F.Repository.txn_state c.args.txn))
-    (λ d. g.met.S.Store.only_now c.args.self.now.saves.store d) c.args.self.now.kept c.requires.goes_on honest)
+    (λ d. g.met.S.Store.only_now c.args.self.now.saves.store d) c.args.self.now.kept goes_on honest)

@@ -6,20 +6,20 @@ use Rattle.store_access.proofs.{Changes.release_saved, Stops.unmoved}
 use Rattle.store_access.proofs.stored.StoredRepository.release.Goals as goal
 
 pub returns-then-not-releases-clause-stop : goal.returns-then-not-releases-clause-stop
-returns-then-not-releases-clause-stop g c = λ honest.
+returns-then-not-releases-clause-stop g c = λ honest goes_on.
     let s = g.S.Store in
     let f = g.F.Filed in
-    unmoved s.is_honest s.holds s.may_leave s.moment s.left_since g.F.Repository.content f.is_of
+    unmoved s g.F.Repository.content f.is_of
     c.args.self.now.saves c.args.self.now.repository (without_released (g.F.Repository.content c.args.self.now.repository) c.args.handed.user c.args.handed.tokens)
-    (λ d. g.met.S.Store.only_now c.args.self.now.saves.store d) c.args.self.now.kept c.requires honest
+    (λ d. g.met.S.Store.only_now c.args.self.now.saves.store d) c.args.self.now.kept goes_on honest
 
 pub returns-in-Err-clause-stop : goal.returns-in-Err-clause-stop
-returns-in-Err-clause-stop g c = λ honest.
+returns-in-Err-clause-stop g c = λ honest goes_on.
     let s = g.S.Store in
     let f = g.F.Filed in
-    unmoved s.is_honest s.holds s.may_leave s.moment s.left_since g.F.Repository.content f.is_of
+    unmoved s g.F.Repository.content f.is_of
     c.args.self.now.saves c.args.self.now.repository (without_released (g.F.Repository.content c.args.self.now.repository) c.args.handed.user c.args.handed.tokens)
-    (λ d. g.met.S.Store.only_now c.args.self.now.saves.store d) c.args.self.now.kept c.requires honest
+    (λ d. g.met.S.Store.only_now c.args.self.now.saves.store d) c.args.self.now.kept goes_on honest
 
 pub returns-in-Ok-clause-point : goal.returns-in-Ok-clause-point
 returns-in-Ok-clause-point g c =

@@ -6,7 +6,7 @@ pub returns-in-Err-clause-stop : goal.returns-in-Err-clause-stop
 returns-in-Err-clause-stop g c = λ honest goes_on.
     let s = g.S.Store in
     let f = g.F.Filed in
-    unmoved s.is_honest s.holds s.may_leave s.moment s.left_since g.F.Repository.content f.is_of
+    unmoved s g.F.Repository.content f.is_of
     c.args.self.now.saves c.args.self.now.repository (unlocked (g.F.Repository.content c.args.self.now.repository) c.args.ask.now)
     (λ d. g.met.S.Store.only_now c.args.self.now.saves.store d) c.args.self.now.kept goes_on honest
 
@@ -14,6 +14,6 @@ pub returns-in_default-clause-stop : goal.returns-in_default-clause-stop
 returns-in_default-clause-stop g c = λ honest goes_on.
     let s = g.S.Store in
     let f = g.F.Filed in
-    unmoved s.is_honest s.holds s.may_leave s.moment s.left_since g.F.Repository.content f.is_of
+    unmoved s g.F.Repository.content f.is_of
     c.args.self.now.saves c.args.self.now.repository (unlocked (g.F.Repository.content c.args.self.now.repository) c.args.ask.now)
     (λ d. g.met.S.Store.only_now c.args.self.now.saves.store d) c.args.self.now.kept goes_on honest

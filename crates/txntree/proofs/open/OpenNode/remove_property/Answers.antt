@@ -1,13 +1,16 @@
-use Rattle.std.proofs.{Common.{ap, ◌∙◌}, lemmas.Result.on_ok_weaker}
+use Rattle.std.proofs.{Common.{ap, ◌∙◌}, lemmas.Result.MatchResult-weaker}
 use Rattle.repo_api.specs.Edits.{without_value}
 use Rattle.noderevs.specs.Held.{node_at}
 use Rattle.txntree.specs.{Spots.flat, Spots.Spot.Opened, Walks.{at_path, here}}
 use Rattle.txntree.proofs.Grafts.{revisions_are_changes}
 use Rattle.txntree.proofs.open.OpenNode.remove_property.Goals as goal
 
-pub returns-clause-ok : goal.returns-clause-ok
-returns-clause-ok c =
-    let look = node_at c.args.nodes.now in
-    on_ok_weaker c.at.result (λ made q. made q
-    ∙ ap (λ p. at_path p (here (without_value c.args.name)) (flat look (Opened c.args.self.now)) q) c.components.ensures
-    ∙ revisions_are_changes (flat look (Opened c.args.self.now)) c.args.path.now (without_value c.args.name) q) c.at.ensures.ok
+pub returns-clause-edit : goal.returns-clause-edit
+returns-clause-edit c =
+    let look = node_at c.args.nodes.now in (
+      MatchResult-weaker c.at.result c.at.ensures.tree (λ _ made q. made q
+          ∙ ap (λ p. at_path p (here (without_value c.args.name)) (flat look (Opened c.args.self.now)) q) c.components.ensures
+          ∙ revisions_are_changes (flat look (Opened c.args.self.now)) c.args.path.now (without_value c.args.name) q) (λ _ kept. kept),
+      c.at.ensures.base,
+      c.at.ensures.based (tt {0}),
+    )

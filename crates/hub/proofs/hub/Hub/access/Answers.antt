@@ -1,0 +1,7 @@
+use Rattle.std.proofs.Common.{◌≡◌, refl, subst}
+use Rattle.hub_runs.specs.State.{hub_at, HubState}
+use Rattle.hub.proofs.hub.Hub.access.Goals as goal
+
+pub returns : goal.returns
+returns g c =
+    subst (λ (h : HubState). h ≡ hub_at h.settings (g.A.RepoAccess.point c.self.inside.access) h.sessions h.used) c.self.view_is refl
