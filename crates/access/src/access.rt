@@ -1,6 +1,6 @@
 //! A repository as a session reaches it.
 ghost use Rattle.std.specs.Prelude.{◌≡◌, ◌≤◌, true, IfOk};
-ghost use Rattle.repo_api.specs.{Accepted.{Accepted, changed}, Soundness.AreSound, States.{IsBeginning, tree_of}, Transactions.IsMarkedTxn, Trees.IsTree};
+ghost use Rattle.repo_api.specs.{Accepted.{Accepted, changed}, Soundness.AreSound, States.IsBeginning, Transactions.MayCommit};
 ghost use Rattle.access.specs.{Points.{Point, AccessRules, content_of}, Changing.{CommitsAt, LocksAt, UnlocksAt, ChangesPropertyAt, Happens}};
 
 use repo_api::{ChangeFault, CommitAsk, LockAsk, PropertyAsk, Repository, UnlockAsk};
@@ -53,10 +53,7 @@ pub trait RepoAccess {
         ask: CommitAsk,
         txn: <Self::View as Repository>::Txn,
     ) -> Result<Committed, ChangeFault>
-        requires rests { IsBeginning (Self.View.txn_state txn).shown
-            (content_of (point self.old)).revisions }
-        requires tree { IsTree (tree_of (Self.View.txn_state txn).tree) }
-        requires marked { IsMarkedTxn (Self.View.txn_state txn) }
+        requires { MayCommit (content_of (point self.old)) (Self.View.txn_state txn) }
         ensures { Happens rules (CommitsAt rules ask (Self.View.txn_state txn))
             (point self.old) result (point self.new) };
 

@@ -1,15 +1,25 @@
 -- Visits that are made as they are said: those that were said, and what may come behind them.
-use Rattle.std.proofs.Common.{◌≡◌, ℕ, List, [], ◌∷◌, ◌++◌, append-nil, append_assoc, refl, sym, ap, ◌∙◌, subst}
+use Rattle.std.proofs.Common.{arith, ◌≡◌, ◌≤◌, ◌+◌, true, false, ℕ, List, [], ◌∷◌, ◌++◌, append-nil, append_assoc, refl, sym, ap, ◌∙◌, subst}
 use Rattle.repo_api.specs.States.{RepoState}
 use Rattle.wire_edits.specs.declared.editing.EditorCommand.{EditorCommand}
 use Rattle.wire_replies.proofs.Parts.{part_all}
 use Rattle.wire_replies.specs.Sinks.{WritesPart}
-use Rattle.reporter.specs.{Visiting.MayVisit, declared.visit.Visit.Visit, declared.visitor.Visitor.Visitor}
+use Rattle.reporter.specs.{Visiting.MayVisit, declared.visit.Visit.Visit, declared.visit.Visit.TheVariants.{Open, Add, Delete, Close}}
+use Rattle.reporter.specs.declared.visitor.Visitor.{Visitor}
 use Rattle.drive_reports.specs.Targets.{WholeReport}
 use Rattle.drive_sides.proofs.Existing.{some_visits}
 use Rattle.drive_sides.specs.Plans.{drive_trees}
 use Rattle.drive_sending.specs.{Commands.{around_after, plan_commands, visit_commands}, Driving.{Visiting, command_bytes}}
 use Rattle.drive_sending.proofs.Written.{behind_part, both, first_part}
+
+-- a visit opens one directory at most
+pub deeper_by_one : (around : ℕ) (visit : Visit) → around_after around visit ≤ around + 1
+deeper_by_one around (Open p true) = omega arith
+deeper_by_one around (Open p false) = omega arith
+deeper_by_one around (Add p true) = omega arith
+deeper_by_one around (Add p false) = omega arith
+deeper_by_one around (Delete p) = omega arith
+deeper_by_one around Close = omega arith
 
 module _ (c : RepoState) (report : WholeReport) where
   -- what a visitor has left before some visits, and after them

@@ -1,12 +1,13 @@
 -- What is written of a drive.
 use Rattle.std.specs.Prelude.{ℕ, List, [], ◌∷◌, map, ◌⊎◌, Result, MatchResult}
-use Rattle.repo_api.specs.States.{RepoState}
+use Rattle.repo_api.specs.{States.RepoState, declared.repository.Repository.Ghosts}
 use Rattle.wire_edits.specs.declared.editing.EditorCommand.{EditorCommand}
-use Rattle.wire_replies.specs.{Replies.print, Sinks.WritesPart, declared.reply.Reply.Reply}
+use Rattle.wire_replies.specs.{Replies.print, Sinks.{Writes, WritesPart}, declared.reply.Reply.Reply}
 use Rattle.wire_replies.specs.declared.reply.Reply.TheVariants as replies
 use Rattle.reporter.specs.{Visiting.MayVisit, Walks.WalkedTrees, declared.visit.Visit.Visit, declared.visitor.Visitor.Visitor}
 use Rattle.drive_reports.specs.Targets.{WholeReport}
 use Rattle.drive_wire.specs.Sent.{IsDrive}
+use Rattle.drive_sides.specs.{OnTrees.on_trees, Plans.drive_trees, declared.two_trees.TwoTrees.TwoTrees}
 
 -- visits that a visitor may have left, of which this is so
 abbrev pub Visiting : WalkedTrees → Visitor → (List Visit → Type 0) → Type 0
@@ -15,6 +16,18 @@ Visiting t visitor holds = (visits : List Visit) × MayVisit t visitor visits ×
 -- the bytes of commands
 abbrev pub command_bytes : List EditorCommand → List ℕ
 command_bytes commands = print (map replies.Edit commands)
+
+-- these commands were written; or, where there is an error, a part of them
+abbrev pub Sends : {T E : Type 0} → Result T E → (List ℕ → Type 0) → List EditorCommand → Type 0
+Sends r writes commands = Writes r writes (command_bytes commands)
+
+-- so were the commands of visits from one tree to the other, which a visitor may have left
+abbrev pub SendsVisits : {T E V X : Type 0} {R : Ghosts V X} → Result T E → (List ℕ → Type 0)
+    → TwoTrees V X R → Visitor → (RepoState → WholeReport → List Visit → List EditorCommand)
+    → Type 0
+SendsVisits r writes trees visitor commands =
+    Visiting (on_trees trees drive_trees) visitor
+    (λ visits. Sends r writes (on_trees trees commands visits))
 
 -- what a client is told at the end of a report: a login request that asks for nothing, and the
 -- drive

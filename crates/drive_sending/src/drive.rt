@@ -1,12 +1,12 @@
 //! A drive, written as it is made. Where one of these fails, a part of what it says was written.
-ghost use Rattle.std.specs.Prelude.{◌≡◌, ◌∷◌, ◌++◌, [], Ok, Some, IfOk};
+ghost use Rattle.std.specs.Prelude.{◌≡◌, ◌∷◌, ◌++◌, [], Ok, Some};
 ghost use Rattle.repo_api.specs.Soundness.{AreTrees};
 ghost use Rattle.drive_rules.specs.Steps.EntryKind.{DirectoryKind};
 ghost use Rattle.drive_reports.specs.Refusing.{finish_root};
 ghost use Rattle.drive_sides.specs.{OnTrees.on_trees, Plans.{drive_trees, whole}};
 ghost use Rattle.drive_sending.specs.Commands.{body_commands, drive_of, plan_commands, root_commands};
-ghost use Rattle.drive_sending.specs.{Driving.{command_bytes, drive_replies, SaysDrive, Visiting}, Tokens.token_of};
-ghost use Rattle.wire_replies.specs.Sinks.{Says, Writes};
+ghost use Rattle.drive_sending.specs.{Driving.{drive_replies, SaysDrive, Sends, SendsVisits, Visiting}, Tokens.token_of};
+ghost use Rattle.wire_replies.specs.{Made.Makes, Sinks.Says};
 
 use crate::naming::token;
 use crate::saying::say_made;
@@ -22,8 +22,8 @@ use wire_replies::{Reply, ReplySink, say_new};
 
 /// Makes the command that opens the root.
 fn open_root(alloc: Global, root: ReportRoot) -> Result<EditorCommand, AllocError>
-    ensures { IfOk result (λ command. command
-        ≡ EditorCommand.OpenRoot (Some root.revision) (token_of DirectoryKind 0)) }
+    ensures { Makes result
+        (EditorCommand.OpenRoot (Some root.revision) (token_of DirectoryKind 0)) }
 {
     Ok(EditorCommand::OpenRoot(Some(root.revision), token(alloc, true, 0)?))
 }
@@ -35,10 +35,8 @@ fn say_beginning<S: ReplySink>(
     root: ReportRoot,
     out: &mut S,
 ) -> Result<(), AllocError>
-    ensures { Writes result (S.writes out.old out.new)
-        (command_bytes (EditorCommand.TargetRevision revision
-        ∷ EditorCommand.OpenRoot (Some root.revision)
-        (token_of DirectoryKind 0) ∷ [])) }
+    ensures { Sends result (S.writes out.old out.new) (EditorCommand.TargetRevision revision
+        ∷ EditorCommand.OpenRoot (Some root.revision) (token_of DirectoryKind 0) ∷ []) }
 {
     say_made(Ok(EditorCommand::TargetRevision(revision)), out)?;
     say_made(open_root(alloc, root), out)
@@ -50,8 +48,7 @@ fn say_root<R: Repository, S: ReplySink>(
     trees: &TwoTrees<R>,
     out: &mut S,
 ) -> Result<(), AllocError>
-    ensures { Writes result (S.writes out.old out.new) (command_bytes
-        (on_trees trees.now root_commands)) }
+    ensures { Sends result (S.writes out.old out.new) (on_trees trees.now root_commands) }
 {
     if !trees.report.ask.target.as_path().is_root() {
         return Ok(());
@@ -67,10 +64,9 @@ fn say_below<R: Repository, S: ReplySink>(
     visitor: &mut Visitor,
     out: &mut S,
 ) -> Result<(), AllocError>
-    ensures { Visiting (on_trees trees.now drive_trees) visitor.old
-        (λ visits. Writes result (S.writes out.old out.new)
-        (command_bytes (on_trees trees.now plan_commands 0 visits
-        ++ EditorCommand.CloseDirectory (token_of DirectoryKind 0) ∷ []))) }
+    ensures { SendsVisits result (S.writes out.old out.new) trees.now visitor.old
+        (λ c report visits. plan_commands c report 0 visits
+        ++ EditorCommand.CloseDirectory (token_of DirectoryKind 0) ∷ []) }
 {
     say_visits(alloc, trees, visitor, out)?;
     say_close(alloc, 0, out)
@@ -83,9 +79,7 @@ fn say_body<R: Repository, S: ReplySink>(
     visitor: &mut Visitor,
     out: &mut S,
 ) -> Result<(), AllocError>
-    ensures { Visiting (on_trees trees.now drive_trees) visitor.old
-        (λ visits. Writes result (S.writes out.old out.new)
-        (command_bytes (on_trees trees.now body_commands visits))) }
+    ensures { SendsVisits result (S.writes out.old out.new) trees.now visitor.old body_commands }
 {
     say_root(alloc, trees, out)?;
     say_below(alloc, trees, visitor, out)
@@ -98,9 +92,8 @@ fn say_rest<R: Repository, S: ReplySink>(
     visitor: &mut Visitor,
     out: &mut S,
 ) -> Result<(), AllocError>
-    ensures { Visiting (on_trees trees.now drive_trees) visitor.old
-        (λ visits. Writes result (S.writes out.old out.new)
-        (command_bytes (on_trees trees.now body_commands visits ++ EditorCommand.CloseEdit ∷ []))) }
+    ensures { SendsVisits result (S.writes out.old out.new) trees.now visitor.old
+        (λ c report visits. body_commands c report visits ++ EditorCommand.CloseEdit ∷ []) }
 {
     say_body(alloc, trees, visitor, out)?;
     say_made(Ok(EditorCommand::CloseEdit), out)
@@ -113,9 +106,7 @@ fn say_commands<R: Repository, S: ReplySink>(
     visitor: &mut Visitor,
     out: &mut S,
 ) -> Result<(), AllocError>
-    ensures { Visiting (on_trees trees.now drive_trees) visitor.old
-        (λ visits. Writes result (S.writes out.old out.new)
-        (command_bytes (on_trees trees.now drive_of visits))) }
+    ensures { SendsVisits result (S.writes out.old out.new) trees.now visitor.old drive_of }
 {
     say_beginning(alloc, trees.report.ask.revision, trees.root, out)?;
     say_rest(alloc, trees, visitor, out)

@@ -1,7 +1,8 @@
 //! Tokens, and the texts of paths.
-ghost use Rattle.std.specs.Prelude.{◌≡◌, ◌∷◌, IfOk};
+ghost use Rattle.std.specs.Prelude.{◌∷◌};
 ghost use Rattle.reporter.specs.Visits.{kind_if};
 ghost use Rattle.drive_sending.specs.Tokens.{count_text, relative_text, token_of};
+ghost use Rattle.wire_replies.specs.Made.{Makes};
 
 use byte_string::ByteString;
 use std::alloc::{AllocError, Global};
@@ -9,7 +10,7 @@ use svnpath::Path;
 
 /// Makes the text of a letter and a number.
 fn numbered(alloc: Global, letter: u8, count: u64) -> Result<ByteString, AllocError>
-    ensures { IfOk result (λ token. token ≡ letter ∷ count_text count) }
+    ensures { Makes result (letter ∷ count_text count) }
 {
     let mut buffer = itoa::Buffer::new();
     let mut token = Vec::from_slice(alloc, &[letter])?;
@@ -19,7 +20,7 @@ fn numbered(alloc: Global, letter: u8, count: u64) -> Result<ByteString, AllocEr
 
 /// Makes the token of an entry that is opened or added while so many are open.
 pub(crate) fn token(alloc: Global, is_directory: bool, count: u64) -> Result<ByteString, AllocError>
-    ensures { IfOk result (λ token. token ≡ token_of (kind_if is_directory) count) }
+    ensures { Makes result (token_of (kind_if is_directory) count) }
 {
     if is_directory {
         numbered(alloc, b'd', count)
@@ -30,7 +31,7 @@ pub(crate) fn token(alloc: Global, is_directory: bool, count: u64) -> Result<Byt
 
 /// Makes the text of a path from the root of a drive on.
 pub(crate) fn relative_text(alloc: Global, path: &Path) -> Result<ByteString, AllocError>
-    ensures { IfOk result (λ text. text ≡ relative_text path.now) }
+    ensures { Makes result (relative_text path.now) }
 {
     let mut text = Vec::new(alloc);
     path.append_text(&mut text)?;

@@ -1,9 +1,8 @@
 //! Commands that are written as they are made. Where one of these fails, a part of what it says was
 //! written.
-ghost use Rattle.std.specs.Prelude.{◌≡◌, ◌∷◌, [], IfOk};
-ghost use Rattle.wire_edits.specs.declared.editing.EditorCommand.{EditorCommand};
-ghost use Rattle.drive_sending.specs.Driving.{command_bytes};
-ghost use Rattle.wire_replies.specs.Sinks.{Writes};
+ghost use Rattle.std.specs.Prelude.{◌∷◌, []};
+ghost use Rattle.drive_sending.specs.Driving.{Sends};
+ghost use Rattle.wire_replies.specs.Made.{Makes};
 
 use std::alloc::AllocError;
 use wire_edits::EditorCommand;
@@ -14,7 +13,7 @@ pub(crate) fn say_command<S: ReplySink>(
     command: EditorCommand,
     out: &mut S,
 ) -> Result<(), AllocError>
-    ensures { Writes result (S.writes out.old out.new) (command_bytes (command ∷ [])) }
+    ensures { Sends result (S.writes out.old out.new) (command ∷ []) }
 {
     say_new(Reply::Edit(command), out)
 }
@@ -24,8 +23,7 @@ pub(crate) fn say_made<S: ReplySink>(
     made: Result<EditorCommand, AllocError>,
     out: &mut S,
 ) -> Result<(), AllocError>
-    ensures { (c : EditorCommand) → IfOk made (λ command. command ≡ c) → Writes result
-        (S.writes out.old out.new) (command_bytes (c ∷ [])) }
+    ensures { (c : _) → Makes made c → Sends result (S.writes out.old out.new) (c ∷ []) }
 {
     match made {
         Ok(command) => say_command(command, out),

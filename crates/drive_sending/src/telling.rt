@@ -1,10 +1,10 @@
 //! What entries are told. Where one of these fails, a part of what it says was written.
-ghost use Rattle.std.specs.Prelude.{◌≡◌, ◌<◌, ◌+◌, ◌^◌, map, IfOk};
+ghost use Rattle.std.specs.Prelude.{◌≡◌, ◌<◌, ◌+◌, ◌^◌, map};
 ghost use Rattle.reporter.specs.Visits.{kind_if};
-ghost use Rattle.drive_sending.specs.{Commands.{property_command, news_commands, or_no_news}, Driving.command_bytes, Tokens.token_of};
+ghost use Rattle.drive_sending.specs.{Commands.{property_command, news_commands, or_no_news}, Driving.Sends, Tokens.token_of};
+ghost use Rattle.wire_replies.specs.Made.{Makes};
 ghost use Rattle.drive_rules.specs.Steps.EntryKind.{DirectoryKind, FileKind};
 ghost use Rattle.drive_reports.specs.declared.ask.Purpose.{Purpose};
-ghost use Rattle.wire_replies.specs.Sinks.{Writes};
 
 use crate::naming::token;
 use crate::saying::say_made;
@@ -23,8 +23,7 @@ fn property_command(
     token: &ByteString,
     change: &(ByteString, Option<ByteString>),
 ) -> Result<EditorCommand, AllocError>
-    ensures { IfOk result (λ command. command
-        ≡ property_command (kind_if is_directory) token.now change.now) }
+    ensures { Makes result (property_command (kind_if is_directory) token.now change.now) }
 {
     let (name, value) = change;
     let change = PropertyChange {
@@ -46,8 +45,8 @@ fn say_properties<S: ReplySink>(
     changes: &PropertyChanges,
     out: &mut S,
 ) -> Result<(), AllocError>
-    ensures { Writes result (S.writes out.old out.new)
-        (command_bytes (map (property_command (kind_if is_directory) token.now) changes.now)) }
+    ensures { Sends result (S.writes out.old out.new)
+        (map (property_command (kind_if is_directory) token.now) changes.now) }
 {
     say_each(is_directory, token, changes.as_slice(), out)
 }
@@ -59,8 +58,8 @@ fn say_each<S: ReplySink>(
     changes: &[(ByteString, Option<ByteString>)],
     out: &mut S,
 ) -> Result<(), AllocError>
-    ensures { Writes result (S.writes out.old out.new)
-        (command_bytes (map (property_command (kind_if is_directory) token.now) changes.now)) }
+    ensures { Sends result (S.writes out.old out.new)
+        (map (property_command (kind_if is_directory) token.now) changes.now) }
 {
     for change in changes {
         say_made(property_command(is_directory, token, change), out)?;
@@ -74,8 +73,8 @@ fn say_directory_news<S: ReplySink>(
     news: &News,
     out: &mut S,
 ) -> Result<(), AllocError>
-    ensures { (purpose : Purpose) → Writes result (S.writes out.old out.new)
-        (command_bytes (news_commands purpose DirectoryKind token.now news.now)) }
+    ensures { (purpose : Purpose) → Sends result (S.writes out.old out.new)
+        (news_commands purpose DirectoryKind token.now news.now) }
 {
     say_properties(true, token, &news.changes, out)
 }
@@ -88,8 +87,8 @@ fn say_file_news<S: ReplySink>(
     news: &News,
     out: &mut S,
 ) -> Result<(), AllocError>
-    ensures { Writes result (S.writes out.old out.new)
-        (command_bytes (news_commands purpose FileKind token.now news.now)) }
+    ensures { Sends result (S.writes out.old out.new)
+        (news_commands purpose FileKind token.now news.now) }
 {
     say_properties(false, token, &news.changes, out)?;
     say_file_end(alloc, purpose, token, &news.text, out)
@@ -101,8 +100,8 @@ pub(crate) fn say_root_news<S: ReplySink>(
     news: &News,
     out: &mut S,
 ) -> Result<(), AllocError>
-    ensures { (purpose : Purpose) → Writes result (S.writes out.old out.new)
-        (command_bytes (news_commands purpose DirectoryKind (token_of DirectoryKind 0) news.now)) }
+    ensures { (purpose : Purpose) → Sends result (S.writes out.old out.new)
+        (news_commands purpose DirectoryKind (token_of DirectoryKind 0) news.now) }
 {
     let token = token(alloc, true, 0)?;
     say_directory_news(&token, news, out)
@@ -117,9 +116,9 @@ pub(crate) fn say_news<S: ReplySink>(
     out: &mut S,
 ) -> Result<(), AllocError>
     requires { entrance.around + 1 < 2 ^ 64 }
-    ensures { Writes result (S.writes out.old out.new)
-        (command_bytes (news_commands purpose (kind_if entrance.is_directory)
-        (token_of (kind_if entrance.is_directory) (entrance.around + 1)) news.now)) }
+    ensures { Sends result (S.writes out.old out.new)
+        (news_commands purpose (kind_if entrance.is_directory)
+        (token_of (kind_if entrance.is_directory) (entrance.around + 1)) news.now) }
 {
     let token = token(alloc, entrance.is_directory, entrance.around + 1)?;
     if entrance.is_directory {

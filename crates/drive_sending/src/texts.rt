@@ -1,8 +1,8 @@
 //! Texts, sent whole. Where one of these fails, a part of what it says was written.
-ghost use Rattle.std.specs.{Prelude.{◌≡◌, ◌<◌, ◌^◌, ◌∷◌, ◌++◌, [], None, Some, map, length, IfOk}, Int.div_ceil};
+ghost use Rattle.std.specs.{Prelude.{◌<◌, ◌^◌, ◌∷◌, ◌++◌, [], None, Some, map, length}, Int.div_ceil};
 ghost use Rattle.svndiff0.specs.{Document.header, Full.full_window};
-ghost use Rattle.drive_sending.specs.{Commands.{windows, text_commands, checksum_sent}, Driving.command_bytes};
-ghost use Rattle.wire_replies.specs.Sinks.{Writes};
+ghost use Rattle.drive_sending.specs.{Commands.{windows, text_commands, checksum_sent}, Driving.Sends};
+ghost use Rattle.wire_replies.specs.Made.{Makes};
 
 use crate::saying::say_made;
 use byte_string::ByteString;
@@ -18,7 +18,7 @@ const WINDOW: usize = 65_536;
 
 /// Makes the command with the next bytes of a delta.
 fn chunk(token: &ByteString, bytes: Vec<u8>) -> Result<EditorCommand, AllocError>
-    ensures { IfOk result (λ command. command ≡ EditorCommand.TextDeltaChunk token.now bytes.items) }
+    ensures { Makes result (EditorCommand.TextDeltaChunk token.now bytes.items) }
 {
     let bytes = ByteString::new(bytes);
     Ok(EditorCommand::TextDeltaChunk(token.clone()?, bytes))
@@ -27,8 +27,7 @@ fn chunk(token: &ByteString, bytes: Vec<u8>) -> Result<EditorCommand, AllocError
 /// Makes the command with the window of a part of a text.
 fn window(alloc: Global, token: &ByteString, part: &[u8]) -> Result<EditorCommand, AllocError>
     requires { length part.now < 2 ^ 21 }
-    ensures { IfOk result (λ command. command
-        ≡ EditorCommand.TextDeltaChunk token.now (full_window part.now)) }
+    ensures { Makes result (EditorCommand.TextDeltaChunk token.now (full_window part.now)) }
 {
     let mut bytes = Vec::new(alloc);
     put_window(&mut bytes, part)?;
@@ -37,21 +36,21 @@ fn window(alloc: Global, token: &ByteString, part: &[u8]) -> Result<EditorComman
 
 /// Makes the command that begins a delta.
 fn beginning(token: &ByteString) -> Result<EditorCommand, AllocError>
-    ensures { IfOk result (λ command. command ≡ EditorCommand.ApplyTextDelta token.now None) }
+    ensures { Makes result (EditorCommand.ApplyTextDelta token.now None) }
 {
     Ok(EditorCommand::ApplyTextDelta(token.clone()?, None))
 }
 
 /// Makes the command that ends a delta.
 fn end(token: &ByteString) -> Result<EditorCommand, AllocError>
-    ensures { IfOk result (λ command. command ≡ EditorCommand.TextDeltaEnd token.now) }
+    ensures { Makes result (EditorCommand.TextDeltaEnd token.now) }
 {
     Ok(EditorCommand::TextDeltaEnd(token.clone()?))
 }
 
 /// Makes the command with the header of a delta.
 fn header(alloc: Global, token: &ByteString) -> Result<EditorCommand, AllocError>
-    ensures { IfOk result (λ command. command ≡ EditorCommand.TextDeltaChunk token.now header) }
+    ensures { Makes result (EditorCommand.TextDeltaChunk token.now header) }
 {
     chunk(token, Vec::from_slice(alloc, &HEADER)?)
 }
@@ -63,9 +62,8 @@ fn say_windows<S: ReplySink>(
     text: &[u8],
     out: &mut S,
 ) -> Result<(), AllocError>
-    ensures { Writes result (S.writes out.old out.new)
-        (command_bytes (map (EditorCommand.TextDeltaChunk token.now)
-        (windows (div_ceil (length text.now) 65536) text.now))) }
+    ensures { Sends result (S.writes out.old out.new) (map (EditorCommand.TextDeltaChunk token.now)
+        (windows (div_ceil (length text.now) 65536) text.now)) }
 {
     let mut rest = text;
     for _ in 0..text.len().div_ceil(WINDOW) {
@@ -83,8 +81,7 @@ fn say_text<S: ReplySink>(
     text: &[u8],
     out: &mut S,
 ) -> Result<(), AllocError>
-    ensures { Writes result (S.writes out.old out.new)
-        (command_bytes (text_commands token.now (Some text.now))) }
+    ensures { Sends result (S.writes out.old out.new) (text_commands token.now (Some text.now)) }
 {
     say_made(beginning(token), out)?;
     say_made(header(alloc, token), out)?;
@@ -98,7 +95,7 @@ fn checksum_sent(
     purpose: Purpose,
     text: &Option<FileText>,
 ) -> Result<Option<ByteString>, AllocError>
-    ensures { IfOk result (λ digits. digits ≡ checksum_sent purpose text.now) }
+    ensures { Makes result (checksum_sent purpose text.now) }
 {
     let Some(text) = text else {
         return Ok(None);
@@ -116,8 +113,7 @@ fn close(
     token: &ByteString,
     text: &Option<FileText>,
 ) -> Result<EditorCommand, AllocError>
-    ensures { IfOk result (λ command. command
-        ≡ EditorCommand.CloseFile token.now (checksum_sent purpose text.now)) }
+    ensures { Makes result (EditorCommand.CloseFile token.now (checksum_sent purpose text.now)) }
 {
     let checksum = checksum_sent(alloc, purpose, text)?;
     Ok(EditorCommand::CloseFile(token.clone()?, checksum))
@@ -131,9 +127,8 @@ pub(crate) fn say_file_end<S: ReplySink>(
     text: &Option<FileText>,
     out: &mut S,
 ) -> Result<(), AllocError>
-    ensures { Writes result (S.writes out.old out.new)
-        (command_bytes (text_commands token.now text.now ++ EditorCommand.CloseFile token.now
-        (checksum_sent purpose text.now) ∷ [])) }
+    ensures { Sends result (S.writes out.old out.new) (text_commands token.now text.now
+        ++ EditorCommand.CloseFile token.now (checksum_sent purpose text.now) ∷ []) }
 {
     say_sent(alloc, token, text, out)?;
     say_made(close(alloc, purpose, token, text), out)
@@ -146,8 +141,7 @@ fn say_sent<S: ReplySink>(
     text: &Option<FileText>,
     out: &mut S,
 ) -> Result<(), AllocError>
-    ensures { Writes result (S.writes out.old out.new)
-        (command_bytes (text_commands token.now text.now)) }
+    ensures { Sends result (S.writes out.old out.new) (text_commands token.now text.now) }
 {
     match text {
         None => Ok(()),

@@ -1,11 +1,11 @@
 //! The commands of visits. Where one of these fails, a part of what it says was written.
-ghost use Rattle.std.specs.Prelude.{◌≡◌, ◌<◌, ◌≤◌, ◌+◌, ◌^◌, ◌∷◌, [], false, IfOk};
+ghost use Rattle.std.specs.Prelude.{◌≡◌, ◌<◌, ◌+◌, ◌^◌, ◌∷◌, [], false};
 ghost use Rattle.drive_rules.specs.Steps.EntryKind.{DirectoryKind};
 ghost use Rattle.reporter.specs.Visits.{kind_if};
-ghost use Rattle.drive_sides.specs.{OnTrees.on_trees, Plans.drive_trees};
+ghost use Rattle.drive_sides.specs.OnTrees.{on_trees};
 ghost use Rattle.drive_sending.specs.Commands.{add_command, added_entry, around_after, deeper_by, deleted_entry, news_told, open_command, opened_entry};
-ghost use Rattle.drive_sending.specs.{Commands.{plan_commands, visit_commands}, Driving.{Visiting, command_bytes}, Tokens.token_of};
-ghost use Rattle.wire_replies.specs.Sinks.{Writes};
+ghost use Rattle.drive_sending.specs.{Commands.{plan_commands, visit_commands}, Driving.{Sends, SendsVisits}, Tokens.token_of};
+ghost use Rattle.wire_replies.specs.Made.{Makes};
 
 use crate::naming::{relative_text, token};
 use crate::saying::say_made;
@@ -27,7 +27,7 @@ fn open_command<R: Repository>(
     entrance: Entrance,
 ) -> Result<EditorCommand, AllocError>
     requires { entrance.around + 1 < 2 ^ 64 }
-    ensures { IfOk result (λ command. command ≡ open_command (kind_if entrance.is_directory)
+    ensures { Makes result (open_command (kind_if entrance.is_directory)
         (on_trees trees.now opened_entry entrance.around path.now
         (kind_if entrance.is_directory))) }
 {
@@ -47,7 +47,7 @@ fn open_command<R: Repository>(
 /// Makes the command that adds an entry.
 fn add_command(alloc: Global, path: &Path, entrance: Entrance) -> Result<EditorCommand, AllocError>
     requires { entrance.around + 1 < 2 ^ 64 }
-    ensures { IfOk result (λ command. command ≡ add_command (kind_if entrance.is_directory)
+    ensures { Makes result (add_command (kind_if entrance.is_directory)
         (added_entry entrance.around path.now (kind_if entrance.is_directory))) }
 {
     let entry = AddedEntry {
@@ -65,8 +65,7 @@ fn add_command(alloc: Global, path: &Path, entrance: Entrance) -> Result<EditorC
 
 /// Makes the command that deletes an entry.
 fn delete_command(alloc: Global, path: &Path, around: u64) -> Result<EditorCommand, AllocError>
-    ensures { IfOk result (λ command. command
-        ≡ EditorCommand.DeleteEntry (deleted_entry around path.now)) }
+    ensures { Makes result (EditorCommand.DeleteEntry (deleted_entry around path.now)) }
 {
     Ok(EditorCommand::DeleteEntry(DeletedEntry {
         path: relative_text(alloc, path)?,
@@ -77,8 +76,7 @@ fn delete_command(alloc: Global, path: &Path, around: u64) -> Result<EditorComma
 
 /// Makes the command that closes a directory.
 fn close_command(alloc: Global, around: u64) -> Result<EditorCommand, AllocError>
-    ensures { IfOk result (λ command. command
-        ≡ EditorCommand.CloseDirectory (token_of DirectoryKind around)) }
+    ensures { Makes result (EditorCommand.CloseDirectory (token_of DirectoryKind around)) }
 {
     Ok(EditorCommand::CloseDirectory(token(alloc, true, around)?))
 }
@@ -90,7 +88,7 @@ fn news_told<R: Repository>(
     path: &Path,
     is_anew: bool,
 ) -> Result<News, AllocError>
-    ensures { IfOk result (λ news. news ≡ on_trees trees.now news_told path.now is_anew) }
+    ensures { Makes result (on_trees trees.now news_told path.now is_anew) }
 {
     let found = trees.news(alloc, path, is_anew)?;
     Ok(or_no_news(alloc, found))
@@ -101,7 +99,7 @@ pub(crate) fn root_news<R: Repository>(
     alloc: Global,
     trees: &TwoTrees<R>,
 ) -> Result<News, AllocError>
-    ensures { IfOk result (λ news. news ≡ on_trees trees.now news_told [] false) }
+    ensures { Makes result (on_trees trees.now news_told [] false) }
 {
     news_told(alloc, trees, &Path::root(alloc), false)
 }
@@ -115,8 +113,8 @@ fn say_open<R: Repository, S: ReplySink>(
     out: &mut S,
 ) -> Result<(), AllocError>
     requires { entrance.around + 1 < 2 ^ 64 }
-    ensures { Writes result (S.writes out.old out.new) (command_bytes
-        (on_trees trees.now visit_commands entrance.around (Visit.Open path.now entrance.is_directory))) }
+    ensures { Sends result (S.writes out.old out.new) (on_trees trees.now visit_commands
+        entrance.around (Visit.Open path.now entrance.is_directory)) }
 {
     let news = news_told(alloc, trees, path, false)?;
     say_made(open_command(alloc, trees, path, entrance), out)?;
@@ -132,8 +130,8 @@ fn say_add<R: Repository, S: ReplySink>(
     out: &mut S,
 ) -> Result<(), AllocError>
     requires { entrance.around + 1 < 2 ^ 64 }
-    ensures { Writes result (S.writes out.old out.new) (command_bytes
-        (on_trees trees.now visit_commands entrance.around (Visit.Add path.now entrance.is_directory))) }
+    ensures { Sends result (S.writes out.old out.new) (on_trees trees.now visit_commands
+        entrance.around (Visit.Add path.now entrance.is_directory)) }
 {
     let news = news_told(alloc, trees, path, true)?;
     say_made(add_command(alloc, path, entrance), out)?;
@@ -147,8 +145,8 @@ fn say_delete<S: ReplySink>(
     around: u64,
     out: &mut S,
 ) -> Result<(), AllocError>
-    ensures { Writes result (S.writes out.old out.new)
-        (command_bytes (EditorCommand.DeleteEntry (deleted_entry around path.now) ∷ [])) }
+    ensures { Sends result (S.writes out.old out.new)
+        (EditorCommand.DeleteEntry (deleted_entry around path.now) ∷ []) }
 {
     say_made(delete_command(alloc, path, around), out)
 }
@@ -159,8 +157,8 @@ pub(crate) fn say_close<S: ReplySink>(
     around: u64,
     out: &mut S,
 ) -> Result<(), AllocError>
-    ensures { Writes result (S.writes out.old out.new)
-        (command_bytes (EditorCommand.CloseDirectory (token_of DirectoryKind around) ∷ [])) }
+    ensures { Sends result (S.writes out.old out.new)
+        (EditorCommand.CloseDirectory (token_of DirectoryKind around) ∷ []) }
 {
     say_made(close_command(alloc, around), out)
 }
@@ -174,8 +172,8 @@ fn say_visit<R: Repository, S: ReplySink>(
     out: &mut S,
 ) -> Result<(), AllocError>
     requires { around + 1 < 2 ^ 64 }
-    ensures { Writes result (S.writes out.old out.new) (command_bytes
-        (on_trees trees.now visit_commands around visit.now)) }
+    ensures { Sends result (S.writes out.old out.new)
+        (on_trees trees.now visit_commands around visit.now) }
 {
     match visit {
         Visit::Open { path, is_directory } => {
@@ -200,8 +198,7 @@ fn say_visit<R: Repository, S: ReplySink>(
 /// Says how many directories are open around the innermost one once an entry was entered.
 fn around_entered(around: u64, is_directory: bool) -> u64
     requires { around + 1 < 2 ^ 64 }
-    ensures after { result ≡ deeper_by (kind_if is_directory) around }
-    ensures grows { result ≤ around + 1 }
+    ensures { result ≡ deeper_by (kind_if is_directory) around }
 {
     if is_directory { around + 1 } else { around }
 }
@@ -209,8 +206,7 @@ fn around_entered(around: u64, is_directory: bool) -> u64
 /// Says how many directories are open around the innermost one after a visit.
 fn around_after(visit: &Visit, around: u64) -> u64
     requires { around + 1 < 2 ^ 64 }
-    ensures after { result ≡ around_after around visit.now }
-    ensures grows { result ≤ around + 1 }
+    ensures { result ≡ around_after around visit.now }
 {
     match visit {
         Visit::Open { is_directory, .. } => around_entered(around, *is_directory),
@@ -229,10 +225,9 @@ fn say_next<R: Repository, S: ReplySink>(
     out: &mut S,
 ) -> Result<u64, AllocError>
     requires { around + 1 < 2 ^ 64 }
-    ensures after { IfOk result (λ after. after ≡ around_after around visit.now) }
-    ensures grows { IfOk result (λ after. after ≤ around + 1) }
-    ensures said { Writes result (S.writes out.old out.new) (command_bytes
-        (on_trees trees.now visit_commands around visit.now)) }
+    ensures after { Makes result (around_after around visit.now) }
+    ensures said { Sends result (S.writes out.old out.new)
+        (on_trees trees.now visit_commands around visit.now) }
 {
     say_visit(alloc, trees, visit, around, out)?;
     Ok(around_after(visit, around))
@@ -245,9 +240,8 @@ pub(crate) fn say_visits<R: Repository, S: ReplySink>(
     visitor: &mut Visitor,
     out: &mut S,
 ) -> Result<(), AllocError>
-    ensures { Visiting (on_trees trees.now drive_trees) visitor.old
-        (λ visits. Writes result (S.writes out.old out.new)
-        (command_bytes (on_trees trees.now plan_commands 0 visits))) }
+    ensures { SendsVisits result (S.writes out.old out.new) trees.now visitor.old
+        (λ c report. plan_commands c report 0) }
 {
     let mut around = 0;
     for _ in 0..u64::MAX {

@@ -1,6 +1,6 @@
 -- The steps of an edit: what is put in, and what is taken out again.
 use Rattle.std.proofs.Common.{◌≡◌, ℕ, Bool, true, false, cond, not, ◌&&◌, List, [], ◌∷◌, Option, Some, None, is_some, Ok, refl, ap, subst, ◌∙◌}
-use Rattle.std.specs.{Prelude.{Result, Err, OnOk}, BTreeMap.{insert_entry, is_at}, Map.{lookup, remove_entry}}
+use Rattle.std.specs.{Prelude.{Result, Err, MatchResult, OnOk}, BTreeMap.{insert_entry, is_at}, Map.{lookup, remove_entry}}
 use Rattle.std.specs.{Cmp.Lexicographic.{slice_cmp, nat_list_cmp_total}, Ordering.{nat_cmp, match_ordering, is_eq, ordering_reverse}}
 use Rattle.std.specs.{declared.cmp.Ordering.Ordering, declared.cmp.Ordering.TheVariants.{Less, Equal, Greater}}
 use Rattle.svnpath.specs.Paths.{PathValue}
@@ -12,9 +12,9 @@ use Rattle.edit_rules.specs.{Editor.{added_opened, Closes, Edits, opened_directo
 use Rattle.edit_rules.specs.Refusing.{first, parent_refusal, place_refusal, unless}
 use Rattle.edit_rules.specs.Tokens.{directory_of, is_placed, is_within, opened_under, path_of, Tokens, with_token, without_token}
 
-pub on_ok : {T E : Type 0} {P Q : Type 0} (r : Result T E) → (P → Q) → OnOk r P → OnOk r Q
-on_ok (Ok x) f p = f p
-on_ok (Err e) f p = tt
+pub on_ok : {T E : Type 0} {P Q : Type 0} (X : Type 0) (r : Result T E) → (P → Q) → MatchResult r (λ _. P) (λ _. X) → OnOk r Q
+on_ok X (Ok x) f p = f p
+on_ok X (Err e) f x = tt
 
 -- an edit that is made, with what is open then
 pub made : (c : RepoState) (now old : EditState) (op : EditOp) (before after : TxnState) (wanted tokens : Tokens) → now ≡ old → now.txn ≡ Some before → IsEdited c.revisions before op after → tokens ≡ wanted

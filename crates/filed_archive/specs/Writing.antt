@@ -1,10 +1,18 @@
 -- What a change writes, and what that makes of the files.
-use Rattle.std.specs.Prelude.{◌≡◌, ◌+◌, ◌<◌, ℕ, Bool, true, false, Some, length}
-use Rattle.repo_api.specs.{Accepted.{Accepted, changed}, States.RepoState}
-use Rattle.repostore.specs.{Current.count_in, Files.{Files, with_locks, with_properties, with_revision}, declared.saves.Saves.Saves}
-use Rattle.sharedrepo.specs.Archives.{Kept, is_commit}
+use Rattle.std.specs.Prelude.{◌≡◌, ◌+◌, ◌<◌, Bool, true, false, if◌then◌else◌, Some, length, Result, IsErrOf}
+use Rattle.repo_api.specs.Accepted.{Accepted, changed}
+use Rattle.repo_api.specs.declared.repository.Repository as Repository
+use Rattle.store_files.specs.declared.store.Store as Store
+use Rattle.store_files.specs.declared.fault.StoreFault.{StoreFault}
+use Rattle.store_files.specs.declared.fault.StoreFault.TheVariants as store
+use Rattle.repostore.specs.{Current.count_in, Files.{Files, with_locks, with_properties, with_revision}, Saving.{IsSaved, SaveEnds, SaveMakes}}
+use Rattle.repostore.specs.declared.saves.Saves.{Saves}
+use Rattle.store_access.specs.Keeping.{LeavesEither}
+use Rattle.store_access.specs.declared.filed.Filed as Filed
+use Rattle.sharedrepo.specs.{Archives.{Kept, SaveLeaves, is_commit}, declared.archive.SaveFault.SaveFault}
+use Rattle.sharedrepo.specs.declared.archive.SaveFault.TheVariants as faults
 use Rattle.filed_archive.specs.{declared.unsaved.ChangedFiles.ChangedFiles, declared.unsaved.ChangedFiles.TheVariants.{Revision, Locks, Properties}}
-use Rattle.filed_archive.specs.declared.unsaved.Unsaved.{Unsaved}
+use Rattle.filed_archive.specs.{declared.unsaved.Unsaved.Unsaved, declared.filed_archive.FiledArchive.FiledArchive}
 
 -- the files once it is written
 abbrev pub written : ChangedFiles → Files → Files
@@ -24,22 +32,52 @@ is_revision (Revision new) = true
 is_revision (Locks file) = false
 is_revision (Properties new) = false
 
-module _ {F : Type 0} (content : F → RepoState) (is_of : F → Files → Type 0) where
-  -- the files of the one become those of the other
-  abbrev pub Leads : F → ChangedFiles → F → Type 0
-  Leads repository new next = (files : Files) → is_of repository files
-      → is_of next (written new files) × Fits new files
+-- the files of the one become those of the other
+abbrev pub Leads : {F : Type 0} → (F → Files → Type 0) → F → ChangedFiles → F → Type 0
+Leads is_of repository new next = (files : Files) → is_of repository files
+    → is_of next (written new files) × Fits new files
+
+-- how a save that failed is told, where saves have come to a halt or not
+abbrev pub told_as : Bool → StoreFault → SaveFault
+told_as halted store.NoMemory = faults.NoMemory
+told_as halted store.Device = if halted then faults.Halted else faults.Device
+told_as halted (store.File fault) = if halted then faults.Halted else faults.Device
+told_as halted store.Halted = if halted then faults.Halted else faults.Device
+told_as halted store.Exists = if halted then faults.Halted else faults.Device
+
+-- the save of these files, where they can be written to those that are saved. Only of a revision
+-- the device may fail without a halt
+abbrev pub SavesFiles : {S : Type 0} → Store.Ghosts S → ChangedFiles → Saves S
+    → Result (Unit {0}) StoreFault → Saves S → Type 0
+SavesFiles s new old result after =
+    ((files : Files) → IsSaved s old files → Fits new files
+    → SaveMakes s old after result files (written new files))
+    × SaveEnds s old after result
+    × (IsErrOf result store.Device → after.is_halted ≡ false → is_revision new ≡ true)
+
+module _ {F S T : Type 0} {f : Filed.Ghosts F T} {r : Repository.Ghosts F T}
+    {s : Store.Ghosts S} where
+  -- an archive, as its keeper sees it
+  abbrev pub kept_of : FiledArchive F S T f r s → Kept
+  kept_of a = record {
+    content = r.content a.repository;
+    halted = a.saves.is_halted;
+    failures = s.failed a.saves.store;
+  }
 
   -- what the change makes of the repository, and writes
-  pub record Writes (repository : F) (unsaved : Unsaved F) (e : Accepted) : Type 0 where
-    pub next : content unsaved.next ≡ changed (content repository) e
+  pub record Writes (a : FiledArchive F S T f r s) (unsaved : Unsaved F)
+      (e : Accepted) : Type 0 where
+    pub next : r.content unsaved.next ≡ changed (r.content a.repository) e
     pub kind : is_revision unsaved.files ≡ is_commit e
-    pub leads : Leads repository unsaved.files unsaved.next
+    pub leads : Leads f.is_of a.repository unsaved.files unsaved.next
 
--- the archive of a repository whose files are saved so
-abbrev pub kept_in : {F S : Type 0} → (F → RepoState) → (S → ℕ) → F → Saves S → Kept
-kept_in content failed repository saves = record {
-  content = content repository;
-  halted = saves.is_halted;
-  failures = failed saves.store;
-}
+  -- what the save of a change leaves; and a stop within it leaves an honest store with the files of
+  -- the repository before the change, or after it
+  abbrev pub SavesChange : Accepted → FiledArchive F S T f r s → Result (Unit {0}) SaveFault
+      → FiledArchive F S T f r s → Type 0
+  SavesChange e old result new =
+      SaveLeaves e (kept_of old) result (kept_of new)
+      × (s.is_honest old.saves.store
+      → ∥ LeavesEither r.content f.is_of s old.saves.store new.saves.store
+      (r.content old.repository) (changed (r.content old.repository) e) ∥₁)

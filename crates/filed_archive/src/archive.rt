@@ -9,13 +9,13 @@ use store_access::Filed;
 use store_files::Store;
 
 impl<F: Filed, S: Store> Archive<F> for FiledArchive<F, S> {
-    ghost use Rattle.filed_archive.specs.Writing.{Writes, kept_in};
+    ghost use Rattle.filed_archive.specs.Writing.{Writes, kept_of};
 
     type Unsaved = Unsaved<F>;
 
-    ghost kept = { λ a. kept_in F.content S.failed a.repository a.saves };
+    ghost kept = { kept_of };
 
-    ghost writes = { λ a unsaved e. Writes F.content F.is_of a.repository unsaved e };
+    ghost writes = { Writes };
 
     fn is_halted(&self) -> bool {
         self.saves.is_halted()

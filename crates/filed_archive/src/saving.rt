@@ -1,10 +1,8 @@
 //! What a change writes is saved, and then the repository is the next one.
-ghost use Rattle.std.specs.Prelude.{◌≡◌, false, true, IsErrOf};
-ghost use Rattle.filed_archive.specs.Writing.{Fits, Writes, is_revision, kept_in, written};
-ghost use Rattle.repo_api.specs.Accepted.{Accepted, changed};
-ghost use Rattle.repostore.specs.{Files.Files, Saving.{IsSaved, SaveMakes, SaveEnds}};
-ghost use Rattle.sharedrepo.specs.Archives.{SaveLeaves};
-ghost use Rattle.store_access.specs.Keeping.{LeavesEither};
+ghost use Rattle.std.specs.Prelude.{◌≡◌};
+ghost use Rattle.filed_archive.specs.Writing.{SavesChange, SavesFiles, Writes, kept_of, told_as};
+ghost use Rattle.repo_api.specs.Accepted.{Accepted};
+ghost use Rattle.sharedrepo.specs.Archives.{MaySave};
 
 use crate::filed_archive::FiledArchive;
 use crate::unsaved::{ChangedFiles, Unsaved};
@@ -16,11 +14,7 @@ use store_files::{Store, StoreFault};
 
 /// Says how a save that failed is answered, by whether saves have come to a halt.
 fn told(is_halted: bool, fault: StoreFault) -> SaveFault
-    ensures memory { fault ≡ StoreFault.NoMemory → result ≡ SaveFault.NoMemory }
-    ensures halted { (fault ≡ StoreFault.NoMemory → ⊥) → is_halted ≡ true
-        → result ≡ SaveFault.Halted }
-    ensures other { (fault ≡ StoreFault.NoMemory → ⊥) → is_halted ≡ false
-        → result ≡ SaveFault.Device }
+    ensures { result ≡ told_as is_halted fault }
 {
     if let StoreFault::NoMemory = fault {
         return SaveFault::NoMemory;
@@ -34,11 +28,7 @@ fn told(is_halted: bool, fault: StoreFault) -> SaveFault
 
 /// Saves what a change writes. Only of a revision the device may fail without a halt.
 fn save_files<S: Store>(saves: &mut Saves<S>, new: &ChangedFiles) -> Result<(), StoreFault>
-    ensures saved { (files : Files) → IsSaved S.Store saves.old files → Fits new.now files
-        → SaveMakes S.Store saves.old saves.new result files (written new.now files) }
-    ensures ends { SaveEnds S.Store saves.old saves.new result }
-    ensures halts { IsErrOf result StoreFault.Device → saves.new.is_halted ≡ false
-        → is_revision new.now ≡ true }
+    ensures { SavesFiles S.Store new.now saves.old result saves.new }
 {
     match new {
         ChangedFiles::Revision(new) => saves.save_commit(
@@ -55,17 +45,9 @@ impl<F: Filed, S: Store> FiledArchive<F, S> {
     /// Saves a change that was made of this repository, and then has the repository behind it. A stop at any moment
     /// of the call leaves the files of the repository from before the change, or behind it.
     pub fn save_change(&mut self, unsaved: Unsaved<F>) -> Result<(), SaveFault>
-        requires running { self.old.saves.is_halted ≡ false }
-        requires writes { (e : Accepted) × Writes F.content F.is_of self.old.repository unsaved e }
-        ensures leaves { (e : Accepted)
-            → Writes F.content F.is_of self.old.repository unsaved e
-            → SaveLeaves e (kept_in F.content S.failed self.old.repository self.old.saves) result
-            (kept_in F.content S.failed self.new.repository self.new.saves) }
-        ensures stop { (e : Accepted)
-            → Writes F.content F.is_of self.old.repository unsaved e
-            → S.is_honest self.old.saves.store
-            → ∥ LeavesEither F.content F.is_of S.Store self.old.saves.store self.new.saves.store
-            (F.content self.old.repository) (changed (F.content self.old.repository) e) ∥₁ }
+        requires { MaySave kept_of Writes self.old unsaved }
+        ensures { (e : Accepted) → Writes self.old unsaved e
+            → SavesChange e self.old result self.new }
     {
         let Unsaved { next, files } = unsaved;
         match save_files(&mut self.saves, &files) {

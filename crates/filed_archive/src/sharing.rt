@@ -1,8 +1,8 @@
 //! A repository in files that threads share.
-ghost use Rattle.std.specs.Prelude.{◌≡◌, false, true, None, ◌∷◌, [], All, IfOk, IsErrOf};
+ghost use Rattle.std.specs.Prelude.{◌≡◌, true, All, IfOk, IsErrOf};
 ghost use Rattle.access.specs.Points.{content_of};
-ghost use Rattle.published.specs.{Events.point_of, Events.Event.Opened};
 ghost use Rattle.repo_api.specs.Soundness.{AreSound};
+ghost use Rattle.sharedrepo.specs.Standing.{HaveSeenOpening};
 
 use crate::filed_archive::FiledArchive;
 use published::{Naming, NewHistory, Published, Shown};
@@ -32,11 +32,10 @@ pub fn share<F: Filed, S: Store, J: Naming>(
 ) -> Result<(ServedRepo<F, S, J>, Vec<ServedSeat<F, J>>), StoreFault>
     requires book { history.seen.book ≡ J.book }
     requires sound { AreSound (F.content stored.repository).revisions }
-    ensures opened { IfOk result (λ r. All (λ s. s
-        ≡ point_of (Opened (F.content stored.repository) ∷ []) false
-        (S.failed stored.saves.store) None) r.1.items) }
+    ensures opened { IfOk result (λ r. HaveSeenOpening (F.content stored.repository)
+        (S.failed stored.saves.store) r.1.items
+        × All (λ s. AreSound (content_of s).revisions) r.1.items) }
     ensures halted { IsErrOf result StoreFault.Halted → stored.saves.is_halted ≡ true }
-    ensures sound { IfOk result (λ r. All (λ s. AreSound (content_of s).revisions) r.1.items) }
 {
     let archive = FiledArchive::new(stored);
     if archive.is_halted() {

@@ -1,6 +1,6 @@
 //! A change that was made and is yet to be saved.
-ghost use Rattle.std.specs.Prelude.{◌≡◌, IfOk};
-ghost use Rattle.repo_api.specs.Accepted.{IfRefused, IsOfMemory};
+ghost use Rattle.std.specs.Prelude.{◌≡◌, IfOk, None};
+ghost use Rattle.repo_api.specs.Accepted.{IsJudged};
 
 use repo_api::ChangeFault;
 use store_access::{Filed, NewProperties, NewRevision};
@@ -26,11 +26,9 @@ pub(crate) fn with_hold<F: Filed>(
     next: F,
     files: ChangedFiles,
 ) -> Result<(F, Unsaved<F>), ChangeFault>
-    ensures content { IfOk result (λ made. F.content made.0 ≡ F.content next) }
-    ensures next { IfOk result (λ made. made.1.next ≡ next) }
-    ensures files { IfOk result (λ made. made.1.files ≡ files) }
-    ensures refused { IfRefused result (λ r. ⊥) }
-    ensures memory { IsOfMemory result }
+    ensures judged { IsJudged result None }
+    ensures made { IfOk result (λ made. (F.content made.0 ≡ F.content next)
+        × (made.1.next ≡ next) × (made.1.files ≡ files)) }
 {
     match next.share() {
         Ok(shown) => Ok((shown, Unsaved { next, files })),

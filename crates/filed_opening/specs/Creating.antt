@@ -1,7 +1,9 @@
 -- A new repository in a folder.
-use Rattle.std.specs.Prelude.{◌≡◌, ◌⊎◌, ℕ, List, None}
+use Rattle.std.specs.Prelude.{◌≡◌, ◌⊎◌, ℕ, List, None, IsSome, Result, OnOk, IsErrOf}
 use Rattle.dates.specs.Dates.{IsDateText}
-use Rattle.store_files.specs.{Folders.Folder, declared.name.FileName.TheVariants.Format}
+use Rattle.store_files.specs.{Folders.{Folder, IsSame}, Stops.LeavesOnly, declared.name.FileName.TheVariants.{Format, Locks}, declared.store.Store.Ghosts}
+use Rattle.store_files.specs.{declared.fault.StoreFault.StoreFault, declared.fault.StoreFault.TheVariants.Exists}
+use Rattle.repostore.specs.Saving.{Stands}
 use Rattle.repo_api.specs.Opening.{new_repository}
 use Rattle.store_access.specs.Keeping.{HasRepository}
 use Rattle.filed_world.specs.Files.{IsOf, filed_content}
@@ -15,3 +17,19 @@ pub record HasNew (uuid moment : ℕ) (f : Folder) : Type 0 where
 -- no repository is there, or the new one
 abbrev pub IsFreeOrNew : ℕ → ℕ → Folder → Type 0
 IsFreeOrNew uuid moment f = (f Format ≡ None) ⊎ HasNew uuid moment f
+
+module _ {S T : Type 0} (s : Ghosts S) (uuid moment : ℕ) (old new : S)
+    (result : Result T StoreFault) where
+  -- by the answer: where there was none, and no locks either, there is the new repository; or there is
+  -- one already, and nothing has changed
+  pub record MakesNew : Type 0 where
+    pub free : OnOk result (s.holds old Format ≡ None)
+    pub made : s.holds old Locks ≡ None → OnOk result ∥ HasNew uuid moment (s.holds new) ∥₁
+    pub exists : IsErrOf result Exists
+        → IsSome (s.holds old Format) × IsSame (s.holds old) (s.holds new)
+
+  -- a stop at any moment of the call leaves none, or the whole new one; once it is made, a stop
+  -- leaves it
+  pub record LeavesNew : Type 0 where
+    pub stop : LeavesOnly s old new (λ f. ∥ IsFreeOrNew uuid moment f ∥₁)
+    pub kept : OnOk result (Stands s new (λ f. ∥ HasNew uuid moment f ∥₁))

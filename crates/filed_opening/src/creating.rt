@@ -1,9 +1,9 @@
 //! A new repository in a folder.
-ghost use Rattle.std.specs.Prelude.{◌≡◌, ◌≤◌, ℕ, List, Option, None, IsSome, OnOk, IsErr, IsErrOf};
+ghost use Rattle.std.specs.Prelude.{◌≡◌, ◌≤◌, ℕ, List, Option, None, IsErr, IsErrOf};
 ghost use Rattle.dates.specs.declared.TheConstants.{LAST_MOMENT};
-ghost use Rattle.store_files.specs.{Folders.IsSame, Moments.HasRisen, Stops.LeavesOnly, declared.name.FileName.TheVariants.{Format, Locks}};
+ghost use Rattle.store_files.specs.Moments.{HasRisen};
 ghost use Rattle.repostore.specs.{Creating.IsFreeWith, Saving.Stands};
-ghost use Rattle.filed_opening.specs.Creating.{HasNew, IsFreeOrNew};
+ghost use Rattle.filed_opening.specs.Creating.{LeavesNew, MakesNew};
 
 use filed_world::new_filed;
 use std::alloc::Global;
@@ -23,18 +23,13 @@ pub fn create<S: Store>(
     moment: u64,
 ) -> Result<(), StoreFault>
     requires { moment ≤ LAST_MOMENT }
-    ensures exists { S.is_honest store.new → IsErrOf result StoreFault.Exists
-        → IsSome (S.holds store.old Format) × IsSame (S.holds store.old) (S.holds store.new) }
-    ensures free { S.is_honest store.new → OnOk result (S.holds store.old Format ≡ None) }
-    ensures made { S.is_honest store.new → S.holds store.old Locks ≡ None
-        → OnOk result ∥ HasNew uuid moment (S.holds store.new) ∥₁ }
+    ensures makes { S.is_honest store.new
+        → MakesNew S.Store uuid moment store.old store.new result }
     // A stop at any moment of the call leaves no `format`, so that `create` may be asked again, or
     // the whole new repository.
-    ensures stop { S.is_honest store.new → Stands S.Store store.old (IsFreeWith None)
-        → LeavesOnly S.Store store.old store.new (λ f. ∥ IsFreeOrNew uuid moment f ∥₁) }
-    ensures kept { S.is_honest store.new → Stands S.Store store.old (IsFreeWith None)
-        → OnOk result (Stands S.Store store.new (λ f. ∥ HasNew uuid moment f ∥₁)) }
-    // So does a fault, where it is known which bytes stand.
+    ensures leaves { S.is_honest store.new → Stands S.Store store.old (IsFreeWith None)
+        → LeavesNew S.Store uuid moment store.old store.new result }
+    // A fault leaves no `format`, where it is known which bytes stand.
     ensures again { (locks : Option (List ℕ)) → S.is_honest store.new
         → Stands S.Store store.old (IsFreeWith locks)
         → IsErr result → S.in_doubt store.new ≡ S.in_doubt store.old

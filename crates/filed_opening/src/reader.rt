@@ -1,11 +1,9 @@
 //! The reader of a folder.
-ghost use Rattle.std.specs.Prelude.{◌≡◌, None, Some, IfOk, OnOk, OnErr, codes};
+ghost use Rattle.std.specs.Prelude.{◌≡◌, Some, IfOk, codes};
 ghost use Rattle.store_files.specs.Folders.{bytes_of};
-ghost use Rattle.fsfs_folder.specs.declared.current.Current.{Current};
-ghost use Rattle.repostore.specs.{Files.Files, Reading.{IfFindsFaulty, with_read_locks}};
-ghost use Rattle.filed_trees.specs.StandsFor.{locks_in};
-ghost use Rattle.filed_world.specs.Reading.{AreFirst, HasRead};
-ghost use Rattle.filed_opening.specs.Faults.{SaysCurrent};
+ghost use Rattle.repostore.specs.Files.{Files};
+ghost use Rattle.filed_world.specs.Reading.{AreFirst, HasRead, ReadsLocks};
+ghost use Rattle.filed_opening.specs.Faults.{ReadsOne, SaysCurrent};
 
 use filed_world::{FiledWorld, count_of};
 use fsfs_folder::{Current, check_format, read_current, read_uuid};
@@ -24,8 +22,7 @@ pub struct FolderReader {
 
 /// Judges the file `format`, which has to be there.
 fn check_format_file(format: &Option<Vec<u8>>) -> Result<(), FileFault>
-    ensures ok { OnOk result (bytes_of format.now ≡ Some (codes "2\n")) }
-    ensures err { OnErr result (bytes_of format.now ≡ Some (codes "2\n") → ⊥) }
+    ensures { ReadsOne (λ _. bytes_of format.now ≡ Some (codes "2\n")) result }
 {
     match format {
         Some(bytes) => check_format(bytes.as_slice()),
@@ -35,8 +32,7 @@ fn check_format_file(format: &Option<Vec<u8>>) -> Result<(), FileFault>
 
 /// Reads the file `current`.
 fn read_current_file(bytes: &[u8]) -> Result<Current, FileFault>
-    ensures ok { IfOk result (λ current. SaysCurrent bytes.now current) }
-    ensures err { OnErr result ((current : Current) → SaysCurrent bytes.now current → ⊥) }
+    ensures { ReadsOne (SaysCurrent bytes.now) result }
 {
     let current = read_current(bytes)?;
     match count_of(bytes) {
@@ -55,9 +51,7 @@ fn unread(alloc: Global, uuid: u128, current: Current) -> Result<FiledWorld, All
 
 /// Takes the file of locks, if there is one.
 fn with_lock_file(filed: &FiledWorld, locks: &Option<Vec<u8>>) -> Result<FiledWorld, FileFault>
-    ensures read { IfOk result (λ made. (files : Files) → HasRead filed.now files
-        → HasRead made (with_read_locks files (bytes_of locks.now))) }
-    ensures faulty { IfFindsFaulty result (locks_in (bytes_of locks.now) ≡ None) }
+    ensures { ReadsLocks filed.now (bytes_of locks.now) result }
 {
     match locks {
         Some(bytes) => filed.with_read_locks(Some(bytes.as_slice())),

@@ -1,10 +1,10 @@
 -- Where a fault of a file is answered.
 use Rattle.std.proofs.{Common.{◌≡◌, sym, ap, subst, ◌∙◌, ⊎_elim}, lemmas.Bool.false≢true}
-use Rattle.std.specs.{Prelude.{◌⊎◌, Result, Ok, Err, IsSome, is_some}, Result.result_ok}
+use Rattle.std.specs.{Prelude.{◌⊎◌, Result, Ok, Err, IfOk, IsSome, is_some}, Result.result_ok}
 use Rattle.fsfs_lines.specs.declared.fault.FileFault.{FileFault}
 use Rattle.fsfs_lines.specs.declared.fault.FileFault.TheVariants.{Truncated, BadLine, Delta, Digest, Dangling, NoMemory, WrongFormat}
 use Rattle.repostore.specs.Reading.{IfFileFaulty}
-use Rattle.filed_trees.specs.Readable.{Judges}
+use Rattle.filed_trees.specs.Readable.{Judges, ReadsWhere}
 
 pub faulty : (fault : FileFault) (P : Type 0) → P → IfFileFaulty fault P
 faulty NoMemory P p = tt
@@ -35,6 +35,11 @@ exact_fault fault read said = ⊎_elim
     (λ e. faulty fault (IsSome (result_ok read) → ⊥) (λ is. false≢true (sym (ap (λ r. is_some (result_ok r)) e) ∙ is)))
     (λ e. subst (λ f. IfFileFaulty f (IsSome (result_ok read) → ⊥)) (sym e) tt)
     said
+
+-- what is judged, and what fits where it is answered
+pub read_where : {T : Type 0} (P : Type 0) (Fits : T → Type 0) (r : Result T FileFault) → Judges r P → IfOk r Fits → ReadsWhere r P Fits
+read_where P Fits (Ok x) is fits = (is, fits)
+read_where P Fits (Err fault) is fits = is
 
 -- what is judged in other words
 pub still_judged : {T P Q : Type 0} (r : Result T FileFault) → Judges r P → (P → Q) → (Q → P) → Judges r Q

@@ -140,3 +140,8 @@ name_more entry rest old new key is none put n = by (same_component key n) refl
     by false other =
         ap (λ o. option_or o (entry_named n rest)) (put n ∙ ap (λ t. cond t (Some entry.id) (old n)) (at_name key n ∙ other))
         ∙ sym (ap (λ t. option_or (old n) (cond t (Some entry.id) (entry_named n rest))) (ap (λ k. same_component k n) (sym is) ∙ other))
+
+-- where no entries are left
+pub no_more : (id : Option FileId) → option_or id None ≡ id
+no_more None = refl
+no_more (Some id) = refl

@@ -1,17 +1,19 @@
 -- Comparing the nodes of a revision with its file.
-use Rattle.std.specs.{Prelude.{◌≡◌, ◌<◌, ℕ, List, [], ◌∷◌, ◌++◌, Option, Some, None, IfSome, IsSome, IsSomeAnd, slice_get, suc, length, take}, Borrow.Bor}
-use Rattle.std.specs.{Arc.arc_value, BTreeMap.is_at, Cmp.Lexicographic.slice_cmp, Map.lookup, Ordering.nat_cmp, FinMap.entries}
+use Rattle.std.specs.Prelude.{◌≡◌, ◌<◌, ℕ, List, [], ◌∷◌, ◌++◌, Option, Some, None, All, IfSome, IsSome, IsSomeAnd, map, option_copied, option_map, slice_get}
+use Rattle.std.specs.{Prelude.{suc, length, take}, Borrow.Bor, Arc.arc_value, BTreeMap.is_at, Cmp.Lexicographic.slice_cmp, Map.lookup, Ordering.nat_cmp}
+use Rattle.std.specs.FinMap.{entries}
 use Rattle.svnpath.specs.Paths.{Component}
 use Rattle.repo_api.specs.{Histories.Changed, declared.entry.Content.Content, declared.entry.Mark.Mark}
+use Rattle.repo_api.specs.declared.entry.Content.TheVariants as contents
 use Rattle.noderevs.specs.{Heights.IsHeight, Held.{node_at, root_at}, Nodes.{kid_named, kid_of, Kids, Look, mark_of, with_block}, declared.node_rev.Block.Block}
 use Rattle.noderevs.specs.{declared.node_rev.NodeId.NodeId, declared.node_rev.NodeRev.NodeRev, declared.nodes.Nodes.Nodes}
 use Rattle.fsfs_ids.specs.{declared.id.FileId.FileId, declared.representation.Representation.Representation}
 use Rattle.fsfs_nodes.specs.{declared.entries.DirectoryEntry.DirectoryEntry, declared.node.FileNode.FileNode}
 use Rattle.fsfs_reading.specs.declared.piece.FilePiece.{FilePiece}
-use Rattle.filed_trees.specs.{Pieces.{RevisionBytes, piece_in, body_at_line, content_in, entries_in, entries_at, entry_named}, Changes.{ChangeRows, changes_in}}
-use Rattle.filed_trees.specs.{Trees.first_id, Tables.{placed_in, IsAt, IsFiled, IsPlaced}, declared.table.Table.Table}
-use Rattle.filed_trees.specs.{declared.blocks.ReadRevision.ReadRevision, declared.body.Body.Body, declared.body.Body.TheVariants.{Empty, New, Kept}}
-use Rattle.filed_trees.specs.{declared.places.Earlier.Earlier, declared.places.Places.Places}
+use Rattle.filed_trees.specs.Pieces.{RevisionBytes, piece_in, body_at_line, content_in, entries_in, entries_at, entry_named, text_in}
+use Rattle.filed_trees.specs.{Changes.{ChangeRows, changes_in}, Trees.first_id, Tables.{placed_in, placed_of, IsAt, IsFiled, IsPlaced}}
+use Rattle.filed_trees.specs.{declared.table.Table.Table, declared.blocks.ReadRevision.ReadRevision, declared.blocks.Reading.Reading, declared.body.Body.Body}
+use Rattle.filed_trees.specs.{declared.body.Body.TheVariants.{Empty, New, Kept}, declared.places.Earlier.Earlier, declared.places.Places.Places}
 
 -- the name and the id of an entry that was listed
 abbrev pub named_kid : Bor Component × NodeId → Component × NodeId
@@ -83,12 +85,34 @@ abbrev pub WasFiled : RevisionBytes → Places → Option Earlier → Type 0
 WasFiled files places earlier =
     IfSome earlier (λ e. (n : NodeId) × IsFiled files (tables_of places) n e.node.now e.placed.now)
 
+-- this holds in all files where what came with a line stands, if the node before is filed
+abbrev pub IfCame : Places → Option Earlier → Option Representation → Option (List ℕ)
+    → (RevisionBytes → Type 0) → Type 0
+IfCame places earlier line new P = (files : RevisionBytes)
+    → CameWith files (revision_in places) line new → WasFiled files places earlier → P files
+
+-- a line gives the text of a file
+abbrev pub HasText : RevisionBytes → Option Representation → Content → Type 0
+HasText files line content =
+    (text : List ℕ) × ((content ≡ contents.File text) × (text_in files line ≡ Some text))
+
+-- the entries of a node are, name by name, these
+abbrev pub AreAt : List Table → Kids → List DirectoryEntry → Type 0
+AreAt tables kids entries =
+    (name : Component) → IsAt tables (kid_named kids name) (entry_named name entries)
+
+-- this holds in all files of each line that gives a body, where the node before is filed
+abbrev pub IfLineGives : Places → Option Earlier → Body
+    → (RevisionBytes → Option Representation → Type 0) → Type 0
+IfLineGives places earlier body P = (files : RevisionBytes) (line : Option Representation)
+    → IsBody files line (earlier_text earlier) body → WasFiled files places earlier → P files line
+
 -- a line gives the entries of a node
 pub record HasEntries (files : RevisionBytes) (tables : List Table) (line : Option Representation)
     (ids : Kids) : Type 0 where
   pub entries : List DirectoryEntry
   pub read : entries_at files line ≡ Some entries
-  pub kids : (name : Component) → IsAt tables (kid_named ids name) (entry_named name entries)
+  pub kids : AreAt tables ids entries
 
 -- a node revision gives the content and the entries of a node
 pub record HasContent (files : RevisionBytes) (tables : List Table) (said : FileNode)
@@ -96,7 +120,7 @@ pub record HasContent (files : RevisionBytes) (tables : List Table) (said : File
   pub content : content_in files said ≡ Some content_is
   pub entries : List DirectoryEntry
   pub read : entries_in files said ≡ Some entries
-  pub kids : (name : Component) → IsAt tables (kid_named ids name) (entry_named name entries)
+  pub kids : AreAt tables ids entries
 
 -- a piece of the file of this revision, the last of the files
 pub record IsOfLast (files : RevisionBytes) (revision : ℕ) (piece : FilePiece) : Type 0 where
@@ -114,6 +138,31 @@ pub record AreFor (files : RevisionBytes) (places : Places) (rows : ChangeRows) 
   pub changes : changes_in files (revision_in places) ≡ Some rows
   pub earlier : (id : NodeId) → id.rev < revision_in places
       → IsPlaced files (tables_of places) id (node_at places.nodes.now id) (placed_in places.tables.now id)
+
+-- node revisions of the last file
+abbrev pub AreOfLast : RevisionBytes → Places → List (Bor FilePiece) → Type 0
+AreOfLast files places rows = All (λ row. IsOfLast files (revision_in places) row.now) rows
+
+-- this holds whatever the files are, the last of which is read
+abbrev pub ForFiles : Reading → (RevisionBytes → Type 0) → Type 0
+ForFiles reading P =
+    (files : RevisionBytes) → AreFor files reading.places reading.changes.now.entries → P files
+
+-- a node of the last revision is what a node revision says
+abbrev pub IsReadFrom : RevisionBytes → Places → FilePiece → NodeRev → Type 0
+IsReadFrom files places piece node = (id : NodeId) → id.rev ≡ revision_in places
+    → IsFiled files (tables_of places) id node (placed_of piece.node)
+
+-- the nodes of the last revision are what node revisions say, each at its place
+abbrev pub AreReadFrom : RevisionBytes → Places → List (Bor FilePiece) → List NodeRev → Type 0
+AreReadFrom files places rows nodes = (id : NodeId) → id.rev ≡ revision_in places
+    → IsPlaced files (tables_of places) id (slice_get nodes id.place)
+    (slice_get (map (λ row. placed_of row.now.node) rows) id.place)
+
+-- the root is the first node revision
+abbrev pub IsRoot : Places → Option (Bor FilePiece) → NodeId → Type 0
+IsRoot places first root =
+    IsAt (tables_of places) (Some root) (option_map (λ piece. piece.node.id) (option_copied first))
 
 -- the same files, whatever the last table is, and the node revisions that the last of them says
 pub record AreForAll (files : RevisionBytes) (nodes : Nodes) (tables : List Table) (rows : ChangeRows)

@@ -1,6 +1,6 @@
 -- Which file of a revision can be read, behind those of the revisions before.
-use Rattle.std.specs.Prelude.{◌≡◌, ◌⊎◌, ℕ, true, false, List, Option, Some, None, Result, Ok, Err, All, IfSome, IsSome, IsSomeAnd, option_and_then, option_map}
-use Rattle.std.specs.{Prelude.slice_get, Arc.arc_value, Result.result_ok}
+use Rattle.std.specs.Prelude.{◌≡◌, ◌⊎◌, ℕ, true, false, List, Option, Some, None, Result, Ok, Err, All, IfSome, IsSome, IsSomeAnd, option_and_then}
+use Rattle.std.specs.{Prelude.{option_copied, option_map, slice_get}, Arc.arc_value, Borrow.Bor, Result.result_ok}
 use Rattle.svnpath.specs.Paths.{Component}
 use Rattle.repo_api.specs.Trees.{is_directory_content}
 use Rattle.fsfs_lines.specs.declared.fault.FileFault.{FileFault}
@@ -13,18 +13,34 @@ use Rattle.fsfs_reading.specs.declared.piece.FilePiece.{FilePiece}
 use Rattle.fsfs_folder.specs.Properties.{properties_of}
 use Rattle.repostore.specs.Reading.{IfFileFaulty}
 use Rattle.filed_trees.specs.{Pieces.{RevisionBytes, piece_in, entry_named, path_in}, Changes.changes_by, Trees.first_id}
-use Rattle.filed_trees.specs.{Comparing.{earlier_text, earlier_properties}, declared.body.Body.Body, declared.body.Body.TheVariants.{Empty, New, Kept}}
-use Rattle.filed_trees.specs.{declared.places.Earlier.Earlier, declared.table.Placed.Placed, declared.table.Table.Table}
+use Rattle.filed_trees.specs.{Comparing.{earlier_text, earlier_properties, tables_of}, declared.body.Body.Body}
+use Rattle.filed_trees.specs.{declared.body.Body.TheVariants.{Empty, New, Kept}, declared.places.Earlier.Earlier, declared.places.Places.Places}
+use Rattle.filed_trees.specs.{declared.table.Placed.Placed, declared.table.Table.Table}
 
 -- something is answered only where this holds, and a fault of the file only where it does not
 abbrev pub Judges : {T : Type 0} → Result T FileFault → Type 0 → Type 0
 Judges (Ok x) P = P
 Judges (Err fault) P = IfFileFaulty fault (P → ⊥)
 
+-- what is read is what is said; a fault of the file is answered only where nothing is said
+abbrev pub Reads : {T : Type 0} → Result T FileFault → Option T → Type 0
+Reads (Ok x) said = said ≡ Some x
+Reads (Err fault) said = IfFileFaulty fault (IsSome said → ⊥)
+
+-- something that fits is read where this holds, and a fault of the file is answered only elsewhere
+abbrev pub ReadsWhere : {T : Type 0} → Result T FileFault → Type 0 → (T → Type 0) → Type 0
+ReadsWhere (Ok x) P Fits = P × Fits x
+ReadsWhere (Err fault) P Fits = IfFileFaulty fault (P → ⊥)
+
 -- something is found where this holds, and nowhere else
 abbrev pub Finds : {T : Type 0} → Option T → Type 0 → Type 0
 Finds (Some x) P = P
 Finds None P = P → ⊥
+
+-- something that fits is found, if there is any
+abbrev pub FindsOne : {T : Type 0} → Option T → (T → Type 0) → Type 0
+FindsOne {T} (Some x) Fits = Fits x
+FindsOne {T} None Fits = ((x : T) × Fits x) → ⊥
 
 abbrev pub HasPlaced : List Placed → FileId → Type 0
 HasPlaced placed id = (k : ℕ) × IsSomeAnd (slice_get placed k) (λ p. p.id ≡ id)
@@ -100,6 +116,16 @@ abbrev pub IsSaid : Option Representation → Option (List ℕ) → Body → Typ
 IsSaid line new Empty = line ≡ None
 IsSaid line new (New bytes) = new ≡ Some bytes.now
 IsSaid line new Kept = IsSome line × (new ≡ None)
+
+-- there is a first node revision, and it is tabled
+abbrev pub HasRoot : Places → Option (Bor FilePiece) → Type 0
+HasRoot places first =
+    IsSomeAnd (option_copied first) (λ piece. IsTabled (tables_of places) piece.node.id)
+
+-- a node revision can be read, where its entries are as far as the last table has come
+abbrev pub IsReadableSoFar : RevisionBytes → Places → FilePiece → Type 0
+IsReadableSoFar files places piece =
+    IsReadable files places.tables.now (IsTabled (tables_of places)) piece
 
 -- the node before is a file, or a directory
 abbrev pub IsOfKind : EntryKind → Option Earlier → Type 0

@@ -1,18 +1,17 @@
 //! The nodes of a revision, read from its file.
-ghost use Rattle.std.specs.Prelude.{◌≡◌, ◌++◌, ◌∷◌, [], ℕ, List, Option, Some, None, Ok, All, Contains, length, map, slice_get, is_some, if◌then◌else◌, IfOk};
-ghost use Rattle.std.specs.{Prelude.{option_copied, option_map, IsSomeAnd, reverse}, Arc.arc_value};
+ghost use Rattle.std.specs.Prelude.{◌≡◌, ◌++◌, ◌∷◌, [], ℕ, List, Option, Some, None, Ok, All, length, map, reverse, is_some, if◌then◌else◌, IfOk};
+ghost use Rattle.std.specs.Arc.{arc_value};
 ghost use Rattle.repo_api.specs.States.{ChangeMap};
 ghost use Rattle.repo_api.specs.declared.entry.Mark.TheVariants as marks;
-ghost use Rattle.noderevs.specs.{Heights.{AreHigh, IsHeight}, Held.{blocks_of, node_at}, Nodes.{mark_of, with_block}, declared.node_rev.Block.Block};
-ghost use Rattle.noderevs.specs.declared.node_rev.NodeId.{NodeId};
+ghost use Rattle.noderevs.specs.{Heights.{AreHigh, IsHeight}, Held.{blocks_of, node_at}, Nodes.{mark_of, with_block}};
 ghost use Rattle.revision_data.specs.Found.{found};
-ghost use Rattle.fsfs_ids.specs.{declared.id.FileId.FileId, declared.representation.Representation.Representation};
+ghost use Rattle.fsfs_ids.specs.declared.id.FileId.{FileId};
 ghost use Rattle.fsfs_reading.specs.Pieces.{revision_of};
-ghost use Rattle.filed_trees.specs.{Pieces.{RevisionBytes, properties_in, text_in}, Tables.{AreTabled, HasRows, IsAt, IsFiled, IsPlaced, placed_of}};
-ghost use Rattle.filed_trees.specs.{Trees.own_from, declared.places.Places.Places, Comparing.{AreFor, AreForAll, AreNew, CameWith, HasContent, HasEntries}};
-ghost use Rattle.filed_trees.specs.Comparing.{IsBody, IsEarlier, IsOfLast, WasFiled, earlier_own, earlier_text, revision_in, tables_of, IsHere, HaveHeights};
-ghost use Rattle.filed_trees.specs.Readable.{AreReadable, AreRightKids, AreRightProperties, IsOfKind, IsReadable, IsReadableFile, IsRightContent, IsRightText};
-ghost use Rattle.filed_trees.specs.Readable.{IsTabled, Judges};
+ghost use Rattle.filed_trees.specs.{Pieces.{RevisionBytes, properties_in}, Tables.{AreTabled, HasRows}, Trees.own_from, declared.places.Places.Places};
+ghost use Rattle.filed_trees.specs.Comparing.{AreForAll, AreNew, AreOfLast, AreReadFrom, ForFiles, HasContent, HasEntries, HasText, HaveHeights, IfCame};
+ghost use Rattle.filed_trees.specs.Comparing.{IfLineGives, IsEarlier, IsHere, IsOfLast, IsReadFrom, IsRoot, WasFiled, earlier_own, earlier_text, revision_in};
+ghost use Rattle.filed_trees.specs.{Comparing.tables_of, Readable.{AreReadable, AreRightKids, AreRightProperties, HasRoot, IsOfKind, IsReadableFile}};
+ghost use Rattle.filed_trees.specs.{Readable.{IsReadableSoFar, IsRightContent, IsRightText, IsTabled, Judges, ReadsWhere}, Values.BehindFiles};
 
 use crate::body::{Body, body_of};
 use crate::changes::{changes_by_path, note_order, read_path};
@@ -55,11 +54,9 @@ fn file_of(alloc: Global, text: &FileText) -> Result<Arc<Content>, AllocError>
 ///
 /// `Dangling` where it is no file.
 fn text_before(earlier: Option<Earlier<'_>>) -> Result<Arc<Content>, FileFault>
-    ensures text { IfOk result (λ content. (files : RevisionBytes) (places : Places)
-        → WasFiled files places earlier.entry → (t : List ℕ)
-        × ((arc_value content ≡ Content.File t)
-        × (text_in files (earlier_text earlier.entry) ≡ Some t))) }
-    ensures judges { Judges result (IsOfKind EntryKind.File earlier.entry) }
+    ensures { ReadsWhere result (IsOfKind EntryKind.File earlier.entry) (λ content.
+        (files : RevisionBytes) (places : Places) → WasFiled files places earlier.entry
+        → HasText files (earlier_text earlier.entry) (arc_value content)) }
 {
     match earlier {
         Some(earlier) if !is_directory(earlier.node) => {
@@ -79,11 +76,9 @@ impl Reading<'_> {
 
     /// Reads the text of a file. It shares what the predecessor has.
     fn text(self, body: Body<'_>, earlier: Option<Earlier<'_>>) -> Result<Arc<Content>, FileFault>
-        ensures text { IfOk result (λ content. (files : RevisionBytes) (line : Option Representation)
-            → IsBody files line (earlier_text earlier.entry) body.entry
-            → WasFiled files self.entry.places earlier.entry → (t : List ℕ)
-            × ((arc_value content ≡ Content.File t) × (text_in files line ≡ Some t))) }
-        ensures judges { Judges result (IsRightText earlier.entry body.entry) }
+        ensures { ReadsWhere result (IsRightText earlier.entry body.entry) (λ content.
+            IfLineGives self.entry.places earlier.entry body.entry
+            (λ files line. HasText files line (arc_value content))) }
     {
         match body {
             Body::Empty => Ok(Arc::new(self.alloc, Content::File(FileText::empty()))?),
@@ -98,12 +93,10 @@ impl Reading<'_> {
         body: Body<'_>,
         earlier: Option<Earlier<'_>>,
     ) -> Result<SharedMap<NodeId>, FileFault>
-        ensures kids { IfOk result (λ kids. (files : RevisionBytes) (line : Option Representation)
-            → IsBody files line (earlier_text earlier.entry) body.entry
-            → WasFiled files self.entry.places earlier.entry
-            → HasEntries files (tables_of self.entry.places) line kids) }
-        ensures judges { Judges result (AreRightKids (IsTabled (tables_of self.entry.places))
-            earlier.entry body.entry) }
+        ensures { ReadsWhere result
+            (AreRightKids (IsTabled (tables_of self.entry.places)) earlier.entry body.entry)
+            (λ kids. IfLineGives self.entry.places earlier.entry body.entry
+            (λ files line. HasEntries files (tables_of self.entry.places) line kids)) }
     {
         match body {
             Body::Empty => Ok(SharedMap::new(self.alloc)),
@@ -118,11 +111,9 @@ impl Reading<'_> {
         piece: &FilePiece,
         earlier: Option<Earlier<'_>>,
     ) -> Result<(Arc<Content>, SharedMap<NodeId>), FileFault>
-        ensures content { IfOk result (λ read. (files : RevisionBytes)
-            → CameWith files (revision_in self.entry.places) piece.now.node.text piece.now.text
-            → WasFiled files self.entry.places earlier.entry
-            → HasContent files (tables_of self.entry.places) piece.now.node (arc_value read.0)
-            read.1) }
+        ensures content { IfOk result (λ read. IfCame self.entry.places earlier.entry
+            piece.now.node.text piece.now.text (λ files. HasContent files
+            (tables_of self.entry.places) piece.now.node (arc_value read.0) read.1)) }
         ensures judges { IsHere (revision_in self.entry.places) piece.now.node.text piece.now.text
             → Judges result (IsRightContent (IsTabled (tables_of self.entry.places)) earlier.entry
             piece.now) }
@@ -144,11 +135,9 @@ impl Reading<'_> {
         piece: &FilePiece,
         earlier: Option<Earlier<'_>>,
     ) -> Result<Arc<Properties>, FileFault>
-        ensures properties { IfOk result (λ properties. (files : RevisionBytes)
-            → CameWith files (revision_in self.entry.places) piece.now.node.properties
-            piece.now.properties
-            → WasFiled files self.entry.places earlier.entry
-            → properties_in files piece.now.node.properties ≡ Some (arc_value properties)) }
+        ensures properties { IfOk result (λ properties. IfCame self.entry.places earlier.entry
+            piece.now.node.properties piece.now.properties (λ files.
+            properties_in files piece.now.node.properties ≡ Some (arc_value properties))) }
         ensures judges { IsHere (revision_in self.entry.places) piece.now.node.properties
             piece.now.properties → Judges result (AreRightProperties earlier.entry piece.now) }
     {
@@ -191,19 +180,13 @@ impl Reading<'_> {
 
     /// Reads a node, whose entries are nodes of earlier revisions or of this one.
     fn node(self, piece: &FilePiece, block: &[NodeRev]) -> Result<NodeRev, FileFault>
-        ensures filed { IfOk result (λ node. (files : RevisionBytes)
-            → AreFor files self.entry.places self.entry.changes.now.entries
-            → IsOfLast files (revision_in self.entry.places) piece.now → (id : NodeId)
-            → id.rev ≡ revision_in self.entry.places
-            → IsFiled files (tables_of self.entry.places) id node (placed_of piece.now.node)) }
+        ensures read { ForFiles self.entry (λ files.
+            IsOfLast files (revision_in self.entry.places) piece.now
+            → ReadsWhere result (IsReadableSoFar files self.entry.places piece.now)
+            (IsReadFrom files self.entry.places piece.now)) }
         ensures height { IfOk result (λ node. IsHeight (with_block
             (node_at self.entry.places.nodes.now) (revision_in self.entry.places) block.now)
             node.kids node.height) }
-        ensures judges { (files : RevisionBytes)
-            → AreFor files self.entry.places self.entry.changes.now.entries
-            → IsOfLast files (revision_in self.entry.places) piece.now
-            → Judges result (IsReadable files self.entry.places.tables.now
-            (IsTabled (tables_of self.entry.places)) piece.now) }
     {
         let path = read_path(self.alloc, &piece.node.path)?;
         let earlier = find_earlier(self.places, piece.node.predecessor)?;
@@ -226,10 +209,8 @@ impl Reading<'_> {
 
     /// Finds the root, which is the first node revision.
     fn root(self, first: Option<&FilePiece>) -> Result<NodeId, FileFault>
-        ensures at { IfOk result (λ root. IsAt (tables_of self.entry.places) (Some root)
-            (option_map (λ piece. piece.node.id) (option_copied first.entry))) }
-        ensures judges { Judges result (IsSomeAnd (option_copied first.entry)
-            (λ piece. IsTabled (tables_of self.entry.places) piece.node.id)) }
+        ensures { ReadsWhere result (HasRoot self.entry.places first.entry)
+            (IsRoot self.entry.places first.entry) }
     {
         let Some(first) = first else {
             return Err(FileFault::BadLine);
@@ -242,17 +223,10 @@ impl Reading<'_> {
         ensures long { IfOk result (λ nodes. length nodes.items ≡ length rows.now) }
         ensures heights { IfOk result (λ nodes. HaveHeights (node_at self.entry.places.nodes.now)
             (revision_in self.entry.places) nodes.items) }
-        ensures filed { IfOk result (λ nodes. (files : RevisionBytes)
-            → AreFor files self.entry.places self.entry.changes.now.entries
-            → All (λ row. IsOfLast files (revision_in self.entry.places) row.now) rows.now
-            → (id : NodeId) → id.rev ≡ revision_in self.entry.places
-            → IsPlaced files (tables_of self.entry.places) id (slice_get nodes.items id.place)
-            (slice_get (map (λ row. placed_of row.now.node) rows.now) id.place)) }
-        ensures judges { (files : RevisionBytes)
-            → AreFor files self.entry.places self.entry.changes.now.entries
-            → All (λ row. IsOfLast files (revision_in self.entry.places) row.now) rows.now
-            → Judges result (All (λ row. IsReadable files self.entry.places.tables.now
-            (IsTabled (tables_of self.entry.places)) row.now) rows.now) }
+        ensures read { ForFiles self.entry (λ files. AreOfLast files self.entry.places rows.now
+            → ReadsWhere result
+            (All (λ row. IsReadableSoFar files self.entry.places row.now) rows.now)
+            (λ nodes. AreReadFrom files self.entry.places rows.now nodes.items)) }
     {
         let mut nodes = Vec::new(self.alloc);
         for row in rows {
@@ -264,24 +238,13 @@ impl Reading<'_> {
 
     /// Reads the block of all nodes.
     fn block(self, rows: &[&FilePiece], first: Option<&FilePiece>) -> Result<Block, FileFault>
-        ensures root { IfOk result (λ block. IsAt (tables_of self.entry.places) (Some block.root)
-            (option_map (λ piece. piece.node.id) (option_copied first.entry))) }
+        ensures root { IfOk result (λ block. IsRoot self.entry.places first.entry block.root) }
         ensures heights { IfOk result (λ block. HaveHeights (node_at self.entry.places.nodes.now)
             (revision_in self.entry.places) block.nodes.items) }
-        ensures filed { IfOk result (λ block. (files : RevisionBytes)
-            → AreFor files self.entry.places self.entry.changes.now.entries
-            → All (λ row. IsOfLast files (revision_in self.entry.places) row.now) rows.now
-            → (id : NodeId) → id.rev ≡ revision_in self.entry.places
-            → IsPlaced files (tables_of self.entry.places) id
-            (slice_get block.nodes.items id.place)
-            (slice_get (map (λ row. placed_of row.now.node) rows.now) id.place)) }
-        ensures judges { (files : RevisionBytes)
-            → AreFor files self.entry.places self.entry.changes.now.entries
-            → All (λ row. IsOfLast files (revision_in self.entry.places) row.now) rows.now
-            → Judges result (IsSomeAnd (option_copied first.entry)
-            (λ piece. IsTabled (tables_of self.entry.places) piece.node.id)
-            × All (λ row. IsReadable files self.entry.places.tables.now
-            (IsTabled (tables_of self.entry.places)) row.now) rows.now) }
+        ensures read { ForFiles self.entry (λ files. AreOfLast files self.entry.places rows.now
+            → ReadsWhere result (HasRoot self.entry.places first.entry
+            × All (λ row. IsReadableSoFar files self.entry.places row.now) rows.now)
+            (λ block. AreReadFrom files self.entry.places rows.now block.nodes.items)) }
     {
         let root = self.root(first)?;
         let nodes = self.nodes(rows)?;
@@ -308,15 +271,13 @@ fn read_block<'a>(
     changes: &'a BTreeMap<Path, Change>,
     pieces: &'a [FilePiece],
 ) -> Result<(Block, Table), FileFault>
-    ensures new { IfOk result (λ read. (files : RevisionBytes)
+    ensures read { (files : RevisionBytes)
         → AreForAll files nodes.now tables.now changes.now.entries pieces.now
-        → AreNew files tables.now read.0 read.1 pieces.now) }
+        → ReadsWhere result (AreReadable files tables.now pieces.now)
+        (λ read. AreNew files tables.now read.0 read.1 pieces.now) }
     ensures rows { IfOk result (λ read. HasRows pieces.now read.1) }
     ensures heights { IfOk result (λ read. HaveHeights (node_at nodes.now) (length tables.now)
         read.0.nodes.items) }
-    ensures judges { (files : RevisionBytes)
-        → AreForAll files nodes.now tables.now changes.now.entries pieces.now
-        → Judges result (AreReadable files tables.now pieces.now) }
 {
     let rows = by_offset(alloc, pieces)?;
     let table = table_of(alloc, rows.as_slice())?;
@@ -360,26 +321,18 @@ pub fn read_next<'a>(
     tables: &'a PVec<Table>,
     file: &'a RevisionFile,
 ) -> Result<ReadRevision, FileFault>
-    ensures tabled { IfOk result (λ read. (files : RevisionBytes) (bytes : List ℕ)
-        (blocks more : List Block) (lists : List ChangeMap)
-        → AreTabled files blocks tables.now lists → blocks_of nodes.now ≡ blocks ++ more
-        → revision_of (length tables.now) bytes
-        ≡ Ok (file.now.pieces.items, file.now.changes.items)
-        → AreTabled (files ++ bytes ∷ []) (blocks ++ read.block ∷ [])
-        (tables.now ++ read.table ∷ []) (lists ++ read.changes ∷ [])) }
+    ensures tabled { IfOk result (λ read. BehindFiles nodes.now tables.now file.now
+        (λ files bytes blocks lists. AreTabled (files ++ bytes ∷ []) (blocks ++ read.block ∷ [])
+        (tables.now ++ read.table ∷ []) (lists ++ read.changes ∷ []))) }
     ensures high { (files : RevisionBytes) (bytes : List ℕ) (lists : List ChangeMap)
         → AreTabled files (blocks_of nodes.now) tables.now lists
         → revision_of (length tables.now) bytes
         ≡ Ok (file.now.pieces.items, file.now.changes.items)
         → IfOk result (λ read. AreHigh (with_block (node_at nodes.now) (length tables.now)
         read.block.nodes.items)) }
-    ensures judges { (files : RevisionBytes) (bytes : List ℕ) (blocks more : List Block)
-        (lists : List ChangeMap)
-        → AreTabled files blocks tables.now lists → blocks_of nodes.now ≡ blocks ++ more
-        → revision_of (length tables.now) bytes
-        ≡ Ok (file.now.pieces.items, file.now.changes.items)
-        → Judges result (IsReadableFile (files ++ bytes ∷ []) tables.now file.now.pieces.items
-        file.now.changes.items) }
+    ensures judges { BehindFiles nodes.now tables.now file.now (λ files bytes blocks lists.
+        Judges result (IsReadableFile (files ++ bytes ∷ []) tables.now file.now.pieces.items
+        file.now.changes.items)) }
 {
     let changes = changes_by_path(alloc, file.changes.as_slice())?;
     note_order(&changes);

@@ -1,6 +1,6 @@
 //! What a line of a node revision gives.
 ghost use Rattle.std.specs.Prelude.{◌≡◌, true, IfOk, Decides};
-ghost use Rattle.filed_trees.specs.{Pieces.RevisionBytes, Comparing.{CameWith, IsBody, IsHere}, Readable.{IsKept, IsSaid, Judges}};
+ghost use Rattle.filed_trees.specs.{Pieces.RevisionBytes, Comparing.{CameWith, IsBody, IsHere}, Readable.{IsKept, IsSaid, ReadsWhere}};
 
 use fsfs_ids::Representation;
 use fsfs_lines::FileFault;
@@ -36,8 +36,8 @@ pub(crate) fn body_of<'a>(
 ) -> Result<Body<'a>, FileFault>
     ensures body { IfOk result (λ body. (files : RevisionBytes)
         → CameWith files revision line new.now → IsBody files line kept body) }
-    ensures judges { IsHere revision line new.now → Judges result (IsKept line new.now kept) }
-    ensures said { IsHere revision line new.now → IfOk result (λ body. IsSaid line new.now body) }
+    ensures read { IsHere revision line new.now → ReadsWhere result (IsKept line new.now kept)
+        (IsSaid line new.now) }
 {
     let Some(line) = line else {
         return Ok(Body::Empty);

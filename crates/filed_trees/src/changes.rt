@@ -1,7 +1,7 @@
 //! The changes that a revision's file says.
 ghost use Rattle.std.specs.{Prelude.{◌≡◌, true, IfOk, Some, IsSome, Decides}, List.Sorted.IsStrictlySortedBy, Map.keys_of, Result.result_ok};
 ghost use Rattle.svnpath.specs.{Paths.path_cmp, Texts.parsed};
-ghost use Rattle.filed_trees.specs.{Changes.{action_in, source_in, change_in, changes_by}, Readable.Judges};
+ghost use Rattle.filed_trees.specs.{Changes.{action_in, source_in, change_in, changes_by}, Readable.{Judges, Reads}};
 
 use byte_string::ByteString;
 use fsfs_ids::Place;
@@ -14,8 +14,7 @@ use svnpath::{Path, PathFault};
 
 /// Reads a path.
 pub(crate) fn read_path(alloc: Global, text: &ByteString) -> Result<Path, FileFault>
-    ensures path { IfOk result (λ path. result_ok (parsed text.now) ≡ Some path) }
-    ensures judges { Judges result (IsSome (result_ok (parsed text.now))) }
+    ensures { Reads result (result_ok (parsed text.now)) }
 {
     match Path::parse(alloc, text.as_slice()) {
         Ok(path) => Ok(path),
@@ -38,8 +37,7 @@ fn action_in(action: FileAction) -> Action
 
 /// Reads the source of a copy, if there is one.
 fn read_source(alloc: Global, place: &Option<Place>) -> Result<Option<Source>, FileFault>
-    ensures source { IfOk result (λ source. source_in place.now ≡ Some source) }
-    ensures judges { Judges result (IsSome (source_in place.now)) }
+    ensures { Reads result (source_in place.now) }
 {
     let Some(place) = place else {
         return Ok(None);
@@ -54,8 +52,7 @@ fn read_source(alloc: Global, place: &Option<Place>) -> Result<Option<Source>, F
 /// Reads a changed path, and its change.
 #[tactic(auto, unfolding(crate::specs::Changes::change_in))]
 fn read_change(alloc: Global, change: &FileChange) -> Result<(Path, Change), FileFault>
-    ensures change { IfOk result (λ p. change_in change.now ≡ Some p) }
-    ensures judges { Judges result (IsSome (change_in change.now)) }
+    ensures { Reads result (change_in change.now) }
 {
     let path = read_path(alloc, &change.path)?;
     let source = read_source(alloc, &change.source)?;

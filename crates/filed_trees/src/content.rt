@@ -1,6 +1,6 @@
 //! Checks of what a file says.
 ghost use Rattle.filed_trees.specs.Readable.{Judges};
-ghost use Rattle.std.specs.Prelude.{◌≡◌, true, IfOk};
+ghost use Rattle.std.specs.Prelude.{◌≡◌, true};
 
 use fsfs_lines::FileFault;
 use next_blocks::are_same_properties;
@@ -9,8 +9,7 @@ use std::alloc::Global;
 
 /// Answers a malformed line where something does not hold.
 pub(crate) fn check(holds: bool) -> Result<(), FileFault>
-    ensures holds { IfOk result (λ _. holds ≡ true) }
-    ensures judges { Judges result (holds ≡ true) }
+    ensures { Judges result (holds ≡ true) }
 {
     if holds {
         Ok(())
@@ -29,8 +28,7 @@ pub fn check_same_properties(
     properties: &Properties,
     others: &Properties,
 ) -> Result<(), FileFault>
-    ensures same { IfOk result (λ _. others.now ≡ properties.now) }
-    ensures judges { Judges result (others.now ≡ properties.now) }
+    ensures { Judges result (others.now ≡ properties.now) }
 {
     check(are_same_properties(alloc, others, properties)?)
 }

@@ -4,9 +4,9 @@ ghost use Rattle.svnpath.specs.Paths.{Component, same_component};
 ghost use Rattle.repo_api.specs.Trees.{is_directory_content};
 ghost use Rattle.noderevs.specs.{Nodes.kid_named, declared.node_rev.NodeId.NodeId};
 ghost use Rattle.fsfs_ids.specs.declared.representation.Representation.{Representation};
-ghost use Rattle.filed_trees.specs.{Pieces.{RevisionBytes, body_at_line, entry_named}, Tables.IsAt};
-ghost use Rattle.filed_trees.specs.{Comparing.{AreNamed, HasEntries, WasFiled, earlier_text, id_at, tables_of}, declared.places.Places.Places};
-ghost use Rattle.filed_trees.specs.Readable.{AreEntries, IsOfKind, IsTabled, Judges};
+ghost use Rattle.filed_trees.specs.{Pieces.{RevisionBytes, body_at_line}, Tables.IsAt};
+ghost use Rattle.filed_trees.specs.{Comparing.{AreAt, AreNamed, HasEntries, WasFiled, earlier_text, id_at, tables_of}, declared.places.Places.Places};
+ghost use Rattle.filed_trees.specs.Readable.{AreEntries, IsOfKind, IsTabled, Judges, ReadsWhere};
 ghost use Rattle.fsfs_nodes.specs.{Entries.entries_of, declared.entries.EntryKind.TheVariants.Directory};
 
 use crate::kids::ids_by_name;
@@ -38,10 +38,9 @@ fn node_named(
     ids: &BTreeMap<ByteString, FileId>,
     name: &ByteString,
 ) -> Result<NodeId, FileFault>
-    ensures at { IfOk result (λ node. IsAt (tables_of places.entry) (Some node)
-        (id_at ids.now.entries name.now)) }
-    ensures judges { Judges result (IsSomeAnd (id_at ids.now.entries name.now)
-        (IsTabled (tables_of places.entry))) }
+    ensures { ReadsWhere result (IsSomeAnd (id_at ids.now.entries name.now)
+        (IsTabled (tables_of places.entry)))
+        (λ node. IsAt (tables_of places.entry) (Some node) (id_at ids.now.entries name.now)) }
 {
     let Some(id) = ids.get(name) else {
         return Err(FileFault::BadLine);
@@ -138,9 +137,8 @@ fn set_kids(
     kids: &mut SharedMap<NodeId>,
     entries: &[DirectoryEntry],
 ) -> Result<(), FileFault>
-    ensures kids { IfOk result (λ _. (name : Component) → IsAt (tables_of places.entry)
-        (kid_named kids.new name) (entry_named name entries.now)) }
-    ensures judges { Judges result (AreEntries (IsTabled (tables_of places.entry)) entries.now) }
+    ensures { ReadsWhere result (AreEntries (IsTabled (tables_of places.entry)) entries.now)
+        (λ _. AreAt (tables_of places.entry) kids.new entries.now) }
 {
     let ids = ids_by_name(alloc, entries)?;
     let others = other_names(alloc, kids, &ids)?;
@@ -170,11 +168,11 @@ pub(crate) fn read_kids(
     bytes: &[u8],
     earlier: Option<Earlier<'_>>,
 ) -> Result<SharedMap<NodeId>, FileFault>
-    ensures kids { IfOk result (λ kids. (files : RevisionBytes) (line : Option Representation)
+    ensures { ReadsWhere result (IsSomeAnd (result_ok (entries_of bytes.now))
+        (AreEntries (IsTabled (tables_of places.entry))))
+        (λ kids. (files : RevisionBytes) (line : Option Representation)
         → IsSomeAnd line (λ l. body_at_line files l ≡ Some bytes.now)
         → HasEntries files (tables_of places.entry) line kids) }
-    ensures judges { Judges result (IsSomeAnd (result_ok (entries_of bytes.now))
-        (AreEntries (IsTabled (tables_of places.entry)))) }
 {
     let entries = read_entries(alloc, bytes)?;
     let mut kids = shared_kids(alloc, earlier)?;
@@ -196,10 +194,9 @@ pub(crate) fn same_kids(
     alloc: Global,
     earlier: Option<Earlier<'_>>,
 ) -> Result<SharedMap<NodeId>, FileFault>
-    ensures kids { IfOk result (λ kids. (files : RevisionBytes) (places : Places)
-        → WasFiled files places earlier.entry
+    ensures { ReadsWhere result (IsOfKind Directory earlier.entry) (λ kids.
+        (files : RevisionBytes) (places : Places) → WasFiled files places earlier.entry
         → HasEntries files (tables_of places) (earlier_text earlier.entry) kids) }
-    ensures judges { Judges result (IsOfKind Directory earlier.entry) }
 {
     match earlier {
         Some(earlier) if is_directory(earlier.node) => Ok(earlier.node.kids.share(alloc)?),

@@ -2,7 +2,7 @@
 ghost use Rattle.std.specs.Prelude.{◌≡◌, ◌++◌, ◌∷◌, [], true, All, IfOk, IsSome, None, Some, Decides};
 ghost use Rattle.svnpath.specs.Paths.{Component};
 ghost use Rattle.noderevs.specs.{Nodes.kid_of, declared.node_rev.NodeId.NodeId};
-ghost use Rattle.filed_trees.specs.{Pieces.entry_named, Tables.IsAt, Comparing.{IsAmong, id_at}, Readable.{AreOnce, Judges}};
+ghost use Rattle.filed_trees.specs.{Pieces.entry_named, Comparing.{IsAmong, id_at}, Readable.{AreOnce, ReadsWhere}};
 
 use byte_string::ByteString;
 use fsfs_ids::FileId;
@@ -78,9 +78,8 @@ pub(crate) fn ids_by_name(
     alloc: Global,
     entries: &[DirectoryEntry],
 ) -> Result<BTreeMap<ByteString, FileId>, FileFault>
-    ensures ids { IfOk result (λ ids. (name : Component)
+    ensures { ReadsWhere result (AreOnce entries.now) (λ ids. (name : Component)
         → id_at ids.entries name ≡ entry_named name entries.now) }
-    ensures judges { Judges result (AreOnce entries.now) }
 {
     let mut ids = BTreeMap::new(alloc);
     for entry in entries {

@@ -1,7 +1,7 @@
 //! Where nodes stand in the files, as far as that is known.
 ghost use Rattle.std.specs.Prelude.{◌≡◌, ◌≤◌, ◌∷◌, ◌++◌, [], true, IfOk, IfSome, IsSomeAnd, length, option_copied, option_map, slice_get, Some, Decides};
 ghost use Rattle.filed_trees.specs.{Comparing.{IsEarlier, earlier_text, earlier_properties, tables_of, AreFor}, Tables.{IsAt, placed_in}};
-ghost use Rattle.filed_trees.specs.{Readable.{Finds, HasPlaced, IsTabled, Judges}, Pieces.RevisionBytes, Changes.ChangeRows};
+ghost use Rattle.filed_trees.specs.{Readable.{Finds, FindsOne, IsTabled, Judges}, Pieces.RevisionBytes, Changes.ChangeRows};
 
 use crate::table::{Placed, Table};
 use fsfs_ids::{FileId, Representation};
@@ -51,8 +51,7 @@ fn first_from(placed: &[Placed], offset: u64) -> usize
 
 /// Finds the place of an id by going over all.
 fn scanned(placed: &[Placed], id: FileId) -> Option<usize>
-    ensures at { IfSome result (λ k. IsSomeAnd (slice_get placed.now k) (λ p. p.id ≡ id)) }
-    ensures finds { Finds result (HasPlaced placed.now id) }
+    ensures { FindsOne result (λ k. IsSomeAnd (slice_get placed.now k) (λ p. p.id ≡ id)) }
 {
     for k in 0..placed.len() {
         if is_same_id(placed[k].id, id) {
@@ -64,8 +63,7 @@ fn scanned(placed: &[Placed], id: FileId) -> Option<usize>
 
 /// Finds the place of an id. That is quick where offsets rise with the places.
 fn place_of(placed: &[Placed], id: FileId) -> Option<usize>
-    ensures at { IfSome result (λ k. IsSomeAnd (slice_get placed.now k) (λ p. p.id ≡ id)) }
-    ensures finds { Finds result (HasPlaced placed.now id) }
+    ensures { FindsOne result (λ k. IsSomeAnd (slice_get placed.now k) (λ p. p.id ≡ id)) }
 {
     let place = first_from(placed, id.offset);
     if place < placed.len() && is_same_id(placed[place].id, id) {

@@ -1,8 +1,7 @@
 //! The nodes of the last revision, compared with those that its file says.
-ghost use Rattle.std.specs.{Prelude.{◌≡◌, ◌++◌, ◌∷◌, [], true, List, length, slice_get, IfOk, Decides}, FinMap.entries};
-ghost use Rattle.repo_api.specs.States.{ChangeMap};
-ghost use Rattle.noderevs.specs.{Held.{blocks_of, node_at}, Nodes.mark_of, declared.node_rev.Block.Block, declared.node_rev.NodeId.NodeId};
-ghost use Rattle.filed_trees.specs.{Pieces.RevisionBytes, Tables.AreTabled, Readable.Judges, Values.IsFiledNext, Comparing.{AreSame, IsLast, IsSameNode}};
+ghost use Rattle.std.specs.Prelude.{◌≡◌, ◌++◌, ◌∷◌, [], true, slice_get, IfOk, Decides};
+ghost use Rattle.noderevs.specs.{Held.node_at, Nodes.mark_of, declared.node_rev.NodeId.NodeId};
+ghost use Rattle.filed_trees.specs.{Tables.AreTabled, Readable.Judges, Values.{IsFiledNext, WithLast}, Comparing.{AreSame, IsLast, IsSameNode}};
 
 use crate::blocks::{ReadRevision, read_next};
 use crate::changes::{are_same_changes, is_same_path};
@@ -106,18 +105,11 @@ pub fn tabulated(
     changes: &[(Path, Change)],
     file: &[u8],
 ) -> Result<Table, FileFault>
-    ensures tabled { IfOk result (λ table. (files : RevisionBytes) (blocks : List Block) (block : Block)
-        (lists : List ChangeMap) (list : ChangeMap)
-        → AreTabled files blocks tables.now lists
-        → blocks_of nodes.now ≡ blocks ++ block ∷ [] → entries list ≡ changes.now
-        → AreTabled (files ++ file.now ∷ []) (blocks ++ block ∷ [])
-        (tables.now ++ table ∷ []) (lists ++ list ∷ [])) }
-    ensures judges { (files : RevisionBytes) (blocks : List Block) (block : Block)
-        (lists : List ChangeMap) (list : ChangeMap)
-        → AreTabled files blocks tables.now lists
-        → blocks_of nodes.now ≡ blocks ++ block ∷ [] → entries list ≡ changes.now
-        → Judges result (IsFiledNext (files ++ file.now ∷ []) tables.now file.now
-        (blocks ++ block ∷ []) (lists ++ list ∷ [])) }
+    ensures tabled { IfOk result (λ table. WithLast nodes.now tables.now changes.now
+        (λ files blocks lists. AreTabled (files ++ file.now ∷ []) blocks (tables.now ++ table ∷ [])
+        lists)) }
+    ensures judges { WithLast nodes.now tables.now changes.now (λ files blocks lists.
+        Judges result (IsFiledNext (files ++ file.now ∷ []) tables.now file.now blocks lists)) }
 {
     let revision = tables.len() as u32;
     let file = read_revision(alloc, revision, file)?;

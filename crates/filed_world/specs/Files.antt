@@ -3,8 +3,8 @@ use Rattle.std.specs.{Prelude.{◌≡◌, ℕ, suc, List, [], ◌∷◌, ◌++�
 use Rattle.svnpath.specs.Paths.{PathValue}
 use Rattle.repo_api.specs.{Properties.PropertyList, States.{LockMap, RepoState}, declared.lock.Lock.Lock}
 use Rattle.noderevs.specs.Held.{blocks_of}
-use Rattle.held.specs.declared.held.Held.{Held}
-use Rattle.world.specs.Whole.{world_content}
+use Rattle.held.specs.{Growing.{HasOneMore, HasSame}, declared.held.Held.Held}
+use Rattle.world.specs.{Whole.world_content, declared.world.World.World}
 use Rattle.repostore.specs.Files.{Files}
 use Rattle.fsfs_folder.specs.{Current.current_of, Identity.uuid_of, declared.current.Current.Current}
 use Rattle.filed_trees.specs.{StandsFor.{lock_of, locks_in, revision_bytes, revision_properties}, Tables.AreTabled, declared.table.Table.Table}
@@ -48,3 +48,17 @@ pub record HasOneMoreList (before after : Held) : Type 0 where
 pub record HasOtherList (before after : Held) (revision : ℕ) : Type 0 where
   pub list : PropertyList
   pub lists : after.properties ≡ slice_set before.properties revision list
+
+-- one revision has come behind those of a world; its name and its locks are the same
+pub record HasOneMoreRevision (before after : World) : Type 0 where
+  pub more : HasOneMore before.held.value after.held.value
+  pub uuid : after.held.value.uuid ≡ before.held.value.uuid
+  pub locks : after.locks.value ≡ before.locks.value
+  pub list : HasOneMoreList before.held.value after.held.value
+
+-- the properties of a revision have become others; all else of a world is the same
+pub record HasOtherProperties (before after : World) (revision : ℕ) : Type 0 where
+  pub same : HasSame before.held.value after.held.value
+  pub uuid : after.held.value.uuid ≡ before.held.value.uuid
+  pub locks : after.locks.value ≡ before.locks.value
+  pub other : HasOtherList before.held.value after.held.value revision

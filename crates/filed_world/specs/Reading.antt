@@ -1,13 +1,15 @@
 -- The files of a repository that are read, one revision after another.
-use Rattle.std.specs.{Prelude.{◌≡◌, ℕ, suc, List, [], ◌∷◌, ◌++◌, None, Some, Ok, codes, length, slice_get}, Result.result_ok, FinMap.entries}
-use Rattle.repo_api.specs.{Properties.PropertyList, States.{ChangeMap, LockMap}}
+use Rattle.std.specs.{Prelude.{◌≡◌, ℕ, suc, List, [], ◌∷◌, ◌++◌, Option, None, Some, IsSome, Result, Ok, Err, codes, length, slice_get}, Result.result_ok}
+use Rattle.std.specs.FinMap.{entries}
+use Rattle.repo_api.specs.{Opening.new_repository, Properties.PropertyList, States.{ChangeMap, LockMap}}
 use Rattle.noderevs.specs.{Heights.AreHigh, Held.{blocks_of, count, node_at}, Nodes.with_block, OpeningBlocks.AreOpening, declared.node_rev.Block.Block}
 use Rattle.held.specs.declared.held.Held.{Held}
-use Rattle.world.specs.{Adding.HasAdded, declared.world.World.World}
-use Rattle.repostore.specs.{Current.count_in, Files.Files}
-use Rattle.fsfs_folder.specs.{Current.current_of, Identity.uuid_of, declared.current.Current.Current}
-use Rattle.filed_trees.specs.{Pieces.RevisionBytes, Readable.IsReadableFile, StandsFor.{revision_bytes, revision_properties}, Tables.AreTabled}
-use Rattle.filed_trees.specs.{declared.blocks.ReadRevision.ReadRevision, declared.table.Table.Table}
+use Rattle.world.specs.{Adding.HasAdded, Whole.world_content, declared.world.World.World}
+use Rattle.repostore.specs.{Current.count_in, Files.{Files, RevisionFiles}, Reading.{IfFileFaulty, with_one_more, with_read_locks}}
+use Rattle.fsfs_lines.specs.declared.fault.FileFault.{FileFault}
+use Rattle.fsfs_folder.specs.{Current.current_of, Identity.uuid_of, Properties.properties_of, declared.current.Current.Current}
+use Rattle.filed_trees.specs.{Pieces.RevisionBytes, Readable.{IsReadableFile, Judges}, StandsFor.{locks_in, revision_bytes, revision_properties}}
+use Rattle.filed_trees.specs.{Tables.AreTabled, declared.blocks.ReadRevision.ReadRevision, declared.table.Table.Table}
 use Rattle.filed_world.specs.{Files.AreLocks, Histories.{HasHistory, History, IsHistory, held_history}, declared.filed_world.FiledWorld.FiledWorld}
 use Rattle.fsfs_judging.specs.Judging.{judged_revision}
 use Rattle.fsfs_parts.specs.declared.change.FileChange.{FileChange}
@@ -62,32 +64,77 @@ pub record AreRead (h : Held) (locks : LockMap) (tables : List Table) (current :
 abbrev pub HasRead : FiledWorld → Files → Type 0
 HasRead f files = AreRead f.world.held.value f.world.locks.value f.tables f.current files
 
+-- no revision has been read yet; where the world is a new repository, the files that are read first
+-- have been
+abbrev pub HasReadFirst : World → Current → FiledWorld → Type 0
+HasReadFirst world current f = (f.tables ≡ [])
+    × ((uuid : ℕ) (date : List ℕ) (files : Files) → world_content world ≡ new_repository uuid date
+    → AreFirst uuid current files → HasRead f files)
+
+-- the files that were read before have been read, and those of one more revision
+abbrev pub HasReadMore : FiledWorld → RevisionFiles → FiledWorld → Type 0
+HasReadMore before new f =
+    (files : Files) → HasRead before files → HasRead f (with_one_more files new)
+
+-- and the file of locks
+abbrev pub HasReadLocks : FiledWorld → Option (List ℕ) → FiledWorld → Type 0
+HasReadLocks before locks f =
+    (files : Files) → HasRead before files → HasRead f (with_read_locks files locks)
+
+-- by the result: the file of locks has been read, or is faulty, as it says none
+abbrev pub ReadsLocks : FiledWorld → Option (List ℕ) → Result FiledWorld FileFault → Type 0
+ReadsLocks before locks (Ok f) = HasReadLocks before locks f
+ReadsLocks before locks (Err fault) = IfFileFaulty fault (locks_in locks ≡ None)
+
+-- these are the files of the revisions that have been read, and those of a history
+abbrev pub HasReadHistory : FiledWorld → RevisionBytes → Type 0
+HasReadHistory f files = IsHistory (read_history f.world.held.value f.tables files)
+
+-- behind these, the files of one more revision are those of a history, and say its properties
+abbrev pub ContinueHistory : RevisionBytes → RevisionFiles → Type 0
+ContinueHistory files new =
+    HasHistory (files ++ new.0 ∷ []) × IsSome (result_ok (properties_of new.1))
+
+-- the files of one more revision are judged by whether they continue the history
+abbrev pub JudgesNext : FiledWorld → RevisionFiles → Result FiledWorld FileFault → Type 0
+JudgesNext before new result = (files : RevisionBytes) → HasReadHistory before files
+    → Judges result (ContinueHistory files new)
+
+-- those of revision 0, by whether they say that of a new repository with these properties
+abbrev pub JudgesFirst : {T : Type 0} → World → RevisionFiles → Result T FileFault → Type 0
+JudgesFirst world new result =
+    (list : PropertyList) → IsNew world.held.value
+    → slice_get world.held.value.properties 0 ≡ Some list
+    → Judges result (HasHistory (new.0 ∷ []) × (result_ok (properties_of new.1) ≡ Some list))
+
 -- what is said of files that say what is held
-abbrev pub WhereTabled : Held → List Table → (RevisionBytes → Type 0) → Type 0
-WhereTabled h tables P =
-    (files : RevisionBytes) → AreTabled files (blocks_of h.nodes) tables h.changes → P files
+abbrev pub WhereTabled : FiledWorld → (RevisionBytes → Type 0) → Type 0
+WhereTabled f P = (files : RevisionBytes)
+    → AreTabled files (blocks_of f.world.held.value.nodes) f.tables f.world.held.value.changes
+    → P files
 
 -- this was read of the file of the next revision, which is judged to be right
-pub record IsSaidNext (h : Held) (tables : List Table) (file : List ℕ) (read : ReadRevision) : Type 0 where
+pub record IsSaidNext (f : FiledWorld) (file : List ℕ) (read : ReadRevision) : Type 0 where
   pub pieces : List FilePiece
   pub said : List FileChange
-  pub says : revision_of (length tables) file ≡ Ok (pieces, said)
-  pub judged : judged_revision (length tables) pieces said ≡ Ok tt
-  pub readable : WhereTabled h tables (λ files.
-      IsReadableFile (files ++ file ∷ []) tables pieces said)
-  pub tabled : WhereTabled h tables (λ files. AreTabled (files ++ file ∷ [])
-      (blocks_of h.nodes ++ read.block ∷ []) (tables ++ read.table ∷ []) (h.changes ++ read.changes ∷ []))
-  pub high : WhereTabled h tables (λ files.
-      AreHigh (with_block (node_at h.nodes) (count h.nodes) read.block.nodes.items))
+  pub says : revision_of (length f.tables) file ≡ Ok (pieces, said)
+  pub judged : judged_revision (length f.tables) pieces said ≡ Ok tt
+  pub readable : WhereTabled f (λ files. IsReadableFile (files ++ file ∷ []) f.tables pieces said)
+  pub tabled : WhereTabled f (λ files. AreTabled (files ++ file ∷ [])
+      (blocks_of f.world.held.value.nodes ++ read.block ∷ []) (f.tables ++ read.table ∷ [])
+      (f.world.held.value.changes ++ read.changes ∷ []))
+  pub high : WhereTabled f (λ files. AreHigh (with_block (node_at f.world.held.value.nodes)
+      (count f.world.held.value.nodes) read.block.nodes.items))
 
--- the file of the next revision was read back: it says that of what is held then, as opening reads it
-pub record IsReadBack (h : Held) (tables : List Table) (after : Held) (file : List ℕ)
+-- the file of the next revision was read back: it says that of the world, as opening reads it
+pub record IsReadBack (before : FiledWorld) (world : World) (file : List ℕ)
     (now : List Table) : Type 0 where
   pub table : Table
-  pub tables_are : now ≡ tables ++ table ∷ []
-  pub tabled : WhereTabled h tables (λ files. AreTabled (files ++ file ∷ []) (blocks_of after.nodes)
-      now after.changes)
-  pub history : (files : RevisionBytes) → IsHistory (held_history h tables files)
+  pub tables_are : now ≡ before.tables ++ table ∷ []
+  pub tabled : WhereTabled before (λ files. AreTabled (files ++ file ∷ [])
+      (blocks_of world.held.value.nodes) now world.held.value.changes)
+  pub history : (files : RevisionBytes)
+      → IsHistory (held_history before.world.held.value before.tables files)
       → HasHistory (files ++ file ∷ [])
 
 -- behind the revisions that have tables comes one more

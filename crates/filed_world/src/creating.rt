@@ -1,10 +1,10 @@
 //! A new repository, and its files.
-ghost use Rattle.std.specs.{Prelude.{◌≡◌, ◌≤◌, List, ℕ, IfOk, None, Some, []}, Result.result_ok};
+ghost use Rattle.std.specs.{Prelude.{◌≡◌, ◌≤◌, List, ℕ, IfOk, None, Some}, Result.result_ok};
 ghost use Rattle.dates.specs.{Dates.IsDateText, declared.TheConstants.LAST_MOMENT};
 ghost use Rattle.repo_api.specs.Opening.{new_repository};
-ghost use Rattle.repostore.specs.{Creating.opening_files, Current.count_in, Files.Files};
-ghost use Rattle.fsfs_folder.specs.{Current.current_of, Identity.uuid_of};
-ghost use Rattle.filed_world.specs.{Files.{IsOf, filed_content}, Creating.new_files, Reading.{AreFirst, HasRead, IsNextOf}};
+ghost use Rattle.repostore.specs.{Creating.opening_files, Current.count_in};
+ghost use Rattle.fsfs_folder.specs.Identity.{uuid_of};
+ghost use Rattle.filed_world.specs.{Files.{IsOf, filed_content}, Creating.{SayNew, new_files}, Reading.{HasReadFirst, IsNextOf}};
 ghost use Rattle.world.specs.Whole.{world_content};
 
 use crate::filed_world::FiledWorld;
@@ -64,12 +64,7 @@ fn uuid_file(alloc: Global, uuid: u128) -> Result<Vec<u8>, AllocError>
 
 /// Makes the files of a new repository, and says which ids come next behind them.
 fn first_files(alloc: Global, world: &World) -> Result<(NewFiles, Current), AllocError>
-    ensures uuid { IfOk result (λ made.
-        result_ok (uuid_of made.0.uuid.items) ≡ Some world.now.held.value.uuid) }
-    ensures current { IfOk result (λ made. result_ok (current_of made.0.current.items)
-        ≡ Some made.1) }
-    ensures youngest { IfOk result (λ made. made.1.youngest ≡ 0) }
-    ensures count { IfOk result (λ made. count_in made.0.current.items ≡ Some 1) }
+    ensures { IfOk result (λ made. SayNew world.now.held.value.uuid made.1 made.0) }
 {
     let Some(list) = world.revision_properties(0) else {
         return Err(AllocError);
@@ -94,10 +89,7 @@ fn first_files(alloc: Global, world: &World) -> Result<(NewFiles, Current), Allo
 
 /// Begins with a new repository, of which no revision has been read.
 fn unread(alloc: Global, world: &World, current: Current) -> Result<FiledWorld, AllocError>
-    ensures none { IfOk result (λ unread. unread.tables ≡ []) }
-    ensures read { IfOk result (λ unread. (uuid : ℕ) (date : List ℕ) (files : Files)
-        → world_content world.now ≡ new_repository uuid date → AreFirst uuid current files
-        → HasRead unread files) }
+    ensures read { IfOk result (HasReadFirst world.now current) }
     ensures next { IfOk result (λ unread. (uuid : ℕ) (date : List ℕ)
         → world_content world.now ≡ new_repository uuid date → IsNextOf unread world.now) }
 {
@@ -111,10 +103,7 @@ fn with_files(
     files: &NewFiles,
     current: Current,
 ) -> Result<FiledWorld, AllocError>
-    requires uuid { result_ok (uuid_of files.now.uuid.items) ≡ Some world.held.value.uuid }
-    requires current { result_ok (current_of files.now.current.items) ≡ Some current }
-    requires youngest { current.youngest ≡ 0 }
-    requires count { count_in files.now.current.items ≡ Some 1 }
+    requires { SayNew world.held.value.uuid current files.now }
     ensures world { IfOk result (λ made. made.world ≡ world) }
     ensures files { IfOk result (λ made. (uuid : ℕ) (date : List ℕ)
         → world_content world ≡ new_repository uuid date → IsOf made (new_files files.now)) }

@@ -1,8 +1,8 @@
 //! The repository behind each change, with its files.
-ghost use Rattle.std.specs.Prelude.{◌≡◌, ◌+◌, ◌<◌, ◌++◌, ◌∷◌, [], Some, IfOk, length};
-ghost use Rattle.held.specs.Growing.{HasOneMore, HasSame};
-ghost use Rattle.repostore.specs.{Current.count_in, Files.{Files, with_locks, with_properties, with_revision}};
-ghost use Rattle.filed_world.specs.{Reading.IsReadBack, Files.{AreLocks, HasOneMoreList, HasOtherList, IsOf, filed_content}};
+ghost use Rattle.std.specs.Prelude.{◌≡◌, ◌<◌, ◌++◌, ◌∷◌, [], Some, IfOk, length};
+ghost use Rattle.held.specs.Growing.{HasOneMore};
+ghost use Rattle.store_access.specs.Filing.{WritesLocks, WritesProperties, WritesRevision};
+ghost use Rattle.filed_world.specs.{Reading.IsReadBack, Files.{AreLocks, HasOneMoreRevision, HasOtherProperties, IsOf, filed_content}};
 
 use crate::filed_world::FiledWorld;
 use crate::written::{current_file, locks_file, properties_file};
@@ -46,9 +46,8 @@ impl FiledWorld {
     /// Makes the repository with other locks, and the file of its locks.
     pub(crate) fn with_locks(&self, world: World) -> Result<(FiledWorld, Vec<u8>), AllocError>
         requires { world.held.value ≡ self.now.world.held.value }
-        ensures content { IfOk result (λ made. made.0.world ≡ world) }
-        ensures files { IfOk result (λ made. (files : Files) → IsOf self.now files
-            → IsOf made.0 (with_locks files made.1.items)) }
+        ensures world { IfOk result (λ made. made.0.world ≡ world) }
+        ensures files { IfOk result (λ made. WritesLocks IsOf self.now made.1.items made.0) }
     {
         let file = all_locks_file(self.alloc, &world)?;
         let tables = self.tables.share()?;
@@ -67,15 +66,11 @@ impl FiledWorld {
         world: World,
         revision: u64,
     ) -> Result<(FiledWorld, NewProperties), AllocError>
-        requires same { HasSame self.now.world.held.value world.held.value }
-        requires uuid { world.held.value.uuid ≡ self.now.world.held.value.uuid }
-        requires locks { world.locks.value ≡ self.now.world.locks.value }
-        requires other { HasOtherList self.now.world.held.value world.held.value revision }
-        ensures content { IfOk result (λ made. made.0.world ≡ world) }
+        requires { HasOtherProperties self.now.world world revision }
+        ensures world { IfOk result (λ made. made.0.world ≡ world) }
         ensures number { IfOk result (λ made. made.1.revision ≡ revision) }
-        ensures files { IfOk result (λ made. (files : Files) → IsOf self.now files
-            → IsOf made.0 (with_properties files revision made.1.file.items)
-            × (revision < length files.revisions)) }
+        ensures files { IfOk result (λ made.
+            WritesProperties IsOf self.now revision made.1.file.items made.0) }
     {
         let Some(list) = world.revision_properties(revision) else {
             return Err(AllocError);
@@ -109,8 +104,7 @@ impl FiledWorld {
     ) -> Result<PVec<Table>, AllocError>
         requires begun { 0 < length self.now.tables }
         requires more { HasOneMore self.now.world.held.value world.now.held.value }
-        ensures { IfOk result (λ tables. IsReadBack self.now.world.held.value self.now.tables
-            world.now.held.value revision.now tables) }
+        ensures { IfOk result (IsReadBack self.now world.now revision.now) }
     {
         let Ok((read, list)) = self.read_further(revision, properties) else {
             return Err(AllocError);
@@ -134,17 +128,11 @@ impl FiledWorld {
         &self,
         world: World,
     ) -> Result<(FiledWorld, NewRevision), AllocError>
-        requires more { HasOneMore self.now.world.held.value world.held.value }
-        requires uuid { world.held.value.uuid ≡ self.now.world.held.value.uuid }
-        requires locks { world.locks.value ≡ self.now.world.locks.value }
-        requires list { HasOneMoreList self.now.world.held.value world.held.value }
-        ensures content { IfOk result (λ made. made.0.world ≡ world) }
+        requires { HasOneMoreRevision self.now.world world }
+        ensures world { IfOk result (λ made. made.0.world ≡ world) }
         ensures number { IfOk result (λ made. made.1.number
             ≡ length (filed_content self.now).revisions) }
-        ensures files { IfOk result (λ made. (files : Files) → IsOf self.now files
-            → IsOf made.0 (with_revision files (made.1.revision.items, made.1.properties.items)
-            made.1.current.items)
-            × (count_in made.1.current.items ≡ Some (length files.revisions + 1))) }
+        ensures files { IfOk result (λ made. WritesRevision IsOf self.now made.1 made.0) }
     {
         // a repository has its revision 0, so this never happens
         if self.tables.len() == 0 {

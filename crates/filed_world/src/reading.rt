@@ -1,13 +1,13 @@
 //! A repository whose files are read, one revision after another.
-ghost use Rattle.std.specs.Prelude.{◌≡◌, ◌<◌, ◌≤◌, ◌++◌, ◌∷◌, [], ℕ, List, Option, Some, length, slice_get, IfOk, None, option_copied, IsSome};
-ghost use Rattle.std.specs.{Result.result_ok, FinMap.entries};
-ghost use Rattle.repo_api.specs.{Opening.new_repository, Properties.PropertyList};
-ghost use Rattle.world.specs.{Whole.world_content, Adding.MayComeNext};
-ghost use Rattle.repostore.specs.{Current.count_in, Files.Files, Reading.{IfFindsFaulty, with_one_more, with_read_locks}};
+ghost use Rattle.std.specs.{Prelude.{◌≡◌, ◌<◌, ◌≤◌, ◌++◌, ◌∷◌, [], ℕ, List, Option, Some, length, slice_get, IfOk, None, option_copied}, Result.result_ok};
+ghost use Rattle.std.specs.FinMap.{entries};
+ghost use Rattle.repo_api.specs.Properties.{PropertyList};
+ghost use Rattle.world.specs.Adding.{MayComeNext};
+ghost use Rattle.repostore.specs.{Current.count_in, Files.Files, Reading.IfFindsFaulty};
 ghost use Rattle.fsfs_folder.specs.Properties.{properties_of};
 ghost use Rattle.filed_trees.specs.{Pieces.RevisionBytes, Readable.Judges, StandsFor.locks_in};
-ghost use Rattle.filed_world.specs.{Files.IsOf, Histories.{HasHistory, IsHistory}};
-ghost use Rattle.filed_world.specs.Reading.{AreFirst, AreRead, HasRead, HasTaken, IsNew, IsNextOf, IsSaidNext, read_history};
+ghost use Rattle.filed_world.specs.{Files.IsOf, Reading.{ContinueHistory, HasRead, HasReadFirst, HasReadHistory, HasReadLocks, HasReadMore, HasTaken, IsNew}};
+ghost use Rattle.filed_world.specs.Reading.{IsNextOf, IsSaidNext, JudgesFirst, JudgesNext, ReadsLocks};
 
 use crate::filed_world::FiledWorld;
 use crate::filing::with_table;
@@ -39,10 +39,7 @@ impl FiledWorld {
     /// Begins with a new repository, of which no revision has been read.
     pub fn unread(alloc: Global, world: World, current: Current) -> Result<FiledWorld, AllocError>
         ensures world { IfOk result (λ made. made.world ≡ world) }
-        ensures none { IfOk result (λ made. made.tables ≡ []) }
-        ensures read { IfOk result (λ made. (uuid : ℕ) (date : List ℕ) (files : Files)
-            → world_content world ≡ new_repository uuid date → AreFirst uuid current files
-            → HasRead made files) }
+        ensures read { IfOk result (HasReadFirst world current) }
     {
         nothing_is_tabled();
         match PVec::new(alloc) {
@@ -82,14 +79,10 @@ impl FiledWorld {
         properties: &[u8],
     ) -> Result<PVec<Table>, FileFault>
         requires { length self.now.tables ≡ 0 }
-        ensures judges { (list : PropertyList) → IsNew world.now.held.value
-            → slice_get world.now.held.value.properties 0 ≡ Some list
-            → Judges result (HasHistory (revision.now ∷ [])
-            × (result_ok (properties_of properties.now) ≡ Some list)) }
-        ensures read { IfOk result (λ tables. (files : Files) → HasRead self.now files
-            → IsNextOf self.now world.now → IsNew world.now.held.value
-            → AreRead world.now.held.value world.now.locks.value tables self.now.current
-            (with_one_more files (revision.now, properties.now))) }
+        ensures judges { JudgesFirst world.now (revision.now, properties.now) result }
+        ensures read { IfOk result (λ tables.
+            IsNextOf self.now world.now → IsNew world.now.held.value → HasReadMore self.now
+            (revision.now, properties.now) (record self.now { world = world.now; tables = tables })) }
     {
         let number = self.tables.len() as u64;
         let table = tabulated(
@@ -110,10 +103,7 @@ impl FiledWorld {
 
     /// Checks that the file of the next revision's properties says those of the world.
     fn check_list(&self, world: &World, properties: &[u8]) -> Result<(), FileFault>
-        ensures list { IfOk result (λ _. (list : PropertyList)
-            → slice_get world.now.held.value.properties (length self.now.tables) ≡ Some list
-            → result_ok (properties_of properties.now) ≡ Some list) }
-        ensures judges { (list : PropertyList)
+        ensures { (list : PropertyList)
             → slice_get world.now.held.value.properties (length self.now.tables) ≡ Some list
             → Judges result (result_ok (properties_of properties.now) ≡ Some list) }
     {
@@ -137,13 +127,9 @@ impl FiledWorld {
     ) -> Result<FiledWorld, FileFault>
         requires { length self.now.tables ≡ 0 }
         ensures world { IfOk result (λ made. made.world ≡ world) }
-        ensures judges { (list : PropertyList) → IsNew world.held.value
-            → slice_get world.held.value.properties 0 ≡ Some list
-            → Judges result (HasHistory (revision.now ∷ [])
-            × (result_ok (properties_of properties.now) ≡ Some list)) }
-        ensures read { IfOk result (λ made. (files : Files) → HasRead self.now files
-            → IsNextOf self.now world → IsNew world.held.value
-            → HasRead made (with_one_more files (revision.now, properties.now))) }
+        ensures judges { JudgesFirst world (revision.now, properties.now) result }
+        ensures read { IfOk result (λ made. IsNextOf self.now world → IsNew world.held.value
+            → HasReadMore self.now (revision.now, properties.now) made) }
     {
         match self.compared(&world, revision, properties) {
             Ok(tables) => Ok(FiledWorld {
@@ -166,11 +152,9 @@ impl FiledWorld {
         properties: &[u8],
     ) -> Result<FiledWorld, FileFault>
         requires { length self.now.tables ≡ 0 }
-        ensures read { IfOk result (λ made. (files : Files) → HasRead self.now files
-            → HasRead made (with_one_more files (revision.now, properties.now))) }
+        ensures read { IfOk result (HasReadMore self.now (revision.now, properties.now)) }
         ensures judges { IsNew self.now.world.held.value
-            → Judges result (HasHistory (revision.now ∷ [])
-            × IsSome (result_ok (properties_of properties.now))) }
+            → Judges result (ContinueHistory [] (revision.now, properties.now)) }
     {
         let list = read_properties(self.alloc, properties)?;
         let world = self.world.with_first_properties(list)?;
@@ -236,13 +220,10 @@ impl FiledWorld {
         properties: &[u8],
     ) -> Result<(ReadRevision, Properties), FileFault>
         requires { 0 < length self.now.tables }
-        ensures read { IfOk result (λ said. IsSaidNext self.now.world.held.value self.now.tables
-            revision.now said.0) }
+        ensures read { IfOk result (λ said. IsSaidNext self.now revision.now said.0) }
         ensures list { IfOk result (λ said. result_ok (properties_of properties.now) ≡ Some said.1) }
-        ensures faulty { (files : RevisionBytes)
-            → IsHistory (read_history self.now.world.held.value self.now.tables files)
-            → IfFindsFaulty result (HasHistory (files ++ revision.now ∷ [])
-            × IsSome (result_ok (properties_of properties.now)) → ⊥) }
+        ensures faulty { (files : RevisionBytes) → HasReadHistory self.now files
+            → IfFindsFaulty result (ContinueHistory files (revision.now, properties.now) → ⊥) }
     {
         let number = self.tables.len() as u32;
         let file = read_revision(self.alloc, number, revision)?;
@@ -264,12 +245,8 @@ impl FiledWorld {
         properties: &[u8],
     ) -> Result<FiledWorld, FileFault>
         requires { 0 < length self.now.tables }
-        ensures read { IfOk result (λ made. (files : Files) → HasRead self.now files
-            → HasRead made (with_one_more files (revision.now, properties.now))) }
-        ensures judges { (files : RevisionBytes)
-            → IsHistory (read_history self.now.world.held.value self.now.tables files)
-            → Judges result (HasHistory (files ++ revision.now ∷ [])
-            × IsSome (result_ok (properties_of properties.now))) }
+        ensures read { IfOk result (HasReadMore self.now (revision.now, properties.now)) }
+        ensures judges { JudgesNext self.now (revision.now, properties.now) result }
     {
         let (read, list) = self.read_further(revision, properties)?;
         self.with_read(read, list)
@@ -286,14 +263,10 @@ impl FiledWorld {
         revision: &[u8],
         properties: &[u8],
     ) -> Result<FiledWorld, FileFault>
-        ensures read { IfOk result (λ made. (files : Files) → HasRead self.now files
-            → HasRead made (with_one_more files (revision.now, properties.now))) }
+        ensures read { IfOk result (HasReadMore self.now (revision.now, properties.now)) }
         // A fault is found only where these are not the files of a next revision.
-        ensures judges { (files : RevisionBytes)
-            → (self.now.tables ≡ [] → IsNew self.now.world.held.value)
-            → IsHistory (read_history self.now.world.held.value self.now.tables files)
-            → Judges result (HasHistory (files ++ revision.now ∷ [])
-            × IsSome (result_ok (properties_of properties.now))) }
+        ensures judges { (self.now.tables ≡ [] → IsNew self.now.world.held.value)
+            → JudgesNext self.now (revision.now, properties.now) result }
     {
         if self.tables.len() == 0 {
             self.with_first_revision(revision, properties)
@@ -304,9 +277,8 @@ impl FiledWorld {
 
     /// Makes the repository with the locks of a list and no others.
     pub(crate) fn with_listed_locks(&self, locks: &[(Path, Lock)]) -> Result<FiledWorld, AllocError>
-        ensures read { IfOk result (λ made. (files : Files) (file : Option (List ℕ))
-            → HasRead self.now files → locks_in file ≡ Some locks.now
-            → HasRead made (with_read_locks files file)) }
+        ensures read { IfOk result (λ made. (file : Option (List ℕ))
+            → locks_in file ≡ Some locks.now → HasReadLocks self.now file made) }
         ensures tables { IfOk result (λ made. made.tables ≡ self.now.tables) }
         ensures held { IfOk result (λ made. made.world.held.value ≡ self.now.world.held.value) }
     {
@@ -326,9 +298,7 @@ impl FiledWorld {
     ///
     /// As `read_locks`.
     pub fn with_read_locks(&self, locks: Option<&[u8]>) -> Result<FiledWorld, FileFault>
-        ensures read { IfOk result (λ made. (files : Files) → HasRead self.now files
-            → HasRead made (with_read_locks files (option_copied locks.entry))) }
-        ensures faulty { IfFindsFaulty result (locks_in (option_copied locks.entry) ≡ None) }
+        ensures { ReadsLocks self.now (option_copied locks.entry) result }
     {
         let listed = listed(self.alloc, locks)?;
         Ok(self.with_listed_locks(listed.as_slice())?)

@@ -1,5 +1,5 @@
 -- What is held, as the state of a repository.
-use Rattle.std.specs.{Prelude.{List, map}, FinMap.empty, declared.sync.Arc.Arc}
+use Rattle.std.specs.{Prelude.{◌≡◌, List, [], ◌∷◌, ◌++◌, map}, FinMap.empty, declared.sync.Arc.Arc}
 use Rattle.repo_api.specs.{Properties.PropertyList, States.{RepoState, Revision}}
 use Rattle.flatrepo.specs.{declared.flat_content.FlatRevision.FlatRevision, declared.flat_content.FlatContent.FlatContent}
 
@@ -25,3 +25,10 @@ flat_state c =
       properties = properties_of c;
       locks = empty;
     }
+
+-- one revision more, with these properties, and nothing else, has come after what is held
+abbrev pub HasRevision : FlatContent → FlatContent → Revision → PropertyList → Type 0
+HasRevision before after revision properties =
+    (revisions_of after ≡ revisions_of before ++ revision ∷ [])
+    × (properties_of after ≡ properties_of before ++ properties ∷ [])
+    × (after.uuid ≡ before.uuid)

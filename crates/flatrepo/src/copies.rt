@@ -3,7 +3,7 @@ ghost use Rattle.std.specs.{Prelude.{◌≡◌, IfOk, OnOk, if◌then◌else◌,
 ghost use Rattle.svnpath.specs.Paths.{PathValue, same_path};
 ghost use Rattle.repo_api.specs.Edits.{deleted};
 ghost use Rattle.revision_data.specs.Found.{found};
-ghost use Rattle.flatrepo.specs.EntryChanges.{copied_entry, landed};
+ghost use Rattle.flatrepo.specs.{EntryChanges.{copied_entry, landed}, Edits.AreOf};
 
 use crate::entries::with_marks;
 use repo_api::{Entry, Mark};
@@ -14,8 +14,7 @@ use svnpath::Path;
 
 /// Takes out what is at or under the path, and opens `last` above it.
 pub(crate) fn cut_subtree(entries: &mut BTreeMap<Path, Entry>, path: &Path)
-    ensures { (q : PathValue) → found entries.new.entries q
-        ≡ deleted (found entries.old.entries) path.now q }
+    ensures { AreOf (deleted (found entries.old.entries) path.now) entries.new.entries }
 {
     entries.retain(|key, entry| {
         if path.is_at_or_under(key) {

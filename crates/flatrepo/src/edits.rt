@@ -1,8 +1,6 @@
 //! The edits of a transaction's tree. An edit that lacks memory changes nothing.
-ghost use Rattle.std.specs.{Prelude.{◌≡◌, IfOk, OnOk, OnErr}, FinMap.get};
-ghost use Rattle.svnpath.specs.Paths.{PathValue};
-ghost use Rattle.repo_api.specs.{Edits.{copied, edited}, States.{tree_of, trees_in}};
-ghost use Rattle.flatrepo.specs.Contents.{revisions_of};
+ghost use Rattle.repo_api.specs.{Edits.copied, States.trees_in};
+ghost use Rattle.flatrepo.specs.{Contents.revisions_of, Edits.{Applies, EditsTree}};
 
 use crate::flat_content::FlatContent;
 use crate::flat_tree::FlatTree;
@@ -17,9 +15,7 @@ pub(crate) fn edit_tree(
     tree: &mut FlatTree,
     op: &EditOp,
 ) -> Result<(), AllocError>
-    ensures ok { OnOk result ((q : PathValue) → get tree.new q
-        ≡ edited (trees_in (revisions_of content.now)) (tree_of tree.old) op.now q) }
-    ensures err { OnErr result (tree.new ≡ tree.old) }
+    ensures { EditsTree result content.now tree.old op.now tree.new }
 {
     match op {
         EditOp::AddDirectory(path) => tree.add(alloc, path, Content::Directory),
@@ -49,10 +45,8 @@ fn copy(
     source: &Source,
     path: &Path,
 ) -> Result<(), AllocError>
-    ensures ok { OnOk result ((q : PathValue) → get tree.new q
-        ≡ copied (trees_in (revisions_of content.now) source.now.revision) source.now.path
-        (tree_of tree.old) path.now q) }
-    ensures err { OnErr result (tree.new ≡ tree.old) }
+    ensures { Applies result tree.old tree.new (λ t. copied
+        (trees_in (revisions_of content.now) source.now.revision) source.now.path t path.now) }
 {
     *tree = tree.with_copy(alloc, content.tree(source.revision), &source.path, path)?;
     Ok(())

@@ -1,10 +1,9 @@
 //! A tree as one ordered map.
-ghost use Rattle.std.specs.{Prelude.{◌≡◌, IfOk, OnOk, OnErr, map, option_copied}, FinMap.{get, empty, keys}, List.list_any, Map.Iter.deref};
-ghost use Rattle.svnpath.specs.Paths.{PathValue};
-ghost use Rattle.repo_api.specs.{Edits.{added, begun, copied, deleted, revised, touched_above, with_text}, Kinds.has_deeper};
-ghost use Rattle.repo_api.specs.{MergedMaps.{has_conflict, merged_map}, Opening.opening_tree, Readings.names_in, States.tree_of};
+ghost use Rattle.std.specs.{Prelude.{◌≡◌, IfOk, OnOk, map, option_copied}, FinMap.{get, empty, keys}, List.list_any, Map.Iter.deref};
+ghost use Rattle.repo_api.specs.{Edits.{added, begun, copied, deleted, revised, with_text}, Kinds.has_deeper, MergedMaps.{has_conflict, merged_map}};
+ghost use Rattle.repo_api.specs.{Opening.opening_tree, Readings.names_in, States.tree_of};
 ghost use Rattle.revision_data.specs.Found.{found};
-ghost use Rattle.flatrepo.specs.{EntryChanges.with_change, Merging.{conflict_at, merged_at, put_over}};
+ghost use Rattle.flatrepo.specs.{EntryChanges.with_change, Edits.{Applies, AreOf, IsMapOf}, Merging.{conflict_at, merged_at, put_over}};
 
 use crate::copies::{cut_subtree, put_copies};
 use crate::entries::{is_deeper, new_entry, opening_root, put_properties, put_text};
@@ -67,7 +66,7 @@ impl FlatTree {
 
     /// Makes a copy with the root's `last` open: a transaction that begins from this tree.
     pub(crate) fn begun(&self, alloc: Global) -> Result<Self, AllocError>
-        ensures { IfOk result (λ t. (q : PathValue) → get t q ≡ begun (tree_of self.now) q) }
+        ensures { IfOk result (IsMapOf (begun (tree_of self.now))) }
     {
         let mut entries = self.entries.clone()?;
         touch_above(&mut entries, &Path::root(alloc));
@@ -82,9 +81,7 @@ impl FlatTree {
         path: &Path,
         content: Content,
     ) -> Result<(), AllocError>
-        ensures ok { OnOk result ((q : PathValue) → get self.new q
-            ≡ added (tree_of self.old) path.now content q) }
-        ensures err { OnErr result (self.new ≡ self.old) }
+        ensures { Applies result self.old self.new (λ t. added t path.now content) }
     {
         put(&mut self.entries, path.clone()?, new_entry(alloc, content))?;
         touch_above(&mut self.entries, path);
@@ -100,9 +97,8 @@ impl FlatTree {
         name: ByteString,
         value: Option<ByteString>,
     ) -> Result<(), AllocError>
-        ensures ok { OnOk result ((q : PathValue) → get self.new q
-            ≡ revised (tree_of self.old) path.now (with_change name value) q) }
-        ensures err { OnErr result (self.new ≡ self.old) }
+        ensures { Applies result self.old self.new
+            (λ t. revised t path.now (with_change name value)) }
     {
         let properties = match self.entries.get(path) {
             None => {
@@ -119,9 +115,8 @@ impl FlatTree {
     /// Makes this the text of the file at the path.
     #[tactic(auto, using(repo_api::specs::StateLaws::get_path))]
     pub(crate) fn set_text(&mut self, path: &Path, text: &FileText) -> Result<(), AllocError>
-        ensures ok { OnOk result ((q : PathValue) → get self.new q
-            ≡ revised (tree_of self.old) path.now (with_text text.now) q) }
-        ensures err { OnErr result (self.new ≡ self.old) }
+        ensures { Applies result self.old self.new
+            (λ t. revised t path.now (with_text text.now)) }
     {
         let text = text.clone()?;
         put_text(&mut self.entries, path, text);
@@ -132,7 +127,7 @@ impl FlatTree {
     /// Takes out what is at or under the path.
     #[tactic(auto, using(repo_api::specs::StateLaws::get_path))]
     pub(crate) fn delete(&mut self, path: &Path)
-        ensures { (q : PathValue) → get self.new q ≡ deleted (tree_of self.old) path.now q }
+        ensures { IsMapOf (deleted (tree_of self.old) path.now) self.new }
     {
         cut_subtree(&mut self.entries, path);
     }
@@ -162,8 +157,8 @@ impl FlatTree {
         from: &Path,
         to: &Path,
     ) -> Result<FlatTree, AllocError>
-        ensures { IfOk result (λ t. (q : PathValue)
-            → get t q ≡ copied (tree_of source.now) from.now (tree_of self.now) to.now q) }
+        ensures { IfOk result (IsMapOf
+            (copied (tree_of source.now) from.now (tree_of self.now) to.now)) }
     {
         let mut entries = self.entries.clone()?;
         cut_subtree(&mut entries, to);
@@ -220,10 +215,9 @@ impl FlatTree {
         base: &FlatTree,
         youngest: &FlatTree,
     ) -> Result<(), AllocError>
-        ensures { OnOk result ((q : PathValue)
-            → found entries.new.entries q ≡ put_over paths.now
-            (merged_at revision base.now self.now
-            youngest.now) (found entries.old.entries) q) }
+        ensures { OnOk result (AreOf (put_over paths.now
+            (merged_at revision base.now self.now youngest.now) (found entries.old.entries))
+            entries.new.entries) }
     {
         for path in paths.entries.keys() {
             let entry = self.merged_at(path, revision, base, youngest)?;
@@ -241,8 +235,7 @@ impl FlatTree {
         youngest: &FlatTree,
     ) -> Result<Option<Entry>, AllocError>
         ensures { IfOk result (λ o. o
-            ≡ merged_at revision base.now self.now
-            youngest.now path.now) }
+            ≡ merged_at revision base.now self.now youngest.now path.now) }
     {
         merged_entry(
             revision,

@@ -1,12 +1,11 @@
 //! The repository and its transactions.
-ghost use Rattle.std.specs.{Prelude.{◌≡◌, ◌≤◌, ◌<◌, ◌++◌, ◌∷◌, [], List, ℕ, length, IfOk, OnOk, OnErr, Some, None}, FinMap.get};
+ghost use Rattle.std.specs.Prelude.{◌≡◌, ◌≤◌, ◌<◌, List, ℕ, length, IfOk, OnOk, OnErr};
 ghost use Rattle.dates.specs.{Dates.IsDateText, declared.TheConstants.LAST_MOMENT};
-ghost use Rattle.svnpath.specs.Paths.{PathValue};
-ghost use Rattle.repo_api.specs.{Accepted.{IfRefused, IsOfMemory}, Changes.changes_after, Commits.{commit_refusal, committed, revision_properties}};
-ghost use Rattle.repo_api.specs.{Edits.edited, Kinds.{created_at, kind_at}, Locking.{check_refusal, with_lock}, MergedMaps.{has_conflict, merged_map}};
-ghost use Rattle.repo_api.specs.{Opening.new_repository, RevisionProperties.{property_refusal, with_changed_property}, RightEdits.IsRightEdit};
-ghost use Rattle.repo_api.specs.States.{changes_of, IsBeginning, IsEdited, tree_at, tree_of, trees_in, youngest};
-ghost use Rattle.flatrepo.specs.{Contents.{fixed_of, flat_state, revisions_of, properties_of}, Whole.{state_of, repo_content, txn_state_of}};
+ghost use Rattle.repo_api.specs.{Accepted.IsJudged, Commits.{commit_refusal, committed, revision_properties}, Kinds.{created_at, kind_at}};
+ghost use Rattle.repo_api.specs.{Locking.{check_refusal, with_lock}, MergedMaps.{has_conflict, merged_map}, Opening.new_repository};
+ghost use Rattle.repo_api.specs.{RevisionProperties.{property_refusal, with_changed_property}, RightEdits.IsRightEdit};
+ghost use Rattle.repo_api.specs.States.{EditsTxn, IsBeginning, Notes, tree_at, tree_of, trees_in, youngest};
+ghost use Rattle.flatrepo.specs.{Contents.{flat_state, HasRevision, revisions_of}, Edits.EditsTree, Whole.{state_of, repo_content, txn_state_of}};
 
 use crate::edits::edit_tree;
 use crate::flat_content::{FlatContent, FlatRevision};
@@ -248,9 +247,8 @@ fn edit_txn(
     requires rests { IsBeginning (txn_state_of txn.old).shown (revisions_of content.now.value) }
     requires right { IsRightEdit (trees_in (revisions_of content.now.value))
         (tree_of (txn_state_of txn.old).tree) op.now }
-    ensures ok { OnOk result (IsEdited (revisions_of content.now.value)
-        (txn_state_of txn.old) op.now (txn_state_of txn.new)) }
-    ensures err { OnErr result (txn_state_of txn.new ≡ txn_state_of txn.old) }
+    ensures { EditsTxn result (revisions_of content.now.value) (txn_state_of txn.old) op.now
+        (txn_state_of txn.new) }
 {
     let shown = Arc::try_clone(content)?;
     edit_parts(alloc, content, &mut txn.tree, &mut txn.changes, op)?;
@@ -267,12 +265,8 @@ fn edit_parts(
     changes: &mut TxnChanges,
     op: &EditOp,
 ) -> Result<(), AllocError>
-    ensures tree { OnOk result ((q : PathValue) → get tree.new q
-        ≡ edited (trees_in (revisions_of content.now)) (tree_of tree.old) op.now q) }
-    ensures changes { OnOk result ((q : PathValue)
-        → get changes.new q ≡ changes_after (changes_of changes.old) op.now q) }
-    ensures tree_stays { OnErr result (tree.new ≡ tree.old) }
-    ensures changes_stay { OnErr result (changes.new ≡ changes.old) }
+    ensures tree { EditsTree result content.now tree.old op.now tree.new }
+    ensures changes { Notes result changes.old op.now changes.new }
 {
     let note = changes.prepare(op)?;
     match edit_tree(alloc, content, tree, op) {
@@ -295,11 +289,8 @@ fn judge(
     ask: &CommitAsk,
     txn: &FlatTxn,
 ) -> Result<(), ChangeFault>
-    ensures accepted { OnOk result (commit_refusal (state_of content.now locks.now) ask.now
-        (txn_state_of txn.now) ≡ None) }
-    ensures refused { IfRefused result (λ r. commit_refusal (state_of content.now locks.now) ask.now
-        (txn_state_of txn.now) ≡ Some r) }
-    ensures memory { IsOfMemory result }
+    ensures { IsJudged result (commit_refusal (state_of content.now locks.now) ask.now
+        (txn_state_of txn.now)) }
 {
     let (base, youngest) = (content.tree(txn.base), content.tree(content.youngest()));
     if txn.tree.has_conflict(base, youngest) {
@@ -319,11 +310,8 @@ fn check_locks(
     changes: &TxnChanges,
     ask: &CommitAsk,
 ) -> Result<(), ChangeFault>
-    ensures accepted { OnOk result (check_refusal locks.now changes.now ask.now.author ask.now.tokens
-        ≡ None) }
-    ensures refused { IfRefused result (λ r.
-        check_refusal locks.now changes.now ask.now.author ask.now.tokens ≡ Some r) }
-    ensures memory { IsOfMemory result }
+    ensures { IsJudged result (check_refusal locks.now changes.now ask.now.author
+        ask.now.tokens) }
 {
     let tokens = ask.tokens.as_slice();
     locks.check(alloc, changes.as_map(), ask.author.as_ref(), tokens)
@@ -369,11 +357,8 @@ fn with_revision(
     tree: FlatTree,
     changes: TxnChanges,
 ) -> Result<Arc<FlatContent>, AllocError>
-    ensures revisions { IfOk result (λ c. revisions_of c.value ≡ revisions_of content.now
-        ++ record { tree = tree; changes = changes } ∷ []) }
-    ensures properties { IfOk result (λ c. properties_of c.value ≡ properties_of content.now
-        ++ revision_properties ask ∷ []) }
-    ensures uuid { IfOk result (λ c. c.value.uuid ≡ content.now.uuid) }
+    ensures { IfOk result (λ c. HasRevision content.now c.value
+        (record { tree = tree; changes = changes }) (revision_properties ask)) }
 {
     let changes = changes.into_list(alloc)?;
     let properties = revision_properties(alloc, ask)?;

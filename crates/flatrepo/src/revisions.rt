@@ -2,7 +2,7 @@
 ghost use Rattle.std.specs.{Prelude.{◌≡◌, ◌<◌, ◌∷◌, [], ◌++◌, ◌-◌, length, IfOk, slice_get, slice_set, option_copied}, FinMap.empty};
 ghost use Rattle.repo_api.specs.{Histories.changes_in, Kinds.or_empty, Opening.{new_repository, opening_tree}};
 ghost use Rattle.repo_api.specs.{RevisionProperties.{property_changed, with_changed_property}, States.tree_at};
-ghost use Rattle.flatrepo.specs.Contents.{fixed_of, values, revisions_of, properties_of, flat_state};
+ghost use Rattle.flatrepo.specs.Contents.{fixed_of, HasRevision, values, revisions_of, properties_of, flat_state};
 
 use crate::flat_content::{FlatContent, FlatRevision};
 use crate::flat_tree::FlatTree;
@@ -120,11 +120,7 @@ impl FlatContent {
         revision: FlatRevision,
         properties: Properties,
     ) -> Result<Self, AllocError>
-        ensures revisions { IfOk result (λ c. revisions_of c ≡ revisions_of self.now
-            ++ fixed_of revision ∷ []) }
-        ensures properties { IfOk result (λ c. properties_of c ≡ properties_of self.now
-            ++ properties ∷ []) }
-        ensures uuid { IfOk result (λ c. c.uuid ≡ self.now.uuid) }
+        ensures { IfOk result (λ c. HasRevision self.now c (fixed_of revision) properties) }
     {
         Ok(FlatContent {
             uuid: self.uuid,

@@ -1,8 +1,7 @@
 //! The entries at a path and above it, whose `last` a change at the path opens.
-ghost use Rattle.std.specs.Prelude.{◌≡◌};
-ghost use Rattle.svnpath.specs.Paths.{PathValue};
 ghost use Rattle.repo_api.specs.Edits.{touched_above};
 ghost use Rattle.revision_data.specs.Found.{found};
+ghost use Rattle.flatrepo.specs.Edits.{AreOf};
 
 use repo_api::{Entry, Mark};
 use std::collections::BTreeMap;
@@ -10,8 +9,7 @@ use svnpath::Path;
 
 /// Opens `last` at the path and above it. It takes no memory.
 pub(crate) fn touch_above(entries: &mut BTreeMap<Path, Entry>, path: &Path)
-    ensures { (q : PathValue) → found entries.new.entries q
-        ≡ touched_above path.now (found entries.old.entries) q }
+    ensures { AreOf (touched_above path.now (found entries.old.entries)) entries.new.entries }
 {
     entries.retain(|key, entry| {
         if path.is_at_or_under(key) {

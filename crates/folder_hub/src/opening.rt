@@ -1,11 +1,10 @@
 //! A hub over a repository that is opened from its files.
-ghost use Rattle.std.specs.Prelude.{◌≡◌, ◌⊎◌, IfOk, IfErr, false};
-ghost use Rattle.repo_api.specs.States.{RepoState};
+ghost use Rattle.std.specs.Prelude.{◌≡◌, IfOk, IfErr, false};
 ghost use Rattle.store_files.specs.Folders.{Folder, IsSame};
 ghost use Rattle.repostore.specs.{Opening.IsUnopened, Saving.Stands};
 ghost use Rattle.store_access.specs.Keeping.{HasRepository};
 ghost use Rattle.filed_world.specs.Files.{IsOf, filed_content};
-ghost use Rattle.filed_opening.specs.Faults.{folder_faults};
+ghost use Rattle.filed_opening.specs.Faults.{folder_faults, IsHindered};
 ghost use Rattle.folder_hub.specs.Opening.{BeginsWith};
 
 use filed_opening::{FolderRepository, open, opened_trees_are_sound};
@@ -22,7 +21,7 @@ pub type FolderHub<S> = Hub<FolderRepository<S>>;
 ///
 /// # Errors
 ///
-/// As `open` of `world_folder`.
+/// As `open` of `filed_opening`.
 pub fn open_hub<S: Store>(
     alloc: Global,
     store: S,
@@ -31,9 +30,7 @@ pub fn open_hub<S: Store>(
     requires { S.is_honest store → (f : Folder) → S.may_leave store f → IsSame (S.holds store) f }
     ensures found { IfOk result (λ hub. BeginsWith S.is_honest S.holds store options hub) }
     // A folder that has the files of a repository is opened, unless the device or memory fails.
-    ensures failed { IfErr result (λ unopened. S.is_honest unopened.store
-        → (c : RepoState) → HasRepository filed_content IsOf c (S.holds store)
-        → (unopened.fault ≡ StoreFault.Device) ⊎ (unopened.fault ≡ StoreFault.NoMemory)) }
+    ensures failed { IfErr result (IsHindered S.Store store) }
     ensures unopened { IfErr result (λ unopened. IsUnopened S.Store folder_faults store unopened) }
 {
     let repository = open(alloc, store)?;

@@ -1,7 +1,7 @@
 -- What a commit of a transaction's tree makes, as the map of the definitions.
-use Rattle.std.proofs.{Common.{◌≡◌, ℕ, Bool, true, false, ◌&&◌, ◌||◌, Option, Some, None, option_map, refl, sym, ap, ◌∙◌}, lemmas.Bool.false≢true}
+use Rattle.std.proofs.{Common.{◌≡◌, ℕ, Bool, true, false, ◌&&◌, ◌||◌, Option, Some, None, option_map, refl, sym, ap, subst, ◌∙◌}, lemmas.Bool.false≢true}
 use Rattle.std.proofs.Math.Logic.{∥∥₁_map}
-use Rattle.std.specs.Prelude.{if◌then◌else◌, IsErrOf, Result, Ok, Err}
+use Rattle.std.specs.Prelude.{if◌then◌else◌, Err}
 use Rattle.svnpath.specs.Paths.{PathValue}
 use Rattle.repo_api.specs.{Edits.touched, Marks.{AreMarked, IsTransactionOf, own_of, shown}}
 use Rattle.repo_api.specs.Merge.{has_open_last, HasNoConflict, is_in_conflict, is_untouched, merged, merged_entry}
@@ -11,8 +11,9 @@ use Rattle.repo_api.specs.{declared.entry.Mark.Mark, declared.entry.Mark.TheVari
 use Rattle.repo_laws.proofs.{MergeLaws.{untouched_own, same_look}, Naming.same_mark_is}
 use Rattle.treemerge.specs.{Merges.{IsTold, IfConflict}, declared.merging.MergeFault.MergeFault}
 use Rattle.treemerge.specs.declared.merging.MergeFault.TheVariants as merges
-use Rattle.held.specs.{Committing.commit_fault, declared.committing.CommitFault.CommitFault, Maps.{IsMapOf, Mapped}}
-use Rattle.held.specs.declared.committing.CommitFault.TheVariants as commits
+use Rattle.txntree.specs.declared.tree.TxnTree.{TxnTree}
+use Rattle.held.specs.{Committing.{commit_fault, conflicts, IsMerge}, Maps.{IsMapOf, Mapped}, declared.committing.CommitFault.CommitFault}
+use Rattle.held.specs.declared.held.Held.{Held}
 
 -- maps of three trees
 module _ (n : ℕ) (a s t : Tree) (ma ms mt : TreeMap) (isa : IsMapOf a ma) (iss : IsMapOf s ms)
@@ -102,18 +103,13 @@ told trees b txn marked is_of q = by (trees b q) (txn q) refl refl
 
 -- ---- a merge that was refused
 
-abbrev is_conflict : CommitFault → Bool
-is_conflict commits.Conflict = true
-is_conflict commits.NoMemory = false
-
-abbrev of_conflict : {R : Type 0} → Result R CommitFault → Bool
-of_conflict (Ok x) = false
-of_conflict (Err fault) = is_conflict fault
-
-pub conflict_of : {R : Type 0} (S : Type 0) (P : PathValue → Type 0) (fault : MergeFault)
-    (answer : CommitFault) → answer ≡ commit_fault fault
-    → IsErrOf {T = R} (Err answer) commits.Conflict
-    → IfConflict {T = S} (Err fault) P → (p : PathValue) × P p
-conflict_of S P (merges.Conflict p) answer is refused at = (p, at)
-conflict_of S P merges.NoMemory answer is refused at =
-    absurd (false≢true (sym (ap is_conflict is) ∙ ap of_conflict refused))
+pub refused_merge : (h : Held) (base : ℕ) (m : TreeMap) (P : PathValue → Type 0)
+    (fault : MergeFault) (answer : CommitFault) → answer ≡ commit_fault fault
+    → ((p : PathValue) → P p → conflicts h base m ≡ true)
+    → IfConflict {T = TxnTree} (Err fault) P → IsMerge (Err answer) h base m
+refused_merge h base m P fault answer is means at =
+    subst (λ f. IsMerge (Err f) h base m) (sym is) (by fault at)
+  where
+    by : (f : MergeFault) → IfConflict {T = TxnTree} (Err f) P → IsMerge (Err (commit_fault f)) h base m
+    by (merges.Conflict p) at = means p at
+    by merges.NoMemory at = tt

@@ -1,9 +1,11 @@
 -- What a commit makes, and why it was not made.
-use Rattle.std.specs.Prelude.{ℕ, Bool, length}
+use Rattle.std.specs.Prelude.{◌≡◌, ℕ, Bool, true, false, length, Result, Ok, Err}
 use Rattle.repo_api.specs.{MergedMaps.{has_conflict, merged_map}, States.{tree_at, TreeMap, youngest}}
 use Rattle.treemerge.specs.declared.merging.MergeFault.{MergeFault}
 use Rattle.treemerge.specs.declared.merging.MergeFault.TheVariants as merges
-use Rattle.held.specs.{declared.committing.CommitFault.CommitFault, declared.held.Held.Held, Contents.{revisions_of, held_state}}
+use Rattle.txntree.specs.declared.tree.TxnTree.{TxnTree}
+use Rattle.held.specs.{declared.committing.CommitFault.CommitFault, declared.held.Held.Held, Contents.{revisions_of, held_state}, Maps.IsMapOf}
+use Rattle.held.specs.Sealed.{sealed_tree}
 use Rattle.held.specs.declared.committing.CommitFault.TheVariants as commits
 
 -- the tree of the revision that comes next, of a transaction from this base that has this tree
@@ -22,3 +24,11 @@ conflicts h base txn =
 abbrev pub commit_fault : MergeFault → CommitFault
 commit_fault (merges.Conflict p) = commits.Conflict
 commit_fault merges.NoMemory = commits.NoMemory
+
+-- the merge of such a transaction is the tree of the revision that comes next, where nothing is in
+-- conflict; or something is
+abbrev pub IsMerge : Result TxnTree CommitFault → Held → ℕ → TreeMap → Type 0
+IsMerge (Ok t) h base txn =
+    IsMapOf (sealed_tree h.nodes t) (next_map h base txn) × (conflicts h base txn ≡ false)
+IsMerge (Err commits.Conflict) h base txn = conflicts h base txn ≡ true
+IsMerge (Err commits.NoMemory) h base txn = Unit {0}

@@ -1,10 +1,10 @@
 //! The revision that a commit makes.
-ghost use Rattle.std.specs.Prelude.{◌≡◌, true, false, IfOk, IsErrOf};
+ghost use Rattle.std.specs.Prelude.{◌≡◌};
 ghost use Rattle.repo_api.specs.States.{TreeMap};
 ghost use Rattle.noderevs.specs.Held.{node_at, root_at, trees_of};
 ghost use Rattle.txntree.specs.Whole.{IsSound, txn_tree};
 ghost use Rattle.treemerge.specs.Merges.{IsTold};
-ghost use Rattle.held.specs.{Committing.{commit_fault, conflicts, next_map}, Maps.IsMapOf, Sealed.sealed_tree};
+ghost use Rattle.held.specs.{Committing.{commit_fault, IsMerge}, Maps.IsMapOf};
 
 use crate::held::Held;
 use std::alloc::{AllocError, Global};
@@ -36,15 +36,8 @@ impl Held {
         requires told { IsTold (trees_of self.now.nodes base) (txn_tree self.now.nodes tree.now) }
         requires standing { IsSound (node_at self.now.nodes) (root_at self.now.nodes base)
             tree.now }
-        ensures map { IfOk result (λ t. (m : TreeMap)
-            → IsMapOf (txn_tree self.now.nodes tree.now) m
-            → IsMapOf (sealed_tree self.now.nodes t) (next_map self.now base m)) }
-        ensures clean { IfOk result (λ t. (m : TreeMap)
-            → IsMapOf (txn_tree self.now.nodes tree.now) m
-            → conflicts self.now base m ≡ false) }
-        ensures conflict { IsErrOf result CommitFault.Conflict → (m : TreeMap)
-            → IsMapOf (txn_tree self.now.nodes tree.now) m
-            → conflicts self.now base m ≡ true }
+        ensures { (m : TreeMap) → IsMapOf (txn_tree self.now.nodes tree.now) m
+            → IsMerge result self.now base m }
     {
         match merge(alloc, &self.nodes, base, tree, self.youngest()) {
             Ok(merged) => Ok(merged),

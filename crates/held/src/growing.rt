@@ -1,8 +1,7 @@
 //! A further revision.
 ghost use Rattle.std.specs.Prelude.{◌≡◌, ◌<◌, ◌++◌, ◌∷◌, [], length, IfOk};
-ghost use Rattle.repo_api.specs.States.{TreeMap};
-ghost use Rattle.noderevs.specs.{Held.{blocks_of, count, node_at}, Soundness.IsNext};
-ghost use Rattle.held.specs.{Contents.{revisions_of, block_tree}, Maps.{IsMapOf, Mapped}, Placed.IsPlacedBlock};
+ghost use Rattle.noderevs.specs.{Held.{count, node_at}, Soundness.IsNext};
+ghost use Rattle.held.specs.{Contents.{revisions_of, block_tree}, Growing.HasNext, Maps.Mapped, Placed.IsPlacedBlock};
 
 use crate::held::Held;
 use noderevs::Block;
@@ -25,15 +24,7 @@ impl Held {
         requires placed { IsPlacedBlock (node_at self.now.nodes) (count self.now.nodes) block }
         requires tree { ∥ Mapped (block_tree self.now.nodes block) ∥₁ }
         requires room { length (revisions_of self.now) < 262144 }
-        ensures revisions { IfOk result (λ h. (m : TreeMap)
-            → IsMapOf (block_tree self.now.nodes block) m → revisions_of h
-            ≡ revisions_of self.now ++ record { tree = m; changes = changes } ∷ []) }
-        ensures properties { IfOk result (λ h. h.properties
-            ≡ self.now.properties ++ properties ∷ []) }
-        ensures uuid { IfOk result (λ h. h.uuid ≡ self.now.uuid) }
-        ensures block { IfOk result (λ h. blocks_of h.nodes
-            ≡ blocks_of self.now.nodes ++ block ∷ []) }
-        ensures changes { IfOk result (λ h. h.changes ≡ self.now.changes ++ changes ∷ []) }
+        ensures { IfOk result (λ h. HasNext self.now h block changes properties) }
     {
         let nodes = self.nodes.with_block(alloc, block)?;
         let changes = with_one_more(alloc, &self.changes, changes)?;

@@ -1,7 +1,7 @@
 //! A changed property of a revision.
 ghost use Rattle.std.specs.Prelude.{◌≡◌, ◌<◌, length, IfOk, slice_get, slice_set};
 ghost use Rattle.repo_api.specs.{Kinds.or_empty, RevisionProperties.{property_changed, with_changed_property}};
-ghost use Rattle.held.specs.{Contents.held_state, Growing.HasSame};
+ghost use Rattle.held.specs.Growing.{HasSameBut};
 
 use crate::held::Held;
 use byte_string::ByteString;
@@ -20,9 +20,8 @@ impl Held {
         name: ByteString,
         value: Option<ByteString>,
     ) -> Result<Held, AllocError>
-        ensures ok { IfOk result (λ h. held_state h
-            ≡ with_changed_property (held_state self.now) revision name value) }
-        ensures same { IfOk result (λ h. HasSame self.now h) }
+        ensures { IfOk result (λ h. HasSameBut self.now h
+            (λ s. with_changed_property s revision name value)) }
     {
         let properties = with_changed(alloc, &self.properties, revision, name, value)?;
         self.with_lists(properties)
@@ -36,9 +35,8 @@ impl Held {
         list: Properties,
     ) -> Result<Held, AllocError>
         requires { revision < length self.now.properties }
-        ensures ok { IfOk result (λ h. held_state h ≡ record (held_state self.now)
-            { properties = slice_set self.now.properties revision list }) }
-        ensures same { IfOk result (λ h. HasSame self.now h) }
+        ensures { IfOk result (λ h. HasSameBut self.now h
+            (λ s. record s { properties = slice_set s.properties revision list })) }
     {
         let list = Arc::new(alloc, list)?;
         let lists = self.properties.replaced(alloc, revision as usize, list)?;
@@ -48,9 +46,8 @@ impl Held {
     /// Makes the same with other lists of properties, as many as there are.
     fn with_lists(&self, properties: PVec<Properties>) -> Result<Held, AllocError>
         requires { length properties ≡ length self.now.properties }
-        ensures ok { IfOk result (λ h. held_state h
-            ≡ record (held_state self.now) { properties = properties }) }
-        ensures same { IfOk result (λ h. HasSame self.now h) }
+        ensures { IfOk result (λ h. HasSameBut self.now h
+            (λ s. record s { properties = properties })) }
     {
         let nodes = self.nodes.share()?;
         let changes = self.changes.share()?;

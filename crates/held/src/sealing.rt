@@ -1,7 +1,6 @@
 //! The revision that a transaction's tree makes.
-ghost use Rattle.std.specs.Prelude.{◌≡◌, ◌<◌, ◌++◌, ◌∷◌, [], length, IfOk};
-ghost use Rattle.repo_api.specs.States.{TreeMap};
-ghost use Rattle.held.specs.{Contents.revisions_of, Growing.HasOneMore, Maps.{IsMapOf, Mapped}, Sealed.sealed_tree};
+ghost use Rattle.std.specs.Prelude.{◌<◌, length, IfOk};
+ghost use Rattle.held.specs.{Contents.revisions_of, Growing.HasRevision, Maps.Mapped, Sealed.sealed_tree};
 
 use crate::held::Held;
 use repo_api::Properties;
@@ -20,13 +19,8 @@ impl Held {
     ) -> Result<Held, AllocError>
         requires mapped { ∥ Mapped (sealed_tree self.now.nodes tree.now) ∥₁ }
         requires room { length (revisions_of self.now) < 262144 }
-        ensures revisions { IfOk result (λ h. (m : TreeMap)
-            → IsMapOf (sealed_tree self.now.nodes tree.now) m → revisions_of h
-            ≡ revisions_of self.now ++ record { tree = m; changes = changes } ∷ []) }
-        ensures properties { IfOk result (λ h. h.properties
-            ≡ self.now.properties ++ properties ∷ []) }
-        ensures uuid { IfOk result (λ h. h.uuid ≡ self.now.uuid) }
-        ensures more { IfOk result (λ h. HasOneMore self.now h) }
+        ensures { IfOk result (λ h. HasRevision self.now h
+            (sealed_tree self.now.nodes tree.now) changes properties) }
     {
         let revision = self.count() as u32;
         let block = tree.seal(alloc, &self.nodes, revision)?;

@@ -1,12 +1,10 @@
 //! The trees of open transactions: how they begin, what is read and edited in them, and the same
 //! over the nodes of what is held now.
-ghost use Rattle.std.specs.Prelude.{◌≡◌, ◌<◌, IfOk, OnOk, OnErr, Option, length, option_copied};
-ghost use Rattle.svnpath.specs.Paths.{PathValue};
-ghost use Rattle.repo_api.specs.{Edits.{begun, edited}, Kinds.{created_of, kind_of}, RightEdits.IsRightEdit, States.{IsBeginning, trees_in, youngest}};
-ghost use Rattle.repo_api.specs.Trees.{text_of};
-ghost use Rattle.noderevs.specs.{Held.{node_at, root_at, trees_of}, declared.node_rev.NodeId.NodeId};
+ghost use Rattle.std.specs.Prelude.{◌≡◌, ◌<◌, IfOk, length, option_copied};
+ghost use Rattle.repo_api.specs.{Edits.begun, Kinds.{created_of, kind_of}, States.{IsBeginning, youngest}, Trees.text_of};
+ghost use Rattle.noderevs.specs.Held.{node_at, root_at, trees_of};
 ghost use Rattle.txntree.specs.Whole.{IsSound, txn_tree};
-ghost use Rattle.held.specs.Contents.{revisions_of, held_state};
+ghost use Rattle.held.specs.{Contents.{revisions_of, held_state}, Transactions.{EditsTree, IsOver, IsRightOver}};
 
 use crate::held::Held;
 use repo_api::{EditOp, FileText, NodeKind};
@@ -18,10 +16,8 @@ use txntree::TxnTree;
 impl Held {
     /// Makes the tree of a transaction that begins from the youngest revision.
     pub fn begun(&self, alloc: Global) -> Result<TxnTree, AllocError>
-        ensures tree { IfOk result (λ t. (q : PathValue) → txn_tree self.now.nodes t q
-            ≡ begun (trees_of self.now.nodes (youngest (held_state self.now))) q) }
-        ensures sound { IfOk result (IsSound (node_at self.now.nodes)
-            (root_at self.now.nodes (youngest (held_state self.now)))) }
+        ensures { IfOk result (IsOver self.now (youngest (held_state self.now))
+            (begun (trees_of self.now.nodes (youngest (held_state self.now))))) }
     {
         let Some(root) = self.nodes.root(self.youngest()) else {
             unreachable!();
@@ -42,10 +38,7 @@ impl Held {
         requires begins { IsBeginning (revisions_of from.now) (revisions_of self.now) }
         requires within { base < length (revisions_of from.now) }
         requires sound { IsSound (node_at from.now.nodes) (root_at from.now.nodes base) tree.now }
-        ensures tree { IfOk result (λ t. (q : PathValue) → txn_tree self.now.nodes t q
-            ≡ txn_tree from.now.nodes tree.now q) }
-        ensures sound { IfOk result (IsSound (node_at self.now.nodes)
-            (root_at self.now.nodes base)) }
+        ensures { IfOk result (IsOver self.now base (txn_tree from.now.nodes tree.now)) }
     {
         let tree = moved_tree(alloc, tree, &from.nodes, &self.nodes, base)?;
         Ok(tree)
@@ -75,15 +68,8 @@ impl Held {
 
     /// Makes an edit in a transaction. Without memory nothing is changed.
     pub fn edit(&self, alloc: Global, tree: &mut TxnTree, op: &EditOp) -> Result<(), AllocError>
-        requires { IsRightEdit (trees_in (revisions_of self.now))
-            (txn_tree self.now.nodes tree.old) op.now }
-        ensures ok { OnOk result ((q : PathValue) → txn_tree self.now.nodes tree.new q
-            ≡ edited (trees_in (revisions_of self.now))
-            (txn_tree self.now.nodes tree.old) op.now q) }
-        ensures err { OnErr result ((q : PathValue) → txn_tree self.now.nodes tree.new q
-            ≡ txn_tree self.now.nodes tree.old q) }
-        ensures sound { (root : Option NodeId) → IsSound (node_at self.now.nodes) root tree.old
-            → IsSound (node_at self.now.nodes) root tree.new }
+        requires { IsRightOver self.now tree.old op.now }
+        ensures { EditsTree result self.now tree.old op.now tree.new }
     {
         tree.edit(alloc, &self.nodes, op)
     }

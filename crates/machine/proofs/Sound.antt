@@ -43,7 +43,7 @@ pub finished_sound : (e : EditState) (t : TxnState) → IsSoundEdit e → finish
 finished_sound e t sound is = subst (λ (o : Option TxnState). IsSoundIn e.path o e.tokens) (finished_is e.refused e.txn e.tokens t is) sound
 
 -- and it has seen what its edit has
-finished_rests : (c : RepoState) (e : EditState) (t : TxnState) → RestsOn e c → finished e ≡ Ok t → IsBeginning t.shown c.revisions
+pub finished_rests : (c : RepoState) (e : EditState) (t : TxnState) → RestsOn e c → finished e ≡ Ok t → IsBeginning t.shown c.revisions
 finished_rests c e t rests is = subst (λ (o : Option TxnState). RestsIn o c) (finished_is e.refused e.txn e.tokens t is) rests
 
 tree_within : (rs : List Revision) (n : ℕ) → AreTrees rs → n < length rs → IsTree (trees_in rs n)

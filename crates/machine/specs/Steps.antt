@@ -1,7 +1,6 @@
 -- What becomes of a session's steps: each happens at one point of the repository, and its replies
--- are written, or a
--- part of them where memory or the sink fails.
-use Rattle.std.specs.{Prelude.{◌≡◌, ◌⊎◌, ℕ, true, List, [], ◌∷◌, ◌++◌, Option, Some, None, Result, IfOk, MatchResult}, Option.option_to_list}
+-- are written, or a part of them where memory or the sink fails.
+use Rattle.std.specs.{Prelude.{◌≡◌, ◌⊎◌, ℕ, true, List, [], ◌∷◌, ◌++◌, Option, Some, None, Result, MatchResult}, Option.option_to_list}
 use Rattle.repo_api.specs.{Accepted.Accepted, States.RepoState}
 use Rattle.wire_replies.specs.{declared.reply.Reply.Reply, Replies.print, Sinks.WritesPart}
 use Rattle.access.specs.{Changing.{IsFailure, IsHalt}, Points.{AccessRules, content_of, Point}}
@@ -75,10 +74,6 @@ StepOrPart rules step part p q writes =
     StepOrNothing rules step p q writes ⊎ ((a : Answer) × StepAt rules part p a q × writes [])
 
 -- ---- as results
-
--- this value is made, unless there is an error
-abbrev pub Makes : {T E : Type 0} → Result T E → T → Type 0
-Makes r value = IfOk r (λ made. made ≡ value)
 
 -- from a turn to another an answer is written, and the session stands where it says, with these words
 -- left; or, where there is an error, a part of it is written

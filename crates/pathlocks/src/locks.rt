@@ -2,7 +2,7 @@
 ghost use Rattle.std.specs.Prelude.{◌≡◌, ◌+◌, length, IfOk, IfErr, OnOk, OnErr, Some, None, map, option_copied, option_map};
 ghost use Rattle.std.specs.{FinMap.{get, empty, len, insert, remove, from_entries}, Map.Iter.deref_pair};
 ghost use Rattle.svnpath.specs.Listings.{listing};
-ghost use Rattle.repo_api.specs.{Accepted.{IfRefused, IsOfMemory}, Locking.{after_release, at_or_under, check_refusal, in_the_way, is_held, lock_of}};
+ghost use Rattle.repo_api.specs.{Accepted.{Becomes, IsJudged}, Locking.{after_release, at_or_under, check_refusal, in_the_way, is_held, lock_of}};
 ghost use Rattle.repo_api.specs.Locking.{lock_refusal_at, released, releases, taking_refusal};
 
 use crate::finding::{append_in_the_way, append_under};
@@ -94,11 +94,8 @@ impl Locks {
         user: Option<&ByteString>,
         tokens: &[(Path, ByteString)],
     ) -> Result<(), ChangeFault>
-        ensures accepted { OnOk result (check_refusal self.now (from_entries changes.now.entries)
-            (option_copied user.entry) tokens.now ≡ None) }
-        ensures refused { IfRefused result (λ r. check_refusal self.now (from_entries changes.now.entries)
-            (option_copied user.entry) tokens.now ≡ Some r) }
-        ensures memory { IsOfMemory result }
+        ensures { IsJudged result (check_refusal self.now (from_entries changes.now.entries)
+            (option_copied user.entry) tokens.now) }
     {
         let found = self.in_the_way(alloc, changes)?;
         let handed_in = token_set(alloc, tokens)?;
@@ -123,11 +120,8 @@ impl Locks {
         created: Option<u64>,
         ask: LockAsk,
     ) -> Result<(), ChangeFault>
-        ensures accepted { OnOk result (lock_refusal_at kind created self.old ask ≡ None) }
-        ensures ok { OnOk result (self.new ≡ insert self.old ask.path (lock_of ask)) }
-        ensures refused { IfRefused result (λ r. lock_refusal_at kind created self.old ask ≡ Some r) }
-        ensures memory { IsOfMemory result }
-        ensures err { OnErr result (self.new ≡ self.old) }
+        ensures { Becomes result (lock_refusal_at kind created self.old ask) self.old
+            (insert self.old ask.path (lock_of ask)) self.new }
     {
         if let Some(refusal) = self.lock_refusal(kind, created, &ask) {
             std::mem::drop(ask);

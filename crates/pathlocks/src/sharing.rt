@@ -1,7 +1,7 @@
 //! Changes of locks that views may share. Where a view does, the locks are copied before the first change,
 //! and the view keeps what it has seen; else they are changed in place, whatever other locks stand.
 ghost use Rattle.std.specs.{Prelude.{◌≡◌, OnOk, OnErr, Some, None, option_copied}, FinMap.{get, insert, remove}};
-ghost use Rattle.repo_api.specs.{Accepted.{IfRefused, IsOfMemory}, Locking.{after_release, lock_of, lock_refusal_at, taking_refusal}};
+ghost use Rattle.repo_api.specs.{Accepted.Becomes, Locking.{after_release, lock_of, lock_refusal_at, taking_refusal}};
 
 use crate::locks::Locks;
 use byte_string::ByteString;
@@ -18,12 +18,8 @@ pub fn lock_shared(
     created: Option<u64>,
     ask: LockAsk,
 ) -> Result<(), ChangeFault>
-    ensures accepted { OnOk result (lock_refusal_at kind created locks.old.value ask ≡ None) }
-    ensures ok { OnOk result (locks.new.value ≡ insert locks.old.value ask.path (lock_of ask)) }
-    ensures refused { IfRefused result (λ r. lock_refusal_at kind created locks.old.value ask
-        ≡ Some r) }
-    ensures memory { IsOfMemory result }
-    ensures err { OnErr result (locks.new.value ≡ locks.old.value) }
+    ensures { Becomes result (lock_refusal_at kind created locks.old.value ask) locks.old.value
+        (insert locks.old.value ask.path (lock_of ask)) locks.new.value }
 {
     match Arc::make_mut(locks) {
         Ok(own) => own.lock(alloc, kind, created, ask),
@@ -36,13 +32,8 @@ pub fn lock_shared(
 
 /// Takes the lock at the path that is asked for away.
 pub fn unlock_shared(locks: &mut Arc<Locks>, ask: &UnlockAsk) -> Result<(), ChangeFault>
-    ensures accepted { OnOk result (taking_refusal ask.now (get locks.old.value ask.now.path)
-        ≡ None) }
-    ensures ok { OnOk result (locks.new.value ≡ remove locks.old.value ask.now.path) }
-    ensures refused { IfRefused result (λ r. taking_refusal ask.now (get locks.old.value ask.now.path)
-        ≡ Some r) }
-    ensures memory { IsOfMemory result }
-    ensures err { OnErr result (locks.new.value ≡ locks.old.value) }
+    ensures { Becomes result (taking_refusal ask.now (get locks.old.value ask.now.path))
+        locks.old.value (remove locks.old.value ask.now.path) locks.new.value }
 {
     match Arc::make_mut(locks)?.unlock(ask) {
         Ok(()) => Ok(()),

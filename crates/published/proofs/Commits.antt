@@ -4,7 +4,7 @@ use Rattle.std.specs.{Prelude.{IsSomeAnd, IsTrue}, FinMap.{get, get-empty}}
 use Rattle.svnpath.specs.Paths.{path_cmp}
 use Rattle.repo_api.specs.{Accepted.Accepted.Commits, Commits.{commit_refusal, committed, next_tree}, Marks.{AreMarked, MeetWell}}
 use Rattle.repo_api.specs.{Soundness.{AreSound, AreTrees}, States.{IsBeginning, RepoState, Revision, tree_in, tree_of, trees_in, TxnState, youngest}}
-use Rattle.repo_api.specs.{Transactions.IsMarkedTxn, Trees.{is_directory, IsTree}, declared.entry.Entry.Entry, declared.ask.CommitAsk.CommitAsk}
+use Rattle.repo_api.specs.{Transactions.{IsMarkedTxn, MayCommit}, Trees.{is_directory, IsTree}, declared.entry.Entry.Entry, declared.ask.CommitAsk.CommitAsk}
 use Rattle.published.specs.Changes.{IsRight}
 
 trees_more : (rs : List Revision) (r : Revision) → AreTrees rs → IsTree (tree_of r.tree) → AreTrees (rs ++ r ∷ [])
@@ -36,10 +36,9 @@ module _ (meets : (c : RepoState) (ask : CommitAsk) (t : TxnState) → AreMarked
     → commit_refusal c ask t ≡ None → MeetWell (trees_in c.revisions) t.base (tree_of t.tree) (youngest c))
     (makes_tree : (c : RepoState) (t : TxnState) → MeetWell (trees_in c.revisions) t.base (tree_of t.tree) (youngest c) → IsTree (tree_of (next_tree c t)))
     (makes_marks : (c : RepoState) (ask : CommitAsk) (t : TxnState) → MeetWell (trees_in c.revisions) t.base (tree_of t.tree) (youngest c) → AreMarked (trees_in (committed c ask t).revisions)) where
-  pub commit_right : (c : RepoState) (ask : CommitAsk) (t : TxnState) → AreSound c.revisions → IsBeginning t.shown c.revisions
-      → IsTree (tree_of t.tree) → IsMarkedTxn t → commit_refusal c ask t ≡ None → IsRight c (Commits ask t)
-  commit_right c ask t s b tree marked accepted =
-      let well = meets c ask t s.1 (youngest_tree c t s.0 b marked) b marked tree accepted in record {
+  pub commit_right : (c : RepoState) (ask : CommitAsk) (t : TxnState) → AreSound c.revisions → MayCommit c t → commit_refusal c ask t ≡ None → IsRight c (Commits ask t)
+  commit_right c ask t s may accepted =
+      let well = meets c ask t s.1 (youngest_tree c t s.0 may.0 may.2) may.0 may.2 may.1 accepted in record {
         accepted = accepted;
         meets = λ other u is. let same : t ≡ u = cc is in subst (λ (x : TxnState). MeetWell (trees_in c.revisions) x.base (tree_of x.tree) (youngest c)) same well;
         sound = (trees_more c.revisions (record { tree = next_tree c t; changes = t.changes }) s.0 (makes_tree c t well), makes_marks c ask t well);

@@ -1,7 +1,7 @@
 -- What is published.
 use Rattle.std.specs.Prelude.{List}
 use Rattle.repo_api.specs.States.{RepoState}
-use Rattle.published.specs.Events.{Event}
+use Rattle.published.specs.Events.{Event, state_of}
 
 -- a list of events, and the repository after it
 pub record Edition : Type 0 where
@@ -10,3 +10,7 @@ pub record Edition : Type 0 where
 
 abbrev pub edition : List Event → RepoState → Edition
 edition list content = record { list = list; content = content }
+
+-- what these events have made
+abbrev pub edition_after : List Event → Edition
+edition_after list = edition list (state_of list)

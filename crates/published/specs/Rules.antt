@@ -1,7 +1,7 @@
 -- The rule of the history, and what its steps tell.
-use Rattle.std.specs.Prelude.{ℕ, ◌≡◌, ◌==◌, true, List, [], ◌∷◌, ◌++◌, length, MatchBool}
-use Rattle.logbook.specs.Pages.{Cell, Step, View, Book, Named}
-use Rattle.published.specs.Events.{Event, IsHistory}
+use Rattle.std.specs.Prelude.{ℕ, ◌≡◌, ◌==◌, true, List, [], ◌∷◌, ◌++◌, length, MatchBool, None}
+use Rattle.logbook.specs.{Pages.{Cell, Step, View, Book, Named}, declared.tokens.Plain.Ghosts}
+use Rattle.published.specs.Events.{Event, IsHistory, MayFollow}
 
 -- the first word is the length of the history. A book has two words, of which this one leaves the
 -- second at 0
@@ -17,3 +17,7 @@ abbrev pub Adds : Step Event → View Event ℕ → ℕ → View Event ℕ → T
 Adds s v found w =
     MatchBool (found == s.old) ((w.0 ≡ v.0 ++ s.ask ∷ []) × IsHistory w.0)
     ((length w.0 ≡ found) × IsHistory w.0)
+
+-- what this is about may be added to these events: it may come next, and nothing is traded for it
+abbrev pub MayAdd : {M X : Type 0} → Ghosts M X Event ℕ → List Event → X → Type 0
+MayAdd plain done about = MayFollow done (plain.ask about) × (plain.state about ≡ None)

@@ -1,7 +1,7 @@
 //! The history of one repository, which exists in the proofs alone.
 ghost use Rattle.std.specs.Prelude.{◌≡◌, ◌+◌, ◌==◌, ◌<◌, ◌≤◌, ◌^◌, ◌++◌, ◌∷◌, ◌⊎◌, [], None, true, length, MatchBool};
 ghost use mathlib.Core.List.{IsPrefix};
-ghost use Rattle.published.specs.{Events.{IsHistory, IsLonger, MayFollow}, Rules.head_of, Moments.ListGoesOn};
+ghost use Rattle.published.specs.{Events.{IsHistory, IsLonger}, Rules.{head_of, MayAdd}, Moments.ListGoesOn};
 
 use crate::event::Happened;
 use logbook::{Gain, Offer, Plain, Play, Rule, Seen, Start, Word};
@@ -129,8 +129,7 @@ impl<J: Naming> Model for Front<J> {
 impl<J: Naming> Front<J> {
     /// Says how many events it has.
     pub fn len(&self) -> u64
-        ensures length { result ≡ length self.now }
-        ensures history { IsHistory self.now }
+        ensures { (result ≡ length self.now) × IsHistory self.now }
     {
         self.events
     }
@@ -150,8 +149,7 @@ impl<J: Naming> Front<J> {
     fn is_shorter(&self, other: &Front<J>) -> bool
         ensures order { MatchBool result (IsLonger self.now other.now)
             (IsPrefix other.now self.now) }
-        ensures own { IsHistory self.now }
-        ensures others { IsHistory other.now }
+        ensures histories { IsHistory self.now × IsHistory other.now }
     {
         let mut both = self.seen.again();
         both.learn(&other.seen);
@@ -184,8 +182,7 @@ impl<J: Naming> Front<J> {
     /// longer.
     pub fn add<X, M: Plain<X, Happened, u64>>(&mut self, book: &Book<J>, about: &X) -> bool
         requires room { length self.old < 2 ^ 62 }
-        requires may { MayFollow self.old (M.ask about.now) }
-        requires plain { M.state about.now ≡ None }
+        requires may { MayAdd M.Plain self.old about.now }
         ensures { MatchBool result (self.new ≡ self.old ++ M.ask about.now ∷ [])
             (IsLonger self.old self.new) }
     {
@@ -222,10 +219,8 @@ pub fn next_front<X, M: Plain<X, Happened, u64>, J: Naming, W: Wait>(
     about: &X,
 ) -> Front<J>
     requires room { length front.now < 2 ^ 60 }
-    requires may { MayFollow front.now (M.ask about.now) }
-    requires plain { M.state about.now ≡ None }
-    ensures next { result ≡ front.now ++ M.ask about.now ∷ [] }
-    ensures history { IsHistory result }
+    requires may { MayAdd M.Plain front.now about.now }
+    ensures { (result ≡ front.now ++ M.ask about.now ∷ []) × IsHistory result }
 {
     let mut next = front.again();
     if !next.add::<X, M>(book, about) {

@@ -1,6 +1,6 @@
 //! What is published.
 ghost use Rattle.std.specs.Prelude.{◌≡◌, ◌<◌, ◌^◌, IfOk};
-ghost use Rattle.published.specs.Events.{state_of};
+ghost use Rattle.published.specs.{Edition.edition_after, Events.state_of};
 
 use crate::history::{Front, Naming};
 use core::mem::replace_with;
@@ -38,7 +38,7 @@ impl<R: Repository, J: Naming> Published<R, J> {
     /// Puts a repository together with its front.
     pub fn new(repository: R, front: Front<J>) -> Published<R, J>
         requires { R.content repository ≡ state_of front }
-        ensures { (result.list ≡ front) × (result.content ≡ R.content repository) }
+        ensures { result ≡ edition_after front }
     {
         Published { repository, front }
     }
@@ -52,8 +52,7 @@ impl<R: Repository, J: Naming> Published<R, J> {
 
     /// Gives its front.
     pub fn front(&self) -> &Front<J>
-        ensures list { result.now ≡ self.now.list }
-        ensures content { self.now.content ≡ state_of self.now.list }
+        ensures { self.now ≡ edition_after result.now }
     {
         &self.front
     }

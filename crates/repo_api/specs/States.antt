@@ -1,5 +1,5 @@
 -- What a repository contains, and what a transaction is.
-use Rattle.std.specs.{Prelude.{◌≡◌, ℕ, ◌-◌, List, ◌++◌, Option, Some, None, length, slice_get}, FinMap.{FinMap, get, empty}}
+use Rattle.std.specs.{Prelude.{◌≡◌, ℕ, ◌-◌, List, ◌++◌, Option, Some, None, Result, MatchResult, length, slice_get}, FinMap.{FinMap, get, empty}}
 use Rattle.svnpath.specs.Paths.{path_cmp, PathValue}
 use Rattle.repo_api.specs.{Properties.PropertyList, Trees.Tree, Changes.{Changes, changes_after}, Edits.{edited, begun}, declared.entry.Entry.Entry}
 use Rattle.repo_api.specs.{declared.change.Change.Change, declared.edit.EditOp.EditOp, declared.lock.Lock.Lock}
@@ -78,3 +78,15 @@ pub record IsEdited (shown : List Revision) (old : TxnState) (op : EditOp)
   pub base : new.base ≡ old.base
   pub tree : (p : PathValue) → get new.tree p ≡ edited (trees_in shown) (tree_of old.tree) op p
   pub changes : (p : PathValue) → get new.changes p ≡ changes_after (changes_of old.changes) op p
+
+-- the edit is made; where there is an error, the transaction stays as it was
+abbrev pub EditsTxn : {T E : Type 0} → Result T E → List Revision → TxnState → EditOp → TxnState
+    → Type 0
+EditsTxn result shown old op new =
+    MatchResult result (λ _. IsEdited shown old op new) (λ _. new ≡ old)
+
+-- it is noted among the changes; where there is an error, they stay as they were
+abbrev pub Notes : {T E : Type 0} → Result T E → ChangeMap → EditOp → ChangeMap → Type 0
+Notes result old op new =
+    MatchResult result (λ _. (p : PathValue) → get new p ≡ changes_after (changes_of old) op p)
+    (λ _. new ≡ old)

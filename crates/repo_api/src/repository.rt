@@ -1,11 +1,8 @@
 //! A repository, by what it contains.
-ghost use Rattle.std.specs.{Prelude.{◌≡◌, ◌≤◌, ◌<◌, true, length, map, IfOk, OnOk, OnErr, None, Some, option_copied, slice_get}, FinMap.get};
-ghost use Rattle.std.specs.Map.Iter.{deref, deref_pair};
-ghost use Rattle.repo_api.specs.States.{RepoState, TxnState, IsBeginning, IsBegun, IsEdited, tree_of, trees_in, youngest};
-ghost use Rattle.repo_api.specs.{RevisionProperties.{property_refusal, with_changed_property}, RightEdits.IsRightEdit, Commits.{commit_refusal, committed}};
-ghost use Rattle.repo_api.specs.Accepted.{IfRefused, IsOfMemory};
-ghost use Rattle.repo_api.specs.Locking.{at_or_under, lock_refusal, locked, unlock_refusal, unlocked, releases, without_released};
-ghost use Rattle.repo_api.specs.Histories.{history_of, IsQuietSince};
+ghost use Rattle.std.specs.{Prelude.{◌≡◌, ◌≤◌, ◌<◌, true, length, map, IfOk, option_copied, slice_get}, FinMap.get, Map.Iter.{deref, deref_pair}};
+ghost use Rattle.repo_api.specs.{States.{RepoState, TxnState, IsBeginning, IsBegun, EditsTxn, tree_of, trees_in, youngest}, Accepted.MakesChange};
+ghost use Rattle.repo_api.specs.{Accepted.Accepted.{ChangesProperty, Commits, Locks, Releases, Unlocks}, RightEdits.IsRightEdit};
+ghost use Rattle.repo_api.specs.{Locking.{at_or_under, releases}, Histories.{history_of, IsQuietSince}};
 ghost use Rattle.repo_api.specs.Kinds.{kind_at, has_deeper_at, created_at, node_properties_at, text_at, kind_in, created_in, text_in};
 ghost use Rattle.repo_api.specs.Readings.{names_at, IsSameAt};
 
@@ -139,57 +136,33 @@ pub trait Repository: Drop {
         requires rests { IsBeginning (txn_state txn.old).shown (content self.now).revisions }
         requires right { IsRightEdit (trees_in (content self.now).revisions)
             (tree_of (txn_state txn.old).tree) op }
-        ensures ok { OnOk result (IsEdited (content self.now).revisions (txn_state txn.old) op
-            (txn_state txn.new)) }
-        ensures err { OnErr result (txn_state txn.new ≡ txn_state txn.old) };
+        ensures { EditsTxn result (content self.now).revisions (txn_state txn.old) op
+            (txn_state txn.new) };
 
     /// Makes the transaction the next revision, and answers its number. The transaction was last shown a
     /// repository whose revisions begin this one's.
     fn commit(&mut self, ask: CommitAsk, txn: Self::Txn) -> Result<u64, ChangeFault>
         requires { IsBeginning (txn_state txn).shown (content self.old).revisions }
-        ensures accepted { OnOk result (commit_refusal (content self.old) ask (txn_state txn)
-            ≡ None) }
-        ensures number { IfOk result (λ n. n ≡ length (content self.old).revisions) }
-        ensures ok { OnOk result (content self.new
-            ≡ committed (content self.old) ask (txn_state txn)) }
-        ensures refused { IfRefused result (λ r. commit_refusal (content self.old) ask
-            (txn_state txn) ≡ Some r) }
-        ensures memory { IsOfMemory result }
-        ensures err { OnErr result (content self.new ≡ content self.old) };
+        ensures change { MakesChange result (content self.old) (Commits ask (txn_state txn))
+            (content self.new) }
+        ensures number { IfOk result (λ n. n ≡ length (content self.old).revisions) };
 
     /// Locks the path of a file, in place of a lock that stands there if that may be stolen.
     fn lock(&mut self, ask: LockAsk) -> Result<(), ChangeFault>
-        ensures accepted { OnOk result (lock_refusal (content self.old) ask ≡ None) }
-        ensures ok { OnOk result (content self.new ≡ locked (content self.old) ask) }
-        ensures refused { IfRefused result (λ r. lock_refusal (content self.old) ask ≡ Some r) }
-        ensures memory { IsOfMemory result }
-        ensures err { OnErr result (content self.new ≡ content self.old) };
+        ensures { MakesChange result (content self.old) (Locks ask) (content self.new) };
 
     /// Takes the lock at the path away.
     fn unlock(&mut self, ask: &UnlockAsk) -> Result<(), ChangeFault>
-        ensures accepted { OnOk result (unlock_refusal (content self.old) ask.now ≡ None) }
-        ensures ok { OnOk result (content self.new ≡ unlocked (content self.old) ask.now) }
-        ensures refused { IfRefused result (λ r. unlock_refusal (content self.old) ask.now
-            ≡ Some r) }
-        ensures memory { IsOfMemory result }
-        ensures err { OnErr result (content self.new ≡ content self.old) };
+        ensures { MakesChange result (content self.old) (Unlocks ask.now) (content self.new) };
 
     /// Makes this the value of a property of a revision, or takes the property out where there is no
     /// value, if the value before is the one that is asked for.
     fn change_property(&mut self, ask: PropertyAsk) -> Result<(), ChangeFault>
-        ensures accepted { OnOk result (property_refusal (content self.old) ask ≡ None) }
-        ensures ok { OnOk result (content self.new
-            ≡ with_changed_property (content self.old) ask.revision ask.name ask.value) }
-        ensures refused { IfRefused result (λ r. property_refusal (content self.old) ask ≡ Some r) }
-        ensures memory { IsOfMemory result }
-        ensures err { OnErr result (content self.new ≡ content self.old) };
+        ensures { MakesChange result (content self.old) (ChangesProperty ask) (content self.new) };
 
     /// Takes away each lock that is the user's and was handed in by its path and its token. One that was
     /// stolen since then stays.
     fn release(&mut self, user: Option<&ByteString>, tokens: &LockTokens) -> Result<(), ChangeFault>
-        ensures ok { OnOk result (content self.new
-            ≡ without_released (content self.old) (option_copied user.entry) tokens.now) }
-        ensures refused { IfRefused result (λ r. ⊥) }
-        ensures memory { IsOfMemory result }
-        ensures err { OnErr result (content self.new ≡ content self.old) };
+        ensures { MakesChange result (content self.old) (Releases (option_copied user.entry) tokens.now)
+            (content self.new) };
 }

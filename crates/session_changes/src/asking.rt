@@ -3,7 +3,8 @@ ghost use Rattle.std.specs.Prelude.{◌≡◌, IfOk};
 ghost use Rattle.dates.specs.Dates.{IsDateText};
 ghost use Rattle.svnpath.specs.Texts.{joined};
 ghost use Rattle.repo_api.specs.Locking.{lock_of, owner_of};
-ghost use Rattle.machine.specs.{Commands.{lock_ask, unlock_ask}, Steps.Makes};
+ghost use Rattle.machine.specs.Commands.{lock_ask, unlock_ask};
+ghost use Rattle.wire_replies.specs.Made.{Makes};
 ghost use Rattle.session_changes.specs.Asked.{AsksAt};
 
 use crate::token::token_of;

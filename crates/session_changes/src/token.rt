@@ -1,5 +1,6 @@
 //! The tokens of locks.
-ghost use Rattle.machine.specs.{Commands.token_text, Steps.Makes};
+ghost use Rattle.machine.specs.Commands.{token_text};
+ghost use Rattle.wire_replies.specs.Made.{Makes};
 
 use byte_string::ByteString;
 use std::alloc::{AllocError, Global};

@@ -1,7 +1,7 @@
 //! A login is asked for.
 ghost use Rattle.std.specs.Prelude.{◌∷◌, []};
-ghost use Rattle.machine.specs.{Answers.says, Logins.asks, Steps.{Answered, Makes}};
-ghost use Rattle.wire_replies.specs.Sinks.{Says};
+ghost use Rattle.machine.specs.{Answers.says, Logins.asks, Steps.Answered};
+ghost use Rattle.wire_replies.specs.{Made.Makes, Sinks.Says};
 
 use byte_string::ByteString;
 use machine::{OpenLogin, Options, Phase, Turn, offer};

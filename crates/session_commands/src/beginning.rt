@@ -3,7 +3,8 @@ ghost use Rattle.std.specs.Prelude.{◌≡◌, ℕ, List, [], option_copied};
 ghost use Rattle.svnpath.specs.Paths.{PathValue};
 ghost use Rattle.repo_api.specs.States.{RepoState};
 ghost use Rattle.drive_reports.specs.Refusing.{ReportState, ask_of, begun_report};
-ghost use Rattle.machine.specs.{Answers.{behind, says}, Commands.drive_ask, Steps.{Answered, Makes, Looks}};
+ghost use Rattle.machine.specs.{Answers.{behind, says}, Commands.drive_ask, Steps.{Answered, Looks}};
+ghost use Rattle.wire_replies.specs.Made.{Makes};
 ghost use Rattle.session_replies.specs.Telling.{told_before};
 
 use access::RepoAccess;

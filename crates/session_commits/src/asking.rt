@@ -3,7 +3,8 @@ ghost use Rattle.std.specs.{Prelude.{◌≡◌, [], Ok, Err, MatchResult, option
 ghost use Rattle.svnpath.specs.Components.{AnswersPath};
 ghost use Rattle.refusals.specs.Faults.{IfRefusedBy};
 ghost use Rattle.repo_api.specs.Judging.{is_property_name};
-ghost use Rattle.machine.specs.{Commands.{are_named, asked_by, lock_tokens, set_all}, Steps.Makes};
+ghost use Rattle.machine.specs.Commands.{are_named, asked_by, lock_tokens, set_all};
+ghost use Rattle.wire_replies.specs.Made.{Makes};
 
 use byte_string::ByteString;
 use commands::CommitCommand;

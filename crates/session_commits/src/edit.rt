@@ -2,16 +2,16 @@
 ghost use Rattle.std.specs.Prelude.{◌≡◌, ◌≤◌, ◌∷◌, [], Ok, Err, Some, None, IfOk, if◌then◌else◌, MatchResult};
 ghost use Rattle.items.specs.View.{value_of};
 ghost use Rattle.dates.specs.{Dates.IsDateText, declared.TheConstants.LAST_MOMENT};
-ghost use Rattle.repo_api.specs.{States.{IsBeginning, tree_of}, Transactions.IsMarkedTxn, Trees.IsTree};
+ghost use Rattle.repo_api.specs.Transactions.{MayCommit};
 ghost use Rattle.wire_edits.specs.Editing.{editor_command, ends_edit};
 ghost use Rattle.edit_rules.specs.{Editor.{Applies, finished, RestsOn}, Edits.new_edit, Refusing.edit_refusal, Soundness.IsSoundEdit};
 ghost use Rattle.refusals.specs.Faults.{IfRefusedBy};
 ghost use Rattle.access.specs.Points.{content_of};
 ghost use Rattle.machine.specs.{Answers.says, Commands.{asked_by, commit_begins, lock_tokens}};
 ghost use Rattle.machine.specs.Machine.{CloseStep, commit_ask, EditingStep, EditStep, skipping_answer, UnreleasedClose, UnreleasedEnd};
-ghost use Rattle.machine.specs.Steps.{Answered, AnsweredIfAny, Stepped, SteppedInPart, Makes, Looks};
+ghost use Rattle.machine.specs.Steps.{Answered, AnsweredIfAny, Stepped, SteppedInPart, Looks};
+ghost use Rattle.wire_replies.specs.{Made.Makes, Sinks.Says};
 ghost use Rattle.session_commits.specs.Telling.{tells_made, commit_answer};
-ghost use Rattle.wire_replies.specs.Sinks.{Says};
 
 use crate::asking::asked_by;
 use crate::giving_up::give_up;
@@ -285,10 +285,7 @@ fn commit<R: Repository, A: RepoAccess<View = R>, S: ReplySink>(
     access: &mut A,
     turn: &mut Turn<S>,
 ) -> Result<SessionPhase<R>, AllocError>
-    requires rests { IsBeginning (R.txn_state txn).shown
-        (content_of (A.point access.old)).revisions }
-    requires tree { IsTree (tree_of (R.txn_state txn).tree) }
-    requires marked { IsMarkedTxn (R.txn_state txn) }
+    requires { MayCommit (content_of (A.point access.old)) (R.txn_state txn) }
     ensures { SteppedInPart result S.writes turn.old turn.new A.rules A.point access.old access.new
         (CloseStep turn.old.env client asked (Ok (R.txn_state txn)))
         (UnreleasedClose turn.old.env client asked (Ok (R.txn_state txn))) }

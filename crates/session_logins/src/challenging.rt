@@ -1,8 +1,8 @@
 //! Challenges: how one is sent, and whose an answer to it is.
 ghost use Rattle.std.specs.Prelude.{◌≡◌, ◌≢◌, ◌∷◌, [], None, IfOk};
 ghost use Rattle.cram.specs.Answer.{IsAnswerOf};
-ghost use Rattle.machine.specs.{Answers.says, Logins.{challenge_of, challenges, logins_or_none, without_nonce}, Steps.{Answered, Makes}};
-ghost use Rattle.wire_replies.specs.Sinks.{Says};
+ghost use Rattle.machine.specs.{Answers.says, Logins.{challenge_of, challenges, logins_or_none, without_nonce}, Steps.Answered};
+ghost use Rattle.wire_replies.specs.{Made.Makes, Sinks.Says};
 
 use byte_string::ByteString;
 use cram::{Challenge, CramFault};

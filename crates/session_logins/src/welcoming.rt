@@ -1,7 +1,7 @@
 //! What a client is told once it has logged in.
 ghost use Rattle.std.specs.Prelude.{◌∷◌, [], Some};
-ghost use Rattle.machine.specs.{Answers.says, Logins.LoggedIn, Steps.{Answered, Stepped, Makes, Looks}};
-ghost use Rattle.wire_replies.specs.Sinks.{Says};
+ghost use Rattle.machine.specs.{Answers.says, Logins.LoggedIn, Steps.{Answered, Stepped, Looks}};
+ghost use Rattle.wire_replies.specs.{Made.Makes, Sinks.Says};
 
 use access::RepoAccess;
 use byte_string::ByteString;

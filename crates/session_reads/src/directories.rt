@@ -2,7 +2,8 @@
 ghost use Rattle.std.specs.Prelude.{true};
 ghost use Rattle.svnpath.specs.Texts.{joined};
 ghost use Rattle.repo_api.specs.Kinds.{kind_at};
-ghost use Rattle.machine.specs.{Readings.{directory_at, directory_reply, entries_told, entry_told, place_read}, Steps.Makes};
+ghost use Rattle.machine.specs.Readings.{directory_at, directory_reply, entries_told, entry_told, place_read};
+ghost use Rattle.wire_replies.specs.Made.{Makes};
 
 use crate::entries::{node_info, shown_properties};
 use crate::places::place_read;

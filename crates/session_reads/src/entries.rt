@@ -3,7 +3,8 @@ ghost use Rattle.std.specs.Prelude.{◌≡◌, IfOk, IsOkAnd};
 ghost use Rattle.svnpath.specs.Texts.{joined};
 ghost use Rattle.repo_api.specs.{Kinds.kind_at, Properties.with_property};
 ghost use Rattle.machine.specs.Readings.{are_any, changed_at, entry_properties, node_found, node_info, place_read, shown_properties, size_at, stat_reply};
-ghost use Rattle.machine.specs.{Readings.{with_optional, with_revision}, Steps.Makes};
+ghost use Rattle.machine.specs.Readings.{with_optional, with_revision};
+ghost use Rattle.wire_replies.specs.Made.{Makes};
 
 use crate::places::place_read;
 use crate::revisions::{author_of, date_of};

@@ -2,8 +2,8 @@
 ghost use Rattle.std.specs.Prelude.{◌≡◌, ◌∷◌, ◌++◌, []};
 ghost use Rattle.svnpath.specs.Texts.{joined};
 ghost use Rattle.repo_api.specs.Kinds.{text_at};
-ghost use Rattle.wire_replies.specs.{Replies.contents, Sinks.Says};
-ghost use Rattle.machine.specs.{Readings.{file_at, file_replies, file_told, no_file, place_read, text_told}, Steps.Makes};
+ghost use Rattle.wire_replies.specs.{Replies.contents, Sinks.Says, Made.Makes};
+ghost use Rattle.machine.specs.Readings.{file_at, file_replies, file_told, no_file, place_read, text_told};
 
 use crate::entries::shown_properties;
 use crate::places::place_read;

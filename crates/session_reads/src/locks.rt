@@ -1,7 +1,8 @@
 //! Replies that tell locks.
 ghost use Rattle.svnpath.specs.Texts.{joined};
 ghost use Rattle.repo_api.specs.Locking.{at_or_under};
-ghost use Rattle.machine.specs.{Commands.{lock_at, locks_reply}, Steps.Makes};
+ghost use Rattle.machine.specs.Commands.{lock_at, locks_reply};
+ghost use Rattle.wire_replies.specs.Made.{Makes};
 
 use byte_string::ByteString;
 use refusals::path_refusal;

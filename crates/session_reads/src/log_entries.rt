@@ -1,6 +1,7 @@
 //! Revisions, as a log tells them.
 ghost use Rattle.std.specs.Prelude.{true};
-ghost use Rattle.machine.specs.{Histories.{change_told, changes_told, message_of, revision_told}, Steps.Makes};
+ghost use Rattle.machine.specs.Histories.{change_told, changes_told, message_of, revision_told};
+ghost use Rattle.wire_replies.specs.Made.{Makes};
 
 use crate::{author_of, date_of, revision_value};
 use byte_string::ByteString;

@@ -2,8 +2,8 @@
 ghost use Rattle.std.specs.Prelude.{◌≡◌, ℕ, Some, MatchOption};
 ghost use Rattle.svnpath.specs.Texts.{joined};
 ghost use Rattle.repo_api.specs.Kinds.{kind_at};
-ghost use Rattle.wire_replies.specs.declared.reply.Reply.{Reply};
-ghost use Rattle.machine.specs.{Commands.{at_revision, check_path_reply, rev_proplist_reply}, Steps.Makes};
+ghost use Rattle.wire_replies.specs.{declared.reply.Reply.Reply, Made.Makes};
+ghost use Rattle.machine.specs.Commands.{at_revision, check_path_reply, rev_proplist_reply};
 
 use byte_string::ByteString;
 use refusals::{Refusal, path_refusal};

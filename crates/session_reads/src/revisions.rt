@@ -1,6 +1,7 @@
 //! Properties of revisions, and revisions by their dates.
 ghost use Rattle.std.specs.Prelude.{◌≡◌, option_copied};
-ghost use Rattle.machine.specs.{Readings.{author_of, dated_reply, property_reply, revision_date, revision_value, value_of_property}, Steps.Makes};
+ghost use Rattle.machine.specs.Readings.{author_of, dated_reply, property_reply, revision_date, revision_value, value_of_property};
+ghost use Rattle.wire_replies.specs.Made.{Makes};
 
 use crate::places::revision_read;
 use byte_string::ByteString;

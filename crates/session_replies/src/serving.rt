@@ -1,8 +1,8 @@
 //! The answer to a command, behind what comes before it. Where one of these fails, a part of what it says
 //! was written.
 ghost use Rattle.std.specs.Prelude.{◌∷◌, ◌++◌, [], option_map};
-ghost use Rattle.wire_replies.specs.{declared.reply.Reply.Reply, Sinks.Says};
-ghost use Rattle.machine.specs.{Answers.{behind, says, serves}, Steps.{Answered, AnsweredIfAny, Makes}};
+ghost use Rattle.wire_replies.specs.{declared.reply.Reply.Reply, Sinks.Says, Made.Makes};
+ghost use Rattle.machine.specs.{Answers.{behind, says, serves}, Steps.{Answered, AnsweredIfAny}};
 ghost use Rattle.session_replies.specs.Telling.{told_before, fault_answer};
 
 use crate::preface::{Preface, say_new_behind};

@@ -4,7 +4,8 @@ ghost use Rattle.repo_api.specs.Soundness.{AreSound};
 ghost use Rattle.drive_reports.specs.Refusing.{delete_path_answer, kept_report, set_path_answer};
 ghost use Rattle.drive_wire.specs.Reporting.{OpenStep};
 ghost use Rattle.access.specs.Points.{content_of};
-ghost use Rattle.machine.specs.{Reports.Draws, Steps.{Stepped, Makes, Looks}};
+ghost use Rattle.machine.specs.{Reports.Draws, Steps.{Stepped, Looks}};
+ghost use Rattle.wire_replies.specs.Made.{Makes};
 
 use crate::finishing::{OpenErrand, finish};
 use access::RepoAccess;

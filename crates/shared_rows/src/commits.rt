@@ -1,6 +1,6 @@
 //! Each look has what the other seat has changed.
 ghost use Rattle.std.specs.Prelude.{◌≡◌, IfOk};
-ghost use Rattle.repo_api.specs.{Soundness.AreSound, States.{IsBeginning, tree_of}, Transactions.IsMarkedTxn, Trees.IsTree};
+ghost use Rattle.repo_api.specs.{Soundness.AreSound, Transactions.MayCommit};
 
 use crate::seats::{Access, SoundTrees, new_files, opened, two_seats};
 use access::{Committed, RepoAccess};
@@ -23,10 +23,7 @@ const COMMITS: u64 = 100;
 /// Makes a transaction that begins at the repository that is seen.
 fn begin<R: Repository>(alloc: Global, view: R) -> Result<R::Txn, AllocError>
     requires { AreSound (R.content view).revisions }
-    ensures rests { IfOk result (λ txn. IsBeginning (R.txn_state txn).shown
-        (R.content view).revisions) }
-    ensures tree { IfOk result (λ txn. IsTree (tree_of (R.txn_state txn).tree)) }
-    ensures marked { IfOk result (λ txn. IsMarkedTxn (R.txn_state txn)) }
+    ensures { IfOk result (λ txn. MayCommit (R.content view) (R.txn_state txn)) }
 {
     repo_laws::beginnings_are_trees();
     repo_laws::same_entries_make_a_tree();

@@ -2,7 +2,7 @@
 use Rattle.std.proofs.Common.{◌≡◌, ℕ, List, [], ◌∷◌, arith, length-append, Bool, true, false, not, ◌&&◌, true≢false, length, Option, Some, None, Ok, Err, inl}
 use Rattle.std.proofs.Common.{inr, refl, ◌∙◌, ap, sym, subst}
 use Rattle.std.specs.Prelude.{Result}
-use Rattle.repo_api.specs.Accepted.{Accepted, changed, IfRefused, IsAccepted, IsOfMemory}
+use Rattle.repo_api.specs.Accepted.{Accepted, changed, IsAccepted, IsJudged, refusal_of}
 use Rattle.repo_api.specs.{Accepted.Accepted.{ChangesProperty, Commits, Locks, Releases, Unlocks}, Commits.{committed, next_tree}}
 use Rattle.repo_api.specs.{Locking.{HandedTokens, releases}, Soundness.AreSound, States.{RepoState, TxnState, youngest}, declared.ask.CommitAsk.CommitAsk}
 use Rattle.repo_api.specs.declared.fault.ChangeFault.{ChangeFault}
@@ -41,13 +41,6 @@ commit_fails p q refusal e Made faults.StoreFailed running none s = (running, no
 commit_fails p q refusal e Made faults.Halted running none s = inr (running, none, s)
 commit_fails p q refusal e Made faults.NoMemory running none s = s
 
--- where nothing refuses, anything may be said of a refusal
-pub nothing_refuses : (U : Type 0) (P : Refusal → Type 0) (fault : ChangeFault) → IfRefused {T = U} (Err fault) (λ r. ⊥) → IfRefused {T = U} (Err fault) P
-nothing_refuses U P (faults.Refused r) why = absurd why
-nothing_refuses U P faults.StoreFailed why = tt
-nothing_refuses U P faults.Halted why = tt
-nothing_refuses U P faults.NoMemory why = tt
-
 module _ {S : Type 0} (kept : S → Kept) (k : Standing S) where
   -- a change that was not begun
   pub not_begun : {T : Type 0} (refusal : Option Refusal) (e : Accepted) (Fails : Point → Type 0) (Made : T → Point → Type 0) (fault : ChangeFault)
@@ -59,14 +52,14 @@ module _ {S : Type 0} (kept : S → Kept) (k : Standing S) where
 
   module _ (steady : IsSteady kept k) (running : (kept k.archive).halted ≡ false) where
     -- a change that was refused, or lacked memory, before it was saved
-    pub refused : (U : Type 0) {T : Type 0} (refusal : RepoState → Option Refusal) (e : Accepted) (Fails : Point → Type 0) (Made : T → Point → Type 0) (fault : ChangeFault)
-        → IfRefused {T = U} (Err fault) (λ r. refusal (kept k.archive).content ≡ Some r) → IsOfMemory {T = U} (Err fault)
-        → ChangesAt (refusal (content_of (now_of kept k))) e Fails Made (now_of kept k) (Err fault) (now_of kept k)
-    refused U refusal e Fails Made (faults.Refused r) why memory =
-        (running, subst (λ (c : RepoState). refusal c ≡ Some r) (files_now kept k steady running) why, refl)
-    refused U refusal e Fails Made faults.StoreFailed why memory = absurd memory
-    refused U refusal e Fails Made faults.Halted why memory = absurd memory
-    refused U refusal e Fails Made faults.NoMemory why memory = refl
+    pub refused : (U : Type 0) {T : Type 0} (e : Accepted) (Fails : Point → Type 0) (Made : T → Point → Type 0) (fault : ChangeFault)
+        → IsJudged {T = U} (Err fault) (refusal_of (kept k.archive).content e)
+        → ChangesAt (refusal_of (content_of (now_of kept k)) e) e Fails Made (now_of kept k) (Err fault) (now_of kept k)
+    refused U e Fails Made (faults.Refused r) why =
+        (running, subst (λ (c : RepoState). refusal_of c e ≡ Some r) (files_now kept k steady running) why.1, refl)
+    refused U e Fails Made faults.StoreFailed why = absurd why.2
+    refused U e Fails Made faults.Halted why = absurd why.2
+    refused U e Fails Made faults.NoMemory why = refl
 
     -- what the archive has made is accepted where the keeper stands
     pub accepted_now : (e : Accepted) (d : RepoState) → IsMade (kept k.archive).content e d → IsAccepted (content_of (now_of kept k)) e

@@ -1,7 +1,7 @@
 -- What keeps the files of a repository, and what a save leaves.
-use Rattle.std.specs.Prelude.{◌≡◌, ◌⊎◌, ℕ, Bool, true, false, List, Option, Some, Result, Ok, Err}
-use Rattle.repo_api.specs.{Accepted.{Accepted, changed, IsAccepted}, Accepted.Accepted.{ChangesProperty, Commits, Locks, Releases, Unlocks}, States.RepoState}
-use Rattle.repo_api.specs.declared.fault.ChangeFault.{ChangeFault}
+use Rattle.std.specs.Prelude.{◌≡◌, ◌⊎◌, ℕ, Bool, true, false, List, Option, Some, None, Result, Ok, Err, IfOk}
+use Rattle.repo_api.specs.{Accepted.{Accepted, changed, IsAccepted, IsJudged, refusal_of}, Soundness.AreSound, States.RepoState}
+use Rattle.repo_api.specs.{Accepted.Accepted.{ChangesProperty, Commits, Locks, Releases, Unlocks}, declared.fault.ChangeFault.ChangeFault}
 use Rattle.repo_api.specs.declared.fault.ChangeFault.TheVariants as faults
 use Rattle.access.specs.Points.{HasRisen}
 use Rattle.published.specs.{Changes.IsRight, Events.{Event, state_of}}
@@ -13,6 +13,10 @@ pub record Kept : Type 0 where
   pub content : RepoState
   pub halted : Bool
   pub failures : ℕ
+
+-- the files stand for this repository, whose trees are sound, and changes are saved
+abbrev pub MayOpen : Kept → RepoState → Type 0
+MayOpen kept c = (kept.content ≡ c) × (kept.halted ≡ false) × AreSound c.revisions
 
 -- the rules accept the change, and this is what it makes
 pub record IsMade (c : RepoState) (e : Accepted) (d : RepoState) : Type 0 where
@@ -46,12 +50,32 @@ SaveLeaves e old (Err Halted) new =
     ((new.content ≡ old.content) ⊎ (new.content ≡ changed old.content e)) × (new.halted ≡ true)
     × HasRisen old.failures new.failures
 
+module _ {S U : Type 0} (kept : S → Kept) (writes : S → U → Accepted → Type 0) where
+  -- an archive prepares a change that is asked of it: the rules judge it, and where they accept it,
+  -- the next repository is what it makes, and what is to be written is what it makes of the files
+  abbrev pub Prepares : {R : Type 0} → (R → RepoState) → Accepted → S → Result (R × U) ChangeFault
+      → Type 0
+  Prepares content e archive result =
+      IsJudged result (refusal_of (kept archive).content e)
+      × IfOk result (λ made. IsMade (kept archive).content e (content made.0)
+      × writes archive made.1 e)
+
+  -- changes are saved, and what is to be written is what some change makes of the files
+  abbrev pub MaySave : S → U → Type 0
+  MaySave archive unsaved =
+      ((kept archive).halted ≡ false) × ((e : Accepted) × writes archive unsaved e)
+
 -- a change that was right was not saved, for this reason
 abbrev pub NotSaved : Accepted → ChangeFault → Kept → Kept → Type 0
 NotSaved e (faults.Refused r) old new = ⊥
 NotSaved e faults.StoreFailed old new = SaveLeaves e old (Err Device) new
 NotSaved e faults.Halted old new = SaveLeaves e old (Err Halted) new
 NotSaved e faults.NoMemory old new = SaveLeaves e old (Err NoMemory) new
+
+-- what the save of a right change leaves, by the answer to the change
+abbrev pub AnswerLeaves : {T : Type 0} → Accepted → Kept → Result T ChangeFault → Kept → Type 0
+AnswerLeaves e old (Ok _) new = SaveLeaves e old (Ok tt) new
+AnswerLeaves e old (Err fault) new = NotSaved e fault old new
 
 -- what a fault of a save is answered by
 abbrev pub fault_of : SaveFault → ChangeFault

@@ -1,11 +1,12 @@
 -- What a right change leads to once it is saved and published, or not.
-use Rattle.std.specs.Prelude.{◌≡◌, ◌⊎◌, true, false, Option, Some, None, Result, Ok, Err}
-use Rattle.repo_api.specs.{Accepted.Accepted, Accepted.Accepted.Releases, Locking.releases, declared.fault.ChangeFault.ChangeFault}
+use Rattle.std.specs.Prelude.{◌≡◌, ◌⊎◌, ℕ, true, false, length, Option, Some, None, Result, Ok, Err}
+use Rattle.repo_api.specs.{Accepted.Accepted, Accepted.Accepted.{Commits, Releases}, Commits.commit_refusal, Locking.releases, States.{RepoState, TxnState}}
+use Rattle.repo_api.specs.{declared.ask.CommitAsk.CommitAsk, declared.fault.ChangeFault.ChangeFault}
 use Rattle.repo_api.specs.declared.fault.ChangeFault.TheVariants as faults
-use Rattle.access.specs.{Changing.{IsFailure, IsHalt}, Points.{content_of, Point}, declared.access.Released.Released}
+use Rattle.access.specs.{Changing.{ChangesAt, IsFailure, IsHalt}, Points.{content_of, Point}, declared.access.Released.Released}
 use Rattle.access.specs.{declared.access.Released.TheVariants.{Settled, NoMemory, StoreFailed}, declared.handed.Handed.Handed}
 use Rattle.published.specs.Moments.{added}
-use Rattle.sharedrepo.specs.Archives.{is_commit}
+use Rattle.sharedrepo.specs.{Archives.is_commit, declared.settling.Ready.Ready}
 
 -- it is made; or the store failed, and goes on or not; or memory was refused
 abbrev pub SettlesTo : Accepted → Point → Result (Unit {0}) ChangeFault → Point → Type 0
@@ -14,6 +15,12 @@ SettlesTo e p (Err (faults.Refused r)) q = ⊥
 SettlesTo e p (Err faults.StoreFailed) q = (is_commit e ≡ true) × IsFailure p q
 SettlesTo e p (Err faults.Halted) q = IsHalt e p q
 SettlesTo e p (Err faults.NoMemory) q = q ≡ p
+
+-- a commit without its release, which answers the number of its revision
+abbrev pub Revises : CommitAsk → TxnState → Point → Result ℕ ChangeFault → Point → Type 0
+Revises ask t p =
+    ChangesAt (commit_refusal (content_of p) ask t) (Commits ask t) (IsFailure p)
+    (λ n q. (n ≡ length (content_of p).revisions) × (q ≡ added p (Commits ask t))) p
 
 -- what a release leads to: it is made where there is one; or memory is refused for it; or the store
 -- fails at it, and changes have come to a halt
@@ -40,3 +47,7 @@ released_as (Err faults.NoMemory) = NoMemory
 abbrev pub ReleasesHanded : Option Handed → Point → Released → Point → Type 0
 ReleasesHanded None p released q = (released ≡ Settled) × (q ≡ p)
 ReleasesHanded (Some handed) p released q = ReleasesTo handed p released q
+
+-- both copies contain this
+abbrev pub BothContain : {R J T : Type 0} → (R → RepoState) → RepoState → Ready R J T → Type 0
+BothContain content c ready = (content ready.first ≡ c) × (content ready.second ≡ c)

@@ -1,9 +1,8 @@
 //! What makes the changes of a repository, and keeps its files.
-ghost use Rattle.std.specs.Prelude.{◌≡◌, true, false, Some, IfOk};
-ghost use Rattle.repo_api.specs.{Accepted.{Accepted, IfRefused, IsOfMemory}, Accepted.Accepted.{ChangesProperty, Commits, Locks, Releases, Unlocks}};
-ghost use Rattle.repo_api.specs.{Commits.commit_refusal, Locking.{lock_refusal, releases, unlock_refusal}, RevisionProperties.property_refusal};
-ghost use Rattle.repo_api.specs.{States.{IsBeginning, tree_of}, Transactions.IsMarkedTxn, Trees.IsTree};
-ghost use Rattle.sharedrepo.specs.Archives.{IsMade, SaveLeaves};
+ghost use Rattle.std.specs.Prelude.{◌≡◌, true};
+ghost use Rattle.repo_api.specs.{Transactions.MayCommit, Accepted.Accepted, Accepted.Accepted.{ChangesProperty, Commits, Locks, Releases, Unlocks}};
+ghost use Rattle.repo_api.specs.Locking.{releases};
+ghost use Rattle.sharedrepo.specs.Archives.{MaySave, Prepares, SaveLeaves};
 
 use access::Handed;
 use repo_api::{ChangeFault, CommitAsk, LockAsk, PropertyAsk, Repository, UnlockAsk};
@@ -44,59 +43,31 @@ pub trait Archive<R: Repository>: Drop {
 
     /// Makes the transaction the next revision.
     fn committed(&self, ask: CommitAsk, txn: R::Txn) -> Result<(R, Self::Unsaved), ChangeFault>
-        requires rests { IsBeginning (R.txn_state txn).shown (kept self.now).content.revisions }
-        requires tree { IsTree (tree_of (R.txn_state txn).tree) }
-        requires marked { IsMarkedTxn (R.txn_state txn) }
-        ensures made { IfOk result (λ made. IsMade (kept self.now).content
-            (Commits ask (R.txn_state txn)) (R.content made.0)) }
-        ensures writes { IfOk result (λ made. writes self.now made.1
-            (Commits ask (R.txn_state txn))) }
-        ensures refused { IfRefused result (λ r. commit_refusal (kept self.now).content ask
-            (R.txn_state txn) ≡ Some r) }
-        ensures memory { IsOfMemory result };
+        requires { MayCommit (kept self.now).content (R.txn_state txn) }
+        ensures { Prepares kept writes R.content (Commits ask (R.txn_state txn)) self.now result };
 
     /// Locks the path of a file, in place of a lock that stands there if that may be stolen.
     fn locked(&self, ask: LockAsk) -> Result<(R, Self::Unsaved), ChangeFault>
-        ensures made { IfOk result (λ made. IsMade (kept self.now).content (Locks ask)
-            (R.content made.0)) }
-        ensures writes { IfOk result (λ made. writes self.now made.1 (Locks ask)) }
-        ensures refused { IfRefused result (λ r. lock_refusal (kept self.now).content ask
-            ≡ Some r) }
-        ensures memory { IsOfMemory result };
+        ensures { Prepares kept writes R.content (Locks ask) self.now result };
 
     /// Takes the lock at a path away.
     fn unlocked(&self, ask: &UnlockAsk) -> Result<(R, Self::Unsaved), ChangeFault>
-        ensures made { IfOk result (λ made. IsMade (kept self.now).content (Unlocks ask.now)
-            (R.content made.0)) }
-        ensures writes { IfOk result (λ made. writes self.now made.1 (Unlocks ask.now)) }
-        ensures refused { IfRefused result (λ r. unlock_refusal (kept self.now).content ask.now
-            ≡ Some r) }
-        ensures memory { IsOfMemory result };
+        ensures { Prepares kept writes R.content (Unlocks ask.now) self.now result };
 
     /// Takes the locks away that are the user's and were handed in, of which there is one.
     fn released(&self, handed: &Handed) -> Result<(R, Self::Unsaved), ChangeFault>
         requires { releases handed.now.user handed.now.tokens (kept self.now).content.locks ≡ true }
-        ensures made { IfOk result (λ made. IsMade (kept self.now).content
-            (Releases handed.now.user handed.now.tokens) (R.content made.0)) }
-        ensures writes { IfOk result (λ made. writes self.now made.1
-            (Releases handed.now.user handed.now.tokens)) }
-        ensures refused { IfRefused result (λ r. ⊥) }
-        ensures memory { IsOfMemory result };
+        ensures { Prepares kept writes R.content (Releases handed.now.user handed.now.tokens)
+            self.now result };
 
     /// Makes this the value of a property of a revision, or takes the property out where there is no value, if the
     /// value before is the one that is asked for.
     fn property_changed(&self, ask: PropertyAsk) -> Result<(R, Self::Unsaved), ChangeFault>
-        ensures made { IfOk result (λ made. IsMade (kept self.now).content (ChangesProperty ask)
-            (R.content made.0)) }
-        ensures writes { IfOk result (λ made. writes self.now made.1 (ChangesProperty ask)) }
-        ensures refused { IfRefused result (λ r. property_refusal (kept self.now).content ask
-            ≡ Some r) }
-        ensures memory { IsOfMemory result };
+        ensures { Prepares kept writes R.content (ChangesProperty ask) self.now result };
 
     /// Saves a change that was made of the repository for which the files stand.
     fn save(&mut self, unsaved: Self::Unsaved) -> Result<(), SaveFault>
-        requires running { (kept self.old).halted ≡ false }
-        requires writes { (e : Accepted) × writes self.old unsaved e }
+        requires { MaySave kept writes self.old unsaved }
         ensures { (e : Accepted) → writes self.old unsaved e
             → SaveLeaves e (kept self.old) result (kept self.new) };
 }

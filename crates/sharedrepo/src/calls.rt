@@ -1,9 +1,9 @@
 //! The changes that a keeper makes for a seat of its.
 ghost use Rattle.std.specs.Prelude.{◌≡◌, false};
-ghost use Rattle.access.specs.{Changing.{ChangesPropertyAt, CommitsAt, Happens, LocksAt, UnlocksAt}, Points.content_of};
+ghost use Rattle.access.specs.{Changing.{ChangesPropertyAt, CommitsAt, LocksAt, UnlocksAt}, Points.content_of};
 ghost use Rattle.published.specs.Moments.{GoesOn, shared_rules};
-ghost use Rattle.repo_api.specs.{States.{IsBeginning, tree_of}, Transactions.IsMarkedTxn, Trees.IsTree};
-ghost use Rattle.sharedrepo.specs.Standing.{Calls, IsSteady, now_of};
+ghost use Rattle.repo_api.specs.Transactions.{MayCommit};
+ghost use Rattle.sharedrepo.specs.Standing.{Calls, IsShown, IsSteady, now_of};
 
 use crate::archive::Archive;
 use crate::keeper::Keeper;
@@ -25,8 +25,7 @@ impl<
 > Keeper<R, S, J, T, O> {
     /// Says whether a seat knows of a halt.
     fn turns_away(&self, seat: &Seat<R, J, T>) -> bool
-        ensures knows { result ≡ seat.now.halted }
-        ensures steady { IsSteady S.kept self.now }
+        ensures { (result ≡ seat.now.halted) × IsSteady S.kept self.now }
     {
         let _is_halted = self.archive.is_halted();
         seat.is_halted()
@@ -35,9 +34,8 @@ impl<
     /// Shows a seat that knows of no halt where the keeper stands. Its events begin with those of the seat.
     fn meet<W: Wait>(&self, rt: &W, seat: &mut Seat<R, J, T>)
         requires { seat.old.halted ≡ false }
-        ensures met { seat.new ≡ now_of S.kept self.now }
         ensures later { GoesOn seat.old (now_of S.kept self.now) }
-        ensures steady { IsSteady S.kept self.now }
+        ensures shown { IsShown S.kept seat.new self.now }
     {
         let failures = self.archive.failures();
         if failures < seat.failures {
@@ -55,8 +53,7 @@ impl<
 
     /// Shows a seat what the keeper has come to.
     fn tell(&self, seat: &mut Seat<R, J, T>)
-        ensures told { seat.new ≡ now_of S.kept self.now }
-        ensures steady { IsSteady S.kept self.now }
+        ensures { IsShown S.kept seat.new self.now }
     {
         seat.front = self.front.again();
         seat.halted = self.archive.is_halted();
@@ -73,14 +70,9 @@ impl<
         ask: CommitAsk,
         txn: R::Txn,
     ) -> Result<Committed, ChangeFault>
-        requires rests { IsBeginning (R.txn_state txn).shown (content_of seat.old).revisions }
-        requires tree { IsTree (tree_of (R.txn_state txn).tree) }
-        requires marked { IsMarkedTxn (R.txn_state txn) }
-        ensures call { Calls S.kept (CommitsAt shared_rules ask (R.txn_state txn)) seat.old self.old result
-            seat.new self.new }
-        ensures shared { Happens shared_rules (CommitsAt shared_rules ask (R.txn_state txn)) seat.old result
-            seat.new }
-        ensures steady { IsSteady S.kept self.new }
+        requires { MayCommit (content_of seat.old) (R.txn_state txn) }
+        ensures { Calls S.kept (CommitsAt shared_rules ask (R.txn_state txn)) seat.old self.old
+            result seat.new self.new }
     {
         if self.turns_away(seat) {
             drop((ask, txn));
@@ -99,10 +91,8 @@ impl<
         seat: &mut Seat<R, J, T>,
         ask: LockAsk,
     ) -> Result<(), ChangeFault>
-        ensures call { Calls S.kept (LocksAt shared_rules ask) seat.old self.old result
-            seat.new self.new }
-        ensures shared { Happens shared_rules (LocksAt shared_rules ask) seat.old result seat.new }
-        ensures steady { IsSteady S.kept self.new }
+        ensures { Calls S.kept (LocksAt shared_rules ask) seat.old self.old
+            result seat.new self.new }
     {
         if self.turns_away(seat) {
             drop(ask);
@@ -121,11 +111,8 @@ impl<
         seat: &mut Seat<R, J, T>,
         ask: &UnlockAsk,
     ) -> Result<(), ChangeFault>
-        ensures call { Calls S.kept (UnlocksAt shared_rules ask.now) seat.old self.old result
-            seat.new self.new }
-        ensures shared { Happens shared_rules (UnlocksAt shared_rules ask.now) seat.old result
-            seat.new }
-        ensures steady { IsSteady S.kept self.new }
+        ensures { Calls S.kept (UnlocksAt shared_rules ask.now) seat.old self.old
+            result seat.new self.new }
     {
         if self.turns_away(seat) {
             return Err(ChangeFault::Halted);
@@ -144,11 +131,8 @@ impl<
         seat: &mut Seat<R, J, T>,
         ask: PropertyAsk,
     ) -> Result<(), ChangeFault>
-        ensures call { Calls S.kept (ChangesPropertyAt shared_rules ask) seat.old self.old result
-            seat.new self.new }
-        ensures shared { Happens shared_rules (ChangesPropertyAt shared_rules ask) seat.old result
-            seat.new }
-        ensures steady { IsSteady S.kept self.new }
+        ensures { Calls S.kept (ChangesPropertyAt shared_rules ask) seat.old self.old
+            result seat.new self.new }
     {
         if self.turns_away(seat) {
             drop(ask);

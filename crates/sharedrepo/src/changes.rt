@@ -1,11 +1,9 @@
 //! The changes that a keeper makes: each is made, saved, and published.
-ghost use Rattle.std.specs.Prelude.{◌≡◌, ◌<◌, ◌^◌, false, true, length, IfErr, OnOk, None};
-ghost use Rattle.access.specs.{Changing.{ChangesAt, ChangesPropertyAt, CommitsAt, IsFailure, LocksAt, ReplacesAt, UnlocksAt}, Handed.IsHandedIn};
-ghost use Rattle.access.specs.Points.{content_of};
-ghost use Rattle.repo_api.specs.{Accepted.Accepted.{Commits, Releases}, Commits.commit_refusal, Locking.releases, States.{IsBeginning, tree_of}};
-ghost use Rattle.repo_api.specs.{Transactions.IsMarkedTxn, Trees.IsTree};
-ghost use Rattle.published.specs.Moments.{added, shared_rules};
-ghost use Rattle.sharedrepo.specs.{Settling.{ReleasesHanded, ReleasesTo, released_as}, Standing.{IsSteady, now_of, NotBegun}};
+ghost use Rattle.std.specs.Prelude.{◌≡◌, false, true, None};
+ghost use Rattle.access.specs.{Changing.{ChangesPropertyAt, CommitsAt, LocksAt, ReplacesAt, UnlocksAt}, Points.content_of};
+ghost use Rattle.repo_api.specs.{Accepted.Accepted.Releases, Locking.releases, Transactions.MayCommit};
+ghost use Rattle.published.specs.Moments.{shared_rules};
+ghost use Rattle.sharedrepo.specs.{Settling.{ReleasesHanded, ReleasesTo, Revises, released_as}, Standing.{Begins, HappensAt, IsSteady, now_of}};
 
 use crate::archive::Archive;
 use crate::keeper::Keeper;
@@ -41,10 +39,7 @@ impl<
 > Keeper<R, S, J, T, O> {
     /// Says whether a change can begin, or why none can.
     fn readiness(&self) -> Result<(), ChangeFault>
-        ensures running { OnOk result ((S.kept self.now.archive).halted ≡ false) }
-        ensures room { OnOk result (length self.now.list < 2 ^ 60) }
-        ensures err { IfErr result (λ f. NotBegun S.kept f self.now) }
-        ensures steady { IsSteady S.kept self.now }
+        ensures { IsSteady S.kept self.now × Begins S.kept result self.now }
     {
         if self.archive.is_halted() {
             return Err(ChangeFault::Halted);
@@ -62,15 +57,8 @@ impl<
         ask: CommitAsk,
         txn: R::Txn,
     ) -> Result<u64, ChangeFault>
-        requires rests { IsBeginning (R.txn_state txn).shown
-            (content_of (now_of S.kept self.old)).revisions }
-        requires tree { IsTree (tree_of (R.txn_state txn).tree) }
-        requires marked { IsMarkedTxn (R.txn_state txn) }
-        ensures { ChangesAt (commit_refusal (content_of (now_of S.kept self.old)) ask
-            (R.txn_state txn)) (Commits ask (R.txn_state txn)) (IsFailure (now_of S.kept self.old))
-            (λ n q. (n ≡ length (content_of (now_of S.kept self.old)).revisions)
-            × (q ≡ added (now_of S.kept self.old) (Commits ask (R.txn_state txn))))
-            (now_of S.kept self.old) result (now_of S.kept self.new) }
+        requires { MayCommit (content_of (now_of S.kept self.old)) (R.txn_state txn) }
+        ensures { HappensAt S.kept (Revises ask (R.txn_state txn)) self.old result self.new }
     {
         commits_are_right();
         match self.readiness() {
@@ -101,8 +89,8 @@ impl<
     fn take_locks<W: Wait>(&mut self, rt: &W, handed: &Handed) -> Result<(), ChangeFault>
         requires { releases handed.now.user handed.now.tokens
             (content_of (now_of S.kept self.old)).locks ≡ true }
-        ensures { ReplacesAt shared_rules None (Releases handed.now.user handed.now.tokens)
-            (now_of S.kept self.old) result (now_of S.kept self.new) }
+        ensures { HappensAt S.kept (ReplacesAt shared_rules None
+            (Releases handed.now.user handed.now.tokens)) self.old result self.new }
     {
         match self.readiness() {
             Err(fault) => Err(fault),
@@ -122,7 +110,7 @@ impl<
     /// Releases what was handed in.
     fn release<W: Wait>(&mut self, rt: &W, handed: &Handed) -> Released
         requires { (S.kept self.old.archive).halted ≡ false }
-        ensures { ReleasesTo handed.now (now_of S.kept self.old) result (now_of S.kept self.new) }
+        ensures { HappensAt S.kept (ReleasesTo handed.now) self.old result self.new }
     {
         if !self
             .repository
@@ -136,7 +124,7 @@ impl<
     /// Releases what was handed in, if something was.
     fn release_handed<W: Wait>(&mut self, rt: &W, handed: Option<Handed>) -> Released
         requires { (S.kept self.old.archive).halted ≡ false }
-        ensures { ReleasesHanded handed (now_of S.kept self.old) result (now_of S.kept self.new) }
+        ensures { HappensAt S.kept (ReleasesHanded handed) self.old result self.new }
     {
         match handed {
             None => Released::Settled,
@@ -151,12 +139,9 @@ impl<
         ask: CommitAsk,
         txn: R::Txn,
     ) -> Result<Committed, ChangeFault>
-        requires rests { IsBeginning (R.txn_state txn).shown
-            (content_of (now_of S.kept self.old)).revisions }
-        requires tree { IsTree (tree_of (R.txn_state txn).tree) }
-        requires marked { IsMarkedTxn (R.txn_state txn) }
-        ensures { CommitsAt shared_rules ask (R.txn_state txn) (now_of S.kept self.old) result
-            (now_of S.kept self.new) }
+        requires { MayCommit (content_of (now_of S.kept self.old)) (R.txn_state txn) }
+        ensures { HappensAt S.kept (CommitsAt shared_rules ask (R.txn_state txn)) self.old result
+            self.new }
     {
         match handed_locks(&ask) {
             Err(AllocError) => {
@@ -178,8 +163,7 @@ impl<
 
     /// Locks.
     pub(crate) fn make_lock<W: Wait>(&mut self, rt: &W, ask: LockAsk) -> Result<(), ChangeFault>
-        ensures { LocksAt shared_rules ask (now_of S.kept self.old) result
-            (now_of S.kept self.new) }
+        ensures { HappensAt S.kept (LocksAt shared_rules ask) self.old result self.new }
     {
         match self.readiness() {
             Err(fault) => {
@@ -205,8 +189,7 @@ impl<
         rt: &W,
         ask: &UnlockAsk,
     ) -> Result<(), ChangeFault>
-        ensures { UnlocksAt shared_rules ask.now (now_of S.kept self.old) result
-            (now_of S.kept self.new) }
+        ensures { HappensAt S.kept (UnlocksAt shared_rules ask.now) self.old result self.new }
     {
         match self.readiness() {
             Err(fault) => Err(fault),
@@ -229,8 +212,7 @@ impl<
         rt: &W,
         ask: PropertyAsk,
     ) -> Result<(), ChangeFault>
-        ensures { ChangesPropertyAt shared_rules ask (now_of S.kept self.old) result
-            (now_of S.kept self.new) }
+        ensures { HappensAt S.kept (ChangesPropertyAt shared_rules ask) self.old result self.new }
     {
         match self.readiness() {
             Err(fault) => {

@@ -1,8 +1,7 @@
 //! The keeper of a repository: it alone changes it.
-ghost use Rattle.std.specs.Prelude.{◌≡◌, ◌<◌, ◌^◌, [], ◌∷◌, false, None, length, All, IfOk};
-ghost use Rattle.repo_api.specs.Soundness.{AreSound};
-ghost use Rattle.published.specs.{Events.{state_of, point_of}, Events.Event.Opened};
-ghost use Rattle.sharedrepo.specs.Standing.{IsSteady};
+ghost use Rattle.std.specs.Prelude.{◌≡◌, ◌<◌, ◌^◌, false, None, length, All, IfOk};
+ghost use Rattle.published.specs.{Edition.edition_after, Events.{state_of, point_of}};
+ghost use Rattle.sharedrepo.specs.{Archives.MayOpen, Standing.IsOpened};
 
 use crate::archive::Archive;
 use crate::seat::Seat;
@@ -118,8 +117,8 @@ fn desk_at<
     requires seats { (0 < seats) × (seats < 2 ^ 32) }
     requires alike { (x y : T) → T.state x ≡ T.state y }
     requires stands { R.content repository.now ≡ state_of front.now }
-    ensures { IfOk result (λ d. ((T.carried_value d.writer.desk.shown.value).list ≡ front.now)
-        × ((T.carried_value d.writer.desk.shown.value).content ≡ R.content repository.now)) }
+    ensures { IfOk result (λ d. T.carried_value d.writer.desk.shown.value
+        ≡ edition_after front.now) }
 {
     let first = T::carry(Published::new(repository.share()?, front.again()));
     let second = T::carry(Published::new(repository.share()?, front.again()));
@@ -143,14 +142,8 @@ impl<
     ) -> Result<(Keeper<R, S, J, T, O>, Vec<Seat<R, J, T>>), AllocError>
         requires book { history.seen.book ≡ J.book }
         requires alike { (x y : T) → T.state x ≡ T.state y }
-        requires files { (S.kept archive).content ≡ R.content repository }
-        requires running { (S.kept archive).halted ≡ false }
-        requires sound { AreSound (R.content repository).revisions }
-        ensures opened { IfOk result (λ r. r.0.list ≡ Opened (R.content repository) ∷ []) }
-        ensures seats { IfOk result (λ r. All (λ s. s ≡ point_of r.0.list false
-            (S.kept archive).failures None) r.1.items) }
-        ensures archive { IfOk result (λ r. r.0.archive ≡ archive) }
-        ensures steady { IfOk result (λ r. IsSteady S.kept r.0) }
+        requires stands { MayOpen (S.kept archive) (R.content repository) }
+        ensures { IfOk result (IsOpened S.kept archive (R.content repository)) }
     {
         if seats == 0 || seats > MAX_SEATS {
             return Err(AllocError);

@@ -1,8 +1,9 @@
 //! What a change has made is saved, and published.
-ghost use Rattle.std.specs.Prelude.{◌≡◌, ◌<◌, ◌^◌, false, length, IfErr, IfOk, OnOk, Ok, Some};
-ghost use Rattle.published.specs.Events.{state_of, accepted_by};
+ghost use Rattle.std.specs.Prelude.{◌≡◌, IfOk};
+ghost use Rattle.published.specs.{Edition.edition_after, Events.{state_of, accepted_by}};
 ghost use Rattle.repo_api.specs.Accepted.{Accepted};
-ghost use Rattle.sharedrepo.specs.{Archives.{IsNext, SaveLeaves, NotSaved, fault_of}, Settling.SettlesTo, Standing.now_of};
+ghost use Rattle.sharedrepo.specs.{Archives.{AnswerLeaves, IsNext, MaySave, fault_of}, Settling.{BothContain, SettlesTo}};
+ghost use Rattle.sharedrepo.specs.Standing.{CanBegin, HappensAt, pending_after};
 
 use crate::archive::{Archive, SaveFault};
 use crate::keeper::Keeper;
@@ -31,8 +32,7 @@ pub(crate) fn make_ready<
     O: Sets<Published<R, J>> + Drop,
 >(alloc: Global, desk: &mut Desk<T, O>, next: &R) -> Result<Ready<R, J>, AllocError>
     ensures desk { desk.new.writer.desk ≡ desk.old.writer.desk }
-    ensures ready { IfOk result (λ r. (R.content r.first ≡ R.content next.now)
-        × (R.content r.second ≡ R.content next.now)) }
+    ensures ready { IfOk result (BothContain R.content (R.content next.now)) }
 {
     let first = next.share()?;
     let second = next.share()?;
@@ -62,15 +62,11 @@ pub(crate) fn save_next<
     next: &R,
     unsaved: S::Unsaved,
 ) -> Result<Ready<R, J>, ChangeFault>
-    requires running { (S.kept archive.old).halted ≡ false }
-    requires writes { (e : Accepted) × S.writes archive.old unsaved e }
+    requires { MaySave S.kept S.writes archive.old unsaved }
     ensures desk { desk.new.writer.desk ≡ desk.old.writer.desk }
-    ensures ready { IfOk result (λ r. (R.content r.first ≡ R.content next.now)
-        × (R.content r.second ≡ R.content next.now)) }
-    ensures saved { OnOk result ((e : Accepted) → S.writes archive.old unsaved e
-        → SaveLeaves e (S.kept archive.old) (Ok tt) (S.kept archive.new)) }
-    ensures fault { IfErr result (λ f. (e : Accepted) → S.writes archive.old unsaved e
-        → NotSaved e f (S.kept archive.old) (S.kept archive.new)) }
+    ensures ready { IfOk result (BothContain R.content (R.content next.now)) }
+    ensures saved { (e : Accepted) → S.writes archive.old unsaved e
+        → AnswerLeaves e (S.kept archive.old) result (S.kept archive.new) }
 {
     match make_ready(alloc, desk, next) {
         Err(AllocError) => {
@@ -89,8 +85,7 @@ pub(crate) fn save_next<
 
 /// Puts the two copies into their places, at this front.
 pub(crate) fn fill<R: Repository, J: Naming>(ready: Ready<R, J>, front: &Front<J>)
-    requires first { R.content ready.first ≡ state_of front.now }
-    requires second { R.content ready.second ≡ state_of front.now }
+    requires { BothContain R.content (state_of front.now) ready }
 {
     let Ready {
         first,
@@ -122,8 +117,7 @@ pub(crate) fn publish<
     O: Sets<Published<R, J>> + Drop,
     W: Wait,
 >(rt: &W, desk: &mut Desk<T, O>, front: &Front<J>)
-    ensures { ((T.carried_value desk.new.writer.desk.shown.value).list ≡ front.now)
-        × ((T.carried_value desk.new.writer.desk.shown.value).content ≡ state_of front.now) }
+    ensures { T.carried_value desk.new.writer.desk.shown.value ≡ edition_after front.now }
 {
     for _ in rt.forever() {
         let _ = desk.show(rt);
@@ -140,8 +134,7 @@ fn keep_pending<T: Drop>(
     fault: ChangeFault,
     asked: AskedChange<T>,
 )
-    ensures halted { fault ≡ ChangeFault.Halted → pending.new ≡ Some asked }
-    ensures other { (fault ≡ ChangeFault.Halted → ⊥) → pending.new ≡ pending.old }
+    ensures { pending.new ≡ pending_after fault asked pending.old }
 {
     if let ChangeFault::Halted = fault {
         *pending = Some(asked);
@@ -165,12 +158,11 @@ impl<
         unsaved: S::Unsaved,
         asked: AskedChange<R::Txn>,
     ) -> Result<(), ChangeFault>
-        requires running { (S.kept self.old.archive).halted ≡ false }
-        requires room { length self.old.list < 2 ^ 60 }
+        requires ready { CanBegin S.kept self.old }
         requires next { IsNext self.old.content (accepted_by R.txn_state asked) (R.content next) }
         requires writes { S.writes self.old.archive unsaved (accepted_by R.txn_state asked) }
-        ensures { SettlesTo (accepted_by R.txn_state asked) (now_of S.kept self.old) result
-            (now_of S.kept self.new) }
+        ensures { HappensAt S.kept (SettlesTo (accepted_by R.txn_state asked)) self.old result
+            self.new }
     {
         match save_next(
             self.alloc,

@@ -1,8 +1,9 @@
 //! The keeper under a lock, by which threads change the repository, each by a seat of its own.
-ghost use Rattle.std.specs.Prelude.{◌≡◌, false, None, ◌∷◌, [], All, IfOk};
+ghost use Rattle.std.specs.Prelude.{◌≡◌, IfOk};
 ghost use Rattle.access.specs.{Changing.{ChangesPropertyAt, CommitsAt, Happens, LocksAt, UnlocksAt}, Points.content_of};
-ghost use Rattle.published.specs.{Events.point_of, Events.Event.Opened, Moments.shared_rules};
-ghost use Rattle.repo_api.specs.{Soundness.AreSound, States.{IsBeginning, tree_of}, Transactions.IsMarkedTxn, Trees.IsTree};
+ghost use Rattle.published.specs.Moments.{shared_rules};
+ghost use Rattle.repo_api.specs.Transactions.{MayCommit};
+ghost use Rattle.sharedrepo.specs.{Archives.MayOpen, Standing.HaveSeenOpening};
 
 use crate::archive::Archive;
 use crate::keeper::Keeper;
@@ -48,11 +49,9 @@ impl<
     ) -> Result<(Locked<R, S, J, T, O>, Vec<Seat<R, J, T>>), AllocError>
         requires book { history.seen.book ≡ J.book }
         requires alike { (x y : T) → T.state x ≡ T.state y }
-        requires files { (S.kept archive).content ≡ R.content repository }
-        requires running { (S.kept archive).halted ≡ false }
-        requires sound { AreSound (R.content repository).revisions }
-        ensures { IfOk result (λ r. All (λ s. s ≡ point_of (Opened (R.content repository) ∷ [])
-            false (S.kept archive).failures None) r.1.items) }
+        requires stands { MayOpen (S.kept archive) (R.content repository) }
+        ensures { IfOk result (λ r. HaveSeenOpening (R.content repository)
+            (S.kept archive).failures r.1.items) }
     {
         let (keeper, seats) = Keeper::open(alloc, repository, archive, seats, history)?;
         Ok((
@@ -92,11 +91,9 @@ impl<
         ask: CommitAsk,
         txn: R::Txn,
     ) -> Result<Committed, ChangeFault>
-        requires rests { IsBeginning (R.txn_state txn).shown (content_of seat.old).revisions }
-        requires tree { IsTree (tree_of (R.txn_state txn).tree) }
-        requires marked { IsMarkedTxn (R.txn_state txn) }
-        ensures { Happens shared_rules (CommitsAt shared_rules ask (R.txn_state txn)) seat.old result
-            seat.new }
+        requires { MayCommit (content_of seat.old) (R.txn_state txn) }
+        ensures { Happens shared_rules (CommitsAt shared_rules ask (R.txn_state txn)) seat.old
+            result seat.new }
     {
         let answer = self.keeper.lock(rt).commit(rt, seat, ask, txn);
         self.note(seat);
@@ -139,7 +136,8 @@ impl<
         seat: &mut Seat<R, J, T>,
         ask: PropertyAsk,
     ) -> Result<(), ChangeFault>
-        ensures { Happens shared_rules (ChangesPropertyAt shared_rules ask) seat.old result seat.new }
+        ensures { Happens shared_rules (ChangesPropertyAt shared_rules ask) seat.old result
+            seat.new }
     {
         let answer = self.keeper.lock(rt).change_property(rt, seat, ask);
         self.note(seat);

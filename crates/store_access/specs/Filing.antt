@@ -1,15 +1,8 @@
 -- How a repository that can be written to files answers a change.
-use Rattle.std.specs.{Prelude.{◌≡◌, ◌+◌, ◌<◌, ℕ, length, List, Option, Some, None, OnOk, Result, Vec}, declared.alloc.Global.Global}
-use Rattle.refusals.specs.declared.Refusal.{Refusal}
-use Rattle.repo_api.specs.{Accepted.{IfRefused, IsOfMemory}, States.RepoState, declared.fault.ChangeFault.ChangeFault}
+use Rattle.std.specs.{Prelude.{◌≡◌, ◌+◌, ◌<◌, ℕ, length, List, Some, Vec}, declared.alloc.Global.Global}
+use Rattle.repo_api.specs.States.{RepoState}
 use Rattle.repostore.specs.{Current.count_in, Files.{Files, with_locks, with_properties, with_revision}}
 use Rattle.store_access.specs.declared.filed.NewRevision.{NewRevision}
-
--- the rules judge a change: it is made only where they refuse nothing, and refused only as they say;
--- else memory ran out
-abbrev pub IsJudged : {T : Type 0} → Result T ChangeFault → Option Refusal → Type 0
-IsJudged result refusal =
-    OnOk result (refusal ≡ None) × IfRefused result (λ r. refusal ≡ Some r) × IsOfMemory result
 
 module _ {F : Type 0} (is_of : F → Files → Type 0) where
   -- the files of the next repository are those of the one before it, with this revision, of which

@@ -9,8 +9,8 @@ use Rattle.repostore.specs.declared.saves.Saves.{Saves}
 use Rattle.repo_api.specs.declared.repository.Repository as Repository
 use Rattle.store_files.specs.declared.store.Store as Store
 use Rattle.store_access.specs.declared.filed.Filed as Filed
-use Rattle.store_access.specs.{Keeping.{LeavesEither, LeavesOneOf}, declared.stored.StoredRepository.StoredRepository, declared.change.SavedChange.SavedChange}
-use Rattle.store_access.specs.declared.change.SavedChange.TheVariants.{Commit, Lock, Unlock, Release, Property}
+use Rattle.store_access.specs.{Keeping.{HasRepository, LeavesEither, LeavesOneOf, StandsFor}, declared.stored.StoredRepository.StoredRepository}
+use Rattle.store_access.specs.{declared.change.SavedChange.SavedChange, declared.change.SavedChange.TheVariants.{Commit, Lock, Unlock, Release, Property}}
 
 -- the change that is being saved
 abbrev pub accepted_by : {T : Type 0} → (T → TxnState) → SavedChange T → Accepted
@@ -83,6 +83,20 @@ module _ {F S T : Type 0} {f : Filed.Ghosts F T} {r : Repository.Ghosts F T} {s 
   -- where it is
   abbrev pub point_of : StoredRepository F S T f r s → Point
   point_of d = point_in r.content s.failed r.txn_state d.repository d.saves d.pending
+
+  -- the save of a change leads so from here to there: this is the repository once it is saved
+  abbrev pub Settles : (Point → Type 0) → SavedChange T → F → StoredRepository F S T f r s
+      → Result (Unit {0}) ChangeFault → StoredRepository F S T f r s → Type 0
+  Settles Fails change next old result new = SavesTo Fails (accepted_by r.txn_state change)
+      (point_of old) (r.content next) result (point_of new)
+
+  -- what was opened of a store that is honest: the store's files stand for it, and where they are
+  -- those of a repository, it contains what that one does
+  abbrev pub IsOpened : S → StoredRepository F S T f r s → Type 0
+  IsOpened store opened = s.is_honest opened.saves.store
+      → StandsFor f.stands_for (r.content opened.repository) (s.holds store)
+      × ((c : RepoState) → HasRepository r.content f.is_of c (s.holds store)
+      → r.content opened.repository ≡ c)
 
   -- while changes are saved to an honest store, a stop within a call leaves the files of what the
   -- repository contained before it, or of this

@@ -1,8 +1,7 @@
 //! A repository in files as a session reaches it.
 ghost use Rattle.std.specs.Prelude.{◌≡◌, false, true};
 ghost use Rattle.access.specs.{Changing.{ChangesPropertyAt, CommitsAt, LocksAt, UnlocksAt}, Handed.IsHandedIn, Sole.sole_rules};
-ghost use Rattle.repo_api.specs.{Locking.{locked, unlocked}, RevisionProperties.with_changed_property, States.{IsBeginning, tree_of}, Transactions.IsMarkedTxn};
-ghost use Rattle.repo_api.specs.Trees.{IsTree};
+ghost use Rattle.repo_api.specs.{Locking.{locked, unlocked}, RevisionProperties.with_changed_property, Transactions.MayCommit};
 ghost use Rattle.store_access.specs.Stored.{StopLeaves, StopLeavesCommit, point_of};
 
 use crate::change::{SavedChange, copied};
@@ -18,10 +17,7 @@ impl<F: Filed, S: Store> StoredRepository<F, S> {
     /// of the call leaves the files of the repository from before it, with the revision, or without the
     /// released locks too.
     pub fn commit_in_files(&mut self, ask: CommitAsk, txn: F::Txn) -> Result<Committed, ChangeFault>
-        requires rests { IsBeginning (F.txn_state txn).shown
-            (F.content self.old.repository).revisions }
-        requires tree { IsTree (tree_of (F.txn_state txn).tree) }
-        requires marked { IsMarkedTxn (F.txn_state txn) }
+        requires { MayCommit (F.content self.old.repository) (F.txn_state txn) }
         ensures point { CommitsAt sole_rules ask (F.txn_state txn) (point_of self.old) result
             (point_of self.new) }
         ensures stop { StopLeavesCommit self.old self.new ask txn }
@@ -48,10 +44,7 @@ impl<F: Filed, S: Store> StoredRepository<F, S> {
         handed: Option<Handed>,
     ) -> Result<Committed, ChangeFault>
         requires goes_on { self.old.saves.is_halted ≡ false }
-        requires rests { IsBeginning (F.txn_state txn).shown
-            (F.content self.old.repository).revisions }
-        requires tree { IsTree (tree_of (F.txn_state txn).tree) }
-        requires marked { IsMarkedTxn (F.txn_state txn) }
+        requires may { MayCommit (F.content self.old.repository) (F.txn_state txn) }
         requires handed_in { IsHandedIn ask handed }
         ensures point { CommitsAt sole_rules ask (F.txn_state txn) (point_of self.old) result
             (point_of self.new) }

@@ -1,10 +1,10 @@
 //! A repository that can be written to files.
 ghost use Rattle.std.specs.Prelude.{◌≡◌, length, IfOk, option_copied};
-ghost use Rattle.repo_api.specs.{Commits.{commit_refusal, committed}, Locking.{lock_refusal, locked, unlock_refusal, unlocked, without_released}};
-ghost use Rattle.repo_api.specs.{RevisionProperties.{property_refusal, with_changed_property}, States.{IsBeginning, RepoState, tree_of}};
-ghost use Rattle.repo_api.specs.{Transactions.IsMarkedTxn, Trees.IsTree};
+ghost use Rattle.repo_api.specs.{Accepted.IsJudged, Commits.{commit_refusal, committed}};
+ghost use Rattle.repo_api.specs.Locking.{lock_refusal, locked, unlock_refusal, unlocked, without_released};
+ghost use Rattle.repo_api.specs.{RevisionProperties.{property_refusal, with_changed_property}, States.RepoState, Transactions.MayCommit};
 ghost use Rattle.repostore.specs.Files.{Files};
-ghost use Rattle.store_access.specs.Filing.{IsJudged, MakesLocks, WritesProperties, WritesRevision};
+ghost use Rattle.store_access.specs.Filing.{MakesLocks, WritesProperties, WritesRevision};
 
 use byte_string::ByteString;
 use repo_api::{ChangeFault, CommitAsk, LockAsk, LockTokens, PropertyAsk, Repository, UnlockAsk};
@@ -40,10 +40,7 @@ pub trait Filed: Repository {
         ask: &CommitAsk,
         txn: &Self::Txn,
     ) -> Result<(Self, NewRevision), ChangeFault>
-        requires rests { IsBeginning (Self.txn_state txn.now).shown
-            (Self.content self.now).revisions }
-        requires tree { IsTree (tree_of (Self.txn_state txn.now).tree) }
-        requires marked { IsMarkedTxn (Self.txn_state txn.now) }
+        requires { MayCommit (Self.content self.now) (Self.txn_state txn.now) }
         ensures judged { IsJudged result (commit_refusal (Self.content self.now) ask.now
             (Self.txn_state txn.now)) }
         ensures ok { IfOk result (λ made. Self.content made.0

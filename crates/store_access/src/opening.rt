@@ -1,9 +1,8 @@
 //! A repository opened from its files.
 ghost use Rattle.std.specs.Prelude.{◌≡◌, Some, IfOk, IfErr, length};
-ghost use Rattle.repo_api.specs.States.{RepoState};
 ghost use Rattle.store_files.specs.Folders.{Folder, IsSame};
 ghost use Rattle.repostore.specs.{Current.count_in, Files.Files, Opening.IsUnopened};
-ghost use Rattle.store_access.specs.Keeping.{HasRepository, StandsFor};
+ghost use Rattle.store_access.specs.Stored.{IsOpened};
 
 use crate::filed::Filed;
 use crate::stored::StoredRepository;
@@ -29,13 +28,8 @@ pub fn open_repository<S: Store, L: Loader>(
     store: S,
 ) -> Result<StoredRepository<L::Repository, S>, Unopened<S>>
     requires { S.is_honest store → (f : Folder) → S.may_leave store f → IsSame (S.holds store) f }
-    ensures found { IfOk result (λ opened. S.is_honest opened.saves.store
-        → StandsFor L.Repository.stands_for (L.Repository.content opened.repository)
-        (S.holds store)) }
     // Where the folder has the files of a repository, it is this one.
-    ensures same { IfOk result (λ opened. S.is_honest opened.saves.store
-        → (c : RepoState) → HasRepository L.Repository.content L.Repository.is_of c (S.holds store)
-        → L.Repository.content opened.repository ≡ c) }
+    ensures found { IfOk result (IsOpened store) }
     ensures unopened { IfErr result (λ unopened. IsUnopened S.Store L.faulty store unopened) }
 {
     let (saves, loader) = open::<S, L>(alloc, store)?;

@@ -3,7 +3,7 @@ ghost use Rattle.std.specs.Prelude.{◌≡◌, Some, false, true};
 ghost use Rattle.access.specs.Changing.{IsFailure};
 ghost use Rattle.repo_api.specs.Locking.{without_released};
 ghost use Rattle.store_access.specs.Filing.{WritesLocks, WritesProperties, WritesRevision};
-ghost use Rattle.store_access.specs.Stored.{StopLeaves, accepted_by, point_of, SavesTo, ReleasesBy, ReleasesKept, released_as, without_handed};
+ghost use Rattle.store_access.specs.Stored.{Settles, StopLeaves, point_of, ReleasesBy, ReleasesKept, released_as, without_handed};
 
 use crate::change::{SavedChange, forget};
 use crate::filed::{Filed, NewProperties, NewRevision};
@@ -60,8 +60,7 @@ impl<F: Filed, S: Store> StoredRepository<F, S> {
     ) -> Result<(), ChangeFault>
         requires goes_on { self.old.saves.is_halted ≡ false }
         requires files { WritesLocks F.is_of self.old.repository file.now next }
-        ensures point { SavesTo (λ q. ⊥) (accepted_by F.txn_state change) (point_of self.old)
-            (F.content next) result (point_of self.new) }
+        ensures point { Settles (λ q. ⊥) change next self.old result self.new }
         ensures stop { StopLeaves self.old self.new (F.content next) }
     {
         match self.saves.save_locks(file) {
@@ -87,8 +86,7 @@ impl<F: Filed, S: Store> StoredRepository<F, S> {
         requires goes_on { self.old.saves.is_halted ≡ false }
         requires files { WritesProperties F.is_of self.old.repository new.now.revision
             new.now.file.items next }
-        ensures point { SavesTo (λ q. ⊥) (accepted_by F.txn_state change) (point_of self.old)
-            (F.content next) result (point_of self.new) }
+        ensures point { Settles (λ q. ⊥) change next self.old result self.new }
         ensures stop { StopLeaves self.old self.new (F.content next) }
     {
         match self.saves.save_rev_prop(new.revision, &new.file) {
@@ -113,8 +111,7 @@ impl<F: Filed, S: Store> StoredRepository<F, S> {
     ) -> Result<(), ChangeFault>
         requires goes_on { self.old.saves.is_halted ≡ false }
         requires files { WritesRevision F.is_of self.old.repository new.now next }
-        ensures point { SavesTo (IsFailure (point_of self.old)) (accepted_by F.txn_state change)
-            (point_of self.old) (F.content next) result (point_of self.new) }
+        ensures point { Settles (IsFailure (point_of self.old)) change next self.old result self.new }
         ensures honest { S.is_honest self.old.saves.store → S.is_honest self.new.saves.store }
         ensures stop { StopLeaves self.old self.new (F.content next) }
     {

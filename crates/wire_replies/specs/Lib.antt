@@ -1,3 +1,4 @@
+pub mod Made
 pub mod Pieces
 pub mod Replies
 pub mod Sinks

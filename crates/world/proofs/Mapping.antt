@@ -1,6 +1,6 @@
 -- The one map of a transaction's tree, and what is sound with it.
 use Rattle.std.proofs.{Common.{◌≡◌, ℕ, sym, ap, subst, ◌∙◌}, Math.Logic.∥∥₁_map}
-use Rattle.std.specs.Prelude.{OnErr, OnOk, Result, Ok, Err}
+use Rattle.std.specs.Prelude.{MatchResult, Result, Ok, Err}
 use Rattle.svnpath.specs.Paths.{PathValue}
 use Rattle.repo_api.specs.{RightEdits.IsRightEdit, StateLaws.same_tree, States.{tree_of, TreeMap}, Trees.Tree, declared.edit.EditOp.EditOp}
 use Rattle.history_marks.specs.Sound.{IsSoundTxn}
@@ -57,11 +57,8 @@ state_stays old new shown base stays changes =
 
 -- ---- results
 
-pub on_err : {T E : Type 0} (r : Result T E) (X : Type 0) → X → OnErr r X
-on_err (Ok y) X x = tt
-on_err (Err y) X x = x
-
-pub by_result : {T E : Type 0} (r : Result T E) (A B C D X : Type 0) → OnOk r A → OnOk r B
-    → OnErr r C → OnErr r D → (A → B → X) → (C → D → X) → X
-by_result (Ok y) A B C D X a b c d f g = f a b
-by_result (Err y) A B C D X a b c d f g = g c d
+pub by_result : {T E : Type 0} (r : Result T E) (A B C D X : Type 0)
+    → MatchResult r (λ _. A) (λ _. C) → MatchResult r (λ _. B) (λ _. D)
+    → (A → B → X) → (C → D → X) → X
+by_result (Ok y) A B C D X a b f g = f a b
+by_result (Err y) A B C D X c d f g = g c d

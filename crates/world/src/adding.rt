@@ -1,9 +1,9 @@
 //! A further revision that was read.
-ghost use Rattle.std.specs.{Prelude.{◌≡◌, ◌<◌, length, IfOk, IfSome, MatchOption, Decides}, FinMap.entries};
+ghost use Rattle.std.specs.{Prelude.{◌≡◌, ◌<◌, length, IfOk, Decides}, FinMap.entries};
 ghost use Rattle.history_marks.specs.Sound.{IsSoundRepo};
 ghost use Rattle.held.specs.Contents.{held_state, revisions_of};
 ghost use Rattle.next_blocks.specs.Rules.{IsNextRevision, past_of};
-ghost use Rattle.world.specs.Adding.{HasAdded, HasFirstList, HasNext, MayComeNext};
+ghost use Rattle.world.specs.Adding.{ComesIf, HasAdded, HasFirstList, HasSoundNext, MayComeNext};
 
 use crate::world::World;
 use held::Held;
@@ -26,8 +26,7 @@ fn with_next(
     requires sound { ∥ IsSoundRepo (held_state held.now) ∥₁ }
     requires next { IsNextRevision (past_of held.now.nodes) block (entries changes) }
     requires room { length (revisions_of held.now) < 262144 }
-    ensures added { IfOk result (λ h. HasNext held.now h.value block changes properties) }
-    ensures sound { IfOk result (λ h. ∥ IsSoundRepo (held_state h.value) ∥₁) }
+    ensures { IfOk result (λ h. HasSoundNext held.now h.value block changes properties) }
 {
     let next = held.with_revision(alloc, block, changes, properties)?;
     Ok(Arc::new(alloc, next)?)
@@ -63,12 +62,8 @@ fn with_checked(
     properties: Properties,
 ) -> Result<Option<Arc<Held>>, AllocError>
     requires { ∥ IsSoundRepo (held_state held.now) ∥₁ }
-    ensures added { IfOk result (λ next. MatchOption next
-        (MayComeNext held.now block (entries changes) → ⊥)
-        (λ h. HasNext held.now h.value block changes properties)) }
-    ensures may { IfOk result (λ next. IfSome next
-        (λ h. MayComeNext held.now block (entries changes))) }
-    ensures sound { IfOk result (λ next. IfSome next (λ h. ∥ IsSoundRepo (held_state h.value) ∥₁)) }
+    ensures { IfOk result (λ next. ComesIf next (MayComeNext held.now block (entries changes))
+        (λ h. HasSoundNext held.now h.value block changes properties)) }
 {
     match may_come_next(alloc, held, &block, &changes) {
         Ok(true) => Ok(Some(with_next(alloc, held, block, changes, properties)?)),
@@ -116,11 +111,9 @@ impl World {
         changes: ChangeList,
         properties: Properties,
     ) -> Result<Option<World>, AllocError>
-        ensures added { IfOk result (λ next. MatchOption next
-            (MayComeNext self.now.held.value block (entries changes) → ⊥)
+        ensures { IfOk result (λ next. ComesIf next
+            (MayComeNext self.now.held.value block (entries changes))
             (λ w. HasAdded self.now w block changes properties)) }
-        ensures may { IfOk result (λ next. IfSome next
-            (λ w. MayComeNext self.now.held.value block (entries changes))) }
     {
         let Some(held) = with_checked(self.alloc, &self.held, block, changes, properties)? else {
             return Ok(None);

@@ -1,11 +1,8 @@
 //! What is held after a commit, and what refuses it.
-ghost use Rattle.std.specs.Prelude.{◌≡◌, ◌<◌, ◌++◌, ◌∷◌, [], true, false, length, IfOk, OnOk, None, Some};
-ghost use Rattle.repo_api.specs.{Accepted.{IfRefused, IsOfMemory}, Commits.{commit_refusal, committed, limit_refusal, revision_properties}};
-ghost use Rattle.repo_api.specs.{Locking.check_refusal, States.{IsBeginning, TreeMap}};
-ghost use Rattle.history_marks.specs.Sound.{IsSoundRepo};
-ghost use Rattle.held.specs.{Committing.{conflicts, next_map}, Contents.{held_state, revisions_of, state_of}, Growing.HasOneMore, Maps.{IsMapOf, Mapped}};
-ghost use Rattle.held.specs.Sealed.{sealed_tree};
-ghost use Rattle.world.specs.Whole.{txn_state_of};
+ghost use Rattle.std.specs.Prelude.{◌≡◌, ◌<◌, length, IfOk};
+ghost use Rattle.repo_api.specs.{Accepted.IsJudged, Commits.{committed, revision_properties}, Locking.check_refusal};
+ghost use Rattle.held.specs.{Contents.{held_state, revisions_of}, Growing.{HasOneMore, HasRevision}, Maps.Mapped, Sealed.sealed_tree};
+ghost use Rattle.world.specs.{Committing.{IsNextTree, MergesTxn, refusal_in}, Editing.RestsOn, Whole.txn_state_of};
 
 use crate::world_txn::WorldTxn;
 use held::{CommitFault, Held};
@@ -25,15 +22,10 @@ pub(crate) fn with_commit(
     ask: &CommitAsk,
     txn: &WorldTxn,
 ) -> Result<Arc<Held>, ChangeFault>
-    requires sound { ∥ IsSoundRepo (held_state held.now) ∥₁ }
-    requires rests { IsBeginning (txn_state_of txn.now).shown (revisions_of held.now) }
-    ensures accepted { OnOk result (commit_refusal (state_of held.now locks.now) ask.now
-        (txn_state_of txn.now) ≡ None) }
+    requires { RestsOn txn.now held.now }
+    ensures judged { IsJudged result (refusal_in held.now locks.now ask.now txn.now) }
     ensures ok { IfOk result (λ h. held_state h.value
         ≡ committed (held_state held.now) ask.now (txn_state_of txn.now)) }
-    ensures refused { IfRefused result (λ r. commit_refusal (state_of held.now locks.now) ask.now
-        (txn_state_of txn.now) ≡ Some r) }
-    ensures memory { IsOfMemory result }
     ensures more { IfOk result (λ h. HasOneMore held.now h.value) }
 {
     let tree = judge(alloc, held, locks, ask, txn)?;
@@ -50,15 +42,9 @@ fn judge(
     ask: &CommitAsk,
     txn: &WorldTxn,
 ) -> Result<TxnTree, ChangeFault>
-    requires sound { ∥ IsSoundRepo (held_state held.now) ∥₁ }
-    requires rests { IsBeginning (txn_state_of txn.now).shown (revisions_of held.now) }
-    ensures tree { IfOk result (λ t. IsMapOf (sealed_tree held.now.nodes t)
-        (next_map held.now txn.now.base (txn_state_of txn.now).tree)) }
-    ensures accepted { OnOk result (commit_refusal (state_of held.now locks.now) ask.now
-        (txn_state_of txn.now) ≡ None) }
-    ensures refused { IfRefused result (λ r. commit_refusal (state_of held.now locks.now) ask.now
-        (txn_state_of txn.now) ≡ Some r) }
-    ensures memory { IsOfMemory result }
+    requires { RestsOn txn.now held.now }
+    ensures tree { IfOk result (IsNextTree held.now txn.now) }
+    ensures judged { IsJudged result (refusal_in held.now locks.now ask.now txn.now) }
 {
     let tree = merged(alloc, held, txn)?;
     check_locks(alloc, locks, &txn.changes, ask)?;
@@ -70,16 +56,8 @@ fn judge(
 
 /// Gives the transaction's tree merged with the youngest revision, if they are in no conflict.
 fn merged(alloc: Global, held: &Held, txn: &WorldTxn) -> Result<TxnTree, ChangeFault>
-    requires sound { ∥ IsSoundRepo (held_state held.now) ∥₁ }
-    requires rests { IsBeginning (txn_state_of txn.now).shown (revisions_of held.now) }
-    ensures tree { IfOk result (λ t. IsMapOf (sealed_tree held.now.nodes t)
-        (next_map held.now txn.now.base (txn_state_of txn.now).tree)) }
-    ensures clean { OnOk result
-        (conflicts held.now txn.now.base (txn_state_of txn.now).tree ≡ false) }
-    ensures conflict { IfRefused result (λ r.
-        conflicts held.now txn.now.base (txn_state_of txn.now).tree ≡ true) }
-    ensures refused { IfRefused result (λ r. r ≡ Refusal.Conflict) }
-    ensures memory { IsOfMemory result }
+    requires { RestsOn txn.now held.now }
+    ensures { MergesTxn result held.now txn.now }
 {
     let tree = held.moved(alloc, &txn.shown, &txn.tree, txn.base)?;
     match held.merged(alloc, txn.base, &tree) {
@@ -96,11 +74,8 @@ fn check_locks(
     changes: &TxnChanges,
     ask: &CommitAsk,
 ) -> Result<(), ChangeFault>
-    ensures accepted { OnOk result (check_refusal locks.now changes.now ask.now.author ask.now.tokens
-        ≡ None) }
-    ensures refused { IfRefused result (λ r.
-        check_refusal locks.now changes.now ask.now.author ask.now.tokens ≡ Some r) }
-    ensures memory { IsOfMemory result }
+    ensures { IsJudged result (check_refusal locks.now changes.now ask.now.author
+        ask.now.tokens) }
 {
     let tokens = ask.tokens.as_slice();
     locks.check(alloc, changes.as_map(), ask.author.as_ref(), tokens)
@@ -116,13 +91,8 @@ fn with_tree(
 ) -> Result<Arc<Held>, AllocError>
     requires mapped { ∥ Mapped (sealed_tree held.now.nodes tree.now) ∥₁ }
     requires room { length (revisions_of held.now) < REVISION_LIMIT }
-    ensures revisions { IfOk result (λ h. (m : TreeMap) → IsMapOf (sealed_tree held.now.nodes tree.now) m
-        → revisions_of h.value
-        ≡ revisions_of held.now ++ record { tree = m; changes = changes.now } ∷ []) }
-    ensures properties { IfOk result (λ h. h.value.properties ≡ held.now.properties
-        ++ revision_properties ask.now ∷ []) }
-    ensures uuid { IfOk result (λ h. h.value.uuid ≡ held.now.uuid) }
-    ensures more { IfOk result (λ h. HasOneMore held.now h.value) }
+    ensures { IfOk result (λ h. HasRevision held.now h.value (sealed_tree held.now.nodes tree.now)
+        changes.now (revision_properties ask.now)) }
 {
     let properties = revision_properties(alloc, copied(ask)?)?;
     let changes = changes.to_list(alloc)?;

@@ -1,12 +1,8 @@
 //! Edits of a transaction.
-ghost use Rattle.std.specs.{Prelude.{◌≡◌, OnOk, OnErr, Option}, FinMap.get};
-ghost use Rattle.svnpath.specs.Paths.{PathValue};
-ghost use Rattle.repo_api.specs.{Changes.changes_after, Edits.edited, RightEdits.IsRightEdit, States.{changes_of, IsBeginning, IsEdited, tree_of, trees_in}};
 ghost use Rattle.history_marks.specs.Sound.{IsSoundRepo};
-ghost use Rattle.noderevs.specs.{Held.node_at, declared.node_rev.NodeId.NodeId};
-ghost use Rattle.txntree.specs.Whole.{IsSound, txn_tree};
-ghost use Rattle.held.specs.Contents.{held_state, revisions_of};
-ghost use Rattle.world.specs.Whole.{txn_state_of};
+ghost use Rattle.held.specs.{Contents.{held_state, revisions_of}, Transactions.{EditsTree, IsRightOver}};
+ghost use Rattle.repo_api.specs.States.{EditsTxn, Notes};
+ghost use Rattle.world.specs.{Editing.{IsRightFor, RestsOn}, Whole.txn_state_of};
 
 use crate::world_txn::WorldTxn;
 use held::Held;
@@ -24,13 +20,10 @@ pub(crate) fn edit_txn(
     txn: &mut WorldTxn,
     op: &EditOp,
 ) -> Result<(), AllocError>
-    requires sound { ∥ IsSoundRepo (held_state held.now.value) ∥₁ }
-    requires rests { IsBeginning (txn_state_of txn.old).shown (revisions_of held.now.value) }
-    requires right { IsRightEdit (trees_in (revisions_of held.now.value))
-        (tree_of (txn_state_of txn.old).tree) op.now }
-    ensures ok { OnOk result (IsEdited (revisions_of held.now.value)
-        (txn_state_of txn.old) op.now (txn_state_of txn.new)) }
-    ensures err { OnErr result (txn_state_of txn.new ≡ txn_state_of txn.old) }
+    requires rests { RestsOn txn.old held.now.value }
+    requires right { IsRightFor held.now.value txn.old op.now }
+    ensures { EditsTxn result (revisions_of held.now.value) (txn_state_of txn.old) op.now
+        (txn_state_of txn.new) }
 {
     if txn.shown.count() == held.count() {
         return edit_here(alloc, txn, op);
@@ -41,11 +34,9 @@ pub(crate) fn edit_txn(
 /// Makes the edit over what the transaction was last shown.
 fn edit_here(alloc: Global, txn: &mut WorldTxn, op: &EditOp) -> Result<(), AllocError>
     requires sound { ∥ IsSoundRepo (held_state txn.old.shown.value) ∥₁ }
-    requires right { IsRightEdit (trees_in (revisions_of txn.old.shown.value))
-        (tree_of (txn_state_of txn.old).tree) op.now }
-    ensures ok { OnOk result (IsEdited (revisions_of txn.old.shown.value)
-        (txn_state_of txn.old) op.now (txn_state_of txn.new)) }
-    ensures err { OnErr result (txn_state_of txn.new ≡ txn_state_of txn.old) }
+    requires right { IsRightFor txn.old.shown.value txn.old op.now }
+    ensures { EditsTxn result (revisions_of txn.old.shown.value) (txn_state_of txn.old) op.now
+        (txn_state_of txn.new) }
 {
     edit_parts(alloc, &txn.shown, &mut txn.tree, &mut txn.changes, op)?;
     Ok(())
@@ -59,13 +50,10 @@ fn edit_there(
     txn: &mut WorldTxn,
     op: &EditOp,
 ) -> Result<(), AllocError>
-    requires sound { ∥ IsSoundRepo (held_state held.now.value) ∥₁ }
-    requires rests { IsBeginning (txn_state_of txn.old).shown (revisions_of held.now.value) }
-    requires right { IsRightEdit (trees_in (revisions_of held.now.value))
-        (tree_of (txn_state_of txn.old).tree) op.now }
-    ensures ok { OnOk result (IsEdited (revisions_of held.now.value)
-        (txn_state_of txn.old) op.now (txn_state_of txn.new)) }
-    ensures err { OnErr result (txn_state_of txn.new ≡ txn_state_of txn.old) }
+    requires rests { RestsOn txn.old held.now.value }
+    requires right { IsRightFor held.now.value txn.old op.now }
+    ensures { EditsTxn result (revisions_of held.now.value) (txn_state_of txn.old) op.now
+        (txn_state_of txn.new) }
 {
     let shown = Arc::try_clone(held)?;
     let mut tree = held.moved(alloc, &txn.shown, &txn.tree, txn.base)?;
@@ -84,17 +72,9 @@ fn edit_parts(
     changes: &mut TxnChanges,
     op: &EditOp,
 ) -> Result<(), AllocError>
-    requires { IsRightEdit (trees_in (revisions_of held.now))
-        (txn_tree held.now.nodes tree.old) op.now }
-    ensures tree { OnOk result ((q : PathValue) → txn_tree held.now.nodes tree.new q
-        ≡ edited (trees_in (revisions_of held.now)) (txn_tree held.now.nodes tree.old) op.now q) }
-    ensures changes { OnOk result ((q : PathValue)
-        → get changes.new q ≡ changes_after (changes_of changes.old) op.now q) }
-    ensures tree_stays { OnErr result ((q : PathValue) → txn_tree held.now.nodes tree.new q
-        ≡ txn_tree held.now.nodes tree.old q) }
-    ensures changes_stay { OnErr result (changes.new ≡ changes.old) }
-    ensures standing { (root : Option NodeId) → IsSound (node_at held.now.nodes) root tree.old
-        → IsSound (node_at held.now.nodes) root tree.new }
+    requires { IsRightOver held.now tree.old op.now }
+    ensures tree { EditsTree result held.now tree.old op.now tree.new }
+    ensures changes { Notes result changes.old op.now changes.new }
 {
     let note = changes.prepare(op)?;
     match held.edit(alloc, tree, op) {

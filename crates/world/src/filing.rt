@@ -1,5 +1,6 @@
 //! What files are written from, and what is made of what was read from them.
 ghost use Rattle.std.specs.{Prelude.{◌≡◌, IfOk}, FinMap.from_entries};
+ghost use Rattle.world.specs.Changing.{HasLocks};
 
 use crate::world::World;
 use noderevs::Nodes;
@@ -32,8 +33,7 @@ impl World {
     /// Makes the repository with the locks of a list and no others, whatever refuses a lock; of two at
     /// one path the first counts.
     pub fn with_listed_locks(&self, locks: &[(Path, Lock)]) -> Result<World, AllocError>
-        ensures held { IfOk result (λ w. w.held.value ≡ self.now.held.value) }
-        ensures locks { IfOk result (λ w. w.locks.value ≡ from_entries locks.now) }
+        ensures { IfOk result (HasLocks self.now (from_entries locks.now)) }
     {
         let made = listed(self.alloc, locks)?;
         self.with_locks(Arc::new(self.alloc, made)?)

@@ -3,7 +3,7 @@ ghost use Rattle.std.specs.Prelude.{◌≡◌, ◌≤◌, List, ℕ, IfOk, OnOk,
 ghost use Rattle.dates.specs.{Dates.IsDateText, declared.TheConstants.LAST_MOMENT};
 ghost use Rattle.repo_api.specs.{Kinds.{created_at, kind_at}, Locking.with_lock, Opening.new_repository};
 ghost use Rattle.repo_api.specs.{RevisionProperties.{property_refusal, with_changed_property}, States.youngest};
-ghost use Rattle.held.specs.{Contents.held_state, Growing.HasSame};
+ghost use Rattle.held.specs.{Contents.held_state, Growing.HasSameBut};
 ghost use Rattle.world.specs.Whole.{world_content};
 
 use crate::committing::with_commit;
@@ -223,9 +223,8 @@ pub(crate) fn with_property(
     held: &Held,
     ask: PropertyAsk,
 ) -> Result<Arc<Held>, AllocError>
-    ensures ok { IfOk result (λ h. held_state h.value
-        ≡ with_changed_property (held_state held.now) ask.revision ask.name ask.value) }
-    ensures same { IfOk result (λ h. HasSame held.now h.value) }
+    ensures { IfOk result (λ h. HasSameBut held.now h.value
+        (λ s. with_changed_property s ask.revision ask.name ask.value)) }
 {
     let PropertyAsk {
         revision,

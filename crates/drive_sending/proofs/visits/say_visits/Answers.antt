@@ -1,6 +1,6 @@
 use Rattle.std.proofs.{Common.arith, lemmas.Result.err_from_is_err_and}
 use Rattle.drive_sides.specs.Plans.{whole}
-use Rattle.drive_sending.proofs.Visited.{said_all, said_failed, said_next, said_part}
+use Rattle.drive_sending.proofs.Visited.{deeper_by_one, said_all, said_failed, said_next, said_part}
 use Rattle.drive_sending.proofs.visits.say_visits.Goals as goal
 
 pub returns-in_err-visit : goal.returns-in_err-visit
@@ -22,7 +22,7 @@ returns-in_err-around g c =
 
 pub loop-preserved : goal.loop-preserved
 loop-preserved g c = (
-  omega (arith, c.in_ok-around.ensures.grows, c.loop.invariant.0),
+  omega (arith, deeper_by_one c.loop.around c.in-Some.visit, c.in_ok-around.ensures.after, c.loop.invariant.0),
   said_next (g.R.Repository.content c.args.trees.now.view.now) (whole c.args.trees.now.report.now c.args.trees.now.root) g.S.ReplySink.writes
       g.met.S.ReplySink.more c.args.visitor.now c.loop.visitor c.next.new.self c.args.out.now c.loop.out c.say_next.new.out c.loop.around c.in_ok-around.around
       c.in-Some.visit c.loop.invariant.1 (rw c.in-Some.is at c.in_ok-visit.ensures) c.in_ok-around.ensures.after c.in_ok-around.ensures.said,

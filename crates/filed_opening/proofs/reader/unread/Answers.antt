@@ -5,4 +5,4 @@ pub returns : goal.returns
 returns c =
     let opened = c.in_ok-world.ensures in
     ok_then c.unread.result (λ made read files first.
-    read c.args.uuid opened.0 files opened.2 first) c.unread.ensures.read
+    read.1 c.args.uuid opened.0 files opened.2 first) c.unread.ensures.read

@@ -18,7 +18,7 @@ returns-in_ok-changes-in-Ok-clause-tabled c = λ files bytes blocks more lists a
     (sym (ap entries c.in_ok-changes-in-Ok.ensures ∙ entries_of rows c.note_order.ensures))
     (subst (λ ps. HasRows ps c.in-Ok.table) c.as_slice-2.ensures.value c.in-Ok.ensures.rows)
     (λ fs for. subst (AreNew fs tables c.in-Ok.block c.in-Ok.table) c.as_slice-2.ensures.value
-    (c.in-Ok.ensures.new fs (subst (AreForAll fs nodes tables rows) (sym c.as_slice-2.ensures.value) for)))
+    (c.in-Ok.ensures.read fs (subst (AreForAll fs nodes tables rows) (sym c.as_slice-2.ensures.value) for)).1)
 
 pub returns-in_ok-changes-in-Ok-clause-judges : goal.returns-in_ok-changes-in-Ok-clause-judges
 returns-in_ok-changes-in-Ok-clause-judges c = λ files bytes blocks more lists all is read.
@@ -30,8 +30,8 @@ returns-in_ok-changes-in-Ok-clause-judges c = λ files bytes blocks more lists a
     let changes = ap changes_by (sym c.as_slice.ensures.value) ∙ c.in_ok-changes.ensures.changes in
     record {
       nodes = subst (AreReadable (files ++ bytes ∷ []) tables) c.as_slice-2.ensures.value
-          (c.in-Ok.ensures.judges (files ++ bytes ∷ []) (subst (AreForAll (files ++ bytes ∷ []) nodes tables rows) (sym c.as_slice-2.ensures.value)
-          (for_all files blocks tables lists all bytes nodes more is pieces said rows read changes)));
+          (c.in-Ok.ensures.read (files ++ bytes ∷ []) (subst (AreForAll (files ++ bytes ∷ []) nodes tables rows) (sym c.as_slice-2.ensures.value)
+          (for_all files blocks tables lists all bytes nodes more is pieces said rows read changes))).0;
       changes_are = ap is_some changes;
     }
 
@@ -45,7 +45,7 @@ returns-in-Err-clause-judges c = λ files bytes blocks more lists all is read.
     let changes = ap changes_by (sym c.as_slice.ensures.value) ∙ c.in_ok-changes.ensures.changes in
     no_part c.in-Err.fault (λ (r : IsReadableFile (files ++ bytes ∷ []) tables pieces said).
     subst (AreReadable (files ++ bytes ∷ []) tables) (sym c.as_slice-2.ensures.value) r.nodes)
-    (c.in-Err.ensures.judges (files ++ bytes ∷ []) (subst (AreForAll (files ++ bytes ∷ []) nodes tables rows) (sym c.as_slice-2.ensures.value)
+    (c.in-Err.ensures.read (files ++ bytes ∷ []) (subst (AreForAll (files ++ bytes ∷ []) nodes tables rows) (sym c.as_slice-2.ensures.value)
     (for_all files blocks tables lists all bytes nodes more is pieces said rows read changes)))
 
 pub returns-in_ok-changes-in-Ok-clause-high : goal.returns-in_ok-changes-in-Ok-clause-high

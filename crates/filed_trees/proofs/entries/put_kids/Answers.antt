@@ -15,7 +15,7 @@ loop-entry-preserved c =
     let key = c.entry-item.result.name in
     let id = c.in_ok-id.id in
     let put = c.in_ok-put_kid.ensures in
-    let at = c.in_ok-id.ensures.at in
+    let at = c.in_ok-id.ensures.1 in
     let right = λ (e : DirectoryEntry). IsSomeAnd (ids e.name) (IsTabled tables) in
     let placed = λ (e : DirectoryEntry). IsSomeAnd (new e.name) (λ i. IsAt tables (Some i) (ids e.name)) in (
       All-more placed c.args.entries.now c.loop-entry.entry-index c.entry-item.result c.loop-entry-test.true
@@ -24,7 +24,7 @@ loop-entry-preserved c =
       (
         λ named. named_still tables ids old new key id put at (c.loop-entry.invariant.1.0 named),
         All-more right c.args.entries.now c.loop-entry.entry-index c.entry-item.result c.loop-entry-test.true
-            c.loop-entry.invariant.1.1 (subst right c.entry-item.is c.in_ok-id.ensures.judges),
+            c.loop-entry.invariant.1.1 (subst right c.entry-item.is c.in_ok-id.ensures.0),
       ),
     )
 
@@ -41,7 +41,7 @@ returns-in_err-id-clause-judges c =
     let is : c.from_residual.result ≡ Err c.in_err-id.field-0.0 = search rules in
     subst (λ r. Judges r (All right c.args.entries.now)) (sym is)
     (no_part c.in_err-id.field-0.0 (λ all. subst right (sym c.entry-item.is)
-    (all c.loop-entry.entry-index c.entry-item.result c.loop-entry-test.true)) c.in_err-id.ensures.judges)
+    (all c.loop-entry.entry-index c.entry-item.result c.loop-entry-test.true)) c.in_err-id.ensures)
 
 pub returns-clause-judges : goal.returns-clause-judges
 returns-clause-judges c =

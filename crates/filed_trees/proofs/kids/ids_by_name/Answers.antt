@@ -1,8 +1,8 @@
 use Rattle.std.proofs.{Common.{rules, ℕ, suc, ◌≡◌, ◌+◌, ◌<◌, ◌∷◌, None, Some, drop, sym, ap, ◌∙◌, add-one, arith, length}, Math.Seq.drop-cons}
-use Rattle.std.proofs.lemmas.Option.{slice_get-get_or}
+use Rattle.std.proofs.{lemmas.List.at_drop_all, lemmas.Option.slice_get-get_or}
 use Rattle.std.specs.{Option.option_or, Prelude.{IsSome, slice_get}}
 use Rattle.filed_trees.specs.{Pieces.entry_named, Comparing.id_at}
-use Rattle.filed_trees.proofs.{Named.name_more, Once.{all_names, one_name, repeated}}
+use Rattle.filed_trees.proofs.{Named.{name_more, no_more}, Once.{all_names, one_name, repeated}}
 use Rattle.filed_trees.proofs.kids.ids_by_name.Goals as goal
 
 pub loop-entry-preserved : goal.loop-entry-preserved
@@ -26,8 +26,8 @@ loop-entry-preserved c =
           c.in_ok-insert.ensures.updates.0 c.loop-entry.invariant.1,
     )
 
-pub returns-then-is_some-clause-judges : goal.returns-then-is_some-clause-judges
-returns-then-is_some-clause-judges c =
+pub returns-then-is_some : goal.returns-then-is_some
+returns-then-is_some c =
     let entries = c.args.entries.now in
     let k = c.loop-entry.entry-index in
     let entry = c.entry-item.result in
@@ -36,6 +36,12 @@ returns-then-is_some-clause-judges c =
     let some : IsSome (id_at c.loop-entry.ids.entries entry.name) = search rules in
     repeated entries (id_at c.loop-entry.ids.entries) k entry c.loop-entry.invariant.1 at some
 
-pub returns-clause-judges : goal.returns-clause-judges
-returns-clause-judges c = all_names c.args.entries.now (id_at c.loop-entry.ids.entries) c.loop-entry.entry-index c.loop-entry.invariant.1
-    c.loop-entry-test.false
+pub returns : goal.returns
+returns c = (
+  all_names c.args.entries.now (id_at c.loop-entry.ids.entries) c.loop-entry.entry-index c.loop-entry.invariant.1
+      c.loop-entry-test.false,
+  λ name. sym (no_more (id_at c.loop-entry.ids.entries name))
+      ∙ sym (at_drop_all (λ l. option_or (id_at c.loop-entry.ids.entries name) (entry_named name l))
+      c.args.entries.now c.loop-entry.entry-index c.loop-entry-test.false)
+      ∙ c.loop-entry.invariant.0 name,
+)

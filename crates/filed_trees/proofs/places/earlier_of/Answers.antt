@@ -13,7 +13,7 @@ returns-in_err-node-clause-finds c = λ files rows for.
     let at : slice_get places.tables.now c.args.id.revision ≡ Some table = search rules in
     let none : node_at places.nodes.now (record { rev = c.args.id.revision; place = k }) ≡ None = search rules in
     let has : IsSomeAnd (slice_get table.placed.items k) (λ p. p.id ≡ c.args.id) =
-    subst (λ l. IsSomeAnd (slice_get l k) (λ p. p.id ≡ c.args.id)) c.as_slice.ensures.value c.in_ok-place.ensures.at in
+    subst (λ l. IsSomeAnd (slice_get l k) (λ p. p.id ≡ c.args.id)) c.as_slice.ensures.value c.in_ok-place.ensures in
     subst (λ r. Finds r (IsTabled places.tables.now c.args.id)) (sym c.from_residual-in_err-node.ensures)
     (λ is. is_there files places rows for table k c.args.id at has none)
 
@@ -22,7 +22,7 @@ returns-in_err-placed-clause-finds c = λ files rows for.
     let table = c.in_ok-table.table.now in
     let k = c.in_ok-place.place in
     let has : IsSomeAnd (slice_get table.placed.items k) (λ p. p.id ≡ c.args.id) =
-    subst (λ l. IsSomeAnd (slice_get l k) (λ p. p.id ≡ c.args.id)) c.as_slice.ensures.value c.in_ok-place.ensures.at in
+    subst (λ l. IsSomeAnd (slice_get l k) (λ p. p.id ≡ c.args.id)) c.as_slice.ensures.value c.in_ok-place.ensures in
     let past : length table.placed.items ≤ k = search (rules, arith) in
     absurd (omega (arith, past, some_within table.placed.items k (λ p. p.id ≡ c.args.id) has))
 
@@ -38,7 +38,7 @@ returns-clause-earlier c =
     let here : slice_get table.placed.items k ≡ Some placed =
     slice_get-get_or table.placed.items k placed inside ∙ ap Some (search rules) in
     let has : IsSomeAnd (slice_get table.placed.items k) (λ p. p.id ≡ id) =
-    subst (λ l. IsSomeAnd (slice_get l k) (λ p. p.id ≡ id)) c.as_slice.ensures.value c.in_ok-place.ensures.at in (
+    subst (λ l. IsSomeAnd (slice_get l k) (λ p. p.id ≡ id)) c.as_slice.ensures.value c.in_ok-place.ensures in (
       record { rev = id.revision; place = k },
       (
         slice_get_within places.tables.now id.revision table at,

@@ -5,13 +5,15 @@ use Rattle.filed_world.proofs.creating.unread.Goals as goal
 
 pub returns-clause-read : goal.returns-clause-read
 returns-clause-read c =
-    ok_then c.unread.result (λ made read uuid date files same first.
-    read uuid date files (c.in_ok-share.ensures ∙ same) first) c.unread.ensures.read
+    ok_then c.unread.result (λ made read. (
+      read.0,
+      λ uuid date files same first. read.1 uuid date files (c.in_ok-share.ensures ∙ same) first,
+    )) c.unread.ensures.read
 
 pub returns-clause-next : goal.returns-clause-next
 returns-clause-next c =
     let new = c.args.world.now in
-    ok_both c.unread.result (λ made is none uuid date same.
+    ok_both c.unread.result (λ made is read uuid date same.
     first_next made.world.held.value new.held.value made.world.locks.value new.locks.value made.tables
-    uuid date (ap world_content is ∙ c.in_ok-share.ensures) same none)
-    c.unread.ensures.world c.unread.ensures.none
+    uuid date (ap world_content is ∙ c.in_ok-share.ensures) same read.0)
+    c.unread.ensures.world c.unread.ensures.read

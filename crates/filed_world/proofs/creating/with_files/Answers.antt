@@ -20,16 +20,16 @@ returns-in-Ok-with_read_revision-clause-files c = λ uuid date same.
     let first : AreFirst uuid c.args.current head = record {
       head = record {
         format = refl;
-        uuid_is = c.requires.uuid ∙ ap (λ (r : RepoState). Some r.uuid) same;
-        current_is = c.requires.current;
+        uuid_is = c.requires.uuid_is ∙ ap (λ (r : RepoState). Some r.uuid) same;
+        current_is = c.requires.current_is;
         count = c.requires.count ∙ ap (λ n. Some (suc n)) (sym c.requires.youngest);
       };
       none = refl;
       unlocked = refl;
     } in
-    let read = c.in-Ok-with_read_revision.ensures.read head
-    (c.in-Ok.ensures.read uuid date head same first) (c.in-Ok.ensures.next uuid date same)
-    (is_new c.args.world.held.value c.args.world.locks.value uuid date same) in
+    let read = c.in-Ok-with_read_revision.ensures.read (c.in-Ok.ensures.next uuid date same)
+    (is_new c.args.world.held.value c.args.world.locks.value uuid date same)
+    head (c.in-Ok.ensures.read.1 uuid date head same first) in
     c.read_whole.ensures (new_files files)
     (subst (λ r. HasRead made (with_one_more head (r, files.properties.items)))
     c.as_slice-revision.ensures.value
@@ -38,4 +38,4 @@ returns-in-Ok-with_read_revision-clause-files c = λ uuid date same.
     c.requires.count
 
 pub with_read_revision-requires : goal.with_read_revision-requires
-with_read_revision-requires c = ap length c.in-Ok.ensures.none
+with_read_revision-requires c = ap length c.in-Ok.ensures.read.0

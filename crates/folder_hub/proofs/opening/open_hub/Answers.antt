@@ -16,7 +16,7 @@ returns-clause-found g c =
       stands = λ honest.
           subst (λ (hub : HubState). StandsFor files.StandsFor hub.content
           (g.S.Store.holds c.args.store)) (sym c.with_access.ensures)
-          (c.in_ok-repository.ensures.found honest);
+          (c.in_ok-repository.ensures.found honest).0;
       same = λ honest x has. ap (λ (hub : HubState). hub.content) c.with_access.ensures
-          ∙ c.in_ok-repository.ensures.same honest x has;
+          ∙ (c.in_ok-repository.ensures.found honest).1 x has;
     }

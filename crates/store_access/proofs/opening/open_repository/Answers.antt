@@ -19,16 +19,14 @@ new-requires g c = ∣ (λ honest goes_on.
 pub returns-clause-found : goal.returns-clause-found
 returns-clause-found g c = λ honest.
     let r = g.L.Repository in
+    let met = g.met.L.Repository.Filed in
     let old = g.S.Store.holds c.args.store in
     let found = c.in_ok-saves.ensures.found (subst (λ x. g.S.Store.is_honest x.store) c.new.ensures.saves honest) in
     let of_these = c.finish.ensures found.files found.taken (has_count old found.files found.are) in
+    let stands : StandsFor r.Filed.stands_for (r.Repository.content c.new.result.repository) old =
     subst (λ x. StandsFor r.Filed.stands_for (r.Repository.content x) old) (sym c.new.ensures.repository)
-    (found.files, found.are, g.met.L.Repository.Filed.is_state c.finish.result found.files of_these)
-
-pub returns-clause-same : goal.returns-clause-same
-returns-clause-same g c = λ honest x has.
-    let r = g.L.Repository in
-    let met = g.met.L.Repository.Filed in
-    alone r.Repository.content r.Filed.is_of r.Filed.stands_for met.is_state met.one_state
-    x (r.Repository.content c.new.result.repository) (g.S.Store.holds c.args.store) has
-    (returns-clause-found g c honest)
+    (found.files, found.are, g.met.L.Repository.Filed.is_state c.finish.result found.files of_these) in (
+      stands,
+      λ x has. alone r.Repository.content r.Filed.is_of r.Filed.stands_for met.is_state met.one_state
+          x (r.Repository.content c.new.result.repository) old has stands,
+    )

@@ -10,9 +10,9 @@ with_list-requires c = subst (λ n. 0 < n) (sym c.args.held.now.all) c.args.held
 pub returns-clause-revised : goal.returns-clause-revised
 returns-clause-revised c =
     let made : ◌≡◌ {A = Held} c.in_ok-new.field-0.value c.in_ok-revised.revised = c.in_ok-new.ensures.ok in
-    let state = c.in_ok-revised.ensures.ok in
+    let state = c.in_ok-revised.ensures.1 in
     subst (λ (h : Held). HasFirstList c.args.held.now h c.args.list) (sym made) (record {
-      same = c.in_ok-revised.ensures.same;
+      same = c.in_ok-revised.ensures.0;
       uuid = ap (λ x. x.uuid) state;
       lists = ap (λ x. x.properties) state;
     })
@@ -20,4 +20,4 @@ returns-clause-revised c =
 pub returns-clause-sound : goal.returns-clause-sound
 returns-clause-sound c = ∥∥₁_map c.requires (λ s.
     same_revisions (held_state c.args.held.now) (held_state c.in_ok-new.field-0.value)
-    (ap revisions_of c.in_ok-new.ensures.ok ∙ ap (λ x. x.revisions) c.in_ok-revised.ensures.ok) s)
+    (ap revisions_of c.in_ok-new.ensures.ok ∙ ap (λ x. x.revisions) c.in_ok-revised.ensures.1) s)

@@ -1,5 +1,5 @@
-use Rattle.std.proofs.{Common.{ap, ◌∙◌}, Math.Logic.∥∥₁_map}
-use Rattle.held.specs.Contents.{held_state, revisions_of}
+use Rattle.std.proofs.{Common.{ap, sym, subst, ◌∙◌}, Math.Logic.∥∥₁_map}
+use Rattle.held.specs.{Contents.{held_state, revisions_of}, Growing.HasNext}
 use Rattle.next_blocks.proofs.Sound.{block_mapped, block_next, block_placed, sound_after}
 use Rattle.world.proofs.adding.with_next.Goals as goal
 
@@ -13,10 +13,13 @@ pub with_revision-requires-clause-tree : goal.with_revision-requires-clause-tree
 with_revision-requires-clause-tree c =
     ∥∥₁_map c.requires.sound (λ s. block_mapped c.args.held.now c.args.block c.args.changes c.requires.next s)
 
-pub returns-clause-sound : goal.returns-clause-sound
-returns-clause-sound c =
-    ∥∥₁_map c.requires.sound (λ s.
-    let mapped = block_mapped c.args.held.now c.args.block c.args.changes c.requires.next s in
-    sound_after c.args.held.now c.args.block c.args.changes c.requires.next s mapped.0 mapped.1
-    (held_state c.in_ok-new.field-0.value)
-    (ap revisions_of c.in_ok-new.ensures.ok ∙ c.in_ok-next.ensures.revisions mapped.0 mapped.1))
+pub returns : goal.returns
+returns c = (
+  subst (λ h. HasNext c.args.held.now h c.args.block c.args.changes c.args.properties)
+      (sym c.in_ok-new.ensures.ok) c.in_ok-next.ensures,
+  ∥∥₁_map c.requires.sound (λ s.
+      let mapped = block_mapped c.args.held.now c.args.block c.args.changes c.requires.next s in
+      sound_after c.args.held.now c.args.block c.args.changes c.requires.next s mapped.0 mapped.1
+      (held_state c.in_ok-new.field-0.value)
+      (ap revisions_of c.in_ok-new.ensures.ok ∙ c.in_ok-next.ensures.revisions mapped.0 mapped.1)),
+)

@@ -10,4 +10,4 @@ with_tree-requires-clause-mapped c =
 pub with_tree-requires-clause-room : goal.with_tree-requires-clause-room
 with_tree-requires-clause-room c =
     under_limit (state_of c.args.held.now c.args.locks.now) c.args.ask.now (txn_state_of c.args.txn.now)
-    c.in_ok-tree.ensures.accepted
+    c.in_ok-tree.ensures.judged.0

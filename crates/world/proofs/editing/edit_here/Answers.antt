@@ -1,4 +1,4 @@
-use Rattle.std.proofs.{Common.{◌≡◌, [], refl, sym, subst, append-nil}, Math.Logic.{∥∥₁_map, ∥∥₁_map₂}}
+use Rattle.std.proofs.{Common.{◌≡◌, [], refl, sym, subst, append-nil}, Math.Logic.{∥∥₁_map, ∥∥₁_map₂}, lemmas.Result.err_from_is_err_and}
 use Rattle.std.specs.{Prelude.Option, FinMap.get}
 use Rattle.svnpath.specs.Paths.{PathValue}
 use Rattle.repo_api.specs.{Changes.changes_after, Edits.edited, RightEdits.IsRightEdit, States.{changes_of, IsBeginning, trees_in}}
@@ -6,7 +6,7 @@ use Rattle.noderevs.specs.{Held.{node_at, root_at}, declared.node_rev.NodeId.Nod
 use Rattle.txntree.specs.Whole.{IsSound, txn_tree}
 use Rattle.held.specs.{Contents.revisions_of, declared.held.Held.Held}
 use Rattle.world.specs.{Open.IsOpen, Whole.txn_state_of}
-use Rattle.world.proofs.{Mapping.{by_result, on_err, right_over, state_stays, txn_map_is, txn_sound}, Opening.{edited_open, edited_txn, open_stays}}
+use Rattle.world.proofs.{Mapping.{by_result, right_over, state_stays, txn_map_is, txn_sound}, Opening.{edited_open, edited_txn, open_stays}}
 use Rattle.world.proofs.editing.edit_here.Goals as goal
 
 pub edit_parts-requires : goal.edit_parts-requires
@@ -26,7 +26,7 @@ invariant_of-txn c =
     let stands : (root : Option NodeId) → IsSound (node_at h.nodes) root old.tree
     → IsSound (node_at h.nodes) root new =
     subst (λ (x : Held). (root : Option NodeId) → IsSound (node_at x.nodes) root old.tree
-    → IsSound (node_at x.nodes) root new) c.deref.ensures c.edit_parts.ensures.standing in
+    → IsSound (node_at x.nodes) root new) c.deref.ensures c.edit_parts.ensures.tree.1 in
     let begins : IsBeginning (revisions_of h) (revisions_of h) =
     record { more = []; is = sym (append-nil (revisions_of h)) } in
     record {
@@ -39,8 +39,7 @@ invariant_of-txn c =
           ((q : PathValue) → txn_tree d.nodes new q ≡ txn_tree d.nodes old.tree q)
           (after ≡ old.changes)
           ∥ IsOpen h old.base new after ∥₁
-          c.edit_parts.ensures.tree c.edit_parts.ensures.changes
-          c.edit_parts.ensures.tree_stays c.edit_parts.ensures.changes_stay
+          c.edit_parts.ensures.tree.0 c.edit_parts.ensures.changes
           (λ made noted. ∥∥₁_map₂ c.requires.sound (txn_sound old) (λ s t.
           edited_open h (txn_state_of old) (txn_tree h.nodes old.tree) new after c.args.op.now
           (txn_map_is old)
@@ -55,16 +54,16 @@ invariant_of-txn c =
           same o));
     }
 
-pub returns-in_err-edit_parts-clause-err : goal.returns-in_err-edit_parts-clause-err
-returns-in_err-edit_parts-clause-err c =
+pub returns-in_err-edit_parts : goal.returns-in_err-edit_parts
+returns-in_err-edit_parts c =
     let old = c.args.txn.now in
     let new = c.edit_parts.new.tree in
     let stays : (q : PathValue) → txn_tree old.shown.value.nodes new q
     ≡ txn_tree old.shown.value.nodes old.tree q =
     subst (λ (x : Held). (q : PathValue) → txn_tree x.nodes new q ≡ txn_tree x.nodes old.tree q)
-    c.deref.ensures c.in_err-edit_parts.ensures.tree_stays in
-    on_err c.from_residual.result _
-    (state_stays old (record {
+    c.deref.ensures c.in_err-edit_parts.ensures.tree.0 in
+    let p = err_from_is_err_and c.from_residual.result c.from_residual.ensures.1 in
+    rw (p.1) (state_stays old (record {
       shown = old.shown;
       base = old.base;
       tree = new;
@@ -72,10 +71,10 @@ returns-in_err-edit_parts-clause-err c =
       within = c.txn-1.given.0;
       standing = c.txn-1.given.1.0;
       sound = c.txn-1.given.1.1.0;
-    }) refl refl stays c.in_err-edit_parts.ensures.changes_stay)
+    }) refl refl stays c.in_err-edit_parts.ensures.changes)
 
-pub returns-clause-ok : goal.returns-clause-ok
-returns-clause-ok c =
+pub returns : goal.returns
+returns c =
     let old = c.args.txn.now in
     let h = old.shown.value in
     let new = c.edit_parts.new.tree in
@@ -83,7 +82,7 @@ returns-clause-ok c =
     ≡ edited (trees_in (revisions_of h)) (txn_tree h.nodes old.tree) c.args.op.now q =
     subst (λ (x : Held). (q : PathValue) → txn_tree x.nodes new q
     ≡ edited (trees_in (revisions_of x)) (txn_tree x.nodes old.tree) c.args.op.now q)
-    c.deref.ensures c.in_ok-edit_parts.ensures.tree in
+    c.deref.ensures c.in_ok-edit_parts.ensures.tree.0 in
     edited_txn h (txn_state_of old) (txn_tree h.nodes old.tree) new c.edit_parts.new.changes
     c.args.op.now (txn_map_is old) made c.in_ok-edit_parts.ensures.changes
     (record {

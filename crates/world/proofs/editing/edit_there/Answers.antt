@@ -1,4 +1,4 @@
-use Rattle.std.proofs.{Common.{◌≡◌, ◌<◌, length, refl, sym, ap, subst, ◌∙◌}, Math.Logic.∥∥₁_map₂}
+use Rattle.std.proofs.{Common.{◌≡◌, ◌<◌, length, refl, sym, ap, subst, ◌∙◌}, Math.Logic.∥∥₁_map₂, lemmas.Result.err_from_is_err_and}
 use Rattle.std.specs.Prelude.{Option}
 use Rattle.svnpath.specs.Paths.{PathValue}
 use Rattle.repo_api.specs.{Edits.edited, RightEdits.IsRightEdit, States.trees_in}
@@ -6,7 +6,7 @@ use Rattle.noderevs.specs.{Held.{node_at, root_at}, declared.node_rev.NodeId.Nod
 use Rattle.txntree.specs.Whole.{IsSound, txn_tree}
 use Rattle.held.specs.{Contents.revisions_of, Maps.IsMapOf, declared.held.Held.Held}
 use Rattle.world.specs.{Open.IsOpen, Whole.{txn_map, txn_state_of}}
-use Rattle.world.proofs.{Lists.still_within, Mapping.{on_err, state_stays, txn_map_is, txn_sound}, Opening.{edited_open, edited_txn}}
+use Rattle.world.proofs.{Lists.still_within, Mapping.{state_stays, txn_map_is, txn_sound}, Opening.{edited_open, edited_txn}}
 use Rattle.world.proofs.editing.edit_there.Goals as goal
 
 pub edit_parts-requires : goal.edit_parts-requires
@@ -16,7 +16,7 @@ edit_parts-requires c =
     let tree = c.in_ok-tree.tree in
     let was : IsMapOf (txn_tree h.nodes tree) (txn_map old) = λ q. txn_map_is old q
     ∙ sym (sym (ap (λ (x : Held). txn_tree x.nodes tree q) c.deref.ensures)
-    ∙ c.in_ok-tree.ensures.tree q
+    ∙ c.in_ok-tree.ensures.0 q
     ∙ ap (λ (y : Held). txn_tree y.nodes old.tree q) c.deref-2.ensures) in
     subst (λ (x : Held). IsRightEdit (trees_in (revisions_of x)) (txn_tree x.nodes tree)
     c.args.op.now) (sym c.deref-3.ensures)
@@ -32,39 +32,40 @@ invariant_of-txn-2 c =
     let e : c.in_ok-shown.shown.value ≡ h = c.in_ok-shown.ensures in
     let was : IsMapOf (txn_tree h.nodes tree) (txn_map old) = λ q. txn_map_is old q
     ∙ sym (sym (ap (λ (x : Held). txn_tree x.nodes tree q) c.deref.ensures)
-    ∙ c.in_ok-tree.ensures.tree q
+    ∙ c.in_ok-tree.ensures.0 q
     ∙ ap (λ (y : Held). txn_tree y.nodes old.tree q) c.deref-2.ensures) in
     let made : (q : PathValue) → txn_tree h.nodes new q
     ≡ edited (trees_in (revisions_of h)) (txn_tree h.nodes tree) c.args.op.now q =
     subst (λ (x : Held). (q : PathValue) → txn_tree x.nodes new q
     ≡ edited (trees_in (revisions_of x)) (txn_tree x.nodes tree) c.args.op.now q)
-    c.deref-3.ensures c.in_ok-edit_parts.ensures.tree in
+    c.deref-3.ensures c.in_ok-edit_parts.ensures.tree.0 in
     let stands : (root : Option NodeId) → IsSound (node_at h.nodes) root tree
     → IsSound (node_at h.nodes) root new =
     subst (λ (x : Held). (root : Option NodeId) → IsSound (node_at x.nodes) root tree
-    → IsSound (node_at x.nodes) root new) c.deref-3.ensures c.edit_parts.ensures.standing in
+    → IsSound (node_at x.nodes) root new) c.deref-3.ensures c.edit_parts.ensures.tree.1 in
     let stood : IsSound (node_at h.nodes) (root_at h.nodes old.base) tree =
     subst (λ (x : Held). IsSound (node_at x.nodes) (root_at x.nodes old.base) tree)
-    c.deref.ensures c.in_ok-tree.ensures.sound in
+    c.deref.ensures c.in_ok-tree.ensures.1 in
     record {
       within = subst (λ (x : Held). old.base < length (revisions_of x)) (sym e)
-          (still_within (revisions_of old.shown.value) (revisions_of h) c.requires.rests
+          (still_within (revisions_of old.shown.value) (revisions_of h) c.requires.rests.1
           old.base old.within);
       standing = subst (λ (x : Held). IsSound (node_at x.nodes) (root_at x.nodes old.base) new)
           (sym e) (stands (root_at h.nodes old.base) stood);
-      sound = ∥∥₁_map₂ c.requires.sound (txn_sound old) (λ s t.
+      sound = ∥∥₁_map₂ c.requires.rests.0 (txn_sound old) (λ s t.
           subst (λ (x : Held). IsOpen x old.base new c.edit_parts.new.changes) (sym e)
           (edited_open h (txn_state_of old) (txn_tree h.nodes tree) new
           c.edit_parts.new.changes c.args.op.now was made
-          c.in_ok-edit_parts.ensures.changes s.revisions c.requires.rests
+          c.in_ok-edit_parts.ensures.changes s.revisions c.requires.rests.1
           c.requires.right t));
     }
 
-pub returns-in_err-tree-clause-err : goal.returns-in_err-tree-clause-err
-returns-in_err-tree-clause-err c =
+pub returns-in_err-tree : goal.returns-in_err-tree
+returns-in_err-tree c =
     let old = c.args.txn.now in
-    on_err c.from_residual-in_err-tree.result _
-    (state_stays old (record {
+    let residual = c.from_residual-in_err-tree in
+    let p = err_from_is_err_and residual.result residual.ensures.1 in
+    rw (p.1) (state_stays old (record {
       shown = old.shown;
       base = old.base;
       tree = old.tree;
@@ -74,11 +75,12 @@ returns-in_err-tree-clause-err c =
       sound = c.in_err-tree.txn-1-own.given.1.1.0;
     }) refl refl (λ q. refl) refl)
 
-pub returns-in_err-edit_parts-clause-err : goal.returns-in_err-edit_parts-clause-err
-returns-in_err-edit_parts-clause-err c =
+pub returns-in_err-edit_parts : goal.returns-in_err-edit_parts
+returns-in_err-edit_parts c =
     let old = c.args.txn.now in
-    on_err c.from_residual-in_err-edit_parts.result _
-    (state_stays old (record {
+    let residual = c.from_residual-in_err-edit_parts in
+    let p = err_from_is_err_and residual.result residual.ensures.1 in
+    rw (p.1) (state_stays old (record {
       shown = old.shown;
       base = old.base;
       tree = old.tree;
@@ -86,23 +88,23 @@ returns-in_err-edit_parts-clause-err c =
       within = c.in_err-edit_parts.txn-in-Break-branch-3-1-own.given.0;
       standing = c.in_err-edit_parts.txn-in-Break-branch-3-1-own.given.1.0;
       sound = c.in_err-edit_parts.txn-in-Break-branch-3-1-own.given.1.1.0;
-    }) refl refl (λ q. refl) c.in_err-edit_parts.ensures.changes_stay)
+    }) refl refl (λ q. refl) c.in_err-edit_parts.ensures.changes)
 
-pub returns-clause-ok : goal.returns-clause-ok
-returns-clause-ok c =
+pub returns : goal.returns
+returns c =
     let old = c.args.txn.now in
     let h = c.args.held.now.value in
     let tree = c.in_ok-tree.tree in
     let new = c.edit_parts.new.tree in
     let was : IsMapOf (txn_tree h.nodes tree) (txn_map old) = λ q. txn_map_is old q
     ∙ sym (sym (ap (λ (x : Held). txn_tree x.nodes tree q) c.deref.ensures)
-    ∙ c.in_ok-tree.ensures.tree q
+    ∙ c.in_ok-tree.ensures.0 q
     ∙ ap (λ (y : Held). txn_tree y.nodes old.tree q) c.deref-2.ensures) in
     let made : (q : PathValue) → txn_tree h.nodes new q
     ≡ edited (trees_in (revisions_of h)) (txn_tree h.nodes tree) c.args.op.now q =
     subst (λ (x : Held). (q : PathValue) → txn_tree x.nodes new q
     ≡ edited (trees_in (revisions_of x)) (txn_tree x.nodes tree) c.args.op.now q)
-    c.deref-3.ensures c.in_ok-edit_parts.ensures.tree in
+    c.deref-3.ensures c.in_ok-edit_parts.ensures.tree.0 in
     edited_txn h (txn_state_of old) (txn_tree h.nodes tree) new c.edit_parts.new.changes
     c.args.op.now was made c.in_ok-edit_parts.ensures.changes
     (record {

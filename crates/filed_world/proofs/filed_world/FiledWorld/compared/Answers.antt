@@ -14,7 +14,7 @@ use Rattle.filed_trees.proofs.{Judged.no_part, Seen.none_tabled}
 use Rattle.filed_world.proofs.filed_world.FiledWorld.compared.Goals as goal
 
 pub returns-in_ok-with_table-in-Ok-clause-read : goal.returns-in_ok-with_table-in-Ok-clause-read
-returns-in_ok-with_table-in-Ok-clause-read c = λ files are next new.
+returns-in_ok-with_table-in-Ok-clause-read c = λ next new files are.
     let old = c.args.self.now in
     let world = c.args.world.now in
     let table = c.in_ok-table.table in
@@ -49,7 +49,7 @@ returns-in_ok-with_table-in-Ok-clause-read c = λ files are next new.
     (ap (λ ts. so_far ts (blocks_of old.world.held.value.nodes)) no_tables) (ap (λ ts. so_far ts old.world.held.value.changes) no_tables)
     next.0.blocks next.0.changes)
     (omega (arith, none)))
-    c.in-Ok.ensures.list)
+    c.in-Ok.ensures)
 
 pub returns-in_err-table-clause-judges : goal.returns-in_err-table-clause-judges
 returns-in_err-table-clause-judges c = λ list new at.
@@ -83,10 +83,10 @@ returns-in_ok-with_table-in-Ok-clause-judges c = λ list new at.
     ∙ ap (history_of (world_content world)) (c.len-number.ensures.length ∙ c.requires) ∙ held_changes h 0 (change h new file) (is_at h new file)) in
     let said = subst (λ ts. IsFiledNext (file ∷ []) ts file (block h new file ∷ []) (change h new file ∷ [])) no_tables
     (c.in_ok-table.ensures.judges [] [] (block h new file) [] (change h new file) before blocks changes) in
-    (first_history h new file said, c.in-Ok.ensures.judges list (ap (slice_get h.properties) c.requires ∙ at))
+    (first_history h new file said, c.in-Ok.ensures list (ap (slice_get h.properties) c.requires ∙ at))
 
 pub returns-in-Err-clause-judges : goal.returns-in-Err-clause-judges
 returns-in-Err-clause-judges c = λ list new at.
     let h = c.args.world.now.held.value in
     let right = HasHistory (c.args.revision.now ∷ []) × (result_ok (properties_of c.args.properties.now) ≡ Some list) in
-    no_part c.in-Err.fault (λ (p : right). p.1) (c.in-Err.ensures.judges list (ap (slice_get h.properties) c.requires ∙ at))
+    no_part c.in-Err.fault (λ (p : right). p.1) (c.in-Err.ensures list (ap (slice_get h.properties) c.requires ∙ at))

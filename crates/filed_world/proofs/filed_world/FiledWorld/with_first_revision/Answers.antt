@@ -9,10 +9,11 @@ pub returns-clause-read : goal.returns-clause-read
 returns-clause-read c =
     let f = c.args.self.now in
     let none = nothing f.tables c.requires in
-    ok_then c.with_read_revision.result (λ made next files read. next files read
+    ok_then c.with_read_revision.result (λ made next files read. next
     (first_comes f.world c.in_ok-world.world f.tables c.in_ok-list.list c.in_ok-world.ensures.locks none (read.begins none).one
     c.in_ok-world.ensures.held)
-    (new_with f.world.held.value c.in_ok-world.world.held.value c.in_ok-list.list (read.begins none) c.in_ok-world.ensures.held))
+    (new_with f.world.held.value c.in_ok-world.world.held.value c.in_ok-list.list (read.begins none) c.in_ok-world.ensures.held)
+    files read)
     c.with_read_revision.ensures.read
 
 pub returns-clause-judges : goal.returns-clause-judges

@@ -35,8 +35,8 @@ returns-clause-files c = λ files is.
     let at : slice_get new.held.value.properties (length held.changes) ≡ Some c.in-Some.list.now =
     ap (slice_get new.held.value.properties) (sym young) ∙ sym c.in-Some.ensures in
     let bytes = revision_bytes files in
-    let back : IsReadBack held old.tables new.held.value file c.in_ok-tables.tables =
-    subst (λ f. IsReadBack held old.tables new.held.value f c.in_ok-tables.tables) c.as_slice.ensures.value c.in_ok-tables.ensures in
+    let back : IsReadBack old new file c.in_ok-tables.tables =
+    subst (λ f. IsReadBack old new f c.in_ok-tables.tables) c.as_slice.ensures.value c.in_ok-tables.ensures in
     let table = back.table in
     let some : 0 < length old.tables = let young = is.youngest in let many = many_tables held old.world.locks.value old.tables old.current files is in
     omega (arith, young, many) in

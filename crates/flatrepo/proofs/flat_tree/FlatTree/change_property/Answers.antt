@@ -8,8 +8,8 @@ use Rattle.flatrepo.proofs.{MapEdits.part_seen, Parts.{changed_as, not_there}, R
 use Rattle.flatrepo.proofs.flat_tree.FlatTree.change_property.Goals.{in-None, in-Some+in_ok-properties-in-Some}
 use Rattle.flatrepo.proofs.flat_tree.FlatTree.change_property.Goals as goal
 
-pub returns-clause-ok : goal.returns-clause-ok
-returns-clause-ok c = λ q.
+pub returns : goal.returns
+returns c = λ q.
     let m = c.args.self.now in
     let p = c.args.path.now in
     let es = c.self.inside.entries.entries in

@@ -13,19 +13,15 @@ at-requires c =
     ap (root_at nodes) (sym c.youngest.ensures.is) ∙ sym c.root.ensures ∙ c.in-Some.is in
     nodes.roots (youngest (held_state c.args.self.now)) c.in-Some.root is
 
-pub returns-clause-tree : goal.returns-clause-tree
-returns-clause-tree c = λ q.
+pub returns : goal.returns
+returns c =
     let nodes = c.args.self.now.nodes in
     let is : root_at nodes (youngest (held_state c.args.self.now)) ≡ Some c.in-Some.root =
-    ap (root_at nodes) (sym c.youngest.ensures.is) ∙ sym c.root.ensures ∙ c.in-Some.is in
-    c.in_ok-tree.ensures.tree q ∙ ap (λ o. begun (shared_tree (node_at nodes) o) q) (sym is)
-
-pub returns-clause-sound : goal.returns-clause-sound
-returns-clause-sound c =
-    let nodes = c.args.self.now.nodes in
-    let is : root_at nodes (youngest (held_state c.args.self.now)) ≡ Some c.in-Some.root =
-    ap (root_at nodes) (sym c.youngest.ensures.is) ∙ sym c.root.ensures ∙ c.in-Some.is in
-    subst (λ o. IsSound (node_at nodes) o c.in_ok-tree.tree) (sym is) c.in_ok-tree.ensures.sound
+    ap (root_at nodes) (sym c.youngest.ensures.is) ∙ sym c.root.ensures ∙ c.in-Some.is in (
+      λ q. c.in_ok-tree.ensures.tree q
+          ∙ ap (λ o. begun (shared_tree (node_at nodes) o) q) (sym is),
+      subst (λ o. IsSound (node_at nodes) o c.in_ok-tree.tree) (sym is) c.in_ok-tree.ensures.sound,
+    )
 
 pub unreachable-requires : goal.unreachable-requires
 unreachable-requires c =

@@ -10,13 +10,12 @@ edit-requires c =
     (txn_tree c.args.self.now.nodes c.args.tree.now) c.args.op.now)
     (trees_seen c.args.self.now) c.requires
 
-pub returns-clause-ok : goal.returns-clause-ok
-returns-clause-ok c =
-    MatchResult-weaker c.edit.result c.edit.ensures.tree
-    (λ _ made q. made q
-    ∙ ap (λ trees. edited trees (txn_tree c.args.self.now.nodes c.args.tree.now) c.args.op.now q)
-    (sym (trees_seen c.args.self.now)))
-    (λ _ _. tt)
-
-pub returns-clause-err : goal.returns-clause-err
-returns-clause-err c = MatchResult-weaker c.edit.result c.edit.ensures.tree (λ _ _. tt) (λ _ kept. kept)
+pub returns : goal.returns
+returns c = (
+  MatchResult-weaker c.edit.result c.edit.ensures.tree
+      (λ _ made q. made q
+      ∙ ap (λ trees. edited trees (txn_tree c.args.self.now.nodes c.args.tree.now) c.args.op.now q)
+      (sym (trees_seen c.args.self.now)))
+      (λ _ kept. kept),
+  c.edit.ensures.sound,
+)

@@ -1,48 +1,40 @@
 use Rattle.std.proofs.Common.{◌≡◌, true, length, sym, ap, subst, ◌∙◌}
 use Rattle.repo_api.specs.{Merge.is_in_conflict, MergedMaps.merged_map, States.{tree_at, youngest}}
 use Rattle.noderevs.specs.Held.{count, trees_of}
-use Rattle.txntree.specs.{Whole.txn_tree, declared.tree.TxnTree.TxnTree}
+use Rattle.txntree.specs.Whole.{txn_tree}
 use Rattle.held.specs.{Contents.{held_state, revisions_of}, Maps.IsMapOf, Sealed.sealed_tree}
-use Rattle.held.proofs.{Merging.{merged_is, clean_is, conflict_at, conflict_of}, Seen.{held_seen, held_many}}
+use Rattle.held.proofs.{Merging.{merged_is, clean_is, conflict_at, refused_merge}, Seen.{held_seen, held_many}}
 use Rattle.held.proofs.held.Held.merged.Goals as goal
 
-pub returns-in-Ok-clause-map : goal.returns-in-Ok-clause-map
-returns-in-Ok-clause-map c = λ m is.
-    let self = c.args.self.now in
-    let t = trees_of self.nodes c.youngest.result in
-    let ma = tree_at (held_state self) c.args.base in
-    let mt = tree_at (held_state self) (youngest (held_state self)) in
-    let ist : IsMapOf t mt = λ p. held_seen self (youngest (held_state self)) p
-    ∙ ap (λ n. trees_of self.nodes n p) (sym c.youngest.ensures.is) in
-    let many : count self.nodes ≡ length (revisions_of self) = self.even ∙ sym (held_many self) in
-    subst (λ n. IsMapOf (sealed_tree self.nodes c.in-Ok.merged) (merged_map n ma m mt)) many
-    (merged_is (count self.nodes) (trees_of self.nodes c.args.base)
-    (txn_tree self.nodes c.args.tree.now) t ma m mt (held_seen self c.args.base) is ist
-    (sealed_tree self.nodes c.in-Ok.merged) (λ q. c.in-Ok.ensures.merged (count self.nodes) q))
-
-pub returns-in-Ok-clause-clean : goal.returns-in-Ok-clause-clean
-returns-in-Ok-clause-clean c = λ m is.
-    let self = c.args.self.now in
-    let t = trees_of self.nodes c.youngest.result in
-    let ma = tree_at (held_state self) c.args.base in
-    let mt = tree_at (held_state self) (youngest (held_state self)) in
-    let ist : IsMapOf t mt = λ p. held_seen self (youngest (held_state self)) p
-    ∙ ap (λ n. trees_of self.nodes n p) (sym c.youngest.ensures.is) in
-    clean_is (count self.nodes) (trees_of self.nodes c.args.base)
-    (txn_tree self.nodes c.args.tree.now) t ma m mt
-    (held_seen self c.args.base) is ist c.in-Ok.ensures.clean
-
-pub returns-in-Err-clause-conflict : goal.returns-in-Err-clause-conflict
-returns-in-Err-clause-conflict c = λ refused m is.
+pub returns-in-Ok : goal.returns-in-Ok
+returns-in-Ok c = λ m is.
     let self = c.args.self.now in
     let a = trees_of self.nodes c.args.base in
     let s = txn_tree self.nodes c.args.tree.now in
     let t = trees_of self.nodes c.youngest.result in
     let ma = tree_at (held_state self) c.args.base in
     let mt = tree_at (held_state self) (youngest (held_state self)) in
+    let isa = held_seen self c.args.base in
     let ist : IsMapOf t mt = λ p. held_seen self (youngest (held_state self)) p
     ∙ ap (λ n. trees_of self.nodes n p) (sym c.youngest.ensures.is) in
-    let at = conflict_of TxnTree
-    (λ p. is_in_conflict (a p) (s p) (t p) ≡ true)
-    c.in-Err.fault c.fault_of.result c.fault_of.ensures refused c.in-Err.ensures.conflict in
-    conflict_at (count self.nodes) a s t ma m mt (held_seen self c.args.base) is ist at.0 at.1
+    let many : count self.nodes ≡ length (revisions_of self) = self.even ∙ sym (held_many self) in (
+      subst (λ n. IsMapOf (sealed_tree self.nodes c.in-Ok.merged) (merged_map n ma m mt)) many
+          (merged_is (count self.nodes) a s t ma m mt isa is ist
+          (sealed_tree self.nodes c.in-Ok.merged) (λ q. c.in-Ok.ensures.merged (count self.nodes) q)),
+      clean_is (count self.nodes) a s t ma m mt isa is ist c.in-Ok.ensures.clean,
+    )
+
+pub returns-in-Err : goal.returns-in-Err
+returns-in-Err c = λ m is.
+    let self = c.args.self.now in
+    let a = trees_of self.nodes c.args.base in
+    let s = txn_tree self.nodes c.args.tree.now in
+    let t = trees_of self.nodes c.youngest.result in
+    let ma = tree_at (held_state self) c.args.base in
+    let mt = tree_at (held_state self) (youngest (held_state self)) in
+    let isa = held_seen self c.args.base in
+    let ist : IsMapOf t mt = λ p. held_seen self (youngest (held_state self)) p
+    ∙ ap (λ n. trees_of self.nodes n p) (sym c.youngest.ensures.is) in
+    refused_merge self c.args.base m (λ p. is_in_conflict (a p) (s p) (t p) ≡ true)
+    c.in-Err.fault c.fault_of.result c.fault_of.ensures
+    (conflict_at (count self.nodes) a s t ma m mt isa is ist) c.in-Err.ensures.conflict

@@ -20,10 +20,12 @@ invariant_of-result c =
           old.changes c.in_ok-changes.changes blocks changes old.shown;
     }
 
-pub returns-clause-ok : goal.returns-clause-ok
-returns-clause-ok c =
-    same_state _ _ _ _ _
-    (revisions_again (blocks_of c.args.self.now.nodes) (blocks_of c.in_ok-nodes.nodes)
-    c.args.self.now.changes c.in_ok-changes.changes c.in_ok-nodes.ensures c.in_ok-changes.ensures
-    c.args.self.now.shown _)
-    refl
+pub returns : goal.returns
+returns c = (
+  record { blocks = c.in_ok-nodes.ensures; changes = c.in_ok-changes.ensures },
+  same_state _ _ _ _ _
+      (revisions_again (blocks_of c.args.self.now.nodes) (blocks_of c.in_ok-nodes.nodes)
+      c.args.self.now.changes c.in_ok-changes.changes c.in_ok-nodes.ensures c.in_ok-changes.ensures
+      c.args.self.now.shown _)
+      refl,
+)

@@ -1,4 +1,4 @@
-use Rattle.std.proofs.{Common.{◌≡◌, ◌<◌, ◌+◌, length, sym, ap, subst, arith, ◌∙◌}, lemmas.List.length_push}
+use Rattle.std.proofs.{Common.{◌≡◌, ◌<◌, ◌+◌, length, refl, sym, ap, subst, arith, ◌∙◌}, lemmas.List.length_push}
 use Rattle.noderevs.specs.{Held.{blocks_of, trees_of}, Nodes.{node_in, root_in}}
 use Rattle.held.specs.{Contents.block_tree, Placed.ArePlaced}
 use Rattle.held.proofs.{OneMore.{grown, grown_is}, Placing.placed_pushed, Seen.held_many}
@@ -41,12 +41,19 @@ invariant_of-result c =
           c.requires.tree old.shown;
     }
 
-pub returns-clause-revisions : goal.returns-clause-revisions
-returns-clause-revisions c = λ m is.
-    let old = c.args.self.now in
-    grown_is (trees_of old.nodes)
-    (trees_of c.in_ok-nodes.nodes) old.changes c.in_ok-changes.changes c.args.changes
-    (block_tree old.nodes c.args.block) c.in_ok-changes.ensures
-    (λ k within. c.in_ok-nodes.ensures.stays k (subst (λ n. k < n) (sym old.even) within))
-    (λ q. ap (λ n. trees_of c.in_ok-nodes.nodes n q) (sym old.even) ∙ c.in_ok-nodes.ensures.tree q)
-    old.shown _ m is
+pub returns : goal.returns
+returns c =
+    let old = c.args.self.now in record {
+      blocks = c.in_ok-nodes.ensures.blocks;
+      changes = c.in_ok-changes.ensures;
+      revisions = λ m is.
+          grown_is (trees_of old.nodes)
+          (trees_of c.in_ok-nodes.nodes) old.changes c.in_ok-changes.changes c.args.changes
+          (block_tree old.nodes c.args.block) c.in_ok-changes.ensures
+          (λ k within. c.in_ok-nodes.ensures.stays k (subst (λ n. k < n) (sym old.even) within))
+          (λ q. ap (λ n. trees_of c.in_ok-nodes.nodes n q) (sym old.even)
+          ∙ c.in_ok-nodes.ensures.tree q)
+          old.shown _ m is;
+      uuid = refl;
+      lists = c.in_ok-properties.ensures;
+    }

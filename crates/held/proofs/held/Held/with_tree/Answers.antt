@@ -37,14 +37,24 @@ with_revision-requires-clause-tree c =
     c.in_ok-block.ensures.tree in
     map_again (block_tree nodes block) (sealed_tree nodes c.args.tree.now) same c.requires.mapped
 
-pub returns-clause-revisions : goal.returns-clause-revisions
-returns-clause-revisions c = λ m is.
+pub returns : goal.returns
+returns c =
     let nodes = c.args.self.now.nodes in
     let block = c.in_ok-block.block in
+    let next = c.in_ok-held.ensures in
     let same : (q : PathValue) → block_tree nodes block q ≡ sealed_tree nodes c.args.tree.now q =
     subst (λ r. (q : PathValue)
     → shared_tree (with_block (node_at nodes) r block.nodes.items) (Some block.root) q
     ≡ option_map (sealed r q) (txn_tree nodes c.args.tree.now q))
     (c.count-revision.ensures ∙ held_many c.args.self.now ∙ sym c.args.self.now.even)
-    c.in_ok-block.ensures.tree in
-    c.in_ok-held.ensures.revisions m (λ p. is p ∙ sym (same p))
+    c.in_ok-block.ensures.tree in record {
+      more = record {
+        block = block;
+        blocks = next.blocks;
+        change = c.args.changes;
+        changes = next.changes;
+      };
+      revisions = λ m is. next.revisions m (λ p. is p ∙ sym (same p));
+      uuid = next.uuid;
+      lists = next.lists;
+    }

@@ -8,10 +8,10 @@ compare_exchange-found-requires g c =
     let h = c.args.book.now.head_is in
     let offer = c.plain-offer.ensures in
     let pen = c.no_pen-pen.ensures in
-    let may : MayFollow c.self.inside.seen.log c.plain-offer.result.ask = rw (c.self.view_is, offer.1) c.requires.may in (
+    let may : MayFollow c.self.inside.seen.log c.plain-offer.result.ask = rw (c.self.view_is, offer.1) c.requires.may.0 in (
       ap (λ w. w.tracked) h,
       c.self.invariant.1 ∙ sym (ap (λ w. w.book) h),
       pen.0 ∙ (c.self.invariant.1 ∙ sym (ap (λ w. w.book) h)),
       offer.0,
-      rw (ap (λ w. w.key) h, pen.1, offer.3 ∙ c.requires.plain) (adds_moves c.self.inside.seen.log c.plain-offer.result.ask c.self.inside.events (sym c.self.invariant.0) may),
+      rw (ap (λ w. w.key) h, pen.1, offer.3 ∙ c.requires.may.1) (adds_moves c.self.inside.seen.log c.plain-offer.result.ask c.self.inside.events (sym c.self.invariant.0) may),
     )

@@ -1,13 +1,15 @@
-use Rattle.std.proofs.Common.{inl, refl, sym, subst, ◌∙◌}
-use Rattle.access.specs.{Changing.LocksAt, Points.Point}
-use Rattle.published.specs.Moments.{shared_rules, stays}
-use Rattle.sharedrepo.specs.Standing.{now_of}
+use Rattle.std.proofs.Common.{inl, refl, sym, ◌∙◌}
+use Rattle.access.specs.Changing.{LocksAt}
+use Rattle.published.specs.Moments.{shared_rules}
+use Rattle.sharedrepo.proofs.Calling.{called, turned_away}
 use Rattle.sharedrepo.proofs.keeper.Keeper.lock.Goals as goal
 
-pub returns-clause-shared : goal.returns-clause-shared
-returns-clause-shared g c =
-    let p = now_of g.S.Archive.kept c.args.self.now in
-    (p, c.meet.ensures.later, subst (λ (q : Point). LocksAt shared_rules c.args.ask p c.make_lock-answer.result q) (sym c.tell.ensures.told) c.make_lock-answer.ensures)
+pub returns : goal.returns
+returns g c =
+    called g.S.Archive.kept (LocksAt shared_rules c.args.ask) c.args.seat.now c.args.self.now c.tell.new.seat c.make_lock-answer.new.self c.make_lock-answer.result
+    (sym c.turns_away.ensures.0 ∙ c.if-turns_away.false) c.meet.ensures.later c.make_lock-answer.ensures c.tell.ensures
 
-pub returns-then-turns_away-clause-shared : goal.returns-then-turns_away-clause-shared
-returns-then-turns_away-clause-shared g c = (_, stays _, inl (sym c.turns_away.ensures.knows ∙ c.if-turns_away.true, refl))
+pub returns-then-turns_away : goal.returns-then-turns_away
+returns-then-turns_away g c =
+    let halted = sym c.turns_away.ensures.0 ∙ c.if-turns_away.true in
+    turned_away g.S.Archive.kept (LocksAt shared_rules c.args.ask) c.args.seat.now c.args.self.now halted (inl (halted, refl)) c.turns_away.ensures.1

@@ -1,7 +1,7 @@
-use Rattle.std.proofs.Common.{◌≡◌, Some, Err, refl, sym, subst}
+use Rattle.std.proofs.Common.{◌≡◌, Err, refl, sym, subst}
 use Rattle.access.specs.Points.{content_of}
 use Rattle.published.specs.Moments.{added}
-use Rattle.repo_api.specs.{Accepted.{Accepted, IfRefused}, Accepted.Accepted.ChangesProperty, RevisionProperties.property_refusal}
+use Rattle.repo_api.specs.{Accepted.{Accepted, IsJudged, refusal_of}, Accepted.Accepted.ChangesProperty, RevisionProperties.property_refusal}
 use Rattle.sharedrepo.specs.{Archives.IsMade, Standing.{Standing, now_of}}
 use Rattle.sharedrepo.proofs.Changing.{quiet_right, next_by, settled_by, refused, not_begun}
 use Rattle.sharedrepo.proofs.keeper.Keeper.make_property.Goals as goal
@@ -9,28 +9,28 @@ use Rattle.sharedrepo.proofs.keeper.Keeper.make_property.Goals as goal
 pub settle-requires-clause-next : goal.settle-requires-clause-next
 settle-requires-clause-next g c =
     let kept = g.S.Archive.kept in
-    let made = subst (λ (k : Standing g.row.S.Denot). IsMade (kept k.archive).content (ChangesProperty c.args.ask) (g.R.Repository.content c.in-Ok-property_changed.next)) c.self.view_is c.in-Ok-property_changed.ensures.made in
-    next_by kept c.args.self.now c.readiness.ensures.steady c.in-Ok.ensures.running (ChangesProperty c.args.ask) _ (g.R.Repository.content c.in-Ok-property_changed.next) made (λ i. ChangesProperty (c.of.ensures i)) (quiet_right _ (ChangesProperty c.args.ask) refl)
+    let made = subst (λ (k : Standing g.row.S.Denot). IsMade (kept k.archive).content (ChangesProperty c.args.ask) (g.R.Repository.content c.in-Ok-property_changed.next)) c.self.view_is c.in-Ok-property_changed.ensures.1.0 in
+    next_by kept c.args.self.now c.readiness.ensures.0 c.in-Ok.ensures.1.0 (ChangesProperty c.args.ask) _ (g.R.Repository.content c.in-Ok-property_changed.next) made (λ i. ChangesProperty (c.of.ensures i)) (quiet_right _ (ChangesProperty c.args.ask) refl)
 
 pub settle-requires-clause-writes : goal.settle-requires-clause-writes
 settle-requires-clause-writes g c =
     subst (λ (x : Accepted). g.S.Archive.writes c.args.self.now.archive c.in-Ok-property_changed.unsaved x) (sym (λ i. ChangesProperty (c.of.ensures i)))
-    (subst (λ (k : Standing g.row.S.Denot). g.S.Archive.writes k.archive c.in-Ok-property_changed.unsaved (ChangesProperty c.args.ask)) c.self.view_is c.in-Ok-property_changed.ensures.writes)
+    (subst (λ (k : Standing g.row.S.Denot). g.S.Archive.writes k.archive c.in-Ok-property_changed.unsaved (ChangesProperty c.args.ask)) c.self.view_is c.in-Ok-property_changed.ensures.1.1)
 
 pub returns-in-Ok-property_changed : goal.returns-in-Ok-property_changed
 returns-in-Ok-property_changed g c =
     let kept = g.S.Archive.kept in
-    let made = subst (λ (k : Standing g.row.S.Denot). IsMade (kept k.archive).content (ChangesProperty c.args.ask) (g.R.Repository.content c.in-Ok-property_changed.next)) c.self.view_is c.in-Ok-property_changed.ensures.made in
-    settled_by kept c.args.self.now c.readiness.ensures.steady c.in-Ok.ensures.running (now_of kept c.settle.new.self) (ChangesProperty c.args.ask) _ (g.R.Repository.content c.in-Ok-property_changed.next) (property_refusal (content_of (now_of kept c.args.self.now)) c.args.ask) c.settle.result made (λ i. ChangesProperty (c.of.ensures i)) refl (λ a. a) c.settle.ensures
+    let made = subst (λ (k : Standing g.row.S.Denot). IsMade (kept k.archive).content (ChangesProperty c.args.ask) (g.R.Repository.content c.in-Ok-property_changed.next)) c.self.view_is c.in-Ok-property_changed.ensures.1.0 in
+    settled_by kept c.args.self.now c.readiness.ensures.0 c.in-Ok.ensures.1.0 (now_of kept c.settle.new.self) (ChangesProperty c.args.ask) _ (g.R.Repository.content c.in-Ok-property_changed.next) (property_refusal (content_of (now_of kept c.args.self.now)) c.args.ask) c.settle.result made (λ i. ChangesProperty (c.of.ensures i)) refl (λ a. a) c.settle.ensures
 
 pub returns-in-Err : goal.returns-in-Err
 returns-in-Err g c =
     let p = now_of g.S.Archive.kept c.args.self.now in
-    not_begun g.S.Archive.kept c.args.self.now {T = Unit {0}} (property_refusal (content_of p) c.args.ask) (ChangesProperty c.args.ask) (λ q. ⊥) (λ (_ : Unit {0}) q. q ≡ added p (ChangesProperty c.args.ask)) c.in-Err.fault c.in-Err.ensures.err
+    not_begun g.S.Archive.kept c.args.self.now {T = Unit {0}} (property_refusal (content_of p) c.args.ask) (ChangesProperty c.args.ask) (λ q. ⊥) (λ (_ : Unit {0}) q. q ≡ added p (ChangesProperty c.args.ask)) c.in-Err.fault c.in-Err.ensures.1
 
 pub returns-in-Err-property_changed : goal.returns-in-Err-property_changed
 returns-in-Err-property_changed g c =
     let kept = g.S.Archive.kept in
     let p = now_of kept c.args.self.now in
-    refused kept c.args.self.now c.readiness.ensures.steady c.in-Ok.ensures.running (Unit {0}) {T = Unit {0}} (λ x. property_refusal x c.args.ask) (ChangesProperty c.args.ask) (λ q. ⊥) (λ (_ : Unit {0}) q. q ≡ added p (ChangesProperty c.args.ask)) c.in-Err-property_changed.fault
-    (subst (λ (k : Standing g.row.S.Denot). IfRefused {T = Unit {0}} (Err c.in-Err-property_changed.fault) (λ r. property_refusal (kept k.archive).content c.args.ask ≡ Some r)) c.self.view_is c.in-Err-property_changed.ensures.refused) c.in-Err-property_changed.ensures.memory
+    refused kept c.args.self.now c.readiness.ensures.0 c.in-Ok.ensures.1.0 (Unit {0}) {T = Unit {0}} (ChangesProperty c.args.ask) (λ q. ⊥) (λ (_ : Unit {0}) q. q ≡ added p (ChangesProperty c.args.ask)) c.in-Err-property_changed.fault
+    (subst (λ (k : Standing g.row.S.Denot). IsJudged {T = Unit {0}} (Err c.in-Err-property_changed.fault) (refusal_of (kept k.archive).content (ChangesProperty c.args.ask))) c.self.view_is c.in-Err-property_changed.ensures.0)

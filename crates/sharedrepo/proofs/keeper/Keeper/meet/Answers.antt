@@ -1,4 +1,4 @@
-use Rattle.std.proofs.Common.{◌≡◌, ◌≤◌, arith, true, false, true≢false, ap, sym, subst, ◌∙◌, Option}
+use Rattle.std.proofs.Common.{◌≡◌, arith, false, true≢false, ap, sym, subst, ◌∙◌, Option}
 use Rattle.access.specs.Points.{Point}
 use Rattle.repo_api.specs.Accepted.{Accepted}
 use Rattle.published.specs.{Events.point_of, Moments.GoesOn}

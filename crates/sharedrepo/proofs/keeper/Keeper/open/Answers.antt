@@ -1,6 +1,13 @@
-use Rattle.std.proofs.Common.{◌≡◌, ℕ, false, None, All, subst}
-use Rattle.published.specs.Events.{point_of}
+use Rattle.std.proofs.Common.{rules, ◌≡◌, ◌∷◌, [], ℕ, refl, subst}
+use Rattle.published.specs.{Events.Event.Opened, Events.{Event, point_of}}
+use Rattle.sharedrepo.specs.Standing.{HaveSeenOpening}
+use Rattle.std.specs.Prelude.{All, List, false, None}
 use Rattle.sharedrepo.proofs.keeper.Keeper.open.Goals as goal
 
-pub returns-clause-seats : goal.returns-clause-seats
-returns-clause-seats g c = subst (λ (n : ℕ). All (λ s. s ≡ point_of c.add.new.self false n None) c.in_ok-seats.seats.items) c.failures-failures.ensures c.in_ok-seats.ensures
+pub returns : goal.returns
+returns g c =
+    let list : c.add.new.self ≡ Opened (g.R.Repository.content c.args.repository) ∷ [] = search rules in
+    let seats : HaveSeenOpening (g.R.Repository.content c.args.repository) (g.S.Archive.kept c.args.archive).failures c.in_ok-seats.seats.items =
+    subst (λ (n : ℕ). HaveSeenOpening (g.R.Repository.content c.args.repository) n c.in_ok-seats.seats.items) c.failures-failures.ensures
+    (subst (λ (l : List Event). All (λ s. s ≡ point_of l false c.failures-failures.result None) c.in_ok-seats.seats.items) list c.in_ok-seats.ensures) in
+    (list, refl, search rules, seats)

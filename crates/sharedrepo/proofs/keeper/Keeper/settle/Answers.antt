@@ -1,48 +1,42 @@
-use Rattle.std.proofs.Common.{◌≡◌, ◌<◌, ◌∷◌, [], length, sym, ap, subst, ◌∙◌, List, Bool, false, Option, Some, Ok, Err}
-use Rattle.access.specs.Points.{Point}
-use Rattle.published.specs.{Events.{Event, state_of, point_of, accepted_by}, Events.Event.Makes}
+use Rattle.std.proofs.Common.{◌≡◌, ◌<◌, ◌∷◌, [], length, refl, sym, ap, subst, ◌∙◌, List, Bool, false, Ok, Err}
+use Rattle.published.specs.{Edition.Edition, Events.{Event, state_of, point_of, accepted_by}, Events.Event.Makes}
 use Rattle.published.proofs.Histories.{longer_yet, next_may, next_state, state_more}
-use Rattle.repo_api.specs.{Accepted.{Accepted, changed, IsAccepted}, States.RepoState}
-use Rattle.sharedrepo.specs.{Archives.{IsNext, FilesFor, Kept}, Settling.SettlesTo, Standing.{Standing, now_of, pending_in}}
-use Rattle.sharedrepo.proofs.Keeping.{files_after, not_saved, saved, files_now}
+use Rattle.repo_api.specs.{Accepted.{changed, IsAccepted}, States.RepoState}
+use Rattle.sharedrepo.specs.{Archives.{IsNext, FilesFor}, Settling.SettlesTo, Standing.{Standing, now_of, pending_in}}
+use Rattle.sharedrepo.proofs.Keeping.{files_after, files_now, not_saved, pending_told, saved}
 use Rattle.sharedrepo.proofs.keeper.Keeper.settle.Goals as goal
 
-pub save_next-requires-clause-writes : goal.save_next-requires-clause-writes
-save_next-requires-clause-writes g c =
-    let e = accepted_by g.R.Repository.txn_state c.args.asked in
-    (e, subst (λ (k : Standing g.row.S.Denot). g.S.Archive.writes k.archive c.args.unsaved e) (sym c.self.view_is) c.requires.writes)
+pub save_next-requires : goal.save_next-requires
+save_next-requires g c =
+    let e = accepted_by g.R.Repository.txn_state c.args.asked in (
+      ap (λ (k : Standing g.row.S.Denot). (g.S.Archive.kept k.archive).halted) c.self.view_is ∙ c.requires.ready.0,
+      (e, subst (λ (k : Standing g.row.S.Denot). g.S.Archive.writes k.archive c.args.unsaved e) (sym c.self.view_is) c.requires.writes),
+    )
 
 pub next_front-front-requires-clause-may : goal.next_front-front-requires-clause-may
 next_front-front-requires-clause-may g c =
     let e = accepted_by g.R.Repository.txn_state c.args.asked in
     let next = subst (λ (k : Standing g.row.S.Denot). IsNext k.content e (g.R.Repository.content c.args.next)) (sym c.self.view_is) c.requires.next in
-    next_may c.self.inside.front e (g.R.Repository.content c.self.inside.repository) (g.R.Repository.content c.args.next) c.self.invariant.begun c.self.invariant.content next.right
+    (next_may c.self.inside.front e (g.R.Repository.content c.self.inside.repository) (g.R.Repository.content c.args.next) c.self.invariant.begun c.self.invariant.content next.right, refl)
 
-pub fill-requires-clause-first : goal.fill-requires-clause-first
-fill-requires-clause-first g c =
+pub fill-requires : goal.fill-requires
+fill-requires g c =
     let e = accepted_by g.R.Repository.txn_state c.args.asked in
     let next = subst (λ (k : Standing g.row.S.Denot). IsNext k.content e (g.R.Repository.content c.args.next)) (sym c.self.view_is) c.requires.next in
-    c.in-Ok.ensures.ready.0
-    ∙ (next_state c.self.inside.front e (g.R.Repository.content c.self.inside.repository) (g.R.Repository.content c.args.next) c.self.invariant.begun c.self.invariant.content next.made
-    ∙ ap (λ (l : List Event). state_of l) (sym c.next_front-front.ensures.next))
-
-pub fill-requires-clause-second : goal.fill-requires-clause-second
-fill-requires-clause-second g c =
-    let e = accepted_by g.R.Repository.txn_state c.args.asked in
-    let next = subst (λ (k : Standing g.row.S.Denot). IsNext k.content e (g.R.Repository.content c.args.next)) (sym c.self.view_is) c.requires.next in
-    c.in-Ok.ensures.ready.1
-    ∙ (next_state c.self.inside.front e (g.R.Repository.content c.self.inside.repository) (g.R.Repository.content c.args.next) c.self.invariant.begun c.self.invariant.content next.made
-    ∙ ap (λ (l : List Event). state_of l) (sym c.next_front-front.ensures.next))
+    let there : g.R.Repository.content c.args.next ≡ state_of c.next_front-front.result =
+    next_state c.self.inside.front e (g.R.Repository.content c.self.inside.repository) (g.R.Repository.content c.args.next) c.self.invariant.begun c.self.invariant.content next.made
+    ∙ ap (λ (l : List Event). state_of l) (sym c.next_front-front.ensures.0) in
+    (c.in-Ok.ensures.ready.0 ∙ there, c.in-Ok.ensures.ready.1 ∙ there)
 
 pub invariant_of-self-in-Ok : goal.invariant_of-self-in-Ok
 invariant_of-self-in-Ok g c =
     let kept = g.S.Archive.kept in
     let e = accepted_by g.R.Repository.txn_state c.args.asked in
     let front = c.next_front-front.result in
-    let more = c.next_front-front.ensures.next in
+    let more = c.next_front-front.ensures.0 in
     let next = subst (λ (k : Standing g.row.S.Denot). IsNext k.content e (g.R.Repository.content c.args.next)) (sym c.self.view_is) c.requires.next in
     let writes = subst (λ (k : Standing g.row.S.Denot). g.S.Archive.writes k.archive c.args.unsaved e) (sym c.self.view_is) c.requires.writes in
-    let running : (kept c.self.inside.archive).halted ≡ false = ap (λ (k : Standing g.row.S.Denot). (kept k.archive).halted) c.self.view_is ∙ c.requires.running in
+    let running : (kept c.self.inside.archive).halted ≡ false = ap (λ (k : Standing g.row.S.Denot). (kept k.archive).halted) c.self.view_is ∙ c.requires.ready.0 in
     let left = c.in-Ok.ensures.saved e writes in
     let stood : (kept c.self.inside.archive).content ≡ state_of c.self.inside.front = files_now kept _ c.self.invariant running in
     let content : g.R.Repository.content c.args.next ≡ state_of front =
@@ -53,10 +47,10 @@ invariant_of-self-in-Ok g c =
     ∙ (sym (state_more c.self.inside.front e c.self.invariant.begun) ∙ ap (λ (l : List Event). state_of l) (sym more))) in
     record {
       begun = subst (λ (l : List Event). 0 < length l) (sym more) (longer_yet c.self.inside.front (Makes e ∷ []) c.self.invariant.begun);
-      history = c.next_front-front.ensures.history;
+      history = c.next_front-front.ensures.1;
       content = content;
-      shown = c.publish.ensures.0;
-      shown_content = c.publish.ensures.1 ∙ sym content;
+      shown = ap (λ (x : Edition). x.list) c.publish.ensures;
+      shown_content = ap (λ (x : Edition). x.content) c.publish.ensures ∙ sym content;
       files = subst (λ (b : Bool). FilesFor (kept c.save_next.new.archive) b (pending_in g.R.Repository.txn_state c.self.inside.pending) front) (sym (left.1 ∙ running)) files;
     }
 
@@ -67,7 +61,7 @@ returns-in-Ok g c =
     let writes = subst (λ (k : Standing g.row.S.Denot). g.S.Archive.writes k.archive c.args.unsaved e) (sym c.self.view_is) c.requires.writes in
     let left = c.in-Ok.ensures.saved e writes in
     subst (λ (k : Standing g.row.S.Denot). SettlesTo e (now_of kept k) (Ok tt) (point_of c.next_front-front.result (kept c.save_next.new.archive).halted (kept c.save_next.new.archive).failures (pending_in g.R.Repository.txn_state c.self.inside.pending))) c.self.view_is
-    (saved c.self.inside.front c.next_front-front.result e (kept c.self.inside.archive) (kept c.save_next.new.archive) (pending_in g.R.Repository.txn_state c.self.inside.pending) c.self.invariant.begun c.next_front-front.ensures.next left.1 left.2)
+    (saved c.self.inside.front c.next_front-front.result e (kept c.self.inside.archive) (kept c.save_next.new.archive) (pending_in g.R.Repository.txn_state c.self.inside.pending) c.self.invariant.begun c.next_front-front.ensures.0 left.1 left.2)
 
 pub invariant_of-self : goal.invariant_of-self
 invariant_of-self g c =
@@ -76,16 +70,16 @@ invariant_of-self g c =
     let steady = c.self.invariant in
     let next = subst (λ (k : Standing g.row.S.Denot). IsNext k.content e (g.R.Repository.content c.args.next)) (sym c.self.view_is) c.requires.next in
     let writes = subst (λ (k : Standing g.row.S.Denot). g.S.Archive.writes k.archive c.args.unsaved e) (sym c.self.view_is) c.requires.writes in
-    let running : (kept c.self.inside.archive).halted ≡ false = ap (λ (k : Standing g.row.S.Denot). (kept k.archive).halted) c.self.view_is ∙ c.requires.running in
+    let running : (kept c.self.inside.archive).halted ≡ false = ap (λ (k : Standing g.row.S.Denot). (kept k.archive).halted) c.self.view_is ∙ c.requires.ready.0 in
     record {
       begun = steady.begun;
       history = steady.history;
       content = steady.content;
       shown = ap (λ d. (g.T.Carries.carried_value d.shown.value).list) c.save_next.ensures.desk ∙ steady.shown;
       shown_content = ap (λ d. (g.T.Carries.carried_value d.shown.value).content) c.save_next.ensures.desk ∙ steady.shown_content;
-      files = files_after e c.in-Err.fault (kept c.self.inside.archive) (kept c.save_next.new.archive) (pending_in g.R.Repository.txn_state c.keep_pending.new.pending) c.self.inside.front running
+      files = files_after e c.in-Err.fault (kept c.self.inside.archive) (kept c.save_next.new.archive) (pending_in g.R.Repository.txn_state c.self.inside.pending) (pending_in g.R.Repository.txn_state c.keep_pending.new.pending) c.self.inside.front running
           (files_now kept _ steady running) (subst (λ (x : RepoState). IsAccepted x e) steady.content next.right.accepted)
-          (λ h. ap (pending_in g.R.Repository.txn_state) (c.keep_pending.ensures.halted h)) (c.in-Err.ensures.fault e writes);
+          (ap (pending_in g.R.Repository.txn_state) c.keep_pending.ensures ∙ pending_told g.R.Repository.txn_state c.in-Err.fault c.args.asked c.self.inside.pending) (c.in-Err.ensures.saved e writes);
     }
 
 pub returns-in-Err : goal.returns-in-Err
@@ -95,4 +89,4 @@ returns-in-Err g c =
     let writes = subst (λ (k : Standing g.row.S.Denot). g.S.Archive.writes k.archive c.args.unsaved e) (sym c.self.view_is) c.requires.writes in
     subst (λ (k : Standing g.row.S.Denot). SettlesTo e (now_of kept k) (Err c.in-Err.fault) (point_of c.self.inside.front (kept c.save_next.new.archive).halted (kept c.save_next.new.archive).failures (pending_in g.R.Repository.txn_state c.keep_pending.new.pending))) c.self.view_is
     (not_saved e c.in-Err.fault c.self.inside.front (kept c.self.inside.archive) (kept c.save_next.new.archive) (pending_in g.R.Repository.txn_state c.self.inside.pending) (pending_in g.R.Repository.txn_state c.keep_pending.new.pending)
-    (λ h. ap (pending_in g.R.Repository.txn_state) (c.keep_pending.ensures.halted h)) (λ n. ap (pending_in g.R.Repository.txn_state) (c.keep_pending.ensures.other n)) (c.in-Err.ensures.fault e writes))
+    (ap (pending_in g.R.Repository.txn_state) c.keep_pending.ensures ∙ pending_told g.R.Repository.txn_state c.in-Err.fault c.args.asked c.self.inside.pending) (c.in-Err.ensures.saved e writes))

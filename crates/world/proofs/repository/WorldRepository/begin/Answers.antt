@@ -20,12 +20,12 @@ invariant_of-result c =
     ≡ begun (trees_of h.nodes (youngest (held_state h))) q =
     subst (λ (x : Held). (q : PathValue) → txn_tree x.nodes tree q
     ≡ begun (trees_of x.nodes (youngest (held_state x))) q)
-    c.deref.ensures c.in_ok-tree.ensures.tree in
+    c.deref.ensures c.in_ok-tree.ensures.0 in
     let stands : IsSound (node_at h.nodes) (root_at h.nodes base) tree =
     subst (λ n. IsSound (node_at h.nodes) (root_at h.nodes n) tree) (sym last)
     (subst (λ (x : Held). IsSound (node_at x.nodes)
     (root_at x.nodes (youngest (held_state x))) tree)
-    c.deref.ensures c.in_ok-tree.ensures.sound) in
+    c.deref.ensures c.in_ok-tree.ensures.1) in
     record {
       within = subst (λ (x : Held). base < length (revisions_of x))
           (c.deref-2.ensures ∙ sym e) c.youngest.ensures.within;
@@ -49,7 +49,7 @@ returns c =
     ≡ begun (trees_of h.nodes (youngest (held_state h))) q =
     subst (λ (x : Held). (q : PathValue) → txn_tree x.nodes tree q
     ≡ begun (trees_of x.nodes (youngest (held_state x))) q)
-    c.deref.ensures c.in_ok-tree.ensures.tree in
+    c.deref.ensures c.in_ok-tree.ensures.0 in
     begun_txn h base tree c.new.result last is c.new.ensures c.args.self.now.locks.value
     (record {
       shown = c.in_ok-try_clone.field-0;

@@ -7,5 +7,5 @@ pub invariant_of-self : goal.invariant_of-self
 invariant_of-self c = record {
   sound = ∥∥₁_map c.args.self.now.sound (λ s.
       same_revisions (held_state c.args.self.now.held.value) (held_state c.in_ok-self.field-0.value)
-      (ap (λ r. r.revisions) c.in_ok-self.ensures.ok ∙ ap revisions_of c.deref-2.ensures) s);
+      (ap (λ r. r.revisions) c.in_ok-self.ensures.1 ∙ ap revisions_of c.deref-2.ensures) s);
 }

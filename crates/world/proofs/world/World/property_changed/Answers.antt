@@ -7,5 +7,5 @@ pub invariant_of-result : goal.invariant_of-result
 invariant_of-result c = record {
   sound = ∥∥₁_map c.args.self.now.sound (λ s.
       same_revisions (held_state c.args.self.now.held.value) (held_state c.in_ok-held.held.value)
-      (ap (λ r. r.revisions) c.in_ok-held.ensures.ok ∙ ap revisions_of c.deref-2.ensures) s);
+      (ap (λ r. r.revisions) c.in_ok-held.ensures.1 ∙ ap revisions_of c.deref-2.ensures) s);
 }
