@@ -1,9 +1,7 @@
-use Rattle.std.proofs.Common.{◌∙◌, ap, refl, subst, sym, Bool}
-use Rattle.repo_api.specs.States.{RepoState}
-use Rattle.store_access.specs.Keeping.{LeavesEither}
-use Rattle.store_access.proofs.Stops.{kept_next, kept_still, saves_either}
+use Rattle.std.proofs.Common.{◌∙◌, ap, refl, sym, Bool}
+use Rattle.store_access.proofs.Stops.{kept_next, kept_still}
 use Rattle.filed_archive.specs.Writing.{told_as, written}
-use Rattle.filed_archive.proofs.Leaving.{save_done, save_failed}
+use Rattle.filed_archive.proofs.Leaving.{save_done, save_failed, stop_leaves}
 use Rattle.filed_archive.proofs.filed_archive.FiledArchive.save_change.Goals as goal
 
 pub invariant_of-self : goal.invariant_of-self
@@ -33,31 +31,19 @@ invariant_of-self-in-Err-1 g c =
 pub returns-in-Ok : goal.returns-in-Ok
 returns-in-Ok g c = λ e writes.
     let s = g.S.Store in
-    let f = g.F.Filed in
     let old = c.args.self.now in
     let ends = c.in-Ok.ensures.1 in (
       save_done s e (g.F.Repository.content old.repository) old.saves c.save_files.new.saves c.requires.0 (g.F.Repository.content c.args.unsaved.next) writes.next ends,
-      λ honest.
-          subst (λ (x : RepoState). ∥ LeavesEither g.F.Repository.content f.is_of s old.saves.store c.save_files.new.saves.store (g.F.Repository.content old.repository) x ∥₁) writes.next
-          (saves_either s g.F.Repository.content f.is_of
-          old.saves c.save_files.new.saves old.repository c.args.unsaved.next (λ files. written c.args.unsaved.files files)
-          old.kept c.requires.0 (λ files of. (writes.leads files of).0)
-          (λ files of saved. (c.save_files.ensures.0 files saved (writes.leads files of).1).stop) honest),
+      stop_leaves old c.args.unsaved e c.save_files.result c.save_files.new.saves c.requires.0 writes c.save_files.ensures,
     )
 
 pub returns-in-Err : goal.returns-in-Err
 returns-in-Err g c = λ e writes.
     let s = g.S.Store in
-    let f = g.F.Filed in
     let old = c.args.self.now in
     let ends = c.in-Err.ensures.1 in (
       save_failed s e (g.F.Repository.content old.repository) old.saves c.save_files.new.saves c.requires.0 c.in-Err.fault c.told.result ends
           (c.told.ensures ∙ ap (λ (b : Bool). told_as b c.in-Err.fault) c.is_halted.ensures)
           (λ by goes. sym writes.kind ∙ c.in-Err.ensures.2 by goes),
-      λ honest.
-          subst (λ (x : RepoState). ∥ LeavesEither g.F.Repository.content f.is_of s old.saves.store c.save_files.new.saves.store (g.F.Repository.content old.repository) x ∥₁) writes.next
-          (saves_either s g.F.Repository.content f.is_of
-          old.saves c.save_files.new.saves old.repository c.args.unsaved.next (λ files. written c.args.unsaved.files files)
-          old.kept c.requires.0 (λ files of. (writes.leads files of).0)
-          (λ files of saved. (c.save_files.ensures.0 files saved (writes.leads files of).1).stop) honest),
+      stop_leaves old c.args.unsaved e c.save_files.result c.save_files.new.saves c.requires.0 writes c.save_files.ensures,
     )
