@@ -1,17 +1,16 @@
 -- What a merge makes of a node and its entries.
-use Rattle.std.proofs.Common.{◌≡◌, ◌==◌, ℕ, Bool, true, false, cond, ◌&&◌, ◌||◌, List, [], ◌∷◌, Option, Some, None, option_map, refl, sym, ap, subst, ◌∙◌}
+use Rattle.std.proofs.Common.{◌≡◌, ◌==◌, ℕ, Bool, true, false, ◌&&◌, ◌||◌, List, [], ◌∷◌, Option, Some, None, option_map, refl, sym, ap, subst, ◌∙◌}
 use Rattle.std.proofs.{Common.{arith, rules, option_and_then}, lemmas.Bool.false≢true}
-use Rattle.std.specs.{Prelude.{IsSome, is_some, not, if◌then◌else◌}, BTreeMap.BTreeMap, Cmp.Lexicographic.slice_cmp, Ordering.nat_cmp}
-use Rattle.std.specs.{List.Sorted.IsStrictlySortedBy, Map.keys_of}
-use Rattle.svnpath.specs.{PathLaws.{same_component_is, same_path_refl}, Paths.{Component, PathValue, same_component, same_path}}
+use Rattle.std.specs.{Prelude.{is_some, not, if◌then◌else◌}, BTreeMap.BTreeMap}
+use Rattle.svnpath.specs.{PathLaws.same_path_refl, Paths.{Component, PathValue, same_path}}
 use Rattle.repo_api.specs.{Edits.touched, Merge.{has_open_last, is_changed, is_in_conflict, is_one_directory, is_untouched}}
 use Rattle.repo_api.specs.{Trees.{is_directory, is_open_mark, same_mark, Tree}, declared.entry.Entry.Entry, declared.entry.Mark.Mark}
 use Rattle.repo_api.specs.declared.entry.Mark.TheVariants.{Open, Made}
 use Rattle.noderevs.specs.{Nodes.{kid_at, Look}, Views.shared_entry, declared.node_rev.NodeId.NodeId, declared.node_rev.NodeRev.NodeRev}
-use Rattle.txntree.specs.{Sealing.first_of, Spots.{change_spot, changed_at, entry, find, flat, open_entry, over, shared_spot, Spot}, Spots.Spot.Opened}
+use Rattle.txntree.specs.{Changes.{first_of, IsWalking}, Spots.{change_spot, changed_at, entry, find, flat, open_entry, over, shared_spot, Spot}, Spots.Spot.Opened}
 use Rattle.txntree.specs.{Walks.beneath, declared.open.OpenNode.OpenNode, declared.open.Change.Change}
-use Rattle.treemerge.specs.Merges.{merged_open, IsTold, spot_tree, IsMergeOf, IsWalking, IsCopied, IsMerged, is_one}
-use Rattle.txntree.proofs.Seals.{nothing, sorted_rest, first_here, first_gone}
+use Rattle.treemerge.specs.Merges.{merged_open, IsTold, spot_tree, IsMergeOf, IsCopied, IsMerged, is_one}
+use Rattle.txntree.proofs.Seals.{nothing}
 
 same_number : (n : ℕ) → (n == n) ≡ true
 same_number n = search (rules, arith)
@@ -102,44 +101,6 @@ top x s z one last = (
     left = ap (λ b. b && (same_mark x.last s.last || is_open_mark s.last)) (own_of (is_directory x && is_directory s && is_directory z) (same_mark x.own s.own) (same_mark x.own z.own) one)
         ∙ ap (λ m. same_mark x.last m || is_open_mark m) last ∙ or_true (same_mark x.last Open)
 
--- the walk over the changes
-pub walk_begins : (self : OpenNode) (left : List (Component × Change)) (kept : BTreeMap Component Change) (P : Component → Option Change → Type 0)
-    → IsStrictlySortedBy (slice_cmp nat_cmp) (keys_of left) → ((n : Component) → first_of left n ≡ changed_at self.changed n) → ((n : Component) → changed_at kept n ≡ None)
-    → ((n : Component) → changed_at self.changed n ≡ None → P n None) → IsWalking self left kept P
-walk_begins self left kept P sorted all none others = record {
-  sorted = sorted;
-  among = λ n c is. sym (all n) ∙ is;
-  todo = λ n some. none n;
-  done = λ n is. subst (P n) (sym (none n)) (others n (sym (all n) ∙ is));
-}
-
-pub walk_goes_on : (self : OpenNode) (name : Component) (change : Change) (left : List (Component × Change)) (kept next : BTreeMap Component Change) (o : Option Change) (P : Component → Option Change → Type 0)
-    → IsWalking self ((name, change) ∷ left) kept P
-    → ((n : Component) → changed_at next n ≡ cond (same_component name n) o (changed_at kept n))
-    → P name o → IsWalking self left next P
-walk_goes_on self name change left kept next o P so put here = record {
-  sorted = sorted_rest (name, change) left so.sorted;
-  among = λ n c is. so.among n c (rest n c is (same_component name n) refl);
-  todo = λ n some. put n ∙ waits n some (same_component name n) refl;
-  done = λ n is. subst (P n) (sym (put n)) (finished n is (same_component name n) refl);
-}
-  where
-    gone : (n : Component) → first_of left n ≡ cond (same_component name n) None (first_of ((name, change) ∷ left) n)
-    gone = first_gone name change left so.sorted
-
-    rest : (n : Component) (c : Change) → first_of left n ≡ Some c → (b : Bool) → same_component name n ≡ b → first_of ((name, change) ∷ left) n ≡ Some c
-    rest n c is true same = cc (is, gone n, ap (λ b. cond b None (first_of ((name, change) ∷ left) n)) same)
-    rest n c is false apart = sym (gone n ∙ ap (λ b. cond b None (first_of ((name, change) ∷ left) n)) apart) ∙ is
-
-    waits : (n : Component) → IsSome (first_of left n) → (b : Bool) → same_component name n ≡ b → cond (same_component name n) o (changed_at kept n) ≡ None
-    waits n some true same = absurd (false≢true (subst (λ x. IsSome x) (gone n ∙ ap (λ b. cond b None (first_of ((name, change) ∷ left) n)) same) some))
-    waits n some false apart = ap (λ b. cond b o (changed_at kept n)) apart ∙ so.todo n (subst (λ x. IsSome x) (gone n ∙ ap (λ b. cond b None (first_of ((name, change) ∷ left) n)) apart) some)
-
-    finished : (n : Component) → first_of left n ≡ None → (b : Bool) → same_component name n ≡ b → P n (cond (same_component name n) o (changed_at kept n))
-    finished n is true same = subst (λ b. P n (cond b o (changed_at kept n))) (sym same) (subst (λ k. P k o) (same_component_is name n same) here)
-    finished n is false apart = subst (λ b. P n (cond b o (changed_at kept n))) (sym apart)
-        (so.done n (sym (gone n ∙ ap (λ b. cond b None (first_of ((name, change) ∷ left) n)) apart) ∙ is))
-
 copied_same : (look : Look) (self new : OpenNode) (m : BTreeMap Component Change) → open_entry new ≡ open_entry self → new.base ≡ self.base → new.changed ≡ m
     → ((n : Component) → IsCopied self n (changed_at m n)) → (q : PathValue) → flat look (Opened new) q ≡ flat look (Opened self) q
 copied_same look self new m same base map copies [] = ap Some same
@@ -216,12 +177,3 @@ pub nowhere_before : (look : Look) (base young : Option NodeId) (s : Tree) → f
 nowhere_before look None young s none empty =
     subst (λ x. IsMergeOf look (shared_spot young) (spot_tree look None) x (spot_tree look young)) (λ i q. (nothing look q ∙ sym (empty q)) i) (untouched look None young)
 nowhere_before look (Some id) young s none empty = absurd (false≢true none)
-
--- a change of which nothing is kept
-pub walk_passes : (self : OpenNode) (name : Component) (change : Change) (left : List (Component × Change)) (kept : BTreeMap Component Change) (P : Component → Option Change → Type 0)
-    → IsWalking self ((name, change) ∷ left) kept P → P name None → IsWalking self left kept P
-walk_passes self name change left kept P so here = walk_goes_on self name change left kept kept None P so (λ n. by n (same_component name n) refl) here
-  where
-    by : (n : Component) (b : Bool) → same_component name n ≡ b → changed_at kept n ≡ cond b None (changed_at kept n)
-    by n true same = ap (changed_at kept) (sym (same_component_is name n same)) ∙ so.todo name (subst (λ o. IsSome o) (first_here name change left) refl)
-    by n false apart = refl

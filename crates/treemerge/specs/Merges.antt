@@ -1,9 +1,9 @@
 -- The merge of a transaction's tree into the youngest, path by path. Marks stay open; the seal fills them.
-use Rattle.std.specs.Prelude.{◌≡◌, Bool, true, false, ◌&&◌, Option, Some, None, option_map, if◌then◌else◌, List, ◌++◌, IsSome, Result, Ok, Err, option_and_then}
-use Rattle.std.specs.{Arc.arc_value, BTreeMap.BTreeMap, Cmp.Lexicographic.slice_cmp, Ordering.nat_cmp, List.Sorted.IsStrictlySortedBy, Map.keys_of}
+use Rattle.std.specs.Prelude.{◌≡◌, Bool, true, false, ◌&&◌, Option, Some, option_map, if◌then◌else◌, ◌++◌, Result, Ok, Err, option_and_then}
+use Rattle.std.specs.Arc.{arc_value}
 use Rattle.svnpath.specs.Paths.{Component, PathValue}
 use Rattle.noderevs.specs.{Nodes.{IsThere, kid_at, Look, mark_of}, declared.node_rev.NodeId.NodeId, declared.node_rev.NodeRev.NodeRev}
-use Rattle.txntree.specs.{Bases.{IsBased, IsFit}, Sealing.first_of, Spots.{changed_at, flat, over, shared_spot, Spot}, Spots.Spot.Opened, Walks.beneath}
+use Rattle.txntree.specs.{Bases.{IsBased, IsFit}, Spots.{changed_at, flat, over, shared_spot, Spot}, Spots.Spot.Opened, Walks.beneath}
 use Rattle.txntree.specs.{declared.open.OpenNode.OpenNode, declared.open.Change.Change}
 use Rattle.treemerge.specs.{declared.merging.Places.Places, declared.merging.MergeFault.MergeFault}
 use Rattle.treemerge.specs.declared.merging.MergeFault.TheVariants.{Conflict, NoMemory}
@@ -27,14 +27,6 @@ abbrev pub IsMergeOf : Look → Spot → Tree → Tree → Tree → Type 0
 IsMergeOf look spot a s t =
     (q : PathValue)
     → (flat look spot q ≡ merged_open (a q) (s q) (t q)) × (is_in_conflict (a q) (s q) (t q) ≡ false)
-
--- changes from the first on: those that are left, and what was made of the others
-pub record IsWalking (self : OpenNode) (left : List (Component × Change))
-    (kept : BTreeMap Component Change) (P : Component → Option Change → Type 0) : Type 0 where
-  pub sorted : IsStrictlySortedBy (slice_cmp nat_cmp) (keys_of left)
-  pub among : (n : Component) (c : Change) → first_of left n ≡ Some c → changed_at self.changed n ≡ Some c
-  pub todo : (n : Component) → IsSome (first_of left n) → changed_at kept n ≡ None
-  pub done : (n : Component) → first_of left n ≡ None → P n (changed_at kept n)
 
 -- the same node to whoever looks
 abbrev pub IsCopied : OpenNode → Component → Option Change → Type 0

@@ -7,12 +7,12 @@ use Rattle.svnpath.specs.Paths.{Component, PathValue}
 use Rattle.noderevs.specs.{Held.{node_at, root_at, trees_of}, Nodes.{IsThere, kid_at, kid_of, Look}, Soundness.{AreApart, AreKidsThere}}
 use Rattle.noderevs.specs.{Views.{entry_at, find_id, shared_entry, shared_tree}, declared.node_rev.NodeId.NodeId, declared.node_rev.NodeRev.NodeRev}
 use Rattle.noderevs.specs.declared.nodes.Nodes.{Nodes}
-use Rattle.txntree.specs.{Bases.{IsBased, Stands}, Sealing.first_of}
+use Rattle.txntree.specs.{Bases.{IsBased, Stands}, Changes.{first_of, IsWalking}}
 use Rattle.txntree.specs.{Spots.{change_spot, changed_at, entry, find, flat, open_entry, over, shared_spot, Spot, step}, Spots.Spot.{Nothing, Opened, Shared}}
 use Rattle.txntree.specs.{declared.open.Change.Change, declared.open.OpenNode.OpenNode, declared.open.Change.TheVariants.{Gone, Is}}
 use Rattle.txntree.proofs.{Bases.{shared_based, nothing_based}, Blocks.closed_is, Walking.{gone_spot, is_spot, nothing_there}}
 use Rattle.txntree.proofs.Sharing.{shared_flat, find_append}
-use Rattle.txnmove.specs.Moves.{HaveTwins, twin, IsTwin, IsMoved, IsMadeOf, IsWalking, IsMovedAt}
+use Rattle.txnmove.specs.Moves.{HaveTwins, twin, IsTwin, IsMoved, IsMadeOf, IsMovedAt}
 
 lost : (look : Look) (p : PathValue) → find_id look p None ≡ None
 lost look [] = refl

@@ -1,10 +1,9 @@
 -- A transaction's tree over other nodes.
-use Rattle.std.specs.{Prelude.{◌≡◌, List, Option, Some, None, IsSome, IfSome, option_and_then}, BTreeMap.BTreeMap, Cmp.Lexicographic.slice_cmp}
-use Rattle.std.specs.{List.Sorted.IsStrictlySortedBy, Map.keys_of, Ordering.nat_cmp}
+use Rattle.std.specs.Prelude.{◌≡◌, Option, Some, None, IsSome, IfSome, option_and_then}
 use Rattle.svnpath.specs.Paths.{Component, PathValue}
 use Rattle.noderevs.specs.{Held.{node_at, root_at, trees_of}, Nodes.{IsThere, kid_at}, Views.{find_id, shared_tree}, declared.node_rev.NodeId.NodeId}
 use Rattle.noderevs.specs.{declared.node_rev.NodeRev.NodeRev, declared.nodes.Nodes.Nodes}
-use Rattle.txntree.specs.{Bases.IsBased, Sealing.first_of, Spots.{changed_at, flat, over, shared_spot, Spot, step}, Spots.Spot.Opened}
+use Rattle.txntree.specs.{Bases.IsBased, Spots.{flat, over, shared_spot, Spot, step}, Spots.Spot.Opened}
 use Rattle.txntree.specs.{declared.open.Change.Change, declared.open.OpenNode.OpenNode}
 
 -- each node stands at its path in the tree of its revision, and other nodes show that tree too
@@ -35,14 +34,6 @@ abbrev pub IsMadeOf : Nodes → Nodes → Spot → Spot → Type 0
 IsMadeOf from to old new =
     (n : OpenNode) → new ≡ Opened n
     → (m : OpenNode) × (old ≡ Opened m) × (n.own ≡ m.own) × (n.base ≡ twin from to m.base)
-
--- changes from the first on: those that are left, and what was made of the others
-pub record IsWalking (self : OpenNode) (left : List (Component × Change)) (kept : BTreeMap Component Change)
-    (P : Component → Option Change → Type 0) : Type 0 where
-  pub sorted : IsStrictlySortedBy (slice_cmp nat_cmp) (keys_of left)
-  pub among : (n : Component) (c : Change) → first_of left n ≡ Some c → changed_at self.changed n ≡ Some c
-  pub todo : (n : Component) → IsSome (first_of left n) → changed_at kept n ≡ None
-  pub done : (n : Component) → first_of left n ≡ None → P n (changed_at kept n)
 
 -- what stands beneath a name of a node, and what is made of it over a base among the other nodes
 pub record IsMovedAt (from to : Nodes) (self : OpenNode) (base : Option NodeId) (name : Component)

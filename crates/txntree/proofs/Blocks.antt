@@ -59,7 +59,7 @@ own_path look rev block root top before tree k node q there reach = by (flat loo
 
 pub block_of : (look : Look) (rev : ℕ) (block : List NodeRev) (root : NodeId) (top : Spot) → IsBefore look rev
     → ((q : PathValue) → flat (with_block look rev block) (Shared root) q ≡ sealed_at rev [] (flat look top) q)
-    → AreUnder (with_block look rev block) rev 0 (length block) root → IsBlockOf look rev block root
+    → AreUnder (with_block look rev block) rev 0 (length block) (Some root) → IsBlockOf look rev block root
 block_of look rev block root top before tree under = record {
   each = λ q e is last. seen q e last (find (with_block look rev block) q (Shared root)) is;
   other = λ k node is.
@@ -77,7 +77,7 @@ block_of look rev block root top before tree under = record {
     zero_first : (k : ℕ) → 0 ≤ k
     zero_first k = omega arith
 
-    reached : (k : ℕ) (node : NodeRev) → slice_get block k ≡ Some node → IsUnder w root (placed rev k)
+    reached : (k : ℕ) (node : NodeRev) → slice_get block k ≡ Some node → IsUnder w (Some root) (placed rev k)
     reached k node is = under k (zero_first k) (slice_get_within block k node is)
 
     path : (k : ℕ) (node : NodeRev) (is : slice_get block k ≡ Some node) → node.path ≡ (reached k node is).0

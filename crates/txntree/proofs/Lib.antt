@@ -2,6 +2,7 @@ pub mod Names
 pub mod Walking
 pub mod Grafts
 pub mod Bases
+pub mod Changes
 pub mod Seals
 pub mod Entries
 pub mod High

@@ -3,16 +3,14 @@ use Rattle.std.proofs.Common.{◌≡◌, ◌==◌, ℕ, ◌<◌, ◌≤◌, Bool
 use Rattle.std.proofs.Common.{subst, ◌∙◌, arith, option_and_then, length-append, ◌⊎◌, inl, inr, rules, ◌≢◌, ⊎_elim}
 use Rattle.std.proofs.{lemmas.Bool.{false≢true, cases_eq, cases_lt}, lemmas.List.{append-nil, get_or_append_left}}
 use Rattle.std.proofs.{lemmas.Option.{slice_get_within, slice_get_past, slice_get-get_or, get_or_from_slice_get}, Math.Seq.get_or-append_seam}
-use Rattle.std.specs.{Prelude.{Result, Ok, Err, OnOk, OnErr, IfOk, IsSome, IfSome, if◌then◌else◌, slice_get}, BTreeMap.is_at, Cmp.Lexicographic.slice_cmp}
-use Rattle.std.specs.{Ordering.{nat_cmp, is_eq}, declared.cmp.Ordering.TheVariants.Less, List.AllByRecursion, List.Sorted.IsStrictlySortedBy, Map.keys_of}
+use Rattle.std.specs.Prelude.{Result, Ok, Err, OnOk, OnErr, IfOk, IsSome, IfSome, if◌then◌else◌, slice_get}
 use Rattle.svnpath.specs.{PathLaws.{same_component_is, same_component_refl}, Paths.{Component, PathValue, same_component}}
 use Rattle.repo_api.specs.Merge.{sealed}
 use Rattle.noderevs.specs.{Nodes.{Grows, IsBefore, IsClosed, IsThere, kid_at, kid_named, kid_of, Kids, Look, with_block}, Views.shared_entry}
 use Rattle.noderevs.specs.{declared.node_rev.NodeId.NodeId, declared.node_rev.NodeRev.NodeRev}
 use Rattle.txntree.specs.{Spots.{Spot, changed_at, change_spot, shared_spot, over, step, find, flat, open_entry}, Spots.Spot.{Nothing, Shared, Opened}}
-use Rattle.txntree.specs.Sealing.{sealed_at, placed, IsUnder, IsUnderOne, AreUnder, AreUnderOne, SameBut, AreThere, with_sealed, kid_trees, unless_changed}
-use Rattle.txntree.specs.{Sealing.{BlockGrows, IfClosed, IsSealing, first_of}, declared.open.OpenNode.OpenNode, declared.open.Change.Change}
-use Rattle.txntree.proofs.Names.{at_is_name}
+use Rattle.txntree.specs.Sealing.{sealed_at, placed, IsUnder, IsUnderOne, AreUnder, HasEntry, AreThere, IsSealedAs, kid_trees, unless_changed}
+use Rattle.txntree.specs.{Sealing.{BlockGrows, IsSealing}, declared.open.OpenNode.OpenNode, declared.open.Change.Change}
 
 pub grows_same : (a : Look) → Grows a a
 grows_same a id there = refl
@@ -140,27 +138,44 @@ grown_then look rev before now next first more = record {
 
 -- one change more
 pub goes_on : (look : Look) (rev : ℕ) (path below : PathValue) (self : OpenNode) (before now next : List NodeRev) (left rest : Component → Option Change) (kids more : Kids)
-    (name : Component) (change : Change) → IsSealing look rev path self before now left kids
+    (name : Component) (change : Change) (o : Option NodeId) → IsSealing look rev path self before now left kids
     → Some change ≡ left name
     → ((n : Component) → rest n ≡ cond (same_component name n) None (left n))
     → below ≡ path ++ name ∷ []
     → BlockGrows look rev now next
-    → (AreThere (with_block look rev now) kids → AreThere (with_block look rev next) more)
-    → IfClosed look rev now (AreThere (with_block look rev now) kids → (n : Component) (q : PathValue)
-    → kid_trees (with_block look rev next) more n q ≡ with_sealed look rev below name change (kid_trees (with_block look rev now) kids) n q)
-    → IfClosed look rev now (AreUnderOne (with_block look rev next) rev (length now) (length next) more)
-    → SameBut name kids more
+    → IsSealedAs look rev below now next (change_spot change) o
+    → HasEntry name o kids more
     → IsSealing look rev path self before next rest more
-goes_on look rev path below self before now next left rest kids more name change so was gone place grown there sealed_one new others = record {
+goes_on look rev path below self before now next left rest kids more name change o so was gone place grown as_one has = record {
   grown = grown_then look rev before now next so.grown grown;
-  there = λ c b. there (so.there c b);
+  there = λ c b n. subst (λ e. IfSome e (IsThere (with_block look rev next))) (sym (has n)) (there_in (so.there c b) n (same_component name n));
   trees = λ c b h n q.
       ap (λ o. unless_changed look rev (path ++ n ∷ []) o (kid_trees (with_block look rev next) more n) q) (gone n)
-      ∙ by n q (same_component name n) refl (sealed_one c b (so.grown.closed c b h) (so.there c b) n q) (so.trees c b h n q);
+      ∙ by n q (same_component name n) refl
+      (ap (λ e. flat (with_block look rev next) (shared_spot e) q) (has n) ∙ one c b (so.grown.closed c b h) n q (same_component name n)) (so.trees c b h n q);
   under = λ c b h k from to. ⊎_elim (λ lt. kept c b h k (so.under c b h k from lt)) (λ ge. new c b (so.grown.closed c b h) k ge to) (cases_lt k (length now));
   waiting = λ n some. waits n some (same_component name n) refl;
 }
   where
+    others : (n : Component) → same_component name n ≡ false → kid_named more n ≡ kid_named kids n
+    others n apart = has n ∙ ap (λ x. if x then o else kid_named kids n) apart
+
+    there_in : AreThere (with_block look rev now) kids → (n : Component) (x : Bool) → IfSome (if x then o else kid_named kids n) (IsThere (with_block look rev next))
+    there_in there n true = as_one.there
+    there_in there n false = still_if (with_block look rev now) (with_block look rev next) grown.grows (kid_named kids n) (there n)
+
+    one : (c : IsClosed look) (b : IsBefore look rev) → IsClosed (with_block look rev now) → (n : Component) (q : PathValue) (x : Bool)
+        → flat (with_block look rev next) (shared_spot (if x then o else kid_named kids n)) q
+        ≡ (if x then sealed_at rev below (flat look (change_spot change)) q else kid_trees (with_block look rev now) kids n q)
+    one c b h n q true = as_one.tree c b h q
+    one c b h n q false = same_tree (with_block look rev now) (with_block look rev next) grown.grows h (kid_named kids n) (so.there c b n) q
+
+    new : (c : IsClosed look) (b : IsBefore look rev) → IsClosed (with_block look rev now) → (k : ℕ) → length now ≤ k → k < length next
+        → IsUnderOne (with_block look rev next) more (placed rev k)
+    new c b h k from to =
+        let u = as_one.under c b h k from to in
+        (name, (u.0, ap (λ e. find (with_block look rev next) u.0 (shared_spot e)) (has name ∙ ap (λ x. if x then o else kid_named kids name) (same_component_refl name)) ∙ u.1))
+
     waits : (n : Component) → IsSome (rest n) → (x : Bool) → same_component name n ≡ x → kid_named more n ≡ kid_at look self.base n
     waits n some true here = absurd (false≢true (subst (λ o. IsSome o) (gone n ∙ ap (λ x. cond x None (left n)) here) some))
     waits n some false apart = others n apart ∙ so.waiting n (subst (λ o. IsSome o) (gone n ∙ ap (λ x. cond x None (left n)) apart) some)
@@ -202,76 +217,13 @@ goes_on look rev path below self before now next left rest kids more name change
         other None one old = one ∙ old
         other (Some c) one old = old
 
--- the changes that are left, from the first on
-in_order : (name : Component) (changes : List (Component × Change)) → AllByRecursion (λ n. slice_cmp nat_cmp name n ≡ Less) (keys_of changes) → first_of changes name ≡ None
-in_order name [] below = refl
-in_order name (e ∷ changes) below = ap (λ o. cond (is_eq o) (Some e.1) (first_of changes name)) below.0 ∙ in_order name changes below.1
-
-same_back : (n m : Component) → same_component m n ≡ same_component n m
-same_back n m = by (same_component n m) (same_component m n) refl refl
-  where
-    by : (b c : Bool) → same_component n m ≡ b → same_component m n ≡ c → c ≡ b
-    by true true x y = refl
-    by false false x y = refl
-    by true false x y = absurd (false≢true (sym y ∙ ap (λ k. same_component k n) (sym (same_component_is n m x)) ∙ same_component_refl n))
-    by false true x y = absurd (false≢true (sym x ∙ ap (λ k. same_component n k) (same_component_is m n y) ∙ same_component_refl n))
-
-pub first_here : (name : Component) (change : Change) (changes : List (Component × Change)) → Some change ≡ first_of ((name, change) ∷ changes) name
-first_here name change changes = sym (ap (λ b. cond b (Some change) (first_of changes name)) (at_is_name name name ∙ same_component_refl name))
-
-pub first_gone : (name : Component) (change : Change) (changes : List (Component × Change)) → IsStrictlySortedBy (slice_cmp nat_cmp) (keys_of ((name, change) ∷ changes))
-    → (n : Component) → first_of changes n ≡ cond (same_component name n) None (first_of ((name, change) ∷ changes) n)
-unfolding IsStrictlySortedBy
-first_gone name change changes sorted n = by (same_component name n) refl
-  where
-    by : (b : Bool) → same_component name n ≡ b → first_of changes n ≡ cond b None (first_of ((name, change) ∷ changes) n)
-    by true here = ap (λ k. first_of changes k) (sym (same_component_is name n here)) ∙ in_order name changes sorted.0
-    by false apart = sym (ap (λ b. cond b (Some change) (first_of changes n)) (at_is_name n name ∙ same_back name n ∙ apart))
-
 -- an entry that is gone
-pub sealed_gone : (look : Look) (rev : ℕ) (block : List NodeRev) (path : PathValue) (kids after : Kids) (name : Component) (change : Change)
-    → change_spot change ≡ Nothing
-    → ((n : Component) → kid_named after n ≡ cond (is_at (slice_cmp nat_cmp name) n) None (kid_named kids n))
-    → (n : Component) (q : PathValue) → kid_trees (with_block look rev block) after n q ≡ with_sealed look rev path name change (kid_trees (with_block look rev block) kids) n q
-sealed_gone look rev block path kids after name change is gone n q =
-    ap (λ o. flat (with_block look rev block) (shared_spot o) q) (gone n ∙ ap (λ x. cond x None (kid_named kids n)) (at_is_name name n))
-    ∙ by (same_component name n)
-  where
-    by : (x : Bool) → flat (with_block look rev block) (shared_spot (cond x None (kid_named kids n))) q
-        ≡ (if x then sealed_at rev path (flat look (change_spot change)) q else kid_trees (with_block look rev block) kids n q)
-    by true = nothing (with_block look rev block) q ∙ sym (ap (option_map (sealed rev (path ++ q))) (ap (λ s. flat look s q) is ∙ nothing look q))
-    by false = refl
-
--- an entry that is sealed as a node
-pub sealed_put : (look : Look) (rev : ℕ) (now next : List NodeRev) (path : PathValue) (kids after : Kids) (name : Component) (change : Change) (node : OpenNode) (id : NodeId)
-    → change_spot change ≡ Opened node
-    → ((n : Component) → kid_named after n ≡ cond (is_at (slice_cmp nat_cmp name) n) (Some id) (kid_named kids n))
-    → Grows (with_block look rev now) (with_block look rev next) → IsClosed (with_block look rev now) → AreThere (with_block look rev now) kids
-    → ((q : PathValue) → flat (with_block look rev next) (Shared id) q ≡ sealed_at rev path (flat look (Opened node)) q)
-    → (n : Component) (q : PathValue) → kid_trees (with_block look rev next) after n q ≡ with_sealed look rev path name change (kid_trees (with_block look rev now) kids) n q
-sealed_put look rev now next path kids after name change node id is put grows closed there new n q =
-    ap (λ o. flat (with_block look rev next) (shared_spot o) q) (put n ∙ ap (λ x. cond x (Some id) (kid_named kids n)) (at_is_name name n))
-    ∙ by (same_component name n)
-  where
-    by : (x : Bool) → flat (with_block look rev next) (shared_spot (cond x (Some id) (kid_named kids n))) q
-        ≡ (if x then sealed_at rev path (flat look (change_spot change)) q else kid_trees (with_block look rev now) kids n q)
-    by true = new q ∙ ap (λ s. sealed_at rev path (flat look s) q) (sym is)
-    by false = same_tree (with_block look rev now) (with_block look rev next) grows closed (kid_named kids n) (there n) q
-
--- what is under it
-pub under_put : (look : Look) (rev from to : ℕ) (kids after : Kids) (name : Component) (id : NodeId)
-    → ((n : Component) → kid_named after n ≡ cond (is_at (slice_cmp nat_cmp name) n) (Some id) (kid_named kids n))
-    → AreUnder look rev from to id → AreUnderOne look rev from to after
-under_put look rev from to kids after name id put under k lo hi =
-    let u = under k lo hi in
-    (name, (u.0, ap (λ o. find look u.0 (shared_spot o)) (put name ∙ ap (λ x. cond x (Some id) (kid_named kids name)) (at_is_name name name ∙ same_component_refl name)) ∙ u.1))
-
-pub under_none : (look : Look) (rev from : ℕ) (kids : Kids) → AreUnderOne look rev from from kids
-under_none look rev from kids k lo hi = absurd (no_room from k lo hi)
-
-pub others_put : (kids after : Kids) (name : Component) (o : Option NodeId)
-    → ((n : Component) → kid_named after n ≡ cond (is_at (slice_cmp nat_cmp name) n) o (kid_named kids n)) → SameBut name kids after
-others_put kids after name o put n apart = put n ∙ ap (λ x. cond x o (kid_named kids n)) (at_is_name name n ∙ apart)
+pub gone_as : (look : Look) (rev : ℕ) (path : PathValue) (block : List NodeRev) (spot : Spot) → spot ≡ Nothing → IsSealedAs look rev path block block spot None
+gone_as look rev path block spot is = record {
+  there = tt {0};
+  tree = λ c b h q. nothing (with_block look rev block) q ∙ sym (ap (option_map (sealed rev (path ++ q))) (ap (λ s. flat look s q) is ∙ nothing look q));
+  under = λ c b h k from to. absurd (no_room (length block) k from to);
+}
 
 -- the node itself, behind its entries
 last_place : {X : Type 0} (xs : List X) (x : X) → slice_get (xs ++ x ∷ []) (length xs) ≡ Some x
@@ -337,10 +289,6 @@ ends look rev path self before now left kids node id so none here place mine own
     ∙ so.trees c b h n q
     ∙ ap (λ p. option_map (sealed rev p) (flat look (step look n (Opened self)) q)) (one_more path q n)
 
-pub sorted_rest : (e : Component × Change) (changes : List (Component × Change)) → IsStrictlySortedBy (slice_cmp nat_cmp) (keys_of (e ∷ changes)) → IsStrictlySortedBy (slice_cmp nat_cmp) (keys_of changes)
-unfolding IsStrictlySortedBy
-sorted_rest e changes sorted = sorted.1
-
 -- whatever `append` answers
 pub after_grows : {X Y : Type 0} (r : Result X Y) (look : Look) (rev : ℕ) (before now next : List NodeRev) (node : NodeRev) → OnOk r (next ≡ now ++ node ∷ []) → OnErr r (next ≡ now)
     → Grows (with_block look rev before) (with_block look rev now) → Grows (with_block look rev before) (with_block look rev next)
@@ -353,28 +301,11 @@ pub after_closed : {X Y : Type 0} (r : Result X Y) (look : Look) (rev : ℕ) (no
 after_closed (Ok x) look rev now next node ok err closed there = subst (λ b. IsClosed (with_block look rev b)) (sym ok) (closed_put look rev now node closed there)
 after_closed (Err y) look rev now next node ok err closed there = subst (λ b. IsClosed (with_block look rev b)) (sym err) closed
 
-pub after_there : {Y : Type 0} (r : Result NodeId Y) (look : Look) (rev : ℕ) (now next : List NodeRev) (node : NodeRev) → OnOk r (next ≡ now ++ node ∷ [])
-    → IfOk r (λ id. (id.rev ≡ rev) × (id.place ≡ length now)) → IfOk r (IsThere (with_block look rev next))
-after_there (Ok id) look rev now next node ok is =
-    subst (λ b. IsThere (with_block look rev b) id) (sym ok) (subst (λ o. IsSome o) (sym (put_place look rev now node id is.0 is.1)) refl)
-after_there (Err y) look rev now next node ok is = is
-
-pub after_ends : {Y : Type 0} (r : Result NodeId Y) (look : Look) (rev : ℕ) (path : PathValue) (self : OpenNode) (before now next : List NodeRev) (left : Component → Option Change) (kids : Kids)
-    (node : NodeRev) → OnOk r (next ≡ now ++ node ∷ []) → IfOk r (λ id. (id.rev ≡ rev) × (id.place ≡ length now))
-    → IsSealing look rev path self before now left kids → ((n : Component) → left n ≡ None) → node.kids ≡ kids
-    → ((id : NodeId) → id.rev ≡ rev → Some (shared_entry id node) ≡ option_map (sealed rev path) (Some (open_entry self)))
-    → IsClosed look → IsBefore look rev → IsClosed (with_block look rev before)
-    → IfOk r (λ id. (q : PathValue) → flat (with_block look rev next) (Shared id) q ≡ sealed_at rev path (flat look (Opened self)) q)
-after_ends (Ok id) look rev path self before now next left kids node ok is so none mine own c b h =
-    subst (λ x. (q : PathValue) → flat (with_block look rev x) (Shared id) q ≡ sealed_at rev path (flat look (Opened self)) q) (sym ok)
-    (ends look rev path self before now left kids node id so none is.0 is.1 mine (own id is.0) c b h)
-after_ends (Err y) look rev path self before now next left kids node ok is so none mine own c b h = is
-
 -- each place of the block is under the node
 under_ends : (look : Look) (rev : ℕ) (path : PathValue) (self : OpenNode) (before now : List NodeRev) (left : Component → Option Change) (kids : Kids)
     (node : NodeRev) (id : NodeId) → IsSealing look rev path self before now left kids → id.rev ≡ rev → id.place ≡ length now → node.kids ≡ kids
     → IsClosed look → IsBefore look rev → IsClosed (with_block look rev before)
-    → AreUnder (with_block look rev (now ++ node ∷ [])) rev (length before) (length (now ++ node ∷ [])) id
+    → AreUnder (with_block look rev (now ++ node ∷ [])) rev (length before) (length (now ++ node ∷ [])) (Some id)
 under_ends look rev path self before now left kids node id so here place mine c b h k from to =
     ⊎_elim (λ lt. below (so.under c b h k from lt)) (λ ge. ([], ap Shared (itself (omega (arith, ge, to, length-append now (node ∷ [])))))) (cases_lt k (length now))
   where
@@ -384,7 +315,7 @@ under_ends look rev path self before now left kids node id so here place mine c 
     itself : k ≡ length now → id ≡ placed rev k
     itself e i = record { rev = here i; place = (place ∙ sym e) i }
 
-    below : IsUnderOne (with_block look rev now) kids (placed rev k) → IsUnder next id (placed rev k)
+    below : IsUnderOne (with_block look rev now) kids (placed rev k) → IsUnder next (Some id) (placed rev k)
     below (n, (r, is)) = (
       n ∷ r,
       ap (λ o. find next r (shared_spot (option_and_then (kid_of n) o))) (put_place look rev now node id here place)
@@ -392,11 +323,14 @@ under_ends look rev path self before now left kids node id so here place mine c 
           ∙ find_grows (with_block look rev now) next (block_grows look rev now (node ∷ [])) (so.grown.closed c b h) (kid_named kids n) (so.there c b n) r ∙ is,
     )
 
-pub after_under : {Y : Type 0} (r : Result NodeId Y) (look : Look) (rev : ℕ) (path : PathValue) (self : OpenNode) (before now next : List NodeRev) (left : Component → Option Change) (kids : Kids)
+pub after_as : {Y : Type 0} (r : Result NodeId Y) (look : Look) (rev : ℕ) (path : PathValue) (self : OpenNode) (before now next : List NodeRev) (left : Component → Option Change) (kids : Kids)
     (node : NodeRev) → OnOk r (next ≡ now ++ node ∷ []) → IfOk r (λ id. (id.rev ≡ rev) × (id.place ≡ length now))
-    → IsSealing look rev path self before now left kids → node.kids ≡ kids
-    → IsClosed look → IsBefore look rev → IsClosed (with_block look rev before)
-    → IfOk r (AreUnder (with_block look rev next) rev (length before) (length next))
-after_under (Ok id) look rev path self before now next left kids node ok is so mine c b h =
-    subst (λ x. AreUnder (with_block look rev x) rev (length before) (length x) id) (sym ok) (under_ends look rev path self before now left kids node id so is.0 is.1 mine c b h)
-after_under (Err y) look rev path self before now next left kids node ok is so mine c b h = is
+    → IsSealing look rev path self before now left kids → ((n : Component) → left n ≡ None) → node.kids ≡ kids
+    → ((id : NodeId) → id.rev ≡ rev → Some (shared_entry id node) ≡ option_map (sealed rev path) (Some (open_entry self)))
+    → IfOk r (λ id. IsSealedAs look rev path before next (Opened self) (Some id))
+after_as (Ok id) look rev path self before now next left kids node ok is so none mine own = subst (λ b. IsSealedAs look rev path before b (Opened self) (Some id)) (sym ok) (record {
+  there = subst (λ o. IsSome o) (sym (put_place look rev now node id is.0 is.1)) refl;
+  tree = λ c b h. ends look rev path self before now left kids node id so none is.0 is.1 mine (own id is.0) c b h;
+  under = λ c b h. under_ends look rev path self before now left kids node id so is.0 is.1 mine c b h;
+})
+after_as (Err y) look rev path self before now next left kids node ok is so none mine own = is

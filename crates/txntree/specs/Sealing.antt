@@ -1,11 +1,10 @@
 -- The node revisions of a new revision, behind those that are there.
-use Rattle.std.specs.Prelude.{◌≡◌, ◌≤◌, ◌<◌, length, ℕ, false, List, [], ◌∷◌, ◌++◌, Option, Some, None, IsSome, IfSome, option_map, slice_get, if◌then◌else◌}
-use Rattle.std.specs.{BTreeMap.is_at, Map.lookup, Cmp.Lexicographic.slice_cmp, Ordering.nat_cmp}
+use Rattle.std.specs.Prelude.{◌≡◌, ◌≤◌, ◌<◌, length, ℕ, List, [], ◌∷◌, ◌++◌, Option, Some, None, IsSome, IfSome, option_map, slice_get, if◌then◌else◌}
 use Rattle.svnpath.specs.Paths.{Component, PathValue, same_component}
 use Rattle.repo_api.specs.{Merge.sealed, Trees.Tree, declared.entry.Entry.Entry}
 use Rattle.noderevs.specs.{Heights.AreHigh, Nodes.{Grows, IsBefore, IsClosed, IsThere, kid_at, kid_named, Kids, Look, with_block}}
 use Rattle.noderevs.specs.{declared.node_rev.Block.Block, declared.node_rev.NodeId.NodeId, declared.node_rev.NodeRev.NodeRev}
-use Rattle.txntree.specs.{Spots.{flat, find, step, shared_spot, change_spot}, Spots.Spot.{Shared, Opened}, declared.open.OpenNode.OpenNode}
+use Rattle.txntree.specs.{Spots.{Spot, flat, find, step, shared_spot, change_spot}, Spots.Spot.{Shared, Opened}, declared.open.OpenNode.OpenNode}
 use Rattle.txntree.specs.declared.open.Change.{Change}
 use Rattle.repo_api.specs.declared.entry.Mark.TheVariants as mark
 
@@ -17,10 +16,7 @@ sealed_at rev path t q = option_map (sealed rev (path ++ q)) (t q)
 abbrev pub AreThere : Look → Kids → Type 0
 AreThere look kids = (name : Component) → IfSome (kid_named kids name) (IsThere look)
 
--- the entries, with what a change is sealed as at its name
-abbrev pub with_sealed : Look → ℕ → PathValue → Component → Change → (Component → Tree) → Component → Tree
-with_sealed look rev path name change before n q = if same_component name n then sealed_at rev path (flat look (change_spot change)) q else before n q
-
+-- the tree of each entry
 abbrev pub kid_trees : Look → Kids → Component → Tree
 kid_trees look kids n = flat look (shared_spot (kid_named kids n))
 
@@ -32,23 +28,24 @@ unless_changed look rev path (Some change) before = sealed_at rev path (flat loo
 abbrev pub placed : ℕ → ℕ → NodeId
 placed rev place = record { rev = rev; place = place }
 
--- a path leads from the node, or from one of the entries, to a place
-abbrev pub IsUnder : Look → NodeId → NodeId → Type 0
-IsUnder look id place = (r : PathValue) × (find look r (Shared id) ≡ Shared place)
+-- a path leads from the node, if there is one, or from one of the entries, to a place
+abbrev pub IsUnder : Look → Option NodeId → NodeId → Type 0
+IsUnder look o place = (r : PathValue) × (find look r (shared_spot o) ≡ Shared place)
 
 abbrev pub IsUnderOne : Look → Kids → NodeId → Type 0
-IsUnderOne look kids place = (n : Component) × ((r : PathValue) × (find look r (shared_spot (kid_named kids n)) ≡ Shared place))
+IsUnderOne look kids place = (n : Component) × IsUnder look (kid_named kids n) place
 
 -- each of these places is under the node, or under one of the entries
-abbrev pub AreUnder : Look → ℕ → ℕ → ℕ → NodeId → Type 0
-AreUnder look rev from to id = (k : ℕ) → from ≤ k → k < to → IsUnder look id (placed rev k)
+abbrev pub AreUnder : Look → ℕ → ℕ → ℕ → Option NodeId → Type 0
+AreUnder look rev from to o = (k : ℕ) → from ≤ k → k < to → IsUnder look o (placed rev k)
 
 abbrev pub AreUnderOne : Look → ℕ → ℕ → ℕ → Kids → Type 0
 AreUnderOne look rev from to kids = (k : ℕ) → from ≤ k → k < to → IsUnderOne look kids (placed rev k)
 
--- entries but for that of a name
-abbrev pub SameBut : Component → Kids → Kids → Type 0
-SameBut name before after = (n : Component) → same_component name n ≡ false → kid_named after n ≡ kid_named before n
+-- entries with this node at a name, or without the name where there is none, and else as before
+abbrev pub HasEntry : Component → Option NodeId → Kids → Kids → Type 0
+HasEntry name o before after = (n : Component)
+    → kid_named after n ≡ (if same_component name n then o else kid_named before n)
 
 -- a block of one node for each path that was changed in the revision, under its own path, and of no other
 pub record IsBlockOf (look : Look) (rev : ℕ) (block : List NodeRev) (root : NodeId) : Type 0 where
@@ -83,6 +80,16 @@ pub record BlockGrows (look : Look) (rev : ℕ) (before now : List NodeRev) : Ty
   pub high : IfClosed look rev before (AreHigh (with_block look rev before)
       → AreHigh (with_block look rev now))
 
+-- what stands at a path is sealed as this node, or as none where nothing stands: it is there, has the
+-- tree as that of the revision, and each place that is new in the block is under it
+pub record IsSealedAs (look : Look) (rev : ℕ) (path : PathValue) (before now : List NodeRev)
+    (spot : Spot) (o : Option NodeId) : Type 0 where
+  pub there : IfSome o (IsThere (with_block look rev now))
+  pub tree : IfClosed look rev before ((q : PathValue)
+      → flat (with_block look rev now) (shared_spot o) q ≡ sealed_at rev path (flat look spot) q)
+  pub under : IfClosed look rev before
+      (AreUnder (with_block look rev now) rev (length before) (length now) o)
+
 -- what a seal has done by the time that these changes are left
 pub record IsSealing (look : Look) (rev : ℕ) (path : PathValue) (self : OpenNode)
     (before now : List NodeRev) (left : Component → Option Change) (kids : Kids) : Type 0 where
@@ -94,7 +101,3 @@ pub record IsSealing (look : Look) (rev : ℕ) (path : PathValue) (self : OpenNo
   pub under : IfClosed look rev before
       (AreUnderOne (with_block look rev now) rev (length before) (length now) kids)
   pub waiting : (n : Component) → IsSome (left n) → kid_named kids n ≡ kid_at look self.base n
-
--- the first change of a name
-abbrev pub first_of : List (Component × Change) → Component → Option Change
-first_of changes n = lookup (is_at (slice_cmp nat_cmp n)) changes

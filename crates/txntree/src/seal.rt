@@ -1,10 +1,9 @@
 //! A transaction's nodes as those of a revision.
-ghost use Rattle.std.specs.Prelude.{◌≡◌, ◌++◌, ◌∷◌, [], length, IfOk, OnOk, OnErr};
+ghost use Rattle.std.specs.Prelude.{◌≡◌, ◌++◌, ◌∷◌, [], length, Some, IfOk, OnOk, OnErr};
 ghost use Rattle.repo_api.specs.Merge.{closed};
-ghost use Rattle.svnpath.specs.Paths.{Component, PathValue};
 ghost use Rattle.noderevs.specs.{Held.node_at, Nodes.{IsBefore, IsClosed, IsThere, mark_of, with_block}};
-ghost use Rattle.txntree.specs.{Spots.{flat, open_tree}, Spots.Spot.Shared};
-ghost use Rattle.txntree.specs.Sealing.{sealed_at, AreThere, with_sealed, kid_trees, AreUnder, AreUnderOne, SameBut, BlockGrows, IfClosed, IsSealOf};
+ghost use Rattle.txntree.specs.Sealing.{BlockGrows, HasEntry, IsSealedAs, IsSealOf};
+ghost use Rattle.txntree.specs.{Spots.{change_spot, open_tree}, Spots.Spot.Opened};
 
 use crate::open::{Change, OpenNode};
 use byte_string::ByteString;
@@ -39,19 +38,14 @@ impl OpenNode {
         block: &mut Vec<NodeRev>,
     ) -> Result<NodeId, AllocError>
         ensures grown { BlockGrows (node_at nodes.now) rev block.old.items block.new.items }
-        ensures there { IfOk result (IsThere (with_block (node_at nodes.now) rev block.new.items)) }
-        ensures ok { IfClosed (node_at nodes.now) rev block.old.items
-            (IfOk result (λ id. (q : PathValue)
-            → flat (with_block (node_at nodes.now) rev block.new.items) (Shared id) q
-            ≡ sealed_at rev path (open_tree nodes.now self.now) q)) }
-        ensures under { IfClosed (node_at nodes.now) rev block.old.items
-            (IfOk result (AreUnder (with_block (node_at nodes.now) rev block.new.items) rev
-            (length block.old.items) (length block.new.items))) }
+        ensures ok { IfOk result (λ id. IsSealedAs (node_at nodes.now) rev path
+            block.old.items block.new.items (Opened self.now) (Some id)) }
     {
         let mut kids = nodes.kids(alloc, self.base)?;
         for (name, change) in &self.changed {
             let below = path.child(alloc, name.clone()?)?;
-            change.sealed(alloc, nodes, rev, below, name.clone()?, &mut kids, block)?;
+            let id = change.sealed(alloc, nodes, rev, below, block)?;
+            set_entry(&mut kids, alloc, name, id)?;
         }
         let height = nodes.height_over(alloc, rev, block, &kids)?;
         let own = closed(rev, &path, &self.own)?;
@@ -73,7 +67,7 @@ impl OpenNode {
 }
 
 impl Change {
-    /// Puts the node of an entry, and those under it, into the block, and its id among the entries.
+    /// Puts the node of an entry, and those under it, into the block; an entry that is gone has none.
     #[cycle(seal)]
     fn sealed(
         &self,
@@ -81,31 +75,34 @@ impl Change {
         nodes: &Nodes,
         rev: u32,
         path: Path,
-        name: ByteString,
-        kids: &mut SharedMap<NodeId>,
         block: &mut Vec<NodeRev>,
-    ) -> Result<(), AllocError>
+    ) -> Result<Option<NodeId>, AllocError>
         ensures grown { BlockGrows (node_at nodes.now) rev block.old.items block.new.items }
-        ensures there { AreThere (with_block (node_at nodes.now) rev block.old.items) kids.old
-            → OnOk result (AreThere (with_block (node_at nodes.now) rev block.new.items) kids.new) }
-        ensures ok { IfClosed (node_at nodes.now) rev block.old.items
-            (AreThere (with_block (node_at nodes.now) rev block.old.items) kids.old
-            → OnOk result ((n : Component) (q : PathValue)
-            → kid_trees (with_block (node_at nodes.now) rev block.new.items) kids.new n q
-            ≡ with_sealed (node_at nodes.now) rev path name self.now (kid_trees
-            (with_block (node_at nodes.now) rev block.old.items) kids.old) n q)) }
-        ensures under { IfClosed (node_at nodes.now) rev block.old.items
-            (OnOk result (AreUnderOne (with_block (node_at nodes.now) rev block.new.items) rev
-            (length block.old.items) (length block.new.items) kids.new)) }
-        ensures others { OnOk result (SameBut name kids.old kids.new) }
+        ensures ok { IfOk result (IsSealedAs (node_at nodes.now) rev path
+            block.old.items block.new.items (change_spot self.now)) }
     {
         match self {
-            Change::Gone => { kids.remove(&name) }
+            Change::Gone => Ok(None),
             Change::Is(node) => {
                 let id = node.sealed(alloc, nodes, rev, path, block)?;
-                kids.put(alloc, name, id)
+                Ok(Some(id))
             }
         }
+    }
+}
+
+/// Puts a node among the entries at its name, or takes the name out where there is none.
+fn set_entry(
+    kids: &mut SharedMap<NodeId>,
+    alloc: Global,
+    name: &ByteString,
+    id: Option<NodeId>,
+) -> Result<(), AllocError>
+    ensures { OnOk result (HasEntry name.now id kids.old kids.new) }
+{
+    match id {
+        Some(id) => kids.put(alloc, name.clone()?, id),
+        None => kids.remove(name),
     }
 }
 

@@ -1,13 +1,13 @@
 use Rattle.std.proofs.{Common.{◌++◌, ◌∷◌, [], Option, Some, None, Err, refl, sym, ap, subst, ◌∙◌}, lemmas.Result.err_from_is_err_and}
 use Rattle.std.proofs.lemmas.Map.Iter.{rest_more, rest_all}
-use Rattle.treemerge.specs.{declared.merging.Places.Places, Merges.{IsTold, spot_tree, IsMergeOf, IsMerged, IsWalking, IsConflictUnder, IfConflict}}
+use Rattle.treemerge.specs.{declared.merging.Places.Places, Merges.{IsTold, spot_tree, IsMergeOf, IsMerged, IsConflictUnder, IfConflict}}
 use Rattle.treemerge.proofs.Conflicts.{conflict_on, conflict_above, mergeable_entry, conflict_here, gone_conflict}
-use Rattle.treemerge.proofs.Overlays.{cut, nowhere_before, walk_begins, walk_goes_on, walk_passes, merged_here, merged_apart, merge_ends}
+use Rattle.treemerge.proofs.Overlays.{cut, nowhere_before, merged_here, merged_apart, merge_ends}
 use Rattle.treemerge.proofs.merging.+merge.Goals.{merged-in-Some-3+in_ok-clone-3+in_ok-put_change, merged-in_default-2}
 use Rattle.noderevs.specs.Held.{node_at}
-use Rattle.txntree.specs.{Sealing.first_of, Spots.{change_spot, changed_at, flat, over, shared_spot}, Spots.Spot.Opened, declared.open.Change.Change}
+use Rattle.txntree.specs.{Changes.{first_of, IsWalking}, Spots.{change_spot, changed_at, flat, over, shared_spot}, Spots.Spot.Opened, declared.open.Change.Change}
 use Rattle.txntree.specs.{declared.open.OpenNode.OpenNode, declared.open.Change.TheVariants.{Is, Gone}, declared.open.Change.TheViews.roll-OpenNode}
-use Rattle.txntree.proofs.{Walking.{is_spot, gone_spot, nothing_there}, Seals.first_here}
+use Rattle.txntree.proofs.{Changes.{first_here, walk_begins, walk_goes_on, walk_passes}, Walking.{is_spot, gone_spot, nothing_there}}
 use Rattle.std.specs.{Prelude.if◌then◌else◌, BTreeMap.is_at, Map.{lookup, keys_of}, Map.Iter.deref_pair, Cmp.Lexicographic.slice_cmp, Ordering.nat_cmp}
 use Rattle.std.specs.List.Sorted.{IsStrictlySortedBy}
 use Rattle.svnpath.specs.Paths.{same_component}

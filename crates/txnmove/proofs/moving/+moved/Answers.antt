@@ -3,10 +3,10 @@ use Rattle.std.specs.{Prelude.if◌then◌else◌, BTreeMap.is_at, Cmp.Lexicogra
 use Rattle.std.specs.{Map.Iter.deref_pair, Ordering.nat_cmp}
 use Rattle.repo_api.specs.declared.entry.Mark.TheVariants.{Open}
 use Rattle.svnpath.specs.Paths.{same_component}
-use Rattle.txntree.specs.{Sealing.first_of, Spots.{change_spot, changed_at}, declared.open.Change.TheViews.roll-OpenNode}
-use Rattle.txntree.proofs.{Seals.first_here, Walking.{gone_spot, is_spot}}
-use Rattle.txnmove.specs.Moves.{IsWalking, IsMovedAt}
-use Rattle.txnmove.proofs.{Walk.{walk_begins, walk_goes_on}, Twins.{unchanged_moved, change_moved, node_moved, gone_moved, gone_made, is_made, is_moved}}
+use Rattle.txntree.specs.{Changes.{first_of, IsWalking}, Spots.{change_spot, changed_at}, declared.open.Change.TheViews.roll-OpenNode}
+use Rattle.txntree.proofs.{Changes.{first_here, walk_begins, walk_goes_on}, Walking.{gone_spot, is_spot}}
+use Rattle.txnmove.specs.Moves.{IsMovedAt}
+use Rattle.txnmove.proofs.Twins.{unchanged_moved, change_moved, node_moved, gone_moved, gone_made, is_made, is_moved}
 use Rattle.txnmove.proofs.moving.+moved.Goals as goal
 
 pub moved-loop-name-init : goal.moved-loop-name-init

@@ -1,4 +1,5 @@
-use Rattle.txnmove.specs.Moves.{IsWalking, IsMovedAt}
+use Rattle.txntree.specs.Changes.{IsWalking}
+use Rattle.txnmove.specs.Moves.{IsMovedAt}
 use Rattle.txnmove.proofs.moving.+moved.Given as goal
 
 abbrev pub invariant-moved-loop-name : goal.invariant-moved-loop-name

@@ -1,4 +1,4 @@
-use Rattle.std.proofs.Common.{◌≡◌, [], length, sym, ap, subst, ◌∙◌}
+use Rattle.std.proofs.Common.{◌≡◌, [], Some, length, sym, ap, subst, ◌∙◌}
 use Rattle.noderevs.specs.{Heights.AreHigh, Held.node_at, Nodes.{IsClosed, with_block}}
 use Rattle.svnpath.specs.Paths.{PathValue}
 use Rattle.txntree.specs.{Spots.flat, Spots.Spot.{Shared, Opened}, Sealing.{sealed_at, AreUnder}}
@@ -13,12 +13,12 @@ returns-clause-ok c = λ closed before.
     let root = c.in_ok-root.root in
     let empty = subst (λ b. IsClosed (with_block look rev b)) (sym c.new-block.ensures.items) (empty_closed look rev before closed) in
     let tree : (q : PathValue) → flat (with_block look rev now) (Shared root) q ≡ sealed_at rev [] (flat look (Opened c.args.self.now)) q =
-    λ q. c.in_ok-root.ensures.ok closed before empty q ∙ ap (λ p. sealed_at rev p (flat look (Opened c.args.self.now)) q) c.root.ensures in
+    λ q. c.in_ok-root.ensures.ok.tree closed before empty q ∙ ap (λ p. sealed_at rev p (flat look (Opened c.args.self.now)) q) c.root.ensures in
     record {
       closed = c.sealed.ensures.grown.closed closed before empty;
       high = λ high. c.sealed.ensures.grown.high closed before empty
           (subst (λ b. AreHigh (with_block look rev b)) (sym c.new-block.ensures.items) (empty_high look rev before closed high));
       tree = tree;
       whole = block_of look rev now root (Opened c.args.self.now) before tree
-          (subst (λ b. AreUnder (with_block look rev now) rev (length b) (length now) root) c.new-block.ensures.items (c.in_ok-root.ensures.under closed before empty));
+          (subst (λ b. AreUnder (with_block look rev now) rev (length b) (length now) (Some root)) c.new-block.ensures.items (c.in_ok-root.ensures.ok.under closed before empty));
     }
