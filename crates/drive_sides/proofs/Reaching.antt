@@ -37,10 +37,6 @@ next_step limit old new here child depth names i x lt is child_is =
     ap (stays_in_scope limit old new here depth) (next_name names i x lt is)
     ∙ ap (λ p. includes limit old new depth p && stays_in_scope limit old new p (own_or_inherited (depth_said limit p) depth) (drop (i + 1) names)) (sym child_is)
 
-pub was_false : (b : Bool) → not b ≡ true → b ≡ false
-was_false true h = absurd (false≢true h)
-was_false false h = refl
-
 pub was_true : (b : Bool) → not b ≡ false → b ≡ true
 was_true true h = refl
 was_true false h = absurd (false≢true (sym h))

@@ -87,17 +87,3 @@ reads_entry top hs p parent token base kind step fit new =
 
 pub reads_close : (purpose : Purpose) (top : PathValue) (base : PathValue → List ℕ) (h : OpenEntry) (hs : List OpenEntry) → same_kind DirectoryKind h.kind ≡ true → steps_said purpose top base (h ∷ hs) (CloseDirectory h.token) ≡ Some ([], hs)
 reads_close purpose top base h hs dir = ap (λ x. if x then Some ([], hs) else None) (and_both (is_name h.token h.token) (same_kind DirectoryKind h.kind) (same_component_refl h.token) dir)
-
--- an entry from its opening to its close, with what is said of it and below it
-pub says_entry : (purpose : Purpose) (top : PathValue) (base : PathValue → List ℕ) (hs : List OpenEntry) (first close : EditorCommand) (step : Step) (new last : OpenEntry) (inner : List EditorCommand) (steps : List Step)
-    → steps_said purpose top base hs first ≡ Some (step ∷ [], new ∷ hs) → Says purpose top base (new ∷ hs) inner steps (last ∷ hs) → steps_said purpose top base (last ∷ hs) close ≡ Some ([], hs)
-    → Says purpose top base hs (first ∷ (inner ++ close ∷ [])) (step ∷ steps) hs
-says_entry purpose top base hs first close step new last inner steps opens says closes = (
-  step ∷ [],
-  new ∷ hs,
-  steps,
-  opens,
-  subst (λ s. Says purpose top base (new ∷ hs) (inner ++ close ∷ []) s hs) (append-nil steps)
-      (says_append purpose top base (new ∷ hs) (last ∷ hs) hs inner (close ∷ []) steps [] says ([], hs, [], closes, (refl, refl), refl)),
-  refl,
-)

@@ -1,5 +1,5 @@
 //! The rules by which a command of an edit is refused, each by itself.
-ghost use Rattle.std.specs.Prelude.{◌≡◌, option_copied, string_bytes};
+ghost use Rattle.std.specs.Prelude.{◌≡◌, option_copied};
 ghost use Rattle.svnpath.specs.{Components.AnswersPath, Texts.joined};
 ghost use Rattle.edit_rules.specs.{Tokens.is_within, Refusing.{add_refusal, age_refusal, delete_refusal, directory_refusal, file_refusal, is_reserved}};
 ghost use Rattle.edit_rules.specs.Refusing.{may_be_named, name_refusal, room_refusal, source_kind_refusal, source_of, source_path, unless};

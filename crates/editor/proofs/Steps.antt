@@ -23,11 +23,6 @@ made c now old op before after wanted tokens same had edited is =
     subst (λ (o : EditState). Edits c o op wanted (record now { txn = Some after; tokens = tokens })) same
     (record { before = before; had = had; after = after; edited = edited; is = ap (λ (ts : Tokens). record now { txn = Some after; tokens = ts }) is })
 
--- what is open after an edit that is made
-pub with_open : (c : RepoState) (old new : EditState) (op op' : EditOp) (ts wanted : Tokens) → op ≡ op' → ts ≡ wanted → Edits c old op ts new → Edits c old op' wanted new
-with_open c old new op op' ts wanted is_op is h =
-    record { before = h.before; had = h.had; after = h.after; edited = subst (λ (o : EditOp). IsEdited c.revisions h.before o h.after) is_op h.edited; is = h.is ∙ ap (λ (x : Tokens). record old { txn = Some h.after; tokens = x }) is }
-
 -- an edit that is made, once something else is open
 pub reopened : (c : RepoState) (old mid now : EditState) (op op' : EditOp) (ts tokens wanted : Tokens) → Edits c old op ts mid → now ≡ mid → op ≡ op' → tokens ≡ wanted
     → Edits c old op' wanted (record now { tokens = tokens })

@@ -1,12 +1,11 @@
 //! Entries of a commit: what is opened, added, deleted and closed.
-ghost use Rattle.std.specs.Prelude.{◌≡◌, Ok, None, Some, OnOk, OnErr, IfOk, IfErr, is_some, true, option_copied, if◌then◌else◌};
+ghost use Rattle.std.specs.Prelude.{◌≡◌, Ok, None, Some, OnOk, OnErr, IfOk, is_some, true, option_copied, if◌then◌else◌};
 ghost use Rattle.svnpath.specs.Texts.{joined};
 ghost use Rattle.edit_rules.specs.{Editor.{Adds, Closes, copy_edit, Edits, opened_directory, Opens, RestsOn}, Edits.standing};
 ghost use Rattle.edit_rules.specs.{Judging.{CarriesOut, CarriesOutAdding, DoneUnless, Judges}, Refusing.{absent_refusal, add_at_refusal, add_entry_refusal}};
 ghost use Rattle.edit_rules.specs.Refusing.{add_refusal, close_directory_refusal, delete_entry_refusal, first, open_directory_refusal, open_file_refusal};
 ghost use Rattle.edit_rules.specs.Refusing.{open_root_refusal, open_under, parent_refusal, place_refusal, source_of, source_refusal};
-ghost use Rattle.edit_rules.specs.Soundness.{IsRightIn, IsSoundOn};
-ghost use Rattle.edit_rules.specs.Tokens.{closed_beneath, copies_under, directory_of, is_placed, is_within, opened_under, with_token};
+ghost use Rattle.edit_rules.specs.{Soundness.{IsRightIn, IsSoundOn}, Tokens.{closed_beneath, copies_under, is_placed, is_within, opened_under, with_token}};
 
 use crate::editor::CommitEditor;
 use byte_string::ByteString;

@@ -1,8 +1,7 @@
 -- What is said of files and tables is said of more of them.
 use Rattle.std.proofs.Common.{◌≡◌, ◌≢◌, ◌==◌, ℕ, zero, suc, ◌<◌, Bool, true, false, List, [], ◌∷◌, ◌++◌, length, Option, Some, None, option_map}
 use Rattle.std.proofs.Common.{option_and_then, is_some, Ok, refl, sym, ap, subst, ◌∙◌, arith, length-append, rules, ⊎_elim, IsSomeAnd}
-use Rattle.std.proofs.{lemmas.Bool.{cases_eq, cases_lt, eqb-true}, lemmas.List.get_or_append_left}
-use Rattle.std.proofs.{lemmas.Option.{none-some, slice_get_within, slice_get_past, slice_get-get_or, same_Some}, Math.Seq.get_or-append_seam}
+use Rattle.std.proofs.{lemmas.Bool.{cases_eq, eqb-true}, lemmas.Option.{none-some, slice_get_within, same_Some}}
 use Rattle.std.specs.{FinMap.entries, Prelude.{slice_get, if◌then◌else◌}}
 use Rattle.repo_api.specs.{States.ChangeMap, declared.entry.Mark.Mark, declared.entry.Mark.TheVariants.Made}
 use Rattle.repo_api.specs.declared.entry.Content.TheVariants as contents
@@ -214,13 +213,6 @@ placed_other tables t id ne =
 pub table_behind : (tables : List Table) (t : Table) → Grows tables (tables ++ t ∷ [])
 table_behind tables t id =
     then_stays (slice_get tables id.rev) (slice_get (tables ++ t ∷ []) id.rev) _ _ (one_more_stays tables t id.rev) (λ x is y e. e)
-
-pub table_grown : (tables : List Table) (t u : Table) → ((k : ℕ) → Stays (slice_get t.placed.items k) (slice_get u.placed.items k))
-    → Grows (tables ++ t ∷ []) (tables ++ u ∷ [])
-table_grown tables t u stays id p is = ⊎_elim
-    (λ e. placed_last tables u id e ∙ stays id.place p (sym (placed_last tables t id e) ∙ is))
-    (λ ne. placed_other tables u id ne ∙ sym (placed_other tables t id ne) ∙ is)
-    (cases_eq id.rev (length tables))
 
 -- ---- a revision more
 

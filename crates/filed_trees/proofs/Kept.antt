@@ -20,13 +20,6 @@ if_ok (Err e) p f = p
 no_file : (t : List ℕ) → contents.Directory ≡ contents.File t → ⊥
 no_file t e = none-some t (ap content_text e)
 
-text_of_file : (t u : List ℕ) → contents.File t ≡ contents.File u → t ≡ u
-text_of_file t u e = same_Some t u (ap content_text e)
-
-file_of_text : (c : Content) (t : List ℕ) → content_text c ≡ Some t → c ≡ contents.File t
-file_of_text contents.Directory t e = absurd (none-some t e)
-file_of_text (contents.File u) t e = ap contents.File (same_Some u t e)
-
 -- the entries of one that is a directory
 entries_of_directory : (files : RevisionBytes) (line : Option Representation) (kind : EntryKind) (es : List DirectoryEntry)
     → content_by files line kind ≡ Some contents.Directory → entries_by files line kind ≡ Some es → entries_at files line ≡ Some es

@@ -2,7 +2,7 @@
 use Rattle.std.proofs.Common.{◌≡◌, ℕ, zero, suc, ◌+◌, ◌<◌, ◌≤◌, List, [], ◌∷◌, ◌++◌, length, Option, Some, None, refl, sym, ap, subst, ◌∙◌, arith}
 use Rattle.std.proofs.{Common.{length-append, ⊎_elim}, lemmas.Bool.{cases_eq, cases_lt}, lemmas.List.get_or_append_left}
 use Rattle.std.proofs.lemmas.Option.{none-some, same_Some, slice_get-get_or, slice_get_past}
-use Rattle.std.specs.{FinMap.entries, Prelude.{All, IsSomeAnd, Ok, option_and_then, option_map, slice_get}}
+use Rattle.std.specs.{FinMap.entries, Prelude.{IsSomeAnd, Ok, option_and_then, option_map, slice_get}}
 use Rattle.repo_api.specs.States.{ChangeMap}
 use Rattle.noderevs.specs.{Held.{blocks_of, node_at, root_at}, Nodes.{node_in, root_in}, declared.node_rev.Block.Block, declared.node_rev.NodeId.NodeId}
 use Rattle.noderevs.specs.{declared.node_rev.NodeRev.NodeRev, declared.nodes.Nodes.Nodes}
@@ -40,10 +40,6 @@ module _ (files : RevisionBytes) (tables : List Table) (revision : ℕ) (rows : 
       (λ ge. subst (λ o. IsPlaced files tables id o (slice_get rows id.place)) (sym (slice_get_past nodes id.place (omega (arith, ge, long))))
       (subst (λ p. IsPlaced files tables id None p) (sym (slice_get_past rows id.place (omega (arith, ge, past)))) tt))
       (cases_lt id.place k)
-
-pub all_one : {X : Type 0} (P : X → Type 0) (x : X) → P x → All P (x ∷ [])
-all_one P x p zero d lt = p
-all_one P x p (suc k) d lt = absurd (omega (arith, lt))
 
 first_part : {X : Type 0} (xs ys : List X) (k : ℕ) → k < length xs → slice_get (xs ++ ys) k ≡ slice_get xs k
 first_part [] ys k lt = absurd (omega (arith, lt))

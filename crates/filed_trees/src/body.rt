@@ -1,5 +1,5 @@
 //! What a line of a node revision gives.
-ghost use Rattle.std.specs.Prelude.{◌≡◌, true, IfOk, Decides};
+ghost use Rattle.std.specs.Prelude.{◌≡◌, IfOk, Decides};
 ghost use Rattle.filed_trees.specs.{Pieces.RevisionBytes, Comparing.{CameWith, IsBody, IsHere}, Readable.{IsKept, IsSaid, ReadsWhere}};
 
 use fsfs_ids::Representation;

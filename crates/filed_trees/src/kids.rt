@@ -1,5 +1,5 @@
 //! The entries of nodes, and the ids that a file says of entries.
-ghost use Rattle.std.specs.Prelude.{◌≡◌, ◌++◌, ◌∷◌, [], true, All, IfOk, IsSome, None, Some, Decides};
+ghost use Rattle.std.specs.Prelude.{◌≡◌, true, All, IfOk, None, Some, Decides};
 ghost use Rattle.svnpath.specs.Paths.{Component};
 ghost use Rattle.noderevs.specs.{Nodes.kid_of, declared.node_rev.NodeId.NodeId};
 ghost use Rattle.filed_trees.specs.{Pieces.entry_named, Comparing.{IsAmong, id_at}, Readable.{AreOnce, ReadsWhere}};

@@ -1,6 +1,6 @@
 //! Where nodes stand in the files, as far as that is known.
-ghost use Rattle.std.specs.Prelude.{◌≡◌, ◌≤◌, ◌∷◌, ◌++◌, [], true, IfOk, IfSome, IsSomeAnd, length, option_copied, option_map, slice_get, Some, Decides};
-ghost use Rattle.filed_trees.specs.{Comparing.{IsEarlier, earlier_text, earlier_properties, tables_of, AreFor}, Tables.{IsAt, placed_in}};
+ghost use Rattle.std.specs.Prelude.{◌≡◌, ◌≤◌, IfOk, IfSome, IsSomeAnd, length, option_copied, slice_get, Some, Decides};
+ghost use Rattle.filed_trees.specs.{Comparing.{IsEarlier, earlier_text, earlier_properties, tables_of, AreFor}, Tables.IsAt};
 ghost use Rattle.filed_trees.specs.{Readable.{Finds, FindsOne, IsTabled, Judges}, Pieces.RevisionBytes, Changes.ChangeRows};
 
 use crate::table::{Placed, Table};

@@ -1,5 +1,5 @@
 -- What is read of the files, revision by revision, is what is held.
-use Rattle.std.proofs.Common.{◌≡◌, ◌⊎◌, inl, inr, ℕ, suc, List, [], ◌∷◌, ◌++◌, Option, Some, None, length, map, refl, sym, ap, subst, ◌∙◌, arith, ◌<◌}
+use Rattle.std.proofs.Common.{◌≡◌, ℕ, suc, List, [], ◌∷◌, ◌++◌, Option, Some, None, length, map, refl, sym, ap, subst, ◌∙◌, arith, ◌<◌}
 use Rattle.std.proofs.{lemmas.List.{length_push, map-append, length-map}, lemmas.Option.same_Some}
 use Rattle.std.specs.{Prelude.{option_and_then, slice_get, Result, Ok, Err, IfOk}, FinMap.{get, empty, entries, from_entries, get-empty}, Result.result_ok}
 use Rattle.svnpath.specs.Paths.{path_cmp, PathValue}
@@ -8,8 +8,7 @@ use Rattle.repo_api.specs.{States.{ChangeMap, LockMap, RepoState}, declared.lock
 use Rattle.noderevs.specs.{Held.blocks_of, declared.node_rev.Block.Block}
 use Rattle.held.specs.{Contents.state_of, declared.held.Held.Held}
 use Rattle.held.proofs.Seen.{held_many, held_changes}
-use Rattle.repostore.specs.{Current.count_in, Files.Files, Reading.{IfFileFaulty, with_one_more, with_read_locks}}
-use Rattle.fsfs_lines.specs.declared.fault.FileFault.{FileFault}
+use Rattle.repostore.specs.{Current.count_in, Files.Files, Reading.{with_one_more, with_read_locks}}
 use Rattle.fsfs_lines.specs.declared.fault.FileFault.TheVariants as faults
 use Rattle.fsfs_folder.specs.{Properties.properties_of, declared.current.Current.Current}
 use Rattle.filed_trees.specs.{Pieces.RevisionBytes, StandsFor.{locks_in, revision_bytes, revision_properties}, Tables.AreTabled, declared.table.Table.Table}
@@ -239,20 +238,3 @@ pub ok_both : {T E : Type 0} {P Q R : T → Type 0} (r : Result T E)
     → ((x : T) → P x → Q x → R x) → IfOk r P → IfOk r Q → IfOk r R
 ok_both (Ok x) f p q = f x p q
 ok_both (Err e) f p q = p
-
--- a fault is that of what was read, unless memory was refused
-pub found_faulty : {X : Type 0} (f : FileFault) (read : Result X FileFault)
-    → (read ≡ Err f) ⊎ (f ≡ faults.NoMemory) → IfFileFaulty f (result_ok read ≡ None)
-found_faulty faults.NoMemory read h = tt
-found_faulty faults.Truncated read (inl is) = ap result_ok is
-found_faulty faults.Truncated read (inr other) = cc
-found_faulty faults.BadLine read (inl is) = ap result_ok is
-found_faulty faults.BadLine read (inr other) = cc
-found_faulty faults.Delta read (inl is) = ap result_ok is
-found_faulty faults.Delta read (inr other) = cc
-found_faulty faults.Digest read (inl is) = ap result_ok is
-found_faulty faults.Digest read (inr other) = cc
-found_faulty faults.Dangling read (inl is) = ap result_ok is
-found_faulty faults.Dangling read (inr other) = cc
-found_faulty faults.WrongFormat read (inl is) = ap result_ok is
-found_faulty faults.WrongFormat read (inr other) = cc

@@ -19,10 +19,6 @@ pub record AreLocks (file : Option (List ℕ)) (locks : LockMap) : Type 0 where
   pub read : locks_in file ≡ Some said
   pub each : (p : PathValue) → get locks p ≡ lock_of said p
 
--- the file `current` says that this revision is the youngest, and the ids that come next
-pub record IsCurrent (file : List ℕ) (current : Current) : Type 0 where
-  pub read : result_ok (current_of file) ≡ Some current
-
 -- files of what is held and of locks, in which the tables place the nodes
 pub record AreFilesOf (h : Held) (locks : LockMap) (tables : List Table) (current : Current)
     (files : Files) : Type 0 where

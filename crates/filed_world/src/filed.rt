@@ -1,5 +1,4 @@
 //! The repository as one that can be written to files.
-ghost use Rattle.std.specs.Prelude.{◌≡◌};
 
 use crate::filed_world::FiledWorld;
 use byte_string::ByteString;

@@ -1,5 +1,5 @@
 //! Small files, which are read back before they are saved: what they say is what was to be written.
-ghost use Rattle.std.specs.{Prelude.{◌≡◌, ◌+◌, true, map, IfOk, Some, suc}, Map.Iter.deref_pair, Result.result_ok};
+ghost use Rattle.std.specs.{Prelude.{◌≡◌, ◌+◌, true, map, IfOk, Some}, Map.Iter.deref_pair, Result.result_ok};
 ghost use Rattle.fsfs_folder.specs.{Current.current_of, Locks.locks_of, Properties.properties_of};
 ghost use Rattle.repostore.specs.Current.{count_in};
 

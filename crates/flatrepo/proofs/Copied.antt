@@ -95,9 +95,3 @@ copy_more s from to k q v rest out new under here is =
         let at = lands_as s from to k q v under here same in
         ap (λ l. option_or (if rest then landed s from to q else None) (option_or l out)) (sym at) ∙ or_twice rest (landed s from to q) out
     by false same = refl
-
--- and one that is not
-pub copy_less : (s : Tree) (from to k q : PathValue) (rest : Bool) (out : Option Entry) → is_at_or_under k from ≡ false
-    → option_or (if rest then landed s from to q else None) out ≡ option_or (if lands from to q k || rest then landed s from to q else None) out
-copy_less s from to k q rest out beside =
-    ap (λ b. option_or (if (b && same_path (target from to k) q) || rest then landed s from to q else None) out) (sym beside)

@@ -1,13 +1,12 @@
 -- The edits of the entries, as those of the maps that they make.
-use Rattle.std.proofs.Common.{◌≡◌, List, Some, option_map, sym, ap, ◌∙◌}
+use Rattle.std.proofs.Common.{◌≡◌, List, option_map, sym, ap, ◌∙◌}
 use Rattle.std.specs.{Prelude.if◌then◌else◌, FinMap.{get, from_entries}}
-use Rattle.svnpath.specs.Paths.{is_at_or_under, path_cmp, PathValue, same_path}
-use Rattle.repo_api.specs.{Edits.{added, new_entry, revised, touched, touched_above}, StateLaws.get_path, States.{tree_of, TreeMap}}
-use Rattle.repo_api.specs.{declared.entry.Content.Content, declared.entry.Entry.Entry}
+use Rattle.svnpath.specs.Paths.{is_at_or_under, path_cmp, PathValue}
+use Rattle.repo_api.specs.{Edits.{revised, touched, touched_above}, StateLaws.get_path, States.{tree_of, TreeMap}, declared.entry.Entry.Entry}
 use Rattle.revision_data.specs.Found.{found}
 use Rattle.revision_data.proofs.Seen.{seen_at}
 use Rattle.flatrepo.specs.EntryChanges.{part_at}
-use Rattle.flatrepo.proofs.Rules.{added_touched, part_touched}
+use Rattle.flatrepo.proofs.Rules.{part_touched}
 
 pub touch_seen : (m : TreeMap) (old new : List (PathValue × Entry)) (p q : PathValue) → from_entries old ≡ m → found new q ≡ touched_above p (found old) q
     → get (from_entries {R = path_cmp} new) q ≡ touched_above p (tree_of m) q
@@ -22,14 +21,3 @@ part_seen m old mid new p q f is part touch =
     get_path new q ∙ touch ∙ ap (λ o. if is_at_or_under p q then option_map touched o else o) (part q)
     ∙ ap (λ o. if is_at_or_under p q then option_map touched (part_at p f q o) else part_at p f q o) (sym (seen_at old m q is))
     ∙ part_touched (tree_of m) p q f
-
--- an entry that is put, and then `last` opened at its path and above it
-pub added_seen : (m : TreeMap) (old mid new : List (PathValue × Entry)) (p k q : PathValue) (e : Entry) (content : Content) → from_entries old ≡ m
-    → k ≡ p → e ≡ new_entry content → found mid q ≡ (if same_path k q then Some e else found old q) → found new q ≡ touched_above p (found mid) q
-    → get (from_entries {R = path_cmp} new) q ≡ added (tree_of m) p content q
-added_seen m old mid new p k q e content is same fresh put touch =
-    get_path new q ∙ touch
-    ∙ ap (λ o. if is_at_or_under p q then option_map touched o else o) (put ∙ ap (λ x. if same_path x q then Some e else found old q) same
-    ∙ ap (λ x. if same_path p q then Some x else found old q) fresh
-    ∙ ap (λ o. if same_path p q then Some (new_entry content) else o) (sym (seen_at old m q is)))
-    ∙ added_touched (tree_of m) p q content

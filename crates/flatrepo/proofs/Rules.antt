@@ -2,8 +2,7 @@
 use Rattle.std.proofs.Common.{◌≡◌, Bool, true, false, Option, Some, None, option_map, refl, ap, subst}
 use Rattle.std.specs.Prelude.{if◌then◌else◌}
 use Rattle.svnpath.specs.{PathLaws.same_path_is, Paths.{is_at_or_under, PathValue, same_path}}
-use Rattle.repo_api.specs.{Edits.{added, new_entry, revised, touched, touched_above, with_open_mark}, Trees.Tree, declared.entry.Content.Content}
-use Rattle.repo_api.specs.declared.entry.Entry.{Entry}
+use Rattle.repo_api.specs.{Edits.{revised, touched, touched_above, with_open_mark}, Trees.Tree, declared.entry.Entry.Entry}
 use Rattle.flatrepo.specs.EntryChanges.{part_at}
 
 -- an entry that has a part changed, and then `last` with_open_mark at its path and above it
@@ -35,18 +34,3 @@ revised_as t p q f g same = by (same_path p q) refl
     by : (b : Bool) → same_path p q ≡ b → (if b then option_map (λ e. with_open_mark (f e)) (t q) else touched_above p t q) ≡ (if b then option_map (λ e. with_open_mark (g e)) (t q) else touched_above p t q)
     by true is = subst (λ k. option_map (λ e. with_open_mark (f e)) (t k) ≡ option_map (λ e. with_open_mark (g e)) (t k)) (same_path_is p q is) (here (t p) same)
     by false is = refl
-
--- a new entry, and then `last` opened at its path and above it
-pub added_touched : (t : Tree) (p q : PathValue) (content : Content)
-    → touched_above p (λ r. if same_path p r then Some (new_entry content) else t r) q ≡ added t p content q
-added_touched t p q content = by (same_path p q)
-  where
-    at : (under : Bool) → (if under then option_map touched (Some (new_entry content)) else Some (new_entry content)) ≡ Some (new_entry content)
-    at true = refl
-    at false = refl
-
-    by : (b : Bool)
-        → (if is_at_or_under p q then option_map touched (if b then Some (new_entry content) else t q) else (if b then Some (new_entry content) else t q))
-        ≡ (if b then Some (new_entry content) else touched_above p t q)
-    by true = at (is_at_or_under p q)
-    by false = refl

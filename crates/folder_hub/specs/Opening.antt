@@ -1,5 +1,5 @@
 -- A hub over a repository in files, as it is opened.
-use Rattle.std.specs.Prelude.{◌≡◌, ℕ, []}
+use Rattle.std.specs.Prelude.{◌≡◌, []}
 use Rattle.repo_api.specs.States.{RepoState}
 use Rattle.store_files.specs.Folders.{Folder}
 use Rattle.access.specs.Points.{Point}

@@ -1,13 +1,12 @@
 -- What was written is read again.
-use Rattle.std.proofs.Common.{◌≡◌, ℕ, zero, suc, ◌+◌, ◌-◌, ◌^◌, ◌<◌, ◌≤◌, Bool, true, false, not, ◌&&◌, cond, eqb, leb, List, [], ◌∷◌, ◌++◌, length, take, drop}
-use Rattle.std.proofs.Common.{get_or, Option, Some, None, Result, Ok, Err, refl, sym, ap, subst, ◌∙◌, append_assoc, arith, lit≤, lit<}
-use Rattle.std.proofs.{lemmas.Bool.{lt-leb, ne_eqb, eq-eqb}, lemmas.List.{take_at, drop_at, get_or_at, length-append}}
-use Rattle.std.specs.{Prelude.codes, Cmp.Lexicographic.pointwise, List.flat_map}
-use Rattle.fsfs_lines.specs.{declared.fault.FileFault.FileFault, Numerals.{decimal_of, numeral}, Reading.{or_bad, ◌>>=◌}}
-use Rattle.fsfs_lines.specs.Splits.{is_free, line_at, line_of, split_once}
+use Rattle.std.proofs.Common.{◌≡◌, ℕ, zero, suc, ◌+◌, ◌-◌, ◌^◌, ◌<◌, ◌≤◌, true, false, not, ◌&&◌, cond, eqb, leb, List, [], ◌∷◌, ◌++◌, length, drop, get_or}
+use Rattle.std.proofs.{Common.{Some, None, Ok, refl, sym, ap, subst, ◌∙◌, append_assoc, arith, lit≤, lit<}, lemmas.Bool.lt-leb}
+use Rattle.std.proofs.lemmas.List.{take_at, drop_at, get_or_at, length-append}
+use Rattle.std.specs.{Prelude.codes, List.flat_map}
+use Rattle.fsfs_lines.specs.{Numerals.{decimal_of, numeral}, Reading.{or_bad, ◌>>=◌}, Splits.{is_free, line_at, line_of}}
 use Rattle.fsfs_lines.proofs.{Splits.{split_again, same_bytes}, Numbers.{number_again, numeral_free}}
 use Rattle.fsfs_dumps.specs.{declared.pair.DumpPair.DumpPair, Dumps.{sized, pair_bytes, dump}}
-use Rattle.fsfs_dumps.specs.Reading.{length_behind, length_of, text_of, sized_behind, pair_behind, before, ended, pairs_within, dump_of}
+use Rattle.fsfs_dumps.specs.Reading.{length_behind, length_of, text_of, sized_behind, pair_behind, pairs_within, dump_of}
 
 -- the line that says a length
 abbrev length_line : ℕ → ℕ → List ℕ

@@ -1,6 +1,6 @@
 -- Reading pairs one after the other, as a loop does.
-use Rattle.std.proofs.Common.{◌≡◌, ℕ, suc, ◌-◌, ◌+◌, ◌≤◌, ◌<◌, Bool, true, false, cond, eqb, List, [], ◌∷◌, ◌++◌, Result, Ok, Err, refl, sym, ap, ◌∙◌}
-use Rattle.std.proofs.{Common.{append_assoc, arith}, lemmas.List.append-nil}
+use Rattle.std.proofs.Common.{◌≡◌, ℕ, suc, ◌-◌, ◌+◌, ◌≤◌, ◌<◌, true, false, cond, eqb, List, [], ◌∷◌, ◌++◌, Result, Ok, Err, refl, sym, ap, ◌∙◌, append_assoc}
+use Rattle.std.proofs.{Common.arith, lemmas.List.append-nil}
 use Rattle.std.specs.{Prelude.codes, Cmp.Lexicographic.pointwise}
 use Rattle.fsfs_lines.specs.{declared.fault.FileFault.FileFault, declared.fault.FileFault.TheVariants.{Truncated, BadLine}, Reading.◌>>=◌, Splits.line_at}
 use Rattle.fsfs_dumps.specs.{declared.pair.DumpPair.DumpPair, Reading.{before, ended, pair_behind, pairs_within}}

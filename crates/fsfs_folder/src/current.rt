@@ -1,5 +1,5 @@
 //! The file `current`.
-ghost use Rattle.std.specs.Prelude.{◌≡◌, ◌++◌, ◌+◌, ◌*◌, ◌^◌, ◌<◌, ◌≤◌, OnOk, IfSome};
+ghost use Rattle.std.specs.Prelude.{◌≡◌, ◌++◌, ◌+◌, ◌*◌, ◌<◌, OnOk};
 ghost use Rattle.fsfs_lines.specs.Reading.{Gives};
 ghost use Rattle.fsfs_folder.specs.Current.{current_bytes, next_of, current_line, line_alone, current_of};
 

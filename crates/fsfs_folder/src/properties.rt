@@ -1,5 +1,5 @@
 //! The files of properties of revisions.
-ghost use Rattle.std.specs.{Prelude.{◌≡◌, ◌++◌, IfOk}, List.list_all};
+ghost use Rattle.std.specs.{Prelude.{◌≡◌, IfOk}, List.list_all};
 ghost use Rattle.fsfs_lines.specs.Reading.{Answers};
 ghost use Rattle.fsfs_folder.specs.Properties.{properties_bytes, is_property, properties_of};
 

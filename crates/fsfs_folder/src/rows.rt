@@ -1,5 +1,4 @@
 //! Dumps whose keys are all different.
-ghost use Rattle.std.specs.Prelude.{◌≡◌};
 ghost use Rattle.fsfs_lines.specs.Reading.{Answers};
 ghost use Rattle.fsfs_folder.specs.Rows.{with_row, rows_of};
 

@@ -1,10 +1,10 @@
 -- What was written is read again.
-use Rattle.std.proofs.Common.{◌≡◌, ℕ, suc, ◌+◌, ◌-◌, ◌^◌, ◌<◌, ◌≤◌, Bool, true, false, not, ◌&&◌, cond, eqb, List, [], ◌∷◌, ◌++◌, length, Option, Some, None}
-use Rattle.std.proofs.{Common.{Result, Ok, Err, refl, sym, ap, ◌∙◌, subst, arith, lit≤, lit<}, lemmas.Bool.ne_eqb, lemmas.List.Elements.recursion_from_All}
-use Rattle.std.specs.{Prelude.IfSome, Result.result_ok, List.{AllByRecursion, AllPass}}
-use Rattle.hex.specs.Hex.{encode_lower, decode_sized, is_hex_digit, IsBytes}
+use Rattle.std.proofs.Common.{◌≡◌, ℕ, ◌+◌, ◌-◌, ◌^◌, ◌<◌, ◌≤◌, true, false, not, ◌&&◌, eqb, List, [], ◌∷◌, ◌++◌, length, Option, Some, None, refl, sym, ap, ◌∙◌}
+use Rattle.std.proofs.{Common.{arith, lit≤}, lemmas.Bool.ne_eqb, lemmas.List.Elements.recursion_from_All}
+use Rattle.std.specs.{Prelude.IfSome, Result.result_ok, List.AllByRecursion}
+use Rattle.hex.specs.Hex.{encode_lower, is_hex_digit, IsBytes}
 use Rattle.hex.proofs.HexLemmas.{decode_sized-encode_lower, decode_of-encode_lower, decode_of-ok}
-use Rattle.fsfs_lines.specs.{Numerals.{decimal_of, digit_of, number_of, numeral}, Splits.{is_free, split_once, without_prefix}}
+use Rattle.fsfs_lines.specs.{Numerals.{digit_of, numeral}, Splits.is_free}
 use Rattle.fsfs_lines.proofs.{Splits.{split_again, split_none, is_free-append, prefix_again}, Numbers.{number_again, numeral_free}}
 use Rattle.fsfs_ids.specs.{Maybe.◌>>=◌, Ids.{in_revision, part_text, id_text, part_from, part_of, id_of}}
 use Rattle.fsfs_ids.specs.{Representations.{representation_text, representation_of, digest_of}, Places.{place_text, place_of}}
@@ -27,9 +27,6 @@ pub record IsApart (s : ℕ) : Type 0 where
   pub dot : eqb 46 s ≡ false
   pub slash : eqb 47 s ≡ false
   pub r : eqb 114 s ≡ false
-
-pub space_apart : IsApart 32
-space_apart = record { digit = refl; dash = refl; dot = refl; slash = refl; r = refl }
 
 pub feed_apart : IsApart 10
 feed_apart = record { digit = refl; dash = refl; dot = refl; slash = refl; r = refl }

@@ -1,5 +1,5 @@
 -- What a line can say.
-use Rattle.std.specs.Prelude.{◌≡◌, ℕ, ◌<◌, ◌^◌, length, IfSome}
+use Rattle.std.specs.Prelude.{◌≡◌, ◌<◌, ◌^◌, length, IfSome}
 use Rattle.hex.specs.Hex.{IsBytes}
 use Rattle.fsfs_ids.specs.{declared.id.IdPart.IdPart, declared.id.FileId.FileId, declared.representation.Representation.Representation}
 

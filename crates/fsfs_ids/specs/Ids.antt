@@ -1,5 +1,5 @@
 -- Ids of node revisions.
-use Rattle.std.specs.Prelude.{ℕ, ◌-◌, ◌^◌, List, ◌∷◌, ◌++◌, codes, Option, Some, None, option_map}
+use Rattle.std.specs.Prelude.{ℕ, ◌-◌, ◌^◌, List, ◌∷◌, ◌++◌, codes, Option, Some, None}
 use Rattle.fsfs_lines.specs.{Numerals.{decimal_of, number_of, numeral}, Splits.{split_once, without_prefix}}
 use Rattle.fsfs_ids.specs.{Maybe.◌>>=◌, declared.id.IdPart.IdPart, declared.id.FileId.FileId}
 

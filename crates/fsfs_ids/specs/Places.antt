@@ -1,5 +1,5 @@
 -- A path in a revision, as lines name it.
-use Rattle.std.specs.Prelude.{ℕ, ◌-◌, ◌^◌, List, ◌∷◌, ◌++◌, Option, Some, None}
+use Rattle.std.specs.Prelude.{ℕ, ◌-◌, ◌^◌, List, ◌∷◌, ◌++◌, Option, Some}
 use Rattle.fsfs_lines.specs.{Numerals.{decimal_of, numeral}, Splits.split_once}
 use Rattle.fsfs_ids.specs.{Maybe.◌>>=◌, declared.place.Place.Place}
 

@@ -1,5 +1,5 @@
 -- Lines that say where a representation stands.
-use Rattle.std.specs.{Prelude.{ℕ, ◌-◌, ◌^◌, List, ◌∷◌, ◌++◌, Option, Some, None, Result, Ok, Err}, Result.result_ok}
+use Rattle.std.specs.{Prelude.{ℕ, ◌-◌, ◌^◌, List, ◌∷◌, ◌++◌, Option, Some}, Result.result_ok}
 use Rattle.hex.specs.Hex.{encode_lower, decode_sized}
 use Rattle.fsfs_lines.specs.{Numerals.{decimal_of, numeral}, Splits.split_once}
 use Rattle.fsfs_ids.specs.{Maybe.◌>>=◌, declared.representation.Representation.Representation}

@@ -1,5 +1,5 @@
 //! A whole revision, judged.
-ghost use Rattle.std.specs.Prelude.{◌≡◌, option_copied};
+ghost use Rattle.std.specs.Prelude.{◌≡◌};
 ghost use Rattle.fsfs_lines.specs.Reading.{Answers, Gives};
 ghost use Rattle.fsfs_judging.specs.Judging.{is_earlier_id, is_earlier_place, judged_node, judged_piece, judged_pieces, judged_changes, judged_revision};
 

@@ -1,8 +1,8 @@
 -- Numbers as text.
-use Rattle.std.proofs.Common.{◌≡◌, ℕ, zero, suc, ◌+◌, ◌-◌, ◌*◌, ◌/◌, ◌%◌, ◌<◌, ◌≤◌, Bool, true, false, not, ◌&&◌, cond, eqb, ltb, leb, List, [], ◌∷◌, ◌++◌}
-use Rattle.std.proofs.{Common.{length, map, Option, Some, None, refl, sym, ap, ◌∙◌, append_assoc, arith, inl, inr, ◌⊎◌, lit<}, lemmas.Bool.{cases_lt, ne_eqb}}
-use Rattle.std.proofs.{Math.Nat.{mod-lt, div-lt_self, div-add-mod, mul_comm}, lemmas.Bool.Decides.nat_tests}
-use Rattle.std.proofs.{lemmas.List.{map-append, length-append, length-map}, lemmas.Int.Digits.{digits_of_step, length-digits_of_step, all_below_base_digits_of}}
+use Rattle.std.proofs.Common.{◌≡◌, ℕ, zero, suc, ◌+◌, ◌-◌, ◌*◌, ◌/◌, ◌%◌, ◌<◌, ◌≤◌, Bool, true, false, not, ◌&&◌, cond, eqb, List, [], ◌∷◌, ◌++◌, length, map}
+use Rattle.std.proofs.{Common.{Option, Some, None, refl, sym, ap, ◌∙◌, append_assoc, arith, inl, inr, ◌⊎◌, lit<}, lemmas.Bool.{cases_lt, ne_eqb}}
+use Rattle.std.proofs.{Math.Nat.{mod-lt, div-lt_self, div-add-mod, mul_comm}, lemmas.Bool.Decides.nat_tests, lemmas.List.{map-append, length-map}}
+use Rattle.std.proofs.lemmas.Int.Digits.{digits_of_step, length-digits_of_step, all_below_base_digits_of}
 use Rattle.std.specs.{Option.option_and_then, Int.Digits.{digits_of, AllBelowBase}}
 use Rattle.fsfs_lines.specs.{Splits.is_free, Numerals.{glyph, numeral, digit_of, with_digit, with_byte, digits_behind, number_of}}
 

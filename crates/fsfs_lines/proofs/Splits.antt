@@ -1,27 +1,14 @@
 -- Parts of a text round a separator.
-use Rattle.std.proofs.Common.{◌≡◌, ℕ, suc, ◌+◌, ◌<◌, ◌≤◌, Bool, true, false, not, ◌&&◌, cond, eqb, ltb, List, [], ◌∷◌, ◌++◌, length, take, drop, get_or, Option}
-use Rattle.std.proofs.{Common.{Some, None, refl, sym, ap, ◌∙◌, append_assoc, arith}, lemmas.Bool.{eq-eqb, eqb-true, le-ltb}}
-use Rattle.std.proofs.lemmas.List.{append-nil, drop_more, take_more, take_at, drop_at, length-append, take-append-drop}
-use Rattle.std.specs.{List.list_all, Cmp.Lexicographic.pointwise}
+use Rattle.std.proofs.Common.{◌≡◌, ℕ, ◌+◌, ◌<◌, Bool, true, false, not, ◌&&◌, cond, eqb, ltb, List, [], ◌∷◌, ◌++◌, length, take, drop, get_or, Option, Some}
+use Rattle.std.proofs.{Common.{None, refl, sym, ap, ◌∙◌, arith}, lemmas.Bool.{eq-eqb, eqb-true, le-ltb}}
+use Rattle.std.proofs.lemmas.List.{append-nil, drop_more, take_at, drop_at, length-append, take-append-drop}
+use Rattle.std.specs.Cmp.Lexicographic.{pointwise}
 use Rattle.fsfs_lines.specs.Splits.{split_once, split_last, in_front, later, without_prefix, is_free}
 
 -- what was passed stands in front
 abbrev pub passed : List ℕ → Option (List ℕ × List ℕ) → Option (List ℕ × List ℕ)
 passed front None = None
 passed front (Some p) = Some (front ++ p.0, p.1)
-
-passed-in_front : (front : List ℕ) (b : ℕ) (o : Option (List ℕ × List ℕ)) → passed (front ++ b ∷ []) o ≡ passed front (in_front b o)
-passed-in_front front b None = refl
-passed-in_front front b (Some p) = ap (λ (x : List ℕ). Some (x, p.1)) (append_assoc front (b ∷ []) p.0)
-
--- the next byte is another
-pub passes_on : (s : ℕ) (bytes : List ℕ) (i : ℕ) → i < length bytes → eqb (get_or bytes i 0) s ≡ false
-    → passed (take (i + 1) bytes) (split_once s (drop (i + 1) bytes)) ≡ passed (take i bytes) (split_once s (drop i bytes))
-passes_on s bytes i lt other =
-    let b = get_or bytes i 0 in
-    let rest = split_once s (drop (i + 1) bytes) in
-    let one : split_once s (b ∷ drop (i + 1) bytes) ≡ in_front b rest = ap (λ t. cond t (Some ([], drop (i + 1) bytes)) (in_front b rest)) other in
-    rw (take_more bytes i 0 lt, drop_more bytes i 0 lt, one) (passed-in_front (take i bytes) b rest)
 
 -- the next byte is the separator
 pub stops : (s : ℕ) (bytes : List ℕ) (i : ℕ) → i < length bytes → eqb (get_or bytes i 0) s ≡ true
@@ -63,12 +50,6 @@ last_none s (b ∷ bytes) h =
 pub found_last : (s : ℕ) (front back : List ℕ) → split_last s back ≡ None → split_last s (front ++ s ∷ back) ≡ Some (front, back)
 found_last s [] back h = ap (later s s back) h ∙ ap (λ t. cond t (Some ([], back)) None) (eq-eqb s s refl)
 found_last s (b ∷ front) back h = ap (later s b (front ++ s ∷ back)) (found_last s front back h)
-
-pub last_goes_on : (s : ℕ) (bytes : List ℕ) (i : ℕ) → i < length bytes → eqb (get_or bytes i 0) s ≡ false
-    → split_last s (drop (i + 1) bytes) ≡ None → split_last s (drop i bytes) ≡ None
-last_goes_on s bytes i lt other h =
-    let b = get_or bytes i 0 in
-    rw (drop_more bytes i 0 lt, h) (ap (λ t. cond t (Some ([], drop (i + 1) bytes)) None) other)
 
 pub last_stops : (s : ℕ) (bytes : List ℕ) (i : ℕ) → i < length bytes → eqb (get_or bytes i 0) s ≡ true
     → split_last s (drop (i + 1) bytes) ≡ None → Some (take i bytes, drop (i + 1) bytes) ≡ split_last s bytes

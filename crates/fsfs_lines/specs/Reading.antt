@@ -1,5 +1,5 @@
 -- What a reading answers.
-use Rattle.std.specs.Prelude.{◌≡◌, ◌⊎◌, Option, Some, None, Result, Ok, Err, MatchResult, option_and_then}
+use Rattle.std.specs.Prelude.{◌≡◌, ◌⊎◌, Option, Some, None, Result, Ok, Err}
 use Rattle.fsfs_lines.specs.{declared.fault.FileFault.FileFault, declared.fault.FileFault.TheVariants.{BadLine, NoMemory}}
 
 infixl 10 ◌>>=◌

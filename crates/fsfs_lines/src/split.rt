@@ -1,5 +1,5 @@
 //! Parts of a text round a separator.
-ghost use Rattle.std.specs.Prelude.{◌≡◌, option_map, MatchResult, Ok, Err};
+ghost use Rattle.std.specs.Prelude.{◌≡◌, option_map, Ok, Err};
 ghost use Rattle.fsfs_lines.specs.{Splits.{split_once, split_last, line_at, without_prefix}, Reading.Gives};
 
 use crate::fault::FileFault;

@@ -1,6 +1,6 @@
 -- Reading one after the other, as a loop does.
 use Rattle.std.proofs.Common.{◌≡◌, ℕ, suc, ◌-◌, ◌+◌, ◌≤◌, ◌<◌, List, [], ◌∷◌, ◌++◌, length, drop, get_or, Option, Some, None, Result, Ok, Err, refl, sym, ap}
-use Rattle.std.proofs.{Common.{◌∙◌, append_assoc, arith}, lemmas.List.{append-nil, drop_more, drop_all}}
+use Rattle.std.proofs.{Common.{◌∙◌, append_assoc, arith}, lemmas.List.{append-nil, drop_more}}
 use Rattle.fsfs_lines.specs.{declared.fault.FileFault.FileFault, declared.fault.FileFault.TheVariants.{Truncated, BadLine}, Reading.{or_bad, ◌>>=◌}}
 use Rattle.fsfs_lines.specs.Splits.{line_at}
 use Rattle.fsfs_dumps.specs.declared.pair.DumpPair.{DumpPair}
@@ -96,7 +96,3 @@ module _ (front : List DirectoryEntry) (pairs : List DumpPair) (i : ℕ) (pair :
   pub next_entry : (kind : EntryKind) (id : FileId) → entries.kind_and_id pair.value ≡ Some (kind, id)
       → entries_behind (front ++ (record { name = pair.key; kind = kind; id = id }) ∷ []) (entries.entries_in (drop (i + 1) pairs)) ≡ total
   next_entry kind id e = sym (at_entry (Some (kind, id)) e ∙ entries_behind-before front (record { name = pair.key; kind = kind; id = id }) (entries.entries_in (drop (i + 1) pairs)))
-
-pub last_entry : (front : List DirectoryEntry) (pairs : List DumpPair) (i : ℕ) (total : Found) → length pairs ≤ i → entries_behind front (entries.entries_in (drop i pairs)) ≡ total → total ≡ Ok front
-last_entry front pairs i total le so_far =
-    sym so_far ∙ ap (λ (x : List DumpPair). entries_behind front (entries.entries_in x)) (drop_all i pairs le) ∙ ap (λ (x : List DirectoryEntry). Ok x) (append-nil front)

@@ -1,8 +1,8 @@
 //! The entries of a directory.
-ghost use Rattle.std.specs.Prelude.{◌≡◌, ◌++◌, map, OnOk, IfOk};
+ghost use Rattle.std.specs.Prelude.{◌≡◌, ◌++◌, OnOk, IfOk};
 ghost use Rattle.fsfs_dumps.specs.Dumps.{dump};
 ghost use Rattle.fsfs_lines.specs.Reading.{Answers};
-ghost use Rattle.fsfs_nodes.specs.{Nodes.{kind_text, kind_of}, Entries.{entry_text, entry_pair, entry_pairs, kind_and_id, entries_of}};
+ghost use Rattle.fsfs_nodes.specs.{Nodes.{kind_text, kind_of}, Entries.{entry_text, entry_pairs, kind_and_id, entries_of}};
 
 use byte_string::ByteString;
 use fsfs_dumps::{append_end, append_pair, read_dump};

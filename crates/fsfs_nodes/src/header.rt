@@ -1,7 +1,7 @@
 //! The lines of a node revision.
-ghost use Rattle.std.specs.Prelude.{◌≡◌, map, option_map};
+ghost use Rattle.std.specs.Prelude.{◌≡◌, option_map};
 ghost use Rattle.fsfs_lines.specs.{Reading.{Answers, Gives, or_bad}, Splits.is_free};
-ghost use Rattle.fsfs_nodes.specs.Headers.{line_pair, line_pairs, name_value, value_of, block_of, field, optional};
+ghost use Rattle.fsfs_nodes.specs.Headers.{line_pair, line_pairs, name_value, value_of, block_of, optional};
 ghost use Rattle.fsfs_ids.specs.{Ids.id_of, Representations.representation_of, Places.place_of};
 
 use fsfs_ids::{FileId, Place, Representation, parse_id, parse_place, parse_representation};

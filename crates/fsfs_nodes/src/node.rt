@@ -1,5 +1,5 @@
 //! Node revisions, as lines.
-ghost use Rattle.std.specs.Prelude.{◌≡◌, ◌++◌, OnOk, IfOk, Option, option_map, codes};
+ghost use Rattle.std.specs.Prelude.{◌≡◌, ◌++◌, OnOk, Option, option_map, codes};
 ghost use Rattle.fsfs_lines.specs.{Numerals.numeral, Reading.{Answers, Gives}};
 ghost use Rattle.fsfs_nodes.specs.{Headers.{line_bytes, optional_line, line_pairs, value_of, field}, Nodes.{kind_text, kind_of, count_of, path_of}};
 ghost use Rattle.fsfs_nodes.specs.Nodes.{identity_lines, content_lines, origin_lines, node_bytes, id_line, own_id, node_of, node_at};

@@ -1,5 +1,5 @@
 //! Plain representations.
-ghost use Rattle.std.specs.Prelude.{◌≡◌, ◌++◌, length, OnOk, IfOk};
+ghost use Rattle.std.specs.Prelude.{◌≡◌, ◌++◌, length, IfOk};
 ghost use Rattle.fsfs_lines.specs.Reading.{Answers, Gives};
 ghost use Rattle.fsfs_parts.specs.Bodies.{body_bytes, rest_at, plain_at, body_of, body_at, representation_at};
 

@@ -1,6 +1,6 @@
 //! The changed paths of a revision.
-ghost use Rattle.std.specs.Prelude.{◌≡◌, ◌++◌, OnOk, IfOk, option_map};
-ghost use Rattle.fsfs_lines.specs.Reading.{Answers, Gives, or_bad};
+ghost use Rattle.std.specs.Prelude.{◌≡◌, ◌++◌, OnOk, option_map};
+ghost use Rattle.fsfs_lines.specs.Reading.{Answers};
 ghost use Rattle.fsfs_parts.specs.Changes.{action_text, action_of, flag_text, flag_of, source_text, what_text, flags_text, change_bytes, changes_bytes};
 ghost use Rattle.fsfs_parts.specs.Changes.{change_line, source_of, change_front, change_with, change_of, changes_of};
 

@@ -1,6 +1,6 @@
 -- Reading node revisions one after the other, as a loop does.
-use Rattle.std.proofs.Common.{◌≡◌, ℕ, zero, suc, ◌-◌, ◌+◌, ◌≤◌, ◌<◌, Bool, true, false, cond, List, [], ◌∷◌, ◌++◌, length, get_or, Result, Ok, Err, refl, sym}
-use Rattle.std.proofs.{Common.{ap, ◌∙◌, append_assoc, arith}, lemmas.List.append-nil}
+use Rattle.std.proofs.Common.{◌≡◌, ℕ, suc, ◌-◌, ◌+◌, ◌<◌, Bool, true, false, cond, List, [], ◌∷◌, ◌++◌, get_or, Result, Ok, Err, refl, sym, ap, ◌∙◌}
+use Rattle.std.proofs.{Common.{append_assoc, arith}, lemmas.List.append-nil}
 use Rattle.fsfs_lines.specs.{declared.fault.FileFault.FileFault, Reading.◌>>=◌}
 use Rattle.fsfs_reading.specs.{declared.piece.FilePiece.FilePiece, Pieces.{step_of, before, pieces_below}}
 

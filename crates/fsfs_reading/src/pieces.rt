@@ -1,5 +1,5 @@
 //! The node revisions that a root leads to.
-ghost use Rattle.std.specs.Prelude.{◌≡◌, ◌≤◌, Bool, MatchResult, Ok, Err, length};
+ghost use Rattle.std.specs.Prelude.{◌≡◌, ◌≤◌, MatchResult, Ok, Err, length};
 ghost use Rattle.fsfs_lines.specs.Reading.{Answers};
 ghost use Rattle.fsfs_reading.specs.Pieces.{is_before, marked, step_of, pieces_below, pieces_of};
 

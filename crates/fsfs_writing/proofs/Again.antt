@@ -1,22 +1,21 @@
 -- What was written is found again.
-use Rattle.std.proofs.Common.{◌≡◌, ℕ, zero, suc, ◌+◌, ◌-◌, ◌^◌, ◌<◌, ◌≤◌, Bool, true, false, ◌&&◌, cond, eqb, ltb, List, [], ◌∷◌, ◌++◌, length, take, drop}
-use Rattle.std.proofs.{Common.{Option, Some, None, Result, Ok, Err, refl, sym, ap, subst, ◌∙◌, append_assoc, arith, lit≤, lit<}, lemmas.Bool.{eq-eqb, le-ltb}}
-use Rattle.std.proofs.lemmas.List.{append-nil, length-append, take_at, drop_at}
-use Rattle.std.specs.{Prelude.{codes, IfSome}, List.flat_map, Cmp.Lexicographic.pointwise}
+use Rattle.std.proofs.Common.{◌≡◌, ℕ, zero, suc, ◌+◌, ◌-◌, ◌^◌, ◌<◌, ◌≤◌, Bool, true, false, cond, eqb, ltb, List, [], ◌∷◌, ◌++◌, length, Option, Some, None}
+use Rattle.std.proofs.{Common.{Result, Ok, Err, refl, sym, ap, subst, ◌∙◌, append_assoc, arith, lit≤}, lemmas.Bool.{eq-eqb, le-ltb}}
+use Rattle.std.proofs.lemmas.List.{length-append, take_at, drop_at}
+use Rattle.std.specs.{Prelude.{codes, IfSome}, Cmp.Lexicographic.pointwise}
 use Rattle.md5.specs.Md5.{md5}
 use Rattle.fsfs_lines.specs.{declared.fault.FileFault.FileFault, declared.fault.FileFault.TheVariants.{BadLine, Digest}, Numerals.numeral}
-use Rattle.fsfs_lines.specs.{Reading.{or_bad, ◌>>=◌}, Splits.{is_free, line_at, line_of, split_last, split_once}}
+use Rattle.fsfs_lines.specs.{Reading.{or_bad, ◌>>=◌}, Splits.{is_free, line_at, line_of, split_last}}
 use Rattle.fsfs_lines.proofs.{Splits.{split_again, split_last_again, prefix_again, same_bytes}, Numbers.number_again}
 use Rattle.fsfs_ids.specs.{Places.{place_text, place_of}, declared.representation.Representation.Representation, declared.place.Place.Place}
 use Rattle.fsfs_ids.proofs.Again.{free-join, decimal_free, place_free, place_again}
-use Rattle.fsfs_nodes.specs.{declared.node.FileNode.FileNode, Headers.{optional, there}, Nodes.{node_bytes, node_at}, Fits.{NodeFits, PlaceFits}}
+use Rattle.fsfs_nodes.specs.{Headers.{optional, there}, Nodes.{node_bytes, node_at}, Fits.{NodeFits, PlaceFits}}
 use Rattle.fsfs_nodes.proofs.Again.{node_again}
 use Rattle.fsfs_parts.specs.{declared.change.FileAction.FileAction, declared.change.FileAction.TheVariants.{Add, Delete, Replace, Modify}}
 use Rattle.fsfs_parts.specs.{declared.change.FileChange.FileChange, declared.trailer.Trailer.Trailer}
-use Rattle.fsfs_parts.specs.{Bodies.{body_bytes, representation_at, rest_at, plain_at, ended_by, body_of, body_of_size, body_at}, Changes.action_text}
-use Rattle.fsfs_parts.specs.Changes.{action_of, flag_text, flag_of, source_text, change_bytes, changes_bytes, ChangeFront, change_line, source_of, change_with}
-use Rattle.fsfs_parts.specs.Changes.{change_of, before, changes_within, changes_of}
-use Rattle.fsfs_parts.specs.Trailers.{trailer_bytes, offsets_of, last_from, split_trailer, said, told, trailer_of}
+use Rattle.fsfs_parts.specs.{Bodies.{body_bytes, representation_at, rest_at, plain_at, body_of, body_of_size, body_at}, Changes.{action_text, action_of}}
+use Rattle.fsfs_parts.specs.Changes.{flag_text, flag_of, source_text, change_bytes, changes_bytes, ChangeFront, change_line, source_of, change_of, before}
+use Rattle.fsfs_parts.specs.{Changes.{changes_within, changes_of}, Trailers.{trailer_bytes, offsets_of, last_from, split_trailer, said, told, trailer_of}}
 use Rattle.fsfs_writing.specs.Files.{Piece, brought, piece_bytes, pieces_bytes, Names, IsPlaced, ArePlaced, PiecesFit, IsBody, IsFound, AreFound, ChangeFits}
 use Rattle.fsfs_writing.specs.Files.{ChangesFit}
 

@@ -1,5 +1,5 @@
 -- The bytes of a revision file, as a whole.
-use Rattle.std.specs.{Prelude.{◌≡◌, ℕ, ◌+◌, ◌<◌, ◌^◌, true, List, [], ◌∷◌, ◌++◌, length, Option, Some, None, Result, Ok, IfSome}, List.flat_map}
+use Rattle.std.specs.{Prelude.{◌≡◌, ℕ, ◌+◌, true, List, [], ◌∷◌, ◌++◌, length, Option, Some, None, Ok, IfSome}, List.flat_map}
 use Rattle.fsfs_lines.specs.Splits.{is_free}
 use Rattle.fsfs_ids.specs.{declared.id.FileId.FileId, declared.representation.Representation.Representation}
 use Rattle.fsfs_nodes.specs.{declared.node.FileNode.FileNode, Nodes.{node_bytes, node_at}, Fits.{NodeFits, PlaceFits}}

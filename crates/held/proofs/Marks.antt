@@ -1,6 +1,6 @@
 -- The marks at a path and above it, by the nodes that its names lead to.
-use Rattle.std.proofs.Common.{◌≡◌, ◌≤◌, ◌+◌, ℕ, zero, suc, Bool, true, false, [], length, take, max, Option, Some, None, option_map, option_and_then, refl, sym}
-use Rattle.std.proofs.{Common.{ap, subst, arith, ◌∙◌}, lemmas.Bool.false≢true, lemmas.List.take_all, Math.Logic.∥∥₁_elim, Math.Nat.{le-max_left, le-max_right}}
+use Rattle.std.proofs.Common.{◌≡◌, ◌≤◌, ◌+◌, ℕ, Bool, true, false, length, take, max, Option, Some, None, option_map, option_and_then, refl, sym, ap, subst}
+use Rattle.std.proofs.{Common.{arith, ◌∙◌}, lemmas.Bool.false≢true, lemmas.List.take_all, Math.Logic.∥∥₁_elim, Math.Nat.{le-max_left, le-max_right}}
 use mathlib.Core.HLevel.{⊥_prop}
 use borrow.Author.Tests.{eqb-true, eqb-false}
 use Rattle.std.specs.Prelude.{IsSome, ◌==◌}
@@ -28,11 +28,6 @@ own_at look o p id node at is = ap (λ e. or_zero (own_revision e)) (shown_at lo
 -- no `own` at up to so many of the path's first names is of a later revision than k
 abbrev pub IsNoneLater : Tree → PathValue → ℕ → ℕ → Type 0
 IsNoneLater t p names k = (n : ℕ) → n ≤ names → or_zero (own_revision (t (take n p))) ≤ k
-
-pub first_name : (t : Tree) (p : PathValue) (k : ℕ) → or_zero (own_revision (t [])) ≡ k
-    → IsNoneLater t p 0 k
-first_name t p k is zero within = subst (λ m. or_zero (own_revision (t [])) ≤ m) is (omega arith)
-first_name t p k is (suc n) within = absurd (omega (arith, within))
 
 pub next_name : (t : Tree) (p : PathValue) (i k mark : ℕ) → IsNoneLater t p i k
     → or_zero (own_revision (t (take (i + 1) p))) ≡ mark → IsNoneLater t p (i + 1) (max k mark)

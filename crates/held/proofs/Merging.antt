@@ -1,6 +1,5 @@
 -- What a commit of a transaction's tree makes, as the map of the definitions.
 use Rattle.std.proofs.{Common.{◌≡◌, ℕ, Bool, true, false, ◌&&◌, ◌||◌, Option, Some, None, option_map, refl, sym, ap, subst, ◌∙◌}, lemmas.Bool.false≢true}
-use Rattle.std.proofs.Math.Logic.{∥∥₁_map}
 use Rattle.std.specs.Prelude.{if◌then◌else◌, Err}
 use Rattle.svnpath.specs.Paths.{PathValue}
 use Rattle.repo_api.specs.{Edits.touched, Marks.{AreMarked, IsTransactionOf, own_of, shown}}
@@ -12,8 +11,7 @@ use Rattle.repo_laws.proofs.{MergeLaws.{untouched_own, same_look}, Naming.same_m
 use Rattle.treemerge.specs.{Merges.{IsTold, IfConflict}, declared.merging.MergeFault.MergeFault}
 use Rattle.treemerge.specs.declared.merging.MergeFault.TheVariants as merges
 use Rattle.txntree.specs.declared.tree.TxnTree.{TxnTree}
-use Rattle.held.specs.{Committing.{commit_fault, conflicts, IsMerge}, Maps.{IsMapOf, Mapped}, declared.committing.CommitFault.CommitFault}
-use Rattle.held.specs.declared.held.Held.{Held}
+use Rattle.held.specs.{Committing.{commit_fault, conflicts, IsMerge}, Maps.IsMapOf, declared.committing.CommitFault.CommitFault, declared.held.Held.Held}
 
 -- maps of three trees
 module _ (n : ℕ) (a s t : Tree) (ma ms mt : TreeMap) (isa : IsMapOf a ma) (iss : IsMapOf s ms)
@@ -31,11 +29,6 @@ module _ (n : ℕ) (a s t : Tree) (ma ms mt : TreeMap) (isa : IsMapOf a ma) (iss
       → has_conflict ma ms mt ≡ true
   conflict_at p is =
       conflict_is ma ms mt p ((λ i. is_in_conflict (isa p i) (iss p i) (ist p i)) ∙ is)
-
-pub merged_mapped : (n : ℕ) (a s t new : Tree) (ma mt : TreeMap) → IsMapOf a ma → IsMapOf t mt
-    → ((q : PathValue) → new q ≡ merged n a s t q) → ∥ Mapped s ∥₁ → ∥ Mapped new ∥₁
-merged_mapped n a s t new ma mt isa ist is mapped =
-    ∥∥₁_map mapped (λ m. (merged_map n ma m.0 mt, merged_is n a s t ma m.0 mt isa m.1 ist new is))
 
 -- ---- where a transaction left an entry it is the old one, but for `last`
 

@@ -1,5 +1,5 @@
 //! How far back the marks at and above a path go.
-ghost use Rattle.std.specs.Prelude.{◌≡◌, ◌≤◌, IfSome};
+ghost use Rattle.std.specs.Prelude.{◌≤◌, IfSome};
 ghost use Rattle.repo_api.specs.Histories.{history_of, IsQuietSince};
 ghost use Rattle.history_marks.specs.Sound.{IsSoundRepo};
 ghost use Rattle.noderevs.specs.{Held.node_at, Views.shared_tree};

@@ -1,6 +1,5 @@
 //! Dates of revisions.
 ghost use Rattle.std.specs.{Prelude.{◌≡◌, length, option_copied}, List.{list_all, zip}};
-ghost use Rattle.repo_api.specs.Kinds.{properties_at};
 ghost use Rattle.history.specs.Dates.{fits, date_form, is_date_text, is_date_name, date_of, is_up_to, is_dated, dated_rev};
 
 use repo_api::{Properties, Repository};

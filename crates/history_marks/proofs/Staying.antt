@@ -1,14 +1,11 @@
 -- What is sound stays sound.
-use Rattle.std.proofs.Common.{◌≡◌, ◌<◌, ◌+◌, ℕ, zero, suc, List, [], ◌∷◌, ◌++◌, length, None, is_some, refl, sym, ap, subst, arith, length-append, append-nil}
-use Rattle.std.proofs.{Common.◌∙◌, lemmas.Bool.false≢true}
-use Rattle.std.specs.{FinMap.{empty, get-empty}, Prelude.IsSome}
-use Rattle.svnpath.specs.Paths.{path_cmp, PathValue}
+use Rattle.std.proofs.Common.{◌≡◌, ◌<◌, ◌+◌, ℕ, zero, suc, List, [], ◌∷◌, ◌++◌, length, None, sym, arith, length-append}
+use Rattle.std.specs.FinMap.{empty}
 use Rattle.repo_api.specs.{Accepted.{Accepted, changed, IsAccepted}, Accepted.Accepted.{ChangesProperty, Commits, Locks, Releases, Unlocks}}
-use Rattle.repo_api.specs.{Commits.{commit_refusal, committed, next_tree}, Edits.{begun, edited, with_value, without_value}, Marks.HasSource}
-use Rattle.repo_api.specs.{Opening.{new_repository, opening_tree}, RightEdits.{HasParent, IsRightEdit}, Soundness.{AreSound, AreTrees}}
+use Rattle.repo_api.specs.{Commits.{commit_refusal, committed, next_tree}, Edits.{begun, edited}, Opening.{new_repository, opening_tree}}
+use Rattle.repo_api.specs.{RightEdits.IsRightEdit, Soundness.{AreSound, AreTrees}}
 use Rattle.repo_api.specs.{States.{IsBeginning, IsBegun, IsEdited, RepoState, Revision, tree_of, trees_in, TxnState, youngest}, Trees.{IsTree, Tree}}
 use Rattle.repo_api.specs.{declared.ask.CommitAsk.CommitAsk, declared.edit.EditOp.EditOp}
-use Rattle.repo_api.specs.declared.edit.EditOp.TheVariants.{AddDirectory, AddFile, Copy, Replace, Delete, SetProperty, RemoveProperty, SetText}
 use Rattle.repo_laws.proofs.{Keeping.tree_by_paths, Standing.{edited_tree, source_there}}
 use Rattle.repo_laws.proofs.Revisions.{opening_marked, begun_marked, edited_marked, accepted_meets, committed_marked, committed_tree}
 use Rattle.history_marks.specs.Sound.{IsSoundRepo, IsSoundTxn, IsSoundChange}

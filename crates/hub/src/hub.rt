@@ -1,6 +1,6 @@
 //! Many sessions over one repository.
-ghost use Rattle.std.specs.Prelude.{◌≡◌, if◌then◌else◌, ◌+◌, ◌<◌, ◌≤◌, ◌++◌, [], ◌∷◌, ℕ, List, Bool, true, false, not, ◌&&◌, length, MatchOption, IfOk, IfErr};
-ghost use Rattle.std.specs.Prelude.{OnOk, OnErr, Ok, None, is_some};
+ghost use Rattle.std.specs.Prelude.{◌≡◌, if◌then◌else◌, ◌+◌, ◌<◌, ◌++◌, [], ◌∷◌, ℕ, List, not, ◌&&◌, length, MatchOption, IfOk, IfErr, OnOk, OnErr, Ok, None};
+ghost use Rattle.std.specs.Prelude.{is_some};
 ghost use Rattle.repo_api.specs.{Opening.new_repository, Soundness.AreSound};
 ghost use Rattle.access.specs.{Points.content_of, Sole.point_at};
 ghost use Rattle.wire_replies.specs.Replies.{print};

@@ -1,5 +1,5 @@
 //! Hubs over repositories in which locks stand that nobody asked for there.
-ghost use Rattle.std.specs.Prelude.{◌≡◌, OnOk, IfOk};
+ghost use Rattle.std.specs.Prelude.{◌≡◌, IfOk};
 ghost use Rattle.repo_api.specs.Soundness.{AreSound};
 
 use access::SoleRepository;

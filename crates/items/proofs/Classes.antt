@@ -12,9 +12,6 @@ space-no_digit b h = grind (arith, nat_tests)
 pub space-no_colon : (b : ℕ) → is_space b ≡ true → (b == 58) ≡ false
 space-no_colon b h = grind (arith, nat_tests)
 
-pub space-no_closing : (b : ℕ) → is_space b ≡ true → (b == 41) ≡ false
-space-no_closing b h = grind (arith, nat_tests)
-
 pub digit-no_space : (b : ℕ) → is_ascii_digit b ≡ true → is_space b ≡ false
 digit-no_space b h = grind (arith, nat_tests)
 

@@ -1,5 +1,5 @@
 -- What is printed for rows.
-use Rattle.std.proofs.Common.{◌≡◌, ℕ, List, [], ◌∷◌, ◌++◌, sym, ap, ◌∙◌, append_assoc, append-nil}
+use Rattle.std.proofs.Common.{◌≡◌, List, [], ◌∷◌, ◌++◌, sym, ap, ◌∙◌, append_assoc, append-nil}
 use Rattle.items.specs.{declared.item.Item.Item, View.{value_of, values_of}, Print.{printed, row_printed}}
 
 pub row_printed-snoc : (items : List Item) (i : Item) → row_printed (values_of (items ++ (i ∷ []))) ≡ row_printed (values_of items) ++ printed (value_of i)

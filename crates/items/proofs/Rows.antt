@@ -1,6 +1,6 @@
 -- Rows that grow by an item.
-use Rattle.std.proofs.Common.{◌≡◌, ℕ, ◌+◌, List, [], ◌∷◌, ◌++◌, map, refl, sym, ap, ◌∙◌, subst, length, append_assoc, append-nil, add-zero, add_assoc}
-use Rattle.std.proofs.Common.{length-append, arith}
+use Rattle.std.proofs.Common.{◌≡◌, ℕ, ◌+◌, List, [], ◌∷◌, ◌++◌, map, refl, sym, ap, ◌∙◌, subst, length, append_assoc, append-nil, add_assoc, length-append}
+use Rattle.std.proofs.Common.{arith}
 use Rattle.items.specs.{declared.item.Item.Item, Values.{ItemValue, none, more, limits, AreWithin}, Spelling.AreSpelled, Stream.{IsItem, IsRow, HasNoItem}}
 use Rattle.items.specs.{View.{row_of, value_of, values_of}, Unread.Unread, Reading.{counted, Takes}, Decoding.{TakesSome, TakesAll, DecodedSoFar}}
 use Rattle.items.proofs.Scanned.{no_item_in_none}
@@ -24,10 +24,6 @@ row-more : (items : List Item) (i : Item) (a b : List ℕ) → IsRow limits (val
 row-more items i a b r h =
     let P : List ItemValue → Type 0 = λ x. IsRow limits (row_of x) (a ++ b) in
     subst P (sym (map-snoc items i)) (row-snoc (map value_of items) (value_of i) a b r h)
-
-pub takes_none : (old : Unread) (items : List Item) → TakesSome old items items old
-takes_none old items =
-    record { front = []; whole = refl; row = λ base r. (let P : List ℕ → Type 0 = λ x. IsRow limits (values_of items) x in subst P (sym (append-nil base)) r); place = λ base e. e ∙ ap counted (sym (add-zero base)) }
 
 pub counted_twice : (a b : ℕ) → counted (counted a + b) ≡ counted (a + b)
 counted_twice a b = omega arith

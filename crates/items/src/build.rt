@@ -1,5 +1,5 @@
 // The item that bytes spell, built in one pass once they are all there.
-ghost use Rattle.std.specs.Prelude.{◌≡◌, ◌≤◌, ◌∷◌, ℕ, List, IfOk, length, take, drop};
+ghost use Rattle.std.specs.Prelude.{◌≡◌, ◌≤◌, ◌∷◌, ℕ, List, IfOk, length, drop};
 ghost use Rattle.items.specs.{Values.{ItemValue, limits}, Stream.IsItem, View.{value_of, values_of}};
 ghost use Rattle.items.specs.Build.{read, row_reader, behind_spaces, word_len, numeral_at, behind_numeral, word_at, StartsWord};
 

@@ -53,7 +53,7 @@ pub struct ItemReader {
 }
 
 impl Model for ItemReader {
-    ghost use Rattle.std.specs.Prelude.{◌^◌, ◌<◌};
+    ghost use Rattle.std.specs.Prelude.{◌<◌};
     ghost use Rattle.items.specs.{Unread.Unread, Run.IsScanned};
 
     ghost Value = { Unread };

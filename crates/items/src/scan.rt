@@ -1,5 +1,5 @@
 // The scanner: it goes over the bytes once, up to the end of an item or to a byte that is wrong.
-ghost use Rattle.std.specs.Prelude.{◌≡◌, ◌≤◌, IfSome, IfNone, length};
+ghost use Rattle.std.specs.Prelude.{◌≡◌, ◌≤◌, IfSome};
 ghost use Rattle.items.specs.{Values.limits, Scan.{step, behind_body, gap_step, step_in, number_step, is_space, is_word_byte, StaysShallow}};
 ghost use Rattle.items.specs.Run.{IsScanned, EndsSo, Skips};
 

@@ -1,5 +1,5 @@
 // The items of a stream that comes in pieces.
-ghost use Rattle.std.specs.{Prelude.{◌≡◌, ◌++◌, List, ℕ, IfOk, IfErr, OnOk}, List.flat_map};
+ghost use Rattle.std.specs.{Prelude.{◌≡◌, List, ℕ, IfOk, IfErr, OnOk}, List.flat_map};
 ghost use Rattle.items.specs.{Stream.Splits, Values.ItemValues, View.values_of, Decoding.{TakesAll, Fails, IsFaultOfStream}};
 
 use crate::item::Item;

@@ -1,6 +1,6 @@
 -- What an item is that was refused.
-use Rattle.std.proofs.Common.{◌≡◌, ◌⊎◌, inl, inr, refl, Bool, true, false}
-use Rattle.std.specs.Prelude.{Result, Err, not}
+use Rattle.std.proofs.Common.{◌≡◌, ◌⊎◌, inl, inr}
+use Rattle.std.specs.Prelude.{Result, Err}
 use Rattle.wire_forms.specs.{declared.fault.CommandFault.CommandFault, declared.fault.CommandFault.TheVariants.{UnknownName, BadParameters, NoMemory}}
 
 pub bad : {T : Type 0} (wanted : Result T CommandFault) → (wanted ≡ Err BadParameters) ⊎ (BadParameters ≡ NoMemory) → wanted ≡ Err BadParameters
@@ -10,7 +10,3 @@ bad wanted (inr e) = cc
 pub unknown : {T : Type 0} (wanted : Result T CommandFault) → (wanted ≡ Err UnknownName) ⊎ (UnknownName ≡ NoMemory) → wanted ≡ Err UnknownName
 unknown wanted (inl e) = e
 unknown wanted (inr e) = cc
-
-pub unless_not : (b : Bool) → not b ≡ false → b ≡ true
-unless_not true h = refl
-unless_not false h = cc

@@ -1,12 +1,11 @@
 -- What the commands of a report are answered, and the client's answer to a drive.
-use Rattle.std.specs.Prelude.{◌≡◌, ℕ, Bool, true, false, List, [], ◌∷◌, map, Option, Some, None}
+use Rattle.std.specs.Prelude.{◌≡◌, Bool, true, false, List, [], ◌∷◌, map, Option, Some, None}
 use Rattle.items.specs.Values.{ItemValue}
 use Rattle.refusals.specs.declared.Refusal.TheVariants as refusals
 use Rattle.repo_api.specs.States.{RepoState}
 use Rattle.wire_edits.specs.declared.editing.EditorCommand.TheVariants as edits
 use Rattle.wire_replies.specs.declared.reply.Reply.TheVariants as replies
-use Rattle.wire_reports.specs.declared.asking.DriveRequest.{DriveRequest}
-use Rattle.drive_reports.specs.{Refusing.{ask_of, begun_report}, declared.ask.Purpose.Purpose, declared.graft.Graft.Graft}
+use Rattle.drive_reports.specs.declared.graft.Graft.{Graft}
 use Rattle.drive_wire.specs.{Reporting.{Drawn, ReportStep}, Reporting.Drawn.{GoesOn, GivenUp, Fails, Drives, Malformed}}
 use Rattle.machine.specs.{Settings.Settings, Answers.{Answer, Step, says, serves, malformed}, declared.env.Env.Env, declared.phase.Client.Client}
 use Rattle.machine.specs.{declared.phase.OpenReporting.OpenReporting, declared.phase.Phase.TheVariants.{Serving, Reporting, Driven}}

@@ -1,5 +1,5 @@
 //! A login that is under way.
-ghost use Rattle.std.specs.Prelude.{◌≡◌, option_map};
+ghost use Rattle.std.specs.Prelude.{◌≡◌};
 ghost use Rattle.machine.specs.{Commands.env_without_token, Logins.{offer, offers_anonymous, offers_user, chosen, without_nonce}};
 
 use crate::env::Env;

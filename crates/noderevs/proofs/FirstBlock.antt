@@ -1,12 +1,11 @@
 -- The nodes of revision 0.
-use Rattle.std.proofs.Common.{◌≡◌, ◌==◌, ℕ, zero, suc, Bool, true, false, [], ◌∷◌, Option, Some, None, option_and_then, is_some, refl, sym, ap, subst, ◌∙◌}
-use Rattle.std.proofs.{Common.arith, lemmas.Bool.false≢true, lemmas.Option.slice_get_within}
+use Rattle.std.proofs.Common.{◌≡◌, ◌==◌, ℕ, zero, suc, Bool, true, false, [], ◌∷◌, Option, Some, None, option_and_then, refl, sym, ap, ◌∙◌, arith}
+use Rattle.std.proofs.lemmas.Option.{slice_get_within}
 use Rattle.std.specs.Prelude.{Result, Ok, Err, IfOk, if◌then◌else◌, slice_get}
 use Rattle.svnpath.specs.Paths.{Component, PathValue}
 use Rattle.repo_api.specs.{Opening.{opening_root, opening_tree}, StateLaws.get_path, States.tree_of}
-use Rattle.noderevs.specs.{Nodes.{Look, node_in, kid_of, kid_at, IsThere, with_block}, OpeningBlocks.{opening_id, IsOpeningBlock}}
-use Rattle.noderevs.specs.{Soundness.{AreKidsThere, IsNext}, Heights.{IsHeight, AreHigh}, Views.shared_tree, declared.node_rev.Block.Block}
-use Rattle.noderevs.specs.{declared.node_rev.NodeId.NodeId, declared.node_rev.NodeRev.NodeRev}
+use Rattle.noderevs.specs.{Nodes.{node_in, kid_of, kid_at, with_block}, OpeningBlocks.{opening_id, IsOpeningBlock}, Views.shared_tree}
+use Rattle.noderevs.specs.{declared.node_rev.Block.Block, declared.node_rev.NodeId.NodeId, declared.node_rev.NodeRev.NodeRev}
 use Rattle.noderevs.proofs.Finding.{nothing_under}
 
 no_kid : (node : NodeRev) → ((name : Component) → kid_of name node ≡ None) → (id : NodeId) (name : Component) → kid_at (with_block (node_in []) 0 (node ∷ [])) (Some id) name ≡ None
@@ -29,43 +28,6 @@ some_is m n e = ap (λ o. or_node m o) e
     or_node : NodeRev → Option NodeRev → NodeRev
     or_node d None = d
     or_node d (Some x) = x
-
-alone_high : (node : NodeRev) → ((name : Component) → kid_of name node ≡ None) → node.height ≡ 0
-    → AreHigh (with_block (node_in []) 0 (node ∷ []))
-alone_high node none low id m = by (id.rev == 0)
-  where
-    w : Look
-    w = with_block (node_in []) 0 (node ∷ [])
-
-    own : IsHeight w node.kids node.height
-    own = record {
-      enough = λ name kid k named found. absurd (false≢true (ap is_some (sym (none name) ∙ named)));
-      least = λ n enough. omega (arith, low);
-    }
-
-    first : (k : ℕ) → slice_get (node ∷ []) k ≡ Some m → IsHeight w m.kids m.height
-    first zero is = subst (λ x. IsHeight w x.kids x.height) (some_is node m is) own
-    first (suc k) is = absurd (false≢true (ap is_some is))
-
-    by : (b : Bool) → (if b then slice_get (node ∷ []) id.place else node_in [] id) ≡ Some m
-        → IsHeight w m.kids m.height
-    by true is = first id.place is
-    by false is = absurd (false≢true (ap is_some is))
-
-next_alone : (block : Block) (node : NodeRev) → block.nodes.items ≡ node ∷ [] → block.root ≡ opening_id → ((name : Component) → kid_of name node ≡ None)
-    → node.height ≡ 0 → IsNext (node_in []) 0 block
-next_alone block node nodes root none low = record {
-  high = subst (λ ns. AreHigh (with_block (node_in []) 0 ns)) (sym nodes) (alone_high node none low);
-  kids = subst (λ ns. AreKidsThere (with_block (node_in []) 0 ns)) (sym nodes)
-      (λ id kid name is. absurd (false≢true (ap is_some (sym (no_kid node none id name) ∙ is))));
-  root = subst (λ id. IsThere (with_block (node_in []) 0 block.nodes.items) id) (sym root)
-      (subst (λ ns. IsThere (with_block (node_in []) 0 ns) opening_id) (sym nodes) refl);
-  apart = λ j k m n at_j at_k path.
-      one_place node m j (ap (λ ns. slice_get ns j) (sym nodes) ∙ at_j) ∙ sym (one_place node n k (ap (λ ns. slice_get ns k) (sym nodes) ∙ at_k));
-}
-
-pub opening_next : (block : Block) → IsOpeningBlock block → IsNext (node_in []) 0 block
-opening_next block is = next_alone block is.node is.nodes is.root is.is.kids is.is.height
 
 opening_at : (q : PathValue) (name : Component) → tree_of opening_tree (name ∷ q) ≡ None
 opening_at q name = get_path (([], opening_root) ∷ []) (name ∷ q)

@@ -1,5 +1,5 @@
 //! The locks that changes reach, found run by run in a map that goes by components.
-ghost use Rattle.std.specs.{Prelude.{◌≡◌, ◌++◌, OnOk, IfOk, map, option_copied}, List.filter, List.Sorted.IsStrictlySortedBy, Map.keys_of, Map.Iter.deref_pair};
+ghost use Rattle.std.specs.{Prelude.{◌≡◌, ◌++◌, OnOk, map, option_copied}, List.filter, List.Sorted.IsStrictlySortedBy, Map.keys_of, Map.Iter.deref_pair};
 ghost use Rattle.svnpath.specs.Paths.{is_at_or_under, path_cmp, same_path};
 ghost use Rattle.repo_api.specs.Locking.{is_of_whole_tree, is_reached, reaches};
 ghost use Rattle.pathlocks.specs.Tops.{is_below, top_after};

@@ -1,5 +1,5 @@
 //! What holds of locks. The functions do nothing: their contracts are the laws.
-ghost use Rattle.std.specs.{Prelude.{◌≡◌, ℕ, Bool, true, false, IsTrue, List, Option, Some, None}, FinMap.{get, empty, insert, remove}, List.list_any};
+ghost use Rattle.std.specs.{Prelude.{◌≡◌, ℕ, true, false, IsTrue, List, Option, Some, None}, FinMap.{get, empty, insert, remove}, List.list_any};
 ghost use Rattle.svnpath.specs.Paths.{PathValue, same_path};
 ghost use Rattle.repo_api.specs.{Accepted.{Accepted, changed_all}, Commits.commit_refusal, LockRuns.{HaveNewTokens, HaveOwnTokens, names_lock}};
 ghost use Rattle.repo_api.specs.Locking.{after_release, check_refusal, HandedTokens, is_handed_in, is_in_the_way, released, releases};

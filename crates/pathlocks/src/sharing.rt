@@ -1,6 +1,6 @@
 //! Changes of locks that views may share. Where a view does, the locks are copied before the first change,
 //! and the view keeps what it has seen; else they are changed in place, whatever other locks stand.
-ghost use Rattle.std.specs.{Prelude.{◌≡◌, OnOk, OnErr, Some, None, option_copied}, FinMap.{get, insert, remove}};
+ghost use Rattle.std.specs.{Prelude.{◌≡◌, OnOk, OnErr, option_copied}, FinMap.{get, insert, remove}};
 ghost use Rattle.repo_api.specs.{Accepted.Becomes, Locking.{after_release, lock_of, lock_refusal_at, taking_refusal}};
 
 use crate::locks::Locks;

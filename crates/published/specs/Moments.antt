@@ -146,14 +146,3 @@ counts p e q is = (
   ap (λ (x : Point). x.failures) is,
   ap (λ (x : Point). x.pending) is,
 )
-
--- what is learned of a halt leads on
-pub knows_more : (p q : Point) (b : Bool) → GoesOn p q → GoesOn p (knowing q b)
-knows_more p q b g = record {
-  first = g.first;
-  more = g.more;
-  changes = g.changes;
-  right = g.right;
-  halted = λ h. (ap (λ (k : Bool). k || b) (g.halted h).0, (g.halted h).1);
-  failures = g.failures;
-}

@@ -1,5 +1,5 @@
 //! The history of one repository, which exists in the proofs alone.
-ghost use Rattle.std.specs.Prelude.{◌≡◌, ◌+◌, ◌==◌, ◌<◌, ◌≤◌, ◌^◌, ◌++◌, ◌∷◌, ◌⊎◌, [], None, true, length, MatchBool};
+ghost use Rattle.std.specs.Prelude.{◌≡◌, ◌+◌, ◌==◌, ◌<◌, ◌^◌, ◌++◌, ◌∷◌, [], true, length, MatchBool};
 ghost use mathlib.Core.List.{IsPrefix};
 ghost use Rattle.published.specs.{Events.{IsHistory, IsLonger}, Rules.{head_of, MayAdd}, Moments.ListGoesOn};
 

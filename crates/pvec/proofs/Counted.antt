@@ -3,7 +3,7 @@ use Rattle.std.proofs.Common.{◌≡◌, ◌≤◌, ◌<◌, ◌+◌, ◌*◌, �
 use Rattle.std.proofs.{lemmas.List.{length-append, length-map}, lemmas.List.Concat.flat_map-append}
 use Rattle.std.specs.{List.flat_map, Prelude.{slice_get, slice_set}, declared.sync.Arc.Arc, declared.vec.Vec.Vec}
 use Rattle.pvec.specs.Parts.{values, leaf_items, branch_items, AreEven, Each, AreOfEvenLeaves, items_of, IsEven}
-use Rattle.pvec.proofs.Even.{length_even, even_push, each_push, get_left, get_right, set_left, set_right, length_set}
+use Rattle.pvec.proofs.Even.{length_even, even_push, each_push, get_left, get_right, set_left, set_right}
 
 module _ {X Y Z V W A : Type 0} (branches : List (Arc (Vec (Arc (Vec (Arc X Y) Z) V) W) A)) (leaves : List (Arc (Vec (Arc X Y) Z) V)) (tail : List (Arc X Y)) (even : IsEven branches leaves tail) where
   pub in_branches : length (flat_map branch_items (values branches)) ≡ length branches * 4096
@@ -149,7 +149,3 @@ module _ {X Y Z V W A : Type 0} (branches : List (Arc (Vec (Arc (Vec (Arc X Y) Z
           omega (arith, all, same, wide)
 
 -- ---- another item at a place
-
-still_even : {X Y Z V W A : Type 0} (branches : List (Arc (Vec (Arc (Vec (Arc X Y) Z) V) W) A)) (leaves : List (Arc (Vec (Arc X Y) Z) V)) (tail : List (Arc X Y)) (old : List X) (i : ℕ) (v : X)
-    → items_of branches leaves tail ≡ slice_set old i v → length old ≤ 262144 → length (items_of branches leaves tail) ≤ 262144
-still_even branches leaves tail old i v is limit = subst (λ n. n ≤ 262144) (sym (ap length is ∙ length_set old i v)) limit

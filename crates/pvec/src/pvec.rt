@@ -1,6 +1,5 @@
 //! The list as a whole.
 ghost use Rattle.std.specs.Prelude.{◌≡◌, ◌≤◌, ◌<◌, ◌++◌, ◌∷◌, [], length, IfOk, IsErrOf, slice_get, slice_set, option_copied, Err};
-ghost use Rattle.pvec.specs.Parts.{values, leaf_items, branch_items};
 
 use crate::parts::{Branch, Leaf, WIDTH, count, item, with_one_more};
 use crate::replacing::{replaced, replaced_in_branches, replaced_in_leaves};

@@ -30,16 +30,6 @@ pub text_renewed : (f : Entry → Entry) → ((e : Entry) → (f e).content ≡ 
 text_renewed f same None = refl
 text_renewed f same (Some e) = ap content_text (same e)
 
--- a tree whose entries are renewed is a tree
-pub renewed_tree : (t : Tree) (f : PathValue → Entry → Entry) → ((p : PathValue) (e : Entry) → (f p e).content ≡ e.content) → IsTree t → IsTree (λ p. option_map (f p) (t p))
-renewed_tree t f same is = record {
-  root = renewed_directory (f []) (same []) (t []) is.root;
-  parents = λ p c some. renewed_directory (f p) (same p) (t p) (is.parents p c (some_renewed (f (p ++ c ∷ [])) (t (p ++ c ∷ [])) some));
-  finite = (is.finite.0, λ p some. is.finite.1 p (some_renewed (f p) (t p) some));
-  right = λ p some. is.right p (some_renewed (f p) (t p) some);
-  short = λ p text h. is.short p text (sym (text_renewed (f p) (same p) (t p)) ∙ h);
-}
-
 -- what answers the same everywhere is the same
 pub tree_by_paths : (t u : Tree) → ((p : PathValue) → t p ≡ u p) → IsTree t → IsTree u
 tree_by_paths t u same is = subst IsTree (λ i p. same p i) is

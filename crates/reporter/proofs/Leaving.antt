@@ -26,10 +26,6 @@ pub below_left : (t : WalkedTrees) (anew : Bool) (p : PathValue) (xs : List Path
     → LeftOf t (deletes_of anew t.old t.new xs) anew xs vs → IsPlanBelow t anew p vs
 below_left t anew p xs vs listed (later, is, plans) = subst (IsPlanBelow t anew p) (sym is) (below_directory t anew p xs later listed plans)
 
-pub delete_left : (t : WalkedTrees) (ds rest : List Visit) (anew : Bool) (es : List PathValue) (v : Visit) (vs more : List Visit) → ds ≡ v ∷ rest → vs ≡ v ∷ [] → LeftOf t rest anew es more → LeftOf t ds anew es (vs ++ more)
-delete_left t ds rest anew es v vs more pops is (later, left, plans) =
-    (later, ap (λ us. us ++ more) is ∙ ap (λ us. v ∷ us) left ∙ sym (ap (λ us. us ++ later) pops), plans)
-
 pub entry_left : (t : WalkedTrees) (ds : List Visit) (anew : Bool) (x : PathValue) (es rest : List PathValue) (vs more : List Visit) → ds ≡ [] → es ≡ x ∷ rest → IsPlanOf t anew x vs → LeftOf t ds anew rest more → LeftOf t ds anew es (vs ++ more)
 entry_left t ds anew x es rest vs more empty pops plan (later, left, plans) =
     (vs ++ later, ap (λ us. vs ++ us) (left ∙ ap (λ us. us ++ later) empty) ∙ sym (ap (λ us. us ++ (vs ++ later)) empty), subst (λ ys. ArePlansOf t anew ys (vs ++ later)) (sym pops) (vs, later, refl, plan, plans))

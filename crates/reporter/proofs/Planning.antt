@@ -1,13 +1,13 @@
 -- The visits of a directory's entries, one after the other, and of what goes.
 use Rattle.std.proofs.Common.{◌≡◌, ◌<◌, ℕ, zero, suc, ◌+◌, arith, Bool, true, false, cond, ◌&&◌, ◌||◌, not, List, [], ◌∷◌, ◌++◌, length, drop, take, get_or}
 use Rattle.std.proofs.{Common.{map, Option, Some, None, refl, sym, ap, ◌∙◌, subst, ◌⊎◌, inl, inr, ⊎_elim, option_map, if◌then◌else◌}, lemmas.Bool.false≢true}
-use Rattle.std.proofs.{lemmas.List.{length-append, append-nil, append_assoc, take_more}, lemmas.List.Elements.{All-head, All-tail}}
+use Rattle.std.proofs.{lemmas.List.{length-append, append-nil, append_assoc}, lemmas.List.Elements.{All-head, All-tail}}
 use Rattle.std.specs.{Prelude.{IsTrue, IsSome, IsSomeAnd, is_some, All, IfOk, Result, Ok, Err}, List.list_any}
 use Rattle.svnpath.specs.{PathLaws.{same_path_is, same_path_refl, under_append, under_is, under_itself}, Paths.{is_at_or_under, PathValue, same_path}}
 use Rattle.repo_api.specs.{Trees.{HasDirectory, is_directory, is_directory_there, Tree}, declared.entry.Entry.Entry}
 use Rattle.drive_rules.specs.{Drives.{created_revision, IsInBoth, IsRight}, Scopes.{below, HoldsTogether, tree_without, under}}
 use Rattle.drive_rules.specs.Steps.{may_change, Node, node_at, node_of, Step}
-use Rattle.drive_rules.proofs.Joined.{or_cases, or_left, or_right, or_false, and_front, any_append, reach_named, joined, nothing, none_some}
+use Rattle.drive_rules.proofs.Joined.{or_cases, or_left, or_right, or_false, and_front, reach_named, joined, nothing, none_some}
 use Rattle.drive_rules.proofs.Entries.{rescoped, under_more, below_under, IsCut, cut, kept, left_out}
 use Rattle.reporter.specs.{declared.visit.Visit.Visit, declared.visit.Visit.TheVariants.{Open, Delete, Close}, Nesting.entry_visits}
 use Rattle.reporter.specs.{Visits.{plan_steps, visit_steps}, Walks.{any_under, BothHold, LeadsOver, AreApart, IsChild, AreChildren, AreAll, goes, going}}
@@ -167,28 +167,6 @@ left_under false r t p x xs i children lt is child q u = by (Goes r t x) refl �
     by false g = sym (ap (λ a. cond a None (r q)) (none_going r t p x xs q children.each child u g))
 
 -- ---- joining children
-
-pub child_joined : (seen : Node → Node) (stale : PathValue → Bool) (s t : Tree) (x : PathValue) (xs : List PathValue) (i : ℕ) (done more : List Step) → i < length xs → x ≡ get_or xs i x → AreApart xs
-    → IsRight seen (any_under (take i xs)) stale s t done → IsRight seen (under x) stale s t more
-    → IsRight seen (any_under (take (i + 1) xs)) stale s t (done ++ more)
-child_joined seen stale s t x xs i done more lt is children one other =
-    rescoped scopes
-    (joined seen (any_under (take i xs)) (under x) stale s t done more apart
-    (λ q h. reach_named done q (λ y named. false_or (is_at_or_under q y) (λ u. false≢true (sym (apart q (any_more (take i xs) q y (one.within y named) u)) ∙ h))))
-    (λ q h. reach_named more q (λ y named. false_or (is_at_or_under q y) (λ u. false≢true (sym (apart q h) ∙ under_more q y x u (other.within y named)))))
-    one other)
-  where
-    apart : (q : PathValue) → any_under (take i xs) q ≡ true → is_at_or_under q x ≡ false
-    apart q h = ap (is_at_or_under q) is ∙ apart_at xs i x q children lt h
-
-    swap : (b : Bool) → (b || false) ≡ b
-    swap true = refl
-    swap false = refl
-
-    scopes : (q : PathValue) → (any_under (take i xs) q || under x q) ≡ any_under (take (i + 1) xs) q
-    scopes q =
-        sym (ap (λ ys. any_under ys q) (take_more xs i x lt) ∙ any_append (λ y. is_at_or_under q y) (take i xs) (get_or xs i x ∷ [])
-        ∙ ap (λ b. any_under (take i xs) q || b) (swap (is_at_or_under q (get_or xs i x)) ∙ ap (is_at_or_under q) (sym is)))
 
 all_below : (p q : PathValue) (xs : List PathValue) → All (IsChild p) xs → any_under xs q ≡ true → below p q ≡ true
 all_below p q [] each h = absurd (false≢true h)

@@ -1,5 +1,5 @@
 //! What a stream of bytes brings.
-ghost use Rattle.std.specs.Prelude.{◌≡◌, ◌<◌, length, IfOk, OnErr, MatchOption, Some};
+ghost use Rattle.std.specs.Prelude.{◌≡◌, ◌<◌, IfOk, OnErr, MatchOption, Some};
 ghost use Rattle.machine.specs.Hearing.{HasNoMore, YieldsFirst};
 ghost use Rattle.session.specs.Taking.{input_of, Shortens, IsBrokenFault};
 

@@ -1,7 +1,7 @@
 -- The place of a name among parts, and in one of them.
 use Rattle.std.proofs.Common.{◌≡◌, ◌<◌, ◌≤◌, ◌+◌, ℕ, zero, suc, true, false, List, [], ◌∷◌, ◌++◌, take, drop, length, Option, Some, None, refl, sym, ap, subst}
-use Rattle.std.proofs.{Common.{arith, ◌∙◌}, lemmas.Bool.false≢true, lemmas.List.{take-append-drop, append-nil, nil_from_length}}
-use Rattle.std.proofs.{lemmas.List.Edits.length-remove, lemmas.Option.none-some}
+use Rattle.std.proofs.{Common.{arith, ◌∙◌}, lemmas.Bool.false≢true, lemmas.List.{take-append-drop, nil_from_length}, lemmas.List.Edits.length-remove}
+use Rattle.std.proofs.lemmas.Option.{none-some}
 use Rattle.std.specs.{Prelude.{T, slice_get, slice_set, IsSomeAnd}, List.{AllByRecursion, insert, remove}, FinMap.Entries.{is_sorted, put, find}}
 use Rattle.std.specs.{Ordering.is_lt, declared.cmp.Ordering.Ordering, declared.cmp.Ordering.TheVariants.{Less, Equal, Greater}, declared.sync.Arc.Arc}
 use Rattle.std.specs.declared.vec.Vec.{Vec}
@@ -273,9 +273,3 @@ module _ {X Y Z V : Type 0} (parts : List (Arc (Vec (Arc (List ℕ × X) Y) Z) V
           let old = filled_at parts i a is are.filled in
           let same = ap length (new ∙ less) in
           (omega (arith, size, more, same), omega (arith, size, old.1, same))
-
--- the entries of one part more
-pub entries_more : {X Y Z V : Type 0} (parts : List (Arc (Vec (Arc X Y) Z) V)) (i : ℕ) (a : Arc (Vec (Arc X Y) Z) V) → slice_get parts i ≡ Some a
-    → all_entries (take (i + 1) parts) ≡ all_entries (take i parts) ++ part_entries a.value
-entries_more parts i a is =
-    ap all_entries (take_at parts i a is) ∙ entries_append (take i parts) (a ∷ []) ∙ ap (λ l. all_entries (take i parts) ++ l) (append-nil (part_entries a.value))

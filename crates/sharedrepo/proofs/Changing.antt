@@ -12,7 +12,7 @@ use Rattle.access.specs.{Changing.{ChangesAt, IsFailure, IsHalt, ReleasesAfter, 
 use Rattle.access.specs.{declared.access.Released.Released, declared.access.Released.TheVariants.{Settled, NoMemory, StoreFailed}}
 use Rattle.access.specs.declared.handed.Handed.{Handed}
 use Rattle.published.specs.{Changes.IsRight, Moments.{added, shared_rules}}
-use Rattle.sharedrepo.specs.{Archives.{Kept, IsMade, IsNext, is_commit}, Settling.{SettlesTo, ReleasesTo, ReleasesHanded, released_as}}
+use Rattle.sharedrepo.specs.{Archives.{Kept, IsMade, IsNext, is_commit}, Settling.{SettlesTo, ReleasesTo, ReleasesHanded}}
 use Rattle.sharedrepo.specs.Standing.{Standing, IsSteady, now_of, NotBegun}
 use Rattle.sharedrepo.proofs.Keeping.{files_now, sound_now}
 
@@ -99,18 +99,6 @@ wanted ask handed c gone user tokens =
     ap (λ (k : Bool). not k && releases ask.author ask.tokens c.locks) gone
     ∙ (ap (λ (u : Option (List ℕ)). releases u ask.tokens c.locks) (sym user)
     ∙ ap (λ (ts : HandedTokens). releases handed.user ts c.locks) (sym tokens))
-
--- how the save of a release is told
-pub release_settled : (handed : Handed) (p q : Point) (r : Result (Unit {0}) ChangeFault) (told : Released)
-    → p.halted ≡ false → releases handed.user handed.tokens (content_of p).locks ≡ true
-    → ReplacesAt shared_rules None (Releases handed.user handed.tokens) p r q
-    → told ≡ released_as r → ReleasesTo handed p told q
-release_settled handed p q (Ok x) told running wants s is = subst (λ (t : Released). ReleasesTo handed p t q) (sym is) (inl (wants, s.2))
-release_settled handed p q (Err (faults.Refused r)) told running wants s is = let e : None ≡ Some r = s.1 in absurd (cc e)
-release_settled handed p q (Err faults.StoreFailed) told running wants s is = absurd s.2
-release_settled handed p q (Err faults.Halted) told running wants (inl s) is = absurd (true≢false (sym s.0 ∙ running))
-release_settled handed p q (Err faults.Halted) told running wants (inr s) is = subst (λ (t : Released). ReleasesTo handed p t q) (sym is) (wants, s.2)
-release_settled handed p q (Err faults.NoMemory) told running wants s is = subst (λ (t : Released). ReleasesTo handed p t q) (sym is) (wants, s)
 
 released_some : (ask : CommitAsk) (handed : Handed) (mid q : Point) (r : Released) → ask.keep_locks ≡ false
     → handed.user ≡ ask.author → handed.tokens ≡ ask.tokens → ReleasesTo handed mid r q → ReleasesAfter shared_rules ask mid r q

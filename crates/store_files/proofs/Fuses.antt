@@ -1,8 +1,7 @@
 -- A fuse that blows is counted.
-use Rattle.std.proofs.{Common.{◌≡◌, ◌⊎◌, inl, inr, ⊎_elim, ℕ, zero, suc, refl, ap, ◌∙◌, Err, arith}, lemmas.Bool.cases_lt}
-use Rattle.std.specs.Prelude.{◌≤◌, ◌<◌, ◌+◌, min}
-use Rattle.store_files.specs.{Moments.{HasCause, HasRisen, last_count}, Fuses.counted, declared.fault.StoreFault.StoreFault}
-use Rattle.store_files.specs.declared.fault.StoreFault.TheVariants.{Device}
+use Rattle.std.proofs.{Common.{◌≡◌, inl, inr, ℕ, zero, suc, refl, Err, arith}, lemmas.Bool.cases_lt}
+use Rattle.std.specs.Prelude.{◌≤◌, ◌+◌, min}
+use Rattle.store_files.specs.{Moments.{HasCause, HasRisen, last_count}, Fuses.counted, declared.fault.StoreFault.TheVariants.Device}
 
 rises : (x y : ℕ) → x ≤ y → x ≤ last_count → HasRisen x (min (y + 1) last_count)
 rises x y le few = elim (cases_lt x last_count) [

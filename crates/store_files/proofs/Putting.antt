@@ -1,10 +1,9 @@
 -- One file more in memory.
-use Rattle.std.proofs.Common.{◌≡◌, ◌≢◌, ◌⊎◌, inl, inr, ⊎_elim, ℕ, Bool, true, false, cond, List, Option, Some, None, refl, sym, ap, ◌∙◌, arith, le_refl}
-use Rattle.std.proofs.lemmas.Bool.Decides.{nat_tests}
+use Rattle.std.proofs.{Common.{◌≡◌, inl, inr, ℕ, Bool, true, false, cond, List, Option, Some, refl, sym, ap, ◌∙◌, arith}, lemmas.Bool.Decides.nat_tests}
 use Rattle.std.specs.{Prelude.{◌==◌, ◌&&◌, Vec}, BTreeMap.{BTreeMap, get, is_at}, Ordering.{nat_cmp, ordering_then, is_eq}, declared.alloc.Global.Global}
 use Rattle.std.specs.{declared.cmp.Ordering.Ordering, declared.cmp.Ordering.TheVariants.{Less, Equal, Greater}}
 use Rattle.store_files.specs.{Names.{kind_of, number_of, same_name}, NameLaws.same_name_tells, Folders.{Folder, IsSame, SameBut, bytes_of, with_file}}
-use Rattle.store_files.specs.{Memory.{by_numbers, files_of}, Moments.Elapses, declared.name.FileName.FileName}
+use Rattle.store_files.specs.{Memory.{by_numbers, files_of}, declared.name.FileName.FileName}
 
 both : (o p : Ordering) → is_eq (ordering_then o p) ≡ is_eq o && is_eq p
 both Less p = refl
@@ -50,7 +49,3 @@ put_others old new name bytes is n other = is n ∙ elim (same_name_tells name n
   | inl same ↦ absurd (other (sym same.1))
   | inr differs ↦ ap (λ b. cond b (Some bytes) (old n)) differs.0
 ]
-
--- a stop leaves no files of memory, at no moment
-pub leaves_none : (during : Folder → Type 0) → Elapses 0 0 (λ t f. ⊥) (λ t f. ⊥) during
-leaves_none during = record { later = le_refl 0; nothing_else = λ t f le none. absurd none; keeps = λ t f le none. none }

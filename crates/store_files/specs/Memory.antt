@@ -1,7 +1,7 @@
 -- Files in memory.
-use Rattle.std.specs.{Prelude.{ℕ, List, Vec}, BTreeMap.{BTreeMap, get}, Ordering.{nat_cmp, ordering_then}, declared.alloc.Global.Global}
+use Rattle.std.specs.{Prelude.{ℕ, Vec}, BTreeMap.{BTreeMap, get}, Ordering.{nat_cmp, ordering_then}, declared.alloc.Global.Global}
 use Rattle.std.specs.declared.cmp.Ordering.{Ordering}
-use Rattle.store_files.specs.{Folders.{Folder, bytes_of}, Names.{kind_of, number_of}, declared.name.FileName.FileName}
+use Rattle.store_files.specs.{Folders.{Folder, bytes_of}, Names.{kind_of, number_of}}
 
 -- a file's name in numbers: its kind, and of which revision it is
 abbrev pub by_numbers : ℕ × ℕ → ℕ × ℕ → Ordering

@@ -1,6 +1,6 @@
 -- Answers are counted where the device failed.
-use Rattle.std.proofs.{Common.{◌≡◌, ◌⊎◌, inl, inr, ℕ, List, ◌∷◌, Result, Ok, Err, refl, sym, ap, subst, arith, le_refl}, lemmas.Bool.cases_lt}
-use Rattle.std.specs.Prelude.{◌+◌, ◌≤◌, ◌<◌, min, IsErr, IsErrOf}
+use Rattle.std.proofs.{Common.{◌≡◌, inl, inr, ℕ, List, ◌∷◌, Result, Ok, Err, refl, sym, subst, arith, le_refl}, lemmas.Bool.cases_lt}
+use Rattle.std.specs.Prelude.{◌+◌, ◌≤◌, min}
 use Rattle.store_files.specs.{Moments.{HasCause, HasRisen, last_count}, declared.fault.StoreFault.StoreFault}
 use Rattle.store_files.specs.declared.fault.StoreFault.TheVariants as faults
 use Rattle.store_folder.specs.{Note.Event, Answers.{fault_of, trouble_number, done_number, done_result}, Replay.{failed_in, count_after, failed_is}}

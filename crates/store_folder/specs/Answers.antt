@@ -1,5 +1,5 @@
 -- The answers of calls as numbers.
-use Rattle.std.specs.{Prelude.{ℕ, List, [], Option, Some, None, Result, Ok, Err, Vec}, declared.alloc.Global.Global}
+use Rattle.std.specs.Prelude.{ℕ, Result, Ok, Err}
 use Rattle.store_files.specs.declared.fault.StoreFault.{StoreFault}
 use Rattle.store_files.specs.declared.fault.StoreFault.TheVariants as faults
 use Rattle.store_folder.specs.{declared.folder.Trouble.Trouble, declared.folder.Trouble.TheVariants.{Device, NoMemory}}

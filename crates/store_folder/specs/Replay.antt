@@ -1,6 +1,6 @@
 -- What a folder holds, and what a stop leaves of it, by the calls that were made.
 use Rattle.std.specs.Prelude.{◌≡◌, ◌⊎◌, ◌≤◌, ℕ, zero, suc, ◌+◌, min, List, [], ◌∷◌, Option, Some, None, length}
-use Rattle.std.proofs.Common.{inl, inr, le_refl, arith}
+use Rattle.std.proofs.Common.{inl, inr, arith}
 use Rattle.store_files.specs.{Folders.{Folder, IsSame, Scribbled, Swapped, with_file}, Moments.last_count}
 use Rattle.store_files.specs.declared.name.FileName.TheVariants.{Format, Kind, Uuid, Current, Locks, Revision, Properties, RepositoryFormat}
 use Rattle.store_files.specs.declared.name.FileName.{FileName}

@@ -1,25 +1,13 @@
 -- What is heard grows by a piece.
-use Rattle.std.proofs.Common.{◌≡◌, ℕ, ◌<◌, ◌≤◌, true, List, [], ◌∷◌, ◌++◌, length, refl, sym, subst, inr}
-use Rattle.std.proofs.KnownBytes.{Consumes-nil, Appends-nil, Consumes-trans, Appends-trans, Consumes-kept}
-use Rattle.std.specs.{Prelude.{Option, Result, Ok, Err, IsErrAnd}, Io.KnownBytes.{Consumes, Appends, Keeps}}
+use Rattle.std.proofs.{Common.{◌≡◌, ℕ, ◌<◌, ◌≤◌, true, List, [], ◌∷◌, ◌++◌, length, sym, subst, inr}, KnownBytes.{Consumes-trans, Appends-trans}}
+use Rattle.std.specs.{Prelude.{Option, Result, Ok, Err, IsErrAnd}, Io.KnownBytes.{Consumes, Appends}}
 use Rattle.machine.specs.declared.env.Env.{Env}
 use Rattle.hub.specs.Calls.{ConnectsAs, FeedsAs}
 use Rattle.streams.specs.{declared.fault.ServeFault.ServeFault, declared.fault.ServeFault.TheVariants.{Read, Write, Hub}}
-use Rattle.streams.specs.Stream.{Scene, scene, HearsPieces, is_hearing, Answered, PieceSent, PiecesSent, StreamServed}
+use Rattle.streams.specs.Stream.{Scene, HearsPieces, is_hearing, Answered, PieceSent, PiecesSent, StreamServed}
 use Rattle.conversations.specs.Pieces.{Piece, bytes_of, GivesAll}
 use Rattle.conversations.proofs.Growing.{fed_piece, gives_more, bytes_of-more}
 use Rattle.streams.proofs.Joining.{draws_more}
-
--- nothing was heard yet
-pub hears_nothing : {E : Type 0} (gives : E → Env → E → Type 0) (n : ℕ) (old : Scene E) → HearsPieces gives n old old
-hears_nothing gives n old = record {
-  pieces = [];
-  answers = [];
-  given = refl;
-  run = (refl, refl);
-  read = Consumes-nil old.input;
-  written = Appends-nil old.output;
-}
 
 -- a piece more is read, fed and answered
 pub hears_more : {E : Type 0} (gives : E → Env → E → Type 0) (n : ℕ) (old mid new : Scene E) (env : Env) (bytes more : List ℕ)
@@ -35,18 +23,6 @@ hears_more gives n old mid new env bytes more some bound h read next feeds writt
       read = subst (λ (bs : List ℕ). Consumes old.input new.input bs) (bytes_of-more h.pieces piece) (Consumes-trans old.input mid.input new.input (bytes_of h.pieces) bytes h.read read);
       written = Appends-trans old.output mid.output new.output h.answers more h.written written;
     }
-
--- a read that gave nothing
-pub hears_kept : {E : Type 0} (gives : E → Env → E → Type 0) (n : ℕ) (old mid : Scene E) (input : Option (List ℕ))
-    → HearsPieces gives n old mid → Keeps mid.input input → HearsPieces gives n old (scene mid.hub input mid.output mid.envs)
-hears_kept gives n old mid input h kept = record {
-  pieces = h.pieces;
-  answers = h.answers;
-  given = h.given;
-  run = h.run;
-  read = Consumes-kept old.input mid.input input (bytes_of h.pieces) h.read kept;
-  written = h.written;
-}
 
 -- a session that was greeted, and then heard what was read
 pub answered : {E : Type 0} (gives : E → Env → E → Type 0) (n : ℕ) (old greeted : Scene E) (greeting : List ℕ)

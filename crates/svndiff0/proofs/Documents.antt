@@ -153,9 +153,6 @@ pub record Reached (base old bytes text rest : List ℕ) : Type 0 where
   pub same : windows_of base old bytes ≡ windows_of base text rest
   pub front : (front : List ℕ) × (bytes ≡ front ++ rest)
 
-pub reached_start : (base old bytes : List ℕ) → Reached base old bytes old bytes
-reached_start base old bytes = record { same = refl; front = ([], refl) }
-
 pub reached_more : (base old bytes text rest t bytes_behind later : List ℕ) → Reached base old bytes text rest → window_at base (length text) rest ≡ Ok (Some (t, bytes_behind)) → later ≡ text ++ t → Reached base old bytes later bytes_behind
 reached_more base old bytes text rest t bytes_behind later r e s =
     let f = (steady_window base (length text)).fronts rest bytes_behind t e in

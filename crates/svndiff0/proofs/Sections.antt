@@ -3,8 +3,7 @@ use Rattle.std.proofs.Common.{◌≡◌, ℕ, zero, suc, ◌+◌, ◌≤◌, ◌
 use Rattle.std.proofs.Common.{append_assoc, append-nil, length-append, length-drop, le_refl, arith}
 use Rattle.svndiff0.specs.{declared.fault.DiffFault.DiffFault, declared.fault.DiffFault.TheVariants.BadInstruction}
 use Rattle.svndiff0.specs.{declared.instruction.Instruction.Instruction, Read.Read, Instruction.{instruction_at, before, with_others, instructions_within}}
-use Rattle.svndiff0.specs.Instruction.{instructions_of, size, new_size, total, new_total, given, target_of}
-use Rattle.svndiff0.specs.Sums.{summed, SumsUp, IsWithin, Starts, IsRunnable, SumsGrow}
+use Rattle.svndiff0.specs.{Instruction.{instructions_of, size, new_size, total, new_total, given, target_of}, Sums.{summed, SumsUp, IsWithin, Starts, SumsGrow}}
 use Rattle.svndiff0.proofs.Steady.{instruction_fronts}
 
 -- these instructions in front of others
@@ -78,9 +77,6 @@ front_none : (others : Result (List Instruction) DiffFault) → others ≡ with_
 front_none (Ok is) = refl
 front_none (Err f) = refl
 
-pub summed_start : (view : ℕ) (section : List ℕ) → Summed view section 0 0 section
-summed_start view section = record { seen = []; front = front_none (instructions_of view section); all_is = refl; new_data_is = refl }
-
 pub summed_more : (view : ℕ) (section : List ℕ) (all new_data : ℕ) (rest : List ℕ) (i : Instruction) (behind : List ℕ) → Summed view section all new_data rest → Starts view rest i behind → Summed view section (summed (all + size i)) (summed (new_data + new_size i)) behind
 summed_more view section all new_data rest i behind s t = record {
   seen = s.seen ++ (i ∷ []);
@@ -88,9 +84,6 @@ summed_more view section all new_data rest i behind s t = record {
   all_is = let h = s.all_is in let k = total_more s.seen i in omega arith;
   new_data_is = let h = s.new_data_is in let k = new_total_more s.seen i in omega arith;
 }
-
-pub summed_fault : (view : ℕ) (section : List ℕ) (all new_data : ℕ) (rest : List ℕ) (f : DiffFault) → Summed view section all new_data rest → instructions_of view rest ≡ Err f → instructions_of view section ≡ Err f
-summed_fault view section all new_data rest f s e = s.front ∙ ap (with_front s.seen) e
 
 pub summed_all : (view : ℕ) (section : List ℕ) (all new_data : ℕ) (rest : List ℕ) → Summed view section all new_data rest → length rest ≡ 0 → SumsUp (Ok (record { all = all; new_data = new_data })) (instructions_of view section)
 summed_all view section all new_data [] s e =
@@ -115,20 +108,6 @@ pub before_ok : (i : Instruction) (others : Result (List Instruction) DiffFault)
 before_ok i (Ok js) is e = (js, refl, cc)
 before_ok i (Err f) is e = cc
 
-pub left_start : (view section fresh old : List ℕ) → IsRunnable (length view) section (length fresh) → Left view section fresh old section fresh old
-left_start view section fresh old r = record {
-  is = r.is;
-  read = r.read;
-  enough = r.enough;
-  completes = λ all e. let h : ◌≡◌ {A = Result (List Instruction) DiffFault} (Ok r.is) (Ok all) = sym r.read ∙ e in let k : r.is ≡ all = cc in ap (λ is. old ++ target_of view fresh is) k;
-}
-
-pub left_enough : (view section fresh old rest left now : List ℕ) (i : Instruction) (behind : List ℕ) → Left view section fresh old rest left now → Starts (length view) rest i behind → new_size i ≤ length left
-left_enough view section fresh old rest left now i behind s t =
-    let found = before_ok i (instructions_of (length view) behind) s.is (sym t.step ∙ s.read) in
-    let e : new_total s.is ≡ new_size i + new_total found.0 = ap new_total found.2 in
-    let h = s.enough in omega arith
-
 pub left_more : (view section fresh old rest left now : List ℕ) (i : Instruction) (behind after later : List ℕ) → Left view section fresh old rest left now → Starts (length view) rest i behind → after ≡ drop (new_size i) left → later ≡ now ++ given view left i → Left view section fresh old behind after later
 left_more view section fresh old rest left now i behind after later s t e f =
     let found = before_ok i (instructions_of (length view) behind) s.is (sym t.step ∙ s.read) in
@@ -145,10 +124,6 @@ left_more view section fresh old rest left now i behind after later s t e f =
           ∙ (append_assoc now (given view left i) (target_of view (drop (new_size i) left) found.0)
           ∙ (ap (λ is. now ++ target_of view left is) (sym found.2) ∙ s.completes all g)));
     }
-
-pub left_unread : (view section fresh old rest left now : List ℕ) (f : DiffFault) → Left view section fresh old rest left now → instructions_of (length view) rest ≡ Err f → ⊥
-left_unread view section fresh old rest left now f s e =
-    let h : ◌≡◌ {A = Result (List Instruction) DiffFault} (Ok s.is) (Err f) = sym s.read ∙ e in cc
 
 pub left_all : (view section fresh old rest left now : List ℕ) → Left view section fresh old rest left now → length rest ≡ 0 → (is : List Instruction) → instructions_of (length view) section ≡ Ok is → now ≡ old ++ target_of view fresh is
 left_all view section fresh old [] left now s z is e =

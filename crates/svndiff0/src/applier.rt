@@ -34,8 +34,7 @@ impl Model for Applier {
 
 impl Applier {
     ghost use Rattle.std.specs.{Prelude.{◌≡◌, ◌≢◌, ◌++◌, ℕ, List, [], MatchResult}, Arc.arc_value};
-    ghost use Rattle.svndiff0.specs.{Document.{opening, outcome, document_text}, Applying.{HasRead, fed, FeedsApplier}};
-    ghost use Rattle.svndiff0.specs.declared.fault.DiffFault.TheVariants.{NoMemory};
+    ghost use Rattle.svndiff0.specs.{Document.{outcome, document_text}, Applying.{HasRead, fed, FeedsApplier}, declared.fault.DiffFault.TheVariants.NoMemory};
 
     /// Makes an applier over this base, of which no byte is copied, that was fed nothing.
     pub fn new(alloc: Global, base: Arc<Vec<u8>>) -> Applier

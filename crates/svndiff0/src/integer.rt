@@ -1,6 +1,6 @@
 //! Integers: big-endian groups of seven bits, with the high bit set on all bytes but the last.
 
-ghost use Rattle.std.specs.Prelude.{◌≡◌, ◌<◌, ◌≤◌, ◌^◌, IfOk, IfSome};
+ghost use Rattle.std.specs.Prelude.{◌<◌, ◌≤◌, ◌^◌, IfOk, IfSome};
 ghost use Rattle.svndiff0.specs.{Read.Gives, Integer.{integer_at, bounded_at}};
 
 use crate::fault::DiffFault;

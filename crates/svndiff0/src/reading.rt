@@ -1,6 +1,5 @@
 //! Reading on in a document.
 
-ghost use Rattle.std.specs.Prelude.{◌≡◌, ◌++◌, ℕ, List, []};
 ghost use Rattle.svndiff0.specs.{Read.Gives, Document.header_at, Sums.SumsGrow, Stages.{HasTextOf, ReadsOn, reading_of}};
 
 use crate::fault::DiffFault;

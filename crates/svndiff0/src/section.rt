@@ -1,7 +1,7 @@
 //! A window's section of instructions: judged as a whole, and then carried out.
 
-ghost use Rattle.std.specs.Prelude.{◌≡◌, ◌<◌, ◌≤◌, ◌++◌, ℕ, List, Ok, Err, length, drop, OnOk, MatchResult};
-ghost use Rattle.svndiff0.specs.{Instruction.{instructions_of, new_size, new_total, given, target_of}, Sums.{SumsUp, Starts, SumsGrow, IsRunnable, IsWithin}};
+ghost use Rattle.std.specs.Prelude.{◌≡◌, ◌<◌, ◌≤◌, ◌++◌, List, Ok, Err, length, drop, OnOk, MatchResult};
+ghost use Rattle.svndiff0.specs.{Instruction.{instructions_of, new_size, given, target_of}, Sums.{SumsUp, Starts, SumsGrow, IsRunnable, IsWithin}};
 
 use crate::fault::DiffFault;
 use crate::instruction::{Instruction, read_instruction};

@@ -1,7 +1,7 @@
 //! Windows: five integers, then the instructions, then the new data.
 
-ghost use Rattle.std.specs.Prelude.{◌≡◌, ◌<◌, ◌≤◌, ◌^◌, ◌++◌, ℕ, List, length, MatchResult, IfOk, IfSome, OnOk};
-ghost use Rattle.svndiff0.specs.{Read.Gives, Window.{head_at, limit}, Sums.{HasBounds, SumsGrow}, Applying.{AppliesWindow, AppliesAll}};
+ghost use Rattle.std.specs.Prelude.{◌≡◌, ◌<◌, IfOk, IfSome};
+ghost use Rattle.svndiff0.specs.{Read.Gives, Window.head_at, Sums.{HasBounds, SumsGrow}, Applying.{AppliesWindow, AppliesAll}};
 
 use crate::fault::DiffFault;
 use crate::integer::{read_bounded, read_integer};

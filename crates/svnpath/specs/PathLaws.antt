@@ -1,5 +1,5 @@
 -- Laws of paths, for the crates above.
-use Rattle.std.proofs.Common.{add-one, ◌≡◌, Bool, true, ◌&&◌, [], ◌∷◌, ◌++◌, Some, length, take, drop, refl, sym, ap, ◌∙◌}
+use Rattle.std.proofs.Common.{add-one, ◌≡◌, true, ◌&&◌, [], ◌∷◌, ◌++◌, Some, length, take, drop, refl, sym, ap, ◌∙◌}
 use Rattle.std.proofs.{lemmas.Bool.{false≢true, and_from, and_parts}, lemmas.List.{append-nil, length_push, take_at, take-append-drop}}
 use Rattle.std.proofs.Math.Seq.{take-append_seam, drop-append_seam}
 use Rattle.std.specs.{BTreeMap.is_at, Cmp.Lexicographic.{slice_cmp, texts_ties, nat_list_cmp_total, pointwise_decides, bytes_decides}}

@@ -1,5 +1,5 @@
 //! A path of the repository.
-ghost use Rattle.std.specs.Prelude.{◌≡◌, ◌+◌, ◌^◌, ◌<◌, ◌≤◌, ◌++◌, [], ◌∷◌, List, IfOk, IfErr, OnOk, OnErr, refl, length, take, drop, IsTrue, Some, ◌↔◌};
+ghost use Rattle.std.specs.Prelude.{◌≡◌, ◌+◌, ◌<◌, ◌≤◌, ◌++◌, [], ◌∷◌, IfOk, IfErr, OnOk, OnErr, refl, length, take, drop, IsTrue, Some, ◌↔◌};
 ghost use Rattle.std.specs.Cmp.{partial_order_from_agreeing_total, partial_equiv_from_equiv};
 ghost use Rattle.std.specs.{Cmp.Lexicographic.{lists_equiv, lists_total, lists_ties, nat_list_eq_equiv, nat_list_cmp_total, texts_ties}, List.flat_map};
 ghost use Rattle.svnpath.specs.Components.{beneath, AnswersPath, IsRightPath};

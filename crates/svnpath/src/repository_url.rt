@@ -1,5 +1,5 @@
 //! URLs of the repository.
-ghost use Rattle.std.specs.{Prelude.{◌≡◌, ◌⊎◌, [], ◌∷◌, ◌++◌, map, List, Ok, Err, IfOk, MatchResult, MatchOption}, List.{slice_split, position, list_all}};
+ghost use Rattle.std.specs.{Prelude.{◌≡◌, ◌⊎◌, [], ◌∷◌, map, Ok, Err, IfOk, MatchResult, MatchOption}, List.{slice_split, position, list_all}};
 ghost use Rattle.percent_encoding.specs.Percent.{percent_decode};
 ghost use Rattle.svnpath.specs.{Components.{AnswersPath, IsRightPath}, Texts.is_slash, Urls.{read_url, path_of_text, root_of_text, path_of_url}};
 ghost use Rattle.svnpath.specs.Urls.{path_of_segments, root_of_url, until_slash, is_before_query, is_root, names_root, root_of, NamesPath};

@@ -80,22 +80,6 @@ opened_conflict look apart node base young hb hy ne one =
     in_conflict (spot_tree look base []) (Some (open_entry node)) (spot_tree look young [])
     (ours_changed look base (open_entry node) refl) (theirs_changed look apart base young hb hy ne) one
 
--- nothing was there, or is there
-pub not_one_before : (look : Look) (base : Option NodeId) (s t : Option Entry) → option_and_then look base ≡ None → is_one_directory (spot_tree look base []) s t ≡ false
-not_one_before look None s t none = refl
-not_one_before look (Some i) s t none = ap (λ o. is_one_directory (option_map (shared_entry i) o) s t) none
-
-pub not_one_now : (look : Look) (young : Option NodeId) (a : Option Entry) (s : Entry) → option_and_then look young ≡ None → is_one_directory a (Some s) (spot_tree look young []) ≡ false
-not_one_now look young a s none = ap (λ t. is_one_directory a (Some s) t) (nothing_now look young none) ∙ by a
-  where
-    nothing_now : (look : Look) (young : Option NodeId) → option_and_then look young ≡ None → spot_tree look young [] ≡ None
-    nothing_now look None none = refl
-    nothing_now look (Some j) none = ap (option_map (shared_entry j)) none
-
-    by : (a : Option Entry) → is_one_directory a (Some s) None ≡ false
-    by None = refl
-    by (Some x) = refl
-
 and_none : (x y : Bool) → (x && (false && y)) ≡ false
 and_none true y = refl
 and_none false y = refl

@@ -1,14 +1,14 @@
 -- What a merge makes of a node and its entries.
-use Rattle.std.proofs.Common.{◌≡◌, ◌==◌, ℕ, Bool, true, false, ◌&&◌, ◌||◌, List, [], ◌∷◌, Option, Some, None, option_map, refl, sym, ap, subst, ◌∙◌}
-use Rattle.std.proofs.{Common.{arith, rules, option_and_then}, lemmas.Bool.false≢true}
+use Rattle.std.proofs.Common.{◌≡◌, ◌==◌, ℕ, Bool, true, false, ◌&&◌, ◌||◌, List, [], ◌∷◌, Option, Some, None, option_map, refl, sym, ap, subst, ◌∙◌, arith}
+use Rattle.std.proofs.{Common.{rules, option_and_then}, lemmas.Bool.false≢true}
 use Rattle.std.specs.{Prelude.{is_some, not, if◌then◌else◌}, BTreeMap.BTreeMap}
 use Rattle.svnpath.specs.{PathLaws.same_path_refl, Paths.{Component, PathValue, same_path}}
 use Rattle.repo_api.specs.{Edits.touched, Merge.{has_open_last, is_changed, is_in_conflict, is_one_directory, is_untouched}}
 use Rattle.repo_api.specs.{Trees.{is_directory, is_open_mark, same_mark, Tree}, declared.entry.Entry.Entry, declared.entry.Mark.Mark}
 use Rattle.repo_api.specs.declared.entry.Mark.TheVariants.{Open, Made}
 use Rattle.noderevs.specs.{Nodes.{kid_at, Look}, Views.shared_entry, declared.node_rev.NodeId.NodeId, declared.node_rev.NodeRev.NodeRev}
-use Rattle.txntree.specs.{Changes.{first_of, IsWalking}, Spots.{change_spot, changed_at, entry, find, flat, open_entry, over, shared_spot, Spot}, Spots.Spot.Opened}
-use Rattle.txntree.specs.{Walks.beneath, declared.open.OpenNode.OpenNode, declared.open.Change.Change}
+use Rattle.txntree.specs.{Changes.{first_of, IsWalking}, Spots.{change_spot, changed_at, entry, find, flat, open_entry, over, shared_spot, Spot}}
+use Rattle.txntree.specs.{Spots.Spot.Opened, Walks.beneath, declared.open.OpenNode.OpenNode, declared.open.Change.Change}
 use Rattle.treemerge.specs.Merges.{merged_open, IsTold, spot_tree, IsMergeOf, IsCopied, IsMerged, is_one}
 use Rattle.txntree.proofs.Seals.{nothing}
 

@@ -1,6 +1,5 @@
 -- The merge of a transaction's tree into the youngest, path by path. Marks stay open; the seal fills them.
-use Rattle.std.specs.Prelude.{◌≡◌, Bool, true, false, ◌&&◌, Option, Some, option_map, if◌then◌else◌, ◌++◌, Result, Ok, Err, option_and_then}
-use Rattle.std.specs.Arc.{arc_value}
+use Rattle.std.specs.{Prelude.{◌≡◌, Bool, true, false, ◌&&◌, Option, Some, option_map, if◌then◌else◌, ◌++◌, Result, Ok, Err, option_and_then}, Arc.arc_value}
 use Rattle.svnpath.specs.Paths.{Component, PathValue}
 use Rattle.noderevs.specs.{Nodes.{IsThere, kid_at, Look, mark_of}, declared.node_rev.NodeId.NodeId, declared.node_rev.NodeRev.NodeRev}
 use Rattle.txntree.specs.{Bases.{IsBased, IsFit}, Spots.{changed_at, flat, over, shared_spot, Spot}, Spots.Spot.Opened, Walks.beneath}

@@ -3,8 +3,8 @@ use Rattle.std.specs.Prelude.{◌≡◌, Option, Some, None, IsSome, IfSome, opt
 use Rattle.svnpath.specs.Paths.{Component, PathValue}
 use Rattle.noderevs.specs.{Held.{node_at, root_at, trees_of}, Nodes.{IsThere, kid_at}, Views.{find_id, shared_tree}, declared.node_rev.NodeId.NodeId}
 use Rattle.noderevs.specs.{declared.node_rev.NodeRev.NodeRev, declared.nodes.Nodes.Nodes}
-use Rattle.txntree.specs.{Bases.IsBased, Spots.{flat, over, shared_spot, Spot, step}, Spots.Spot.Opened}
-use Rattle.txntree.specs.{declared.open.Change.Change, declared.open.OpenNode.OpenNode}
+use Rattle.txntree.specs.{Bases.IsBased, Spots.{flat, over, shared_spot, Spot, step}, Spots.Spot.Opened, declared.open.Change.Change}
+use Rattle.txntree.specs.declared.open.OpenNode.{OpenNode}
 
 -- each node stands at its path in the tree of its revision, and other nodes show that tree too
 pub record HaveTwins (from to : Nodes) : Type 0 where

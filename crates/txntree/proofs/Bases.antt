@@ -141,12 +141,6 @@ pub based_refused : (look : Look) (old new : OpenNode) (l m : BTreeMap Component
     → IsBased look (Opened old) → IsBased look (Opened new)
 based_refused look old new l m same map was others based = based_again look old new same (λ n. ap (λ x. changed_at x n) map ∙ others n ∙ ap (λ x. changed_at x n) was) based
 
--- a node whose base and mark stay
-pub root_kept : (old new : OpenNode) (s t : Spot) → s ≡ Opened old → t ≡ Opened new → new.base ≡ old.base → (is_open_mark new.own ≡ false → is_open_mark old.own ≡ false) → IsRootKept s t
-root_kept old new s t was now base own n is shut =
-    let same = ap (node_or new) (sym now ∙ is) in
-    (old, was, own (ap (λ m. is_open_mark m.own) same ∙ shut), ap (λ m. m.base) (sym same) ∙ base)
-
 -- more blocks
 pub longer : {X : Type 0} (xs ys : List X) (k : ℕ) (g : X → Option NodeRev) → IsSome (option_and_then g (slice_get xs k)) → option_and_then g (slice_get (xs ++ ys) k) ≡ option_and_then g (slice_get xs k)
 longer {X = X} xs ys k g there = by (slice_get xs k) refl there

@@ -1,6 +1,6 @@
 -- The changes of an open node from the first on, in the order of names.
 use Rattle.std.proofs.{Common.{◌≡◌, Bool, true, false, cond, List, [], ◌∷◌, Option, Some, None, refl, sym, ap, subst, ◌∙◌}, lemmas.Bool.false≢true}
-use Rattle.std.specs.{Prelude.IsSome, BTreeMap.{BTreeMap, is_at}, Cmp.Lexicographic.slice_cmp, List.{AllByRecursion, Sorted.IsStrictlySortedBy}, Map.keys_of}
+use Rattle.std.specs.{Prelude.IsSome, BTreeMap.BTreeMap, Cmp.Lexicographic.slice_cmp, List.AllByRecursion, List.Sorted.IsStrictlySortedBy, Map.keys_of}
 use Rattle.std.specs.{Ordering.{nat_cmp, is_eq}, declared.cmp.Ordering.TheVariants.Less}
 use Rattle.svnpath.specs.{PathLaws.{same_component_is, same_component_refl}, Paths.{Component, same_component}}
 use Rattle.txntree.specs.{Changes.{first_of, IsWalking}, Spots.changed_at, declared.open.Change.Change, declared.open.OpenNode.OpenNode}

@@ -9,8 +9,8 @@ use Rattle.repo_api.specs.Merge.{sealed}
 use Rattle.noderevs.specs.{Nodes.{Grows, IsBefore, IsClosed, IsThere, kid_at, kid_named, kid_of, Kids, Look, with_block}, Views.shared_entry}
 use Rattle.noderevs.specs.{declared.node_rev.NodeId.NodeId, declared.node_rev.NodeRev.NodeRev}
 use Rattle.txntree.specs.{Spots.{Spot, changed_at, change_spot, shared_spot, over, step, find, flat, open_entry}, Spots.Spot.{Nothing, Shared, Opened}}
-use Rattle.txntree.specs.Sealing.{sealed_at, placed, IsUnder, IsUnderOne, AreUnder, HasEntry, AreThere, IsSealedAs, kid_trees, unless_changed}
-use Rattle.txntree.specs.{Sealing.{BlockGrows, IsSealing}, declared.open.OpenNode.OpenNode, declared.open.Change.Change}
+use Rattle.txntree.specs.Sealing.{sealed_at, placed, IsUnder, IsUnderOne, AreUnder, HasEntry, AreThere, IsSealedAs, kid_trees, unless_changed, BlockGrows}
+use Rattle.txntree.specs.{Sealing.IsSealing, declared.open.OpenNode.OpenNode, declared.open.Change.Change}
 
 pub grows_same : (a : Look) → Grows a a
 grows_same a id there = refl

@@ -3,7 +3,7 @@ use Rattle.std.proofs.Common.{◌≡◌, [], ◌∷◌, ◌++◌, Option, Some, 
 use Rattle.std.proofs.lemmas.Bool.{false≢true}
 use Rattle.std.specs.Prelude.{IsSome, IsSomeAnd, IsTrue}
 use Rattle.svnpath.specs.{PathLaws.parent_child, Paths.{Component, PathValue}, Texts.parent}
-use Rattle.repo_api.specs.{Edits.{copy_of, revised, with_open_mark}, RightEdits.HasParent, Trees.{is_directory, Tree}}
+use Rattle.repo_api.specs.{Edits.{copy_of, revised, with_open_mark}, RightEdits.HasParent, Trees.is_directory}
 use Rattle.noderevs.specs.{Nodes.{kid_at, kid_of, Look}, Views.{entry_at, find_id, shared_entry, shared_tree}, declared.node_rev.NodeId.NodeId}
 use Rattle.noderevs.specs.declared.node_rev.NodeRev.{NodeRev}
 use Rattle.txntree.specs.{Spots.{Spot, changed_at, over, shared_spot, step, entry, flat}, Spots.Spot.{Nothing, Shared, Opened}, Walks.{Lacks, LacksParent}}
@@ -56,12 +56,6 @@ or_else d (Some x) = x
 
 some_is : {X : Type 0} (x y : X) → Some x ≡ Some y → x ≡ y
 some_is x y e = ap (or_else x) e
-
-pub lacks_parent : (t : Tree) (p above : PathValue) (name : Component) → p ≡ above ++ name ∷ [] → Lacks above t → LacksParent p t
-lacks_parent t p above name e h a is = subst (λ x. Lacks x t) (some_is above a (sym (parent_child above name) ∙ ap parent (sym e) ∙ is)) h
-
-pub root_lacks : (t : Tree) (p : PathValue) → p ≡ [] → LacksParent p t
-root_lacks t p e a is = absurd (false≢true (ap is_some (ap parent (sym e) ∙ is)))
 
 pub parent_there : (look : Look) (s : Spot) (p : PathValue) → HasParent (flat look s) p → LacksParent p (flat look s) → ⊥
 parent_there look s p has lacks =

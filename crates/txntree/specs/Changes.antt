@@ -1,6 +1,6 @@
 -- The changes of an open node from the first on, in the order of names.
-use Rattle.std.specs.Prelude.{◌≡◌, List, Option, Some, None, IsSome}
-use Rattle.std.specs.{BTreeMap.{BTreeMap, is_at}, Cmp.Lexicographic.slice_cmp, List.Sorted.IsStrictlySortedBy, Map.{keys_of, lookup}, Ordering.nat_cmp}
+use Rattle.std.specs.{Prelude.{◌≡◌, List, Option, Some, None, IsSome}, BTreeMap.{BTreeMap, is_at}, Cmp.Lexicographic.slice_cmp, List.Sorted.IsStrictlySortedBy}
+use Rattle.std.specs.{Map.{keys_of, lookup}, Ordering.nat_cmp}
 use Rattle.svnpath.specs.Paths.{Component}
 use Rattle.txntree.specs.{Spots.changed_at, declared.open.Change.Change, declared.open.OpenNode.OpenNode}
 

@@ -2,8 +2,7 @@
 ghost use Rattle.std.specs.Prelude.{◌≡◌, ◌++◌, ◌∷◌, [], length, Some, IfOk, OnOk, OnErr};
 ghost use Rattle.repo_api.specs.Merge.{closed};
 ghost use Rattle.noderevs.specs.{Held.node_at, Nodes.{IsBefore, IsClosed, IsThere, mark_of, with_block}};
-ghost use Rattle.txntree.specs.Sealing.{BlockGrows, HasEntry, IsSealedAs, IsSealOf};
-ghost use Rattle.txntree.specs.{Spots.{change_spot, open_tree}, Spots.Spot.Opened};
+ghost use Rattle.txntree.specs.{Sealing.{BlockGrows, HasEntry, IsSealedAs, IsSealOf}, Spots.{change_spot, open_tree}, Spots.Spot.Opened};
 
 use crate::open::{Change, OpenNode};
 use byte_string::ByteString;

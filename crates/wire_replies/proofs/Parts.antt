@@ -1,17 +1,12 @@
 -- Parts of replies that were written.
 use Rattle.std.proofs.Common.{◌≡◌, ℕ, List, [], ◌∷◌, ◌++◌, refl, sym, ap, subst, ◌∙◌, append-nil, append_assoc}
 use Rattle.items.specs.Print.{printed}
-use Rattle.std.specs.Prelude.{Result, Ok, Err, MatchResult}
+use Rattle.std.specs.Prelude.{Result, Ok, Err}
 use Rattle.wire_replies.specs.{Replies.{reply_item, print}, Sinks.{WritesPart, Says}, declared.reply.Reply.Reply}
 
 pub print-append : (xs ys : List Reply) → print (xs ++ ys) ≡ print xs ++ print ys
 print-append [] ys = refl
 print-append (x ∷ xs) ys = ap (λ t. printed (reply_item x) ++ t) (print-append xs ys) ∙ sym (append_assoc (printed (reply_item x)) (print xs) (print ys))
-
--- what is known of what was done, and of a failure
-pub if_either : {T E : Type 0} (r : Result T E) (P P' Q Q' : Type 0) → (P → P') → (Q → Q') → MatchResult r (λ _. P) (λ _. Q) → MatchResult r (λ _. P') (λ _. Q')
-if_either (Ok x) P P' Q Q' f g p = f p
-if_either (Err e) P P' Q Q' f g q = g q
 
 -- nothing is a part of anything
 pub part_none : (writes : List ℕ → Type 0) (bytes : List ℕ) → writes [] → WritesPart writes bytes

@@ -24,13 +24,6 @@ txn_sound t = ∥∥₁_map t.sound (λ o.
     (∥∥₁_map t.sound (λ x. (x.map, x.is))) o.map o.is))
     o.sound)
 
--- a transaction with this map
-pub txn_state_is : (t : WorldTxn) (m : TreeMap) → IsMapOf (txn_tree t.shown.value.nodes t.tree) m
-    → txn_state_of t ≡ txn_of t.shown.value t.base m t.changes
-txn_state_is t m is =
-    ap (λ (x : TreeMap). txn_of t.shown.value t.base x t.changes)
-    (the_map_is (txn_tree t.shown.value.nodes t.tree) (∥∥₁_map t.sound (λ o. (o.map, o.is))) m is)
-
 -- transactions with the same at each path have one map
 pub map_stays : (old new : WorldTxn)
     → ((q : PathValue) → txn_tree new.shown.value.nodes new.tree q

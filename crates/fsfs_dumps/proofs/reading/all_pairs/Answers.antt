@@ -1,5 +1,5 @@
-use Rattle.std.proofs.{Common.{◌≡◌, true, false, eqb, length, [], ◌++◌, ◌∷◌, sym, ap, ◌∙◌, inl, rules, arith}, lemmas.Result.err_from_is_err_and}
-use Rattle.std.proofs.{lemmas.List.nil_from_length, lemmas.Bool.{eqb-true, eqb-false}}
+use Rattle.std.proofs.{Common.{◌≡◌, true, false, eqb, length, sym, ap, ◌∙◌, inl, rules}, lemmas.Result.err_from_is_err_and, lemmas.List.nil_from_length}
+use Rattle.std.proofs.lemmas.Bool.{eqb-false}
 use Rattle.std.specs.{Prelude.codes, Cmp.Lexicographic.pointwise}
 use Rattle.fsfs_dumps.proofs.Loop.{no_line, at_end, no_pair, goes_on, runs_out, nothing_left, something_left}
 use Rattle.fsfs_dumps.proofs.reading.all_pairs.Goals as goal

@@ -1,6 +1,6 @@
-use Rattle.std.proofs.Common.{◌≡◌, length, List, Result, Ok, ap, subst, sym, ◌∙◌, arith}
+use Rattle.std.proofs.Common.{length, List, Result, ap, subst, ◌∙◌, arith}
 use Rattle.fsfs_lines.specs.{declared.fault.FileFault.FileFault, Reading.Answers}
-use Rattle.fsfs_dumps.specs.{declared.pair.DumpPair.DumpPair, Dumps.dump, Reading.dump_of}
+use Rattle.fsfs_dumps.specs.{declared.pair.DumpPair.DumpPair, Reading.dump_of}
 use Rattle.fsfs_dumps.proofs.Again.{dump_again}
 use Rattle.fsfs_dumps.proofs.reading.read_dump.Goals as goal
 

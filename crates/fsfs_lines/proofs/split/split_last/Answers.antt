@@ -1,4 +1,4 @@
-use Rattle.std.proofs.{Common.{◌≡◌, ◌+◌, ◌-◌, ◌<◌, ◌≤◌, length, drop, None, Some, ap, ◌∙◌, arith}, lemmas.Bool.eq-eqb, lemmas.List.take_rest}
+use Rattle.std.proofs.{Common.{◌≡◌, ◌+◌, ◌-◌, ◌≤◌, length, drop, None, arith}, lemmas.Bool.eq-eqb, lemmas.List.take_rest}
 use Rattle.fsfs_lines.specs.Splits.{split_last}
 use Rattle.fsfs_lines.proofs.Splits.{last_stops}
 use Rattle.fsfs_lines.proofs.split.split_last.Goals as goal

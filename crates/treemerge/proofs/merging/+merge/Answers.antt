@@ -5,8 +5,9 @@ use Rattle.treemerge.proofs.Conflicts.{conflict_on, conflict_above, mergeable_en
 use Rattle.treemerge.proofs.Overlays.{cut, nowhere_before, merged_here, merged_apart, merge_ends}
 use Rattle.treemerge.proofs.merging.+merge.Goals.{merged-in-Some-3+in_ok-clone-3+in_ok-put_change, merged-in_default-2}
 use Rattle.noderevs.specs.Held.{node_at}
-use Rattle.txntree.specs.{Changes.{first_of, IsWalking}, Spots.{change_spot, changed_at, flat, over, shared_spot}, Spots.Spot.Opened, declared.open.Change.Change}
-use Rattle.txntree.specs.{declared.open.OpenNode.OpenNode, declared.open.Change.TheVariants.{Is, Gone}, declared.open.Change.TheViews.roll-OpenNode}
+use Rattle.txntree.specs.{Changes.{first_of, IsWalking}, Spots.{change_spot, changed_at, flat, over, shared_spot}, Spots.Spot.Opened}
+use Rattle.txntree.specs.{declared.open.Change.Change, declared.open.OpenNode.OpenNode, declared.open.Change.TheVariants.{Is, Gone}}
+use Rattle.txntree.specs.declared.open.Change.TheViews.{roll-OpenNode}
 use Rattle.txntree.proofs.{Changes.{first_here, walk_begins, walk_goes_on, walk_passes}, Walking.{is_spot, gone_spot, nothing_there}}
 use Rattle.std.specs.{Prelude.if◌then◌else◌, BTreeMap.is_at, Map.{lookup, keys_of}, Map.Iter.deref_pair, Cmp.Lexicographic.slice_cmp, Ordering.nat_cmp}
 use Rattle.std.specs.List.Sorted.{IsStrictlySortedBy}

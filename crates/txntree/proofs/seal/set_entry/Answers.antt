@@ -1,4 +1,4 @@
-use Rattle.std.proofs.{Common.{◌≡◌, None, Some, sym, subst}, lemmas.Result.on_ok_weaker}
+use Rattle.std.proofs.{Common.{◌≡◌, sym, subst}, lemmas.Result.on_ok_weaker}
 use Rattle.std.specs.{FinMap.insert, Prelude.OnOk}
 use Rattle.txntree.specs.Sealing.{HasEntry}
 use Rattle.txntree.proofs.Entries.{has_put, has_gone}

@@ -1,5 +1,5 @@
-use Rattle.store_files.specs.{Folders.with_file, Memory.files_of}
-use Rattle.store_files.proofs.Putting.{put_here, put_others, leaves_none}
+use Rattle.store_files.specs.Memory.{files_of}
+use Rattle.store_files.proofs.Putting.{put_here, put_others}
 use Rattle.store_files.proofs.memory.MemoryStoreStore.replace.Goals as goal
 
 pub returns-clause-others : goal.returns-clause-others

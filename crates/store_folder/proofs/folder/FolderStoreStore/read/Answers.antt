@@ -1,4 +1,4 @@
-use Rattle.std.proofs.Common.{◌≡◌, [], ◌∷◌, List, Result, Err, sym, ap, ◌∙◌, subst}
+use Rattle.std.proofs.Common.{[], ◌∷◌, Err, sym, ap, ◌∙◌, subst}
 use Rattle.store_files.specs.{Moments.HasCause, Names.{kind_of, number_of}, declared.fault.StoreFault.StoreFault}
 use Rattle.store_folder.specs.{Answers.trouble_number, Replay.failed_in}
 use Rattle.store_folder.proofs.Counting.{failed_call}
