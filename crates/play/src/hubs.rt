@@ -1,15 +1,13 @@
 //! The hubs of a script.
 ghost use Rattle.hub.specs.{Calls.CallStep, declared.calls.Outcome.Outcome};
 
-use crate::answer::answer_line;
-use crate::fault::LineFault;
-use crate::line::{Failing, NamedFile, NewHub};
 use crate::plan::MemoryHub;
 use access::SoleAccess;
 use filed_opening::create;
 use folder_hub::{FolderHub, open_hub, store_of};
 use hub::{Call, Hub, Options, SessionId, make_call};
 use in_memory::InMemory;
+use script_lines::{Failing, LineFault, NamedFile, NewHub, answer_line};
 use std::alloc::{AllocError, Global};
 use std::fs;
 use std::io::ErrorKind;

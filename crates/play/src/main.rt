@@ -2,50 +2,18 @@
 //! hub's repository is the server's, over shared node revisions; with `--flat` it is the plain program of the
 //! definitions, `flatrepo`, and each answer is the same.
 //!
-//!     # any text                             nothing
-//!     hub NAME UUID MOMENT                   a new hub, in place of the one before, over an empty repository
-//!     revprops                               clients of it may change the properties of revisions
-//!     users                                  a users file for it, so far without users
-//!     user NAME PASSWORD                     one more user in its users file, the password in HEX
-//!     memory                                 its repository is in files, in memory
-//!     folder PATH                            its repository is in files, in this folder: made with the hub's UUID and
-//!                                            moment where there is none, and else opened
-//!     fuse K old|new|torn                    the store that is opened next fails once, at its Kth call that writes
-//!     reopen                                 the hub is dropped, and its repository opened again: `reopen`
-//!     file NAME                              what a file of its repository has: `file NAME HEX`
-//!     connect                                a new session: `connect ID HEX`, HEX the greeting
-//!     feed ID MOMENT TOKEN NONCE HEX         a piece for a session: `feed ID HEX`, HEX what is written back
-//!     open ID                                `open ID true` or `open ID false`
-//!     disconnect ID                          the client goes: `disconnect ID`
+//!     play [--flat] < SCRIPT
 //!
-//! Numbers are decimal, and HEX has lower-case digits, or is `-` for no bytes. A call that fails is answered
-//! by its fault in place of HEX: `H1` for a session that isn't open, `H2` for want of memory, `H3` for a hub
-//! that has halted, `H4` for one that is full.
-//!
-//! What a hub is made with, `revprops`, the place of its repository and the lines of users, stands behind
-//! the hub's line and before its first call, at which the hub is made. A users file of all users is read then: the
-//! line `[users]`, and `NAME = PASSWORD` for each user, in order; so there is one also without a
-//! `users` line where a user is named. A hub without such lines has no users file. A users file
-//! that is not read, a line in another place and any other line end the program with status 2.
-//!
-//! A repository without a place is in memory and has no files: `reopen` and `file` are for those that have. NAME
-//! is as in the folder `db`: `format`, `fs-type`, `uuid`, `current`, `locks.dump`, `revs/N`, `revprops/N`; where there is no
-//! such file, `none` stands for HEX. `fuse` stands behind the hub's line: a store is opened when the hub is made and by
-//! each `reopen`, and what is written where a folder is made does not count. A call that fails leaves the old bytes of
-//! its file or the new ones; `torn`, half of those of a file that is written anew. Where a repository is not opened, `reopen`
-//! is answered by the fault, `X1` to `X6` or `O1` to `O5` behind it, and there is no hub any more. Before the first
-//! call `reopen` makes the hub.
+//! The lines of a script, and what each is answered, are those of `script_lines`. A line that is not played ends the
+//! program with status 2, and so does a users file that is not read.
 #![tactic(auto)]
 
-mod answer;
 mod fault;
 mod hubs;
-mod line;
 mod order;
 mod plan;
 mod player;
 mod script;
-mod words;
 
 use fault::ScriptFault;
 use flatrepo::FlatRepo;

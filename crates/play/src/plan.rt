@@ -3,13 +3,12 @@ ghost use Rattle.std.specs.Prelude.{◌≡◌, ℕ, List, IfOk};
 ghost use Rattle.dates.specs.Dates.{IsDateText};
 ghost use Rattle.hub_runs.specs.Laws.{new_hub};
 
-use crate::fault::LineFault;
 use crate::hubs::{PlayedHub, new_folder_hub, new_memory_hub};
-use crate::line::{Failing, NewHub, NewUser, Place};
 use access::SoleRepository;
 use cram::Users;
 use hub::Hub;
 use in_memory::InMemory;
+use script_lines::{Failing, LineFault, NewHub, NewUser, Place};
 use std::alloc::{AllocError, Global};
 
 /// A hub over a repository in memory.

@@ -1,12 +1,10 @@
 //! What plays the lines.
 
-use crate::answer::{file_line, reopening_line};
-use crate::fault::LineFault;
 use crate::hubs::PlayedHub;
-use crate::line::{Failing, Line, NamedFile, Piece};
 use crate::plan::Plan;
 use hub::{Call, SessionId};
 use in_memory::InMemory;
+use script_lines::{Failing, Line, LineFault, NamedFile, Piece, file_line, reopening_line};
 use std::mem;
 use store_files::Left;
 

@@ -1,9 +1,9 @@
 //! A script, line by line.
 
 use crate::fault::ScriptFault;
-use crate::line::Line;
 use crate::player::Player;
 use in_memory::InMemory;
+use script_lines::Line;
 use std::alloc::Global;
 use std::io::{self, BufRead, BufReader, BufWriter, Write};
 

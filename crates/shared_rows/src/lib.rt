@@ -1,19 +1,9 @@
-//! Tests of a repository that threads share, over files in memory.
+//! Tests of what seats see and are answered that share a repository, over files in memory.
 #![tactic(auto)]
 
 #[cfg(test)]
 mod commits;
 #[cfg(test)]
-mod files;
-#[cfg(test)]
-mod halts;
-#[cfg(test)]
 mod properties;
-#[cfg(test)]
-mod releases;
-#[cfg(test)]
-mod saves;
-#[cfg(test)]
-mod seats;
 #[cfg(test)]
 mod sixteen;

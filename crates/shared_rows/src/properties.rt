@@ -1,7 +1,6 @@
 //! Of two seats that ask for one value of a property, one changes it.
 ghost use Rattle.std.specs.Prelude.{◌≡◌};
 
-use crate::seats::{Access, new_files, opened, two_seats};
 use access::RepoAccess;
 use byte_string::ByteString;
 use filed_world::FiledWorld;
@@ -14,6 +13,7 @@ use std::sync::Wait;
 use std::test::Fail;
 use store_access::Filed;
 use store_files::{MemoryStore, Store};
+use test_seats::{Access, new_files, opened, two_seats};
 
 /// Makes a value of a property, or none.
 fn value_of(alloc: Global, value: &[u8]) -> Result<Option<ByteString>, AllocError> {

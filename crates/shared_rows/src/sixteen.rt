@@ -1,9 +1,6 @@
 //! Sixteen seats at work at once, and the plain model of what then stands.
 ghost use Rattle.std.specs.Prelude.{◌≡◌};
 
-use crate::commits::{commit_of, empty_ask};
-use crate::files::{files_with_a, path_a};
-use crate::seats::{Access, Place, SoundTrees, opened, places};
 use access::RepoAccess;
 use byte_string::ByteString;
 use filed_world::FiledWorld;
@@ -19,6 +16,9 @@ use std::thread;
 use std::thread::Threads;
 use store_access::Filed;
 use store_files::{MemoryStore, Store};
+use test_seats::{
+    Access, Place, SoundTrees, commit_of, empty_ask, files_with_a, opened, path_a, places,
+};
 
 /// How many seats there are.
 const SEATS: usize = 16;

@@ -1,9 +1,6 @@
 //! What the seats are told where the locks that a commit hands in cannot be released.
 ghost use Rattle.std.specs.Prelude.{◌≡◌};
 
-use crate::commits::{commit, commit_of, empty_ask};
-use crate::files::{files_with_a, path_a};
-use crate::seats::{Access, SoundTrees, opened, two_seats};
 use access::{Released, RepoAccess};
 use byte_string::ByteString;
 use filed_world::FiledWorld;
@@ -14,6 +11,9 @@ use std::marker::Brand;
 use std::sync::Wait;
 use std::test::Fail;
 use store_files::{FuseStore, Left, MemoryStore, Store};
+use test_seats::{
+    Access, SoundTrees, commit, commit_of, empty_ask, files_with_a, opened, path_a, two_seats,
+};
 
 /// The moment of what is asked for.
 const DATE: &[u8] = b"1970-01-01T00:00:00.000000Z";

@@ -1,8 +1,6 @@
 //! A look that is made while another seat's commit is being saved.
 ghost use Rattle.std.specs.Prelude.{◌≡◌};
 
-use crate::commits::{commit, youngest};
-use crate::seats::{Access, new_files, opened, two_seats};
 use filed_world::FiledWorld;
 use published::{Naming, NewHistory};
 use std::alloc::{AllocError, Global};
@@ -14,6 +12,7 @@ use std::thread;
 use std::thread::{Threads, join};
 use store_access::Filed;
 use store_files::{FileName, MemoryStore, Store, StoreFault};
+use test_seats::{Access, commit, new_files, opened, two_seats, youngest};
 
 /// How often a mark is looked at, at most: for some ten seconds.
 const MOST_TURNS: u64 = 30_000_000;

@@ -1,8 +1,6 @@
 //! What the seats are told where a save fails.
 ghost use Rattle.std.specs.Prelude.{◌≡◌};
 
-use crate::commits::{commit, youngest};
-use crate::seats::{Access, SoundTrees, new_files, opened, two_seats};
 use access::RepoAccess;
 use filed_world::FiledWorld;
 use published::{Naming, NewHistory};
@@ -12,6 +10,7 @@ use std::marker::Brand;
 use std::sync::Wait;
 use std::test::Fail;
 use store_files::{FuseStore, Left, MemoryStore, Store};
+use test_seats::{Access, SoundTrees, commit, new_files, opened, two_seats, youngest};
 
 /// What two seats are told: how the commit of the first is answered, the youngest revision that the second sees behind
 /// it, whether this one knows of a halt, and how its commit is answered.

@@ -16,7 +16,7 @@ use store_access::{Filed, StoredRepository};
 use store_files::{MemoryStore, Store};
 
 /// A repository that is shared, as one seat reaches it.
-pub(crate) type Access<'r, F, S, J, R> = SeatAccess<
+pub type Access<'r, F, S, J, R> = SeatAccess<
     F,
     FiledArchive<F, S>,
     J,
@@ -26,7 +26,7 @@ pub(crate) type Access<'r, F, S, J, R> = SeatAccess<
 >;
 
 /// A repository whose trees are sound.
-pub(crate) trait SoundTrees: Filed {
+pub trait SoundTrees: Filed {
     /// Proves that they are; it does nothing else.
     fn trees_are_sound(&self)
         ensures { AreSound (Self.content self.now).revisions };
@@ -39,14 +39,14 @@ impl SoundTrees for FiledWorld {
 }
 
 /// Makes the files of a new repository.
-pub(crate) fn new_files(alloc: Global) -> Result<MemoryStore, Fail> {
+pub fn new_files(alloc: Global) -> Result<MemoryStore, Fail> {
     let mut store = MemoryStore::new(alloc);
     create(alloc, &mut store, 1, 0)?;
     Ok(store)
 }
 
 /// Opens the repository in these files.
-pub(crate) fn opened<S: Store>(alloc: Global, store: S) -> Result<FolderRepository<S>, Fail>
+pub fn opened<S: Store>(alloc: Global, store: S) -> Result<FolderRepository<S>, Fail>
     requires { S.is_honest store → (f : Folder) → S.may_leave store f → IsSame (S.holds store) f }
     ensures { IfOk result (λ stored. AreSound (filed_content stored.repository).revisions) }
 {
@@ -59,38 +59,9 @@ pub(crate) fn opened<S: Store>(alloc: Global, store: S) -> Result<FolderReposito
     }
 }
 
-/// Gives the repository as each of two seats reaches it.
-pub(crate) fn two_seats<'r, F: Filed, S: Store, J: Naming, R: Wait>(
-    rt: &'r R,
-    alloc: Global,
-    stored: StoredRepository<F, S>,
-    history: NewHistory,
-) -> Result<(Access<'r, F, S, J, R>, Access<'r, F, S, J, R>), Fail>
-    requires book { history.seen.book ≡ J.book }
-    requires sound { AreSound (F.content stored.repository).revisions }
-{
-    let (repository, mut seats) = share::<F, S, J>(alloc, stored, 2, history)?;
-    let repository = Arc::new(alloc, repository)?;
-    let again = Arc::try_clone(&repository)?;
-    let (Some(first), Some(second)) = (seats.pop(), seats.pop()) else {
-        return Err(AllocError)?;
-    };
-    let first = SeatAccess {
-        repository,
-        seat: first,
-        rt,
-    };
-    let second = SeatAccess {
-        repository: again,
-        seat: second,
-        rt,
-    };
-    Ok((first, second))
-}
-
 /// A seat of a repository that is shared, for a thread of its own.
 #[derive(Drop)]
-pub(crate) struct Place<'r, F: Filed, S: Store, J: Naming, R: Wait> {
+pub struct Place<'r, F: Filed, S: Store, J: Naming, R: Wait> {
     repository: Arc<ServedRepo<F, S, J>>,
     seat: ServedSeat<F, J>,
     rt: &'r R,
@@ -98,7 +69,7 @@ pub(crate) struct Place<'r, F: Filed, S: Store, J: Naming, R: Wait> {
 
 impl<'r, F: Filed, S: Store, J: Naming, R: Wait> Place<'r, F, S, J, R> {
     /// Gives the seat as a session reaches it.
-    pub(crate) fn into_access(self) -> Access<'r, F, S, J, R> {
+    pub fn into_access(self) -> Access<'r, F, S, J, R> {
         let Place {
             repository,
             seat,
@@ -112,8 +83,21 @@ impl<'r, F: Filed, S: Store, J: Naming, R: Wait> Place<'r, F, S, J, R> {
     }
 }
 
+/// Gives a seat its repository.
+fn placed<'r, F: Filed, S: Store, J: Naming, R: Wait>(
+    rt: &'r R,
+    repository: &Arc<ServedRepo<F, S, J>>,
+    seat: ServedSeat<F, J>,
+) -> Result<Place<'r, F, S, J, R>, AllocError> {
+    Ok(Place {
+        repository: Arc::try_clone(repository)?,
+        seat,
+        rt,
+    })
+}
+
 /// Makes so many seats of a repository, each for a thread of its own.
-pub(crate) fn places<'r, F: Filed, S: Store, J: Naming, R: Wait>(
+pub fn places<'r, F: Filed, S: Store, J: Naming, R: Wait>(
     rt: &'r R,
     alloc: Global,
     stored: StoredRepository<F, S>,
@@ -127,11 +111,33 @@ pub(crate) fn places<'r, F: Filed, S: Store, J: Naming, R: Wait>(
     let repository = Arc::new(alloc, repository)?;
     let mut found = Vec::new(alloc);
     for seat in seats {
-        found.push(Place {
-            repository: Arc::try_clone(&repository)?,
-            seat,
-            rt,
-        })?;
+        found.push(placed(rt, &repository, seat)?)?;
     }
     Ok(found)
+}
+
+/// Takes the last place.
+fn taken<'r, F: Filed, S: Store, J: Naming, R: Wait>(
+    places: &mut Vec<Place<'r, F, S, J, R>>,
+) -> Result<Access<'r, F, S, J, R>, AllocError> {
+    match places.pop() {
+        Some(place) => Ok(place.into_access()),
+        None => Err(AllocError),
+    }
+}
+
+/// Gives the repository as each of two seats reaches it.
+pub fn two_seats<'r, F: Filed, S: Store, J: Naming, R: Wait>(
+    rt: &'r R,
+    alloc: Global,
+    stored: StoredRepository<F, S>,
+    history: NewHistory,
+) -> Result<(Access<'r, F, S, J, R>, Access<'r, F, S, J, R>), Fail>
+    requires book { history.seen.book ≡ J.book }
+    requires sound { AreSound (F.content stored.repository).revisions }
+{
+    let mut places = places::<F, S, J, R>(rt, alloc, stored, 2, history)?;
+    let first = taken(&mut places)?;
+    let second = taken(&mut places)?;
+    Ok((first, second))
 }

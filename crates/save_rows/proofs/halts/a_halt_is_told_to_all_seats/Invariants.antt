@@ -1,4 +1,4 @@
-use Rattle.shared_rows.proofs.releases.a_commit_whose_locks_are_not_released_is_made.Given as goal
+use Rattle.save_rows.proofs.halts.a_halt_is_told_to_all_seats.Given as goal
 
 -- the history that was just opened
 abbrev pub ghosts-outcome_behind : goal.ghosts-outcome_behind

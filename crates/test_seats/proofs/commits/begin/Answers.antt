@@ -1,6 +1,6 @@
 use Rattle.std.proofs.{Common.{[], sym, append-nil, ◌∙◌}, lemmas.Result.IfOk-weaker}
-use Rattle.shared_rows.proofs.Begun.{youngest_tree, begun_tree}
-use Rattle.shared_rows.proofs.commits.begin.Goals as goal
+use Rattle.test_seats.proofs.Begun.{youngest_tree, begun_tree}
+use Rattle.test_seats.proofs.commits.begin.Goals as goal
 
 pub returns-in-Directory : goal.returns-in-Directory
 returns-in-Directory g c =

@@ -1,4 +1,4 @@
-use Rattle.shared_rows.proofs.saves.a_look_waits_for_no_save.Given as goal
+use Rattle.save_rows.proofs.saves.a_look_waits_for_no_save.Given as goal
 
 -- the history that was just opened
 abbrev pub ghosts-look_in_memory : goal.ghosts-look_in_memory
