@@ -8,6 +8,7 @@ of a crate is taken once.
 
 import contextlib
 import os
+import re
 import runpy
 import shutil
 import signal
@@ -18,6 +19,18 @@ from pathlib import Path
 ROOT = Path(__file__).resolve().parent.parent
 LOGS = ROOT / "out/build"
 MEMORY = 2_500_000_000  # of a check, in bytes
+
+
+def named_logic():
+    """The logic in which these sources are proved, by README.md."""
+    return re.search(r"\blogic ([0-9a-f]{16})\b", (ROOT / "README.md").read_text())[1]
+
+
+def say_logic(library):
+    """Says which toolchain this is, if its logic is not the one in which these sources are proved."""
+    identity = Path(library.KIT, "KIT-ID").read_text().strip()
+    if named_logic() not in identity:
+        print(f"the toolchain is {identity}, and README.md names the logic {named_logic()}", flush=True)
 
 
 def each_once(stamp):
@@ -41,7 +54,10 @@ def each_once(stamp):
 def loaded():
     """The names of `rt`, and its library."""
     sys.dont_write_bytecode = True
-    rt = runpy.run_path(os.path.realpath(shutil.which("rt") or "/opt/rattle/bin/rt"), run_name="rt")
+    found = shutil.which("rt") or "/opt/rattle/bin/rt"
+    if not os.path.isfile(found):
+        sys.exit(f"there is no `rt`: get Rattle's toolchain of logic {named_logic()}, and put its folder `bin` on PATH")
+    rt = runpy.run_path(os.path.realpath(found), run_name="rt")
     library = sys.modules["rtlib"]
     library.Crate.stamp = each_once(library.Crate.stamp)
     # Ctrl-C ends all checks, and what guards them is started before there are threads

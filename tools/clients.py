@@ -4,7 +4,6 @@ The items that a server sends are read by a reader of their own here, which take
 in no other: a space behind each token, numbers without leading zeros, words of letters, digits and `-`.
 """
 
-import os
 import re
 import select
 import signal
@@ -17,8 +16,6 @@ from pathlib import Path
 
 from spelling import ANONYMOUS, CRAM_MD5, LATEST, TEXTS, greeting_answer, proof
 
-ROOT = Path(__file__).resolve().parent.parent
-BUILT = ROOT / "crates/svnserved/out/svnserved"
 USERS = {"alice": b"secret", "bob": b"hidden"}
 NAME = "r"
 URL = "svn://127.0.0.1/r"
@@ -266,14 +263,6 @@ def free_port():
     """A port that nobody listens at."""
     with socket.create_server(("127.0.0.1", 0)) as listener:
         return listener.getsockname()[1]
-
-
-def program_path(path):
-    """The program that is named, or the built one, which is built if need be."""
-    if path:
-        return path.resolve()
-    subprocess.run([ROOT / "svnserved", "--help"], stdout=subprocess.DEVNULL, check=True)
-    return BUILT
 
 
 class Server:

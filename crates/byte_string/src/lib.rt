@@ -14,9 +14,15 @@ use std::cmp::Ordering;
 use std::marker::Model;
 
 /// Any bytes. A clause sees their list and no buffer, so two that hold the same bytes are equal.
-#[derive(Debug, Drop)]
+#[derive(Debug)]
 pub struct ByteString {
     items: Vec<u8>,
+}
+
+impl Drop for ByteString {
+    fn drop(self) {
+        let ByteString { items: _ } = self;
+    }
 }
 
 impl Model for ByteString {
@@ -56,7 +62,8 @@ impl ByteString {
     pub fn into_vec(self) -> Vec<u8>
         ensures { result.items ≡ self }
     {
-        self.items
+        let ByteString { items } = self;
+        items
     }
 }
 

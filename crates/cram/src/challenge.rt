@@ -7,9 +7,15 @@ use std::alloc::Global;
 use std::marker::Model;
 
 /// A challenge: the text `<nonce.moment@name>`.
-#[derive(Debug, Drop)]
+#[derive(Debug)]
 pub struct Challenge {
     text: String,
+}
+
+impl Drop for Challenge {
+    fn drop(self) {
+        let Challenge { text: _ } = self;
+    }
 }
 
 impl Model for Challenge {

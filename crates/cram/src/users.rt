@@ -21,9 +21,15 @@ impl Model for Account {
 }
 
 /// A user who has logged in, by name.
-#[derive(Debug, Drop)]
+#[derive(Debug)]
 pub struct User {
     name: ByteString,
+}
+
+impl Drop for User {
+    fn drop(self) {
+        let User { name: _ } = self;
+    }
 }
 
 impl Model for User {
@@ -57,15 +63,21 @@ impl User {
     pub fn into_name(self) -> ByteString
         ensures { result ≡ self }
     {
-        self.name
+        let User { name } = self;
+        name
     }
 }
 
 /// The users that may log in, each with its password. There is no `Debug`, so that nothing of a password
 /// is printed.
-#[derive(Drop)]
 pub struct Users {
     accounts: Vec<Account>,
+}
+
+impl Drop for Users {
+    fn drop(self) {
+        let Users { accounts: _ } = self;
+    }
 }
 
 impl Model for Users {

@@ -1,19 +1,12 @@
 //! Which text of a file is told.
 ghost use Rattle.std.specs.Prelude.{◌≡◌, IfOk, option_copied};
-ghost use Rattle.wire_forms.specs.Forms.{is_name};
 ghost use Rattle.drive_news.specs.News.{other_text, text_sent};
 ghost use Rattle.repo_api.specs.Properties.{is_same_value};
 
 use drive_reports::Purpose;
 use repo_api::FileText;
+use small_rules::is_same_text;
 use std::alloc::AllocError;
-
-/// Says whether both texts have the same bytes.
-fn is_same_text(old: &FileText, new: &FileText) -> bool
-    ensures { result ≡ is_name old.now new.now }
-{
-    old.as_slice() == new.as_slice()
-}
 
 /// Says whether both are the same text, or both none.
 pub(crate) fn are_same_texts(old: Option<&FileText>, new: Option<&FileText>) -> bool

@@ -19,7 +19,7 @@ pub enum DepthAsked {
 }
 
 /// What is asked of a drive.
-#[derive(Debug, Drop)]
+#[derive(Debug)]
 pub struct DriveAsk {
     pub purpose: Purpose,
     /// The path of the session's URL.
@@ -31,4 +31,17 @@ pub struct DriveAsk {
     /// The revision of what it is to become.
     pub revision: u64,
     pub depth: DepthAsked,
+}
+
+impl Drop for DriveAsk {
+    fn drop(self) {
+        let DriveAsk {
+            purpose: _,
+            anchor: _,
+            target: _,
+            goal: _,
+            revision: _,
+            depth: _,
+        } = self;
+    }
 }

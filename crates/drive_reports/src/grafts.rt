@@ -12,13 +12,23 @@ use svnpath::Path;
 
 /// The grafts of a report, in their order, each at a path that a client can name. They are found by
 /// their paths, however many there are.
-#[derive(Drop)]
 pub struct Grafts {
     grafts: Vec<Graft>,
     index: GraftIndex,
     has_shallow: bool,
     /// About how many bytes of memory they take.
     taken: usize,
+}
+
+impl Drop for Grafts {
+    fn drop(self) {
+        let Grafts {
+            grafts: _,
+            index: _,
+            has_shallow: _,
+            taken: _,
+        } = self;
+    }
 }
 
 impl Model for Grafts {

@@ -6,9 +6,15 @@ use std::marker::Model;
 use svnpath::Path;
 
 /// A path that a client can name, of however many components.
-#[derive(Debug, Drop)]
+#[derive(Debug)]
 pub struct NamedPath {
     path: Path,
+}
+
+impl Drop for NamedPath {
+    fn drop(self) {
+        let NamedPath { path: _ } = self;
+    }
 }
 
 impl Model for NamedPath {

@@ -16,7 +16,6 @@ use svnpath::Path;
 use wire_edits::EditorCommand;
 
 /// An edit on its way to a commit.
-#[derive(Drop)]
 pub struct CommitEditor<R: Repository> {
     pub(crate) alloc: Global,
     pub(crate) path: Path,
@@ -26,6 +25,20 @@ pub struct CommitEditor<R: Repository> {
     pub(crate) refused: bool,
     /// How many bytes of memory it may still take.
     pub(crate) room: u64,
+}
+
+impl<R: Repository> Drop for CommitEditor<R> {
+    fn drop(self) {
+        let CommitEditor {
+            alloc: _,
+            path: _,
+            name: _,
+            txn: _,
+            tokens: _,
+            refused: _,
+            room: _,
+        } = self;
+    }
 }
 
 impl<R: Repository> Model for CommitEditor<R> {
@@ -189,7 +202,15 @@ impl<R: Repository> CommitEditor<R> {
             (λ r. finished self ≡ Err r) }
     {
         let unfinished = has_unfinished(&self.tokens);
-        let CommitEditor { txn, refused, .. } = self;
+        let CommitEditor {
+            alloc: _,
+            path: _,
+            name: _,
+            txn,
+            tokens: _,
+            refused,
+            room: _,
+        } = self;
         match txn {
             _ if refused => Err(Refusal::EditAborted),
             Some(_) if unfinished => Err(Refusal::MalformedData),

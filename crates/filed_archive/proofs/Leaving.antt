@@ -1,15 +1,16 @@
 -- What a save leaves of an archive.
-use Rattle.std.proofs.{Common.{◌≡◌, inl, inr, ⊎_elim, ℕ, Bool, true, false, Ok, Err, refl, sym, ◌∙◌, subst}, lemmas.Bool.false≢true}
+use Rattle.std.proofs.{Common.{◌≡◌, ◌⊎◌, inl, inr, ⊎_elim, ℕ, Bool, true, false, List, [], ◌∷◌, Ok, Err, refl, sym, ◌∙◌, subst}, lemmas.Bool.false≢true}
 use Rattle.std.specs.Prelude.{IsErrOf, Result}
 use Rattle.repo_api.specs.{Accepted.{Accepted, changed}, States.RepoState}
 use Rattle.repo_api.specs.declared.repository.Repository as Repository
 use Rattle.store_files.specs.{declared.store.Store.Ghosts, declared.fault.StoreFault.StoreFault}
 use Rattle.store_files.specs.declared.fault.StoreFault.TheVariants as store
 use Rattle.repostore.specs.{Saving.SaveEnds, declared.saves.Saves.Saves}
+use Rattle.stops.specs.Beginnings.{through}
 use Rattle.sharedrepo.specs.{Archives.{Kept, SaveLeaves, is_commit}, declared.archive.SaveFault.SaveFault}
-use Rattle.store_access.specs.Keeping.{LeavesEither}
+use Rattle.store_access.specs.Leaving.{FilesLeave}
 use Rattle.store_access.specs.declared.filed.Filed as Filed
-use Rattle.store_access.proofs.Stops.{saves_either}
+use Rattle.store_access.proofs.Leaving.{save_leaves}
 use Rattle.filed_archive.specs.{Writing.{told_as, written, SavesFiles, Writes}, declared.unsaved.Unsaved.Unsaved}
 use Rattle.filed_archive.specs.declared.filed_archive.FiledArchive.{FiledArchive}
 
@@ -56,14 +57,12 @@ module _ {S : Type 0} (s : Ghosts S) (e : Accepted) (content : RepoState) (old n
           let halts : new.is_halted ≡ old.is_halted = is ∙ sym running in
           subst Goal (sym (is_told ∙ (λ i. told_as new.is_halted (memory i)))) (λ i. at content (halts i) (same i))
 
--- what a stop within the save of a change leaves of an honest store
-pub stop_leaves : {F S T : Type 0} {f : Filed.Ghosts F T} {r : Repository.Ghosts F T} {s : Ghosts S}
+-- what a save of a change leaves of an honest store
+module _ {F S T : Type 0} {f : Filed.Ghosts F T} {r : Repository.Ghosts F T} {s : Ghosts S}
     (old : FiledArchive F S T f r s) (unsaved : Unsaved F) (e : Accepted) (result : Result (Unit {0}) StoreFault) (new : Saves S)
-    → old.saves.is_halted ≡ false → Writes old unsaved e → SavesFiles s unsaved.files old.saves result new
-    → s.is_honest old.saves.store
-    → ∥ LeavesEither r.content f.is_of s old.saves.store new.store (r.content old.repository) (changed (r.content old.repository) e) ∥₁
-stop_leaves {f = f} {r = r} {s = s} old unsaved e result new running writes saves honest =
-    subst (λ (x : RepoState). ∥ LeavesEither r.content f.is_of s old.saves.store new.store (r.content old.repository) x ∥₁) writes.next
-    (saves_either s r.content f.is_of old.saves new old.repository unsaved.next (λ files. written unsaved.files files)
-    old.kept running (λ files of. (writes.leads files of).0)
-    (λ files of saved. (saves.0 files saved (writes.leads files of).1).stop) honest)
+    (running : old.saves.is_halted ≡ false) (writes : Writes old unsaved e) (saves : SavesFiles s unsaved.files old.saves result new) where
+  pub leaves : FilesLeave r.content f.is_of s old.saves new (through (r.content old.repository) (e ∷ []))
+  leaves =
+      save_leaves r.content f.is_of s old.saves new result old.repository unsaved.next (λ files. written unsaved.files files) e
+      old.kept running saves.1.honest (λ files of. (writes.leads files of).0) writes.next
+      (λ files of saved. saves.0 files saved (writes.leads files of).1)

@@ -1,13 +1,14 @@
 -- What a change writes, and what that makes of the files.
-use Rattle.std.specs.Prelude.{◌≡◌, ◌+◌, ◌<◌, Bool, true, false, if◌then◌else◌, Some, length, Result, IsErrOf}
-use Rattle.repo_api.specs.Accepted.{Accepted, changed}
+use Rattle.std.specs.Prelude.{◌≡◌, ◌+◌, ◌<◌, Bool, List, [], ◌∷◌, true, false, if◌then◌else◌, Some, length, Result, IsErrOf}
+use Rattle.repo_api.specs.{Accepted.{Accepted, changed}, States.RepoState}
 use Rattle.repo_api.specs.declared.repository.Repository as Repository
 use Rattle.store_files.specs.declared.store.Store as Store
 use Rattle.store_files.specs.declared.fault.StoreFault.{StoreFault}
 use Rattle.store_files.specs.declared.fault.StoreFault.TheVariants as store
 use Rattle.repostore.specs.{Current.count_in, Files.{Files, with_locks, with_properties, with_revision}, Saving.{IsSaved, SaveEnds, SaveMakes}}
 use Rattle.repostore.specs.declared.saves.Saves.{Saves}
-use Rattle.store_access.specs.Keeping.{LeavesEither}
+use Rattle.stops.specs.Beginnings.{through}
+use Rattle.store_access.specs.Leaving.{FilesLeave, FilesStand}
 use Rattle.store_access.specs.declared.filed.Filed as Filed
 use Rattle.sharedrepo.specs.{Archives.{Kept, SaveLeaves, is_commit}, declared.archive.SaveFault.SaveFault}
 use Rattle.sharedrepo.specs.declared.archive.SaveFault.TheVariants as faults
@@ -72,12 +73,18 @@ module _ {F S T : Type 0} {f : Filed.Ghosts F T} {r : Repository.Ghosts F T}
     pub kind : is_revision unsaved.files ≡ is_commit e
     pub leads : Leads f.is_of a.repository unsaved.files unsaved.next
 
+  -- its files stand for one of these, if they are honest
+  abbrev pub stands_of : FiledArchive F S T f r s → List RepoState → Type 0
+  stands_of a cs = FilesStand r.content f.is_of s a.saves cs
+
+  -- and so has what a stop leaves at any moment from the one to the other
+  abbrev pub Leaves : FiledArchive F S T f r s → FiledArchive F S T f r s → List RepoState → Type 0
+  Leaves a b cs = FilesLeave r.content f.is_of s a.saves b.saves cs
+
   -- what the save of a change leaves; and a stop within it leaves an honest store with the files of
-  -- the repository before the change, or after it
+  -- the repository before the change, or after it, and so it stands then
   abbrev pub SavesChange : Accepted → FiledArchive F S T f r s → Result (Unit {0}) SaveFault
       → FiledArchive F S T f r s → Type 0
   SavesChange e old result new =
       SaveLeaves e (kept_of old) result (kept_of new)
-      × (s.is_honest old.saves.store
-      → ∥ LeavesEither r.content f.is_of s old.saves.store new.saves.store
-      (r.content old.repository) (changed (r.content old.repository) e) ∥₁)
+      × Leaves old new (through (r.content old.repository) (e ∷ []))

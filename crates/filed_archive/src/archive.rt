@@ -9,13 +9,28 @@ use store_access::Filed;
 use store_files::Store;
 
 impl<F: Filed, S: Store> Archive<F> for FiledArchive<F, S> {
-    ghost use Rattle.filed_archive.specs.Writing.{Writes, kept_of};
+    ghost use Rattle.filed_archive.specs.Writing.{Leaves, Writes, kept_of, stands_of};
+    ghost use Rattle.filed_archive.specs.Laws.{saves, stays, joins, among, rests};
 
     type Unsaved = Unsaved<F>;
 
     ghost kept = { kept_of };
 
+    ghost stands = { stands_of };
+
+    ghost leaves = { Leaves };
+
     ghost writes = { Writes };
+
+    ghost saves = { saves };
+
+    ghost stays = { stays (λ store folder honest left. S.only_now store folder honest left) };
+
+    ghost joins = { joins };
+
+    ghost among = { among };
+
+    ghost rests = { rests };
 
     fn is_halted(&self) -> bool {
         self.saves.is_halted()

@@ -8,11 +8,19 @@ use store_access::{Filed, StoredRepository};
 use store_files::Store;
 
 /// A repository in files. While changes are saved, the files are those of the repository.
-#[derive(Drop)]
 pub struct FiledArchive<F: Filed, S: Store> {
     pub(crate) repository: F,
     pub(crate) saves: Saves<S>,
     ghost kept: { ∥ Keeps S.Store F.is_of saves repository ∥₁ },
+}
+
+impl<F: Filed, S: Store> Drop for FiledArchive<F, S> {
+    fn drop(self) {
+        let FiledArchive {
+            repository: _,
+            saves: _,
+        } = self;
+    }
 }
 
 impl<F: Filed, S: Store> FiledArchive<F, S> {

@@ -18,9 +18,14 @@ pub struct Placed {
 }
 
 /// Says where the node revisions of a revision stand, by their places in its block.
-#[derive(Drop)]
 pub struct Table {
     pub placed: Vec<Placed>,
+}
+
+impl Drop for Table {
+    fn drop(self) {
+        let Table { placed: _ } = self;
+    }
 }
 
 /// Gives what a table keeps of a node revision.

@@ -9,3 +9,4 @@ pub mod Further
 pub mod First
 pub mod Opened
 pub mod Taken
+pub mod InOrder

@@ -9,7 +9,6 @@ use Rattle.noderevs.specs.{Held.blocks_of, declared.node_rev.Block.Block}
 use Rattle.held.specs.{Contents.state_of, declared.held.Held.Held}
 use Rattle.held.proofs.Seen.{held_many, held_changes}
 use Rattle.repostore.specs.{Current.count_in, Files.Files, Reading.{with_one_more, with_read_locks}}
-use Rattle.fsfs_lines.specs.declared.fault.FileFault.TheVariants as faults
 use Rattle.fsfs_folder.specs.{Properties.properties_of, declared.current.Current.Current}
 use Rattle.filed_trees.specs.{Pieces.RevisionBytes, StandsFor.{locks_in, revision_bytes, revision_properties}, Tables.AreTabled, declared.table.Table.Table}
 use Rattle.filed_world.specs.{Files.{AreFilesOf, AreLocks}, Reading.{SayHead, AreFirst, AreRead, IsNext, so_far, read_history}}

@@ -1,1 +1,5 @@
 pub mod Coming
+pub mod Pieces
+pub mod Places
+pub mod Roots
+pub mod Behind

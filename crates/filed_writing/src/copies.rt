@@ -1,4 +1,7 @@
 //! The ids that node revisions get: of their nodes, and of the copies that they are of.
+ghost use Rattle.std.specs.{Prelude.{◌≡◌, ◌≤◌, ◌-◌, IfOk, length, map, option_and_then, option_copied, option_map, reverse}, List.Sorted.IsStrictlySortedBy, Map.keys_of};
+ghost use Rattle.svnpath.specs.Paths.{path_cmp};
+ghost use Rattle.filed_writing.specs.{Drafts.{came_from, comes_of, copy_from}, Layout.{all_come, comes, copies_of, copy_of, known_from, made_from, next_after, next_after_all, nodes_of, place_above}, Pieces.{begins, copied, counted, next_number}};
 
 use crate::origin::predecessor_of;
 use crate::revision::{Revision, puts};
@@ -42,7 +45,10 @@ pub struct CopyRoot {
 }
 
 /// Takes the next number of a counter.
-fn taken(counter: &mut u128) -> IdPart {
+fn taken(counter: &mut u128) -> IdPart
+    ensures given { result ≡ counted counter.old }
+    ensures next { counter.new ≡ next_number counter.old }
+{
     let number = *counter;
     *counter = number.saturating_add(1);
     IdPart {
@@ -52,7 +58,9 @@ fn taken(counter: &mut u128) -> IdPart {
 }
 
 /// Gives what a change copied to its path.
-fn copied(change: Option<&Change>) -> Option<&Source> {
+fn copied(change: Option<&Change>) -> Option<&Source>
+    ensures { option_copied result ≡ copied (option_copied change.entry) }
+{
     let change = change?;
     if puts(change.action) {
         change.source.as_ref()
@@ -63,7 +71,10 @@ fn copied(change: Option<&Change>) -> Option<&Source> {
 
 impl<'a> Revision<'a> {
     /// Finds what a node revision was made from.
-    fn made_from(self, node: &NodeRev) -> Option<Predecessor<'a>> {
+    fn made_from(self, node: &NodeRev) -> Option<Predecessor<'a>>
+        requires { IsStrictlySortedBy path_cmp (keys_of self.changes.now) }
+        ensures { option_map came_from result ≡ made_from self.entry node.now }
+    {
         let number = self.number as u64;
         let id = predecessor_of(self.nodes, self.changes, number, node.path.components())?;
         Some(Predecessor {
@@ -73,7 +84,11 @@ impl<'a> Revision<'a> {
     }
 
     /// Says what a node revision was made from, and gives it the ids that it takes itself.
-    fn origin(self, node: &NodeRev, next: &mut Current) -> Origin<'a> {
+    fn origin(self, node: &NodeRev, next: &mut Current) -> Origin<'a>
+        requires { IsStrictlySortedBy path_cmp (keys_of self.changes.now) }
+        ensures comes { comes_of result ≡ comes self.entry node.now next.old }
+        ensures next { next.new ≡ next_after self.entry node.now next.old }
+    {
         let predecessor = self.made_from(node);
         let number = match predecessor {
             Some(before) => before.placed.id.node,
@@ -94,19 +109,24 @@ impl<'a> Revision<'a> {
     }
 
     /// Says of each node revision of this revision what it was made from, in their order.
-    pub fn origins(self, alloc: Global, next: &mut Current) -> Result<Vec<Origin<'a>>, AllocError> {
+    pub fn origins(self, alloc: Global, next: &mut Current) -> Result<Vec<Origin<'a>>, AllocError>
+        requires { IsStrictlySortedBy path_cmp (keys_of self.changes.now) }
+        ensures all { IfOk result (λ origins. map comes_of origins.items
+            ≡ all_come self.entry (nodes_of self.entry) next.old) }
+        ensures next { IfOk result (λ _. next.new
+            ≡ next_after_all self.entry (nodes_of self.entry) next.old) }
+    {
         let mut origins = Vec::new(alloc);
-        for place in 0..u64::MAX {
-            let Some(node) = self.node_here(place) else {
-                break;
-            };
+        while let Some(node) = self.node_here(origins.len() as u64) {
             origins.push(self.origin(node, next))?;
         }
         Ok(origins)
     }
 
     /// Finds the place of the directory of a node revision of this revision.
-    fn directory(self, node: &NodeRev) -> Option<usize> {
+    fn directory(self, node: &NodeRev) -> Option<usize>
+        ensures { result ≡ place_above self.entry node.now.path }
+    {
         let (_, above) = node.path.components().split_last()?;
         let root = self.nodes.root(self.number as u64);
         let id = self.nodes.find_in(root, above)?;
@@ -121,7 +141,10 @@ impl<'a> Revision<'a> {
         node: &NodeRev,
         origin: &Origin<'_>,
         directory: Option<&CopyRoot>,
-    ) -> Result<CopyRoot, AllocError> {
+    ) -> Result<CopyRoot, AllocError>
+        ensures { IfOk result (λ root. copy_from root ≡ copy_of self.entry node.now
+            (comes_of origin.now) (option_map copy_from (option_copied directory.entry))) }
+    {
         if let Some(copy) = origin.copy {
             return begun(alloc, copy.id, self.number, node);
         }
@@ -140,18 +163,18 @@ impl<'a> Revision<'a> {
         self,
         alloc: Global,
         origins: &[Origin<'_>],
-    ) -> Result<Vec<CopyRoot>, AllocError> {
+    ) -> Result<Vec<CopyRoot>, AllocError>
+        ensures { IfOk result (λ roots. reverse (map copy_from roots.items)
+            ≡ copies_of self.entry 0 (nodes_of self.entry) (map comes_of origins.now)) }
+    {
         let mut roots = Vec::new(alloc);
-        for (place, origin) in origins.iter().enumerate().rev() {
+        for place in (0..origins.len()).rev() {
             let Some(node) = self.node_here(place as u64) else {
-                break;
+                return Err(AllocError);
             };
             let root = {
-                let above = match self.directory(node) {
-                    Some(directory) => above(origins.len(), directory, roots.as_slice()),
-                    None => None,
-                };
-                self.copy_root(alloc, node, origin, above)?
+                let above = above(origins.len(), self.directory(node), roots.as_slice());
+                self.copy_root(alloc, node, &origins[place], above)?
             };
             roots.push(root)?;
         }
@@ -166,12 +189,18 @@ const FIRST_COPY: IdPart = IdPart {
 };
 
 /// Finds what is known of a directory, among what is known in falling order of so many.
-fn above(count: usize, directory: usize, roots: &[CopyRoot]) -> Option<&CopyRoot> {
-    roots.get(count.checked_sub(directory)?.checked_sub(1)?)
+fn above(count: usize, directory: Option<usize>, roots: &[CopyRoot]) -> Option<&CopyRoot>
+    requires { length roots.now ≤ count }
+    ensures { option_map copy_from (option_copied result) ≡ option_and_then
+        (known_from (count - length roots.now) (reverse (map copy_from roots.now))) directory }
+{
+    roots.get(count.checked_sub(directory?)?.checked_sub(1)?)
 }
 
 /// Gives the copy that begins with a node revision.
-fn begun(alloc: Global, id: IdPart, revision: u32, node: &NodeRev) -> Result<CopyRoot, AllocError> {
+fn begun(alloc: Global, id: IdPart, revision: u32, node: &NodeRev) -> Result<CopyRoot, AllocError>
+    ensures { IfOk result (λ root. copy_from root ≡ begins revision id node.now) }
+{
     let path = text_of(alloc, &node.path)?;
     Ok(CopyRoot {
         id,
@@ -180,7 +209,9 @@ fn begun(alloc: Global, id: IdPart, revision: u32, node: &NodeRev) -> Result<Cop
 }
 
 /// Gives the copy of this id that begins at this place.
-fn copy_of(id: IdPart, place: &Place) -> Result<CopyRoot, AllocError> {
+fn copy_of(id: IdPart, place: &Place) -> Result<CopyRoot, AllocError>
+    ensures { IfOk result (λ root. copy_from root ≡ record { id = id; place = place.now }) }
+{
     let path = place.path.clone()?;
     Ok(CopyRoot {
         id,

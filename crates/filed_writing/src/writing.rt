@@ -1,4 +1,7 @@
 //! Writing the file of a revision.
+ghost use Rattle.std.specs.{Prelude.{IfOk, length, map, reverse}, List.Sorted.IsStrictlySortedBy, Map.keys_of};
+ghost use Rattle.filed_writing.specs.{Drafts.{comes_of, copy_from}, Layout.{AreWritten, IsLaidOut}};
+ghost use Rattle.svnpath.specs.Paths.{path_cmp};
 
 use crate::copies::{CopyRoot, Origin};
 use crate::node::Draft;
@@ -22,15 +25,18 @@ pub struct Written {
 
 impl Revision<'_> {
     /// Writes the node revisions of this revision in their order, each with its origin and its copy, of
-    /// which the last is that of the first node, and gives their ids.
+    /// which the last is that of the first node, and gives their ids beside the bytes.
     fn write_nodes(
         self,
         alloc: Global,
-        out: &mut Vec<u8>,
         origins: &[Origin<'_>],
         roots: Vec<CopyRoot>,
-    ) -> Result<Vec<FileId>, AllocError> {
+    ) -> Result<(Vec<u8>, Vec<FileId>), AllocError>
+        ensures { IfOk result (λ made. AreWritten self.entry (map comes_of origins.now)
+            (reverse (map copy_from roots.items)) made.0.items made.1.items) }
+    {
         let mut roots = roots;
+        let mut out = Vec::new(alloc);
         let mut written = Vec::new(alloc);
         for (place, origin) in origins.iter().enumerate() {
             let (Some(node), Some(root)) = (self.node_here(place as u64), roots.pop()) else {
@@ -41,24 +47,31 @@ impl Revision<'_> {
                 origin: *origin,
                 root,
             };
-            let id = self.write(alloc, out, written.as_slice(), draft)?;
+            let id = self.write(alloc, &mut out, written.as_slice(), draft)?;
             written.push(id)?;
         }
-        Ok(written)
+        Ok((out, written))
     }
 
     /// Writes the whole file, and takes the ids that it needs from those that come next.
-    fn write_file(self, alloc: Global, next: &mut Current) -> Result<Vec<u8>, AllocError> {
-        let mut out = Vec::new(alloc);
-        let origins = self.origins(alloc, next)?;
+    fn write_file(self, alloc: Global, current: Current) -> Result<Written, AllocError>
+        requires { IsStrictlySortedBy path_cmp (keys_of self.changes.now) }
+        ensures { IfOk result (λ made. IsLaidOut self.entry current made.file.items made.current) }
+    {
+        let mut next = current;
+        let origins = self.origins(alloc, &mut next)?;
         let roots = self.copy_roots(alloc, origins.as_slice())?;
-        let written = self.write_nodes(alloc, &mut out, origins.as_slice(), roots)?;
+        let (mut file, written) = self.write_nodes(alloc, origins.as_slice(), roots)?;
         let Some(root) = written.last() else {
             return Err(AllocError);
         };
         let changes = self.file_changes(alloc, written.as_slice())?;
-        finish_file(&mut out, root.offset, changes.as_slice())?;
-        Ok(out)
+        finish_file(&mut file, root.offset, changes.as_slice())?;
+        next.youngest = self.number;
+        Ok(Written {
+            file,
+            current: next,
+        })
     }
 }
 
@@ -70,19 +83,20 @@ pub fn write_revision(
     tables: &PVec<Table>,
     changes: &[(Path, Change)],
     current: Current,
-) -> Result<Written, AllocError> {
-    let number = tables.len() as u32;
+) -> Result<Written, AllocError>
+    requires { IsStrictlySortedBy path_cmp (keys_of changes.now) }
+    ensures { IfOk result (λ made. IsLaidOut (record {
+      number = length tables.now;
+      nodes = nodes.entry;
+      tables = tables.entry;
+      changes = changes.entry;
+    }) current made.file.items made.current) }
+{
     let revision = Revision {
-        number,
+        number: tables.len() as u32,
         nodes,
         tables,
         changes,
     };
-    let mut next = current;
-    let file = revision.write_file(alloc, &mut next)?;
-    next.youngest = number;
-    Ok(Written {
-        file,
-        current: next,
-    })
+    revision.write_file(alloc, current)
 }

@@ -14,7 +14,6 @@ pub(crate) struct FlatRevision {
 }
 
 /// The repository's name, its revisions from 0 on, and the properties of each.
-#[derive(Drop)]
 pub(crate) struct FlatContent {
     pub uuid: u128,
     pub revisions: Vec<Arc<FlatRevision>>,
@@ -22,4 +21,15 @@ pub(crate) struct FlatContent {
     /// What a number that is no revision has.
     pub nothing: FlatTree,
     ghost is_nothing: { nothing ≡ empty },
+}
+
+impl Drop for FlatContent {
+    fn drop(self) {
+        let FlatContent {
+            uuid: _,
+            revisions: _,
+            properties: _,
+            nothing: _,
+        } = self;
+    }
 }

@@ -21,9 +21,14 @@ use std::mem::drop;
 use svnpath::Path;
 
 /// The entries of a tree, in the order of their paths.
-#[derive(Drop)]
 pub(crate) struct FlatTree {
     entries: BTreeMap<Path, Entry>,
+}
+
+impl Drop for FlatTree {
+    fn drop(self) {
+        let FlatTree { entries: _ } = self;
+    }
 }
 
 impl Model for FlatTree {

@@ -1,21 +1,28 @@
--- A hub over a repository in files, as it is opened.
-use Rattle.std.specs.Prelude.{◌≡◌, []}
-use Rattle.repo_api.specs.States.{RepoState}
-use Rattle.store_files.specs.Folders.{Folder}
-use Rattle.access.specs.Points.{Point}
-use Rattle.machine.specs.Settings.{Settings}
-use Rattle.hub_runs.specs.State.{hub_at, HubState}
-use Rattle.store_access.specs.Keeping.{HasRepository, StandsFor}
+-- What is found in a folder, and what a hub's files are once changes have come to a halt.
+use Rattle.std.specs.Prelude.{◌≡◌, true, Some}
+use Rattle.repo_api.specs.{Accepted.{Accepted, changed}, States.RepoState}
+use Rattle.store_files.specs.{Folders.Folder, declared.store.Store.Ghosts}
+use Rattle.repostore.specs.Saving.{Stands}
+use Rattle.hub_runs.specs.State.{HubState}
+use Rattle.store_access.specs.Keeping.{HasEitherRepository, HasRepository, StandsFor}
 use Rattle.filed_trees.specs.StandsFor as files
 use Rattle.filed_world.specs.Files.{IsOf, filed_content}
 
--- the hub has no sessions, and the store's files stand for what it contains, where a read has not shown
--- that they are not honest; if they are those of a repository, it contains what that one does
-pub record BeginsWith {S : Type 0} (is_honest : S → Type 0) (holds : S → Folder) (store : S)
-    (settings : Settings) (hub : HubState) : Type 0 where
-  pub point : Point
-  pub begins : hub ≡ hub_at settings point [] 0
-  pub read : S
-  pub stands : is_honest read → StandsFor files.StandsFor hub.content (holds store)
-  pub same : is_honest read → (c : RepoState) → HasRepository filed_content IsOf c (holds store)
-      → hub.content ≡ c
+-- this is what is found in the folder: its files stand for it, and if they are those of a
+-- repository, it is what that one contains
+pub record IsFoundIn (was : Folder) (content : RepoState) : Type 0 where
+  pub stands : StandsFor files.StandsFor content was
+  pub same : (c : RepoState) → HasRepository filed_content IsOf c was → content ≡ c
+
+module _ {S : Type 0} (s : Ghosts S) (store : S) (hub : HubState) where
+  -- changes came to a halt while this one was being saved: what is read has the files of what the
+  -- hub's repository contains, or those behind the change, and so has what a stop leaves now
+  pub record StandsAtHalt : Type 0 where
+    pub change : Accepted
+    pub is_pending : hub.pending ≡ Some change
+    pub stands : Stands s store (λ f. ∥ HasEitherRepository filed_content IsOf hub.content
+        (changed hub.content change) f ∥₁)
+
+  -- so it is of a store that is honest, once they have
+  abbrev pub HaltLeaves : Type 0
+  HaltLeaves = s.is_honest store → hub.halted ≡ true → StandsAtHalt

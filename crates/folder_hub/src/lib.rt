@@ -3,4 +3,4 @@
 
 mod opening;
 
-pub use opening::{FolderHub, open_hub, store_of};
+pub use opening::{FolderHub, hub_over, store_of};

@@ -1,48 +1,38 @@
 //! A hub over a repository that is opened from its files.
-ghost use Rattle.std.specs.Prelude.{◌≡◌, IfOk, IfErr, false};
-ghost use Rattle.store_files.specs.Folders.{Folder, IsSame};
-ghost use Rattle.repostore.specs.{Opening.IsUnopened, Saving.Stands};
-ghost use Rattle.store_access.specs.Keeping.{HasRepository};
+ghost use Rattle.std.specs.Prelude.{◌≡◌, [], false};
+ghost use Rattle.repostore.specs.Saving.{Stands};
+ghost use Rattle.hub_runs.specs.State.{hub_at};
+ghost use Rattle.store_access.specs.{Keeping.HasRepository, Stored.point_of};
 ghost use Rattle.filed_world.specs.Files.{IsOf, filed_content};
-ghost use Rattle.filed_opening.specs.Faults.{folder_faults, IsHindered};
-ghost use Rattle.folder_hub.specs.Opening.{BeginsWith};
+ghost use Rattle.folder_hub.specs.Opening.{HaltLeaves};
 
-use filed_opening::{FolderRepository, open, opened_trees_are_sound};
+use filed_opening::{FolderRepository, opened_trees_are_sound};
 use hub::{Hub, Options};
-use repostore::Unopened;
 use std::alloc::Global;
-use store_files::{Store, StoreFault};
+use store_files::Store;
 
 /// A hub over a repository in files.
 pub type FolderHub<S> = Hub<FolderRepository<S>>;
 
-/// Opens a repository, and makes a hub without sessions over it. Whether it is opened or not, nothing is
-/// written.
-///
-/// # Errors
-///
-/// As `open` of `filed_opening`.
-pub fn open_hub<S: Store>(
+/// Makes a hub without sessions over a repository that was opened.
+pub fn hub_over<S: Store>(
     alloc: Global,
-    store: S,
+    repository: FolderRepository<S>,
     options: Options,
-) -> Result<FolderHub<S>, Unopened<S>>
-    requires { S.is_honest store → (f : Folder) → S.may_leave store f → IsSame (S.holds store) f }
-    ensures found { IfOk result (λ hub. BeginsWith S.is_honest S.holds store options hub) }
-    // A folder that has the files of a repository is opened, unless the device or memory fails.
-    ensures failed { IfErr result (IsHindered S.Store store) }
-    ensures unopened { IfErr result (λ unopened. IsUnopened S.Store folder_faults store unopened) }
+) -> FolderHub<S>
+    ensures { result ≡ hub_at options (point_of repository) [] 0 }
 {
-    let repository = open(alloc, store)?;
     opened_trees_are_sound(repository.repository());
-    Ok(Hub::with_access(alloc, repository, options))
+    Hub::with_access(alloc, repository, options)
 }
 
 /// Shows the store of a hub's files. While changes are made, what it reads has the files of the hub's repository,
-/// and so has what a stop leaves now.
+/// and so has what a stop leaves now. Once changes have come to a halt, it has those of the hub's repository, or those
+/// behind the change that was being saved then, and so has what a stop leaves now.
 pub fn store_of<S: Store>(hub: &FolderHub<S>) -> &S
-    ensures { S.is_honest result.now → hub.now.halted ≡ false
+    ensures stands { S.is_honest result.now → hub.now.halted ≡ false
         → Stands S.Store result.now (λ f. ∥ HasRepository filed_content IsOf hub.now.content f ∥₁) }
+    ensures halted { ∥ HaltLeaves S.Store result.now hub.now ∥₁ }
 {
     hub.access().store()
 }

@@ -41,6 +41,7 @@ fn folder(alloc: Global) -> Result<MemoryStore, Fail> {
 fn opened(alloc: Global, name: FileName, bytes: &[u8]) -> Result<Result<u64, StoreFault>, Fail> {
     let mut store = folder(alloc)?;
     store.write_new(name, bytes)?;
+    store.is_at_rest();
     match open(alloc, store) {
         Ok(found) => Ok(Ok(found.repository().youngest())),
         Err(unopened) => Ok(Err(unopened.fault)),
@@ -143,6 +144,7 @@ fn made_again(alloc: Global, passes: u64, left: Left) -> Result<bool, Fail> {
     let first = create(alloc, &mut store, 0, 0);
     let mut store = store.into_inner();
     let second = create(alloc, &mut store, 0, 0);
+    store.is_at_rest();
     let is_there = matches!(second, Ok(()) | Err(StoreFault::Exists));
     match open(alloc, store) {
         Ok(found) => Ok(

@@ -1,5 +1,8 @@
-//! Folders whose files are damaged, and folders that were not made to their end.
+//! Folders whose files are damaged, folders that were not made to their end, and repositories that are changed and
+//! opened again.
 #![tactic(auto)]
 
+#[cfg(test)]
+mod changes;
 #[cfg(test)]
 mod folders;

@@ -45,25 +45,47 @@ fn piece<'a>(file: &'a RevisionFile, path: &[u8]) -> Result<&'a FilePiece, Fail>
     Err(Fail::from("there is no such node revision"))
 }
 
+/// Says whether this is the row's node revision of the root.
+fn is_root(piece: &FilePiece) -> bool {
+    piece.node.kind == EntryKind::Directory && piece.node.id.offset == 168 && piece.node.count == 1
+}
+
+/// Says whether this is the row's node revision of the file.
+fn is_file(piece: &FilePiece) -> bool {
+    piece.node.kind == EntryKind::File
+        && piece.node.id.offset == 19
+        && piece.properties.is_none()
+        && piece
+            .text
+            .as_ref()
+            .is_some_and(|text| text.as_slice() == b"hello\n".as_slice())
+}
+
+/// Says whether this is the row's change.
+fn is_addition(change: &FileChange) -> bool {
+    change.action == FileAction::Add
+        && change.text
+        && !change.properties
+        && change.path.as_slice() == b"/a".as_slice()
+        && change.source.is_none()
+}
+
+/// Says whether this is the row.
+fn is_row(file: &RevisionFile) -> Result<bool, Fail> {
+    let change = file.changes.first().ok_or("there is a change")?;
+    Ok(
+        file.pieces.len() == 2
+            && file.changes.len() == 1
+            && is_root(piece(file, b"/")?)
+            && is_file(piece(file, b"/a")?)
+            && is_addition(change),
+    )
+}
+
 #[test]
 fn the_row_is_read(rt: HostRuntime) -> Result<(), Fail> {
     let file = read_revision(rt.alloc(), 1, FILE)?;
-    assert_eq!(rt; file.pieces.len(), 2);
-    let root = piece(&file, b"/")?;
-    assert!(rt; root.node.kind == EntryKind::Directory);
-    assert_eq!(rt; root.node.id.offset, 168);
-    assert_eq!(rt; root.node.count, 1);
-    let a = piece(&file, b"/a")?;
-    assert!(rt; a.node.kind == EntryKind::File);
-    assert_eq!(rt; a.node.id.offset, 19);
-    let text = a.text.as_ref().ok_or("there is a text")?;
-    assert!(rt; text.as_slice() == b"hello\n".as_slice());
-    assert!(rt; a.properties.is_none());
-    assert_eq!(rt; file.changes.len(), 1);
-    let change = file.changes.first().ok_or("there is a change")?;
-    assert!(rt; change.action == FileAction::Add && change.text && !change.properties);
-    assert!(rt; change.path.as_slice() == b"/a".as_slice());
-    assert!(rt; change.source.is_none());
+    assert!(rt; is_row(&file)?);
     Ok(())
 }
 
@@ -89,22 +111,33 @@ fn a_changed_byte_is_read_or_a_fault(rt: HostRuntime) -> Result<(), Fail> {
     Ok(())
 }
 
+/// Says how these bytes are refused, if they are.
+fn fault_of(alloc: Global, bytes: &[u8]) -> Option<FileFault> {
+    read_revision(alloc, 1, bytes).err()
+}
+
+/// Makes the bytes with a delta in the place of the text.
+fn with_delta(alloc: Global) -> Result<Vec<u8>, Fail> {
+    let mut delta = Vec::from_slice(alloc, b"DELTA")?;
+    delta.extend_from_slice(FILE.get(5..).unwrap_or(&[]))?;
+    Ok(delta)
+}
+
+/// Says how the bytes with another byte at a place are refused, if they are.
+fn changed_fault(alloc: Global, place: usize, byte: u8) -> Result<Option<FileFault>, Fail> {
+    let bytes = changed(alloc, place, byte)?;
+    Ok(fault_of(alloc, bytes.as_slice()))
+}
+
 #[test]
 fn faults_are_named(rt: HostRuntime) -> Result<(), Fail> {
-    let mut delta = Vec::from_slice(rt.alloc(), b"DELTA")?;
-    delta.extend_from_slice(FILE.get(5..).unwrap_or(&[]))?;
-    let found = read_revision(rt.alloc(), 1, delta.as_slice());
-    assert!(rt; matches!(found, Err(FileFault::Delta)));
-    let found = read_revision(rt.alloc(), 1, DELTA);
-    assert!(rt; matches!(found, Err(FileFault::Delta)));
-    let size = changed(rt.alloc(), 65, b'7')?;
-    let found = read_revision(rt.alloc(), 1, size.as_slice());
-    assert!(rt; matches!(found, Err(FileFault::BadLine)));
-    let digit = changed(rt.alloc(), 67, b'0')?;
-    let found = read_revision(rt.alloc(), 1, digit.as_slice());
-    assert!(rt; matches!(found, Err(FileFault::Digest)));
-    let found = read_revision(rt.alloc(), 1, DANGLING);
-    assert!(rt; matches!(found, Err(FileFault::Dangling)));
+    let alloc = rt.alloc();
+    let found = fault_of(alloc, with_delta(alloc)?.as_slice());
+    assert!(rt; matches!(found, Some(FileFault::Delta)));
+    assert!(rt; matches!(fault_of(alloc, DELTA), Some(FileFault::Delta)));
+    assert!(rt; matches!(changed_fault(alloc, 65, b'7')?, Some(FileFault::BadLine)));
+    assert!(rt; matches!(changed_fault(alloc, 67, b'0')?, Some(FileFault::Digest)));
+    assert!(rt; matches!(fault_of(alloc, DANGLING), Some(FileFault::Dangling)));
     Ok(())
 }
 
@@ -138,6 +171,20 @@ fn read_folder(
     Ok(file)
 }
 
+/// Says whether the first revision of the folder has its two directories.
+fn has_two(file: &RevisionFile) -> Result<bool, Fail> {
+    Ok(piece(file, b"/tags")?.node.id.offset == 0 && piece(file, b"/trunk")?.node.id.offset == 60)
+}
+
+/// Says whether the second revision of the folder has its copy.
+fn has_copy(file: &RevisionFile) -> Result<bool, Fail> {
+    let change = file.changes.first().ok_or("there is a change")?;
+    let source = change.source.as_ref().ok_or("it has a source")?;
+    let copy = piece(file, b"/tags/first")?;
+    let from = copy.node.copyfrom.as_ref().ok_or("it is a copy")?;
+    Ok(source.revision == 1 && source.path.as_slice() == b"/trunk".as_slice() && from.revision == 1)
+}
+
 #[test]
 fn a_folder_of_another_server_is_read(rt: HostRuntime) -> Result<(), Fail> {
     read_folder(rt.alloc(), 0, 1, &[])?;
@@ -150,21 +197,14 @@ fn a_folder_of_another_server_is_read(rt: HostRuntime) -> Result<(), Fail> {
             (FileAction::Add, b"/trunk", b"_1.0.t0-1"),
         ],
     )?;
-    assert_eq!(rt; piece(&first, b"/tags")?.node.id.offset, 0);
-    assert_eq!(rt; piece(&first, b"/trunk")?.node.id.offset, 60);
+    assert!(rt; has_two(&first)?);
     let second = read_folder(
         rt.alloc(),
         2,
         3,
         &[(FileAction::Add, b"/tags/first", b"2._0.t1-1")],
     )?;
-    let change = second.changes.first().ok_or("there is a change")?;
-    let source = change.source.as_ref().ok_or("it has a source")?;
-    assert_eq!(rt; source.revision, 1);
-    assert!(rt; source.path.as_slice() == b"/trunk".as_slice());
-    let copy = piece(&second, b"/tags/first")?;
-    let from = copy.node.copyfrom.as_ref().ok_or("it is a copy")?;
-    assert_eq!(rt; from.revision, 1);
+    assert!(rt; has_copy(&second)?);
     read_folder(
         rt.alloc(),
         3,

@@ -10,7 +10,6 @@ use revision_data::ChangeList;
 
 /// The repository's name, the nodes of its revisions, and the changes and the properties of each
 /// from revision 0 on. With a further revision it is another value, which shares all of it.
-#[derive(Drop)]
 pub struct Held {
     pub(crate) uuid: u128,
     pub(crate) nodes: Nodes,
@@ -21,4 +20,15 @@ pub struct Held {
     ghost begun: { 0 < length changes },
     ghost placed: { ArePlaced (node_at nodes) (root_at nodes) },
     ghost shown: { ∥ Shown (trees_of nodes) changes ∥₁ },
+}
+
+impl Drop for Held {
+    fn drop(self) {
+        let Held {
+            uuid: _,
+            nodes: _,
+            changes: _,
+            properties: _,
+        } = self;
+    }
 }

@@ -98,13 +98,24 @@ fn greeting(alloc: Global) -> Result<Vec<u8>, AllocError>
 }
 
 /// One repository and its open sessions. `A` is how the repository is reached.
-#[derive(Drop)]
 pub struct Hub<A: SoleAccess> {
     alloc: Global,
     options: Options,
     access: A,
     sessions: Vec<(SessionId, Session<A::View>)>,
     used: u64,
+}
+
+impl<A: SoleAccess + Drop> Drop for Hub<A> {
+    fn drop(self) {
+        let Hub {
+            alloc: _,
+            options: _,
+            access: _,
+            sessions: _,
+            used: _,
+        } = self;
+    }
 }
 
 impl<A: SoleAccess> Model for Hub<A> {

@@ -88,34 +88,49 @@ fn planted(alloc: Global) -> Result<Nodes, Fail> {
     committed(alloc, &nodes, &tree)
 }
 
-#[test]
-fn a_revision_adds_a_node_for_each_path_that_it_changes(rt: HostRuntime) -> Result<(), Fail> {
-    let alloc = rt.alloc();
-    let nodes = planted(alloc)?;
-    assert_eq!(rt; added(&nodes), 1_011);
-    let mut tree = begun(alloc, &nodes)?;
+/// Makes a revision with another text of one file.
+fn with_text(alloc: Global, nodes: &Nodes) -> Result<Nodes, Fail> {
+    let mut tree = begun(alloc, nodes)?;
     let file = path(alloc, "/d3/f7")?;
     made(
         tree.root
-            .set_text(alloc, &nodes, &file, text(alloc, b"text")?),
+            .set_text(alloc, nodes, &file, text(alloc, b"text")?),
     )?;
-    let nodes = committed(alloc, &nodes, &tree)?;
-    assert_eq!(rt; added(&nodes), 3);
-    let mut tree = begun(alloc, &nodes)?;
+    committed(alloc, nodes, &tree)
+}
+
+/// Makes a revision with a property of the root.
+fn with_property(alloc: Global, nodes: &Nodes) -> Result<Nodes, Fail> {
+    let mut tree = begun(alloc, nodes)?;
     let (name, value) = (
         ByteString::from_slice(alloc, b"p")?,
         ByteString::from_slice(alloc, b"v")?,
     );
     made(
         tree.root
-            .set_property(alloc, &nodes, &Path::root(alloc), name, value),
+            .set_property(alloc, nodes, &Path::root(alloc), name, value),
     )?;
-    let nodes = committed(alloc, &nodes, &tree)?;
-    assert_eq!(rt; added(&nodes), 1);
-    let mut tree = begun(alloc, &nodes)?;
-    let source = youngest_root(&nodes)?;
-    made(tree.root.copy(alloc, &nodes, source, &path(alloc, "/x")?))?;
-    let nodes = committed(alloc, &nodes, &tree)?;
-    assert_eq!(rt; added(&nodes), 2);
+    committed(alloc, nodes, &tree)
+}
+
+/// Makes a revision with a copy of the root.
+fn with_copy(alloc: Global, nodes: &Nodes) -> Result<Nodes, Fail> {
+    let mut tree = begun(alloc, nodes)?;
+    let source = youngest_root(nodes)?;
+    made(tree.root.copy(alloc, nodes, source, &path(alloc, "/x")?))?;
+    committed(alloc, nodes, &tree)
+}
+
+#[test]
+fn a_revision_adds_a_node_for_each_path_that_it_changes(rt: HostRuntime) -> Result<(), Fail> {
+    let alloc = rt.alloc();
+    let nodes = planted(alloc)?;
+    let files = added(&nodes);
+    let nodes = with_text(alloc, &nodes)?;
+    let texts = added(&nodes);
+    let nodes = with_property(alloc, &nodes)?;
+    let properties = added(&nodes);
+    let nodes = with_copy(alloc, &nodes)?;
+    assert!(rt; (files, texts, properties, added(&nodes)) == (1_011, 3, 1, 2));
     Ok(())
 }

@@ -151,42 +151,46 @@ fn written<R: InMemory>(
     Ok(output)
 }
 
+/// Says whether the conversation is answered byte by byte.
+fn is_answered<R: InMemory>(alloc: Global) -> Result<bool, Fail> {
+    let output = written::<R>(alloc, INPUT, false)?;
+    Ok(output.as_slice() == OUTPUT)
+}
+
 #[test]
 fn answers_byte_by_byte(rt: HostRuntime) -> Result<(), Fail> {
-    let output = over_both!(rt, written(rt.alloc(), INPUT, false));
-    assert_eq!(rt; output.as_slice(), OUTPUT);
+    let alloc = rt.alloc();
+    assert!(rt; is_answered::<World>(alloc)? && is_answered::<FlatRepo>(alloc)?);
     Ok(())
 }
 
-/// Gives what is written where the reader fails after these bytes, if that failure is answered.
-fn written_before<R: InMemory>(
+/// Says whether this is what is written where the reader fails after these bytes, and that failure is answered.
+fn is_written_before<R: InMemory>(
     alloc: Global,
     bytes: &'static [u8],
-) -> Result<Option<Vec<u8>>, Fail> {
+    wanted: &[u8],
+) -> Result<bool, Fail> {
     let mut hub: Hub<SoleRepository<R>> = hub_of_r(alloc, false)?;
     let mut output = Vec::new(alloc);
-    match run_stdio(&mut hub, &mut drip(bytes, true), &mut output, &mut Still) {
-        Err(ServeFault::Read(_)) => Ok(Some(output)),
-        _ => Ok(None),
-    }
+    let ended = run_stdio(&mut hub, &mut drip(bytes, true), &mut output, &mut Still);
+    Ok(matches!(ended, Err(ServeFault::Read(_))) && output.as_slice() == wanted)
 }
 
 #[test]
 fn greets_before_the_first_read(rt: HostRuntime) -> Result<(), Fail> {
-    let written = over_both!(rt, written_before(rt.alloc(), b""));
-    assert!(rt; written.is_some());
-    assert_eq!(rt;
-        written.unwrap_or(Vec::new(rt.alloc())).as_slice(),
-        GREETING
-    );
+    let alloc = rt.alloc();
+    let shared = is_written_before::<World>(alloc, b"", GREETING)?;
+    let flat = is_written_before::<FlatRepo>(alloc, b"", GREETING)?;
+    assert!(rt; shared && flat);
     Ok(())
 }
 
 #[test]
 fn answers_what_was_read_before_the_reader_fails(rt: HostRuntime) -> Result<(), Fail> {
-    let written = over_both!(rt, written_before(rt.alloc(), BEGINNING));
-    assert!(rt; written.is_some());
-    assert_eq!(rt; written.unwrap_or(Vec::new(rt.alloc())).as_slice(), ANSWERS);
+    let alloc = rt.alloc();
+    let shared = is_written_before::<World>(alloc, BEGINNING, ANSWERS)?;
+    let flat = is_written_before::<FlatRepo>(alloc, BEGINNING, ANSWERS)?;
+    assert!(rt; shared && flat);
     Ok(())
 }
 
@@ -200,18 +204,28 @@ fn stops_at_the_writer<R: InMemory>(alloc: Global) -> Result<bool, Fail> {
 
 #[test]
 fn stops_where_the_writer_fails(rt: HostRuntime) -> Result<(), Fail> {
-    let stops = over_both!(rt, stops_at_the_writer(rt.alloc()));
-    assert!(rt; stops);
+    let alloc = rt.alloc();
+    assert!(rt; stops_at_the_writer::<World>(alloc)? && stops_at_the_writer::<FlatRepo>(alloc)?);
     Ok(())
+}
+
+/// Says whether the change draws this behind the login, where clients may change the properties of revisions or not.
+fn is_drawn<R: InMemory>(alloc: Global, revprops: bool, wanted: &[u8]) -> Result<bool, Fail> {
+    let output = written::<R>(alloc, CHANGE, revprops)?;
+    let rest = output.as_slice().get(ANSWERS.len()..).unwrap_or(&[]);
+    Ok(output.as_slice().starts_with(ANSWERS) && rest == wanted)
+}
+
+/// Says whether a change of a property of a revision is made where clients may do that, and refused where they may not.
+fn is_let_where_asked_to<R: InMemory>(alloc: Global) -> Result<bool, Fail> {
+    Ok(is_drawn::<R>(alloc, false, CLOSED)? && is_drawn::<R>(alloc, true, CHANGED)?)
 }
 
 #[test]
 fn lets_clients_change_properties_of_revisions_where_asked_to(rt: HostRuntime) -> Result<(), Fail> {
-    let closed = over_both!(rt, written(rt.alloc(), CHANGE, false));
-    assert!(rt; closed.as_slice().starts_with(ANSWERS));
-    assert!(rt; closed.as_slice().ends_with(CLOSED));
-    let changed = over_both!(rt, written(rt.alloc(), CHANGE, true));
-    assert!(rt; changed.as_slice().starts_with(ANSWERS));
-    assert!(rt; changed.as_slice().ends_with(CHANGED));
+    let alloc = rt.alloc();
+    assert!(rt;
+        is_let_where_asked_to::<World>(alloc)? && is_let_where_asked_to::<FlatRepo>(alloc)?
+    );
     Ok(())
 }

@@ -80,14 +80,26 @@ fn told_one_by_one<R: InMemory>(alloc: Global) -> Result<Vec<u8>, Fail> {
     Ok(out)
 }
 
-#[test]
-fn one_call_after_another(rt: HostRuntime) -> Result<(), Fail> {
-    let out = over_both!(rt, told_one_by_one(rt.alloc()));
-    let mut wanted = repeated(rt.alloc(), GREETING, 2)?;
+/// Makes what two sessions are to be sent, and where the second is to stand.
+fn wanted_one_by_one(alloc: Global) -> Result<Vec<u8>, AllocError> {
+    let mut wanted = repeated(alloc, GREETING, 2)?;
     wanted.extend_from_slice(b"session 2 ")?;
     wanted.extend_from_slice(ANSWER)?;
     wanted.extend_from_slice(b"open closed ")?;
-    assert_eq!(rt; out.as_slice(), wanted.as_slice());
+    Ok(wanted)
+}
+
+/// Says whether two sessions are sent that, and the second stands there.
+fn are_told_one_by_one<R: InMemory>(alloc: Global) -> Result<bool, Fail> {
+    let out = told_one_by_one::<R>(alloc)?;
+    let wanted = wanted_one_by_one(alloc)?;
+    Ok(out.as_slice() == wanted.as_slice())
+}
+
+#[test]
+fn one_call_after_another(rt: HostRuntime) -> Result<(), Fail> {
+    let alloc = rt.alloc();
+    assert!(rt; are_told_one_by_one::<World>(alloc)? && are_told_one_by_one::<FlatRepo>(alloc)?);
     Ok(())
 }
 
@@ -108,14 +120,26 @@ fn told_at_once<R: InMemory>(alloc: Global) -> Result<Vec<u8>, Fail> {
     Ok(out)
 }
 
-#[test]
-fn a_list_of_calls(rt: HostRuntime) -> Result<(), Fail> {
-    let out = over_both!(rt, told_at_once(rt.alloc()));
-    let mut wanted = Vec::from_slice(rt.alloc(), GREETING)?;
+/// Makes what the list of calls is to write.
+fn wanted_at_once(alloc: Global) -> Result<Vec<u8>, AllocError> {
+    let mut wanted = Vec::from_slice(alloc, GREETING)?;
     wanted.extend_from_slice(ANSWER)?;
     wanted.extend_from_slice(b"dropped")?;
     wanted.extend_from_slice(GREETING)?;
-    assert_eq!(rt; out.as_slice(), wanted.as_slice());
+    Ok(wanted)
+}
+
+/// Says whether the list of calls writes that.
+fn are_told_at_once<R: InMemory>(alloc: Global) -> Result<bool, Fail> {
+    let out = told_at_once::<R>(alloc)?;
+    let wanted = wanted_at_once(alloc)?;
+    Ok(out.as_slice() == wanted.as_slice())
+}
+
+#[test]
+fn a_list_of_calls(rt: HostRuntime) -> Result<(), Fail> {
+    let alloc = rt.alloc();
+    assert!(rt; are_told_at_once::<World>(alloc)? && are_told_at_once::<FlatRepo>(alloc)?);
     Ok(())
 }
 
@@ -192,12 +216,22 @@ fn noted<R: InMemory>(alloc: Global) -> Result<Noting, Fail> {
     Ok(output)
 }
 
+/// Says whether all replies were written, in pieces that end behind 65,536 bytes.
+fn is_in_pieces(alloc: Global, output: &Noting) -> Result<bool, AllocError> {
+    let wanted = repeated(alloc, REPLIES, 30_000)?;
+    Ok(
+        output.bytes.as_slice() == wanted.as_slice()
+            && output.largest >= 65_536
+            && output.largest < 65_536 + REPLIES.len()
+            && output.writes == wanted.len().div_ceil(65_536),
+    )
+}
+
 #[test]
 fn replies_go_out_as_they_are_made(rt: HostRuntime) -> Result<(), Fail> {
-    let output = over_both!(rt, noted(rt.alloc()));
-    let wanted = repeated(rt.alloc(), REPLIES, 30_000)?;
-    assert!(rt; output.bytes.as_slice() == wanted.as_slice());
-    assert!(rt; output.largest >= 65_536 && output.largest < 65_536 + REPLIES.len());
-    assert_eq!(rt; output.writes, wanted.len().div_ceil(65_536));
+    let alloc = rt.alloc();
+    let shared = noted::<World>(alloc)?;
+    let flat = noted::<FlatRepo>(alloc)?;
+    assert!(rt; shared == flat && is_in_pieces(alloc, &shared)?);
     Ok(())
 }

@@ -6,9 +6,14 @@ use byte_string::ByteString;
 use std::marker::Model;
 
 /// A word: a letter, then letters, digits and dashes.
-#[derive(Drop)]
 pub struct Name {
     bytes: Vec<u8>,
+}
+
+impl Drop for Name {
+    fn drop(self) {
+        let Name { bytes: _ } = self;
+    }
 }
 
 impl Model for Name {

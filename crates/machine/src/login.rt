@@ -19,17 +19,55 @@ pub enum Mechanism {
 }
 
 /// A client whose login is awaited, and the write command that waits for it, if one does.
-#[derive(Drop)]
 pub struct OpenLogin {
     pub client: Client,
     pub waiting: Option<MainCommand>,
 }
 
+impl Drop for OpenLogin {
+    fn drop(self) {
+        let OpenLogin {
+            client: _,
+            waiting: _,
+        } = self;
+    }
+}
+
+impl OpenLogin {
+    /// Gives its client, and the command that waits.
+    pub fn into_parts(self) -> (Client, Option<MainCommand>)
+        ensures client { result.0 ≡ self.client }
+        ensures waiting { result.1 ≡ self.waiting }
+    {
+        let OpenLogin { client, waiting } = self;
+        (client, waiting)
+    }
+}
+
 /// A login whose challenge was sent, and its answer is awaited.
-#[derive(Drop)]
 pub struct OpenChallenge {
     pub login: OpenLogin,
     pub challenge: Challenge,
+}
+
+impl Drop for OpenChallenge {
+    fn drop(self) {
+        let OpenChallenge {
+            login: _,
+            challenge: _,
+        } = self;
+    }
+}
+
+impl OpenChallenge {
+    /// Gives its login and its challenge.
+    pub fn into_parts(self) -> (OpenLogin, Challenge)
+        ensures login { result.0 ≡ self.login }
+        ensures challenge { result.1 ≡ self.challenge }
+    {
+        let OpenChallenge { login, challenge } = self;
+        (login, challenge)
+    }
 }
 
 /// Says what is offered to a client, for which a command may wait.

@@ -13,11 +13,20 @@ pub const NAME_LIMIT: usize = 64;
 /// What a server is started with: the repository's name, the users that may log in, if there is a file of them, and
 /// whether clients may change the properties of revisions.
 /// There is no `Debug`, so that nothing of a password is printed.
-#[derive(Drop)]
 pub struct Options {
     name: String,
     users: Option<Users>,
     revprops: bool,
+}
+
+impl Drop for Options {
+    fn drop(self) {
+        let Options {
+            name: _,
+            users: _,
+            revprops: _,
+        } = self;
+    }
 }
 
 impl Model for Options {

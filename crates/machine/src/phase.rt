@@ -10,11 +10,32 @@ use svnpath::Path;
 
 /// Where a client is: the path of its URL in the repository, the root's URL as it spells it, and its user,
 /// if it has one.
-#[derive(Drop)]
 pub struct Client {
     pub path: Path,
     pub root: ByteString,
     pub user: Option<ByteString>,
+}
+
+impl Drop for Client {
+    fn drop(self) {
+        let Client {
+            path: _,
+            root: _,
+            user: _,
+        } = self;
+    }
+}
+
+impl Client {
+    /// Gives its path, its root and its user.
+    pub fn into_parts(self) -> (Path, ByteString, Option<ByteString>)
+        ensures path { result.0 ≡ self.path }
+        ensures root { result.1 ≡ self.root }
+        ensures user { result.2 ≡ self.user }
+    {
+        let Client { path, root, user } = self;
+        (path, root, user)
+    }
 }
 
 /// An edit that is open: whose it is, what its commit asks for, and what it has made so far.
@@ -26,10 +47,29 @@ pub struct OpenEdit<E> {
 }
 
 /// A report on its way: whose it is, and what it has come to.
-#[derive(Drop)]
 pub struct OpenReporting<G> {
     pub client: Client,
     pub report: Report<G>,
+}
+
+impl<G: Drop> Drop for OpenReporting<G> {
+    fn drop(self) {
+        let OpenReporting {
+            client: _,
+            report: _,
+        } = self;
+    }
+}
+
+impl<G> OpenReporting<G> {
+    /// Gives its client and its report.
+    pub fn into_parts(self) -> (Client, Report<G>)
+        ensures client { result.0 ≡ self.client }
+        ensures report { result.1 ≡ self.report }
+    {
+        let OpenReporting { client, report } = self;
+        (client, report)
+    }
 }
 
 /// Where a session stands; `E` is what an edit has made, `G` is what a report has put.

@@ -15,15 +15,19 @@ pub struct NodeId {
 }
 
 /// The revision and the path at which a change was made.
-#[derive(Drop)]
 pub struct Made {
     pub rev: u32,
     pub path: Path,
 }
 
+impl Drop for Made {
+    fn drop(self) {
+        let Made { rev: _, path: _ } = self;
+    }
+}
+
 /// What stands at a path from a revision on: the path, the mark of its own last change, its text or that
 /// it is a directory, its properties, the nodes of its entries, and how many names lie beneath it at most.
-#[derive(Drop)]
 pub struct NodeRev {
     pub path: Path,
     pub own: Made,
@@ -33,11 +37,29 @@ pub struct NodeRev {
     pub height: u32,
 }
 
+impl Drop for NodeRev {
+    fn drop(self) {
+        let NodeRev {
+            path: _,
+            own: _,
+            content: _,
+            properties: _,
+            kids: _,
+            height: _,
+        } = self;
+    }
+}
+
 /// What a revision adds: its nodes, each behind those of its entries, and which node is its root.
-#[derive(Drop)]
 pub struct Block {
     pub nodes: Vec<NodeRev>,
     pub root: NodeId,
+}
+
+impl Drop for Block {
+    fn drop(self) {
+        let Block { nodes: _, root: _ } = self;
+    }
 }
 
 impl Clone for NodeId {

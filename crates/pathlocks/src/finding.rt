@@ -1,23 +1,14 @@
 //! The locks that changes reach, found run by run in a map that goes by components.
 ghost use Rattle.std.specs.{Prelude.{◌≡◌, ◌++◌, OnOk, map, option_copied}, List.filter, List.Sorted.IsStrictlySortedBy, Map.keys_of, Map.Iter.deref_pair};
 ghost use Rattle.svnpath.specs.Paths.{is_at_or_under, path_cmp, same_path};
-ghost use Rattle.repo_api.specs.Locking.{is_of_whole_tree, is_reached, reaches};
+ghost use Rattle.repo_api.specs.Locking.{is_reached, reaches};
 ghost use Rattle.pathlocks.specs.Tops.{is_below, top_after};
 
 use repo_api::{Action, Change, Lock};
+use small_rules::is_of_whole_tree;
 use std::alloc::{AllocError, Global};
 use std::collections::BTreeMap;
 use svnpath::Path;
-
-/// Says whether a change of this kind changes all that lies beneath its path.
-fn is_of_whole_tree(action: Action) -> bool
-    ensures { result ≡ is_of_whole_tree action }
-{
-    match action {
-        Action::Add | Action::Delete | Action::Replace => true,
-        Action::Modify => false,
-    }
-}
 
 /// Appends the locks at the path and under it, which stand side by side in the map.
 pub(crate) fn append_under<'a>(

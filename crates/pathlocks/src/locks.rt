@@ -20,9 +20,14 @@ use svnpath::{Path, sort_by_text};
 
 /// The locks of a repository, by their paths. A call that is refused, or that lacks memory, changes
 /// nothing.
-#[derive(Drop)]
 pub struct Locks {
     locks: BTreeMap<Path, Lock>,
+}
+
+impl Drop for Locks {
+    fn drop(self) {
+        let Locks { locks: _ } = self;
+    }
 }
 
 impl Model for Locks {

@@ -3,8 +3,8 @@ ghost use Rattle.hub.specs.{Calls.CallStep, declared.calls.Outcome.Outcome};
 
 use crate::plan::MemoryHub;
 use access::SoleAccess;
-use filed_opening::create;
-use folder_hub::{FolderHub, open_hub, store_of};
+use filed_opening::{create, open};
+use folder_hub::{FolderHub, hub_over, store_of};
 use hub::{Call, Hub, Options, SessionId, make_call};
 use in_memory::InMemory;
 use script_lines::{Failing, LineFault, NamedFile, NewHub, answer_line};
@@ -12,10 +12,10 @@ use std::alloc::{AllocError, Global};
 use std::fs;
 use std::io::ErrorKind;
 use store_files::{FuseStore, MemoryStore, Store, StoreFault};
-use store_folder::{FolderStore, Unknown};
+use store_folder::FolderStore;
 
 /// The files of a repository in a folder.
-type DiskStore = FolderStore<HostRuntime, Unknown>;
+type DiskStore = FolderStore<HostRuntime>;
 
 /// A hub over files that may fail.
 pub type FailingHub<S> = FolderHub<FuseStore<S>>;
@@ -55,12 +55,9 @@ fn open_memory(
     options: Options,
     failing: Failing,
 ) -> Result<FailingHub<MemoryStore>, LineFault> {
-    match open_hub(
-        alloc,
-        FuseStore::new(store, failing.passes, failing.left),
-        options,
-    ) {
-        Ok(hub) => Ok(hub),
+    store.is_at_rest();
+    match open(alloc, FuseStore::new(store, failing.passes, failing.left)) {
+        Ok(stored) => Ok(hub_over(alloc, stored, options)),
         Err(unopened) => Err(LineFault::Store(unopened.fault)),
     }
 }
@@ -73,12 +70,11 @@ fn open_folder(
     failing: Failing,
 ) -> Result<FailingHub<DiskStore>, LineFault> {
     let store = FolderStore::open(*rt, files_folder(rt.alloc(), folder)?)?;
-    match open_hub(
+    match open(
         rt.alloc(),
         FuseStore::new(store, failing.passes, failing.left),
-        options,
     ) {
-        Ok(hub) => Ok(hub),
+        Ok(stored) => Ok(hub_over(rt.alloc(), stored, options)),
         Err(unopened) => Err(LineFault::Store(unopened.fault)),
     }
 }

@@ -128,6 +128,11 @@ fn stands_in(text: &[u8], part: &[u8]) -> bool {
     false
 }
 
+/// Says whether a client is told the welcome, and these words behind it.
+pub(crate) fn is_welcomed(told: &[u8], words: &[u8]) -> bool {
+    told.starts_with(WELCOME) && told.get(WELCOME.len()..).is_some_and(|rest| rest == words)
+}
+
 /// A caller over a connection in memory.
 pub(crate) type MemoryCaller<'a, R> = Caller<Sent<'a, R>, Told<'a, R>>;
 

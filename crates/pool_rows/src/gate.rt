@@ -3,7 +3,7 @@ ghost use Rattle.std.specs.Prelude.{◌≡◌, All};
 ghost use Rattle.access.specs.Points.{content_of};
 ghost use Rattle.repo_api.specs.Soundness.{AreSound};
 
-use crate::connections::{AT_ZERO, Client, LOGIN, MemoryCaller, NEVER, WELCOME, call};
+use crate::connections::{AT_ZERO, Client, LOGIN, MemoryCaller, NEVER, call, is_welcomed};
 use crate::repositories::empty_repository;
 use conversations::{Gate, Unwatched};
 use crossbeam_channel::{Receiver, unbounded};
@@ -177,9 +177,8 @@ fn a_session_is_served_while_another_waits(rt: HostRuntime) -> Result<(), Fail> 
         (&first, &second),
         NewHistory::new(),
     )?;
-    assert!(rt; turns.load(Ordering::SeqCst) < MOST_TURNS);
+    let is_let_go = turns.load(Ordering::SeqCst) < MOST_TURNS;
     let told = first.bytes.into_inner();
-    assert!(rt; told.as_slice().starts_with(WELCOME));
-    assert_eq!(rt; &told.as_slice()[WELCOME.len()..], ABORTED);
+    assert!(rt; is_let_go && is_welcomed(told.as_slice(), ABORTED));
     Ok(())
 }

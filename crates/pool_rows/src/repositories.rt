@@ -17,6 +17,7 @@ pub(crate) fn empty_repository(alloc: Global) -> Result<FolderRepository<MemoryS
 {
     let mut store = MemoryStore::new(alloc);
     create(alloc, &mut store, UUID, 0)?;
+    store.is_at_rest();
     match open(alloc, store) {
         Ok(stored) => {
             opened_trees_are_sound(stored.repository());

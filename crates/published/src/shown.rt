@@ -15,10 +15,18 @@ use std::mem::ManuallyDrop;
 use std::sync::{Arc, Mutex, Wait};
 
 /// A repository, and the beginning of the history that made it. Contracts see both.
-#[derive(Drop)]
 pub struct Published<R: Repository, J: Naming> {
     repository: R,
     front: Front<J>,
+}
+
+impl<R: Repository, J: Naming> Drop for Published<R, J> {
+    fn drop(self) {
+        let Published {
+            repository: _,
+            front: _,
+        } = self;
+    }
 }
 
 impl<R: Repository, J: Naming> Model for Published<R, J> {

@@ -31,11 +31,20 @@ impl From<AllocError> for PushFault {
 
 /// A list that is never changed, in three levels of shared parts: full branches of 64 full leaves of 64
 /// items, then full leaves, then the items behind them. A longer list shares all but the last parts.
-#[derive(Drop)]
 pub struct PVec<T: Drop> {
     branches: Arc<Vec<Arc<Branch<T>>>>,
     leaves: Arc<Branch<T>>,
     tail: Arc<Leaf<T>>,
+}
+
+impl<T: Drop> Drop for PVec<T> {
+    fn drop(self) {
+        let PVec {
+            branches: _,
+            leaves: _,
+            tail: _,
+        } = self;
+    }
 }
 
 impl<T: Drop> Model for PVec<T> {

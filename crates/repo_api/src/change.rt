@@ -10,16 +10,36 @@ pub enum Action {
 }
 
 /// Where a copy came from.
-#[derive(Debug, Drop)]
+#[derive(Debug)]
 pub struct Source {
     pub revision: u64,
     pub path: Path,
 }
 
-#[derive(Debug, Drop)]
+impl Drop for Source {
+    fn drop(self) {
+        let Source {
+            revision: _,
+            path: _,
+        } = self;
+    }
+}
+
+#[derive(Debug)]
 pub struct Change {
     pub action: Action,
     pub text: bool,
     pub properties: bool,
     pub source: Option<Source>,
+}
+
+impl Drop for Change {
+    fn drop(self) {
+        let Change {
+            action: _,
+            text: _,
+            properties: _,
+            source: _,
+        } = self;
+    }
 }

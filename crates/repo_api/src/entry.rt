@@ -24,10 +24,19 @@ pub enum NodeKind {
 }
 
 /// A directory, or a file with its text.
-#[derive(Debug, Drop)]
+#[derive(Debug)]
 pub enum Content {
     Directory,
     File(FileText),
+}
+
+impl Drop for Content {
+    fn drop(self) {
+        match self {
+            Content::Directory => {}
+            Content::File(_) => {}
+        }
+    }
 }
 
 /// A path's entry: `own` is the last change of the entry itself, `last` the last at or under it.

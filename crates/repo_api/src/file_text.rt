@@ -16,10 +16,19 @@ const EMPTY_DIGEST: [u8; 16] = [
 
 /// The text of a file, and the MD5 of its bytes. A clone shares its bytes, so that the trees of many
 /// revisions hold a text once.
-#[derive(Debug, Drop)]
+#[derive(Debug)]
 pub struct FileText {
     bytes: Option<Arc<Vec<u8>>>,
     digest: [u8; 16],
+}
+
+impl Drop for FileText {
+    fn drop(self) {
+        let FileText {
+            bytes: _,
+            digest: _,
+        } = self;
+    }
 }
 
 impl Model for FileText {

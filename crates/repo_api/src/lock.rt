@@ -16,9 +16,15 @@ pub struct Lock {
 }
 
 /// Paths with the tokens of the locks that stand there, as a commit hands them in.
-#[derive(Debug, Drop)]
+#[derive(Debug)]
 pub struct LockTokens {
     tokens: Vec<(Path, ByteString)>,
+}
+
+impl Drop for LockTokens {
+    fn drop(self) {
+        let LockTokens { tokens: _ } = self;
+    }
 }
 
 impl Model for LockTokens {

@@ -8,9 +8,15 @@ use std::collections::BTreeMap;
 use std::collections::btree_map::Iter;
 use std::marker::Model;
 
-#[derive(Debug, Drop)]
+#[derive(Debug)]
 pub struct Properties {
     values: BTreeMap<ByteString, ByteString>,
+}
+
+impl Drop for Properties {
+    fn drop(self) {
+        let Properties { values: _ } = self;
+    }
 }
 
 impl Model for Properties {

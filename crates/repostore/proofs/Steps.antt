@@ -85,6 +85,21 @@ module _ {S : Type 0} (s : Ghosts S) where
       goes_on start old new R (Swapped (s.may_leave old) name bytes) (weaker start old P R more so_far.run) call.time
       (λ f s. step s.old f s.others (so_far.stands.left s.old s.left) s.either)
 
+  -- so that then there stands what has R
+  pub swapped_now : (old new : S) (name : FileName) (bytes : List ℕ) (Q R : Folder → Type 0) → Here old Q
+      → Replaces s name bytes old new
+      → ((d f : Folder) → SameBut name d f → Q d → (f name ≡ d name) ⊎ (f name ≡ Some bytes) → R f) → Here new R
+  swapped_now old new name bytes Q R here call step = record {
+    honest = call.honest;
+    read = step (s.holds old) (s.holds new) call.others here.read call.either;
+    left = λ f l. let s = call.stop f l in step s.old f s.others (here.left s.old s.left) s.either;
+  }
+
+  -- what stands is more than that
+  pub stands_too : (store : S) (P R : Folder → Type 0) → ((f : Folder) → P f → R f) → Here store P → Here store R
+  stands_too store P R more here =
+      record { honest = here.honest; read = more (s.holds store) here.read; left = λ f l. more f (here.left f l) }
+
   -- and once it is replaced, it has its bytes
   pub replaced : (start old new : S) (name : FileName) (bytes : List ℕ) (P Q R : Folder → Type 0) → On start old P Q
       → Replaces s name bytes old new

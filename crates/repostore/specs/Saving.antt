@@ -34,6 +34,7 @@ module _ {S : Type 0} (s : Ghosts S) where
   pub record Replaces (name : FileName) (bytes : List ℕ) (old new : S) : Type 0 where
     pub honest : s.is_honest new
     pub others : SameBut name (s.holds old) (s.holds new)
+    pub either : (s.holds new name ≡ s.holds old name) ⊎ (s.holds new name ≡ Some bytes)
     pub stop : (f : Folder) → s.may_leave new f → Swapped (s.may_leave old) name bytes f
     pub time : Elapses (s.moment old) (s.moment new) (s.left_since old) (s.left_since new)
         (Swapped (s.may_leave old) name bytes)
@@ -48,11 +49,12 @@ module _ {S : Type 0} (s : Ghosts S) where
     pub read : IsSame (s.holds old) (s.holds new)
     pub left : (f : Folder) → s.may_leave new f → s.may_leave old f
 
-  -- a save makes the one files of the other: once it is made, they are saved, and a stop within it
-  -- leaves the one or the other
+  -- a save makes the one files of the other: once it is made, they are saved; and whatever it answers, there
+  -- stands the one or the other, and a stop within it leaves the one or the other
   pub record SaveMakes {T : Type 0} (old new : Saves S) (result : Result T StoreFault)
       (before after : Files) : Type 0 where
     pub made : OnOk result (IsSaved new after)
+    pub stands : Stands new.store (HasEither before after)
     pub stop : LeavesOnly s old.store new.store (HasEither before after)
 
   -- how a save of any files ends: after a fault that does not halt, the files are those that

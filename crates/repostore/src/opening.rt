@@ -1,5 +1,5 @@
 //! The files of a repository read back.
-ghost use Rattle.std.specs.Prelude.{◌≡◌, ◌⊎◌, Some, IfOk, IfErr, OnOk};
+ghost use Rattle.std.specs.Prelude.{◌≡◌, ◌⊎◌, false, Some, IfOk, IfErr, OnOk};
 ghost use Rattle.store_files.specs.{Folders.{bytes_of, Folder, IsSame, text_of}, Moments.HasCause};
 ghost use Rattle.repostore.specs.{Current.count_in, Files.{Files, HasFiles, revision_files, reached}, Reading.{Faulty, HasTaken, IsFaulty, HasFaultyRevision}};
 ghost use Rattle.repostore.specs.Reading.{IfFindsFaulty, IfStoreFindsFaulty, with_head, with_one_more, with_read_locks, read_below};
@@ -61,6 +61,7 @@ pub fn open<S: Store, R: Reader>(alloc: Global, store: S) -> Result<(Saves<S>, R
         → ((f : Folder) → S.may_leave store f → IsSame (S.holds store) f)
         → (files : Files) → HasFiles files (S.holds store)
         → IsSaved S.Store opened.0 files) }
+    ensures goes_on { IfOk result (λ opened. opened.0.is_halted ≡ false) }
     ensures reads { IfOk result (λ opened. OnlyReads S.Store store opened.0.store) }
     ensures unopened { IfErr result (λ unopened. IsUnopened S.Store R.faulty store unopened) }
 {

@@ -8,11 +8,20 @@ use store_files::{FileName, Store, StoreFault};
 
 /// The files of a repository that are saved: how many revisions they have, and whether a replacement has
 /// failed, since when nothing is written any more.
-#[derive(Drop)]
 pub struct Saves<S: Store> {
     pub(crate) store: S,
     pub(crate) count: u32,
     pub(crate) is_halted: bool,
+}
+
+impl<S: Store> Drop for Saves<S> {
+    fn drop(self) {
+        let Saves {
+            store: _,
+            count: _,
+            is_halted: _,
+        } = self;
+    }
 }
 
 impl<S: Store> Saves<S> {
@@ -143,6 +152,11 @@ impl<S: Store> Saves<S> {
     pub fn into_store(self) -> S
         ensures { result ≡ self.store }
     {
-        self.store
+        let Saves {
+            store,
+            count: _,
+            is_halted: _,
+        } = self;
+        store
     }
 }

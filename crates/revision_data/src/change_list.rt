@@ -9,9 +9,14 @@ use std::marker::Model;
 use svnpath::Path;
 
 /// The changes of a revision, in the order of their paths.
-#[derive(Drop)]
 pub struct ChangeList {
     changes: Vec<(Path, Change)>,
+}
+
+impl Drop for ChangeList {
+    fn drop(self) {
+        let ChangeList { changes: _ } = self;
+    }
 }
 
 impl Model for ChangeList {

@@ -23,9 +23,14 @@ pub struct Note {
 
 /// The changes of a transaction, in the order of their paths. An edit is prepared here, then made in the tree, and
 /// then settled here, or taken back where the tree lacked memory.
-#[derive(Drop)]
 pub struct TxnChanges {
     changes: BTreeMap<Path, Change>,
+}
+
+impl Drop for TxnChanges {
+    fn drop(self) {
+        let TxnChanges { changes: _ } = self;
+    }
 }
 
 impl Model for TxnChanges {
@@ -60,7 +65,8 @@ impl TxnChanges {
     pub fn into_list(self, alloc: Global) -> Result<ChangeList, AllocError>
         ensures { IfOk result (λ list. list ≡ self) }
     {
-        ChangeList::from_map(alloc, self.changes)
+        let TxnChanges { changes } = self;
+        ChangeList::from_map(alloc, changes)
     }
 
     /// Makes a list of the same changes, which stay here.

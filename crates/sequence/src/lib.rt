@@ -10,9 +10,15 @@ use std::alloc::{AllocError, Global};
 use std::marker::Model;
 
 /// Values in an order. A clause sees their list and no buffer.
-#[derive(Debug, Drop)]
+#[derive(Debug)]
 pub struct Sequence<T> {
     items: Vec<T>,
+}
+
+impl<T: Drop> Drop for Sequence<T> {
+    fn drop(self) {
+        let Sequence { items: _ } = self;
+    }
 }
 
 impl<T> Model for Sequence<T> {

@@ -67,10 +67,18 @@ fn serve_all<R: Repository, A: RepoAccess<View = R>, S: ReplySink>(
 }
 
 /// A session with one client.
-#[derive(Drop)]
 pub struct Session<R: Repository> {
     reader: ItemReader,
     phase: SessionPhase<R>,
+}
+
+impl<R: Repository> Drop for Session<R> {
+    fn drop(self) {
+        let Session {
+            reader: _,
+            phase: _,
+        } = self;
+    }
 }
 
 impl<R: Repository> Model for Session<R> {

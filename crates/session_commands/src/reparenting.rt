@@ -18,11 +18,7 @@ use wire_replies::{Reply, ReplySink};
 fn at_path(client: Client, path: Path) -> Client
     ensures { result ≡ at_path client path }
 {
-    let Client {
-        path: before,
-        root,
-        user,
-    } = client;
+    let (before, root, user) = client.into_parts();
     drop(before);
     Client { path, root, user }
 }

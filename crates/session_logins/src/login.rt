@@ -75,8 +75,8 @@ pub fn login_item<R: Repository, A: RepoAccess<View = R>, S: ReplySink>(
 fn with_user(login: OpenLogin, name: ByteString) -> OpenLogin
     ensures { result ≡ record login { client = with_user login.client name } }
 {
-    let OpenLogin { client, waiting } = login;
-    let Client { path, root, user } = client;
+    let (client, waiting) = login.into_parts();
+    let (path, root, user) = client.into_parts();
     drop(user);
     OpenLogin {
         client: Client {
@@ -116,7 +116,7 @@ fn judge_answer<R: Repository, A: RepoAccess<View = R>, S: ReplySink>(
     ensures { Stepped result S.writes turn.old turn.new A.rules A.point access.old access.new
         (ChallengeStep options.now turn.old.env pending (Some answer.now)) }
 {
-    let OpenChallenge { login, challenge } = pending;
+    let (login, challenge) = pending.into_parts();
     let user = user_of(turn.alloc, options, &challenge, answer);
     drop(challenge);
     match user {

@@ -84,7 +84,7 @@ pub fn log_client_in<R: Repository, A: RepoAccess<View = R>, S: ReplySink>(
     ensures { Stepped result S.writes turn.old turn.new A.rules A.point access.old access.new
         (LoggedIn options.now turn.old.env login.client login.waiting) }
 {
-    let OpenLogin { client, waiting } = login;
+    let (client, waiting) = login.into_parts();
     match waiting {
         None => welcome(client, access, turn),
         Some(command) => resume_command(options, client, command, access, turn),

@@ -13,7 +13,7 @@ use crate::refused::{refused_item, refused_phase};
 use access::RepoAccess;
 use drive_reports::Report;
 use items::Item;
-use machine::{OpenReporting, Options, Turn};
+use machine::{Options, Turn};
 use refusals::Refusal;
 use repo_api::Repository;
 use session_replies::{SessionPhase, SessionReport, end_malformed};
@@ -75,7 +75,7 @@ pub fn report_item<R: Repository, A: RepoAccess<View = R>, S: ReplySink>(
     ensures { Stepped result S.writes turn.old turn.new A.rules A.point access.old access.new
         (ReportingStep options.now turn.old.env reporting (value_of item.now)) }
 {
-    let OpenReporting { client, report } = reporting;
+    let (client, report) = reporting.into_parts();
     match report {
         Report::Refused(refusal) => refused_item(client, refusal, item, turn),
         Report::Open(report) => {

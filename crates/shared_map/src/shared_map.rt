@@ -15,9 +15,14 @@ use std::sync::Arc;
 
 /// A map from names, which go by their bytes. Its entries are in parts of up to 128, which copies
 /// share: a change copies the parts that it is in, if they are shared, and no other.
-#[derive(Drop)]
 pub struct SharedMap<V: Drop> {
     parts: Vec<Arc<Part<V>>>,
+}
+
+impl<V: Drop> Drop for SharedMap<V> {
+    fn drop(self) {
+        let SharedMap { parts: _ } = self;
+    }
 }
 
 impl<V: Drop> Model for SharedMap<V> {

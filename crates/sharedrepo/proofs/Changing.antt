@@ -41,7 +41,7 @@ commit_fails p q refusal e Made faults.StoreFailed running none s = (running, no
 commit_fails p q refusal e Made faults.Halted running none s = inr (running, none, s)
 commit_fails p q refusal e Made faults.NoMemory running none s = s
 
-module _ {S : Type 0} (kept : S → Kept) (k : Standing S) where
+module _ {S : Type 0} (kept : S → Kept) (stands : S → List RepoState → Type 0) (k : Standing S) where
   -- a change that was not begun
   pub not_begun : {T : Type 0} (refusal : Option Refusal) (e : Accepted) (Fails : Point → Type 0) (Made : T → Point → Type 0) (fault : ChangeFault)
       → NotBegun kept fault k → ChangesAt refusal e Fails Made (now_of kept k) (Err fault) (now_of kept k)
@@ -50,20 +50,20 @@ module _ {S : Type 0} (kept : S → Kept) (k : Standing S) where
   not_begun refusal e Fails Made faults.Halted why = inl (why, refl)
   not_begun refusal e Fails Made faults.NoMemory why = refl
 
-  module _ (steady : IsSteady kept k) (running : (kept k.archive).halted ≡ false) where
+  module _ (steady : IsSteady kept stands k) (running : (kept k.archive).halted ≡ false) where
     -- a change that was refused, or lacked memory, before it was saved
     pub refused : (U : Type 0) {T : Type 0} (e : Accepted) (Fails : Point → Type 0) (Made : T → Point → Type 0) (fault : ChangeFault)
         → IsJudged {T = U} (Err fault) (refusal_of (kept k.archive).content e)
         → ChangesAt (refusal_of (content_of (now_of kept k)) e) e Fails Made (now_of kept k) (Err fault) (now_of kept k)
     refused U e Fails Made (faults.Refused r) why =
-        (running, subst (λ (c : RepoState). refusal_of c e ≡ Some r) (files_now kept k steady running) why.1, refl)
+        (running, subst (λ (c : RepoState). refusal_of c e ≡ Some r) (files_now kept stands k steady running) why.1, refl)
     refused U e Fails Made faults.StoreFailed why = absurd why.2
     refused U e Fails Made faults.Halted why = absurd why.2
     refused U e Fails Made faults.NoMemory why = refl
 
     -- what the archive has made is accepted where the keeper stands
     pub accepted_now : (e : Accepted) (d : RepoState) → IsMade (kept k.archive).content e d → IsAccepted (content_of (now_of kept k)) e
-    accepted_now e d made = subst (λ (c : RepoState). IsAccepted c e) (files_now kept k steady running) made.accepted
+    accepted_now e d made = subst (λ (c : RepoState). IsAccepted c e) (files_now kept stands k steady running) made.accepted
 
     -- and is what comes next
     pub next_by : (e asked : Accepted) (d : RepoState) → IsMade (kept k.archive).content e d → asked ≡ e
@@ -72,8 +72,8 @@ module _ {S : Type 0} (kept : S → Kept) (k : Standing S) where
     next_by e asked d made is right =
         let there : content_of (now_of kept k) ≡ k.content = sym steady.content in
         subst (λ (x : Accepted). IsNext k.content x d) (sym is) (record {
-          right = subst (λ (c : RepoState). IsRight c e) there (right (sound_now kept k steady) (accepted_now e d made));
-          made = made.made ∙ ap (λ (c : RepoState). changed c e) (files_now kept k steady running ∙ there);
+          right = subst (λ (c : RepoState). IsRight c e) there (right (sound_now kept stands k steady) (accepted_now e d made));
+          made = made.made ∙ ap (λ (c : RepoState). changed c e) (files_now kept stands k steady running ∙ there);
         })
 
     -- what it has led to, if it was no commit

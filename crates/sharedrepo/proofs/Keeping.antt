@@ -1,28 +1,34 @@
 -- What a save leaves.
-use Rattle.std.proofs.Common.{◌≡◌, ◌⊎◌, ◌<◌, Bool, List, [], ◌∷◌, ◌++◌, false, length, Option, Err, inl, inr, ◌∙◌, refl, sym, ap, subst}
+use Rattle.published.specs.{Edition.{Edition, edition_after}, Events.Event.Opened, Events.IsHistory}
+use Rattle.std.proofs.Common.{lit<, None, ◌≡◌, ◌⊎◌, ◌<◌, Bool, List, [], ◌∷◌, ◌++◌, false, length, Option, Err, inl, inr, ◌∙◌, refl, sym, ap, subst}
 use Rattle.repo_api.specs.{Accepted.{Accepted, changed, IsAccepted}, Soundness.AreSound, States.{RepoState, TxnState}, declared.fault.ChangeFault.ChangeFault}
 use Rattle.repo_api.specs.declared.fault.ChangeFault.TheVariants as faults
 use Rattle.published.specs.{Events.{Event, accepted_by, state_of, point_of}, Events.Event.Makes, Moments.added, declared.event.AskedChange.AskedChange}
 use Rattle.published.proofs.Histories.{point_more, history_sound}
-use Rattle.sharedrepo.specs.{Archives.{Kept, NotSaved, FilesFor}, Settling.SettlesTo, Standing.{Standing, IsSteady, pending_after, pending_in}}
+use Rattle.stops.specs.Beginnings.{through}
+use Rattle.sharedrepo.specs.{Archives.{Kept, MayOpen, NotSaved, FilesFor}, Settling.SettlesTo, Standing.{Standing, standing, IsSteady, pending_after, pending_in}}
 
 -- the files after a change that was not saved
-pub files_after : (e : Accepted) (fault : ChangeFault) (old new : Kept) (before pending : Option Accepted) (list : List Event)
-    → old.halted ≡ false → old.content ≡ state_of list → IsAccepted (state_of list) e
-    → pending ≡ pending_after fault e before → NotSaved e fault old new → FilesFor new new.halted pending list
-files_after e (faults.Refused r) old new before pending list running stood accepted kept left = absurd left
-files_after e faults.StoreFailed old new before pending list running stood accepted kept left =
-    subst (λ (b : Bool). FilesFor new b pending list) (sym (left.2 ∙ running)) (left.1 ∙ stood)
-files_after e faults.NoMemory old new before pending list running stood accepted kept left =
-    subst (λ (b : Bool). FilesFor new b pending list) (sym (ap (λ (k : Kept). k.halted) left ∙ running))
-    (ap (λ (k : Kept). k.content) left ∙ stood)
-files_after e faults.Halted old new before pending list running stood accepted kept left =
-    subst (λ (b : Bool). FilesFor new b pending list) (sym left.1) (e, kept, accepted, either left.0)
-  where
-    either : (new.content ≡ old.content) ⊎ (new.content ≡ changed old.content e)
-        → (new.content ≡ state_of list) ⊎ (new.content ≡ changed (state_of list) e)
-    either (inl same) = inl (same ∙ stood)
-    either (inr made) = inr (made ∙ ap (λ (c : RepoState). changed c e) stood)
+module _ {S : Type 0} (kept : S → Kept) (stands : S → List RepoState → Type 0) (b : S)
+    (saves : (kept b).halted ≡ false → stands b ((kept b).content ∷ [])) where
+  pub stand_still : (list : List Event) (pending : Option Accepted) → (kept b).halted ≡ false → (kept b).content ≡ state_of list
+      → FilesFor stands (kept b) b (kept b).halted pending list
+  stand_still list pending running stood =
+      subst (λ (x : Bool). FilesFor stands (kept b) b x pending list) (sym running)
+      (stood, subst (λ (c : RepoState). stands b (c ∷ [])) stood (saves running))
+
+  pub files_after : (a : S) (e : Accepted) (fault : ChangeFault) (before pending : Option Accepted) (list : List Event)
+      → (kept a).halted ≡ false → (kept a).content ≡ state_of list → IsAccepted (state_of list) e
+      → pending ≡ pending_after fault e before → NotSaved e fault (kept a) (kept b)
+      → stands b (through (kept a).content (e ∷ [])) → FilesFor stands (kept b) b (kept b).halted pending list
+  files_after a e (faults.Refused r) before pending list running stood accepted is left behind = absurd left
+  files_after a e faults.StoreFailed before pending list running stood accepted is left behind =
+      stand_still list pending (left.2 ∙ running) (left.1 ∙ stood)
+  files_after a e faults.NoMemory before pending list running stood accepted is left behind =
+      stand_still list pending (ap (λ (k : Kept). k.halted) left ∙ running) (ap (λ (k : Kept). k.content) left ∙ stood)
+  files_after a e faults.Halted before pending list running stood accepted is left behind =
+      subst (λ (x : Bool). FilesFor stands (kept b) b x pending list) (sym left.1)
+      (e, is, accepted, subst (λ (c : RepoState). stands b (through c (e ∷ []))) stood behind)
 
 -- the moment after it
 pub not_saved : (e : Accepted) (fault : ChangeFault) (list : List Event) (old new : Kept) (a b : Option Accepted)
@@ -50,9 +56,23 @@ saved list longer e old new a begun more halted failures =
     (λ i. point_of (more i) (halted i) (failures i) a) ∙ point_more list e old.halted old.failures a begun
 
 -- while changes are saved, the files stand for the repository, which is sound
-module _ {S : Type 0} (kept : S → Kept) (k : Standing S) (steady : IsSteady kept k) where
+module _ {S : Type 0} (kept : S → Kept) (stands : S → List RepoState → Type 0) (k : Standing S) (steady : IsSteady kept stands k) where
   pub files_now : (kept k.archive).halted ≡ false → (kept k.archive).content ≡ state_of k.list
-  files_now running = subst (λ (b : Bool). FilesFor (kept k.archive) b k.pending k.list) running steady.files
+  files_now running = (subst (λ (b : Bool). FilesFor stands (kept k.archive) k.archive b k.pending k.list) running steady.files).0
 
   pub sound_now : AreSound (state_of k.list).revisions
   sound_now = history_sound k.list steady.begun steady.history
+
+-- one that was just opened
+pub opened_steady : {S : Type 0} (kept : S → Kept) (stands : S → List RepoState → Type 0) (c : RepoState) (list : List Event) (archive : S) (shown : Edition)
+    → list ≡ Opened c ∷ [] → MayOpen (kept archive) c → shown ≡ edition_after list
+    → ((kept archive).halted ≡ false → stands archive ((kept archive).content ∷ []))
+    → IsSteady kept stands (standing list c shown archive None)
+opened_steady kept stands c list archive shown is may shows saves = record {
+  begun = subst (λ (l : List Event). 0 < length l) (sym is) (lit< tt);
+  history = subst (λ (l : List Event). IsHistory l) (sym is) ((refl, may.2), tt);
+  content = ap (λ (l : List Event). state_of l) (sym is);
+  shown = ap (λ (x : Edition). x.list) shows;
+  shown_content = ap (λ (x : Edition). x.content) shows ∙ ap (λ (l : List Event). state_of l) is;
+  files = stand_still kept stands archive saves list None may.1 (may.0 ∙ ap (λ (l : List Event). state_of l) (sym is));
+}

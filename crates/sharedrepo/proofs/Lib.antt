@@ -1,3 +1,4 @@
 pub mod Keeping
 pub mod Changing
 pub mod Calling
+pub mod Stopping

@@ -1,10 +1,11 @@
 -- What keeps the files of a repository, and what a save leaves.
-use Rattle.std.specs.Prelude.{◌≡◌, ◌⊎◌, ℕ, Bool, true, false, List, Option, Some, Result, Ok, Err, IfOk}
+use Rattle.std.specs.Prelude.{◌≡◌, ◌⊎◌, ℕ, Bool, true, false, List, [], ◌∷◌, Option, Some, Result, Ok, Err, IfOk}
 use Rattle.repo_api.specs.{Accepted.{Accepted, changed, IsAccepted, IsJudged, refusal_of}, Soundness.AreSound, States.RepoState}
 use Rattle.repo_api.specs.{Accepted.Accepted.{ChangesProperty, Commits, Locks, Releases, Unlocks}, declared.fault.ChangeFault.ChangeFault}
 use Rattle.repo_api.specs.declared.fault.ChangeFault.TheVariants as faults
 use Rattle.access.specs.Points.{HasRisen}
 use Rattle.published.specs.{Changes.IsRight, Events.{Event, state_of}}
+use Rattle.stops.specs.Beginnings.{through}
 use Rattle.sharedrepo.specs.{declared.archive.SaveFault.SaveFault, declared.archive.SaveFault.TheVariants.{Device, NoMemory, Halted}}
 
 -- an archive: the repository for which its files stand, whether it saves no more, and how often a
@@ -83,10 +84,12 @@ fault_of Device = faults.StoreFailed
 fault_of NoMemory = faults.NoMemory
 fault_of Halted = faults.Halted
 
--- the files stand for the repository after the events. After a halt the change is known that was being
--- saved: they stand for the repository before it, or behind it
-abbrev pub FilesFor : Kept → Bool → Option Accepted → List Event → Type 0
-FilesFor kept false pending log = kept.content ≡ state_of log
-FilesFor kept true pending log =
-    (e : Accepted) × (pending ≡ Some e) × IsAccepted (state_of log) e
-    × ((kept.content ≡ state_of log) ⊎ (kept.content ≡ changed (state_of log) e))
+module _ {S : Type 0} (stands : S → List RepoState → Type 0) where
+  -- The files stand for the repository after the events. After a halt the change is known that was being
+  -- saved: they stand for the repository before it, or behind it.
+  abbrev pub FilesFor : Kept → S → Bool → Option Accepted → List Event → Type 0
+  FilesFor kept archive false pending log =
+      (kept.content ≡ state_of log) × stands archive (state_of log ∷ [])
+  FilesFor kept archive true pending log =
+      (e : Accepted) × (pending ≡ Some e) × IsAccepted (state_of log) e
+      × stands archive (through (state_of log) (e ∷ []))

@@ -1,5 +1,5 @@
 -- What a right change leads to once it is saved and published, or not.
-use Rattle.std.specs.Prelude.{◌≡◌, ◌⊎◌, ℕ, true, false, length, Option, Some, None, Result, Ok, Err}
+use Rattle.std.specs.Prelude.{◌≡◌, ◌⊎◌, ℕ, true, false, List, [], ◌∷◌, length, Option, Some, None, Result, Ok, Err}
 use Rattle.repo_api.specs.{Accepted.Accepted, Accepted.Accepted.{Commits, Releases}, Commits.commit_refusal, Locking.releases, States.{RepoState, TxnState}}
 use Rattle.repo_api.specs.{declared.ask.CommitAsk.CommitAsk, declared.fault.ChangeFault.ChangeFault}
 use Rattle.repo_api.specs.declared.fault.ChangeFault.TheVariants as faults
@@ -47,6 +47,11 @@ released_as (Err faults.NoMemory) = NoMemory
 abbrev pub ReleasesHanded : Option Handed → Point → Released → Point → Type 0
 ReleasesHanded None p released q = (released ≡ Settled) × (q ≡ p)
 ReleasesHanded (Some handed) p released q = ReleasesTo handed p released q
+
+-- the release of what was handed in, if something was
+abbrev pub releases_of : Option Handed → List Accepted
+releases_of None = []
+releases_of (Some handed) = Releases handed.user handed.tokens ∷ []
 
 -- both copies contain this
 abbrev pub BothContain : {R J T : Type 0} → (R → RepoState) → RepoState → Ready R J T → Type 0

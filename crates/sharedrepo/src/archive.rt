@@ -1,7 +1,9 @@
 //! What makes the changes of a repository, and keeps its files.
-ghost use Rattle.std.specs.Prelude.{◌≡◌, true};
+ghost use Rattle.std.specs.Prelude.{◌≡◌, true, false, List, [], ◌∷◌, ◌++◌};
 ghost use Rattle.repo_api.specs.{Transactions.MayCommit, Accepted.Accepted, Accepted.Accepted.{ChangesProperty, Commits, Locks, Releases, Unlocks}};
 ghost use Rattle.repo_api.specs.Locking.{releases};
+ghost use Rattle.repo_api.specs.States.{RepoState};
+ghost use Rattle.stops.specs.Beginnings.{AreAmong, through};
 ghost use Rattle.sharedrepo.specs.Archives.{MaySave, Prepares, SaveLeaves};
 
 use access::Handed;
@@ -29,6 +31,13 @@ pub trait Archive<R: Repository>: Drop {
     /// The repository for which the files stand, whether changes have come to a halt, and how often a save has
     /// failed.
     ghost kept: { Self → Kept };
+
+    /// Its files, as they are read and as a stop leaves them now, are those of a repository that contains one of
+    /// these, if the files are honest.
+    ghost stands: { Self → List RepoState → Type 0 };
+
+    /// So they are now, and so is what a stop leaves at any moment from the one to the other.
+    ghost leaves: { Self → Self → List RepoState → Type 0 };
 
     /// What is to be written is what this change makes of the files.
     ghost writes: { Self → Self.Unsaved → Accepted → Type 0 };
@@ -68,6 +77,25 @@ pub trait Archive<R: Repository>: Drop {
     /// Saves a change that was made of the repository for which the files stand.
     fn save(&mut self, unsaved: Self::Unsaved) -> Result<(), SaveFault>
         requires { MaySave kept writes self.old unsaved }
-        ensures { (e : Accepted) → writes self.old unsaved e
-            → SaveLeaves e (kept self.old) result (kept self.new) };
+        ensures saved { (e : Accepted) → writes self.old unsaved e
+            → SaveLeaves e (kept self.old) result (kept self.new) }
+        ensures stop { (e : Accepted) → writes self.old unsaved e
+            → leaves self.old self.new (through (kept self.old).content (e ∷ [])) };
+
+    /// While changes are saved, the files are those of the repository.
+    ghost saves: { (a : Self) → (kept a).halted ≡ false → stands a ((kept a).content ∷ []) };
+
+    /// Where nothing is done, a stop leaves what it leaves now.
+    ghost stays: { (a : Self) (cs : List RepoState) → stands a cs → leaves a a cs };
+
+    /// One may be done after another.
+    ghost joins: { (a b c : Self) (cs ds : List RepoState) → leaves a b cs → leaves b c ds
+        → leaves a c (cs ++ ds) };
+
+    /// What is among these is among more.
+    ghost among: { (a b : Self) (cs ds : List RepoState) → AreAmong cs ds → leaves a b cs
+        → leaves a b ds };
+
+    /// What stands behind it is among what a stop in it may leave.
+    ghost rests: { (a b : Self) (cs : List RepoState) → leaves a b cs → stands b cs };
 }

@@ -1,9 +1,9 @@
 //! The changes that a keeper makes for a seat of its.
-ghost use Rattle.std.specs.Prelude.{◌≡◌, false};
+ghost use Rattle.std.specs.Prelude.{◌≡◌, false, [], ◌∷◌};
 ghost use Rattle.access.specs.{Changing.{ChangesPropertyAt, CommitsAt, LocksAt, UnlocksAt}, Points.content_of};
 ghost use Rattle.published.specs.Moments.{GoesOn, shared_rules};
-ghost use Rattle.repo_api.specs.Transactions.{MayCommit};
-ghost use Rattle.sharedrepo.specs.Standing.{Calls, IsShown, IsSteady, now_of};
+ghost use Rattle.repo_api.specs.{Accepted.Accepted.{ChangesProperty, Commits, Locks, Releases, Unlocks}, Transactions.MayCommit};
+ghost use Rattle.sharedrepo.specs.Standing.{Calls, IsShown, IsSteady, StopLeaves, now_of};
 
 use crate::archive::Archive;
 use crate::keeper::Keeper;
@@ -25,7 +25,7 @@ impl<
 > Keeper<R, S, J, T, O> {
     /// Says whether a seat knows of a halt.
     fn turns_away(&self, seat: &Seat<R, J, T>) -> bool
-        ensures { (result ≡ seat.now.halted) × IsSteady S.kept self.now }
+        ensures { (result ≡ seat.now.halted) × IsSteady S.kept S.stands self.now }
     {
         let _is_halted = self.archive.is_halted();
         seat.is_halted()
@@ -35,7 +35,7 @@ impl<
     fn meet<W: Wait>(&self, rt: &W, seat: &mut Seat<R, J, T>)
         requires { seat.old.halted ≡ false }
         ensures later { GoesOn seat.old (now_of S.kept self.now) }
-        ensures shown { IsShown S.kept seat.new self.now }
+        ensures shown { IsShown S.kept S.stands seat.new self.now }
     {
         let failures = self.archive.failures();
         if failures < seat.failures {
@@ -53,7 +53,7 @@ impl<
 
     /// Shows a seat what the keeper has come to.
     fn tell(&self, seat: &mut Seat<R, J, T>)
-        ensures { IsShown S.kept seat.new self.now }
+        ensures { IsShown S.kept S.stands seat.new self.now }
     {
         seat.front = self.front.again();
         seat.halted = self.archive.is_halted();
@@ -71,8 +71,9 @@ impl<
         txn: R::Txn,
     ) -> Result<Committed, ChangeFault>
         requires { MayCommit (content_of seat.old) (R.txn_state txn) }
-        ensures { Calls S.kept (CommitsAt shared_rules ask (R.txn_state txn)) seat.old self.old
+        ensures calls { Calls S.kept S.stands (CommitsAt shared_rules ask (R.txn_state txn)) seat.old self.old
             result seat.new self.new }
+        ensures stop { StopLeaves S.kept S.leaves (Commits ask (R.txn_state txn) ∷ Releases ask.author ask.tokens ∷ []) self.old self.new }
     {
         if self.turns_away(seat) {
             drop((ask, txn));
@@ -91,8 +92,9 @@ impl<
         seat: &mut Seat<R, J, T>,
         ask: LockAsk,
     ) -> Result<(), ChangeFault>
-        ensures { Calls S.kept (LocksAt shared_rules ask) seat.old self.old
+        ensures calls { Calls S.kept S.stands (LocksAt shared_rules ask) seat.old self.old
             result seat.new self.new }
+        ensures stop { StopLeaves S.kept S.leaves (Locks ask ∷ []) self.old self.new }
     {
         if self.turns_away(seat) {
             drop(ask);
@@ -111,8 +113,9 @@ impl<
         seat: &mut Seat<R, J, T>,
         ask: &UnlockAsk,
     ) -> Result<(), ChangeFault>
-        ensures { Calls S.kept (UnlocksAt shared_rules ask.now) seat.old self.old
+        ensures calls { Calls S.kept S.stands (UnlocksAt shared_rules ask.now) seat.old self.old
             result seat.new self.new }
+        ensures stop { StopLeaves S.kept S.leaves (Unlocks ask.now ∷ []) self.old self.new }
     {
         if self.turns_away(seat) {
             return Err(ChangeFault::Halted);
@@ -131,8 +134,9 @@ impl<
         seat: &mut Seat<R, J, T>,
         ask: PropertyAsk,
     ) -> Result<(), ChangeFault>
-        ensures { Calls S.kept (ChangesPropertyAt shared_rules ask) seat.old self.old
+        ensures calls { Calls S.kept S.stands (ChangesPropertyAt shared_rules ask) seat.old self.old
             result seat.new self.new }
+        ensures stop { StopLeaves S.kept S.leaves (ChangesProperty ask ∷ []) self.old self.new }
     {
         if self.turns_away(seat) {
             drop(ask);

@@ -1,9 +1,9 @@
 //! The changes that a keeper makes: each is made, saved, and published.
-ghost use Rattle.std.specs.Prelude.{◌≡◌, false, true, None};
+ghost use Rattle.std.specs.Prelude.{◌≡◌, false, true, [], ◌∷◌, None};
 ghost use Rattle.access.specs.{Changing.{ChangesPropertyAt, CommitsAt, LocksAt, ReplacesAt, UnlocksAt}, Points.content_of};
-ghost use Rattle.repo_api.specs.{Accepted.Accepted.Releases, Locking.releases, Transactions.MayCommit};
+ghost use Rattle.repo_api.specs.{Accepted.Accepted.{ChangesProperty, Commits, Locks, Releases, Unlocks}, Locking.releases, Transactions.MayCommit};
 ghost use Rattle.published.specs.Moments.{shared_rules};
-ghost use Rattle.sharedrepo.specs.{Settling.{ReleasesHanded, ReleasesTo, Revises, released_as}, Standing.{Begins, HappensAt, IsSteady, now_of}};
+ghost use Rattle.sharedrepo.specs.{Settling.{ReleasesHanded, ReleasesTo, Revises, released_as, releases_of}, Standing.{Begins, HappensAt, IsSteady, StopLeaves, now_of}};
 
 use crate::archive::Archive;
 use crate::keeper::Keeper;
@@ -37,9 +37,16 @@ impl<
     T: Absorb<O> + Carries<Published<R, J>> + Drop,
     O: Sets<Published<R, J>> + Drop,
 > Keeper<R, S, J, T, O> {
+    /// Shows that the keeper is steady.
+    fn stand_still(&self)
+        ensures { IsSteady S.kept S.stands self.now }
+    {
+        let _is_halted = self.archive.is_halted();
+    }
+
     /// Says whether a change can begin, or why none can.
     fn readiness(&self) -> Result<(), ChangeFault>
-        ensures { IsSteady S.kept self.now × Begins S.kept result self.now }
+        ensures { IsSteady S.kept S.stands self.now × Begins S.kept result self.now }
     {
         if self.archive.is_halted() {
             return Err(ChangeFault::Halted);
@@ -58,7 +65,8 @@ impl<
         txn: R::Txn,
     ) -> Result<u64, ChangeFault>
         requires { MayCommit (content_of (now_of S.kept self.old)) (R.txn_state txn) }
-        ensures { HappensAt S.kept (Revises ask (R.txn_state txn)) self.old result self.new }
+        ensures point { HappensAt S.kept (Revises ask (R.txn_state txn)) self.old result self.new }
+        ensures stop { StopLeaves S.kept S.leaves (Commits ask (R.txn_state txn) ∷ []) self.old self.new }
     {
         commits_are_right();
         match self.readiness() {
@@ -89,8 +97,9 @@ impl<
     fn take_locks<W: Wait>(&mut self, rt: &W, handed: &Handed) -> Result<(), ChangeFault>
         requires { releases handed.now.user handed.now.tokens
             (content_of (now_of S.kept self.old)).locks ≡ true }
-        ensures { HappensAt S.kept (ReplacesAt shared_rules None
+        ensures point { HappensAt S.kept (ReplacesAt shared_rules None
             (Releases handed.now.user handed.now.tokens)) self.old result self.new }
+        ensures stop { StopLeaves S.kept S.leaves (Releases handed.now.user handed.now.tokens ∷ []) self.old self.new }
     {
         match self.readiness() {
             Err(fault) => Err(fault),
@@ -110,12 +119,14 @@ impl<
     /// Releases what was handed in.
     fn release<W: Wait>(&mut self, rt: &W, handed: &Handed) -> Released
         requires { (S.kept self.old.archive).halted ≡ false }
-        ensures { HappensAt S.kept (ReleasesTo handed.now) self.old result self.new }
+        ensures point { HappensAt S.kept (ReleasesTo handed.now) self.old result self.new }
+        ensures stop { StopLeaves S.kept S.leaves (Releases handed.now.user handed.now.tokens ∷ []) self.old self.new }
     {
         if !self
             .repository
             .releases(handed.user.as_ref(), &handed.tokens)
         {
+            self.stand_still();
             return Released::Settled;
         }
         released(self.take_locks(rt, handed))
@@ -124,10 +135,14 @@ impl<
     /// Releases what was handed in, if something was.
     fn release_handed<W: Wait>(&mut self, rt: &W, handed: Option<Handed>) -> Released
         requires { (S.kept self.old.archive).halted ≡ false }
-        ensures { HappensAt S.kept (ReleasesHanded handed) self.old result self.new }
+        ensures point { HappensAt S.kept (ReleasesHanded handed) self.old result self.new }
+        ensures stop { StopLeaves S.kept S.leaves (releases_of handed) self.old self.new }
     {
         match handed {
-            None => Released::Settled,
+            None => {
+                self.stand_still();
+                Released::Settled
+            }
             Some(handed) => self.release(rt, &handed),
         }
     }
@@ -140,11 +155,13 @@ impl<
         txn: R::Txn,
     ) -> Result<Committed, ChangeFault>
         requires { MayCommit (content_of (now_of S.kept self.old)) (R.txn_state txn) }
-        ensures { HappensAt S.kept (CommitsAt shared_rules ask (R.txn_state txn)) self.old result
+        ensures point { HappensAt S.kept (CommitsAt shared_rules ask (R.txn_state txn)) self.old result
             self.new }
+        ensures stop { StopLeaves S.kept S.leaves (Commits ask (R.txn_state txn) ∷ Releases ask.author ask.tokens ∷ []) self.old self.new }
     {
         match handed_locks(&ask) {
             Err(AllocError) => {
+                self.stand_still();
                 drop((ask, txn));
                 Err(ChangeFault::NoMemory)
             }
@@ -163,7 +180,8 @@ impl<
 
     /// Locks.
     pub(crate) fn make_lock<W: Wait>(&mut self, rt: &W, ask: LockAsk) -> Result<(), ChangeFault>
-        ensures { HappensAt S.kept (LocksAt shared_rules ask) self.old result self.new }
+        ensures point { HappensAt S.kept (LocksAt shared_rules ask) self.old result self.new }
+        ensures stop { StopLeaves S.kept S.leaves (Locks ask ∷ []) self.old self.new }
     {
         match self.readiness() {
             Err(fault) => {
@@ -189,7 +207,8 @@ impl<
         rt: &W,
         ask: &UnlockAsk,
     ) -> Result<(), ChangeFault>
-        ensures { HappensAt S.kept (UnlocksAt shared_rules ask.now) self.old result self.new }
+        ensures point { HappensAt S.kept (UnlocksAt shared_rules ask.now) self.old result self.new }
+        ensures stop { StopLeaves S.kept S.leaves (Unlocks ask.now ∷ []) self.old self.new }
     {
         match self.readiness() {
             Err(fault) => Err(fault),
@@ -212,7 +231,8 @@ impl<
         rt: &W,
         ask: PropertyAsk,
     ) -> Result<(), ChangeFault>
-        ensures { HappensAt S.kept (ChangesPropertyAt shared_rules ask) self.old result self.new }
+        ensures point { HappensAt S.kept (ChangesPropertyAt shared_rules ask) self.old result self.new }
+        ensures stop { StopLeaves S.kept S.leaves (ChangesProperty ask ∷ []) self.old self.new }
     {
         match self.readiness() {
             Err(fault) => {

@@ -20,7 +20,6 @@ use std::sync::Wait;
 pub const MAX_SEATS: usize = 65_536;
 
 /// A repository, what publishes it, and its archive.
-#[derive(Drop)]
 pub struct Keeper<
     R: Repository,
     S: Archive<R>,
@@ -45,6 +44,27 @@ impl<
     J: Naming,
     T: Absorb<O> + Carries<Published<R, J>> + Drop,
     O: Sets<Published<R, J>> + Drop,
+> Drop for Keeper<R, S, J, T, O> {
+    fn drop(self) {
+        let Keeper {
+            alloc: _,
+            book: _,
+            front: _,
+            repository: _,
+            desk: _,
+            archive: _,
+            pending: _,
+            has_ended: _,
+        } = self;
+    }
+}
+
+impl<
+    R: Repository,
+    S: Archive<R>,
+    J: Naming,
+    T: Absorb<O> + Carries<Published<R, J>> + Drop,
+    O: Sets<Published<R, J>> + Drop,
 > Model for Keeper<R, S, J, T, O> {
     ghost use Rattle.std.specs.{Coded.codes, FinMap.code as map_code};
     ghost use Rattle.sharedrepo.specs.Standing.{Standing, standing, pending_in, IsSteady};
@@ -57,7 +77,7 @@ impl<
         (T.carried_value k.desk.writer.desk.shown.value) k.archive
         (pending_in R.txn_state k.pending) };
 
-    ghost invariant = { λ k. IsSteady S.kept (standing k.front (R.content k.repository)
+    ghost invariant = { λ k. IsSteady S.kept S.stands (standing k.front (R.content k.repository)
         (T.carried_value k.desk.writer.desk.shown.value) k.archive
         (pending_in R.txn_state k.pending)) };
 }
@@ -143,7 +163,7 @@ impl<
         requires book { history.seen.book ≡ J.book }
         requires alike { (x y : T) → T.state x ≡ T.state y }
         requires stands { MayOpen (S.kept archive) (R.content repository) }
-        ensures { IfOk result (IsOpened S.kept archive (R.content repository)) }
+        ensures { IfOk result (IsOpened S.kept S.stands archive (R.content repository)) }
     {
         if seats == 0 || seats > MAX_SEATS {
             return Err(AllocError);

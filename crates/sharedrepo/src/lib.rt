@@ -5,6 +5,7 @@ mod archive;
 mod calls;
 mod changes;
 mod keeper;
+mod laws;
 mod seat;
 mod seat_access;
 mod settling;
@@ -12,6 +13,7 @@ mod shared_repo;
 
 pub use archive::{Archive, SaveFault};
 pub use keeper::Keeper;
+pub use laws::a_stop_leaves_a_beginning;
 pub use seat::Seat;
 pub use seat_access::SeatAccess;
 pub use shared_repo::{Locked, SharedRepo};

@@ -12,7 +12,6 @@ use std::alloc::AllocError;
 use std::marker::{Model, PhantomData};
 
 /// A reader of what is published, and the events that it knows. Contracts see the moment after them.
-#[derive(Drop)]
 pub struct Seat<R: Repository, J: Naming, T: Carries<Published<R, J>> + Drop> {
     pub(crate) reader: Option<Reader<T, (), Unruled>>,
     pub(crate) front: Front<J>,
@@ -20,6 +19,19 @@ pub struct Seat<R: Repository, J: Naming, T: Carries<Published<R, J>> + Drop> {
     pub(crate) failures: u64,
     pub(crate) pending: Noted<Option<AskedChange<R::Txn>>>,
     pub(crate) of: PhantomData<R>,
+}
+
+impl<R: Repository, J: Naming, T: Carries<Published<R, J>> + Drop> Drop for Seat<R, J, T> {
+    fn drop(self) {
+        let Seat {
+            reader: _,
+            front: _,
+            halted: _,
+            failures: _,
+            pending: _,
+            of: _,
+        } = self;
+    }
 }
 
 impl<R: Repository, J: Naming, T: Carries<Published<R, J>> + Drop> Model for Seat<R, J, T> {

@@ -1,9 +1,10 @@
 //! What a change has made is saved, and published.
-ghost use Rattle.std.specs.Prelude.{◌≡◌, IfOk};
+ghost use Rattle.std.specs.Prelude.{◌≡◌, [], ◌∷◌, IfOk};
 ghost use Rattle.published.specs.{Edition.edition_after, Events.{state_of, accepted_by}};
 ghost use Rattle.repo_api.specs.Accepted.{Accepted};
+ghost use Rattle.stops.specs.Beginnings.{through};
 ghost use Rattle.sharedrepo.specs.{Archives.{AnswerLeaves, IsNext, MaySave, fault_of}, Settling.{BothContain, SettlesTo}};
-ghost use Rattle.sharedrepo.specs.Standing.{CanBegin, HappensAt, pending_after};
+ghost use Rattle.sharedrepo.specs.Standing.{CanBegin, HappensAt, StopLeaves, pending_after};
 
 use crate::archive::{Archive, SaveFault};
 use crate::keeper::Keeper;
@@ -67,6 +68,8 @@ pub(crate) fn save_next<
     ensures ready { IfOk result (BothContain R.content (R.content next.now)) }
     ensures saved { (e : Accepted) → S.writes archive.old unsaved e
         → AnswerLeaves e (S.kept archive.old) result (S.kept archive.new) }
+    ensures stop { (e : Accepted) → S.writes archive.old unsaved e
+        → S.leaves archive.old archive.new (through (S.kept archive.old).content (e ∷ [])) }
 {
     match make_ready(alloc, desk, next) {
         Err(AllocError) => {
@@ -161,8 +164,9 @@ impl<
         requires ready { CanBegin S.kept self.old }
         requires next { IsNext self.old.content (accepted_by R.txn_state asked) (R.content next) }
         requires writes { S.writes self.old.archive unsaved (accepted_by R.txn_state asked) }
-        ensures { HappensAt S.kept (SettlesTo (accepted_by R.txn_state asked)) self.old result
+        ensures point { HappensAt S.kept (SettlesTo (accepted_by R.txn_state asked)) self.old result
             self.new }
+        ensures stop { StopLeaves S.kept S.leaves (accepted_by R.txn_state asked ∷ []) self.old self.new }
     {
         match save_next(
             self.alloc,

@@ -17,7 +17,6 @@ use std::sync::atomic::{AtomicBool, Ordering};
 use std::sync::{Mutex, Wait};
 
 /// A keeper that threads share, and whether changes have come to a halt: that is read without a wait.
-#[derive(Drop)]
 pub struct Locked<
     R: Repository,
     S: Archive<R>,
@@ -27,6 +26,21 @@ pub struct Locked<
 > {
     keeper: Mutex<Keeper<R, S, J, T, O>>,
     has_halted: AtomicBool,
+}
+
+impl<
+    R: Repository,
+    S: Archive<R>,
+    J: Naming,
+    T: Absorb<O> + Carries<Published<R, J>> + Drop,
+    O: Sets<Published<R, J>> + Drop,
+> Drop for Locked<R, S, J, T, O> {
+    fn drop(self) {
+        let Locked {
+            keeper: _,
+            has_halted: _,
+        } = self;
+    }
 }
 
 /// The shared repository.

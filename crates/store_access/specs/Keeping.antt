@@ -1,8 +1,8 @@
 -- What the files of a repository stand for, as they are read and behind a stop.
-use Rattle.std.specs.Prelude.{◌≡◌, ◌⊎◌, false}
-use Rattle.repo_api.specs.States.{RepoState}
-use Rattle.store_files.specs.{Folders.Folder, Stops.LeavesOnly, declared.store.Store.Ghosts}
-use Rattle.repostore.specs.{Files.{Files, HasFiles}, Saving.IsSaved, declared.saves.Saves.Saves}
+use Rattle.std.specs.Prelude.{◌≡◌, ◌⊎◌, true, false, Option, Some}
+use Rattle.repo_api.specs.{Accepted.{Accepted, changed}, States.RepoState}
+use Rattle.store_files.specs.{Folders.Folder, declared.store.Store.Ghosts}
+use Rattle.repostore.specs.{Files.{Files, HasFiles}, Saving.{IsSaved, Stands}, declared.saves.Saves.Saves}
 
 -- the store has these files, also after a stop, and the repository is that of them
 pub record IsKept {S F : Type 0} (s : Ghosts S) (is_of : F → Files → Type 0) (saves : Saves S)
@@ -34,12 +34,14 @@ module _ {F : Type 0} (content : F → RepoState) (is_of : F → Files → Type 
   HasEitherRepository before after f = HasRepository before f ⊎ HasRepository after f
 
   module _ {S : Type 0} (s : Ghosts S) where
-    -- a stop within a call, from here to there, leaves the files of the one or the other
-    abbrev pub LeavesEither : S → S → RepoState → RepoState → Type 0
-    LeavesEither old new before after =
-        LeavesOnly s old new (HasEitherRepository before after)
+    -- once changes have come to a halt, what is read of an honest store has the files of the repository before the
+    -- change that was being saved, or behind it, and so has what a stop leaves now
+    pub record IsAtHalt (saves : Saves S) (repository : F) (pending : Option Accepted) : Type 0 where
+      pub change : Accepted
+      pub is_pending : pending ≡ Some change
+      pub stands : Stands s saves.store (λ f. ∥ HasEitherRepository (content repository)
+          (changed (content repository) change) f ∥₁)
 
-    -- or of a third
-    abbrev pub LeavesOneOf : S → S → RepoState → RepoState → RepoState → Type 0
-    LeavesOneOf old new before between after =
-        LeavesOnly s old new (λ f. HasEitherRepository before between f ⊎ HasRepository after f)
+    abbrev pub HaltKeeps : Saves S → F → Option Accepted → Type 0
+    HaltKeeps saves repository pending =
+        s.is_honest saves.store → saves.is_halted ≡ true → IsAtHalt saves repository pending

@@ -1,3 +1,5 @@
 pub mod Filing
+pub mod Pending
 pub mod Stored
 pub mod Keeping
+pub mod Leaving

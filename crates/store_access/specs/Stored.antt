@@ -1,7 +1,7 @@
 -- A repository whose changes are saved before they are made.
-use Rattle.std.specs.Prelude.{◌≡◌, ◌⊎◌, ℕ, Bool, true, false, [], List, Option, Some, None, Result, Ok, Err}
-use Rattle.repo_api.specs.{Accepted.Accepted, Accepted.Accepted.{ChangesProperty, Commits, Locks, Releases, Unlocks}, Commits.committed}
-use Rattle.repo_api.specs.{Locking.{HandedTokens, releases, without_released}, States.{RepoState, TxnState}, declared.ask.CommitAsk.CommitAsk}
+use Rattle.std.specs.Prelude.{◌≡◌, ◌⊎◌, ℕ, Bool, true, false, [], ◌∷◌, List, Option, Some, None, Result, Ok, Err}
+use Rattle.repo_api.specs.{Accepted.{Accepted, changed, IsAccepted}, Accepted.Accepted.{Releases}}
+use Rattle.repo_api.specs.{Locking.{HandedTokens, releases, without_released}, States.{RepoState, TxnState}}
 use Rattle.repo_api.specs.{declared.fault.ChangeFault.ChangeFault, declared.fault.ChangeFault.TheVariants.{Refused, StoreFailed, Halted, NoMemory}}
 use Rattle.access.specs.{declared.access.Released.Released, declared.handed.Handed.Handed, Changing.IsHalt, Points.{content_of, Point}}
 use Rattle.access.specs.declared.access.Released.TheVariants as releases_so
@@ -9,20 +9,9 @@ use Rattle.repostore.specs.declared.saves.Saves.{Saves}
 use Rattle.repo_api.specs.declared.repository.Repository as Repository
 use Rattle.store_files.specs.declared.store.Store as Store
 use Rattle.store_access.specs.declared.filed.Filed as Filed
-use Rattle.store_access.specs.{Keeping.{HasRepository, LeavesEither, LeavesOneOf, StandsFor}, declared.stored.StoredRepository.StoredRepository}
-use Rattle.store_access.specs.{declared.change.SavedChange.SavedChange, declared.change.SavedChange.TheVariants.{Commit, Lock, Unlock, Release, Property}}
-
--- the change that is being saved
-abbrev pub accepted_by : {T : Type 0} → (T → TxnState) → SavedChange T → Accepted
-accepted_by txn_state (Commit ask txn) = Commits ask (txn_state txn)
-accepted_by txn_state (Lock ask) = Locks ask
-accepted_by txn_state (Unlock ask) = Unlocks ask
-accepted_by txn_state (Release handed) = Releases handed.user handed.tokens
-accepted_by txn_state (Property ask) = ChangesProperty ask
-
-abbrev pub pending_in : {T : Type 0} → (T → TxnState) → Option (SavedChange T) → Option Accepted
-pending_in txn_state None = None
-pending_in txn_state (Some change) = Some (accepted_by txn_state change)
+use Rattle.store_access.specs.Pending.{accepted_by, pending_in}
+use Rattle.store_access.specs.{Keeping.{HasRepository, StandsFor}, Leaving.LeavesByCall, declared.stored.StoredRepository.StoredRepository}
+use Rattle.store_access.specs.declared.change.SavedChange.{SavedChange}
 
 -- where the repository contains this, by whether changes have come to a halt, how often the store
 -- has failed, and the change that was being saved then
@@ -70,10 +59,10 @@ released_as (Err StoreFailed) = releases_so.StoreFailed
 released_as (Err Halted) = releases_so.StoreFailed
 released_as (Err NoMemory) = releases_so.NoMemory
 
--- once what was handed in is released; where nothing was kept, there is no release
-abbrev pub without_handed : RepoState → Option Handed → RepoState
-without_handed c None = c
-without_handed c (Some handed) = without_released c handed.user handed.tokens
+-- the release of what was handed in; where nothing was kept, there is none
+abbrev pub releases_of : Option Handed → List Accepted
+releases_of None = []
+releases_of (Some handed) = Releases handed.user handed.tokens ∷ []
 
 abbrev pub ReleasesKept : Option Handed → Point → Released → Point → Type 0
 ReleasesKept None at released q = (released ≡ releases_so.Settled) × (q ≡ at)
@@ -83,6 +72,15 @@ module _ {F S T : Type 0} {f : Filed.Ghosts F T} {r : Repository.Ghosts F T} {s 
   -- where it is
   abbrev pub point_of : StoredRepository F S T f r s → Point
   point_of d = point_in r.content s.failed r.txn_state d.repository d.saves d.pending
+
+  -- this repository is what the change makes of the one that there is
+  abbrev pub IsMadeBy : StoredRepository F S T f r s → SavedChange T → F → Type 0
+  IsMadeBy d change next =
+      r.content next ≡ changed (r.content d.repository) (accepted_by r.txn_state change)
+
+  -- the rules accept the change
+  abbrev pub IsAcceptedBy : StoredRepository F S T f r s → SavedChange T → Type 0
+  IsAcceptedBy d change = IsAccepted (r.content d.repository) (accepted_by r.txn_state change)
 
   -- the save of a change leads so from here to there: this is the repository once it is saved
   abbrev pub Settles : (Point → Type 0) → SavedChange T → F → StoredRepository F S T f r s
@@ -98,21 +96,7 @@ module _ {F S T : Type 0} {f : Filed.Ghosts F T} {r : Repository.Ghosts F T} {s 
       × ((c : RepoState) → HasRepository r.content f.is_of c (s.holds store)
       → r.content opened.repository ≡ c)
 
-  -- while changes are saved to an honest store, a stop within a call leaves the files of what the
-  -- repository contained before it, or of this
-  abbrev pub StopLeaves : StoredRepository F S T f r s → StoredRepository F S T f r s → RepoState
-      → Type 0
-  StopLeaves old new after =
-      s.is_honest old.saves.store → old.saves.is_halted ≡ false
-      → ∥ LeavesEither r.content f.is_of s old.saves.store new.saves.store
-      (r.content old.repository) after ∥₁
-
-  -- and within a commit, the files with the revision, or also without the locks that were handed in
-  abbrev pub StopLeavesCommit : StoredRepository F S T f r s → StoredRepository F S T f r s
-      → CommitAsk → T → Type 0
-  StopLeavesCommit old new ask txn =
-      s.is_honest old.saves.store → old.saves.is_halted ≡ false
-      → ∥ LeavesOneOf r.content f.is_of s old.saves.store new.saves.store
-      (r.content old.repository) (committed (r.content old.repository) ask (r.txn_state txn))
-      (without_released (committed (r.content old.repository) ask (r.txn_state txn)) ask.author
-      ask.tokens) ∥₁
+  -- what a call leaves that asks for these changes
+  abbrev pub StopLeaves : List Accepted → StoredRepository F S T f r s → StoredRepository F S T f r s → Type 0
+  StopLeaves asked old new =
+      LeavesByCall r.content f.is_of s asked (old.repository, old.saves) (new.repository, new.saves)

@@ -1,8 +1,8 @@
 //! A repository in files as a session reaches it.
-ghost use Rattle.std.specs.Prelude.{◌≡◌, false, true};
-ghost use Rattle.access.specs.{Changing.{ChangesPropertyAt, CommitsAt, LocksAt, UnlocksAt}, Handed.IsHandedIn, Sole.sole_rules};
-ghost use Rattle.repo_api.specs.{Locking.{locked, unlocked}, RevisionProperties.with_changed_property, Transactions.MayCommit};
-ghost use Rattle.store_access.specs.Stored.{StopLeaves, StopLeavesCommit, point_of};
+ghost use Rattle.std.specs.Prelude.{◌≡◌, [], ◌∷◌, false};
+ghost use Rattle.access.specs.{Changing.{ChangesPropertyAt, CommitsAt, Happens, LocksAt, UnlocksAt}, Handed.IsHandedIn, Sole.sole_rules};
+ghost use Rattle.repo_api.specs.{Accepted.Accepted.{ChangesProperty, Commits, Locks, Releases, Unlocks}, Transactions.MayCommit};
+ghost use Rattle.store_access.specs.Stored.{StopLeaves, point_of};
 
 use crate::change::{SavedChange, copied};
 use crate::filed::Filed;
@@ -20,8 +20,8 @@ impl<F: Filed, S: Store> StoredRepository<F, S> {
         requires { MayCommit (F.content self.old.repository) (F.txn_state txn) }
         ensures point { CommitsAt sole_rules ask (F.txn_state txn) (point_of self.old) result
             (point_of self.new) }
-        ensures stop { StopLeavesCommit self.old self.new ask txn }
-        ensures stays { self.old.saves.is_halted ≡ true → self.new.saves ≡ self.old.saves }
+        ensures stop { StopLeaves (Commits ask (F.txn_state txn) ∷ Releases ask.author ask.tokens ∷ [])
+            self.old self.new }
     {
         if self.saves.is_halted() {
             std::mem::drop((ask, txn));
@@ -48,7 +48,8 @@ impl<F: Filed, S: Store> StoredRepository<F, S> {
         requires handed_in { IsHandedIn ask handed }
         ensures point { CommitsAt sole_rules ask (F.txn_state txn) (point_of self.old) result
             (point_of self.new) }
-        ensures stop { StopLeavesCommit self.old self.new ask txn }
+        ensures stop { StopLeaves (Commits ask (F.txn_state txn) ∷ Releases ask.author ask.tokens ∷ [])
+            self.old self.new }
     {
         match self.repository.committed(&ask, &txn) {
             Ok((next, new)) => {
@@ -74,8 +75,7 @@ impl<F: Filed, S: Store> StoredRepository<F, S> {
     /// the call leaves the files of the repository from before it, or with the lock.
     pub fn lock_in_files(&mut self, ask: LockAsk) -> Result<(), ChangeFault>
         ensures point { LocksAt sole_rules ask (point_of self.old) result (point_of self.new) }
-        ensures stop { StopLeaves self.old self.new (locked (F.content self.old.repository) ask) }
-        ensures stays { self.old.saves.is_halted ≡ true → self.new.saves ≡ self.old.saves }
+        ensures stop { StopLeaves (Locks ask ∷ []) self.old self.new }
     {
         if self.saves.is_halted() {
             return Err(ChangeFault::Halted);
@@ -91,9 +91,7 @@ impl<F: Filed, S: Store> StoredRepository<F, S> {
     pub fn unlock_in_files(&mut self, ask: &UnlockAsk) -> Result<(), ChangeFault>
         ensures point { UnlocksAt sole_rules ask.now (point_of self.old) result
             (point_of self.new) }
-        ensures stop { StopLeaves self.old self.new
-            (unlocked (F.content self.old.repository) ask.now) }
-        ensures stays { self.old.saves.is_halted ≡ true → self.new.saves ≡ self.old.saves }
+        ensures stop { StopLeaves (Unlocks ask.now ∷ []) self.old self.new }
     {
         if self.saves.is_halted() {
             return Err(ChangeFault::Halted);
@@ -113,9 +111,7 @@ impl<F: Filed, S: Store> StoredRepository<F, S> {
     pub fn change_property_in_files(&mut self, ask: PropertyAsk) -> Result<(), ChangeFault>
         ensures point { ChangesPropertyAt sole_rules ask (point_of self.old) result
             (point_of self.new) }
-        ensures stop { StopLeaves self.old self.new
-            (with_changed_property (F.content self.old.repository) ask.revision ask.name ask.value) }
-        ensures stays { self.old.saves.is_halted ≡ true → self.new.saves ≡ self.old.saves }
+        ensures stop { StopLeaves (ChangesProperty ask ∷ []) self.old self.new }
     {
         if self.saves.is_halted() {
             return Err(ChangeFault::Halted);
@@ -158,19 +154,37 @@ impl<F: Filed, S: Store> RepoAccess for StoredRepository<F, S> {
         self.saves.is_halted()
     }
 
-    fn commit(&mut self, ask: CommitAsk, txn: F::Txn) -> Result<Committed, ChangeFault> {
+    fn commit(&mut self, ask: CommitAsk, txn: F::Txn) -> Result<Committed, ChangeFault>
+        requires { MayCommit (F.content self.old.repository) (F.txn_state txn) }
+        ensures point { Happens sole_rules (CommitsAt sole_rules ask (F.txn_state txn)) (point_of self.old)
+            result (point_of self.new) }
+        ensures stop { StopLeaves (Commits ask (F.txn_state txn) ∷ Releases ask.author ask.tokens ∷ [])
+            self.old self.new }
+    {
         self.commit_in_files(ask, txn)
     }
 
-    fn lock(&mut self, ask: LockAsk) -> Result<(), ChangeFault> {
+    fn lock(&mut self, ask: LockAsk) -> Result<(), ChangeFault>
+        ensures point { Happens sole_rules (LocksAt sole_rules ask) (point_of self.old) result
+            (point_of self.new) }
+        ensures stop { StopLeaves (Locks ask ∷ []) self.old self.new }
+    {
         self.lock_in_files(ask)
     }
 
-    fn unlock(&mut self, ask: &UnlockAsk) -> Result<(), ChangeFault> {
+    fn unlock(&mut self, ask: &UnlockAsk) -> Result<(), ChangeFault>
+        ensures point { Happens sole_rules (UnlocksAt sole_rules ask.now) (point_of self.old) result
+            (point_of self.new) }
+        ensures stop { StopLeaves (Unlocks ask.now ∷ []) self.old self.new }
+    {
         self.unlock_in_files(ask)
     }
 
-    fn change_property(&mut self, ask: PropertyAsk) -> Result<(), ChangeFault> {
+    fn change_property(&mut self, ask: PropertyAsk) -> Result<(), ChangeFault>
+        ensures point { Happens sole_rules (ChangesPropertyAt sole_rules ask) (point_of self.old) result
+            (point_of self.new) }
+        ensures stop { StopLeaves (ChangesProperty ask ∷ []) self.old self.new }
+    {
         self.change_property_in_files(ask)
     }
 }

@@ -1,9 +1,9 @@
 //! Changes saved, and then made.
-ghost use Rattle.std.specs.Prelude.{◌≡◌, Some, false, true};
+ghost use Rattle.std.specs.Prelude.{◌≡◌, [], ◌∷◌, Some, false, true};
 ghost use Rattle.access.specs.Changing.{IsFailure};
-ghost use Rattle.repo_api.specs.Locking.{without_released};
+ghost use Rattle.repo_api.specs.Accepted.Accepted.{Releases};
 ghost use Rattle.store_access.specs.Filing.{WritesLocks, WritesProperties, WritesRevision};
-ghost use Rattle.store_access.specs.Stored.{Settles, StopLeaves, point_of, ReleasesBy, ReleasesKept, released_as, without_handed};
+ghost use Rattle.store_access.specs.{Pending.accepted_by, Stored.{IsAcceptedBy, IsMadeBy, Settles, StopLeaves, point_of, ReleasesBy, ReleasesKept, released_as, releases_of}};
 
 use crate::change::{SavedChange, forget};
 use crate::filed::{Filed, NewProperties, NewRevision};
@@ -59,9 +59,11 @@ impl<F: Filed, S: Store> StoredRepository<F, S> {
         change: SavedChange<F::Txn>,
     ) -> Result<(), ChangeFault>
         requires goes_on { self.old.saves.is_halted ≡ false }
+        requires accepted { IsAcceptedBy self.old change }
+        requires made { IsMadeBy self.old change next }
         requires files { WritesLocks F.is_of self.old.repository file.now next }
         ensures point { Settles (λ q. ⊥) change next self.old result self.new }
-        ensures stop { StopLeaves self.old self.new (F.content next) }
+        ensures stop { StopLeaves (accepted_by F.txn_state change ∷ []) self.old self.new }
     {
         match self.saves.save_locks(file) {
             Ok(()) => {
@@ -84,10 +86,12 @@ impl<F: Filed, S: Store> StoredRepository<F, S> {
         change: SavedChange<F::Txn>,
     ) -> Result<(), ChangeFault>
         requires goes_on { self.old.saves.is_halted ≡ false }
+        requires accepted { IsAcceptedBy self.old change }
+        requires made { IsMadeBy self.old change next }
         requires files { WritesProperties F.is_of self.old.repository new.now.revision
             new.now.file.items next }
         ensures point { Settles (λ q. ⊥) change next self.old result self.new }
-        ensures stop { StopLeaves self.old self.new (F.content next) }
+        ensures stop { StopLeaves (accepted_by F.txn_state change ∷ []) self.old self.new }
     {
         match self.saves.save_rev_prop(new.revision, &new.file) {
             Ok(()) => {
@@ -110,10 +114,11 @@ impl<F: Filed, S: Store> StoredRepository<F, S> {
         change: SavedChange<F::Txn>,
     ) -> Result<(), ChangeFault>
         requires goes_on { self.old.saves.is_halted ≡ false }
+        requires accepted { IsAcceptedBy self.old change }
+        requires made { IsMadeBy self.old change next }
         requires files { WritesRevision F.is_of self.old.repository new.now next }
         ensures point { Settles (IsFailure (point_of self.old)) change next self.old result self.new }
-        ensures honest { S.is_honest self.old.saves.store → S.is_honest self.new.saves.store }
-        ensures stop { StopLeaves self.old self.new (F.content next) }
+        ensures stop { StopLeaves (accepted_by F.txn_state change ∷ []) self.old self.new }
     {
         match self
             .saves
@@ -135,8 +140,7 @@ impl<F: Filed, S: Store> StoredRepository<F, S> {
     pub(crate) fn release_handed(&mut self, handed: Option<Handed>) -> Released
         requires { self.old.saves.is_halted ≡ false }
         ensures point { ReleasesKept handed (point_of self.old) result (point_of self.new) }
-        ensures stop { StopLeaves self.old self.new
-            (without_handed (F.content self.old.repository) handed) }
+        ensures stop { StopLeaves (releases_of handed) self.old self.new }
     {
         match handed {
             None => Released::Settled,
@@ -149,8 +153,7 @@ impl<F: Filed, S: Store> StoredRepository<F, S> {
         requires { self.old.saves.is_halted ≡ false }
         ensures point { ReleasesBy handed.user handed.tokens (point_of self.old) result
             (point_of self.new) }
-        ensures stop { StopLeaves self.old self.new
-            (without_released (F.content self.old.repository) handed.user handed.tokens) }
+        ensures stop { StopLeaves (Releases handed.user handed.tokens ∷ []) self.old self.new }
     {
         if !self
             .repository

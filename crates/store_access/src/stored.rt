@@ -1,7 +1,7 @@
 //! A repository in files that one hub alone has.
 ghost use Rattle.std.specs.Prelude.{◌≡◌, false};
 ghost use Rattle.repostore.specs.Saving.{Stands};
-ghost use Rattle.store_access.specs.Keeping.{Keeps, HasRepository};
+ghost use Rattle.store_access.specs.{Keeping.{HaltKeeps, HasRepository, Keeps}, Pending.pending_in};
 
 use crate::change::SavedChange;
 use crate::filed::Filed;
@@ -10,19 +10,31 @@ use store_files::Store;
 
 /// A repository in files that one hub alone has: each change is saved, and then made. Where a save
 /// fails, nothing is changed; where nobody knows whether a file was replaced, no change is made any more.
-#[derive(Drop)]
 pub struct StoredRepository<F: Filed, S: Store> {
     pub(crate) repository: F,
     pub(crate) saves: Saves<S>,
     /// The change that was being saved when changes came to a halt.
     pub(crate) pending: Option<SavedChange<F::Txn>>,
     ghost kept: { ∥ Keeps S.Store F.is_of saves repository ∥₁ },
+    ghost halt: { ∥ HaltKeeps F.content F.is_of S.Store saves repository
+        (pending_in F.txn_state pending) ∥₁ },
+}
+
+impl<F: Filed, S: Store> Drop for StoredRepository<F, S> {
+    fn drop(self) {
+        let StoredRepository {
+            repository: _,
+            saves: _,
+            pending: _,
+        } = self;
+    }
 }
 
 impl<F: Filed, S: Store> StoredRepository<F, S> {
     /// Makes the access to a repository and its files.
     pub fn new(repository: F, saves: Saves<S>) -> Self
-        requires { ∥ Keeps S.Store F.is_of saves repository ∥₁ }
+        requires kept { ∥ Keeps S.Store F.is_of saves repository ∥₁ }
+        requires goes_on { saves.is_halted ≡ false }
         ensures repository { result.repository ≡ repository }
         ensures saves { result.saves ≡ saves }
     {
@@ -56,12 +68,15 @@ impl<F: Filed, S: Store> StoredRepository<F, S> {
     }
 
     /// Gives the store of the files. While changes are made, what it reads has the files of the repository, and so has
-    /// what a stop leaves now.
+    /// what a stop leaves now. Once they have come to a halt, it has those of the repository before the change that was
+    /// being saved, or behind it.
     pub fn store(&self) -> &S
         ensures store { result.now ≡ self.now.saves.store }
         ensures stands { S.is_honest self.now.saves.store → self.now.saves.is_halted ≡ false
             → Stands S.Store self.now.saves.store
             (λ f. ∥ HasRepository F.content F.is_of (F.content self.now.repository) f ∥₁) }
+        ensures halted { ∥ HaltKeeps F.content F.is_of S.Store self.now.saves self.now.repository
+            (pending_in F.txn_state self.now.pending) ∥₁ }
     {
         self.saves.store()
     }

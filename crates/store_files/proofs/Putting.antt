@@ -1,9 +1,9 @@
 -- One file more in memory.
-use Rattle.std.proofs.{Common.{◌≡◌, inl, inr, ℕ, Bool, true, false, cond, List, Option, Some, refl, sym, ap, ◌∙◌, arith}, lemmas.Bool.Decides.nat_tests}
-use Rattle.std.specs.{Prelude.{◌==◌, ◌&&◌, Vec}, BTreeMap.{BTreeMap, get, is_at}, Ordering.{nat_cmp, ordering_then, is_eq}, declared.alloc.Global.Global}
+use Rattle.std.proofs.{Common.{◌≡◌, inl, inr, ℕ, zero, suc, Bool, true, false, cond, List, ◌∷◌, Option, Some, refl, sym, ap, ◌∙◌, arith}, lemmas.Bool.Decides.nat_tests}
+use Rattle.std.specs.{Prelude.{◌==◌, ◌&&◌, ◌<◌, Vec}, BTreeMap.{BTreeMap, get, is_at}, Ordering.{nat_cmp, ordering_then, is_eq}, declared.alloc.Global.Global}
 use Rattle.std.specs.{declared.cmp.Ordering.Ordering, declared.cmp.Ordering.TheVariants.{Less, Equal, Greater}}
-use Rattle.store_files.specs.{Names.{kind_of, number_of, same_name}, NameLaws.same_name_tells, Folders.{Folder, IsSame, SameBut, bytes_of, with_file}}
-use Rattle.store_files.specs.{Memory.{by_numbers, files_of}, declared.name.FileName.FileName}
+use Rattle.store_files.specs.{Names.{kind_of, number_of, same_name}, NameLaws.same_name_tells, Folders.{Folder, IsSame, SameBut, bytes_of, nothing, with_file}}
+use Rattle.store_files.specs.{Memory.{by_numbers, files_of}, NameLaws.{named_is}, Names.named, Note.Event, Replay.{held, Leaves}, declared.name.FileName.FileName}
 
 both : (o p : Ordering) → is_eq (ordering_then o p) ≡ is_eq o && is_eq p
 both Less p = refl
@@ -49,3 +49,30 @@ put_others old new name bytes is n other = is n ∙ elim (same_name_tells name n
   | inl same ↦ absurd (other (sym same.1))
   | inr differs ↦ ap (λ b. cond b (Some bytes) (old n)) differs.0
 ]
+
+-- a call that put a file and is noted: what the record says of the files is what they are, and a stop that comes
+-- now leaves them so
+module _ (old : List Event) (files : Folder) (same : IsSame (held nothing old) files) where
+  pub noted_same : (call : ℕ) (name : FileName) (bytes : List ℕ) (new : Folder) → 0 < call → IsSame (with_file files name bytes) new
+      → IsSame (held nothing ((call, kind_of name, number_of name, 0, bytes) ∷ old)) new
+  noted_same zero name bytes new some put n = absurd (omega (arith, some))
+  noted_same (suc k) name bytes new some put n =
+      put n ∙ ap (λ x. cond (same_name name n) (Some bytes) x) (same n)
+      ∙ ap (λ m. cond (same_name m n) (Some bytes) (held nothing old n)) (sym (named_is name))
+
+module _ (old : List Event) (rests : (f : Folder) → Leaves nothing old f → IsSame (held nothing old) f) where
+  one_more : (g f : Folder) (name : FileName) (bytes : List ℕ) → IsSame (held nothing old) g → SameBut name g f → f name ≡ Some bytes
+      → IsSame (with_file (held nothing old) name bytes) f
+  one_more g f name bytes same others is n = elim (same_name_tells name n) [
+    | inl at ↦ ap f (sym at.1) ∙ is ∙ ap (λ b. cond b (Some bytes) (held nothing old n)) (sym at.0)
+    | inr not ↦ others n (λ e. not.1 (sym e)) ∙ same n ∙ ap (λ b. cond b (Some bytes) (held nothing old n)) (sym not.0)
+  ]
+
+  pub noted_rests : (call : ℕ) (name : FileName) (bytes : List ℕ) → 0 < call
+      → (f : Folder) → Leaves nothing ((call, kind_of name, number_of name, 0, bytes) ∷ old) f
+      → IsSame (held nothing ((call, kind_of name, number_of name, 0, bytes) ∷ old)) f
+  noted_rests zero name bytes some f left = absurd (omega (arith, some))
+  noted_rests (suc zero) name bytes some f left =
+      one_more left.0.old f (named (kind_of name) (number_of name)) bytes (rests left.0.old left.0.left) left.0.others left.1
+  noted_rests (suc (suc k)) name bytes some f left =
+      one_more left.0.old f (named (kind_of name) (number_of name)) bytes (rests left.0.old left.0.left) left.0.others left.1

@@ -5,4 +5,6 @@ pub mod Folders
 pub mod Moments
 pub mod Stops
 pub mod Memory
+pub mod Note
+pub mod Replay
 pub mod Fuses

@@ -1,21 +1,11 @@
 -- Names of files are the same or they are not.
-use Rattle.std.proofs.{Common.{◌≡◌, ◌≢◌, ◌⊎◌, inl, inr, ℕ, zero, suc, true, false, refl, sym, ap, ◌∙◌}, lemmas.Bool.cases_eq, lemmas.Bool.Decides.eqb_tells}
+use Rattle.std.proofs.{Common.{◌≡◌, ◌≢◌, ◌⊎◌, inl, inr, true, false, refl, sym, ap, ◌∙◌}, lemmas.Bool.cases_eq, lemmas.Bool.Decides.eqb_tells}
 use Rattle.std.specs.Prelude.{◌==◌, ◌&&◌}
-use Rattle.store_files.specs.{Names.{kind_of, number_of, same_name}, declared.name.FileName.FileName}
+use Rattle.store_files.specs.{Names.{kind_of, number_of, named, same_name}, declared.name.FileName.FileName}
 use Rattle.store_files.specs.declared.name.FileName.TheVariants.{Format, Kind, Uuid, Current, Locks, Revision, Properties, RepositoryFormat}
 
-named : ℕ → ℕ → FileName
-named zero n = Format
-named (suc zero) n = Kind
-named (suc (suc zero)) n = Uuid
-named (suc (suc (suc zero))) n = Current
-named (suc (suc (suc (suc zero)))) n = Locks
-named (suc (suc (suc (suc (suc zero))))) n = Revision n
-named (suc (suc (suc (suc (suc (suc zero)))))) n = Properties n
-named (suc (suc (suc (suc (suc (suc (suc k))))))) n = RepositoryFormat
-
-named_is : (a : FileName) → named (kind_of a) (number_of a) ≡ a
-unfolding named
+-- a name is that of its numbers
+pub named_is : (a : FileName) → named (kind_of a) (number_of a) ≡ a
 named_is Format = refl
 named_is Kind = refl
 named_is Uuid = refl

@@ -1,5 +1,5 @@
 //! A store that fails once.
-ghost use Rattle.std.specs.Prelude.{◌≡◌, ◌≤◌, ◌↔◌};
+ghost use Rattle.std.specs.Prelude.{◌≡◌, ◌⊎◌, ◌≤◌, ◌↔◌, Some};
 ghost use Rattle.store_files.specs.{Folders.{Folder, SameBut, Scribbled, Swapped}, Moments.Elapses, Fuses.{Burns, is_blown}};
 
 use crate::fault::StoreFault;
@@ -64,11 +64,20 @@ impl Fuse {
 
 /// A store that passes some calls of `write_new` and `replace` on, fails at the next one, and then
 /// passes all of them on again.
-#[derive(Drop)]
 pub struct FuseStore<S: Store> {
     inner: S,
     fuse: Fuse,
     left: Left,
+}
+
+impl<S: Store> Drop for FuseStore<S> {
+    fn drop(self) {
+        let FuseStore {
+            inner: _,
+            fuse: _,
+            left: _,
+        } = self;
+    }
 }
 
 impl<S: Store> FuseStore<S> {
@@ -94,7 +103,12 @@ impl<S: Store> FuseStore<S> {
     pub fn into_inner(self) -> S
         ensures { result ≡ self.inner }
     {
-        self.inner
+        let FuseStore {
+            inner,
+            fuse: _,
+            left: _,
+        } = self;
+        inner
     }
 }
 
@@ -125,6 +139,8 @@ fn leave_written<S: Store>(inner: &mut S, left: Left, name: FileName, bytes: &[u
 fn leave_replaced<S: Store>(inner: &mut S, left: Left, name: FileName, bytes: &[u8])
     ensures honest { S.is_honest inner.old ↔ S.is_honest inner.new }
     ensures others { S.is_honest inner.old → SameBut name (S.holds inner.old) (S.holds inner.new) }
+    ensures either { S.is_honest inner.old → (S.holds inner.new name ≡ S.holds inner.old name)
+        ⊎ (S.holds inner.new name ≡ Some bytes.now) }
     ensures stop { S.is_honest inner.old → (f : Folder) → S.may_leave inner.new f
         → Swapped (S.may_leave inner.old) name bytes.now f }
     ensures time { S.is_honest inner.old → Elapses (S.moment inner.old) (S.moment inner.new)

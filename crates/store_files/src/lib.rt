@@ -6,10 +6,12 @@ mod fault;
 mod fuse;
 mod memory;
 mod name;
+mod record;
 mod store;
 
 pub use fault::StoreFault;
 pub use fuse::{FuseStore, Left};
 pub use memory::MemoryStore;
 pub use name::FileName;
+pub use record::Record;
 pub use store::Store;

@@ -1,5 +1,5 @@
 //! The files of a repository, by their names.
-ghost use Rattle.std.specs.Prelude.{◌≡◌, ◌≤◌, ◌<◌, ◌↔◌, ℕ, Some, IfOk, OnOk, IsErrOf};
+ghost use Rattle.std.specs.Prelude.{◌≡◌, ◌⊎◌, ◌≤◌, ◌<◌, ◌↔◌, ℕ, Some, IfOk, OnOk, IsErrOf};
 ghost use Rattle.store_files.specs.{Folders.{Folder, IsSame, SameBut, Scribbled, Swapped, bytes_of}, Moments.{Elapses, HasCause, last_count}};
 
 use crate::fault::StoreFault;
@@ -63,6 +63,8 @@ pub trait Store: Drop {
         ensures written { is_honest self.old → OnOk result (holds self.new name ≡ Some bytes.now) }
         ensures refused { is_honest self.old → IsErrOf result StoreFault.NoMemory
             → IsSame (holds self.old) (holds self.new) }
+        ensures either { is_honest self.old → (holds self.new name ≡ holds self.old name)
+            ⊎ (holds self.new name ≡ Some bytes.now) }
         ensures stop { is_honest self.old → (f : Folder) → may_leave self.new f
             → Swapped (may_leave self.old) name bytes.now f }
         ensures kept { is_honest self.old → OnOk result ((f : Folder) → may_leave self.new f

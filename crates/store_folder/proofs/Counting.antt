@@ -3,7 +3,8 @@ use Rattle.std.proofs.{Common.{◌≡◌, inl, inr, ℕ, List, ◌∷◌, Result
 use Rattle.std.specs.Prelude.{◌+◌, ◌≤◌, min}
 use Rattle.store_files.specs.{Moments.{HasCause, HasRisen, last_count}, declared.fault.StoreFault.StoreFault}
 use Rattle.store_files.specs.declared.fault.StoreFault.TheVariants as faults
-use Rattle.store_folder.specs.{Note.Event, Answers.{fault_of, trouble_number, done_number, done_result}, Replay.{failed_in, count_after, failed_is}}
+use Rattle.store_files.specs.{Note.Event, Replay.{failed_in, count_after, failed_is}}
+use Rattle.store_folder.specs.Answers.{fault_of, trouble_number, done_number, done_result}
 use Rattle.store_folder.specs.{declared.folder.Trouble.Trouble, declared.folder.Trouble.TheVariants.{Device, NoMemory}}
 
 rises : (x : ℕ) → x ≤ last_count → HasRisen x (min (x + 1) last_count)

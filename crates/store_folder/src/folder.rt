@@ -1,31 +1,15 @@
 //! Files in a folder: each is on the disk before its call answers.
-ghost use Rattle.std.specs.Prelude.{◌≡◌, [], ◌∷◌, Result, Ok, Err, IfOk};
-ghost use Rattle.store_files.specs.{Folders.{Folder, IsSame}, Names.{kind_of, number_of}};
-ghost use Rattle.store_folder.specs.{Note.event_of, Replay.{Leaves, failed_in, held}, Answers.{fault_of, trouble_number, done_number, done_result}};
+ghost use Rattle.std.specs.Prelude.{◌≡◌, [], ◌∷◌, List, Result, Ok, Err, IfOk};
+ghost use Rattle.store_files.specs.{Folders.{Folder, IsSame}, Names.{kind_of, number_of}, Note.{Known, event_of, folder_of}, Replay.{Leaves, failed_in, held}};
+ghost use Rattle.store_folder.specs.Answers.{fault_of, trouble_number, done_number, done_result};
 
 use crate::lock::LockFolder;
-use crate::record::Record;
 use std::alloc::{AllocError, Global};
 use std::fs::{self, File, OpenFile};
 use std::io::{self, ErrorKind, Write};
-use std::marker::PhantomData;
 use std::rt::Files;
-use store_files::{FileName, Store, StoreFault};
+use store_files::{FileName, Record, Store, StoreFault};
 use thiserror::Error;
-
-/// What a folder held when it was opened. Only clauses read it.
-pub trait Held {
-    ghost held: { Folder };
-}
-
-/// A folder of which nothing is known.
-pub struct Unknown;
-
-impl Held for Unknown {
-    ghost use Rattle.store_files.specs.Folders.{nothing};
-
-    ghost held = { nothing };
-}
 
 const READ: u64 = 0;
 
@@ -80,31 +64,45 @@ impl From<Trouble> for FolderFault {
 }
 
 /// The files of a repository in a folder, which no other store has as long as this one has it.
-#[derive(Drop)]
-pub struct FolderStore<R: Files + AllocGlobal + LockFolder + Drop, H: Held> {
+pub struct FolderStore<R: Files + AllocGlobal + LockFolder + Drop> {
     rt: R,
     folder: String,
     /// The lock of the folder, which ends with this value, and so with its process.
     lock: R::Lock,
     failures: u64,
-    held: PhantomData<H>,
     log: Record,
     ghost counted: { failures ≡ failed_in log.events },
 }
 
-impl<R: Files + AllocGlobal + LockFolder + Drop, H: Held> FolderStore<R, H> {
-    /// Opens the files in a folder that exists. A stop that comes at once leaves them as they are.
+impl<R: Files + AllocGlobal + LockFolder + Drop> Drop for FolderStore<R> {
+    fn drop(self) {
+        let FolderStore {
+            rt: _,
+            folder: _,
+            lock: _,
+            failures: _,
+            log: _,
+        } = self;
+    }
+}
+
+impl<R: Files + AllocGlobal + LockFolder + Drop> FolderStore<R> {
+    /// Opens the files in a folder that exists, whatever files were there. A stop that comes at once leaves them as they
+    /// are.
     pub fn open(rt: R, folder: String) -> Result<Self, FolderFault>
+        ghost was: { List Known }
+        ensures start { IfOk result (λ store. (store.log.start ≡ was) × (store.log.events ≡ [])) }
         ensures rests { IfOk result (λ store. (f : Folder)
-            → Leaves H.held store.log.events f → IsSame (held H.held store.log.events) f) }
+            → Leaves (folder_of store.log.start) store.log.events f
+            → IsSame (held (folder_of store.log.start) store.log.events) f) }
     {
         let lock = locked(&rt, &folder)?;
+        settle_names(&rt, &folder)?;
         Ok(FolderStore {
             rt,
             folder,
             lock,
             failures: 0,
-            held: PhantomData,
             log: Record::new(),
         })
     }
@@ -112,8 +110,11 @@ impl<R: Files + AllocGlobal + LockFolder + Drop, H: Held> FolderStore<R, H> {
     /// Opens the files in a folder, which is made where it is missing. A stop that comes at once leaves them as they
     /// are.
     pub fn make(rt: R, folder: String) -> Result<Self, FolderFault>
+        ghost was: { List Known }
+        ensures start { IfOk result (λ store. (store.log.start ≡ was) × (store.log.events ≡ [])) }
         ensures rests { IfOk result (λ store. (f : Folder)
-            → Leaves H.held store.log.events f → IsSame (held H.held store.log.events) f) }
+            → Leaves (folder_of store.log.start) store.log.events f
+            → IsSame (held (folder_of store.log.start) store.log.events) f) }
     {
         make_root(&rt, &folder)?;
         FolderStore::open(rt, folder)
@@ -128,6 +129,7 @@ impl<R: Files + AllocGlobal + LockFolder + Drop, H: Held> FolderStore<R, H> {
         answer: Result<(), Trouble>,
     ) -> Result<(), StoreFault>
         ensures result { result ≡ done_result answer }
+        ensures start { self.new.log.start ≡ self.old.log.start }
         ensures log { self.new.log.events ≡ event_of (call ∷ kind_of name ∷ number_of name
             ∷ done_number answer ∷ []) bytes.now ∷ self.old.log.events }
     {
@@ -144,7 +146,8 @@ impl<R: Files + AllocGlobal + LockFolder + Drop, H: Held> FolderStore<R, H> {
 
     /// Notes an answer, and counts it where the device failed.
     fn count(&mut self, call: u64, name: FileName, number: u64, bytes: &[u8])
-        ensures { self.new.log.events ≡ event_of (call ∷ kind_of name ∷ number_of name ∷ number ∷ [])
+        ensures start { self.new.log.start ≡ self.old.log.start }
+        ensures log { self.new.log.events ≡ event_of (call ∷ kind_of name ∷ number_of name ∷ number ∷ [])
             bytes.now ∷ self.old.log.events }
     {
         let kind = u64::from(name.kind());
@@ -217,16 +220,58 @@ fn read_file<R: Files + AllocGlobal>(rt: &R, path: &str) -> Result<Option<Vec<u8
     }
 }
 
-/// Writes a file and waits until the disk has it.
-fn write_file<R: Files>(rt: &R, path: &str, bytes: &[u8]) -> Result<(), Trouble> {
-    let mut file = File::create(rt, path)?;
+/// Removes a file that could not be written, as far as that can be done: what is left of it is of no use. The answer is
+/// handed on.
+fn removed_unless_written<R: Files>(
+    rt: &R,
+    path: &str,
+    written: Result<(), Trouble>,
+) -> Result<(), Trouble> {
+    if written.is_err() {
+        let _removed = fs::remove_file(rt, path);
+    }
+    written
+}
+
+/// Puts these bytes into a file that was just made, and waits until the disk has them.
+fn fill_file<F: Write + OpenFile + Drop>(mut file: F, bytes: &[u8]) -> Result<(), Trouble> {
     file.write_all(bytes)?;
     Ok(file.sync_all()?)
+}
+
+/// Writes a file and waits until the disk has it. One that could not be written is removed.
+fn write_file<R: Files>(rt: &R, path: &str, bytes: &[u8]) -> Result<(), Trouble> {
+    let file = File::create(rt, path)?;
+    removed_unless_written(rt, path, fill_file(file, bytes))
 }
 
 /// Waits until the disk has the names in a folder.
 fn sync_folder<R: Files>(rt: &R, folder: &str) -> Result<(), Trouble> {
     Ok(File::open(rt, folder)?.sync_all()?)
+}
+
+/// Waits until the disk has the names in a folder that exists. That a file system cannot do so is no fault.
+fn settle_folder<R: Files>(rt: &R, folder: &str) -> Result<(), Trouble> {
+    match File::open(rt, folder)?.sync_all() {
+        Ok(()) => Ok(()),
+        Err(error)
+            if matches!(
+                error.kind(),
+                ErrorKind::ReadOnlyFilesystem | ErrorKind::InvalidInput
+            ) => Ok(()),
+        Err(error) => Err(Trouble::from(error)),
+    }
+}
+
+/// Waits until the disk has the names of the files that a server may have put in their places just before it was stopped:
+/// `current` and the locks, and the properties of revisions.
+fn settle_names<R: Files + AllocGlobal>(rt: &R, folder: &str) -> Result<(), Trouble> {
+    settle_folder(rt, folder)?;
+    let properties = format!(in rt.alloc(); "{folder}/revprops")?;
+    if fs::exists(rt, properties.as_str())? {
+        settle_folder(rt, &properties)?;
+    }
+    Ok(())
 }
 
 /// Takes the lock of a folder, unless another store has it.
@@ -235,6 +280,19 @@ fn locked<R: LockFolder>(rt: &R, folder: &str) -> Result<R::Lock, FolderFault> {
         Ok(Some(lock)) => Ok(lock),
         Ok(None) => Err(FolderFault::InUse),
         Err(error) => Err(FolderFault::from(Trouble::from(error))),
+    }
+}
+
+/// Makes sure that the folder of this name is still the one that a store has locked: a lock that is granted is one of
+/// another folder, which was put in its place.
+fn is_still_locked<R: LockFolder>(rt: &R, folder: &str) -> Result<(), Trouble> {
+    match rt.lock_folder(folder) {
+        Ok(None) => Ok(()),
+        Ok(Some(lock)) => {
+            std::mem::drop(lock);
+            Err(Trouble::Device)
+        }
+        Err(error) => Err(Trouble::from(error)),
     }
 }
 
@@ -248,17 +306,17 @@ fn make_root<R: Files + AllocGlobal>(rt: &R, folder: &str) -> Result<(), Trouble
     sync_folder(rt, &above)
 }
 
-/// Makes a folder, and those above it, and waits until the disk has their names.
+/// Makes a folder in that of a store, which exists, and waits until the disk has its name.
 fn make_folder<R: Files>(rt: &R, root: &str, folder: &str) -> Result<(), Trouble> {
     if fs::exists(rt, folder)? {
         return Ok(());
     }
-    fs::create_dir_all(rt, folder)?;
+    fs::create_dir(rt, folder)?;
     sync_folder(rt, root)
 }
 
-/// Writes a file, in place of one that is there.
-fn write_new<R: Files + AllocGlobal>(
+/// Writes a file, in place of one that is there. One that could not be written is removed.
+fn write_new<R: Files + AllocGlobal + LockFolder>(
     rt: &R,
     root: &str,
     name: FileName,
@@ -266,13 +324,26 @@ fn write_new<R: Files + AllocGlobal>(
 ) -> Result<(), Trouble> {
     let folder = folder_path(rt.alloc(), root, name)?;
     let path = file_path(rt.alloc(), &folder, name)?;
+    is_still_locked(rt, root)?;
     make_folder(rt, root, &folder)?;
     write_file(rt, &path, bytes)?;
-    sync_folder(rt, &folder)
+    removed_unless_written(rt, &path, sync_folder(rt, &folder))
+}
+
+/// Puts a file that was written in the place of one. Whatever fails here, nobody knows which of the two is there: so it is
+/// the device that failed, also where the system says that it has no memory.
+fn put_in_place<R: Files>(rt: &R, new: &str, path: &str, folder: &str) -> Result<(), Trouble> {
+    if fs::rename(rt, new, path).is_err() {
+        return removed_unless_written(rt, new, Err(Trouble::Device));
+    }
+    match sync_folder(rt, folder) {
+        Ok(()) => Ok(()),
+        Err(_) => Err(Trouble::Device),
+    }
 }
 
 /// Puts a file with these bytes in the place of one.
-fn replace<R: Files + AllocGlobal>(
+fn replace<R: Files + AllocGlobal + LockFolder>(
     rt: &R,
     root: &str,
     name: FileName,
@@ -281,33 +352,34 @@ fn replace<R: Files + AllocGlobal>(
     let folder = folder_path(rt.alloc(), root, name)?;
     let path = file_path(rt.alloc(), &folder, name)?;
     let new = format!(in rt.alloc(); "{path}.new")?;
+    is_still_locked(rt, root)?;
     make_folder(rt, root, &folder)?;
     write_file(rt, &new, bytes)?;
-    fs::rename(rt, new.as_str(), path.as_str())?;
-    sync_folder(rt, &folder)
+    put_in_place(rt, &new, &path, &folder)
 }
 
-impl<R: Files + AllocGlobal + LockFolder + Drop, H: Held> Store for FolderStore<R, H> {
+impl<R: Files + AllocGlobal + LockFolder + Drop> Store for FolderStore<R> {
     ghost use Rattle.std.specs.Prelude.{length};
-    ghost use Rattle.store_folder.specs.Replay.{held, Leaves, LeftSince, IsHonest, failed_in, doubts_in, leaves_now, left_now, failed_is};
+    ghost use Rattle.store_files.specs.Note.{folder_of};
+    ghost use Rattle.store_files.specs.Replay.{held, Leaves, LeftSince, IsHonest, failed_in, doubts_in, leaves_now, left_now, failed_is};
 
-    ghost is_honest = { λ s. IsHonest H.held s.log.events };
+    ghost is_honest = { λ s. IsHonest (folder_of s.log.start) s.log.events };
 
-    ghost holds = { λ s. held H.held s.log.events };
+    ghost holds = { λ s. held (folder_of s.log.start) s.log.events };
 
-    ghost may_leave = { λ s. Leaves H.held s.log.events };
+    ghost may_leave = { λ s. Leaves (folder_of s.log.start) s.log.events };
 
     ghost moment = { λ s. length s.log.events };
 
-    ghost left_since = { λ s. LeftSince H.held s.log.events };
+    ghost left_since = { λ s. LeftSince (folder_of s.log.start) s.log.events };
 
     ghost failed = { λ s. failed_in s.log.events };
 
     ghost in_doubt = { λ s. doubts_in s.log.events };
 
-    ghost counts_now = { λ s t f _ le now. leaves_now H.held s.log.events t f le now };
+    ghost counts_now = { λ s t f _ le now. leaves_now (folder_of s.log.start) s.log.events t f le now };
 
-    ghost only_now = { λ s f _ left. left_now H.held s.log.events f left };
+    ghost only_now = { λ s f _ left. left_now (folder_of s.log.start) s.log.events f left };
 
     ghost is_count = { λ s. failed_is s.log.events };
 

@@ -3,9 +3,8 @@
 
 mod folder;
 mod lock;
-mod record;
 
-pub use folder::{FolderFault, FolderStore, Held, Unknown};
+pub use folder::{FolderFault, FolderStore};
 pub use lock::LockFolder;
 
 #[cfg(test)]
@@ -20,7 +19,7 @@ mod tests {
     #[test]
     fn files_come_back(rt: HostRuntime) -> Result<(), Fail> {
         let alloc = rt.alloc();
-        let mut store: FolderStore<HostRuntime, Unknown> = FolderStore::make(rt, name(alloc)?)?;
+        let mut store: FolderStore<HostRuntime> = FolderStore::make(rt, name(alloc)?)?;
         assert!(rt; store.read(alloc, FileName::Current)?.is_none());
         store.write_new(FileName::Revision(0), b"zero")?;
         store.write_new(FileName::Properties(0), b"END\n")?;
@@ -42,14 +41,14 @@ mod tests {
     /// A folder has one store at a time.
     #[test]
     fn a_second_store_is_refused(rt: HostRuntime) -> Result<(), Fail> {
-        let first: FolderStore<HostRuntime, Unknown> = FolderStore::make(rt, name(rt.alloc())?)?;
-        let second: Result<FolderStore<HostRuntime, Unknown>, FolderFault> = FolderStore::open(
+        let first: FolderStore<HostRuntime> = FolderStore::make(rt, name(rt.alloc())?)?;
+        let second: Result<FolderStore<HostRuntime>, FolderFault> = FolderStore::open(
             rt,
             name(rt.alloc())?,
         );
         assert!(rt; matches!(second, Err(FolderFault::InUse)));
         std::mem::drop(first);
-        let third: FolderStore<HostRuntime, Unknown> = FolderStore::open(rt, name(rt.alloc())?)?;
+        let third: FolderStore<HostRuntime> = FolderStore::open(rt, name(rt.alloc())?)?;
         assert!(rt; third.failures() == 0);
         Ok(())
     }
@@ -57,11 +56,27 @@ mod tests {
     /// A folder that is missing is not made by opening it.
     #[test]
     fn a_missing_folder_is_not_opened(rt: HostRuntime) -> Result<(), Fail> {
-        let opened: Result<FolderStore<HostRuntime, Unknown>, FolderFault> = FolderStore::open(
+        let opened: Result<FolderStore<HostRuntime>, FolderFault> = FolderStore::open(
             rt,
             name(rt.alloc())?,
         );
         assert!(rt; matches!(opened, Err(FolderFault::Device)));
+        Ok(())
+    }
+
+    /// Where another folder was put in the place of a store's, nothing is written into it.
+    #[test]
+    fn another_folder_is_left_alone(rt: HostRuntime) -> Result<(), Fail> {
+        let mut store: FolderStore<HostRuntime> = FolderStore::make(rt, name(rt.alloc())?)?;
+        store.write_new(FileName::Revision(0), b"zero")?;
+        fs::rename(&rt, "repo", "moved")?;
+        assert!(rt; store.write_new(FileName::Revision(1), b"one").is_err());
+        assert!(rt; !fs::exists(&rt, "repo")?);
+        fs::create_dir_all(&rt, "repo/db/revs")?;
+        assert!(rt; store.write_new(FileName::Revision(1), b"one").is_err());
+        assert!(rt; store.replace(FileName::Current, b"1 2 1\n").is_err());
+        assert!(rt; !fs::exists(&rt, "repo/db/revs/1")? && !fs::exists(&rt, "repo/db/current")?);
+        assert!(rt; store.failures() == 3);
         Ok(())
     }
 

@@ -12,13 +12,24 @@ use std::sync::Arc;
 ///
 /// It keeps the base, which it shares with whoever gave it, the text of the windows so far, and the bytes of the window
 /// that isn't whole yet.
-#[derive(Drop)]
 pub struct Applier {
     alloc: Global,
     base: Arc<Vec<u8>>,
     text: Target,
     rest: BytesMut,
     stage: Stage,
+}
+
+impl Drop for Applier {
+    fn drop(self) {
+        let Applier {
+            alloc: _,
+            base: _,
+            text: _,
+            rest: _,
+            stage: _,
+        } = self;
+    }
 }
 
 impl Model for Applier {

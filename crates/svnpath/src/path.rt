@@ -19,9 +19,15 @@ use std::marker::Model;
 ///
 /// `parse`, `join` and `from_url` make right paths only. `child` and `rebased` make a path of any
 /// components and of any depth, as the trees above need them.
-#[derive(Debug, Drop)]
+#[derive(Debug)]
 pub struct Path {
     components: Vec<ByteString>,
+}
+
+impl Drop for Path {
+    fn drop(self) {
+        let Path { components: _ } = self;
+    }
 }
 
 impl Model for Path {

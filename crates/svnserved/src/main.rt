@@ -8,10 +8,10 @@ mod sharing;
 use command_line::{CommandLineFault, Location, Order, Service, read_command_line};
 use fault::ProgramFault;
 use filed_opening::FolderRepository;
-use folder_hub::FolderHub;
+use folder_hub::{FolderHub, hub_over};
 use hub::{HubFault, Options, is_repository_name};
 use published::NewHistory;
-use repositories::{DiskStore, create_in_folder, empty_hub, folder_hub, open_folder};
+use repositories::{DiskStore, create_in_folder, empty_hub, open_folder};
 use serving::{Settings, SystemEnvs, read_settings};
 use sharing::serve_shared;
 use std::alloc::Global;
@@ -77,7 +77,10 @@ fn serve_stdio(
 ) -> Result<(), ProgramFault> {
     match location {
         Location::Memory => serve(rt, empty_hub(rt.alloc(), options)?),
-        Location::Folder(folder) => serve(rt, folder_hub(rt, folder, options)?),
+        Location::Folder(folder) => match open_folder(rt, folder) {
+            Ok(stored) => serve(rt, hub_over(rt.alloc(), stored, options)),
+            Err(fault) => Err(fault),
+        },
     }
 }
 
@@ -107,7 +110,7 @@ fn prepare(
 ) -> Result<(Settings, FolderRepository<DiskStore>), ProgramFault> {
     let settings = read_settings(rt, rt.alloc(), service)?;
     match &service.location {
-        Location::Folder(folder) => Ok((settings, open_folder(rt, folder.as_str())?)),
+        Location::Folder(folder) => Ok((settings, open_folder(rt, folder)?)),
         Location::Memory => Err(not_served(rt.alloc(), "error: DIR of `serve` is a folder\n")),
     }
 }

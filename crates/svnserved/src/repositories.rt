@@ -1,9 +1,13 @@
 //! The repositories that are made and served.
-ghost use Rattle.store_files.specs.Folders.{Folder, IsSame};
+ghost use Rattle.std.specs.Prelude.{List, IfOk};
+ghost use Rattle.store_files.specs.{Folders.{Folder, IsSame}, Note.{Known, folder_of}};
+ghost use Rattle.store_access.specs.Stored.{IsOpened};
+ghost use Rattle.filed_world.specs.Files.{filed_content};
+ghost use Rattle.folder_hub.specs.Opening.{IsFoundIn};
 
 use crate::fault::ProgramFault;
 use filed_opening::{FolderRepository, create, open};
-use folder_hub::{FolderHub, open_hub};
+use folder_hub::{FolderHub, hub_over};
 use hub::Options;
 use rand::rngs::StdRng;
 use serving::moment_now;
@@ -11,11 +15,11 @@ use std::alloc::{AllocError, Global};
 use std::fs;
 use std::io::ErrorKind;
 use store_files::{MemoryStore, Store, StoreFault};
-use store_folder::{FolderStore, Unknown};
+use store_folder::FolderStore;
 use uuid::Uuid;
 
 /// The files of a repository in a folder of the system.
-pub type DiskStore = FolderStore<HostRuntime, Unknown>;
+pub type DiskStore = FolderStore<HostRuntime>;
 
 /// The UUID of an empty repository in memory.
 const EMPTY_UUID: u128 = 0x0000_0000_0000_4000_8000_0000_0000_0000;
@@ -39,16 +43,6 @@ pub fn create_in_folder(rt: &HostRuntime, folder: &str) -> Result<(), ProgramFau
     Ok(())
 }
 
-/// Opens a repository, and gives the hub over it.
-fn opened<S: Store>(alloc: Global, store: S, options: Options) -> Result<FolderHub<S>, ProgramFault>
-    requires { S.is_honest store → (f : Folder) → S.may_leave store f → IsSame (S.holds store) f }
-{
-    match open_hub(alloc, store, options) {
-        Ok(hub) => Ok(hub),
-        Err(unopened) => Err(ProgramFault::Store(unopened.fault)),
-    }
-}
-
 /// Says whether a folder exists.
 fn is_there(rt: &HostRuntime, folder: &str) -> Result<bool, ProgramFault> {
     match fs::exists(rt, folder) {
@@ -60,29 +54,10 @@ fn is_there(rt: &HostRuntime, folder: &str) -> Result<bool, ProgramFault> {
     }
 }
 
-/// Makes a hub over the repository in a folder.
-pub fn folder_hub(
-    rt: &HostRuntime,
-    folder: &str,
-    options: Options,
-) -> Result<FolderHub<DiskStore>, ProgramFault> {
-    let files = files_folder(rt.alloc(), folder)?;
-    if !is_there(rt, files.as_str())? {
-        return Err(ProgramFault::Missing);
-    }
-    opened(rt.alloc(), FolderStore::open(*rt, files)?, options)
-}
-
-/// Makes a hub over an empty repository in memory.
-pub fn empty_hub(alloc: Global, options: Options) -> Result<FolderHub<MemoryStore>, ProgramFault> {
-    let mut store = MemoryStore::new(alloc);
-    create(alloc, &mut store, EMPTY_UUID, 0)?;
-    opened(alloc, store, options)
-}
-
 /// Opens a repository, which nobody else has.
-fn opened_alone<S: Store>(alloc: Global, store: S) -> Result<FolderRepository<S>, ProgramFault>
+fn opened<S: Store>(alloc: Global, store: S) -> Result<FolderRepository<S>, ProgramFault>
     requires { S.is_honest store → (f : Folder) → S.may_leave store f → IsSame (S.holds store) f }
+    ensures { IfOk result (IsOpened store) }
 {
     match open(alloc, store) {
         Ok(stored) => Ok(stored),
@@ -90,14 +65,31 @@ fn opened_alone<S: Store>(alloc: Global, store: S) -> Result<FolderRepository<S>
     }
 }
 
-/// Opens the repository in a folder.
+/// Opens the repository in a folder: whatever files were there, it contains what they stand for, where a read has not
+/// shown that they are not honest.
 pub fn open_folder(
     rt: &HostRuntime,
-    folder: &str,
-) -> Result<FolderRepository<DiskStore>, ProgramFault> {
+    folder: &String,
+) -> Result<FolderRepository<DiskStore>, ProgramFault>
+    ghost was: { List Known }
+    ensures { IfOk result (λ stored. ⟦<DiskStore as Store>⟧.is_honest stored.saves.store
+        → IsFoundIn (folder_of was) (filed_content stored.repository)) }
+{
     let files = files_folder(rt.alloc(), folder)?;
-    if !fs::exists(rt, files.as_str())? {
+    if !is_there(rt, files.as_str())? {
         return Err(ProgramFault::Missing);
     }
-    opened_alone(rt.alloc(), FolderStore::open(*rt, files)?)
+    let store = FolderStore::open(*rt, files)?;
+    opened(rt.alloc(), store)
+}
+
+/// Makes a hub over an empty repository in memory.
+pub fn empty_hub(alloc: Global, options: Options) -> Result<FolderHub<MemoryStore>, ProgramFault> {
+    let mut store = MemoryStore::new(alloc);
+    create(alloc, &mut store, EMPTY_UUID, 0)?;
+    store.is_at_rest();
+    match opened(alloc, store) {
+        Ok(stored) => Ok(hub_over(alloc, stored, options)),
+        Err(fault) => Err(fault),
+    }
 }

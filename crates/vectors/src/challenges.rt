@@ -8,6 +8,22 @@ const MESSAGE: &[u8] = b"<1896.697170952@postoffice.reston.mci.net>";
 
 const USERS: &[u8] = b"[users]\ntim = tanstaaftanstaaf\nann = other\n";
 
+/// Says whether this message has this digest under this key.
+fn has_digest(alloc: Global, key: &[u8], message: &[u8], digits: &str) -> Result<bool, AllocError> {
+    let found = hex::encode(alloc, &hmac_md5(key, message))?;
+    Ok(found.as_str() == digits)
+}
+
+/// Says whether each message has its digest under its key.
+fn have_digests(alloc: Global, cases: &[(&[u8], &[u8], &str)]) -> Result<bool, AllocError> {
+    for (key, message, digits) in cases {
+        if !has_digest(alloc, key, message, digits)? {
+            return Ok(false);
+        }
+    }
+    Ok(true)
+}
+
 // The vectors of RFC 2202, the first three of which are RFC 2104's too; RFC 2195's example; and what
 // Python's `hmac` says of keys as long as a block, or nearly so.
 #[test]
@@ -50,24 +66,39 @@ fn digests_messages(rt: HostRuntime) -> Result<(), Fail> {
         (&[b'k'; 65], MESSAGE, "c26f650abcb485a907fa679a2807bdac"),
         (&[b'k'; 200], MESSAGE, "9c4918e089486d861286d6aa8979860d"),
     ];
-    for (key, message, digits) in cases {
-        let found = hex::encode(rt.alloc(), &hmac_md5(key, message))?;
-        assert_eq!(rt; found.as_str(), digits);
-    }
+    assert!(rt; have_digests(rt.alloc(), &cases)?);
     Ok(())
+}
+
+/// Says whether this answer lets in the user of this name.
+fn is_let_in(
+    alloc: Global,
+    challenge: &Challenge,
+    users: &Users,
+    answer: &[u8],
+    name: &[u8],
+) -> Result<bool, CramFault> {
+    let user = challenge.check(alloc, answer, users)?;
+    Ok(user.name() == name && user.into_name().as_slice() == name)
+}
+
+/// Says whether the example's challenge is its message, and lets in each user by its answer.
+fn is_example(alloc: Global) -> Result<bool, CramFault> {
+    let users = Users::read(alloc, USERS)?;
+    let challenge = Challenge::new(alloc, 1896, 697170952, NAME)?;
+    let tim = b"tim b913a602c7eda7a495b4e6e7334d3890";
+    let ann = b"ann 128c3ed34fb58bde905f34df2e9968fe";
+    Ok(
+        challenge.text().as_bytes() == MESSAGE
+            && is_let_in(alloc, &challenge, &users, tim, b"tim")?
+            && is_let_in(alloc, &challenge, &users, ann, b"ann")?,
+    )
 }
 
 // RFC 2195's example, and answers that are wrong in one place.
 #[test]
 fn checks_answers(rt: HostRuntime) -> Result<(), Fail> {
-    let users = Users::read(rt.alloc(), USERS)?;
-    let challenge = Challenge::new(rt.alloc(), 1896, 697170952, NAME)?;
-    assert_eq!(rt; challenge.text().as_bytes(), MESSAGE);
-    let tim = challenge.check(rt.alloc(), b"tim b913a602c7eda7a495b4e6e7334d3890", &users)?;
-    assert_eq!(rt; tim.name(), b"tim".as_slice());
-    assert_eq!(rt; tim.into_name().as_slice(), b"tim".as_slice());
-    let ann = challenge.check(rt.alloc(), b"ann 128c3ed34fb58bde905f34df2e9968fe", &users)?;
-    assert_eq!(rt; ann.name(), b"ann".as_slice());
+    assert!(rt; is_example(rt.alloc())?);
     Ok(())
 }
 
@@ -76,6 +107,16 @@ fn fault_of(alloc: Global, answer: &[u8]) -> Option<CramFault> {
     let users = Users::read(alloc, USERS).ok()?;
     let challenge = Challenge::new(alloc, 1896, 697170952, NAME).ok()?;
     challenge.check(alloc, answer, &users).err()
+}
+
+/// Says whether each answer is refused, by its fault.
+fn are_refused(alloc: Global, answers: &[(&[u8], CramFault)]) -> bool {
+    for (answer, fault) in answers {
+        if fault_of(alloc, answer) != Some(*fault) {
+            return false;
+        }
+    }
+    true
 }
 
 #[test]
@@ -146,12 +187,10 @@ fn refuses_answers(rt: HostRuntime) {
             CramFault::WrongPassword,
         ),
     ];
-    for (answer, fault) in wrong {
-        assert_eq!(rt; fault_of(rt.alloc(), answer), Some(fault), "{answer:?}");
-    }
+    assert!(rt; are_refused(rt.alloc(), &wrong));
 }
 
-// The answer of a user with this password.
+/// Makes the answer of a user with this password.
 fn answer_of(
     alloc: Global,
     challenge: &Challenge,
@@ -165,7 +204,7 @@ fn answer_of(
     Ok(answer)
 }
 
-// Whether the user of this name and password is let in, under that name.
+/// Says whether the user of this name and password is let in, under that name.
 fn is_user(
     alloc: Global,
     challenge: &Challenge,
@@ -176,6 +215,30 @@ fn is_user(
     let answer = answer_of(alloc, challenge, name, password)?;
     let user = challenge.check(alloc, answer.as_slice(), users)?;
     Ok(user.name() == name)
+}
+
+/// Says whether a file has a user of this name and password, and nobody else by that password.
+fn has_user(
+    alloc: Global,
+    challenge: &Challenge,
+    file: &[u8],
+    name: &[u8],
+    password: &[u8],
+) -> Result<bool, CramFault> {
+    let users = Users::read(alloc, file)?;
+    let nobody = is_user(alloc, challenge, &users, b"nobody", password).err();
+    Ok(nobody == Some(CramFault::UnknownUser) && is_user(alloc, challenge, &users, name, password)?)
+}
+
+/// Says whether each file has its user.
+fn have_users(alloc: Global, cases: &[(&[u8], &[u8], &[u8])]) -> Result<bool, CramFault> {
+    let challenge = Challenge::new(alloc, 1896, 697170952, NAME)?;
+    for (file, name, password) in cases {
+        if !has_user(alloc, &challenge, file, name, password)? {
+            return Ok(false);
+        }
+    }
+    Ok(true)
 }
 
 // Each file with a user that it has.
@@ -197,28 +260,34 @@ fn reads_users(rt: HostRuntime) -> Result<(), Fail> {
         ),
         (b"[users]\ntim = x\ry\r", b"tim", b"x\ry\r"),
     ];
-    let challenge = Challenge::new(rt.alloc(), 1896, 697170952, NAME)?;
-    for (file, name, password) in cases {
-        let users = Users::read(rt.alloc(), file)?;
-        assert!(rt;
-            is_user(rt.alloc(), &challenge, &users, name, password)?,
-            "{file:?}"
-        );
-        let nobody = is_user(rt.alloc(), &challenge, &users, b"nobody", password).err();
-        assert_eq!(rt; nobody, Some(CramFault::UnknownUser), "{file:?}");
-    }
+    assert!(rt; have_users(rt.alloc(), &cases)?);
     Ok(())
+}
+
+/// Says whether each text is a file of users.
+fn are_files(alloc: Global, texts: &[&str]) -> bool {
+    for text in texts {
+        if Users::read(alloc, text.as_bytes()).is_err() {
+            return false;
+        }
+    }
+    true
 }
 
 #[test]
 fn reads_files_without_users(rt: HostRuntime) {
-    for file in ["", "[users]", "\n\n", "# none\r\n[users]\r\n"] {
-        assert_eq!(rt;
-            Users::read(rt.alloc(), file.as_bytes()).err(),
-            None,
-            "{file:?}"
-        );
+    let texts = ["", "[users]", "\n\n", "# none\r\n[users]\r\n"];
+    assert!(rt; are_files(rt.alloc(), &texts));
+}
+
+/// Says whether each file is refused at its line.
+fn are_refused_at(alloc: Global, cases: &[(&[u8], usize)]) -> bool {
+    for (file, line) in cases {
+        if Users::read(alloc, file).err() != Some(CramFault::BadUsers(*line)) {
+            return false;
+        }
     }
+    true
 }
 
 // Each file with its first line that breaks a rule.
@@ -243,10 +312,7 @@ fn refuses_lines(rt: HostRuntime) {
         (b" # no comment\n", 1),
         (b"[users]\r\ntim = x\r\nann\r\ntim = y\r\n", 3),
     ];
-    for (file, line) in cases {
-        let fault = Users::read(rt.alloc(), file).err();
-        assert_eq!(rt; fault, Some(CramFault::BadUsers(line)), "{file:?}");
-    }
+    assert!(rt; are_refused_at(rt.alloc(), &cases));
 }
 
 /// Makes a users file of one user: the section's line, and `name = password` with no line feed after it.
@@ -258,13 +324,13 @@ fn file_of(alloc: Global, name: &[u8], password: &[u8]) -> Result<Vec<u8>, Alloc
     Ok(file)
 }
 
-// What refuses a file with this user, if anything does.
+/// Says what refuses a file with this user, if anything does.
 fn file_fault(alloc: Global, name: &[u8], password: &[u8]) -> Option<CramFault> {
     let file = file_of(alloc, name, password).ok()?;
     Users::read(alloc, file.as_slice()).err()
 }
 
-// The answer of the longest name and password to the example's challenge, behind these bytes.
+/// Makes the answer of the longest name and password to the example's challenge, behind these bytes.
 fn longest_answer(alloc: Global, front: &[u8], name: &[u8]) -> Result<Vec<u8>, AllocError> {
     let mut answer = Vec::from_slice(alloc, front)?;
     answer.extend_from_slice(name)?;
@@ -272,7 +338,7 @@ fn longest_answer(alloc: Global, front: &[u8], name: &[u8]) -> Result<Vec<u8>, A
     Ok(answer)
 }
 
-// Whether an answer of the longest name, behind these bytes, lets in that name, or why it does not.
+/// Says whether an answer of the longest name, behind these bytes, lets in that name, or why it does not.
 fn lets_longest_in(alloc: Global, front: &[u8]) -> Result<bool, CramFault> {
     let letters = [b'k'; 255];
     let file = file_of(alloc, &letters, &letters)?;
@@ -283,28 +349,39 @@ fn lets_longest_in(alloc: Global, front: &[u8]) -> Result<bool, CramFault> {
     Ok(user.name() == letters.as_slice())
 }
 
+/// Says whether a name and a password of 256 bytes are refused.
+fn are_too_long(alloc: Global) -> bool {
+    let letters = [b'k'; 256];
+    file_fault(alloc, &letters, b"x") == Some(CramFault::BadUsers(2))
+        && file_fault(alloc, b"tim", &letters) == Some(CramFault::BadUsers(2))
+}
+
 // A name and a password have at most 255 bytes.
 #[test]
 fn limits_lengths(rt: HostRuntime) {
-    let letters = [b'k'; 256];
-    let cases: [(&[u8], &[u8]); 2] = [(&letters, b"x"), (b"tim", &letters)];
-    for (name, password) in cases {
-        let fault = file_fault(rt.alloc(), name, password);
-        assert_eq!(rt; fault, Some(CramFault::BadUsers(2)));
-    }
-    assert_eq!(rt; lets_longest_in(rt.alloc(), b""), Ok(true));
-    assert_eq!(rt;
-        lets_longest_in(rt.alloc(), b"k"),
-        Err(CramFault::MalformedAnswer)
-    );
+    let alloc = rt.alloc();
+    assert!(rt; are_too_long(alloc));
+    assert!(rt; lets_longest_in(alloc, b"") == Ok(true));
+    assert!(rt; lets_longest_in(alloc, b"k") == Err(CramFault::MalformedAnswer));
+}
+
+/// Says whether a challenge of these numbers for `r` has this text.
+fn is_challenge(alloc: Global, nonce: u64, moment: u64, text: &str) -> Result<bool, CramFault> {
+    let challenge = Challenge::new(alloc, nonce, moment, "r")?;
+    Ok(challenge.text() == text)
+}
+
+/// Says whether this fault has this text.
+fn is_fault(alloc: Global, fault: CramFault, text: &str) -> Result<bool, Fail> {
+    let found = format!(in alloc; "{fault}")?;
+    Ok(found.as_str() == text)
 }
 
 // The numbers of a challenge may be as large as they come, and the faults say nothing of a password.
 #[test]
 fn prints(rt: HostRuntime) -> Result<(), Fail> {
-    let challenge = Challenge::new(rt.alloc(), u64::MAX, 0, "r")?;
-    assert_eq!(rt; challenge.text(), "<18446744073709551615.0@r>");
-    let fault = format!(in rt.alloc(); "{}", CramFault::BadUsers(3))?;
-    assert_eq!(rt; fault.as_str(), "bad users file, line 3");
+    let alloc = rt.alloc();
+    assert!(rt; is_challenge(alloc, u64::MAX, 0, "<18446744073709551615.0@r>")?);
+    assert!(rt; is_fault(alloc, CramFault::BadUsers(3), "bad users file, line 3")?);
     Ok(())
 }

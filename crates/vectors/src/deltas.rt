@@ -1,7 +1,6 @@
 ghost use Rattle.std.specs.Prelude.{◌≤◌, length};
 
 use std::alloc::Global;
-use std::process::Abort;
 use std::sync::Arc;
 use std::test::*;
 use svndiff0::{Applier, DiffFault, encode_full};
@@ -15,15 +14,29 @@ type Row = (
     Result<&'static [u8], (DiffFault, Option<usize>)>,
 );
 
-/// Feeds a document in one piece up to the byte `cut`, and byte by byte from there; gives the byte of the first fault,
-/// and what the end answers. The text is shared at the cut too, and held while more is fed.
-fn apply(
-    rt: &impl Abort,
-    alloc: Global,
-    base: &[u8],
-    document: &[u8],
-    cut: usize,
-) -> Result<(Option<usize>, Result<Arc<Vec<u8>>, DiffFault>), Fail>
+/// What the pieces of a document are answered.
+#[derive(Drop)]
+struct Applied {
+    /// The byte of the first fault.
+    at: Option<usize>,
+    /// What the end answers.
+    text: Result<Arc<Vec<u8>>, DiffFault>,
+    /// Whether each later fault is the first one, and the text is the same whether it is shared or not.
+    is_steady: bool,
+}
+
+/// Says whether a text is the same as the shared one, or refused by the same fault.
+fn is_shared(text: Result<&[u8], DiffFault>, shared: &Result<Arc<Vec<u8>>, DiffFault>) -> bool {
+    match (text, shared) {
+        (Ok(text), Ok(shared)) => text == shared.as_slice(),
+        (Err(fault), Err(known)) => fault == *known,
+        _ => false,
+    }
+}
+
+/// Feeds a document in one piece up to the byte `cut`, and byte by byte from there. The text is shared at the cut too,
+/// and held while more is fed.
+fn apply(alloc: Global, base: &[u8], document: &[u8], cut: usize) -> Result<Applied, Fail>
     requires { cut ≤ length document.now }
 {
     let base = Arc::new(alloc, Vec::from_slice(alloc, base)?)?;
@@ -31,42 +44,60 @@ fn apply(
     let (front, back) = document.split_at(cut);
     let mut first = applier.feed(front).err().map(|fault| (0usize, fault));
     let _held = applier.share_text();
+    let mut is_steady = true;
     for (at, byte) in back.iter().enumerate() {
         if let Err(fault) = applier.feed(&[*byte]) {
             let (_, known) = *first.get_or_insert((at.saturating_add(cut), fault));
-            assert_eq!(rt; fault, known);
+            is_steady &= fault == known;
         }
     }
     let shared = applier.share_text();
-    match (applier.text(), &shared) {
-        (Ok(text), Ok(shared)) => assert_eq!(rt; text, shared.as_slice()),
-        (Err(fault), Err(known)) => assert_eq!(rt; fault, *known),
-        _ => assert!(rt; false, "{document:?}"),
-    }
-    Ok((first.map(|(at, _)| at), shared))
+    is_steady &= is_shared(applier.text(), &shared);
+    Ok(Applied {
+        at: first.map(|(at, _)| at),
+        text: shared,
+        is_steady,
+    })
 }
 
-/// Checks that the document gives the row's text without a fault, or the row's fault, at whatever byte it is cut. Fed
-/// byte by byte from its start, a document that breaks a rule shows its first fault at the row's byte, or at its end.
-fn check_row(rt: &impl Abort, alloc: Global, row: Row) -> Result<(), Fail> {
+/// Says whether a document that was cut at this byte gave the wanted text without a fault, or the wanted fault. Fed
+/// byte by byte from its start, one that breaks a rule shows its first fault at the wanted byte, or at its end.
+fn is_wanted(
+    applied: &Applied,
+    want: Result<&[u8], (DiffFault, Option<usize>)>,
+    cut: usize,
+) -> bool {
+    match (&applied.text, want) {
+        (Ok(text), Ok(wanted)) => {
+            applied.is_steady && text.as_slice() == wanted && applied.at.is_none()
+        }
+        (Err(fault), Err((wanted, place))) => {
+            applied.is_steady && *fault == wanted && (cut != 0 || applied.at == place)
+        }
+        _ => false,
+    }
+}
+
+/// Says whether the document gives what the row says, at whatever byte it is cut.
+fn is_row(alloc: Global, row: Row) -> Result<bool, Fail> {
     let (base, document, want) = row;
     for cut in 0..=document.len() {
-        let (at, text) = apply(rt, alloc, base, document, cut)?;
-        match (text, want) {
-            (Ok(text), Ok(wanted)) => {
-                assert_eq!(rt; text.as_slice(), wanted);
-                assert_eq!(rt; at, None);
-            }
-            (Err(fault), Err((wanted, place))) => {
-                assert_eq!(rt; fault, wanted, "{document:?}");
-                if cut == 0 {
-                    assert_eq!(rt; at, place, "{document:?}");
-                }
-            }
-            _ => assert!(rt; false, "{document:?}"),
+        let applied = apply(alloc, base, document, cut)?;
+        if !is_wanted(&applied, want, cut) {
+            return Ok(false);
         }
     }
-    Ok(())
+    Ok(true)
+}
+
+/// Says whether each document gives what its row says.
+fn are_rows(alloc: Global, rows: &[Row]) -> Result<bool, Fail> {
+    for row in rows {
+        if !is_row(alloc, *row)? {
+            return Ok(false);
+        }
+    }
+    Ok(true)
 }
 
 #[test]
@@ -107,9 +138,7 @@ fn documents(rt: HostRuntime) -> Result<(), Fail> {
             Err((DiffFault::CopyBeyondView, Some(15))),
         ),
     ];
-    for row in rows {
-        check_row(&rt, rt.alloc(), row)?;
-    }
+    assert!(rt; are_rows(rt.alloc(), &rows)?);
     Ok(())
 }
 
@@ -175,9 +204,7 @@ fn windows(rt: HostRuntime) -> Result<(), Fail> {
             Err((DiffFault::Truncated, None)),
         ),
     ];
-    for row in rows {
-        check_row(&rt, rt.alloc(), row)?;
-    }
+    assert!(rt; are_rows(rt.alloc(), &rows)?);
     Ok(())
 }
 
@@ -233,30 +260,48 @@ fn limits(rt: HostRuntime) -> Result<(), Fail> {
             Err((DiffFault::TooLarge, Some(19))),
         ),
     ];
-    for row in rows {
-        check_row(&rt, rt.alloc(), row)?;
-    }
+    assert!(rt; are_rows(rt.alloc(), &rows)?);
     Ok(())
+}
+
+/// Says whether this document is that of this text.
+fn is_document(alloc: Global, text: &[u8], document: &[u8]) -> Result<bool, Fail> {
+    let found = encode_full(alloc, text)?;
+    Ok(found.as_slice() == document)
+}
+
+/// Says whether the document of this text gives it.
+fn is_read_again(alloc: Global, text: &[u8]) -> Result<bool, Fail> {
+    let document = encode_full(alloc, text)?;
+    let cut = document.len() / 2;
+    let applied = apply(alloc, b"base", document.as_slice(), cut)?;
+    Ok(
+        applied.is_steady
+            && applied
+                .text
+                .as_ref()
+                .is_ok_and(|again| again.as_slice() == text),
+    )
+}
+
+/// Says whether the documents of texts of these sizes give them.
+fn are_read_again(alloc: Global, sizes: &[usize]) -> Result<bool, Fail> {
+    for size in sizes {
+        let text = vec![in alloc; 7u8; *size]?;
+        if !is_read_again(alloc, text.as_slice())? {
+            return Ok(false);
+        }
+    }
+    Ok(true)
 }
 
 #[test]
 fn full(rt: HostRuntime) -> Result<(), Fail> {
-    let document = encode_full(rt.alloc(), HELLO)?;
-    assert_eq!(rt;
-        document.as_slice(),
-        b"SVN\0\0\0\x06\x01\x06\x86hello\n".as_slice()
-    );
-    for size in [
+    let alloc = rt.alloc();
+    assert!(rt; is_document(alloc, HELLO, b"SVN\0\0\0\x06\x01\x06\x86hello\n")?);
+    let sizes = [
         0, 1, 63, 64, 127, 128, 16_383, 16_384, 65_535, 65_536, 65_537, 200_000,
-    ] {
-        let text = vec![in rt.alloc(); 7u8; size]?;
-        let document = encode_full(rt.alloc(), text.as_slice())?;
-        let cut = document.len() / 2;
-        let (_, again) = apply(&rt, rt.alloc(), b"base", document.as_slice(), cut)?;
-        assert!(rt;
-            again.is_ok_and(|again| again.as_slice() == text.as_slice()),
-            "{size} bytes"
-        );
-    }
+    ];
+    assert!(rt; are_read_again(alloc, &sizes)?);
     Ok(())
 }

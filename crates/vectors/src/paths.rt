@@ -32,10 +32,24 @@ fn letters(alloc: Global, letter: u8, count: usize) -> Result<Vec<u8>, AllocErro
     Ok(text)
 }
 
+/// A text, and the path that it names, or why it names none.
+type Row = (&'static str, Result<&'static str, PathFault>);
+
+/// Says whether each URL names what its row says in the repository `r`.
+fn are_urls(alloc: Global, rows: &[Row]) -> Result<bool, AllocError> {
+    for (url, wanted) in rows {
+        let answer = Path::from_url(alloc, url.as_bytes(), "r");
+        if !is_answer(alloc, answer, *wanted)? {
+            return Ok(false);
+        }
+    }
+    Ok(true)
+}
+
 #[test]
 fn reads_urls(rt: HostRuntime) -> Result<(), PathFault> {
     let alloc = rt.alloc();
-    for (url, wanted) in [
+    let rows: [Row; 21] = [
         ("svn://h/r/trunk", Ok("/trunk")),
         ("svn://h/r", Ok("/")),
         ("svn://h/r/", Ok("/")),
@@ -57,19 +71,34 @@ fn reads_urls(rt: HostRuntime) -> Result<(), PathFault> {
         ("svn://h/r/a%00", Err(PathFault::ForbiddenComponent)),
         ("svn://h/r/%0A", Err(PathFault::ForbiddenComponent)),
         ("svn://h/r/%FF", Err(PathFault::ForbiddenComponent)),
-    ] {
-        let answer = Path::from_url(alloc, url.as_bytes(), "r");
-        assert!(rt; is_answer(alloc, answer, wanted)?, "{url}");
-    }
+    ];
+    assert!(rt; are_urls(alloc, &rows)?);
     let not_text = Path::from_url(alloc, b"svn://h/r/\xFF", "r");
     assert!(rt; is_answer(alloc, not_text, Err(PathFault::NotThisRepository))?);
     Ok(())
 }
 
+/// Says whether this URL's root is this one, read alone and with the path.
+fn has_root(alloc: Global, url: &[u8], wanted: &[u8]) -> Result<bool, PathFault> {
+    let root = root_url(alloc, url, "r")?;
+    let named = RepositoryUrl::read(alloc, url, "r")?;
+    Ok(root.as_slice() == wanted && named.root == root)
+}
+
+/// Says whether each URL has its root.
+fn have_roots(alloc: Global, rows: &[(&str, &str)]) -> Result<bool, PathFault> {
+    for (url, wanted) in rows {
+        if !has_root(alloc, url.as_bytes(), wanted.as_bytes())? {
+            return Ok(false);
+        }
+    }
+    Ok(true)
+}
+
 #[test]
 fn tells_root_urls(rt: HostRuntime) -> Result<(), PathFault> {
     let alloc = rt.alloc();
-    for (url, wanted) in [
+    let rows = [
         ("svn://h/r/trunk", "svn://h/r"),
         ("svn://h/r/", "svn://h/r"),
         ("svn+ssh://alice@h:22/r/a%20b?q", "svn+ssh://alice@h:22/r"),
@@ -78,20 +107,27 @@ fn tells_root_urls(rt: HostRuntime) -> Result<(), PathFault> {
         ("SVN://h/%72/c//..", "SVN://h/%72"),
         ("SVN://h:022/q/../r/a", "svn://h:22/r"),
         ("svn://h/./r/a", "svn://h/r"),
-    ] {
-        let root = root_url(alloc, url.as_bytes(), "r")?;
-        assert!(rt; root.as_slice() == wanted.as_bytes(), "{url}");
-        let named = RepositoryUrl::read(alloc, url.as_bytes(), "r")?;
-        assert!(rt; named.root == root, "{url}");
-    }
+    ];
+    assert!(rt; have_roots(alloc, &rows)?);
     assert!(rt; root_url(alloc, b"no url", "r").is_err());
     Ok(())
+}
+
+/// Says whether each text is read as its row says.
+fn are_parsed(alloc: Global, rows: &[Row]) -> Result<bool, AllocError> {
+    for (text, wanted) in rows {
+        let answer = Path::parse(alloc, text.as_bytes());
+        if !is_answer(alloc, answer, *wanted)? {
+            return Ok(false);
+        }
+    }
+    Ok(true)
 }
 
 #[test]
 fn parses_texts(rt: HostRuntime) -> Result<(), PathFault> {
     let alloc = rt.alloc();
-    for (text, wanted) in [
+    let rows: [Row; 13] = [
         ("/", Ok("/")),
         ("/a/b", Ok("/a/b")),
         ("/...", Ok("/...")),
@@ -105,20 +141,28 @@ fn parses_texts(rt: HostRuntime) -> Result<(), PathFault> {
         ("/..", Err(PathFault::ForbiddenComponent)),
         ("/a\0", Err(PathFault::ForbiddenComponent)),
         ("/a\nb", Err(PathFault::ForbiddenComponent)),
-    ] {
-        let answer = Path::parse(alloc, text.as_bytes());
-        assert!(rt; is_answer(alloc, answer, wanted)?, "{text}");
-    }
+    ];
+    assert!(rt; are_parsed(alloc, &rows)?);
     let not_text = Path::parse(alloc, b"/\xC3");
     assert!(rt; is_answer(alloc, not_text, Err(PathFault::ForbiddenComponent))?);
     Ok(())
 }
 
+/// Says whether each text is joined to this path as its row says.
+fn are_joined(alloc: Global, path: &Path, rows: &[Row]) -> Result<bool, AllocError> {
+    for (text, wanted) in rows {
+        let answer = path.join(alloc, text.as_bytes());
+        if !is_answer(alloc, answer, *wanted)? {
+            return Ok(false);
+        }
+    }
+    Ok(true)
+}
+
 #[test]
 fn joins_relative_texts(rt: HostRuntime) -> Result<(), PathFault> {
     let alloc = rt.alloc();
-    let path = Path::parse(alloc, b"/p")?;
-    for (text, wanted) in [
+    let rows: [Row; 9] = [
         ("", Ok("/p")),
         ("/", Ok("/p")),
         ("//", Ok("/p")),
@@ -128,10 +172,9 @@ fn joins_relative_texts(rt: HostRuntime) -> Result<(), PathFault> {
         ("a//b", Err(PathFault::EmptyComponent)),
         ("///", Err(PathFault::EmptyComponent)),
         ("a/..", Err(PathFault::ForbiddenComponent)),
-    ] {
-        let answer = path.join(alloc, text.as_bytes());
-        assert!(rt; is_answer(alloc, answer, wanted)?, "{text}");
-    }
+    ];
+    let path = Path::parse(alloc, b"/p")?;
+    assert!(rt; are_joined(alloc, &path, &rows)?);
     Ok(())
 }
 
@@ -149,20 +192,24 @@ fn depth_joined(alloc: Global, count: usize, text: &[u8]) -> Result<usize, PathF
     Ok(joined.len())
 }
 
-#[test]
-fn keeps_the_limits(rt: HostRuntime) {
-    let alloc = rt.alloc();
+/// Says whether a name may have 255 bytes, and no more.
+fn is_long_enough(alloc: Global) -> bool {
     let mut long = [b'n'; 257];
     long[0] = b'/';
-    assert_eq!(rt; depth_of(alloc, &long[..256]), Ok(1));
-    assert_eq!(rt; depth_of(alloc, &long), Err(PathFault::TooLong));
-    assert_eq!(rt; depth_joined(alloc, 64, b""), Ok(DEPTH_LIMIT));
-    assert_eq!(rt; depth_joined(alloc, 64, b"d"), Err(PathFault::TooDeep));
-    assert_eq!(rt;
-        depth_joined(alloc, 64, b".."),
-        Err(PathFault::ForbiddenComponent)
-    );
-    assert_eq!(rt; depth_joined(alloc, 65, b""), Err(PathFault::TooDeep));
+    depth_of(alloc, &long[..256]) == Ok(1) && depth_of(alloc, &long) == Err(PathFault::TooLong)
+}
+
+/// Says whether a path may have 64 names, and no more.
+fn is_deep_enough(alloc: Global) -> bool {
+    depth_joined(alloc, 64, b"") == Ok(DEPTH_LIMIT)
+        && depth_joined(alloc, 64, b"d") == Err(PathFault::TooDeep)
+        && depth_joined(alloc, 64, b"..") == Err(PathFault::ForbiddenComponent)
+        && depth_joined(alloc, 65, b"") == Err(PathFault::TooDeep)
+}
+
+#[test]
+fn keeps_the_limits(rt: HostRuntime) {
+    assert!(rt; is_long_enough(rt.alloc()) && is_deep_enough(rt.alloc()));
 }
 
 /// Says whether the child's parent is the root, which has none.
@@ -186,29 +233,49 @@ fn is_copied(path: &Path) -> Result<bool, PathFault> {
     Ok(copy == *path)
 }
 
+/// Says whether the grandchild lies under the child, and not the other way round.
+fn is_under(a: &Path, below: &Path) -> bool {
+    below.is_at_or_under(a)
+        && below.is_at_or_under(below)
+        && !a.is_at_or_under(below)
+        && a.cmp(below) == Ordering::Less
+}
+
+/// Says whether the root, its child and its grandchild lie so.
+fn is_tree(alloc: Global, root: &Path, a: &Path, below: &Path) -> Result<bool, PathFault> {
+    Ok(
+        root.is_root()
+            && !a.is_root()
+            && has_parent(alloc, root, a)?
+            && is_under(a, below)
+            && is_moved(alloc, root, a, below)?
+            && is_copied(below)?,
+    )
+}
+
 #[test]
 fn serves_trees(rt: HostRuntime) -> Result<(), PathFault> {
     let alloc = rt.alloc();
     let root = Path::root(alloc);
     let a = Path::parse(alloc, b"/a")?;
     let below = a.join(alloc, b"b")?;
-    assert!(rt; root.is_root() && !a.is_root());
-    assert!(rt; has_parent(alloc, &root, &a)?);
-    assert!(rt; below.is_at_or_under(&a) && below.is_at_or_under(&below));
-    assert!(rt; !a.is_at_or_under(&below) && a.cmp(&below) == Ordering::Less);
-    assert!(rt; is_moved(alloc, &root, &a, &below)?);
-    assert!(rt; is_copied(&below)?);
+    assert!(rt; is_tree(alloc, &root, &a, &below)?);
     Ok(())
+}
+
+/// Says whether this name is all that the path has.
+fn is_named(path: &Path, name: &[u8]) -> bool {
+    let names = path.components();
+    names.len() == 1 && names.iter().all(|found| found.as_slice() == name)
 }
 
 #[test]
 fn names_children(rt: HostRuntime) -> Result<(), PathFault> {
     let alloc = rt.alloc();
-    let a = Path::root(alloc).child(alloc, ByteString::from_slice(alloc, b"a")?)?;
-    let names = a.components();
-    assert!(rt; names.len() == 1 && names.iter().all(|name| name.as_slice() == b"a".as_slice()));
     let name = ByteString::from_slice(alloc, b"a")?;
     assert!(rt; name.into_vec().as_slice() == b"a".as_slice());
+    let a = Path::root(alloc).child(alloc, ByteString::from_slice(alloc, b"a")?)?;
+    assert!(rt; is_named(&a, b"a"));
     Ok(())
 }
 
@@ -277,10 +344,31 @@ fn lists_pairs_by_the_bytes_of_texts(rt: HostRuntime) -> Result<(), PathFault> {
     Ok(())
 }
 
+/// Says whether these texts are in this order, and in the other one the other way round.
+fn is_ordered(
+    alloc: Global,
+    mine: &str,
+    theirs: &str,
+    wanted: Ordering,
+) -> Result<bool, PathFault> {
+    let mine = Path::parse(alloc, mine.as_bytes())?;
+    let theirs = Path::parse(alloc, theirs.as_bytes())?;
+    Ok(mine.text_cmp(&theirs) == wanted && theirs.text_cmp(&mine) == wanted.reverse())
+}
+
+/// Says whether the texts of each row are in its order.
+fn are_ordered(alloc: Global, rows: &[(&str, &str, Ordering)]) -> Result<bool, PathFault> {
+    for (mine, theirs, wanted) in rows {
+        if !is_ordered(alloc, mine, theirs, *wanted)? {
+            return Ok(false);
+        }
+    }
+    Ok(true)
+}
+
 #[test]
 fn compares_texts(rt: HostRuntime) -> Result<(), PathFault> {
-    let alloc = rt.alloc();
-    for (mine, theirs, wanted) in [
+    let rows = [
         ("/", "/", Ordering::Equal),
         ("/", "/a", Ordering::Less),
         ("/a/b", "/a/b", Ordering::Equal),
@@ -288,10 +376,7 @@ fn compares_texts(rt: HostRuntime) -> Result<(), PathFault> {
         ("/a/b", "/a-b", Ordering::Greater),
         ("/a/b", "/a0", Ordering::Less),
         ("/a/z", "/ab/c", Ordering::Less),
-    ] {
-        let mine = Path::parse(alloc, mine.as_bytes())?;
-        let theirs = Path::parse(alloc, theirs.as_bytes())?;
-        assert!(rt; mine.text_cmp(&theirs) == wanted && theirs.text_cmp(&mine) == wanted.reverse());
-    }
+    ];
+    assert!(rt; are_ordered(rt.alloc(), &rows)?);
     Ok(())
 }

@@ -6,7 +6,7 @@ use items::{Item, ItemFault, ItemReader, Name, decode, write_item};
 use std::alloc::Global;
 use std::test::Fail;
 
-// The stream in pieces of so many bytes: what is written for its items, and the fault behind them.
+/// Reads the stream in pieces of so many bytes: gives what is written for its items, and the fault behind them.
 fn read_in_pieces(
     alloc: Global,
     stream: &[u8],
@@ -29,8 +29,8 @@ fn read_in_pieces(
     Ok((written, None))
 }
 
-// Whether the stream gives these items and this fault, cut into pieces of any size.
-fn reads_so(
+/// Says whether the stream gives these items and this fault, cut into pieces of any size.
+fn is_read(
     alloc: Global,
     stream: &[u8],
     items: &[u8],
@@ -45,9 +45,22 @@ fn reads_so(
     Ok(true)
 }
 
+/// A stream, its items, and the fault behind them.
+type Row = (&'static str, &'static str, Option<ItemFault>);
+
+/// Says whether each stream gives its items and its fault.
+fn are_read(alloc: Global, rows: &[Row]) -> Result<bool, ItemFault> {
+    for (stream, items, fault) in rows {
+        if !is_read(alloc, stream.as_bytes(), items.as_bytes(), *fault)? {
+            return Ok(false);
+        }
+    }
+    Ok(true)
+}
+
 #[test]
 fn reads_rows_in_any_pieces(rt: HostRuntime) -> Result<(), Fail> {
-    for (stream, items, fault) in [
+    let rows: [Row; 15] = [
         (
             "( word 22 6:string ( sublist ) )\n",
             "( word 22 6:string ( sublist ) ) ",
@@ -71,31 +84,35 @@ fn reads_rows_in_any_pieces(rt: HostRuntime) -> Result<(), Fail> {
         ("5:ab", "", None),
         ("3:) ( x ", "3:) ( x ", None),
         ("3:abcd", "", Some(ItemFault::Malformed(5))),
-    ] {
-        assert!(rt;
-            reads_so(rt.alloc(), stream.as_bytes(), items.as_bytes(), fault)?,
-            "{stream}"
-        );
-    }
+    ];
+    assert!(rt; are_read(rt.alloc(), &rows)?);
     Ok(())
+}
+
+/// Says whether so many open lists give no item, and this fault.
+fn are_open(alloc: Global, count: usize, fault: Option<ItemFault>) -> Result<bool, ItemFault> {
+    let lists = b"( ".repeat(alloc, count)?;
+    is_read(alloc, lists.as_slice(), b"", fault)
+}
+
+/// Says whether 64 lists in one another are read.
+fn are_nested(alloc: Global) -> Result<bool, ItemFault> {
+    let mut lists = b"( ".repeat(alloc, 64)?;
+    lists.extend_from_slice(b") ".repeat(alloc, 64)?.as_slice())?;
+    is_read(alloc, lists.as_slice(), lists.as_slice(), None)
 }
 
 #[test]
 fn opens_64_lists(rt: HostRuntime) -> Result<(), Fail> {
     let alloc = rt.alloc();
-    let mut lists = b"( ".repeat(alloc, 64)?;
-    assert!(rt; reads_so(alloc, lists.as_slice(), b"", None)?);
-    let mut deeper = lists.clone()?;
-    deeper.extend_from_slice(b"( ")?;
-    assert!(rt; reads_so(alloc, deeper.as_slice(), b"", Some(ItemFault::TooDeep(128)))?);
-    lists.extend_from_slice(b") ".repeat(alloc, 64)?.as_slice())?;
-    assert!(rt; reads_so(alloc, lists.as_slice(), lists.as_slice(), None)?);
+    assert!(rt; are_open(alloc, 64, None)?);
+    assert!(rt; are_open(alloc, 65, Some(ItemFault::TooDeep(128)))?);
+    assert!(rt; are_nested(alloc)?);
     Ok(())
 }
 
-#[test]
-fn decodes_what_it_writes(rt: HostRuntime) -> Result<(), Fail> {
-    let alloc = rt.alloc();
+/// Writes a command with a list of a number and a string.
+fn written_command(alloc: Global) -> Result<Vec<u8>, Fail> {
     let mut params = Vec::new(alloc);
     params.push(Item::Number(7))?;
     params.push(Item::Str(ByteString::from_slice(alloc, b"a b")?))?;
@@ -104,31 +121,60 @@ fn decodes_what_it_writes(rt: HostRuntime) -> Result<(), Fail> {
     parts.push(Item::List(params))?;
     let mut written = Vec::new(alloc);
     write_item(&Item::List(parts), &mut written)?;
-    assert_eq!(rt;
-        written.as_slice(),
-        b"( check-path ( 7 3:a b ) ) ".as_slice()
-    );
+    Ok(written)
+}
+
+/// Says whether the written command is one item.
+fn is_one_item(alloc: Global) -> Result<bool, Fail> {
+    let written = written_command(alloc)?;
+    let is_command = written.as_slice() == b"( check-path ( 7 3:a b ) ) ".as_slice();
     let mut pieces = Vec::new(alloc);
     pieces.push(written)?;
     let items = decode(alloc, pieces.as_slice())?;
-    assert_eq!(rt; items.len(), 1);
+    Ok(is_command && items.len() == 1)
+}
+
+#[test]
+fn decodes_what_it_writes(rt: HostRuntime) -> Result<(), Fail> {
+    assert!(rt; is_one_item(rt.alloc())?);
     Ok(())
+}
+
+/// Says whether a reader that is fed this piece waits for more, so many times over.
+fn waits(reader: &mut ItemReader, piece: &[u8], times: u32) -> Result<bool, ItemFault> {
+    for _ in 0..times {
+        reader.feed(piece)?;
+        if !matches!(reader.next(), Ok(None)) {
+            return Ok(false);
+        }
+    }
+    Ok(true)
+}
+
+/// Says whether the next item is a string of so many bytes.
+fn is_string(item: Option<Item>, length: usize) -> bool {
+    match item {
+        Some(Item::Str(text)) => {
+            text.as_slice().len() == length && text.into_vec().len() == length
+        }
+        _ => false,
+    }
+}
+
+/// Says whether a string of a million bytes is read byte by byte.
+fn is_read_byte_by_byte(alloc: Global) -> Result<bool, ItemFault> {
+    let mut reader = ItemReader::new(alloc);
+    reader.feed(b"1000000:")?;
+    if !waits(&mut reader, b"(", 1_000_000)? {
+        return Ok(false);
+    }
+    reader.feed(b" ")?;
+    Ok(is_string(reader.next()?, 1_000_000))
 }
 
 // A million pieces of one byte.
 #[test]
 fn takes_a_long_string_byte_by_byte(rt: HostRuntime) -> Result<(), Fail> {
-    let mut reader = ItemReader::new(rt.alloc());
-    reader.feed(b"1000000:")?;
-    for _ in 0..1_000_000 {
-        reader.feed(b"(")?;
-        assert!(rt; matches!(reader.next(), Ok(None)));
-    }
-    reader.feed(b" ")?;
-    let Some(Item::Str(text)) = reader.next()? else {
-        return Err(Fail::from(ItemFault::NoMemory));
-    };
-    assert_eq!(rt; text.as_slice().len(), 1_000_000);
-    assert_eq!(rt; text.into_vec().len(), 1_000_000);
+    assert!(rt; is_read_byte_by_byte(rt.alloc())?);
     Ok(())
 }

@@ -32,7 +32,6 @@ pub enum Offer {
 }
 
 /// What a client is told.
-#[derive(Drop)]
 pub enum Reply {
     /// The versions and the capabilities of the server.
     Greeting,
@@ -83,6 +82,37 @@ pub enum Reply {
     Done,
     /// The command is refused.
     Failure(Refusal),
+}
+
+impl Drop for Reply {
+    fn drop(self) {
+        match self {
+            Reply::Greeting => {}
+            Reply::NoLogin => {}
+            Reply::Login(_, _) => {}
+            Reply::MechanismNotOffered => {}
+            Reply::Challenge(_) => {}
+            Reply::LoginFailed => {}
+            Reply::Success => {}
+            Reply::ReposInfo(_, _) => {}
+            Reply::Revision(_) => {}
+            Reply::Kind(_) => {}
+            Reply::Properties(_) => {}
+            Reply::Lock(_, _) => {}
+            Reply::Locks(_) => {}
+            Reply::CommitInfo(_, _, _, _) => {}
+            Reply::FileInfo(_) => {}
+            Reply::Piece(_) => {}
+            Reply::DirectoryInfo(_) => {}
+            Reply::Stat(_) => {}
+            Reply::RevisionProperty(_) => {}
+            Reply::LogEntry(_) => {}
+            Reply::Location(_, _) => {}
+            Reply::Edit(_) => {}
+            Reply::Done => {}
+            Reply::Failure(_) => {}
+        }
+    }
 }
 
 impl Reply {

@@ -11,7 +11,6 @@ use std::sync::Arc;
 use txntree::TxnTree;
 
 /// An open transaction, which is sound: its tree stands over the nodes of what it was last shown.
-#[derive(Drop)]
 pub struct WorldTxn {
     pub(crate) shown: Arc<Held>,
     pub(crate) base: u64,
@@ -20,4 +19,15 @@ pub struct WorldTxn {
     ghost within: { base < length (revisions_of shown.value) },
     ghost standing: { IsSound (node_at shown.value.nodes) (root_at shown.value.nodes base) tree },
     ghost sound: { ∥ IsOpen shown.value base tree changes ∥₁ },
+}
+
+impl Drop for WorldTxn {
+    fn drop(self) {
+        let WorldTxn {
+            shown: _,
+            base: _,
+            tree: _,
+            changes: _,
+        } = self;
+    }
 }

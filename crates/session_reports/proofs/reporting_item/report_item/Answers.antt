@@ -1,4 +1,4 @@
-use Rattle.std.proofs.Common.{refl, subst, sym}
+use Rattle.std.proofs.Common.{ap, refl, subst, sym, ◌∙◌}
 use Rattle.items.specs.View.{value_of}
 use Rattle.access.specs.Points.{content_of}
 use Rattle.drive_reports.specs.Refusing.{ReportState}
@@ -19,11 +19,15 @@ returns-in-Refused g c =
     let p = g.A.RepoAccess.point c.args.access.now in
     let stays = g.met.A.RepoAccess.stays p in
     let d = refused_drawn c.in-Refused.refusal (name_of item) in
-    let a = drawn_answer env reporting.client d in
+    let parts = c.into_parts-client.ensures in
+    let client = c.into_parts-client.result.0 in
+    let a = drawn_answer env client d in
     let step = ReportingStep s env reporting item in
-    let drawn = subst (λ (x : ReportState). ReportStep s.name x item (content_of p) d) (sym c.in-Refused.is) refl in
-    let nothing = drawn_nothing env reporting.client d in
-    said rules step p p a stays (d, drawn, refl) nothing _ c.refused_item.result _ c.refused_item.ensures
+    let drawn = subst (λ (x : ReportState). ReportStep s.name x item (content_of p) d) (sym (sym parts.report ∙ c.in-Refused.is)) refl in
+    let nothing = drawn_nothing env client d in
+    said rules step p p a stays (d, drawn, ap (λ x. drawn_answer env x d) parts.client) nothing _ c.refused_item.result _ c.refused_item.ensures
 
 pub returns-in-Open : goal.returns-in-Open
-returns-in-Open g c = rw c.in-Open.is c.open_report_item.ensures
+returns-in-Open g c =
+    let parts = c.into_parts-client.ensures in
+    rw (sym parts.report ∙ c.in-Open.is) (rw (sym parts.client) c.open_report_item.ensures)

@@ -4,8 +4,8 @@ use Rattle.store_access.specs.Keeping.{StandsFor}
 use Rattle.store_access.proofs.Alone.{alone}
 use Rattle.store_access.proofs.opening.open_repository.Goals as goal
 
-pub new-requires : goal.new-requires
-new-requires g c = ∣ (λ honest goes_on.
+pub new-requires-clause-kept : goal.new-requires-clause-kept
+new-requires-clause-kept g c = ∣ (λ honest goes_on.
     let opened = c.in_ok-saves.ensures in
     let old = g.S.Store.holds c.args.store in
     let found = opened.found honest in

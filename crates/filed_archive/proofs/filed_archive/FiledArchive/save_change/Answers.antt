@@ -1,7 +1,7 @@
 use Rattle.std.proofs.Common.{◌∙◌, ap, refl, sym, Bool}
 use Rattle.store_access.proofs.Stops.{kept_next, kept_still}
 use Rattle.filed_archive.specs.Writing.{told_as, written}
-use Rattle.filed_archive.proofs.Leaving.{save_done, save_failed, stop_leaves}
+use Rattle.filed_archive.proofs.Leaving.{save_done, save_failed, leaves}
 use Rattle.filed_archive.proofs.filed_archive.FiledArchive.save_change.Goals as goal
 
 pub invariant_of-self : goal.invariant_of-self
@@ -34,7 +34,7 @@ returns-in-Ok g c = λ e writes.
     let old = c.args.self.now in
     let ends = c.in-Ok.ensures.1 in (
       save_done s e (g.F.Repository.content old.repository) old.saves c.save_files.new.saves c.requires.0 (g.F.Repository.content c.args.unsaved.next) writes.next ends,
-      stop_leaves old c.args.unsaved e c.save_files.result c.save_files.new.saves c.requires.0 writes c.save_files.ensures,
+      leaves old c.args.unsaved e c.save_files.result c.save_files.new.saves c.requires.0 writes c.save_files.ensures,
     )
 
 pub returns-in-Err : goal.returns-in-Err
@@ -45,5 +45,5 @@ returns-in-Err g c = λ e writes.
       save_failed s e (g.F.Repository.content old.repository) old.saves c.save_files.new.saves c.requires.0 c.in-Err.fault c.told.result ends
           (c.told.ensures ∙ ap (λ (b : Bool). told_as b c.in-Err.fault) c.is_halted.ensures)
           (λ by goes. sym writes.kind ∙ c.in-Err.ensures.2 by goes),
-      stop_leaves old c.args.unsaved e c.save_files.result c.save_files.new.saves c.requires.0 writes c.save_files.ensures,
+      leaves old c.args.unsaved e c.save_files.result c.save_files.new.saves c.requires.0 writes c.save_files.ensures,
     )

@@ -1,13 +1,18 @@
 use Rattle.std.proofs.Common.{◌≡◌, ◌+◌, Some, length, sym, ap, subst, ◌∙◌, ◌<◌, ◌∷◌, [], ◌++◌, arith}
-use Rattle.std.specs.Prelude.{slice_get}
+use Rattle.std.specs.{List.Sorted.IsStrictlySortedBy, Map.keys_of, Prelude.slice_get}
+use Rattle.svnpath.specs.Paths.{path_cmp}
 use Rattle.repostore.specs.Files.{with_revision}
 use Rattle.held.proofs.Seen.{held_many}
 use Rattle.fsfs_folder.specs.declared.current.Current.{Current}
 use Rattle.filed_trees.specs.{StandsFor.revision_bytes, Tables.AreTabled}
 use Rattle.filed_world.specs.{Files.AreFilesOf, Reading.IsReadBack}
-use Rattle.filed_world.proofs.{Changed.{many_tables, revision_added}, Newest.youngest_is, Further.committed_history}
+use Rattle.filed_world.proofs.{Changed.{many_tables, revision_added}, Newest.youngest_is, InOrder.changes_in_order, Further.committed_history}
 use Rattle.noderevs.specs.Held.{blocks_of}
 use Rattle.filed_world.proofs.filed_world.FiledWorld.with_revision.Goals as goal
+
+pub write_revision-requires : goal.write_revision-requires
+write_revision-requires c =
+    subst (λ es. IsStrictlySortedBy path_cmp (keys_of es)) (sym c.changes.ensures) (changes_in_order _)
 
 pub returns-clause-number : goal.returns-clause-number
 returns-clause-number c =

@@ -6,7 +6,7 @@ use Rattle.flatrepo.proofs.flat_tree.FlatTree.begun.Goals as goal
 
 pub returns : goal.returns
 returns c = λ q.
-    touch_seen c.args.self.now c.self.inside.entries.entries c.touch_above-2.new.entries.entries [] q c.self.view_is
-    (c.touch_above-2.ensures q
+    touch_seen c.args.self.now c.self.inside.entries.entries c.touch_above.new.entries.entries [] q c.self.view_is
+    (c.touch_above.ensures q
     ∙ ap (λ p. touched_above p (found c.in_ok-entries.entries.entries) q) c.root.ensures
     ∙ ap (λ es. touched_above [] (found es) q) (entries_from_clone _ _ (λ x y e. e) (λ x y e. e) _ _ c.in_ok-entries.ensures.cases))

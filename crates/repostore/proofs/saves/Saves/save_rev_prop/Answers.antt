@@ -1,7 +1,7 @@
 use Rattle.std.proofs.Common.{◌<◌, sym, ◌∙◌, inl, arith, length}
 use Rattle.store_files.specs.declared.name.FileName.TheVariants.{Properties}
 use Rattle.repostore.specs.Files.{HasFiles, with_properties, HasEither}
-use Rattle.repostore.proofs.{Reaching.{properties_are, properties_may_be, length-second}, Steps.{begun, swapped, replaced, ok_gives_both}}
+use Rattle.repostore.proofs.{Reaching.{properties_are, properties_may_be, length-second}, Steps.{begun, swapped, swapped_now, replaced, ok_gives_both}}
 use Rattle.repostore.proofs.saves.Saves.save_rev_prop.Goals as goal
 
 pub returns-clause-saved : goal.returns-clause-saved
@@ -18,6 +18,8 @@ returns-clause-saved g c = λ files saved there.
         count = c.publish.ensures.count ∙ saved.count ∙ sym (length-second files.revisions c.args.revision c.args.properties.now);
         goes_on = done ∙ saved.goes_on;
       }) (c.publish.ensures.ok saved.stands.honest) c.publish.ensures.done;
+      stands = swapped_now s start new (Properties c.args.revision) c.args.properties.now (HasFiles files) (HasEither files (with_properties files c.args.revision c.args.properties.now)) saved.stands
+          (c.publish.ensures.replaces saved.stands.honest) (properties_may_be files c.args.revision c.args.properties.now lt);
       stop = swapped s start start new (Properties c.args.revision) c.args.properties.now (HasFiles files) (HasFiles files) (HasEither files (with_properties files c.args.revision c.args.properties.now)) at
           (c.publish.ensures.replaces saved.stands.honest) (properties_may_be files c.args.revision c.args.properties.now lt) (λ f p. inl p);
     }

@@ -1,8 +1,9 @@
-use Rattle.std.proofs.Common.{◌≡◌, Err, refl, sym, subst}
+use Rattle.sharedrepo.proofs.Stopping.{still}
+use Rattle.std.proofs.Common.{◌≡◌, [], ◌∷◌, Err, refl, sym, subst}
 use Rattle.access.specs.Points.{content_of}
 use Rattle.published.specs.Moments.{added}
 use Rattle.repo_api.specs.{Accepted.{Accepted, IsJudged, refusal_of}, Accepted.Accepted.ChangesProperty, RevisionProperties.property_refusal}
-use Rattle.sharedrepo.specs.{Archives.IsMade, Standing.{Standing, now_of}}
+use Rattle.sharedrepo.specs.{Archives.IsMade, Standing.{Standing, StopLeaves, now_of}}
 use Rattle.sharedrepo.proofs.Changing.{quiet_right, next_by, settled_by, refused, not_begun}
 use Rattle.sharedrepo.proofs.keeper.Keeper.make_property.Goals as goal
 
@@ -10,27 +11,39 @@ pub settle-requires-clause-next : goal.settle-requires-clause-next
 settle-requires-clause-next g c =
     let kept = g.S.Archive.kept in
     let made = subst (λ (k : Standing g.row.S.Denot). IsMade (kept k.archive).content (ChangesProperty c.args.ask) (g.R.Repository.content c.in-Ok-property_changed.next)) c.self.view_is c.in-Ok-property_changed.ensures.1.0 in
-    next_by kept c.args.self.now c.readiness.ensures.0 c.in-Ok.ensures.1.0 (ChangesProperty c.args.ask) _ (g.R.Repository.content c.in-Ok-property_changed.next) made (λ i. ChangesProperty (c.of.ensures i)) (quiet_right _ (ChangesProperty c.args.ask) refl)
+    next_by kept g.S.Archive.stands c.args.self.now c.readiness.ensures.0 c.in-Ok.ensures.1.0 (ChangesProperty c.args.ask) _ (g.R.Repository.content c.in-Ok-property_changed.next) made (λ i. ChangesProperty (c.of.ensures i)) (quiet_right _ (ChangesProperty c.args.ask) refl)
 
 pub settle-requires-clause-writes : goal.settle-requires-clause-writes
 settle-requires-clause-writes g c =
     subst (λ (x : Accepted). g.S.Archive.writes c.args.self.now.archive c.in-Ok-property_changed.unsaved x) (sym (λ i. ChangesProperty (c.of.ensures i)))
     (subst (λ (k : Standing g.row.S.Denot). g.S.Archive.writes k.archive c.in-Ok-property_changed.unsaved (ChangesProperty c.args.ask)) c.self.view_is c.in-Ok-property_changed.ensures.1.1)
 
-pub returns-in-Ok-property_changed : goal.returns-in-Ok-property_changed
-returns-in-Ok-property_changed g c =
+pub returns-in-Ok-property_changed-clause-point : goal.returns-in-Ok-property_changed-clause-point
+returns-in-Ok-property_changed-clause-point g c =
     let kept = g.S.Archive.kept in
     let made = subst (λ (k : Standing g.row.S.Denot). IsMade (kept k.archive).content (ChangesProperty c.args.ask) (g.R.Repository.content c.in-Ok-property_changed.next)) c.self.view_is c.in-Ok-property_changed.ensures.1.0 in
-    settled_by kept c.args.self.now c.readiness.ensures.0 c.in-Ok.ensures.1.0 (now_of kept c.settle.new.self) (ChangesProperty c.args.ask) _ (g.R.Repository.content c.in-Ok-property_changed.next) (property_refusal (content_of (now_of kept c.args.self.now)) c.args.ask) c.settle.result made (λ i. ChangesProperty (c.of.ensures i)) refl (λ a. a) c.settle.ensures
+    settled_by kept g.S.Archive.stands c.args.self.now c.readiness.ensures.0 c.in-Ok.ensures.1.0 (now_of kept c.settle.new.self) (ChangesProperty c.args.ask) _ (g.R.Repository.content c.in-Ok-property_changed.next) (property_refusal (content_of (now_of kept c.args.self.now)) c.args.ask) c.settle.result made (λ i. ChangesProperty (c.of.ensures i)) refl (λ a. a) c.settle.ensures.point
 
-pub returns-in-Err : goal.returns-in-Err
-returns-in-Err g c =
+pub returns-in-Err-clause-point : goal.returns-in-Err-clause-point
+returns-in-Err-clause-point g c =
     let p = now_of g.S.Archive.kept c.args.self.now in
-    not_begun g.S.Archive.kept c.args.self.now {T = Unit {0}} (property_refusal (content_of p) c.args.ask) (ChangesProperty c.args.ask) (λ q. ⊥) (λ (_ : Unit {0}) q. q ≡ added p (ChangesProperty c.args.ask)) c.in-Err.fault c.in-Err.ensures.1
+    not_begun g.S.Archive.kept g.S.Archive.stands c.args.self.now {T = Unit {0}} (property_refusal (content_of p) c.args.ask) (ChangesProperty c.args.ask) (λ q. ⊥) (λ (_ : Unit {0}) q. q ≡ added p (ChangesProperty c.args.ask)) c.in-Err.fault c.in-Err.ensures.1
 
-pub returns-in-Err-property_changed : goal.returns-in-Err-property_changed
-returns-in-Err-property_changed g c =
+pub returns-in-Err-property_changed-clause-point : goal.returns-in-Err-property_changed-clause-point
+returns-in-Err-property_changed-clause-point g c =
     let kept = g.S.Archive.kept in
     let p = now_of kept c.args.self.now in
-    refused kept c.args.self.now c.readiness.ensures.0 c.in-Ok.ensures.1.0 (Unit {0}) {T = Unit {0}} (ChangesProperty c.args.ask) (λ q. ⊥) (λ (_ : Unit {0}) q. q ≡ added p (ChangesProperty c.args.ask)) c.in-Err-property_changed.fault
+    refused kept g.S.Archive.stands c.args.self.now c.readiness.ensures.0 c.in-Ok.ensures.1.0 (Unit {0}) {T = Unit {0}} (ChangesProperty c.args.ask) (λ q. ⊥) (λ (_ : Unit {0}) q. q ≡ added p (ChangesProperty c.args.ask)) c.in-Err-property_changed.fault
     (subst (λ (k : Standing g.row.S.Denot). IsJudged {T = Unit {0}} (Err c.in-Err-property_changed.fault) (refusal_of (kept k.archive).content (ChangesProperty c.args.ask))) c.self.view_is c.in-Err-property_changed.ensures.0)
+
+pub returns-in-Ok-property_changed-clause-stop : goal.returns-in-Ok-property_changed-clause-stop
+returns-in-Ok-property_changed-clause-stop g c =
+    subst (λ (x : Accepted). StopLeaves g.S.Archive.kept g.S.Archive.leaves (x ∷ []) c.args.self.now c.settle.new.self) (λ i. ChangesProperty (c.of.ensures i)) c.settle.ensures.stop
+
+pub returns-in-Err-clause-stop : goal.returns-in-Err-clause-stop
+returns-in-Err-clause-stop g c =
+    still g.S.Archive.kept g.S.Archive.leaves g.S.Archive.stands g.met.S.Archive.stays c.args.self.now c.readiness.ensures.0 (ChangesProperty c.args.ask ∷ [])
+
+pub returns-in-Err-property_changed-clause-stop : goal.returns-in-Err-property_changed-clause-stop
+returns-in-Err-property_changed-clause-stop g c =
+    still g.S.Archive.kept g.S.Archive.leaves g.S.Archive.stands g.met.S.Archive.stays c.args.self.now c.readiness.ensures.0 (ChangesProperty c.args.ask ∷ [])

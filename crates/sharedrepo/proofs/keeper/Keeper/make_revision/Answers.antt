@@ -1,9 +1,10 @@
-use Rattle.std.proofs.Common.{◌≡◌, ◌∙◌, sym, subst, Err}
+use Rattle.sharedrepo.proofs.Stopping.{still}
+use Rattle.std.proofs.Common.{◌≡◌, [], ◌∷◌, ◌∙◌, sym, subst, Err}
 use Rattle.access.specs.{Changing.IsFailure, Points.content_of}
 use Rattle.published.specs.Moments.{added}
 use Rattle.repo_api.specs.{Transactions.MayCommit, Accepted.{Accepted, IsJudged, refusal_of}, Accepted.Accepted.Commits, Commits.commit_refusal}
 use Rattle.repo_api.specs.States.{RepoState}
-use Rattle.sharedrepo.specs.{Archives.IsMade, Settling.SettlesTo, Standing.{Standing, now_of}}
+use Rattle.sharedrepo.specs.{Archives.IsMade, Settling.SettlesTo, Standing.{Standing, StopLeaves, now_of}}
 use Rattle.sharedrepo.proofs.{Changing.{next_by, accepted_now, commit_fails, number_is, refused, not_begun}, Keeping.files_now}
 use Rattle.sharedrepo.proofs.keeper.Keeper.make_revision.Goals as goal
 
@@ -13,7 +14,7 @@ settle-requires-clause-next g c =
     let t = g.R.Repository.txn_state c.args.txn in
     let e = Commits c.args.ask t in
     let made = subst (λ (k : Standing g.row.S.Denot). IsMade (kept k.archive).content e (g.R.Repository.content c.in-Ok-committed.next)) c.self.view_is c.in-Ok-committed.ensures.1.0 in
-    next_by kept c.args.self.now c.readiness.ensures.0 c.in-Ok.ensures.1.0 e _ (g.R.Repository.content c.in-Ok-committed.next) made
+    next_by kept g.S.Archive.stands c.args.self.now c.readiness.ensures.0 c.in-Ok.ensures.1.0 e _ (g.R.Repository.content c.in-Ok-committed.next) made
     (λ i. Commits (c.of.ensures i) (g.R.Repository.txn_state (c.of-in-Ok.ensures i)))
     (λ s a. c.commits_are_right.ensures _ c.args.ask t s c.requires a)
 
@@ -25,8 +26,8 @@ settle-requires-clause-writes g c =
     subst (λ (x : Accepted). g.S.Archive.writes c.args.self.now.archive c.in-Ok-committed.unsaved x) (sym is)
     (subst (λ (k : Standing g.row.S.Denot). g.S.Archive.writes k.archive c.in-Ok-committed.unsaved e) c.self.view_is c.in-Ok-committed.ensures.1.1)
 
-pub returns-in-Ok-settle : goal.returns-in-Ok-settle
-returns-in-Ok-settle g c =
+pub returns-in-Ok-settle-clause-point : goal.returns-in-Ok-settle-clause-point
+returns-in-Ok-settle-clause-point g c =
     let kept = g.S.Archive.kept in
     let t = g.R.Repository.txn_state c.args.txn in
     let e = Commits c.args.ask t in
@@ -34,15 +35,15 @@ returns-in-Ok-settle g c =
     let made = subst (λ (k : Standing g.row.S.Denot). IsMade (kept k.archive).content e (g.R.Repository.content c.in-Ok-committed.next)) c.self.view_is c.in-Ok-committed.ensures.1.0 in
     let is : Commits c.of.result.value (g.R.Repository.txn_state c.of-in-Ok.result.value) ≡ e = λ i. Commits (c.of.ensures i) (g.R.Repository.txn_state (c.of-in-Ok.ensures i)) in (
       c.in-Ok.ensures.1.0,
-      accepted_now kept c.args.self.now c.readiness.ensures.0 c.in-Ok.ensures.1.0 e _ made,
+      accepted_now kept g.S.Archive.stands c.args.self.now c.readiness.ensures.0 c.in-Ok.ensures.1.0 e _ made,
       (
-        c.youngest-revision.ensures ∙ number_is _ c.args.ask t (content_of p) _ (files_now kept c.args.self.now c.readiness.ensures.0 c.in-Ok.ensures.1.0) made.made,
-        subst (λ (x : Accepted). now_of kept c.settle.new.self ≡ added p x) is c.in-Ok-settle.ensures,
+        c.youngest-revision.ensures ∙ number_is _ c.args.ask t (content_of p) _ (files_now kept g.S.Archive.stands c.args.self.now c.readiness.ensures.0 c.in-Ok.ensures.1.0) made.made,
+        subst (λ (x : Accepted). now_of kept c.settle.new.self ≡ added p x) is c.in-Ok-settle.ensures.point,
       ),
     )
 
-pub returns-in-Err-settle : goal.returns-in-Err-settle
-returns-in-Err-settle g c =
+pub returns-in-Err-settle-clause-point : goal.returns-in-Err-settle-clause-point
+returns-in-Err-settle-clause-point g c =
     let kept = g.S.Archive.kept in
     let t = g.R.Repository.txn_state c.args.txn in
     let e = Commits c.args.ask t in
@@ -50,26 +51,44 @@ returns-in-Err-settle g c =
     let made = subst (λ (k : Standing g.row.S.Denot). IsMade (kept k.archive).content e (g.R.Repository.content c.in-Ok-committed.next)) c.self.view_is c.in-Ok-committed.ensures.1.0 in
     let is : Commits c.of.result.value (g.R.Repository.txn_state c.of-in-Ok.result.value) ≡ e = λ i. Commits (c.of.ensures i) (g.R.Repository.txn_state (c.of-in-Ok.ensures i)) in
     commit_fails {T = Unit {0}} p (now_of kept c.settle.new.self) (commit_refusal (content_of p) c.args.ask t) e (λ x q. Unit {0}) c.in-Err-settle.fault c.in-Ok.ensures.1.0
-    (accepted_now kept c.args.self.now c.readiness.ensures.0 c.in-Ok.ensures.1.0 e _ made)
-    (subst (λ (x : Accepted). SettlesTo x p (Err c.in-Err-settle.fault) (now_of kept c.settle.new.self)) is c.in-Err-settle.ensures)
+    (accepted_now kept g.S.Archive.stands c.args.self.now c.readiness.ensures.0 c.in-Ok.ensures.1.0 e _ made)
+    (subst (λ (x : Accepted). SettlesTo x p (Err c.in-Err-settle.fault) (now_of kept c.settle.new.self)) is c.in-Err-settle.ensures.point)
 
-pub returns-in-Err : goal.returns-in-Err
-returns-in-Err g c =
+pub returns-in-Err-clause-point : goal.returns-in-Err-clause-point
+returns-in-Err-clause-point g c =
     let p = now_of g.S.Archive.kept c.args.self.now in
     let t = g.R.Repository.txn_state c.args.txn in
-    not_begun g.S.Archive.kept c.args.self.now {T = Unit {0}} (commit_refusal (content_of p) c.args.ask t) (Commits c.args.ask t) (IsFailure p) (λ x q. Unit {0}) c.in-Err.fault c.in-Err.ensures.1
+    not_begun g.S.Archive.kept g.S.Archive.stands c.args.self.now {T = Unit {0}} (commit_refusal (content_of p) c.args.ask t) (Commits c.args.ask t) (IsFailure p) (λ x q. Unit {0}) c.in-Err.fault c.in-Err.ensures.1
 
-pub returns-in-Err-committed : goal.returns-in-Err-committed
-returns-in-Err-committed g c =
+pub returns-in-Err-committed-clause-point : goal.returns-in-Err-committed-clause-point
+returns-in-Err-committed-clause-point g c =
     let kept = g.S.Archive.kept in
     let t = g.R.Repository.txn_state c.args.txn in
-    refused kept c.args.self.now c.readiness.ensures.0 c.in-Ok.ensures.1.0 (Unit {0}) {T = Unit {0}} (Commits c.args.ask t) (IsFailure (now_of kept c.args.self.now)) (λ x q. Unit {0}) c.in-Err-committed.fault
+    refused kept g.S.Archive.stands c.args.self.now c.readiness.ensures.0 c.in-Ok.ensures.1.0 (Unit {0}) {T = Unit {0}} (Commits c.args.ask t) (IsFailure (now_of kept c.args.self.now)) (λ x q. Unit {0}) c.in-Err-committed.fault
     (subst (λ (k : Standing g.row.S.Denot). IsJudged {T = Unit {0}} (Err c.in-Err-committed.fault) (refusal_of (kept k.archive).content (Commits c.args.ask t))) c.self.view_is c.in-Err-committed.ensures.0)
 
 pub committed-requires : goal.committed-requires
 committed-requires g c =
     let kept = g.S.Archive.kept in
     let t = g.R.Repository.txn_state c.args.txn in
-    let there : (kept c.args.self.now.archive).content ≡ content_of (now_of kept c.args.self.now) = files_now kept c.args.self.now c.readiness.ensures.0 c.in-Ok.ensures.1.0 in
+    let there : (kept c.args.self.now.archive).content ≡ content_of (now_of kept c.args.self.now) = files_now kept g.S.Archive.stands c.args.self.now c.readiness.ensures.0 c.in-Ok.ensures.1.0 in
     subst (λ (k : Standing g.row.S.Denot). MayCommit (kept k.archive).content t) (sym c.self.view_is)
     (subst (λ (x : RepoState). MayCommit x t) (sym there) c.requires)
+
+pub returns-in-Ok-settle-clause-stop : goal.returns-in-Ok-settle-clause-stop
+returns-in-Ok-settle-clause-stop g c =
+    let is : Commits c.of.result.value (g.R.Repository.txn_state c.of-in-Ok.result.value) ≡ Commits c.args.ask (g.R.Repository.txn_state c.args.txn) = λ i. Commits (c.of.ensures i) (g.R.Repository.txn_state (c.of-in-Ok.ensures i)) in
+    subst (λ (x : Accepted). StopLeaves g.S.Archive.kept g.S.Archive.leaves (x ∷ []) c.args.self.now c.settle.new.self) is c.in-Ok-settle.ensures.stop
+
+pub returns-in-Err-settle-clause-stop : goal.returns-in-Err-settle-clause-stop
+returns-in-Err-settle-clause-stop g c =
+    let is : Commits c.of.result.value (g.R.Repository.txn_state c.of-in-Ok.result.value) ≡ Commits c.args.ask (g.R.Repository.txn_state c.args.txn) = λ i. Commits (c.of.ensures i) (g.R.Repository.txn_state (c.of-in-Ok.ensures i)) in
+    subst (λ (x : Accepted). StopLeaves g.S.Archive.kept g.S.Archive.leaves (x ∷ []) c.args.self.now c.settle.new.self) is c.in-Err-settle.ensures.stop
+
+pub returns-in-Err-clause-stop : goal.returns-in-Err-clause-stop
+returns-in-Err-clause-stop g c =
+    still g.S.Archive.kept g.S.Archive.leaves g.S.Archive.stands g.met.S.Archive.stays c.args.self.now c.readiness.ensures.0 (Commits c.args.ask (g.R.Repository.txn_state c.args.txn) ∷ [])
+
+pub returns-in-Err-committed-clause-stop : goal.returns-in-Err-committed-clause-stop
+returns-in-Err-committed-clause-stop g c =
+    still g.S.Archive.kept g.S.Archive.leaves g.S.Archive.stands g.met.S.Archive.stays c.args.self.now c.readiness.ensures.0 (Commits c.args.ask (g.R.Repository.txn_state c.args.txn) ∷ [])

@@ -1,8 +1,9 @@
-use Rattle.std.proofs.Common.{◌≡◌, Err, refl, ap, sym, subst}
+use Rattle.sharedrepo.proofs.Stopping.{still}
+use Rattle.std.proofs.Common.{◌≡◌, [], ◌∷◌, Err, refl, ap, sym, subst}
 use Rattle.access.specs.Points.{content_of}
 use Rattle.published.specs.Moments.{added}
 use Rattle.repo_api.specs.{Accepted.{Accepted, IsJudged, refusal_of}, Accepted.Accepted.Unlocks, Locking.unlock_refusal}
-use Rattle.sharedrepo.specs.{Archives.IsMade, Standing.{Standing, now_of}}
+use Rattle.sharedrepo.specs.{Archives.IsMade, Standing.{Standing, StopLeaves, now_of}}
 use Rattle.sharedrepo.proofs.Changing.{quiet_right, next_by, settled_by, refused, not_begun}
 use Rattle.sharedrepo.proofs.keeper.Keeper.make_unlock.Goals as goal
 
@@ -10,27 +11,39 @@ pub settle-requires-clause-next : goal.settle-requires-clause-next
 settle-requires-clause-next g c =
     let kept = g.S.Archive.kept in
     let made = subst (λ (k : Standing g.row.S.Denot). IsMade (kept k.archive).content (Unlocks c.args.ask.now) (g.R.Repository.content c.in-Ok-unlocked.next)) c.self.view_is c.in-Ok-unlocked.ensures.1.0 in
-    next_by kept c.args.self.now c.readiness.ensures.0 c.in-Ok.ensures.1.0 (Unlocks c.args.ask.now) _ (g.R.Repository.content c.in-Ok-unlocked.next) made (ap (λ a. Unlocks a) c.of.ensures) (quiet_right _ (Unlocks c.args.ask.now) refl)
+    next_by kept g.S.Archive.stands c.args.self.now c.readiness.ensures.0 c.in-Ok.ensures.1.0 (Unlocks c.args.ask.now) _ (g.R.Repository.content c.in-Ok-unlocked.next) made (ap (λ a. Unlocks a) c.of.ensures) (quiet_right _ (Unlocks c.args.ask.now) refl)
 
 pub settle-requires-clause-writes : goal.settle-requires-clause-writes
 settle-requires-clause-writes g c =
     subst (λ (x : Accepted). g.S.Archive.writes c.args.self.now.archive c.in-Ok-unlocked.unsaved x) (sym (ap (λ a. Unlocks a) c.of.ensures))
     (subst (λ (k : Standing g.row.S.Denot). g.S.Archive.writes k.archive c.in-Ok-unlocked.unsaved (Unlocks c.args.ask.now)) c.self.view_is c.in-Ok-unlocked.ensures.1.1)
 
-pub returns-in-Ok-unlocked : goal.returns-in-Ok-unlocked
-returns-in-Ok-unlocked g c =
+pub returns-in-Ok-unlocked-clause-point : goal.returns-in-Ok-unlocked-clause-point
+returns-in-Ok-unlocked-clause-point g c =
     let kept = g.S.Archive.kept in
     let made = subst (λ (k : Standing g.row.S.Denot). IsMade (kept k.archive).content (Unlocks c.args.ask.now) (g.R.Repository.content c.in-Ok-unlocked.next)) c.self.view_is c.in-Ok-unlocked.ensures.1.0 in
-    settled_by kept c.args.self.now c.readiness.ensures.0 c.in-Ok.ensures.1.0 (now_of kept c.settle.new.self) (Unlocks c.args.ask.now) _ (g.R.Repository.content c.in-Ok-unlocked.next) (unlock_refusal (content_of (now_of kept c.args.self.now)) c.args.ask.now) c.settle.result made (ap (λ a. Unlocks a) c.of.ensures) refl (λ a. a) c.settle.ensures
+    settled_by kept g.S.Archive.stands c.args.self.now c.readiness.ensures.0 c.in-Ok.ensures.1.0 (now_of kept c.settle.new.self) (Unlocks c.args.ask.now) _ (g.R.Repository.content c.in-Ok-unlocked.next) (unlock_refusal (content_of (now_of kept c.args.self.now)) c.args.ask.now) c.settle.result made (ap (λ a. Unlocks a) c.of.ensures) refl (λ a. a) c.settle.ensures.point
 
-pub returns-in-Err : goal.returns-in-Err
-returns-in-Err g c =
+pub returns-in-Err-clause-point : goal.returns-in-Err-clause-point
+returns-in-Err-clause-point g c =
     let p = now_of g.S.Archive.kept c.args.self.now in
-    not_begun g.S.Archive.kept c.args.self.now {T = Unit {0}} (unlock_refusal (content_of p) c.args.ask.now) (Unlocks c.args.ask.now) (λ q. ⊥) (λ (_ : Unit {0}) q. q ≡ added p (Unlocks c.args.ask.now)) c.in-Err.fault c.in-Err.ensures.1
+    not_begun g.S.Archive.kept g.S.Archive.stands c.args.self.now {T = Unit {0}} (unlock_refusal (content_of p) c.args.ask.now) (Unlocks c.args.ask.now) (λ q. ⊥) (λ (_ : Unit {0}) q. q ≡ added p (Unlocks c.args.ask.now)) c.in-Err.fault c.in-Err.ensures.1
 
-pub returns-in-Err-unlocked : goal.returns-in-Err-unlocked
-returns-in-Err-unlocked g c =
+pub returns-in-Err-unlocked-clause-point : goal.returns-in-Err-unlocked-clause-point
+returns-in-Err-unlocked-clause-point g c =
     let kept = g.S.Archive.kept in
     let p = now_of kept c.args.self.now in
-    refused kept c.args.self.now c.readiness.ensures.0 c.in-Ok.ensures.1.0 (Unit {0}) {T = Unit {0}} (Unlocks c.args.ask.now) (λ q. ⊥) (λ (_ : Unit {0}) q. q ≡ added p (Unlocks c.args.ask.now)) c.in-Err-unlocked.fault
+    refused kept g.S.Archive.stands c.args.self.now c.readiness.ensures.0 c.in-Ok.ensures.1.0 (Unit {0}) {T = Unit {0}} (Unlocks c.args.ask.now) (λ q. ⊥) (λ (_ : Unit {0}) q. q ≡ added p (Unlocks c.args.ask.now)) c.in-Err-unlocked.fault
     (subst (λ (k : Standing g.row.S.Denot). IsJudged {T = Unit {0}} (Err c.in-Err-unlocked.fault) (refusal_of (kept k.archive).content (Unlocks c.args.ask.now))) c.self.view_is c.in-Err-unlocked.ensures.0)
+
+pub returns-in-Ok-unlocked-clause-stop : goal.returns-in-Ok-unlocked-clause-stop
+returns-in-Ok-unlocked-clause-stop g c =
+    subst (λ (x : Accepted). StopLeaves g.S.Archive.kept g.S.Archive.leaves (x ∷ []) c.args.self.now c.settle.new.self) (ap (λ a. Unlocks a) c.of.ensures) c.settle.ensures.stop
+
+pub returns-in-Err-clause-stop : goal.returns-in-Err-clause-stop
+returns-in-Err-clause-stop g c =
+    still g.S.Archive.kept g.S.Archive.leaves g.S.Archive.stands g.met.S.Archive.stays c.args.self.now c.readiness.ensures.0 (Unlocks c.args.ask.now ∷ [])
+
+pub returns-in-Err-unlocked-clause-stop : goal.returns-in-Err-unlocked-clause-stop
+returns-in-Err-unlocked-clause-stop g c =
+    still g.S.Archive.kept g.S.Archive.leaves g.S.Archive.stands g.met.S.Archive.stays c.args.self.now c.readiness.ensures.0 (Unlocks c.args.ask.now ∷ [])

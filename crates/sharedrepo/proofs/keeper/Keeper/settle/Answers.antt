@@ -1,9 +1,10 @@
-use Rattle.std.proofs.Common.{◌≡◌, ◌<◌, ◌∷◌, [], length, refl, sym, ap, subst, ◌∙◌, List, Bool, false, Ok, Err}
+use Rattle.std.proofs.Common.{◌≡◌, ◌<◌, ◌∷◌, [], length, refl, sym, ap, subst, ◌∙◌, List, Bool, true, false, Ok, Err}
 use Rattle.published.specs.{Edition.Edition, Events.{Event, state_of, point_of, accepted_by}, Events.Event.Makes}
 use Rattle.published.proofs.Histories.{longer_yet, next_may, next_state, state_more}
 use Rattle.repo_api.specs.{Accepted.{changed, IsAccepted}, States.RepoState}
-use Rattle.sharedrepo.specs.{Archives.{IsNext, FilesFor}, Settling.SettlesTo, Standing.{Standing, now_of, pending_in}}
-use Rattle.sharedrepo.proofs.Keeping.{files_after, files_now, not_saved, pending_told, saved}
+use Rattle.sharedrepo.specs.{Archives.IsNext, Settling.SettlesTo, Standing.{Standing, StopLeaves, now_of, pending_in, standing}}
+use Rattle.sharedrepo.proofs.Keeping.{files_after, files_now, not_saved, pending_told, saved, stand_still}
+use Rattle.sharedrepo.proofs.Stopping.{stop_left}
 use Rattle.sharedrepo.proofs.keeper.Keeper.settle.Goals as goal
 
 pub save_next-requires : goal.save_next-requires
@@ -38,7 +39,7 @@ invariant_of-self-in-Ok g c =
     let writes = subst (λ (k : Standing g.row.S.Denot). g.S.Archive.writes k.archive c.args.unsaved e) (sym c.self.view_is) c.requires.writes in
     let running : (kept c.self.inside.archive).halted ≡ false = ap (λ (k : Standing g.row.S.Denot). (kept k.archive).halted) c.self.view_is ∙ c.requires.ready.0 in
     let left = c.in-Ok.ensures.saved e writes in
-    let stood : (kept c.self.inside.archive).content ≡ state_of c.self.inside.front = files_now kept _ c.self.invariant running in
+    let stood : (kept c.self.inside.archive).content ≡ state_of c.self.inside.front = files_now kept g.S.Archive.stands _ c.self.invariant running in
     let content : g.R.Repository.content c.args.next ≡ state_of front =
     next_state c.self.inside.front e (g.R.Repository.content c.self.inside.repository) (g.R.Repository.content c.args.next) c.self.invariant.begun c.self.invariant.content next.made
     ∙ ap (λ (l : List Event). state_of l) (sym more) in
@@ -51,11 +52,11 @@ invariant_of-self-in-Ok g c =
       content = content;
       shown = ap (λ (x : Edition). x.list) c.publish.ensures;
       shown_content = ap (λ (x : Edition). x.content) c.publish.ensures ∙ sym content;
-      files = subst (λ (b : Bool). FilesFor (kept c.save_next.new.archive) b (pending_in g.R.Repository.txn_state c.self.inside.pending) front) (sym (left.1 ∙ running)) files;
+      files = stand_still kept g.S.Archive.stands c.save_next.new.archive (g.met.S.Archive.saves c.save_next.new.archive) front (pending_in g.R.Repository.txn_state c.self.inside.pending) (left.1 ∙ running) files;
     }
 
-pub returns-in-Ok : goal.returns-in-Ok
-returns-in-Ok g c =
+pub returns-in-Ok-clause-point : goal.returns-in-Ok-clause-point
+returns-in-Ok-clause-point g c =
     let kept = g.S.Archive.kept in
     let e = accepted_by g.R.Repository.txn_state c.args.asked in
     let writes = subst (λ (k : Standing g.row.S.Denot). g.S.Archive.writes k.archive c.args.unsaved e) (sym c.self.view_is) c.requires.writes in
@@ -77,16 +78,46 @@ invariant_of-self g c =
       content = steady.content;
       shown = ap (λ d. (g.T.Carries.carried_value d.shown.value).list) c.save_next.ensures.desk ∙ steady.shown;
       shown_content = ap (λ d. (g.T.Carries.carried_value d.shown.value).content) c.save_next.ensures.desk ∙ steady.shown_content;
-      files = files_after e c.in-Err.fault (kept c.self.inside.archive) (kept c.save_next.new.archive) (pending_in g.R.Repository.txn_state c.self.inside.pending) (pending_in g.R.Repository.txn_state c.keep_pending.new.pending) c.self.inside.front running
-          (files_now kept _ steady running) (subst (λ (x : RepoState). IsAccepted x e) steady.content next.right.accepted)
-          (ap (pending_in g.R.Repository.txn_state) c.keep_pending.ensures ∙ pending_told g.R.Repository.txn_state c.in-Err.fault c.args.asked c.self.inside.pending) (c.in-Err.ensures.saved e writes);
+      files = files_after kept g.S.Archive.stands c.save_next.new.archive (g.met.S.Archive.saves c.save_next.new.archive) c.self.inside.archive
+          e c.in-Err.fault (pending_in g.R.Repository.txn_state c.self.inside.pending) (pending_in g.R.Repository.txn_state c.keep_pending.new.pending) c.self.inside.front running
+          (files_now kept g.S.Archive.stands _ steady running) (subst (λ (x : RepoState). IsAccepted x e) steady.content next.right.accepted)
+          (ap (pending_in g.R.Repository.txn_state) c.keep_pending.ensures ∙ pending_told g.R.Repository.txn_state c.in-Err.fault c.args.asked c.self.inside.pending) (c.in-Err.ensures.saved e writes)
+          (g.met.S.Archive.rests c.self.inside.archive c.save_next.new.archive _ (c.in-Err.ensures.stop e writes));
     }
 
-pub returns-in-Err : goal.returns-in-Err
-returns-in-Err g c =
+pub returns-in-Err-clause-point : goal.returns-in-Err-clause-point
+returns-in-Err-clause-point g c =
     let kept = g.S.Archive.kept in
     let e = accepted_by g.R.Repository.txn_state c.args.asked in
     let writes = subst (λ (k : Standing g.row.S.Denot). g.S.Archive.writes k.archive c.args.unsaved e) (sym c.self.view_is) c.requires.writes in
     subst (λ (k : Standing g.row.S.Denot). SettlesTo e (now_of kept k) (Err c.in-Err.fault) (point_of c.self.inside.front (kept c.save_next.new.archive).halted (kept c.save_next.new.archive).failures (pending_in g.R.Repository.txn_state c.keep_pending.new.pending))) c.self.view_is
     (not_saved e c.in-Err.fault c.self.inside.front (kept c.self.inside.archive) (kept c.save_next.new.archive) (pending_in g.R.Repository.txn_state c.self.inside.pending) (pending_in g.R.Repository.txn_state c.keep_pending.new.pending)
     (ap (pending_in g.R.Repository.txn_state) c.keep_pending.ensures ∙ pending_told g.R.Repository.txn_state c.in-Err.fault c.args.asked c.self.inside.pending) (c.in-Err.ensures.saved e writes))
+
+pub returns-in-Ok-clause-stop : goal.returns-in-Ok-clause-stop
+returns-in-Ok-clause-stop g c =
+    let kept = g.S.Archive.kept in
+    let e = accepted_by g.R.Repository.txn_state c.args.asked in
+    let now = c.args.self.now in
+    let next = subst (λ (k : Standing g.row.S.Denot). IsNext k.content e (g.R.Repository.content c.args.next)) (sym c.self.view_is) c.requires.next in
+    let writes = subst (λ (k : Standing g.row.S.Denot). g.S.Archive.writes k.archive c.args.unsaved e) (sym c.self.view_is) c.requires.writes in
+    let running : (kept c.self.inside.archive).halted ≡ false = ap (λ (k : Standing g.row.S.Denot). (kept k.archive).halted) c.self.view_is ∙ c.requires.ready.0 in
+    subst (λ (k : Standing g.row.S.Denot). StopLeaves kept g.S.Archive.leaves (e ∷ []) k (standing c.next_front-front.result now.content now.shown c.save_next.new.archive now.pending)) c.self.view_is
+    (stop_left kept g.S.Archive.leaves (standing c.self.inside.front now.content now.shown c.self.inside.archive now.pending)
+    (standing c.next_front-front.result now.content now.shown c.save_next.new.archive now.pending) e (e ∷ []) running
+    (files_now kept g.S.Archive.stands _ c.self.invariant running) (subst (λ (x : RepoState). IsAccepted x e) c.self.invariant.content next.right.accepted)
+    ([], refl) (ap (λ (l : List Event). state_of l) c.next_front-front.ensures.0 ∙ state_more c.self.inside.front e c.self.invariant.begun) (c.in-Ok.ensures.stop e writes))
+
+pub returns-in-Err-clause-stop : goal.returns-in-Err-clause-stop
+returns-in-Err-clause-stop g c =
+    let kept = g.S.Archive.kept in
+    let e = accepted_by g.R.Repository.txn_state c.args.asked in
+    let now = c.args.self.now in
+    let next = subst (λ (k : Standing g.row.S.Denot). IsNext k.content e (g.R.Repository.content c.args.next)) (sym c.self.view_is) c.requires.next in
+    let writes = subst (λ (k : Standing g.row.S.Denot). g.S.Archive.writes k.archive c.args.unsaved e) (sym c.self.view_is) c.requires.writes in
+    let running : (kept c.self.inside.archive).halted ≡ false = ap (λ (k : Standing g.row.S.Denot). (kept k.archive).halted) c.self.view_is ∙ c.requires.ready.0 in
+    subst (λ (k : Standing g.row.S.Denot). StopLeaves kept g.S.Archive.leaves (e ∷ []) k (standing c.self.inside.front now.content now.shown c.save_next.new.archive now.pending)) c.self.view_is
+    (stop_left kept g.S.Archive.leaves (standing c.self.inside.front now.content now.shown c.self.inside.archive now.pending)
+    (standing c.self.inside.front now.content now.shown c.save_next.new.archive now.pending) e [] running
+    (files_now kept g.S.Archive.stands _ c.self.invariant running) (subst (λ (x : RepoState). IsAccepted x e) c.self.invariant.content next.right.accepted)
+    (e ∷ [], refl) refl (c.in-Err.ensures.stop e writes))

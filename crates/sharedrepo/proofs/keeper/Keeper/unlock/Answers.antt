@@ -1,15 +1,21 @@
-use Rattle.std.proofs.Common.{inl, refl, sym, ◌∙◌}
+use Rattle.std.proofs.Common.{[], ◌∷◌, inl, refl, sym, ◌∙◌}
 use Rattle.access.specs.Changing.{UnlocksAt}
 use Rattle.published.specs.Moments.{shared_rules}
+use Rattle.repo_api.specs.Accepted.Accepted.{ChangesProperty, Commits, Locks, Releases, Unlocks}
+use Rattle.sharedrepo.proofs.Stopping.{still}
 use Rattle.sharedrepo.proofs.Calling.{called, turned_away}
 use Rattle.sharedrepo.proofs.keeper.Keeper.unlock.Goals as goal
 
-pub returns : goal.returns
-returns g c =
-    called g.S.Archive.kept (UnlocksAt shared_rules c.args.ask.now) c.args.seat.now c.args.self.now c.tell.new.seat c.make_unlock-answer.new.self c.make_unlock-answer.result
-    (sym c.turns_away.ensures.0 ∙ c.if-turns_away.false) c.meet.ensures.later c.make_unlock-answer.ensures c.tell.ensures
+pub returns-clause-calls : goal.returns-clause-calls
+returns-clause-calls g c =
+    called g.S.Archive.kept g.S.Archive.stands (UnlocksAt shared_rules c.args.ask.now) c.args.seat.now c.args.self.now c.tell.new.seat c.make_unlock-answer.new.self c.make_unlock-answer.result
+    (sym c.turns_away.ensures.0 ∙ c.if-turns_away.false) c.meet.ensures.later c.make_unlock-answer.ensures.point c.tell.ensures
 
-pub returns-then-turns_away : goal.returns-then-turns_away
-returns-then-turns_away g c =
+pub returns-then-turns_away-clause-calls : goal.returns-then-turns_away-clause-calls
+returns-then-turns_away-clause-calls g c =
     let halted = sym c.turns_away.ensures.0 ∙ c.if-turns_away.true in
-    turned_away g.S.Archive.kept (UnlocksAt shared_rules c.args.ask.now) c.args.seat.now c.args.self.now halted (inl (halted, refl)) c.turns_away.ensures.1
+    turned_away g.S.Archive.kept g.S.Archive.stands (UnlocksAt shared_rules c.args.ask.now) c.args.seat.now c.args.self.now halted (inl (halted, refl)) c.turns_away.ensures.1
+
+pub returns-then-turns_away-clause-stop : goal.returns-then-turns_away-clause-stop
+returns-then-turns_away-clause-stop g c =
+    still g.S.Archive.kept g.S.Archive.leaves g.S.Archive.stands g.met.S.Archive.stays c.args.self.now c.turns_away.ensures.1 (Unlocks c.args.ask.now ∷ [])

@@ -1,8 +1,8 @@
-use Rattle.std.proofs.Common.{◌≡◌, ap, ◌∙◌, length, subst}
-use Rattle.repo_api.specs.{Commits.committed, Locking.without_released, States.RepoState}
+use Rattle.std.proofs.Common.{◌≡◌, [], ◌∷◌, ap, ◌∙◌, length}
+use Rattle.repo_api.specs.{Accepted.Accepted.{Commits, Releases}, Commits.committed, States.RepoState}
 use Rattle.access.specs.Points.{content_of, Point}
-use Rattle.store_access.specs.{Stored.{stored_at, point_in, without_handed}, Keeping.LeavesEither}
-use Rattle.store_access.proofs.{Changes.released, Stops.{unmoved, one_of_either, commit_released}}
+use Rattle.store_access.specs.Stored.{stored_at, point_in}
+use Rattle.store_access.proofs.{Changes.released, Leaving.{call_still, committed_and_released, not_released}}
 use Rattle.store_access.proofs.stored.StoredRepository.commit_and_release.Goals as goal
 
 pub returns-in-Ok-settle_revision-clause-point : goal.returns-in-Ok-settle_revision-clause-point
@@ -31,35 +31,25 @@ returns-in-Ok-settle_revision-clause-point g c =
     )
 
 pub returns-in-Ok-settle_revision-clause-stop : goal.returns-in-Ok-settle_revision-clause-stop
-returns-in-Ok-settle_revision-clause-stop g c = λ honest goes_on.
-    let s = g.S.Store in
-    let f = g.F.Filed in
+returns-in-Ok-settle_revision-clause-stop g c =
     let r = g.F.Repository in
-    let old = (g.F.Repository.content c.args.self.now.repository) in
+    let start = c.args.self.now in
     let middle = c.settle_revision.new.self in
-    let is : r.content c.in-Ok.next ≡ committed old c.args.ask (r.txn_state c.args.txn) = cc c.in-Ok.ensures.ok in
-    let now : r.content middle.repository ≡ committed old c.args.ask (r.txn_state c.args.txn) = ap content_of c.in-Ok-settle_revision.ensures.point ∙ is in
-    commit_released s g.F.Repository.content f.is_of c.args.self.now.saves.store middle.saves.store c.release_handed.new.self.saves.store
-    old (committed (g.F.Repository.content c.args.self.now.repository) c.args.ask (g.F.Repository.txn_state c.args.txn)) c.args.ask c.args.handed c.requires.handed_in
-    (subst (λ (x : RepoState). ∥ LeavesEither g.F.Repository.content f.is_of s c.args.self.now.saves.store middle.saves.store old x ∥₁) is (c.settle_revision.ensures.stop honest goes_on))
-    (subst (λ (x : RepoState). ∥ LeavesEither g.F.Repository.content f.is_of s middle.saves.store c.release_handed.new.self.saves.store x (without_handed x c.args.handed) ∥₁) now
-    (c.release_handed.ensures.stop (c.settle_revision.ensures.honest honest) (ap (λ (p : Point). p.halted) c.in-Ok-settle_revision.ensures.point ∙ goes_on)))
+    let end = c.release_handed.new.self in
+    let is : r.content c.in-Ok.next ≡ committed (r.content start.repository) c.args.ask (r.txn_state c.args.txn) = cc c.in-Ok.ensures.ok in
+    committed_and_released r.content g.F.Filed.is_of g.S.Store (start.repository, start.saves) (middle.repository, middle.saves) (end.repository, end.saves)
+    c.args.ask (r.txn_state c.args.txn) c.args.handed c.requires.handed_in c.requires.goes_on
+    (ap (λ (p : Point). p.halted) c.in-Ok-settle_revision.ensures.point ∙ c.requires.goes_on) c.in-Ok.ensures.judged.0
+    (ap content_of c.in-Ok-settle_revision.ensures.point ∙ is) c.in-Ok-settle_revision.ensures.stop c.release_handed.ensures.stop
 
 pub returns-in-Ok-clause-stop : goal.returns-in-Ok-clause-stop
-returns-in-Ok-clause-stop g c = λ honest goes_on.
-    let s = g.S.Store in
-    let f = g.F.Filed in
-    let r = g.F.Repository in
-    let old = (g.F.Repository.content c.args.self.now.repository) in
-    let is : r.content c.in-Ok.next ≡ committed old c.args.ask (r.txn_state c.args.txn) = cc c.in-Ok.ensures.ok in
-    one_of_either s g.F.Repository.content f.is_of c.args.self.now.saves.store c.settle_revision.new.self.saves.store (g.F.Repository.content c.args.self.now.repository) (committed (g.F.Repository.content c.args.self.now.repository) c.args.ask (g.F.Repository.txn_state c.args.txn)) (without_released (committed (g.F.Repository.content c.args.self.now.repository) c.args.ask (g.F.Repository.txn_state c.args.txn)) c.args.ask.author c.args.ask.tokens)
-    (subst (λ (x : RepoState). ∥ LeavesEither g.F.Repository.content f.is_of s c.args.self.now.saves.store c.settle_revision.new.self.saves.store old x ∥₁) is (c.settle_revision.ensures.stop honest goes_on))
+returns-in-Ok-clause-stop g c =
+    let start = c.args.self.now in
+    let middle = c.settle_revision.new.self in
+    not_released g.F.Repository.content g.F.Filed.is_of g.S.Store (start.repository, start.saves) (middle.repository, middle.saves)
+    c.args.ask (g.F.Repository.txn_state c.args.txn) c.settle_revision.ensures.stop
 
 pub returns-clause-stop : goal.returns-clause-stop
-returns-clause-stop g c = λ honest goes_on.
-    let s = g.S.Store in
-    let f = g.F.Filed in
-    one_of_either s g.F.Repository.content f.is_of c.args.self.now.saves.store c.args.self.now.saves.store (g.F.Repository.content c.args.self.now.repository) (committed (g.F.Repository.content c.args.self.now.repository) c.args.ask (g.F.Repository.txn_state c.args.txn)) (without_released (committed (g.F.Repository.content c.args.self.now.repository) c.args.ask (g.F.Repository.txn_state c.args.txn)) c.args.ask.author c.args.ask.tokens)
-    (unmoved s g.F.Repository.content f.is_of
-    c.args.self.now.saves c.args.self.now.repository (committed (g.F.Repository.content c.args.self.now.repository) c.args.ask (g.F.Repository.txn_state c.args.txn))
-    (λ d. g.met.S.Store.only_now c.args.self.now.saves.store d) c.args.self.now.kept goes_on honest)
+returns-clause-stop g c =
+    call_still g.F.Repository.content g.F.Filed.is_of g.S.Store (λ store folder. g.met.S.Store.only_now store folder)
+    c.args.self.now.saves c.args.self.now.repository (Commits c.args.ask (g.F.Repository.txn_state c.args.txn) ∷ Releases c.args.ask.author c.args.ask.tokens ∷ []) c.args.self.now.kept

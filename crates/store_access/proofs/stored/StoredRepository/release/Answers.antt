@@ -1,25 +1,19 @@
-use Rattle.std.proofs.Common.{◌≡◌, true, rules, subst, sym}
-use Rattle.repo_api.specs.Locking.{releases, without_released}
+use Rattle.std.proofs.Common.{◌≡◌, [], ◌∷◌, true, rules, subst, sym}
+use Rattle.repo_api.specs.{Accepted.Accepted.Releases, Locking.{releases, without_released}}
 use Rattle.access.specs.{Points.Point, declared.access.Released.Released}
 use Rattle.store_access.specs.Stored.{point_in, ReleasesBy}
-use Rattle.store_access.proofs.{Changes.release_saved, Stops.unmoved}
+use Rattle.store_access.proofs.{Changes.release_saved, Leaving.call_still}
 use Rattle.store_access.proofs.stored.StoredRepository.release.Goals as goal
 
 pub returns-then-not-releases-clause-stop : goal.returns-then-not-releases-clause-stop
-returns-then-not-releases-clause-stop g c = λ honest goes_on.
-    let s = g.S.Store in
-    let f = g.F.Filed in
-    unmoved s g.F.Repository.content f.is_of
-    c.args.self.now.saves c.args.self.now.repository (without_released (g.F.Repository.content c.args.self.now.repository) c.args.handed.user c.args.handed.tokens)
-    (λ d. g.met.S.Store.only_now c.args.self.now.saves.store d) c.args.self.now.kept goes_on honest
+returns-then-not-releases-clause-stop g c =
+    call_still g.F.Repository.content g.F.Filed.is_of g.S.Store (λ store folder. g.met.S.Store.only_now store folder)
+    c.args.self.now.saves c.args.self.now.repository (Releases c.args.handed.user c.args.handed.tokens ∷ []) c.args.self.now.kept
 
 pub returns-in-Err-clause-stop : goal.returns-in-Err-clause-stop
-returns-in-Err-clause-stop g c = λ honest goes_on.
-    let s = g.S.Store in
-    let f = g.F.Filed in
-    unmoved s g.F.Repository.content f.is_of
-    c.args.self.now.saves c.args.self.now.repository (without_released (g.F.Repository.content c.args.self.now.repository) c.args.handed.user c.args.handed.tokens)
-    (λ d. g.met.S.Store.only_now c.args.self.now.saves.store d) c.args.self.now.kept goes_on honest
+returns-in-Err-clause-stop g c =
+    call_still g.F.Repository.content g.F.Filed.is_of g.S.Store (λ store folder. g.met.S.Store.only_now store folder)
+    c.args.self.now.saves c.args.self.now.repository (Releases c.args.handed.user c.args.handed.tokens ∷ []) c.args.self.now.kept
 
 pub returns-in-Ok-clause-point : goal.returns-in-Ok-clause-point
 returns-in-Ok-clause-point g c =

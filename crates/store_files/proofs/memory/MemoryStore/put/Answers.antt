@@ -1,9 +1,15 @@
-use Rattle.std.proofs.Common.{◌≡◌, rules}
-use Rattle.store_files.proofs.Putting.{put}
+use Rattle.std.proofs.Common.{List, ◌≡◌, ◌∷◌, sym, subst, rules}
+use Rattle.store_files.specs.{Folders.{Folder, IsSame, nothing}, Memory.files_of, Names.{kind_of, number_of}, Note.Event, Replay.{held, Leaves}}
+use Rattle.store_files.proofs.Putting.{noted_rests, noted_same}
 use Rattle.store_files.proofs.memory.MemoryStore.put.Goals as goal
 
-pub returns-clause-ok : goal.returns-clause-ok
-returns-clause-ok c =
-    let is : c.in_ok-bytes.bytes.items ≡ c.args.bytes.now = search rules in
-    put c.args.self.now.files c.insert.new.self c.args.name c.kind.result c.number.result c.in_ok-bytes.bytes c.args.bytes.now
-    c.kind.ensures c.number.ensures is c.in_ok-insert.ensures.updates.0
+pub invariant_of-self-2 : goal.invariant_of-self-2
+invariant_of-self-2 c =
+    let was = c.args.self.now in
+    let is : c.note.new.self.events ≡ (c.args.call, kind_of c.args.name, number_of c.args.name, 0, c.args.bytes.now) ∷ was.log.events = search rules in
+    record {
+      same = subst (λ (es : List Event). IsSame (held nothing es) (files_of c.put_file.new.files)) (sym is)
+          (noted_same was.log.events (files_of was.files) was.same c.args.call c.args.name c.args.bytes.now (files_of c.put_file.new.files) c.requires c.in_ok-put_file.ensures.ok);
+      rests = subst (λ (es : List Event). (f : Folder) → Leaves nothing es f → IsSame (held nothing es) f) (sym is)
+          (noted_rests was.log.events was.rests c.args.call c.args.name c.args.bytes.now c.requires);
+    }

@@ -1,6 +1,6 @@
 use Rattle.std.proofs.Common.{Result, sym, subst}
 use Rattle.store_files.specs.{Moments.HasCause, Names.{kind_of, number_of}, declared.fault.StoreFault.StoreFault}
-use Rattle.store_folder.specs.Replay.{failed_in}
+use Rattle.store_files.specs.Replay.{failed_in}
 use Rattle.store_folder.proofs.Counting.{done_call}
 use Rattle.store_folder.proofs.folder.FolderStoreStore.replace.Goals as goal
 

@@ -1,0 +1,14 @@
+-- What those so far and those that are left make is what all make.
+use Rattle.std.proofs.Common.{◌≡◌, ◌-◌, ◌++◌, map, length, drop}
+use Rattle.filed_writing.specs.{Drafts.comes_of, Layout.{all_come, next_after_all, nodes_of}}
+use Rattle.filed_writing.proofs.revision.Revision.origins.Given as goal
+
+abbrev pub invariant-loop-node : goal.invariant-loop-node
+invariant-loop-node l =
+    (map comes_of l.origins.items ++ all_come l.self (drop (length l.origins.items) (nodes_of l.self)) l.next
+    ≡ all_come l.self (nodes_of l.self) l.fn.next)
+    × (next_after_all l.self (drop (length l.origins.items) (nodes_of l.self)) l.next
+    ≡ next_after_all l.self (nodes_of l.self) l.fn.next)
+
+abbrev pub decreases-loop-node : goal.decreases-loop-node
+decreases-loop-node l = length (nodes_of l.self) - length l.origins.items

@@ -1,0 +1,5 @@
+use Rattle.std.proofs.Common.{[]}
+use Rattle.svnserved.proofs.repositories.create_in_folder.Given as goal
+
+abbrev pub ghost-make : goal.ghost-make
+ghost-make a = []
