@@ -13,7 +13,7 @@ pub enum Released {
     Settled,
     /// Memory was refused for their release, and they stand.
     NoMemory,
-    /// The store failed at their release, and no change is made any more.
+    /// The store failed at their release: they stand; or nobody knows whether they do, and no change is made any more.
     StoreFailed,
 }
 

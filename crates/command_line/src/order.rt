@@ -40,4 +40,6 @@ pub enum Order {
     },
     /// Serve sessions over TCP.
     Serve(Service),
+    /// Say which version of the program this is.
+    Version,
 }

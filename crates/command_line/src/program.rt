@@ -1,5 +1,6 @@
 //! The program with its commands, as they are shown and parsed.
 
+use crate::version::VERSION;
 use clap::{Arg, ArgAction, Command};
 use std::alloc::{AllocError, Global};
 
@@ -34,11 +35,8 @@ pub(crate) const REVPROPS: &str = "revprops";
 pub(crate) const QUIET: &str = "quiet";
 
 /// Makes an argument with a value that has to be there.
-fn required_argument<'a>(alloc: Global, name: &'a str, value: &'a str) -> Arg<'a> {
-    Arg::new(alloc, name)
-        .long(name)
-        .value_name(value)
-        .required(true)
+fn required_argument<'a>(alloc: Global, name: &'a str, value: &'a str, help: &'a str) -> Arg<'a> {
+    optional_argument(alloc, name, value, help).required(true)
 }
 
 /// Makes an argument with a value that may be left out.
@@ -57,10 +55,18 @@ fn flag_argument<'a>(alloc: Global, name: &'a str, help: &'a str) -> Arg<'a> {
         .help(help)
 }
 
-/// Makes the argument for the folder of the repository, or `-`.
-fn location_argument<'a>(alloc: Global) -> Arg<'a> {
-    Arg::new(alloc, FOLDER).required(true).help(
-        "The repository's folder; `-` is an empty repository in memory",
+/// Makes the argument for the folder of the repository.
+fn folder_argument<'a>(alloc: Global, help: &'a str) -> Arg<'a> {
+    Arg::new(alloc, FOLDER).required(true).help(help)
+}
+
+/// Makes the argument that names the repository.
+fn name_argument<'a>(alloc: Global) -> Arg<'a> {
+    required_argument(
+        alloc,
+        NAME,
+        "NAME",
+        "The repository's name in URLs: 1 to 64 of A-Z, a-z, 0-9, `-`, `_` and `.`",
     )
 }
 
@@ -73,47 +79,77 @@ fn revprops_argument<'a>(alloc: Global) -> Arg<'a> {
     )
 }
 
-/// Makes the command `create DIR`.
-fn create_command<'a>(alloc: Global) -> Result<Command<'a>, AllocError> {
-    let folder = Arg::new(alloc, FOLDER).required(true).help(
-        "The repository's folder, which is made where it is missing",
-    );
-    Command::new(alloc, CREATE)
-        .about("Makes an empty repository")
-        .arg(folder)
+/// Makes the argument that says where to listen.
+fn listen_argument<'a>(alloc: Global) -> Arg<'a> {
+    required_argument(
+        alloc,
+        LISTEN,
+        "ADDRESS:PORT",
+        "Where to listen: a dotted IPv4 address, and a port, where 0 is one that is free",
+    )
 }
 
-/// Makes the command `stdio DIR --name N [--revprops]`.
+/// Makes the argument that names the file of users.
+fn users_argument<'a>(alloc: Global) -> Arg<'a> {
+    required_argument(
+        alloc,
+        USERS,
+        "FILE",
+        "The file of users: a line `[users]`, and after it lines `name = password`",
+    )
+}
+
+/// Makes the argument that says how many sessions the clients of one address may have.
+fn per_address_argument<'a>(alloc: Global) -> Arg<'a> {
+    optional_argument(
+        alloc,
+        PER_ADDRESS,
+        "COUNT",
+        "How many sessions one address may have at a time, 1 to 16; without it 16",
+    )
+}
+
+/// Makes the command `create DIR`.
+fn create_command<'a>(alloc: Global) -> Result<Command<'a>, AllocError> {
+    Command::new(alloc, CREATE)
+        .about("Makes an empty repository")
+        .arg(folder_argument(
+            alloc,
+            "The repository's folder, which is made if it is missing",
+        ))
+}
+
+/// Makes the command `stdio DIR --name NAME [--revprops]`.
 fn stdio_command<'a>(alloc: Global) -> Result<Command<'a>, AllocError> {
     Command::new(alloc, STDIO)
-        .about("Serves one session over the standard streams")
-        .arg(location_argument(alloc))?
-        .arg(required_argument(alloc, NAME, "N"))?
+        .about("Serves one client over standard input and output")
+        .arg(folder_argument(
+            alloc,
+            "The repository's folder, as `create` makes it; `-` is an empty repository in memory",
+        ))?
+        .arg(name_argument(alloc))?
         .arg(revprops_argument(alloc))
 }
 
-/// Makes the command `serve DIR --listen A:P --name N --users FILE [--per-address N] [--revprops] [--quiet]`.
+/// Makes the command `serve DIR --listen ADDRESS:PORT --name NAME --users FILE [--per-address COUNT] [--revprops]
+/// [--quiet]`.
 fn serve_command<'a>(alloc: Global) -> Result<Command<'a>, AllocError> {
     Command::new(alloc, SERVE)
-        .about("Serves sessions over TCP")
-        .arg(location_argument(alloc))?
-        .arg(required_argument(alloc, LISTEN, "A:P"))?
-        .arg(required_argument(alloc, NAME, "N"))?
-        .arg(required_argument(alloc, USERS, "FILE"))?
-        .arg(optional_argument(
-            alloc,
-            PER_ADDRESS,
-            "N",
-            "How many sessions one address may have at a time, 1 to 16",
-        ))?
+        .about("Serves up to 16 clients at a time over TCP, at svn://HOST:PORT/NAME")
+        .arg(folder_argument(alloc, "The repository's folder, as `create` makes it"))?
+        .arg(listen_argument(alloc))?
+        .arg(name_argument(alloc))?
+        .arg(users_argument(alloc))?
+        .arg(per_address_argument(alloc))?
         .arg(revprops_argument(alloc))?
-        .arg(flag_argument(alloc, QUIET, "Tells nothing on standard error but a fault"))
+        .arg(flag_argument(alloc, QUIET, "Writes nothing on standard error but a fault"))
 }
 
 /// Makes the program with its commands.
 pub(crate) fn program<'a>(alloc: Global) -> Result<Command<'a>, AllocError> {
     Command::new(alloc, "svnserved")
         .about("A Subversion server")
+        .version(VERSION)
         .subcommand_required(true)
         .subcommand(create_command(alloc)?)?
         .subcommand(stdio_command(alloc)?)?

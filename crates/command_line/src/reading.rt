@@ -92,7 +92,7 @@ fn per_address_of(alloc: Global, matches: &ArgMatches<'_>) -> Result<u64, Comman
     };
     match text.parse::<u64>() {
         Ok(count) if count >= 1 && count <= SESSIONS => Ok(count),
-        _ => Err(bad(alloc, "error: N of --per-address is 1 to 16\n")),
+        _ => Err(bad(alloc, "error: COUNT of --per-address is 1 to 16\n")),
     }
 }
 
@@ -123,6 +123,7 @@ pub fn read_command_line(alloc: Global, words: &[String]) -> Result<Order, Comma
             Some((_, arguments)) => stdio_order(alloc, arguments),
             None => Err(bad(alloc, "error: a command is missing\n")),
         },
+        Err(error) if error.kind() == ErrorKind::DisplayVersion => Ok(Order::Version),
         Err(error) => Err(fault_of(alloc, &error)),
     }
 }

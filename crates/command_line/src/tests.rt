@@ -51,6 +51,7 @@ fn ordered(alloc: Global, order: &Order) -> Result<String, AllocError> {
             Ok(format!(in alloc; "stdio {location} {name} {revprops}")?)
         }
         Order::Serve(service) => served(alloc, service),
+        Order::Version => String::from_str(alloc, "version"),
     }
 }
 
@@ -92,7 +93,10 @@ fn reads_what_is_asked_for(rt: HostRuntime) -> Result<(), Fail> {
             "serve in memory 127.0.0.1:1 r file 4 false false",
         ),
         ("svnserved --help", "help"),
+        ("svnserved create --help", "help"),
         ("svnserved serve --help", "help"),
+        ("svnserved --version", "version"),
+        ("svnserved -V", "version"),
     ];
     for (line, wanted) in lines {
         assert_eq!(rt; asked(rt.alloc(), line)?.as_str(), wanted, "{line}");
@@ -126,6 +130,8 @@ fn refuses_other_lines(rt: HostRuntime) -> Result<(), Fail> {
         "svnserved serve - --listen 127.0.0.1:1 --name r --users file --per-address 17",
         "svnserved serve - --listen 127.0.0.1:1 --name r --users file --per-address many",
         "svnserved other - --name r",
+        "svnserved serve --version",
+        "svnserved --version=1",
     ];
     for line in lines {
         assert_eq!(rt; asked(rt.alloc(), line)?.as_str(), "bad", "{line}");

@@ -1,5 +1,5 @@
 -- What a save leaves of an archive.
-use Rattle.std.proofs.{Common.{◌≡◌, ◌⊎◌, inl, inr, ⊎_elim, ℕ, Bool, true, false, List, [], ◌∷◌, Ok, Err, refl, sym, ◌∙◌, subst}, lemmas.Bool.false≢true}
+use Rattle.std.proofs.{Common.{◌≡◌, inl, inr, ⊎_elim, ℕ, Bool, true, false, [], ◌∷◌, Ok, Err, refl, sym, ◌∙◌, subst}, lemmas.Bool.false≢true}
 use Rattle.std.specs.Prelude.{IsErrOf, Result}
 use Rattle.repo_api.specs.{Accepted.{Accepted, changed}, States.RepoState}
 use Rattle.repo_api.specs.declared.repository.Repository as Repository
@@ -7,7 +7,7 @@ use Rattle.store_files.specs.{declared.store.Store.Ghosts, declared.fault.StoreF
 use Rattle.store_files.specs.declared.fault.StoreFault.TheVariants as store
 use Rattle.repostore.specs.{Saving.SaveEnds, declared.saves.Saves.Saves}
 use Rattle.stops.specs.Beginnings.{through}
-use Rattle.sharedrepo.specs.{Archives.{Kept, SaveLeaves, is_commit}, declared.archive.SaveFault.SaveFault}
+use Rattle.sharedrepo.specs.{Archives.{Kept, SaveLeaves}, declared.archive.SaveFault.SaveFault}
 use Rattle.store_access.specs.Leaving.{FilesLeave}
 use Rattle.store_access.specs.declared.filed.Filed as Filed
 use Rattle.store_access.proofs.Leaving.{save_leaves}
@@ -29,9 +29,8 @@ module _ {S : Type 0} (s : Ghosts S) (e : Accepted) (content : RepoState) (old n
 
   -- a save that failed
   pub save_failed : (fault : StoreFault) (told : SaveFault) → SaveEnds s {T = Unit {0}} old new (Err fault) → told ≡ told_as new.is_halted fault
-      → (IsErrOf {T = Unit {0}} (Err fault) store.Device → new.is_halted ≡ false → is_commit e ≡ true)
       → SaveLeaves e (at content old.is_halted (s.failed old.store)) (Err told) (at content new.is_halted (s.failed new.store))
-  save_failed fault told ends is_told revises = elim (ends.only refl) [
+  save_failed fault told ends is_told = elim (ends.only refl) [
     | inl by ↦ of_device new.is_halted refl by
     | inr (inl lacks) ↦ of_memory new.is_halted refl lacks
     | inr (inr stopped) ↦ absurd (false≢true (sym running ∙ ends.halted.0 stopped))
@@ -46,7 +45,7 @@ module _ {S : Type 0} (s : Ghosts S) (e : Accepted) (content : RepoState) (old n
           subst Goal (sym (is_told ∙ (λ i. told_as (is i) (device i)))) (inl refl, is, ends.device by)
       of_device false is by =
           let device : fault ≡ store.Device = cc by in
-          subst Goal (sym (is_told ∙ (λ i. told_as (is i) (device i)))) (revises by is, refl, is ∙ sym running, ends.device by)
+          subst Goal (sym (is_told ∙ (λ i. told_as (is i) (device i)))) (refl, is ∙ sym running, ends.device by)
 
       of_memory : (b : Bool) → new.is_halted ≡ b → IsErrOf {T = Unit {0}} (Err fault) store.NoMemory → Goal told
       of_memory true is lacks =

@@ -1,5 +1,5 @@
 -- What a change writes, and what that makes of the files.
-use Rattle.std.specs.Prelude.{◌≡◌, ◌+◌, ◌<◌, Bool, List, [], ◌∷◌, true, false, if◌then◌else◌, Some, length, Result, IsErrOf}
+use Rattle.std.specs.Prelude.{◌≡◌, ◌+◌, ◌<◌, Bool, List, [], ◌∷◌, if◌then◌else◌, Some, length, Result}
 use Rattle.repo_api.specs.{Accepted.{Accepted, changed}, States.RepoState}
 use Rattle.repo_api.specs.declared.repository.Repository as Repository
 use Rattle.store_files.specs.declared.store.Store as Store
@@ -10,7 +10,7 @@ use Rattle.repostore.specs.declared.saves.Saves.{Saves}
 use Rattle.stops.specs.Beginnings.{through}
 use Rattle.store_access.specs.Leaving.{FilesLeave, FilesStand}
 use Rattle.store_access.specs.declared.filed.Filed as Filed
-use Rattle.sharedrepo.specs.{Archives.{Kept, SaveLeaves, is_commit}, declared.archive.SaveFault.SaveFault}
+use Rattle.sharedrepo.specs.{Archives.{Kept, SaveLeaves}, declared.archive.SaveFault.SaveFault}
 use Rattle.sharedrepo.specs.declared.archive.SaveFault.TheVariants as faults
 use Rattle.filed_archive.specs.{declared.unsaved.ChangedFiles.ChangedFiles, declared.unsaved.ChangedFiles.TheVariants.{Revision, Locks, Properties}}
 use Rattle.filed_archive.specs.{declared.unsaved.Unsaved.Unsaved, declared.filed_archive.FiledArchive.FiledArchive}
@@ -28,11 +28,6 @@ Fits (Revision new) files = count_in new.current.items ≡ Some (length files.re
 Fits (Locks file) files = Unit {0}
 Fits (Properties new) files = new.revision < length files.revisions
 
-abbrev pub is_revision : ChangedFiles → Bool
-is_revision (Revision new) = true
-is_revision (Locks file) = false
-is_revision (Properties new) = false
-
 -- the files of the one become those of the other
 abbrev pub Leads : {F : Type 0} → (F → Files → Type 0) → F → ChangedFiles → F → Type 0
 Leads is_of repository new next = (files : Files) → is_of repository files
@@ -46,15 +41,13 @@ told_as halted (store.File fault) = if halted then faults.Halted else faults.Dev
 told_as halted store.Halted = if halted then faults.Halted else faults.Device
 told_as halted store.Exists = if halted then faults.Halted else faults.Device
 
--- the save of these files, where they can be written to those that are saved. Only of a revision
--- the device may fail without a halt
+-- the save of these files, where they can be written to those that are saved
 abbrev pub SavesFiles : {S : Type 0} → Store.Ghosts S → ChangedFiles → Saves S
     → Result (Unit {0}) StoreFault → Saves S → Type 0
 SavesFiles s new old result after =
     ((files : Files) → IsSaved s old files → Fits new files
     → SaveMakes s old after result files (written new files))
     × SaveEnds s old after result
-    × (IsErrOf result store.Device → after.is_halted ≡ false → is_revision new ≡ true)
 
 module _ {F S T : Type 0} {f : Filed.Ghosts F T} {r : Repository.Ghosts F T}
     {s : Store.Ghosts S} where
@@ -70,7 +63,6 @@ module _ {F S T : Type 0} {f : Filed.Ghosts F T} {r : Repository.Ghosts F T}
   pub record Writes (a : FiledArchive F S T f r s) (unsaved : Unsaved F)
       (e : Accepted) : Type 0 where
     pub next : r.content unsaved.next ≡ changed (r.content a.repository) e
-    pub kind : is_revision unsaved.files ≡ is_commit e
     pub leads : Leads f.is_of a.repository unsaved.files unsaved.next
 
   -- its files stand for one of these, if they are honest

@@ -26,7 +26,7 @@ fn told(is_halted: bool, fault: StoreFault) -> SaveFault
     }
 }
 
-/// Saves what a change writes. Only of a revision the device may fail without a halt.
+/// Saves what a change writes.
 fn save_files<S: Store>(saves: &mut Saves<S>, new: &ChangedFiles) -> Result<(), StoreFault>
     ensures { SavesFiles S.Store new.now saves.old result saves.new }
 {

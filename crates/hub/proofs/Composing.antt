@@ -11,7 +11,7 @@ use Rattle.machine.specs.declared.env.Env.{Env}
 use Rattle.machine.specs.declared.phase.Phase.TheVariants.{Greeted, LoggingIn, Challenged, Serving, Editing, Skipping, Reporting, Driven, Ended}
 use Rattle.hub_runs.specs.{Runs.{answered, CommitLeaves, ends_of, Event, HubRun, HubStep, InputHappens, InputsAre}, Runs.Event.{Drops, Hears, Leaves}}
 use Rattle.hub_runs.specs.{SessionLaws.{session_of-updated, session_of-without}, State.{hub_at, HubState, kept, session_of, updated, without}}
-use Rattle.hub_runs.proofs.Failing.{or_false, or_true}
+use Rattle.hub_runs.proofs.{Effects.or_false, Failing.or_true}
 use Rattle.hub.proofs.Places.{updated_same, without_none, kept_kept, kept_ended, without-kept}
 
 abbrev pub events_of : ℕ → List Input → List Event

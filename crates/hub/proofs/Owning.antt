@@ -1,5 +1,5 @@
 -- What events do is what their sessions have asked for.
-use Rattle.std.proofs.{Common.{◌≡◌, ℕ, List, [], ◌∷◌, ◌++◌, true, Some, refl, sym, ap, subst, ◌∙◌}, lemmas.Bool.true≢false}
+use Rattle.std.proofs.{Common.{◌≡◌, ℕ, List, [], ◌∷◌, ◌++◌, true, false, Some, refl, sym, ap, subst, ◌∙◌}, lemmas.Bool.true≢false}
 use Rattle.std.specs.FinMap.{get}
 use Rattle.svnpath.specs.Paths.{PathValue}
 use Rattle.repo_api.specs.{Accepted.{Accepted, changed, changed_all}, Accepted.Accepted.{ChangesProperty, Commits, Locks, Releases, Unlocks}, Commits.next_tree}
@@ -30,7 +30,7 @@ module _ (keeps : KeepTrees)
   event_does old new env after e told h =
       let a = acts old new env after e told h in (
         a.changes,
-        record { own = a.own; on = a.on; tells = a.tells; words = a.words; sides = λ trees. all_keep old.content a.changes (a.meet keeps trees); halt = a.halt },
+        record { own = a.own; on = a.on; failed = a.failed; counted = a.counted; tells = a.tells; words = a.words; sides = λ trees. all_keep old.content a.changes (a.meet keeps trees); halt = a.halt },
       )
 
   pub run_does : (old new : HubState) (env after : Env) (events : List Event) (told : List Reply) (run : HubRun old env events told new after)
@@ -93,7 +93,7 @@ module _ (K : HubState → List Accepted → HubState → Type 0) (none : (h : H
       → CallHasDone old call outcome new step es → K old es new
   call_so old Connect (Connected n out) new step es done =
       let h = step.step some_words in
-      one_so old new es (Connects n) step.told h (record { own = tt; on = record { accepted = tt; is = ap (λ (x : HubState). x.content) h.3 }; tells = tt; words = refl; sides = λ trees. tt; halt = λ ran halts. absurd (true≢false (sym halts ∙ ap (λ (x : HubState). x.halted) h.3 ∙ ran)) }) done
+      one_so old new es (Connects n) step.told h (record { own = tt; on = record { accepted = tt; is = ap (λ (x : HubState). x.content) h.3 }; failed = false; counted = (ap (λ (x : HubState). x.failures) h.3, ap (λ (x : HubState). x.halted) h.3); tells = tt; words = refl; sides = λ trees. tt; halt = λ ran halts. absurd (true≢false (sym halts ∙ ap (λ (x : HubState). x.halted) h.3 ∙ ran)) }) done
   call_so old Connect (Failed NoSession) new step es done = absurd step
   call_so old Connect (Failed NoMemory) new step es done = none_at old new es step.1 done
   call_so old Connect (Failed Halted) new step es done = none_at old new es step.1 done
@@ -111,7 +111,7 @@ module _ (K : HubState → List Accepted → HubState → Type 0) (none : (h : H
   call_so old (Feed n piece env) Dropped new step es done = absurd step
   call_so old (Disconnect n) Dropped new step es done =
       let h = step some_words in
-      one_so old new es (Drops n) [] h (record { own = tt; on = record { accepted = tt; is = ap (λ (x : HubState). x.content) h.2 }; tells = tt; words = refl; sides = λ trees. tt; halt = λ ran halts. absurd (true≢false (sym halts ∙ ap (λ (x : HubState). x.halted) h.2 ∙ ran)) }) done
+      one_so old new es (Drops n) [] h (record { own = tt; on = record { accepted = tt; is = ap (λ (x : HubState). x.content) h.2 }; failed = false; counted = (ap (λ (x : HubState). x.failures) h.2, ap (λ (x : HubState). x.halted) h.2); tells = tt; words = refl; sides = λ trees. tt; halt = λ ran halts. absurd (true≢false (sym halts ∙ ap (λ (x : HubState). x.halted) h.2 ∙ ran)) }) done
   call_so old (Disconnect n) (Failed e) new step es done = absurd step
   call_so old (Disconnect n) (Connected m out) new step es done = absurd step
   call_so old (Disconnect n) (Wrote out) new step es done = absurd step

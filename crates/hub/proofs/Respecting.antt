@@ -54,16 +54,16 @@ module _ (holds : (c : RepoState) (ask : CommitAsk) (t : TxnState) → commit_re
   release_new c ask false = tt
 
   -- a lock that is made has the token of the word that is used up
-  tokens_new : (c : RepoState) (halted : Bool) (es : List Accepted) (told : List Reply) (env after : Env) → IsTold c halted es told → UsesWord env es after → IsNewWord c.locks env after → HaveNewTokens c es
-  tokens_new c halted [] told env after is words fresh = tt
-  tokens_new c halted (Commits ask t ∷ es) told env after (wanted, behind, ends) words fresh =
+  tokens_new : (c : RepoState) (failed : Bool) (es : List Accepted) (told : List Reply) (env after : Env) → IsTold c failed es told → UsesWord env es after → IsNewWord c.locks env after → HaveNewTokens c es
+  tokens_new c failed [] told env after is words fresh = tt
+  tokens_new c failed (Commits ask t ∷ es) told env after (wanted, behind, ends) words fresh =
       let now = committed c ask t in
-      subst (λ (xs : List Accepted). HaveNewTokens now xs) (sym behind) (release_new now ask (wants_release ask now && not halted))
-  tokens_new c halted (Locks ask ∷ es) told env after (none, ends) (token, used) fresh =
+      subst (λ (xs : List Accepted). HaveNewTokens now xs) (sym behind) (release_new now ask (wants_release ask now && not failed))
+  tokens_new c failed (Locks ask ∷ es) told env after (none, ends) (token, used) fresh =
       (subst (λ (x : List ℕ). IsNewToken c.locks x) (sym token) (fresh used), subst (λ (xs : List Accepted). HaveNewTokens (changed c (Locks ask)) xs) (sym none) tt)
-  tokens_new c halted (Unlocks ask ∷ es) told env after (none, ends) words fresh = subst (λ (xs : List Accepted). HaveNewTokens (changed c (Unlocks ask)) xs) (sym none) tt
-  tokens_new c halted (Releases user tokens ∷ es) told env after bad words fresh = absurd bad
-  tokens_new c halted (ChangesProperty ask ∷ es) told env after (none, ends) words fresh =
+  tokens_new c failed (Unlocks ask ∷ es) told env after (none, ends) words fresh = subst (λ (xs : List Accepted). HaveNewTokens (changed c (Unlocks ask)) xs) (sym none) tt
+  tokens_new c failed (Releases user tokens ∷ es) told env after bad words fresh = absurd bad
+  tokens_new c failed (ChangesProperty ask ∷ es) told env after (none, ends) words fresh =
       subst (λ (xs : List Accepted). HaveNewTokens (changed c (ChangesProperty ask)) xs) (sym none) tt
 
   same_apart : (old new : HubState) → new.content ≡ old.content → HaveOwnTokens old.content.locks → HaveOwnTokens new.content.locks
@@ -72,7 +72,7 @@ module _ (holds : (c : RepoState) (ask : CommitAsk) (t : TxnState) → commit_re
   acts_apart : (old new : HubState) (env after : Env) (n : ℕ) (input : Input) (told : List Reply) → Acts old env (Hears n input) told new after
       → HaveOwnTokens old.content.locks → IsNewWord old.content.locks env after → HaveOwnTokens new.content.locks
   acts_apart old new env after n input told a own fresh =
-      (respected old.content a.changes new.content a.on).distinct own (tokens_new old.content new.halted a.changes told env after a.tells a.words fresh)
+      (respected old.content a.changes new.content a.on).distinct own (tokens_new old.content a.failed a.changes told env after a.tells a.words fresh)
 
   leaving_apart : (old new : HubState) (env after : Env) (n : ℕ) (input : Input) (told : List Reply) → Acts old env (Leaves n input) told new after
       → HaveOwnTokens old.content.locks → HaveOwnTokens new.content.locks

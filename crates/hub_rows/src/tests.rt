@@ -53,56 +53,6 @@ fn wrote(outcome: &Outcome) -> &[u8] {
     }
 }
 
-/// Says where a hub's session stands.
-fn standing<R: InMemory>(hub: &Hub<SoleRepository<R>>, number: u64) -> &'static [u8] {
-    if hub.access().is_halted() {
-        b"halted "
-    } else if hub.is_open(number) {
-        b"open "
-    } else {
-        b"closed "
-    }
-}
-
-/// Gives what two sessions are sent, and where the second stands before it goes and then.
-fn told_one_by_one<R: InMemory>(alloc: Global) -> Result<Vec<u8>, Fail> {
-    let mut hub: Hub<SoleRepository<R>> = new_hub(alloc)?;
-    let mut out = Vec::new(alloc);
-    out.extend_from_slice(wrote(&make_call(&mut hub, &Call::Connect)))?;
-    let (number, greeting) = hub.connect()?;
-    out.extend_from_slice(greeting.as_slice())?;
-    out.extend_from_slice(format!(in alloc; "session {number} ")?.as_bytes())?;
-    let replies = hub.feed(number, CLIENT, ENV)?;
-    out.extend_from_slice(replies.as_slice())?;
-    out.extend_from_slice(standing(&hub, number))?;
-    hub.disconnect(number);
-    out.extend_from_slice(standing(&hub, number))?;
-    Ok(out)
-}
-
-/// Makes what two sessions are to be sent, and where the second is to stand.
-fn wanted_one_by_one(alloc: Global) -> Result<Vec<u8>, AllocError> {
-    let mut wanted = repeated(alloc, GREETING, 2)?;
-    wanted.extend_from_slice(b"session 2 ")?;
-    wanted.extend_from_slice(ANSWER)?;
-    wanted.extend_from_slice(b"open closed ")?;
-    Ok(wanted)
-}
-
-/// Says whether two sessions are sent that, and the second stands there.
-fn are_told_one_by_one<R: InMemory>(alloc: Global) -> Result<bool, Fail> {
-    let out = told_one_by_one::<R>(alloc)?;
-    let wanted = wanted_one_by_one(alloc)?;
-    Ok(out.as_slice() == wanted.as_slice())
-}
-
-#[test]
-fn one_call_after_another(rt: HostRuntime) -> Result<(), Fail> {
-    let alloc = rt.alloc();
-    assert!(rt; are_told_one_by_one::<World>(alloc)? && are_told_one_by_one::<FlatRepo>(alloc)?);
-    Ok(())
-}
-
 /// Gives what a list of calls writes, call by call.
 fn told_at_once<R: InMemory>(alloc: Global) -> Result<Vec<u8>, Fail> {
     let mut hub: Hub<SoleRepository<R>> = new_hub(alloc)?;

@@ -3,13 +3,13 @@ use Rattle.std.proofs.Common.{◌≡◌, ◌⊎◌, inl, inr, ℕ, ◌||◌, Lis
 use Rattle.std.proofs.lemmas.Bool.{true≢false}
 use Rattle.repo_api.specs.{Accepted.{Accepted, changed_all, IsAccepted}, Accepted.Accepted.Commits, States.RepoState}
 use Rattle.wire_replies.specs.declared.reply.Reply.{Reply}
-use Rattle.machine.specs.{Answers.{Answer, content_after, is_halt, pending_by, Verdict}, Answers.Verdict.{NotWritten, Unknown, Written}, Hearing.Input}
+use Rattle.machine.specs.{Answers.{Answer, content_after, Counts, is_halt, pending_by, Verdict}, Answers.Verdict.{NotWritten, Unknown, Written}, Hearing.Input}
 use Rattle.machine.specs.{Machine.{InputStep, UnreleasedStep}, Settings.Settings, Soundness.MeetBy, Stages.{SessionState, Stage, StandsOn}}
 use Rattle.machine.specs.declared.env.Env.{Env}
 use Rattle.hub_runs.specs.{State.{HubState, HasTrees, session_of}, Runs.{Event, InputHappens, CommitLeaves, HubStep}}
 use Rattle.hub_runs.specs.{Runs.Event.{Connects, HandsIn, Hears, Leaves, Drops}, Asked.{IsAsked, IsAskedIn, IsAskedAt, AreAll}, Laws.{IsTold, UsesWord}}
-use Rattle.hub_runs.specs.Done.{GoesOnBy, LeavesWords, Tells, NamesHalt}
-use Rattle.hub_runs.proofs.{Effects.{ArePlain, Halts, all_on, halts_as, does, leaves}, Everywhere.HasTrees-at, Revising.AreOthers}
+use Rattle.hub_runs.specs.Done.{GoesOnBy, HasFailed, LeavesWords, Tells, NamesHalt}
+use Rattle.hub_runs.proofs.{Effects.{ArePlain, Halts, all_on, fails_by, halts_as, does, leaves, or_false}, Everywhere.HasTrees-at, Revising.AreOthers}
 
 -- each step of a session keeps what it stands on, and its changes meet the trees well
 abbrev pub StepsKeepTrees : Type 0
@@ -30,7 +30,9 @@ pub record Acts (old : HubState) (env : Env) (event : Event) (told : List Reply)
   pub changes : List Accepted
   pub own : AreAll (IsAskedAt old env event) changes
   pub on : GoesOnBy old.content changes new.content
-  pub tells : Tells old.content new.halted event changes told
+  pub failed : Bool
+  pub counted : HasFailed old failed new
+  pub tells : Tells old.content failed event changes told
   pub words : LeavesWords env event changes after
   pub closed : old.settings.revprops ≡ false → AreOthers changes
   pub plain : (changes ≡ []) ⊎ ((old.halted ≡ false) × ArePlain told)
@@ -40,12 +42,14 @@ pub record Acts (old : HubState) (env : Env) (event : Event) (told : List Reply)
 
 -- what is known of an event that neither changes anything nor brings it to a halt
 acts_nothing : (old : HubState) (env : Env) (event : Event) (told : List Reply) (new : HubState) (after : Env)
-    → new.content ≡ old.content → new.halted ≡ old.halted → new.pending ≡ old.pending
-    → Tells old.content new.halted event [] told → LeavesWords env event [] after → Acts old env event told new after
-acts_nothing old env event told new after same halted pending tells words = record {
+    → new.content ≡ old.content → new.halted ≡ old.halted → new.failures ≡ old.failures → new.pending ≡ old.pending
+    → Tells old.content false event [] told → LeavesWords env event [] after → Acts old env event told new after
+acts_nothing old env event told new after same halted failures pending tells words = record {
   changes = [];
   own = tt;
   on = record { accepted = tt; is = same };
+  failed = false;
+  counted = (failures, halted);
   tells = tells;
   words = words;
   closed = λ shut. tt;
@@ -68,17 +72,16 @@ stays P old new Written halted pending known h = (halted ∙ ap (λ (b : Bool). 
 stays P old new NotWritten halted pending known h = (halted ∙ ap (λ (b : Bool). b || false) h, pending)
 stays P old new (Unknown e) halted pending (running, one, accepted) h = absurd (true≢false (sym h ∙ running))
 
--- whether changes are at a halt is what the event has made of it, where it has changed anything
-told_after : (c : RepoState) (a : Answer) (before halted : Bool) → IsTold c (is_halt a.effect.store) a.effect.changes a.replies
-    → (a.effect.changes ≡ []) ⊎ ((before ≡ false) × ArePlain a.replies) → halted ≡ (before || is_halt a.effect.store) → IsTold c halted a.effect.changes a.replies
-told_after c a before halted told (inl none) is = subst (λ (es : List Accepted). IsTold c halted es a.replies) (sym none) tt
-told_after c a before halted told (inr (ran, plain)) is =
-    subst (λ (b : Bool). IsTold c b a.effect.changes a.replies) (sym (is ∙ ap (λ (b : Bool). b || is_halt a.effect.store) ran)) told
+-- a failure is counted
+counted_by : (v : Verdict) (old new : HubState) → Counts v old.failures new.failures → new.halted ≡ (old.halted || is_halt v) → HasFailed old (fails_by v) new
+counted_by Written old new counts halted = (counts, halted ∙ or_false old.halted)
+counted_by NotWritten old new counts halted = counts
+counted_by (Unknown e) old new counts halted = counts
 
 acts_input : (old : HubState) (env : Env) (n : ℕ) (o : Option SessionState) (input : Input) (told : List Reply) (new : HubState) (after : Env)
     → session_of old.sessions n ≡ o → InputHappens old env n o input told new after → Acts old env (Hears n input) told new after
 acts_input old env n None input told new after found h =
-    acts_nothing old env (Hears n input) told new after (ap (λ (x : HubState). x.content) h.1) (ap (λ (x : HubState). x.halted) h.1) (ap (λ (x : HubState). x.pending) h.1) tt
+    acts_nothing old env (Hears n input) told new after (ap (λ (x : HubState). x.content) h.1) (ap (λ (x : HubState). x.halted) h.1) (ap (λ (x : HubState). x.failures) h.1) (ap (λ (x : HubState). x.pending) h.1) tt
     (ap (λ (x : Env). x.token) h.2)
 acts_input old env n (Some s) input told new after found (a, step, is_told, left, failures, counts, is) =
     let d = does old.halted old.settings env old.content s.phase input a step in
@@ -94,7 +97,10 @@ acts_input old env n (Some s) input told new after found (a, step, is_told, left
       changes = es;
       own = all_on (IsAsked env s.phase input) (IsAskedAt old env (Hears n input)) es asked d.own;
       on = record { accepted = d.accepted; is = content };
-      tells = subst (λ (x : List Reply). IsTold old.content new.halted es x) (sym is_told) (told_after old.content a old.halted new.halted d.told d.plain halted);
+      failed = fails_by a.effect.store;
+      counted = counted_by a.effect.store old new
+          (subst (λ (x : ℕ). Counts a.effect.store old.failures x) (sym (ap (λ (x : HubState). x.failures) is)) counts) halted;
+      tells = subst (λ (x : List Reply). IsTold old.content (fails_by a.effect.store) es x) (sym is_told) d.told;
       words = subst (λ (x : Env). UsesWord env es x) (sym left) d.words;
       closed = d.closed;
       plain = subst (λ (x : List Reply). (es ≡ []) ⊎ ((old.halted ≡ false) × ArePlain x)) (sym is_told) d.plain;
@@ -116,6 +122,11 @@ acts_leaving old env n (Some s) input told new after found (a, step, is_told, le
       changes = Commits ask t ∷ [];
       own = (subst (λ (x : Option SessionState). IsAskedIn env x input (Commits ask t)) (sym found) asked, tt);
       on = record { accepted = (accepted, tt); is = content };
+      failed = false;
+      counted = (
+        ap (λ (x : HubState). x.failures) is ∙ subst (λ (x : Answer). Counts x.effect.store old.failures failures) same counts,
+        halted ∙ or_false old.halted,
+      );
       tells = (none, (ask, t, refl, wanted));
       words = left ∙ ap (λ (x : Answer). x.env) same;
       closed = λ shut. (tt, tt);
@@ -129,10 +140,10 @@ acts_leaving old env n (Some s) input told new after found (a, step, is_told, le
 
 pub acts : (old new : HubState) (env after : Env) (e : Event) (told : List Reply) → HubStep old env e told new after → Acts old env e told new after
 acts old new env after (Connects n) told h =
-    acts_nothing old env (Connects n) told new after (ap (λ (x : HubState). x.content) h.3) (ap (λ (x : HubState). x.halted) h.3) (ap (λ (x : HubState). x.pending) h.3) tt h.2
+    acts_nothing old env (Connects n) told new after (ap (λ (x : HubState). x.content) h.3) (ap (λ (x : HubState). x.halted) h.3) (ap (λ (x : HubState). x.failures) h.3) (ap (λ (x : HubState). x.pending) h.3) tt h.2
 acts old new env after (HandsIn words) told h =
-    acts_nothing old env (HandsIn words) told new after (ap (λ (x : HubState). x.content) h.1) (ap (λ (x : HubState). x.halted) h.1) (ap (λ (x : HubState). x.pending) h.1) tt h.2
+    acts_nothing old env (HandsIn words) told new after (ap (λ (x : HubState). x.content) h.1) (ap (λ (x : HubState). x.halted) h.1) (ap (λ (x : HubState). x.failures) h.1) (ap (λ (x : HubState). x.pending) h.1) tt h.2
 acts old new env after (Hears n input) told h = acts_input old env n (session_of old.sessions n) input told new after refl h
 acts old new env after (Leaves n input) told h = acts_leaving old env n (session_of old.sessions n) input told new after refl h
 acts old new env after (Drops n) told h =
-    acts_nothing old env (Drops n) told new after (ap (λ (x : HubState). x.content) h.2) (ap (λ (x : HubState). x.halted) h.2) (ap (λ (x : HubState). x.pending) h.2) tt h.1
+    acts_nothing old env (Drops n) told new after (ap (λ (x : HubState). x.content) h.2) (ap (λ (x : HubState). x.halted) h.2) (ap (λ (x : HubState). x.failures) h.2) (ap (λ (x : HubState). x.pending) h.2) tt h.1

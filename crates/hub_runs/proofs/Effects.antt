@@ -1,5 +1,5 @@
 -- What an input does to the repository: what its session asks for by it.
-use Rattle.std.proofs.Common.{◌≡◌, ◌⊎◌, inl, inr, ℕ, zero, suc, ◌&&◌, not, List, [], ◌∷◌, ◌++◌, Contains, Bool, true, false, Option, Some, None, refl, ap}
+use Rattle.std.proofs.Common.{◌≡◌, ◌⊎◌, inl, inr, ℕ, zero, suc, ◌&&◌, ◌||◌, not, List, [], ◌∷◌, ◌++◌, Contains, Bool, true, false, Option, Some, None, refl, ap}
 use Rattle.std.proofs.{Common.{subst, sym, ◌∙◌, length, append_assoc, arith}, lemmas.Bool.true≢false}
 use Rattle.std.specs.Prelude.{Result, Ok, Err, if◌then◌else◌}
 use Rattle.svnpath.specs.{Paths.PathValue, Texts.joined, Urls.{path_of_text, root_of_text}, declared.fault.PathFault.PathFault}
@@ -20,13 +20,13 @@ use Rattle.wire_edits.specs.declared.editing.EditorCommand.TheVariants as edits
 use Rattle.drive_wire.specs.{Reporting.{Drawn, client_answer}, Reporting.Drawn.{GoesOn, GivenUp, Fails as Draws, Drives, Malformed}}
 use Rattle.edit_rules.specs.Editor.{finished}
 use Rattle.wire_replies.specs.{declared.reply.Reply.Reply, declared.reply.Reply.TheVariants.{Success, NoLogin, CommitInfo, Failure}}
-use Rattle.machine.specs.Answers.{Answer, Behind, behind, change_answer, ChangeStep, content_after, is_halt, IsOfReplace, says, Step, Verdict}
+use Rattle.machine.specs.Answers.{Answer, Behind, behind, change_answer, ChangeStep, content_after, is_halt, IsOfChange, says, Step, Verdict}
 use Rattle.machine.specs.{Answers.Verdict.{NotWritten, Unknown, Written}, Commands.{asked_by, commit_begins, lock_answer, lock_ask, lock_tokens, LockStep}}
 use Rattle.machine.specs.{Commands.{login_request, OwnStep, PropertyStep, reparented, unlock_ask, UnlockStep}, Hearing.Input, Hearing.Input.{Broken, Whole}}
 use Rattle.machine.specs.Logins.{ChallengeStep, ChoiceStep, chosen, greeting_answer, LoggedIn, LoginStep, offer, speaks, url_answer, wants_user, with_user}
 use Rattle.machine.specs.Machine.{CloseStep, CommandStep, commit_ask, CommitStep, CommittedStep, EditingStep, ending_of, InputStep, IsReleaseOf, JudgedEdit}
 use Rattle.machine.specs.Machine.{KnownCommand, MachineEdit, MainStep, Release, release_effect, release_fails, skipping_answer, unreleased_answer}
-use Rattle.machine.specs.{Machine.UnreleasedStep, Machine.Release.{Fails, Released, Stays}, Reports.{drawn_answer, driven_answer}, Settings.Settings}
+use Rattle.machine.specs.{Machine.UnreleasedStep, Machine.Release.{InDoubt, NotReleased, Released, Stays}, Reports.{drawn_answer, driven_answer}, Settings.Settings}
 use Rattle.machine.specs.{Stages.Stage, declared.commit_parameters.CommitParameters.CommitParameters, declared.env.Env.Env, declared.login.Mechanism.Mechanism}
 use Rattle.machine.specs.{declared.login.OpenLogin.OpenLogin, declared.login.OpenChallenge.OpenChallenge}
 use Rattle.machine.specs.declared.phase.Phase.TheVariants.{Greeted, LoggingIn, Challenged, Serving, Editing, Skipping, Reporting, Driven, Ended}
@@ -71,11 +71,21 @@ Halts P halted c Written = Unit {0}
 Halts P halted c NotWritten = Unit {0}
 Halts P halted c (Unknown e) = (halted ≡ false) × P e × IsAccepted c e
 
+-- whether the store has failed
+abbrev pub fails_by : Verdict → Bool
+fails_by Written = false
+fails_by NotWritten = true
+fails_by (Unknown e) = true
+
+pub or_false : (b : Bool) → (b || false) ≡ b
+or_false true = refl
+or_false false = refl
+
 -- of the changes of an answer, `P` says of each that it was asked for
 pub record Does (P : Accepted → Type 0) (may halted : Bool) (env : Env) (c : RepoState) (a : Answer) : Type 0 where
   pub own : AreAll P a.effect.changes
   pub accepted : AreAccepted c a.effect.changes
-  pub told : IsTold c (is_halt a.effect.store) a.effect.changes a.replies
+  pub told : IsTold c (fails_by a.effect.store) a.effect.changes a.replies
   pub words : UsesWord env a.effect.changes a.env
   -- a property of a revision is only changed where clients may change them
   pub closed : may ≡ false → AreOthers a.effect.changes
@@ -102,7 +112,7 @@ quiet {P} {may} {halted} {env} {c} a b is q =
     record {
       own = subst (λ (es : List Accepted). AreAll P es) none tt;
       accepted = subst (λ (es : List Accepted). AreAccepted c es) none tt;
-      told = subst (λ (es : List Accepted). IsTold c (is_halt a.effect.store) es a.replies) none tt;
+      told = subst (λ (es : List Accepted). IsTold c (fails_by a.effect.store) es a.replies) none tt;
       words = subst (λ (es : List Accepted). UsesWord env es a.env) none (ap (λ (x : Answer). x.env.token) is ∙ q.2);
       closed = λ shut. subst AreOthers none tt;
       plain = inl (sym none);
@@ -134,13 +144,13 @@ ends_behind : (told all : List Reply) (reply : Reply) → EndsWith all reply →
 ends_behind told all reply (before, is) =
     (told ++ before, ap (λ (xs : List Reply). told ++ xs) is ∙ sym (append_assoc told before (reply ∷ [])))
 
-told_behind : (c : RepoState) (halted : Bool) (es : List Accepted) (told all : List Reply) → IsTold c halted es all → IsTold c halted es (told ++ all)
-told_behind c halted [] told all is = tt
-told_behind c halted (Commits ask t ∷ es) told all (wanted, behind, ends) = (wanted, behind, ends_behind told all _ ends)
-told_behind c halted (Locks ask ∷ es) told all (none, ends) = (none, ends_behind told all _ ends)
-told_behind c halted (Unlocks ask ∷ es) told all (none, ends) = (none, ends_behind told all _ ends)
-told_behind c halted (Releases user tokens ∷ es) told all bad = bad
-told_behind c halted (ChangesProperty ask ∷ es) told all (none, ends) = (none, ends_behind told all _ ends)
+told_behind : (c : RepoState) (failed : Bool) (es : List Accepted) (told all : List Reply) → IsTold c failed es all → IsTold c failed es (told ++ all)
+told_behind c failed [] told all is = tt
+told_behind c failed (Commits ask t ∷ es) told all (wanted, behind, ends) = (wanted, behind, ends_behind told all _ ends)
+told_behind c failed (Locks ask ∷ es) told all (none, ends) = (none, ends_behind told all _ ends)
+told_behind c failed (Unlocks ask ∷ es) told all (none, ends) = (none, ends_behind told all _ ends)
+told_behind c failed (Releases user tokens ∷ es) told all bad = bad
+told_behind c failed (ChangesProperty ask ∷ es) told all (none, ends) = (none, ends_behind told all _ ends)
 
 does_behind : (P : Accepted → Type 0) (may halted : Bool) (env : Env) (c : RepoState) (told : List Reply) (own : Step) (a : Answer)
     → ArePlain told → ((b : Answer) → own halted c b → Does P may halted env c b) → Behind told own halted c a → Does P may halted env c a
@@ -149,7 +159,7 @@ does_behind P may halted env c told own a plain each (b, step, is) =
     does_is P may halted env c a (behind told b) is (record {
       own = d.own;
       accepted = d.accepted;
-      told = told_behind c (is_halt b.effect.store) b.effect.changes told b.replies d.told;
+      told = told_behind c (fails_by b.effect.store) b.effect.changes told b.replies d.told;
       words = d.words;
       closed = d.closed;
       plain = still d.plain;
@@ -206,12 +216,16 @@ quiet_driven env client (Some false) = (refl, refl, refl)
 -- ---- changes of locks, and of properties of revisions
 
 does_change : (P : Accepted → Type 0) (may halted : Bool) (env : Env) (c : RepoState) (client : Client) (judged r : Option Refusal) (e : Accepted) (answer : Verdict → Answer) (a : Answer)
-    → judged ≡ r → (judged ≡ None → (v : Verdict) → IsOfReplace e v → Does P may false env c (answer v)) → ChangeStep halted env client r e answer a → Does P may halted env c a
+    → judged ≡ r → (judged ≡ None → (v : Verdict) → IsOfChange e v → Does P may false env c (answer v)) → ChangeStep halted env client r e answer a → Does P may halted env c a
 does_change P may true env c client judged r e answer a same each is = quiet a _ is (refl, refl, refl)
 does_change P may false env c client judged (Some r) e answer a same each is = quiet a _ is (refl, refl, refl)
 does_change P may false env c client judged None e answer a same each (v, of, is) = does_is P may false env c a (answer v) is (each same v of)
 
--- the store failed as the change was being saved
+-- the store failed as the change was being saved, and changed nothing
+fails_at : (P : Accepted → Type 0) (may : Bool) (env : Env) (c : RepoState) (client : Client) (e : Accepted) (told : List Reply) → Does P may false env c (change_answer env client e told NotWritten)
+fails_at P may env c client e told = quiet _ _ refl (refl, refl, refl)
+
+-- or so that nobody knows
 halts_at : (P : Accepted → Type 0) (may : Bool) (env : Env) (c : RepoState) (client : Client) (e x : Accepted) (told : List Reply) → P e → IsAccepted c e → x ≡ e
     → Does P may false env c (change_answer env client e told (Unknown x))
 halts_at P may env c client e x told one accepted is = record {
@@ -226,7 +240,7 @@ halts_at P may env c client e x told one accepted is = record {
 
 locks : (may : Bool) (env : Env) (c : RepoState) (client : Client) (command : LockCommand) (path : PathValue) (date : List ℕ) → joined client.path command.path ≡ Ok path
     → IsDateText env.moment date → (let ask = lock_ask env client command path date in
-    lock_refusal c ask ≡ None → (v : Verdict) → IsOfReplace (Locks ask) v → Does (IsAskedBy env client (LockPath command)) may false env c (lock_answer env client ask v))
+    lock_refusal c ask ≡ None → (v : Verdict) → IsOfChange (Locks ask) v → Does (IsAskedBy env client (LockPath command)) may false env c (lock_answer env client ask v))
 locks may env c client command path date named dated accepted Written of = record {
   own = ((command, refl, path, named, date, dated, refl), tt);
   accepted = (accepted, tt);
@@ -236,7 +250,8 @@ locks may env c client command path date named dated accepted Written of = recor
   plain = inr (refl, (λ r e. cc, tt));
   halt = tt;
 }
-locks may env c client command path date named dated accepted NotWritten of = absurd of
+locks may env c client command path date named dated accepted NotWritten of =
+    fails_at (IsAskedBy env client (LockPath command)) may env c client (Locks (lock_ask env client command path date)) []
 locks may env c client command path date named dated accepted (Unknown x) of =
     halts_at (IsAskedBy env client (LockPath command)) may env c client (Locks (lock_ask env client command path date)) x [] (command, refl, path, named, date, dated, refl) accepted of
 
@@ -250,7 +265,7 @@ does_lock may halted env c client command (Err fault) a named is = quiet a _ is 
 
 unlocks : (may : Bool) (env : Env) (c : RepoState) (client : Client) (command : UnlockCommand) (path : PathValue) → joined client.path command.path ≡ Ok path
     → (let ask = unlock_ask client command path in
-    unlock_refusal c ask ≡ None → (v : Verdict) → IsOfReplace (Unlocks ask) v → Does (IsAskedBy env client (UnlockPath command)) may false env c (change_answer env client (Unlocks ask) (Success ∷ []) v))
+    unlock_refusal c ask ≡ None → (v : Verdict) → IsOfChange (Unlocks ask) v → Does (IsAskedBy env client (UnlockPath command)) may false env c (change_answer env client (Unlocks ask) (Success ∷ []) v))
 unlocks may env c client command path named accepted Written of = record {
   own = ((command, refl, path, named, refl), tt);
   accepted = (accepted, tt);
@@ -260,7 +275,8 @@ unlocks may env c client command path named accepted Written of = record {
   plain = inr (refl, (λ r e. cc, tt));
   halt = tt;
 }
-unlocks may env c client command path named accepted NotWritten of = absurd of
+unlocks may env c client command path named accepted NotWritten of =
+    fails_at (IsAskedBy env client (UnlockPath command)) may env c client (Unlocks (unlock_ask client command path)) (Success ∷ [])
 unlocks may env c client command path named accepted (Unknown x) of =
     halts_at (IsAskedBy env client (UnlockPath command)) may env c client (Unlocks (unlock_ask client command path)) x (Success ∷ []) (command, refl, path, named, refl) accepted of
 
@@ -274,7 +290,7 @@ does_unlock may halted env c client command (Ok path) a named step =
 does_unlock may halted env c client command (Err fault) a named is = quiet a _ is (refl, refl, refl)
 
 revises : (env : Env) (c : RepoState) (client : Client) (ask : PropertyAsk) → property_refusal c ask ≡ None
-    → (v : Verdict) → IsOfReplace (ChangesProperty ask) v → Does (IsAskedBy env client (ChangeRevProp ask)) true false env c (change_answer env client (ChangesProperty ask) (Success ∷ []) v)
+    → (v : Verdict) → IsOfChange (ChangesProperty ask) v → Does (IsAskedBy env client (ChangeRevProp ask)) true false env c (change_answer env client (ChangesProperty ask) (Success ∷ []) v)
 revises env c client ask accepted Written of = record {
   own = (refl, tt);
   accepted = (accepted, tt);
@@ -284,7 +300,8 @@ revises env c client ask accepted Written of = record {
   plain = inr (refl, (λ r e. cc, tt));
   halt = tt;
 }
-revises env c client ask accepted NotWritten of = absurd of
+revises env c client ask accepted NotWritten of =
+    fails_at (IsAskedBy env client (ChangeRevProp ask)) true env c client (ChangesProperty ask) (Success ∷ [])
 revises env c client ask accepted (Unknown x) of =
     halts_at (IsAskedBy env client (ChangeRevProp ask)) true env c client (ChangesProperty ask) x (Success ∷ []) refl accepted of
 
@@ -364,16 +381,19 @@ release_is : (ask : CommitAsk) (wants : Bool) (release : Release) → IsReleaseO
     → (release_effect ask release).changes ≡ (if wants && not (release_fails release) then Releases ask.author ask.tokens ∷ [] else [])
 release_is ask false Stays of = refl
 release_is ask false Released of = absurd of
-release_is ask false Fails of = absurd of
+release_is ask false NotReleased of = absurd of
+release_is ask false InDoubt of = absurd of
 release_is ask true Stays of = absurd of
 release_is ask true Released of = refl
-release_is ask true Fails of = refl
+release_is ask true NotReleased of = refl
+release_is ask true InDoubt of = refl
 
 -- only a release that is wanted fails
 fails_wanted : (wants : Bool) (release : Release) → IsReleaseOf wants release → release_fails release ≡ true → wants ≡ true
 fails_wanted false Stays of fails = fails
 fails_wanted false Released of fails = absurd of
-fails_wanted false Fails of fails = absurd of
+fails_wanted false NotReleased of fails = absurd of
+fails_wanted false InDoubt of fails = absurd of
 fails_wanted true _ of fails = refl
 
 and_second : (a b : Bool) → (a && b) ≡ true → b ≡ true
@@ -391,22 +411,24 @@ release_does P c ask true false one e = ((one, tt), (release_accepted c ask e, t
 release_does P c ask true true one e = (tt, tt, tt)
 release_does P c ask false fails one e = (tt, tt, tt)
 
--- one at which the store fails brings changes to a halt
+-- one of which nobody knows whether it is written brings changes to a halt
 release_halts : (P : Accepted → Type 0) (c : RepoState) (ask : CommitAsk) (wants : Bool) (release : Release) → P (Releases ask.author ask.tokens) → wants_release ask c ≡ wants → IsReleaseOf wants release
     → (let effect = release_effect ask release in Halts P false (changed_all c effect.changes) effect.store)
 release_halts P c ask wants Stays one e of = tt
 release_halts P c ask wants Released one e of = tt
-release_halts P c ask true Fails one e of = (refl, one, release_accepted c ask e)
-release_halts P c ask false Fails one e of = absurd of
+release_halts P c ask wants NotReleased one e of = tt
+release_halts P c ask true InDoubt one e of = (refl, one, release_accepted c ask e)
+release_halts P c ask false InDoubt one e of = absurd of
 
--- it is told that it has failed where changes have come to a halt by it
+-- it is told that it has failed where the store has
 release_told : (c : RepoState) (ask : CommitAsk) (t : TxnState) (release : Release) → (release_fails release ≡ true → wants_release ask (committed c ask t) ≡ true)
     → (release_effect ask release).changes ≡ release_behind c ask t (release_fails release)
-    → IsTold c (is_halt (release_effect ask release).store) (Commits ask t ∷ (release_effect ask release).changes)
+    → IsTold c (fails_by (release_effect ask release).store) (Commits ask t ∷ (release_effect ask release).changes)
     (Success ∷ NoLogin ∷ CommitInfo (length c.revisions) ask.date ask.author (release_fails release) ∷ [])
 release_told c ask t Stays wanted behind = (wanted, behind, (Success ∷ NoLogin ∷ [], refl))
 release_told c ask t Released wanted behind = (wanted, behind, (Success ∷ NoLogin ∷ [], refl))
-release_told c ask t Fails wanted behind = (wanted, behind, (Success ∷ NoLogin ∷ [], refl))
+release_told c ask t NotReleased wanted behind = (wanted, behind, (Success ∷ NoLogin ∷ [], refl))
+release_told c ask t InDoubt wanted behind = (wanted, behind, (Success ∷ NoLogin ∷ [], refl))
 
 does_committed : {may : Bool} (env : Env) (c : RepoState) (edit : MachineEdit) (t : TxnState) (date : List ℕ) (v : Verdict) (a : Answer)
     → finished edit.editor ≡ Ok t → IsDateText env.moment date → (let ask = commit_ask edit.client edit.asked date in

@@ -6,11 +6,7 @@ use Rattle.machine.specs.{Answers.{Answer, Counts, is_halt, Verdict}, Answers.Ve
 use Rattle.machine.specs.declared.env.Env.{Env}
 use Rattle.hub_runs.specs.{State.{HubState, session_of}, Runs.{Event, InputHappens, CommitLeaves, HubStep, HubRun, answered}}
 use Rattle.hub_runs.specs.Runs.Event.{Connects, HandsIn, Hears, Leaves, Drops}
-use Rattle.hub_runs.proofs.{Running.through_run, Staying.event_halted}
-
-pub or_false : (b : Bool) → (b || false) ≡ b
-or_false true = refl
-or_false false = refl
+use Rattle.hub_runs.proofs.{Effects.or_false, Running.through_run, Staying.event_halted}
 
 pub or_true : (b : Bool) → (b || true) ≡ true
 or_true true = refl

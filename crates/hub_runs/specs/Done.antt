@@ -1,6 +1,6 @@
 -- What events do to the repository, and what their sessions have asked for.
 use Rattle.std.specs.Prelude.{◌≡◌, Bool, true, false, List, [], ◌∷◌, ◌++◌, Some}
-use Rattle.access.specs.Changing.{wants_release}
+use Rattle.access.specs.{Changing.wants_release, Points.HasRisen}
 use Rattle.repo_api.specs.{Accepted.{Accepted, AreAccepted, changed_all, IsAccepted}, Accepted.Accepted.Commits, Commits.committed}
 use Rattle.repo_api.specs.{States.{RepoState, TxnState}, declared.ask.CommitAsk.CommitAsk}
 use Rattle.wire_replies.specs.declared.reply.Reply.{Reply}
@@ -24,12 +24,12 @@ LeavesWords env (Drops n) changes after = after ≡ env
 -- what is told of the changes of an event; nothing is told of a commit whose session is gone before
 -- the release that is wanted
 abbrev pub Tells : RepoState → Bool → Event → List Accepted → List Reply → Type 0
-Tells c halted (Connects n) changes told = IsTold c halted changes told
-Tells c halted (HandsIn words) changes told = IsTold c halted changes told
-Tells c halted (Hears n input) changes told = IsTold c halted changes told
-Tells c halted (Leaves n input) changes told = (told ≡ []) × ((ask : CommitAsk) × (t : TxnState)
+Tells c failed (Connects n) changes told = IsTold c failed changes told
+Tells c failed (HandsIn words) changes told = IsTold c failed changes told
+Tells c failed (Hears n input) changes told = IsTold c failed changes told
+Tells c failed (Leaves n input) changes told = (told ≡ []) × ((ask : CommitAsk) × (t : TxnState)
     × (changes ≡ Commits ask t ∷ []) × (wants_release ask (committed c ask t) ≡ true))
-Tells c halted (Drops n) changes told = IsTold c halted changes told
+Tells c failed (Drops n) changes told = IsTold c failed changes told
 
 -- where an event brings changes to a halt, the change that was being saved is known: its session
 -- asked for it, and the rules accept it
@@ -39,6 +39,12 @@ NamesHalt old env event new =
     → (e : Accepted) × (new.pending ≡ Some e) × IsAskedAt old env event e
     × IsAccepted new.content e
 
+-- whether the store failed at an event: where it did, that is counted; where it did not, changes are at a
+-- halt only if they were
+abbrev pub HasFailed : HubState → Bool → HubState → Type 0
+HasFailed old true new = HasRisen old.failures new.failures
+HasFailed old false new = (new.failures ≡ old.failures) × (new.halted ≡ old.halted)
+
 -- An event has done this: its session asked for each of the changes, by which the repository has
 -- gone on, and which are told; and where every tree is a tree, a commit among them overwrites
 -- nothing; and a halt names the change that was being saved.
@@ -46,7 +52,9 @@ pub record HasDone (old : HubState) (env : Env) (event : Event) (changes : List 
     (told : List Reply) (new : HubState) (after : Env) : Type 0 where
   pub own : AreAll (IsAskedAt old env event) changes
   pub on : GoesOnBy old.content changes new.content
-  pub tells : Tells old.content new.halted event changes told
+  pub failed : Bool
+  pub counted : HasFailed old failed new
+  pub tells : Tells old.content failed event changes told
   pub words : LeavesWords env event changes after
   pub sides : HasTrees old → AllKeepSides old.content changes
   pub halt : NamesHalt old env event new

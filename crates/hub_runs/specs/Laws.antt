@@ -43,18 +43,18 @@ release_behind c ask t fails =
 
 -- What is told of an event's changes, of which there is one, or a commit with the release behind
 -- it: of a commit its number, its date, its author, and whether the release has failed, which it has
--- exactly where changes are at a halt now; of a lock what it is.
+-- exactly where the store has; of a lock what it is.
 abbrev pub IsTold : RepoState → Bool → List Accepted → List Reply → Type 0
-IsTold c halted [] told = Unit {0}
-IsTold c halted (Commits ask t ∷ behind) told =
-    (halted ≡ true → wants_release ask (committed c ask t) ≡ true)
-    × (behind ≡ release_behind c ask t halted)
-    × EndsWith told (CommitInfo (length c.revisions) ask.date ask.author halted)
-IsTold c halted (Locks ask ∷ behind) told =
+IsTold c failed [] told = Unit {0}
+IsTold c failed (Commits ask t ∷ behind) told =
+    (failed ≡ true → wants_release ask (committed c ask t) ≡ true)
+    × (behind ≡ release_behind c ask t failed)
+    × EndsWith told (CommitInfo (length c.revisions) ask.date ask.author failed)
+IsTold c failed (Locks ask ∷ behind) told =
     (behind ≡ []) × EndsWith told (Lock ask.path (lock_of ask))
-IsTold c halted (Unlocks ask ∷ behind) told = (behind ≡ []) × EndsWith told Success
-IsTold c halted (Releases user tokens ∷ behind) told = ⊥
-IsTold c halted (ChangesProperty ask ∷ behind) told =
+IsTold c failed (Unlocks ask ∷ behind) told = (behind ≡ []) × EndsWith told Success
+IsTold c failed (Releases user tokens ∷ behind) told = ⊥
+IsTold c failed (ChangesProperty ask ∷ behind) told =
     (behind ≡ []) × EndsWith told Success
 
 -- A lock has the token of the word that was handed in, and uses the word up; nothing else does.

@@ -1,6 +1,6 @@
 -- An edit rests on revisions that stay.
 use Rattle.std.proofs.Common.{◌≡◌, inl, inr, ℕ, List, [], ◌∷◌, ◌++◌, Bool, true, false, Option, Some, None, refl, sym, ap, subst, ◌∙◌, append-nil, append_assoc}
-use Rattle.std.specs.Prelude.{Result, Ok, Err}
+use Rattle.std.specs.Prelude.{Result, Ok, Err, if◌then◌else◌}
 use Rattle.refusals.specs.declared.Refusal.{Refusal}
 use Rattle.repo_api.specs.{Accepted.{Accepted, changed, changed_all}, Accepted.Accepted.{ChangesProperty, Commits, Locks, Releases, Unlocks}}
 use Rattle.repo_api.specs.{Commits.commit_refusal, Soundness.AreSound, States.{IsBeginning, RepoState, Revision, TxnState}, declared.edit.EditOp.EditOp}
@@ -14,7 +14,7 @@ use Rattle.edit_rules.specs.{Editor.{Applies, Edits as EditsTxn, finished, Rests
 use Rattle.access.specs.Points.{AccessRules, content_of, Point}
 use Rattle.machine.specs.{Settings.Settings, Stages.{Stage, EditRests, StandsOn}, Soundness.MeetBy, Hearing.Input, Hearing.Input.{Whole, Broken}}
 use Rattle.machine.specs.{Answers.{Verdict, Effect, Answer, Step, content_after}, Machine.{InputStep, UnreleasedStep, MachineEdit, JudgedEdit, CommitStep}}
-use Rattle.machine.specs.Machine.{CloseStep, CommandStep, EditingStep, ending_of, commit_ask, release_effect, phase_after, CommittedStep}
+use Rattle.machine.specs.Machine.{CloseStep, CommandStep, EditingStep, ending_of, commit_ask, release_fails, CommittedStep}
 use Rattle.machine.specs.{Answers.Verdict.{Written, NotWritten, Unknown}, Steps.{StepAt, StepWritten, StepOrPart, AddsAll, Stores, EffectAt}}
 use Rattle.machine.specs.{declared.commit_parameters.CommitParameters.CommitParameters, declared.env.Env.Env, declared.ending.Ending.Ending}
 use Rattle.machine.specs.declared.ending.Ending.TheVariants.{Commits as ToCommit, GivesUp}
@@ -111,14 +111,13 @@ rests_edits : (env : Env) (c : RepoState) (edit : MachineEdit) (command : Editor
 rests_edits env c edit command None a rests (after, applies, is) = rests_is c a _ is (rests_applied c edit.editor after command rests applies)
 rests_edits env c edit command (Some r) a rests is = rests_is c a _ is tt
 
-rests_phase : (c : RepoState) (client : Client) (v : Verdict) → EditRests (phase_after client v) c
-rests_phase c client Written = tt
-rests_phase c client NotWritten = tt
-rests_phase c client (Unknown e) = tt
+rests_made : (c : RepoState) (client : Client) (fails : Bool) → EditRests (if fails then Ended else Serving client) c
+rests_made c client true = tt
+rests_made c client false = tt
 
 rests_committed : (env : Env) (c : RepoState) (client : Client) (ask : CommitAsk) (t : TxnState) (v : Verdict) (a : Answer)
     → CommittedStep env c client ask t v a → EditRests a.phase c
-rests_committed env c client ask t Written a (release, wanted, is) = rests_is c a _ is (rests_phase c client (release_effect ask release).store)
+rests_committed env c client ask t Written a (release, wanted, is) = rests_is c a _ is (rests_made c client (release_fails release))
 rests_committed env c client ask t NotWritten a is = rests_is c a _ is tt
 rests_committed env c client ask t (Unknown x) a is = rests_is c a _ is.1 tt
 

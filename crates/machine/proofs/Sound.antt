@@ -15,8 +15,8 @@ use Rattle.edit_rules.specs.{Editor.{Applies, finished, finished_txn, RestsIn, R
 use Rattle.edit_rules.specs.{Soundness.{IsSoundEdit, IsSoundIn}, Tokens.{has_unfinished, Tokens}}
 use Rattle.machine.specs.{Settings.Settings, Stages.{Stage, EditRests, EditIsSound, StandsOn}, Soundness.MeetBy, Hearing.Input, Hearing.Input.{Whole, Broken}}
 use Rattle.machine.specs.{Answers.{Verdict, Answer, content_after}, Machine.{InputStep, UnreleasedStep, MachineEdit, JudgedEdit, CommitStep, CloseStep}}
-use Rattle.machine.specs.Machine.{UnreleasedClose, CommandStep, EditingStep, ending_of, commit_ask, Release, release_effect, phase_after, made_answer}
-use Rattle.machine.specs.{Machine.{unreleased_answer, CommittedStep}, Machine.Release.{Stays, Released, Fails}, Answers.Verdict.{Written, NotWritten, Unknown}}
+use Rattle.machine.specs.Machine.{UnreleasedClose, CommandStep, EditingStep, ending_of, commit_ask, Release, release_effect, release_fails, made_answer}
+use Rattle.machine.specs.{Machine.{unreleased_answer, CommittedStep}, Machine.Release.{Stays, Released, NotReleased, InDoubt}, Answers.Verdict.{Written, NotWritten, Unknown}}
 use Rattle.machine.specs.{declared.commit_parameters.CommitParameters.CommitParameters, declared.env.Env.Env, declared.ending.Ending.Ending}
 use Rattle.machine.specs.declared.ending.Ending.TheVariants.{Commits as ToCommit, GivesUp}
 use Rattle.machine.specs.declared.phase.Phase.TheVariants.{Greeted, LoggingIn, Challenged, Serving, Editing, Skipping, Reporting, Driven, Ended}
@@ -88,12 +88,12 @@ kept_leave c (Releases user tokens ∷ es) (of, more) trees =
 release_keeps : (ask : CommitAsk) (release : Release) → KeepRevisions (release_effect ask release).changes
 release_keeps ask Stays = tt
 release_keeps ask Released = (refl, tt)
-release_keeps ask Fails = tt
+release_keeps ask NotReleased = tt
+release_keeps ask InDoubt = tt
 
-sound_after : (client : Client) (v : Verdict) → EditIsSound (phase_after client v)
-sound_after client Written = tt
-sound_after client NotWritten = tt
-sound_after client (Unknown e) = tt
+sound_made : (client : Client) (fails : Bool) → EditIsSound (if fails then Ended else Serving client)
+sound_made client true = tt
+sound_made client false = tt
 
 module _ (begins : (path : PathValue) (name : List ℕ) → IsSoundEdit (new_edit path name))
     (goes_on : (c : RepoState) (old new : EditState) (command : EditorCommand) → AreSound c.revisions → RestsOn old c → IsSoundEdit old → edit_refusal c old command ≡ None → Applies c old command new → IsSoundEdit new)
@@ -130,7 +130,7 @@ module _ (begins : (path : PathValue) (name : List ℕ) → IsSoundEdit (new_edi
       let freed = release_effect ask release in
       let left = kept_leave (committed c ask t) freed.changes (release_keeps ask release)
       (trees_more c.revisions _ trees.0 (makes_tree c t w), makes_marks c ask t w) in
-      (left.0, sound_after client freed.store, (w, left.1))
+      (left.0, sound_made client (release_fails release), (w, left.1))
 
   leaves_committed : (env : Env) (c : RepoState) (client : Client) (ask : CommitAsk) (t : TxnState) (v : Verdict) (a : Answer)
       → AreSound c.revisions → MeetWell (trees_in c.revisions) t.base (tree_of t.tree) (youngest c) → CommittedStep env c client ask t v a → LeavesTrees c a

@@ -109,14 +109,13 @@ change_answer env client e told (Unknown x) = record {
   effect = record { changes = []; store = Unknown x };
 }
 
--- what the store may say of a change that is one `replace` of a file: where that fails, nobody knows
--- whether this very change is written
-abbrev pub IsOfReplace : Accepted → Verdict → Type 0
-IsOfReplace e Written = Unit {0}
-IsOfReplace e NotWritten = ⊥
-IsOfReplace e (Unknown x) = x ≡ e
+-- what the store may say of a change: where nobody knows what is written, it is this very change
+abbrev pub IsOfChange : Accepted → Verdict → Type 0
+IsOfChange e Written = Unit {0}
+IsOfChange e NotWritten = Unit {0}
+IsOfChange e (Unknown x) = x ≡ e
 
--- a change that is one `replace`, and was judged so: a refused one changes nothing, and once changes
+-- a change that was judged so: a refused one changes nothing, and once changes
 -- have come to a halt none is made, whatever the rules say of it; one that is accepted is answered
 -- so, by what the store says
 abbrev pub ChangeStep : Bool → Env → Client → Option Refusal → Accepted → (Verdict → Answer)
@@ -125,7 +124,7 @@ ChangeStep true env client r e answer a =
     a ≡ says env Ended (replies.Failure refusals.StoreFailed ∷ [])
 ChangeStep false env client (Some r) e answer a = a ≡ serves env client (replies.Failure r)
 ChangeStep false env client None e answer a =
-    (v : Verdict) × IsOfReplace e v × (a ≡ answer v)
+    (v : Verdict) × IsOfChange e v × (a ≡ answer v)
 
 -- ---- what comes before
 

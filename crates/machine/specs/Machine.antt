@@ -1,5 +1,5 @@
 -- One session of the machine: where it stands, and what each input does.
-use Rattle.std.specs.Prelude.{◌≡◌, Bool, true, false, List, [], ◌∷◌, length, Option, Some, None, Result, Ok, Err, ℕ}
+use Rattle.std.specs.Prelude.{◌≡◌, Bool, true, false, if◌then◌else◌, List, [], ◌∷◌, length, Option, Some, None, Result, Ok, Err, ℕ}
 use Rattle.refusals.specs.declared.Refusal.{Refusal}
 use Rattle.refusals.specs.declared.Refusal.TheVariants as refusals
 use Rattle.dates.specs.Dates.{IsDateText}
@@ -77,48 +77,46 @@ commit_ask client asked date = record {
 }
 
 -- what becomes of the locks that were handed in with a commit: they stay, they are released, or the
--- store fails at their release
+-- store fails at their release: they are not released, or nobody knows whether they are
 pub data Release : Type 0 where
   Stays : Release
   Released : Release
-  Fails : Release
+  NotReleased : Release
+  InDoubt : Release
 
 -- a release is tried exactly where it is wanted
 abbrev pub IsReleaseOf : Bool → Release → Type 0
 IsReleaseOf false Stays = Unit {0}
 IsReleaseOf false Released = ⊥
-IsReleaseOf false Fails = ⊥
+IsReleaseOf false NotReleased = ⊥
+IsReleaseOf false InDoubt = ⊥
 IsReleaseOf true Stays = ⊥
 IsReleaseOf true Released = Unit {0}
-IsReleaseOf true Fails = Unit {0}
+IsReleaseOf true NotReleased = Unit {0}
+IsReleaseOf true InDoubt = Unit {0}
 
 abbrev pub release_fails : Release → Bool
 release_fails Stays = false
 release_fails Released = false
-release_fails Fails = true
+release_fails NotReleased = true
+release_fails InDoubt = true
 
--- a release is one `replace`: where the store fails at it, changes come to a halt
 abbrev pub release_effect : CommitAsk → Release → Effect
 release_effect ask Stays = no_effect
 release_effect ask Released =
     record { changes = Releases ask.author ask.tokens ∷ []; store = Written }
-release_effect ask Fails =
+release_effect ask NotReleased = record { changes = []; store = NotWritten }
+release_effect ask InDoubt =
     record { changes = []; store = Unknown (Releases ask.author ask.tokens) }
 
--- where a session stands after a change that was made, by what the store said last
-abbrev pub phase_after : Client → Verdict → Stage
-phase_after client Written = Serving client
-phase_after client NotWritten = Serving client
-phase_after client (Unknown e) = Ended
-
--- a commit that is made, and its release behind it
+-- a commit that is made, and its release behind it; where that fails, the session ends
 abbrev pub made_answer : Env → RepoState → Client → CommitAsk → TxnState → Release → Answer
 made_answer env c client ask t release =
     let freed : Effect = release_effect ask release in
     record {
       replies = replies.Success ∷ replies.NoLogin
           ∷ replies.CommitInfo (length c.revisions) ask.date client.user (release_fails release) ∷ [];
-      phase = phase_after client freed.store;
+      phase = if release_fails release then Ended else Serving client;
       env = env;
       effect = record { changes = Commits ask t ∷ freed.changes; store = freed.store };
     }

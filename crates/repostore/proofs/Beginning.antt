@@ -1,10 +1,10 @@
 -- How the files of a new repository are written.
-use Rattle.std.proofs.Common.{◌≡◌, ◌≢◌, ◌⊎◌, inl, inr, ⊎_elim, ap, ◌∙◌, ℕ, List, [], ◌∷◌, Option, Some, arith}
-use Rattle.std.specs.Prelude.{◌<◌, ◌↔◌, Result, IsErr, IsErrOf}
+use Rattle.std.proofs.Common.{◌≡◌, ◌≢◌, ◌⊎◌, inl, inr, refl, ⊎_elim, ap, ◌∙◌, ℕ, List, [], ◌∷◌, Option, Some, arith}
+use Rattle.std.specs.Prelude.{◌<◌, ◌↔◌, Result, Ok, Err, IsErr, IsErrOf}
 use Rattle.store_files.specs.{Folders.{Folder, IsSame, SameBut, Scribbled, text_of}, Moments.Elapses, Stops.LeavesOnly, declared.name.FileName.FileName}
 use Rattle.store_files.specs.declared.store.Store.{Ghosts}
 use Rattle.store_files.specs.declared.name.FileName.TheVariants.{Format, Kind, Uuid, Current, Locks, Revision, Properties, RepositoryFormat}
-use Rattle.store_files.specs.{declared.fault.StoreFault.StoreFault, declared.fault.StoreFault.TheVariants.{Device, NoMemory}}
+use Rattle.store_files.specs.{Faults.IsRefused, declared.fault.ReplaceFault.ReplaceFault, declared.fault.ReplaceFault.TheVariants.{InDoubt, NoMemory, Unchanged}}
 use Rattle.repostore.specs.{Current.count_in, Files.{Files, HasFiles}, Saving.{Stands, Going}, Creating.{IsFreeWith, IsFreeOrHas}}
 use Rattle.repostore.proofs.{Reaching.closed, Steps.{begun, goes_on, weaker, wrote, with_bytes, unchanged}, Joining.join}
 
@@ -126,12 +126,18 @@ module _ {S : Type 0} (s : Ghosts S) (locks : Option (List ℕ)) where
       weaker s old new (λ f. IsFreeWith locks f ⊎ IsFreeOrHas files f) (IsFreeOrHas files)
       (λ f. ⊎_elim (λ free. inl free.free) (λ has. has)) (join s old mid new (IsFreeWith locks) (IsFreeOrHas files) first then)
 
+  nothing_new : (start old new : S) (ws : Written) → Writing start old ws → s.is_honest new
+      → IsSame (s.holds old) (s.holds new) → ((f : Folder) → s.may_leave new f → s.may_leave old f) → Free new
+  nothing_new start old new ws so_far honest same left =
+      unchanged s old new (Begins locks ws) (IsFreeWith locks) so_far.stands honest
+      (record { read = same; left = left })
+      (λ d f is there. record { free = is Format ∙ there.0.free; locks_are = is Locks ∙ there.0.locks_are })
+
   -- the last call, where nothing was changed
-  pub not_replaced : (start old new : S) (ws : Written) (before after : ℕ) (result : Result (Unit {0}) StoreFault) → Writing start old ws → IsErr result → s.is_honest new → before ≡ after
-      → (IsErrOf result Device → before < after) → (IsErr result → IsErrOf result Device ⊎ IsErrOf result NoMemory)
-      → (IsErrOf result NoMemory → IsSame (s.holds old) (s.holds new)) → (IsErrOf result NoMemory → (f : Folder) → s.may_leave new f → s.may_leave old f) → Free new
-  not_replaced start old new ws before after result so_far failed honest steady doubt only same left =
-      ⊎_elim (λ device. absurd (omega (arith, steady, doubt device)))
-      (λ memory. unchanged s old new (Begins locks ws) (IsFreeWith locks) so_far.stands honest
-      (record { read = same memory; left = left memory })
-      (λ d f is there. record { free = is Format ∙ there.0.free; locks_are = is Locks ∙ there.0.locks_are })) (only failed)
+  pub not_replaced : (start old new : S) (ws : Written) (before after : ℕ) (result : Result (Unit {0}) ReplaceFault) → Writing start old ws → IsErr result → s.is_honest new
+      → before ≡ after → (IsErrOf result InDoubt → before < after)
+      → (IsRefused result → IsSame (s.holds old) (s.holds new)) → (IsRefused result → (f : Folder) → s.may_leave new f → s.may_leave old f) → Free new
+  not_replaced start old new ws before after (Ok x) so_far failed honest steady doubt same left = absurd (cc)
+  not_replaced start old new ws before after (Err InDoubt) so_far failed honest steady doubt same left = absurd (omega (arith, steady, doubt refl))
+  not_replaced start old new ws before after (Err Unchanged) so_far failed honest steady doubt same left = nothing_new start old new ws so_far honest (same tt) (left tt)
+  not_replaced start old new ws before after (Err NoMemory) so_far failed honest steady doubt same left = nothing_new start old new ws so_far honest (same tt) (left tt)

@@ -63,5 +63,8 @@ fn write_opening<S: Store>(store: &mut S, opening: Opening<'_>) -> Result<(), St
     store.write_new(FileName::Revision(0), opening.revision)?;
     store.write_new(FileName::Properties(0), opening.properties)?;
     store.write_new(FileName::Current, opening.current)?;
-    store.replace(FileName::Format, opening.format)
+    match store.replace(FileName::Format, opening.format) {
+        Ok(()) => Ok(()),
+        Err(fault) => Err(StoreFault::from(fault)),
+    }
 }

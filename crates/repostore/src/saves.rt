@@ -1,13 +1,13 @@
 //! Changes saved to files.
 ghost use Rattle.std.specs.Prelude.{◌≡◌, ◌⊎◌, ◌<◌, ◌+◌, ◌↔◌, true, false, Some, OnOk, IsErr, IsErrOf};
-ghost use Rattle.store_files.specs.Moments.{HasCause};
+ghost use Rattle.store_files.specs.{Faults.told_of, Moments.HasCause};
 ghost use Rattle.repostore.specs.{Current.count_in, Files.{Files, with_revision, with_locks, with_properties, HasFiles}};
 ghost use Rattle.repostore.specs.Saving.{IsSaved, SaveMakes, SaveEnds, Going, Replaces, IsWritten, IsUnchanged, HasNext};
 
-use store_files::{FileName, Store, StoreFault};
+use store_files::{FileName, ReplaceFault, Store, StoreFault};
 
-/// The files of a repository that are saved: how many revisions they have, and whether a replacement has
-/// failed, since when nothing is written any more.
+/// The files of a repository that are saved: how many revisions they have, and whether a replacement was left
+/// in doubt, since when nothing is written any more.
 pub struct Saves<S: Store> {
     pub(crate) store: S,
     pub(crate) count: u32,
@@ -67,7 +67,7 @@ impl<S: Store> Saves<S> {
             .write_new(FileName::Properties(number), properties)
     }
 
-    /// Replaces a file. Where the device fails, no save is made any more.
+    /// Replaces a file. Where that leaves it in doubt, no save is made any more.
     fn publish(&mut self, name: FileName, bytes: &[u8]) -> Result<(), StoreFault>
         ensures replaces { S.is_honest self.old.store
             → Replaces S.Store name bytes.now self.old.store self.new.store }
@@ -81,8 +81,8 @@ impl<S: Store> Saves<S> {
             ↔ ((self.old.is_halted ≡ true)
             ⊎ (S.in_doubt self.old.store < S.in_doubt self.new.store)) }
         ensures done { OnOk result (self.new.is_halted ≡ self.old.is_halted) }
-        ensures by_device { (self.new.is_halted ≡ true)
-            ↔ ((self.old.is_halted ≡ true) ⊎ IsErrOf result StoreFault.Device) }
+        ensures by_device { self.new.is_halted ≡ true
+            → (self.old.is_halted ≡ true) ⊎ IsErrOf result StoreFault.Device }
         ensures cause { HasCause (S.failed self.old.store) (S.failed self.new.store) result }
     {
         match self.store.replace(name, bytes) {
@@ -91,19 +91,19 @@ impl<S: Store> Saves<S> {
         }
     }
 
-    /// Notes that a replacement has failed by this.
-    fn after_failure(&mut self, fault: StoreFault) -> StoreFault
-        ensures same { result ≡ fault }
+    /// Notes that a replacement has failed, and tells why.
+    fn after_failure(&mut self, fault: ReplaceFault) -> StoreFault
+        ensures told { result ≡ told_of fault }
         ensures store { self.new.store ≡ self.old.store }
         ensures count { self.new.count ≡ self.old.count }
         ensures honest { S.is_honest self.old.store ↔ S.is_honest self.new.store }
         ensures halts { (self.new.is_halted ≡ true)
-            ↔ ((self.old.is_halted ≡ true) ⊎ (fault ≡ StoreFault.Device)) }
+            ↔ ((self.old.is_halted ≡ true) ⊎ (fault ≡ ReplaceFault.InDoubt)) }
     {
-        if let StoreFault::Device = fault {
+        if let ReplaceFault::InDoubt = fault {
             self.is_halted = true;
         }
-        fault
+        StoreFault::from(fault)
     }
 
     /// Saves the locks.
@@ -111,7 +111,6 @@ impl<S: Store> Saves<S> {
         ensures saved { (files : Files) → IsSaved S.Store self.old files
             → SaveMakes S.Store self.old self.new result files (with_locks files locks.now) }
         ensures ends { SaveEnds S.Store self.old self.new result }
-        ensures device_halts { IsErrOf result StoreFault.Device → self.new.is_halted ≡ true }
     {
         if self.is_halted {
             return Err(StoreFault::Halted);
@@ -126,7 +125,6 @@ impl<S: Store> Saves<S> {
             → SaveMakes S.Store self.old self.new result files
             (with_properties files revision properties.now) }
         ensures ends { SaveEnds S.Store self.old self.new result }
-        ensures device_halts { IsErrOf result StoreFault.Device → self.new.is_halted ≡ true }
     {
         if self.is_halted {
             return Err(StoreFault::Halted);
@@ -134,7 +132,7 @@ impl<S: Store> Saves<S> {
         self.publish(FileName::Properties(revision), properties)
     }
 
-    /// Says whether a replacement has failed, so that nothing is written any more.
+    /// Says whether a replacement was left in doubt, so that nothing is written any more.
     pub fn is_halted(&self) -> bool
         ensures { result ≡ self.now.is_halted }
     {

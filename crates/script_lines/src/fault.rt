@@ -45,7 +45,10 @@ impl From<FolderFault> for LineFault {
     fn from(fault: FolderFault) -> Self {
         match fault {
             FolderFault::InUse => LineFault::InUse,
-            FolderFault::Device => LineFault::Store(StoreFault::Device),
+            FolderFault::Missing
+            | FolderFault::NotPlain
+            | FolderFault::Unwritable
+            | FolderFault::Device => LineFault::Store(StoreFault::Device),
             FolderFault::NoMemory => LineFault::NoMemory,
         }
     }

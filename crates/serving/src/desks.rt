@@ -108,7 +108,9 @@ where
     ensures { IfOk result (λ d. AreSound (content_of d.seat).revisions) }
 {
     let repository = Arc::try_clone(&shared.repository)?;
-    let envs = SystemEnvs::new(rt)?;
+    let Ok(envs) = SystemEnvs::new(rt) else {
+        return Err(ServingFault::Random);
+    };
     Ok(Desk {
         repository,
         seat,
@@ -143,7 +145,7 @@ where
 ///
 /// # Errors
 ///
-/// `Store` where changes have come to a halt already; `Io` where the system gives no random bytes; `NoMemory`.
+/// `Store` where changes have come to a halt already; `Random` where the system gives no random bytes; `NoMemory`.
 pub fn desks_of<'r, R, F, S, J>(
     rt: &'r R,
     alloc: Global,

@@ -1,8 +1,8 @@
 //! Why no sessions are served, or none any more.
 
+use crate::reason::Reason;
 use cram::CramFault;
 use std::alloc::{AllocError, AllocFailed};
-use std::io;
 use store_files::StoreFault;
 use thiserror::Error;
 
@@ -18,9 +18,21 @@ pub enum ServingFault {
     /// The first line of the file of users that breaks its form, counted from 1.
     #[error("M4 line {0}")]
     Users(usize),
-    /// The file of users, the address, a thread or a standard stream failed, or the system gives no random bytes.
+    /// The file of users cannot be read.
     #[error("io")]
-    Io,
+    UsersFile(Reason),
+    /// The system does not let the server listen at the address.
+    #[error("io")]
+    Listening(Reason),
+    /// A thread cannot be started.
+    #[error("io")]
+    Thread,
+    /// The system gives no random bytes.
+    #[error("io")]
+    Random,
+    /// Standard output does not take `ready`.
+    #[error("io")]
+    Output(Reason),
     /// The repository is not shared.
     #[error("{0}")]
     Store(StoreFault),
@@ -33,12 +45,6 @@ impl ServingFault {
     /// Says whether what was asked for is faulty, and not what was found.
     pub fn is_of_command_line(&self) -> bool {
         matches!(self, ServingFault::Name | ServingFault::Address)
-    }
-}
-
-impl From<io::Error> for ServingFault {
-    fn from(_fault: io::Error) -> Self {
-        ServingFault::Io
     }
 }
 

@@ -2,6 +2,7 @@
 
 use crate::envs::moment_now;
 use crate::guests::Guests;
+use crate::limits::FILES_NEEDED;
 use conversations::{TalkFault, Watch};
 use dates::date_text;
 use std::alloc::{AllocError, Global};
@@ -32,6 +33,8 @@ pub(crate) enum Event {
     StoreFailed,
     /// The file of users can be read by others than its owner and its group.
     UsersReadable,
+    /// So many files may be open at a time, which are fewer than the server needs.
+    FewFiles(u64),
 }
 
 /// Tells events on standard error, unless it is to be quiet, and knows which addresses have sessions.
@@ -71,6 +74,14 @@ impl<'a, R: Eprint + Clock> Journal<'a, R> {
         }
     }
 
+    /// Tells where the server listens.
+    pub(crate) fn listens(&self, address: SocketAddr) {
+        if !self.is_quiet {
+            // what standard error does not take is lost
+            let _ = eprint!(self.rt; "svnserved: listens at {address}\n");
+        }
+    }
+
     /// Tells an event.
     pub(crate) fn tell(&self, event: Event) {
         if self.is_quiet {
@@ -97,6 +108,11 @@ impl<'a, R: Eprint + Clock> Journal<'a, R> {
             }
             Event::UsersReadable => {
                 format!(in self.alloc; "warning: others can read the file of users")
+            }
+            Event::FewFiles(files) => {
+                format!(in self.alloc;
+                    "warning: {files} files may be open at a time, and {FILES_NEEDED} are needed"
+                )
             }
         });
     }

@@ -7,6 +7,9 @@ mod envs;
 mod fault;
 mod guests;
 mod journal;
+mod limits;
+mod opening;
+mod reason;
 mod serving;
 mod settings;
 
@@ -15,5 +18,6 @@ pub use desks::{Access, Desk, Desks, SharedFiles, desks_of, work_at};
 pub use envs::{SystemEnvs, moment_now};
 pub use fault::ServingFault;
 pub use journal::Journal;
+pub use reason::Reason;
 pub use serving::{Server, serve, serve_connections};
 pub use settings::{Settings, read_settings};

@@ -7,6 +7,9 @@ use crate::accepting::{Client, Entrance, take_all};
 use crate::desks::{Desk, Desks, SharedFiles, work_at};
 use crate::fault::ServingFault;
 use crate::journal::{Event, Journal};
+use crate::limits::too_few_files;
+use crate::opening::{Aloud, Opening, Silent};
+use crate::reason::Reason;
 use crate::settings::Settings;
 use conversations::OpenGate;
 use crossbeam_channel::{Receiver, Sender, unbounded};
@@ -15,8 +18,9 @@ use machine::Options;
 use published::Naming;
 use session_pool::SessionPool;
 use std::alloc::Global;
+use std::fs::Files;
 use std::io::{Eprint, Print};
-use std::net::{Net, TcpListener, TcpStream};
+use std::net::{Net, SocketAddrV4, TcpListener, TcpStream};
 use std::random::RandomSource;
 use std::sync::Wait;
 use std::thread;
@@ -41,22 +45,35 @@ where
     take_all(entrance, pool, callers)
 }
 
-/// Starts a thread for each desk, and takes connections meanwhile. It answers once no more are to be taken and all
-/// sessions have ended, or where a thread cannot be started.
-fn run_pool<R, S, J>(
+/// The way of connections to the threads that serve them, and what is told as it opens.
+#[derive(Drop)]
+struct Way<'a, O> {
+    sender: Sender<Client>,
+    callers: &'a Receiver<Client>,
+    opening: &'a O,
+}
+
+/// Starts a thread for each desk, tells that all have started, and takes connections. It answers once no more are to be taken
+/// and all sessions have ended, or where a thread cannot be started.
+fn run_pool<R, S, J, O>(
     entrance: &Entrance<'_, R, SharedFiles<FiledWorld, S, J>>,
     pool: &SessionPool<'_, OpenGate, Journal<'_, R>>,
-    callers: &Receiver<Client>,
-    sender: Sender<Client>,
+    way: Way<'_, O>,
     desks: Vec<Desk<'_, R, FiledWorld, S, J>>,
 ) -> Result<(), ServingFault>
 where
     R: Clock + Eprint + RandomSource + Threads + Wait + Sync,
     S: Store + Send + Sync + 'static,
     J: Naming + Send + Sync + 'static,
+    O: Opening,
     requires { All (λ d. AreSound (content_of d.seat).revisions) desks.items }
 {
     let (rt, alloc) = (entrance.rt, entrance.alloc);
+    let Way {
+        sender,
+        callers,
+        opening,
+    } = way;
     thread::scope(
         thread::scope_env(),
         rt,
@@ -70,9 +87,10 @@ where
                     { work_at(rt, alloc, pool, callers, desk) },
                 );
                 if worker.is_err() {
-                    return Err(ServingFault::Io);
+                    return Err(ServingFault::Thread);
                 }
             }
+            opening.tell(&entrance.journal)?;
             take_at(entrance, pool, &sender);
             Ok(())
         },
@@ -80,20 +98,27 @@ where
 }
 
 /// Serves the connections that come in by an entrance, each at one of these desks.
-fn serve_desks<R, S, J>(
+fn serve_desks<R, S, J, O>(
     entrance: &Entrance<'_, R, SharedFiles<FiledWorld, S, J>>,
     options: &Options,
+    opening: &O,
     desks: Vec<Desk<'_, R, FiledWorld, S, J>>,
 ) -> Result<(), ServingFault>
 where
     R: Clock + Eprint + RandomSource + Threads + Wait + Sync,
     S: Store + Send + Sync + 'static,
     J: Naming + Send + Sync + 'static,
+    O: Opening,
     requires { All (λ d. AreSound (content_of d.seat).revisions) desks.items }
 {
     let (sender, callers) = unbounded::<Client, Global>(entrance.alloc)?;
     let pool = SessionPool::new(options, &OpenGate, &entrance.journal);
-    run_pool(entrance, &pool, &callers, sender, desks)
+    let way = Way {
+        sender,
+        callers: &callers,
+        opening,
+    };
+    run_pool(entrance, &pool, way, desks)
 }
 
 /// What serves sessions.
@@ -118,6 +143,24 @@ where
     J: Naming + Send + Sync + 'static,
     requires { All (λ d. AreSound (content_of d.seat).revisions) desks.1.items }
 {
+    serve_opened(server, listener, connections, &Silent, desks)
+}
+
+/// Does so, and tells once all threads have started.
+fn serve_opened<R, S, J, O>(
+    server: &Server<'_, R>,
+    listener: &TcpListener,
+    connections: usize,
+    opening: &O,
+    desks: Desks<'_, R, FiledWorld, S, J>,
+) -> Result<(), ServingFault>
+where
+    R: Clock + Eprint + RandomSource + Threads + Wait + Sync,
+    S: Store + Send + Sync + 'static,
+    J: Naming + Send + Sync + 'static,
+    O: Opening,
+    requires { All (λ d. AreSound (content_of d.seat).revisions) desks.1.items }
+{
     let (repository, desks) = desks;
     let (rt, alloc) = (server.rt, server.alloc);
     let entrance = Entrance {
@@ -132,11 +175,22 @@ where
     if server.settings.is_exposed {
         entrance.journal.tell(Event::UsersReadable);
     }
-    serve_desks(&entrance, &server.settings.options, desks)
+    serve_desks(&entrance, &server.settings.options, opening, desks)
 }
 
-/// Serves sessions over TCP at the desks of a repository. It prints `ready` once it listens, and answers only where
-/// that or a thread fails.
+/// Listens at an address.
+fn listener_at<R>(rt: &R, address: SocketAddrV4) -> Result<TcpListener, ServingFault>
+where
+    R: Net<Listener = TcpListener, Stream = TcpStream>,
+{
+    match TcpListener::bind(rt, address) {
+        Ok(listener) => Ok(listener),
+        Err(error) => Err(ServingFault::Listening(Reason::of(&error))),
+    }
+}
+
+/// Serves sessions over TCP at the desks of a repository. It prints `ready` once it listens and all threads have
+/// started, and answers only where that or a thread fails.
 pub fn serve<R, S, J>(
     server: &Server<'_, R>,
     desks: Desks<'_, R, FiledWorld, S, J>,
@@ -145,6 +199,7 @@ where
     R: Net<Listener = TcpListener, Stream = TcpStream>
         + Clock
         + Eprint
+        + Files
         + Print
         + RandomSource
         + Threads
@@ -154,7 +209,11 @@ where
     J: Naming + Send + Sync + 'static,
     requires { All (λ d. AreSound (content_of d.seat).revisions) desks.1.items }
 {
-    let listener = TcpListener::bind(server.rt, server.settings.address)?;
-    println!(server.rt; "ready")?;
-    serve_connections(server, &listener, usize::MAX, desks)
+    let listener = listener_at(server.rt, server.settings.address)?;
+    let opening = Aloud {
+        rt: server.rt,
+        listener: &listener,
+        too_few_files: too_few_files(server.rt),
+    };
+    serve_opened(server, &listener, usize::MAX, &opening, desks)
 }

@@ -2,6 +2,7 @@
 ghost use Rattle.std.specs.Prelude.{◌≡◌, IfOk, Some, string_bytes};
 
 use crate::fault::ServingFault;
+use crate::reason::Reason;
 use command_line::Service;
 use cram::Users;
 use machine::{Options, is_repository_name};
@@ -54,6 +55,14 @@ fn options_of(alloc: Global, service: &Service, users: Users) -> Result<Options,
     }
 }
 
+/// Reads the file of users.
+fn users_of<R: Runtime>(rt: &R, alloc: Global, file: &str) -> Result<Users, ServingFault> {
+    match fs::read(rt, file) {
+        Ok(bytes) => Ok(Users::read(alloc, bytes.as_slice())?),
+        Err(error) => Err(ServingFault::UsersFile(Reason::of(&error))),
+    }
+}
+
 /// Says whether a file can be read by others than its owner and its group.
 fn is_exposed<R: Files>(rt: &R, file: &str) -> bool {
     match fs::metadata(rt, file) {
@@ -73,8 +82,7 @@ pub fn read_settings<R: Runtime>(
         return Err(ServingFault::Name);
     }
     let address = address_of(service)?;
-    let bytes = fs::read(rt, service.users.as_str())?;
-    let users = Users::read(alloc, bytes.as_slice())?;
+    let users = users_of(rt, alloc, service.users.as_str())?;
     Ok(Settings {
         options: options_of(alloc, service, users)?,
         address,

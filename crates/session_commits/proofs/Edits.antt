@@ -1,6 +1,6 @@
 -- The steps of an edit.
 use Rattle.std.proofs.Common.{◌≡◌, ℕ, List, [], ◌∷◌, Bool, true, false, Option, Some, None, refl, sym, ap, subst, inl, inr, length}
-use Rattle.std.specs.Prelude.{Result, Ok, Err, option_map}
+use Rattle.std.specs.Prelude.{Result, Ok, Err, if◌then◌else◌, option_map}
 use Rattle.dates.specs.Dates.{IsDateText}
 use Rattle.refusals.specs.declared.Refusal.{Refusal}
 use Rattle.refusals.specs.declared.Refusal.TheVariants as refusals
@@ -17,8 +17,8 @@ use Rattle.access.specs.{Changing.{CommitsAt, wants_release}, Points.{AccessRule
 use Rattle.access.specs.{declared.access.Released.Released, declared.access.Released.TheVariants.{Settled, NoMemory, StoreFailed}}
 use Rattle.machine.specs.{Answers.{Answer, behind, change_answer, says, serves, Step}, Answers.Verdict.{NotWritten, Unknown, Written}, Machine.CloseStep}
 use Rattle.machine.specs.Machine.{CommandStep, commit_ask, CommitStep, EditingStep, EditStep, ending_of, gives_up, IsReleaseOf, JudgedEdit, MachineEdit}
-use Rattle.machine.specs.Machine.{made_answer, phase_after, Release, release_effect, release_fails, unreleased_answer, UnreleasedClose, UnreleasedEnd}
-use Rattle.machine.specs.{Machine.Release.{Fails, Released as FreedThere, Stays as StayThere}, Stages.Stage, Steps.EffectAt}
+use Rattle.machine.specs.Machine.{made_answer, Release, release_fails, unreleased_answer, UnreleasedClose, UnreleasedEnd}
+use Rattle.machine.specs.{Machine.Release.{InDoubt, NotReleased, Released as FreedThere, Stays as StayThere}, Stages.Stage, Steps.EffectAt}
 use Rattle.machine.specs.{declared.commit_parameters.CommitParameters.CommitParameters, declared.env.Env.Env, declared.ending.Ending.Ending}
 use Rattle.machine.specs.declared.ending.Ending.TheVariants.{Commits as ToCommit, GivesUp}
 use Rattle.machine.specs.{declared.phase.Phase.TheVariants.{Serving, Editing, Skipping, Ended}, declared.phase.Client.Client}
@@ -96,7 +96,7 @@ module _ {env : Env} {client : Client} {asked : CommitParameters} {date : List �
     made : (at mid : Point) (release : Release) → rules.between p at → at.halted ≡ false → commit_refusal (content_of at) ask t ≡ None
         → n ≡ length (content_of at).revisions → rules.adds at (Commits ask t) mid → IsReleaseOf (wants_release ask (content_of mid)) release
         → EffectAt rules at (made_answer env (content_of at) client ask t release).effect q
-        → Leads rules Closes p q env (phase_after client (release_effect ask release).store)
+        → Leads rules Closes p q env (if release_fails release then Ended else Serving client)
         (replies.Success ∷ replies.NoLogin ∷ replies.CommitInfo n date author (release_fails release) ∷ [])
     made at mid release later going accepted number added wanted moves =
         let a = made_answer env (content_of at) client ask t release in
@@ -120,8 +120,11 @@ module _ {env : Env} {client : Client} {asked : CommitParameters} {date : List �
     committed Settled (at, later, (going, accepted, (number, (mid, added, inr (stay, same))))) r env' writes said =
         unparted rules Closes Stays p q writes r env' (stepped (made at mid StayThere later going accepted number added (subst (λ (b : Bool). IsReleaseOf b StayThere) (sym stay) tt)
         (mid, (mid, added, refl), same)) writes r env' said)
-    committed StoreFailed (at, later, (going, accepted, (number, (mid, added, (wants, halt))))) r env' writes said =
-        unparted rules Closes Stays p q writes r env' (stepped (made at mid Fails later going accepted number added (subst (λ (b : Bool). IsReleaseOf b Fails) (sym wants) tt)
+    committed StoreFailed (at, later, (going, accepted, (number, (mid, added, (wants, inl fails))))) r env' writes said =
+        unparted rules Closes Stays p q writes r env' (stepped (made at mid NotReleased later going accepted number added (subst (λ (b : Bool). IsReleaseOf b NotReleased) (sym wants) tt)
+        (mid, (mid, added, refl), fails)) writes r env' said)
+    committed StoreFailed (at, later, (going, accepted, (number, (mid, added, (wants, inr halt))))) r env' writes said =
+        unparted rules Closes Stays p q writes r env' (stepped (made at mid InDoubt later going accepted number added (subst (λ (b : Bool). IsReleaseOf b InDoubt) (sym wants) tt)
         (mid, (mid, added, refl), halt)) writes r env' said)
     committed NoMemory came (Ok phase') env' writes said = absurd said
     committed NoMemory (at, later, (going, accepted, (number, (mid, added, (wants, same))))) (Err e) env' writes said =

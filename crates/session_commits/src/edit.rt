@@ -228,7 +228,7 @@ fn say_committed<S: ReplySink>(
     said
 }
 
-/// Says where a session stands after a commit: at its end, where changes have come to a halt.
+/// Says where a session stands after a commit: at its end, where the store failed at its release.
 fn phase_after<R: Repository>(client: Client, is_over: bool) -> SessionPhase<R>
     ensures { result ≡ (if is_over then Phase.Ended else Phase.Serving client) }
 {

@@ -8,7 +8,7 @@ use Rattle.repo_api.specs.declared.fault.ChangeFault.TheVariants as change_fault
 use Rattle.wire_replies.specs.declared.reply.Reply.{Reply}
 use Rattle.wire_replies.specs.declared.reply.Reply.TheVariants as replies
 use Rattle.access.specs.{Changing.ReplacesAt, Points.{AccessRules, content_of, Point}}
-use Rattle.machine.specs.{Answers.{Answer, Behind, behind, change_answer, ChangeStep, says, serves, Step, Verdict}, Answers.Verdict.{Unknown, Written}}
+use Rattle.machine.specs.{Answers.{Answer, Behind, behind, change_answer, ChangeStep, says, serves, Step, Verdict}, Answers.Verdict.{NotWritten, Unknown, Written}}
 use Rattle.machine.specs.{Stages.Stage, Steps.{EffectAt, StepAt}, declared.env.Env.Env, declared.phase.Client.Client}
 use Rattle.machine.specs.declared.phase.Phase.TheVariants.{Serving, Ended}
 use Rattle.session_replies.specs.Telling.{fault_answer}
@@ -49,6 +49,13 @@ module _ (refusal : RepoState → Option Refusal) (e : Accepted) (env : Env) (cl
       let a = serves env client (replies.Failure r) in
       led a at later (judged at false (Some r) a going is_refused refl) (at, refl, stays)
 
+  -- one at which the store failed before it had changed anything
+  failed : answer NotWritten ≡ change_answer env client e [] NotWritten → Came (Err change_faults.StoreFailed)
+      → ChangeLeads env (Serving client) (replies.Failure refusals.StoreFailed ∷ [])
+  failed is (at, later, (going, accepted, fails)) =
+      let a = change_answer env client e [] NotWritten in
+      led a at later (judged at false None a going accepted (NotWritten, tt, sym is)) (at, refl, fails)
+
   -- one after a halt, or one of which nobody knows whether it is written
   halted : answer (Unknown e) ≡ change_answer env client e [] (Unknown e) → Came (Err change_faults.Halted)
       → ChangeLeads env Ended (replies.Failure refusals.StoreFailed ∷ [])
@@ -61,13 +68,14 @@ module _ (refusal : RepoState → Option Refusal) (e : Accepted) (env : Env) (cl
 
   -- one that was not made, and why is told
   pub not_made : {E : Type 0} (fault : ChangeFault) (r : Result Stage E) (env' : Env) (writes : List ℕ → Type 0)
+      → answer NotWritten ≡ change_answer env client e [] NotWritten
       → answer (Unknown e) ≡ change_answer env client e [] (Unknown e) → Came (Err fault)
       → AnsweredIfAnyWith r env' writes (option_map (behind told) (fault_answer env client fault)) → SteppedWith r env' writes rules p q (Behind told Judged)
-  not_made (change_faults.Refused why) r env' writes halts came said = stepped (refused why came) writes r env' said
-  not_made change_faults.StoreFailed r env' writes halts (at, later, (going, accepted, fails)) said = absurd fails
-  not_made change_faults.Halted r env' writes halts came said = stepped (halted halts came) writes r env' said
-  not_made change_faults.NoMemory (Ok x) env' writes halts came said = absurd said
-  not_made change_faults.NoMemory (Err e) env' writes halts came said = not_asked came said
+  not_made (change_faults.Refused why) r env' writes fails halts came said = stepped (refused why came) writes r env' said
+  not_made change_faults.StoreFailed r env' writes fails halts came said = stepped (failed fails came) writes r env' said
+  not_made change_faults.Halted r env' writes fails halts came said = stepped (halted halts came) writes r env' said
+  not_made change_faults.NoMemory (Ok x) env' writes fails halts came said = absurd said
+  not_made change_faults.NoMemory (Err e) env' writes fails halts came said = not_asked came said
 
 -- ---- a step that is another's too
 

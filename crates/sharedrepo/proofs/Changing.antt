@@ -1,6 +1,6 @@
 -- A change that a keeper makes.
 use Rattle.std.proofs.Common.{◌≡◌, ℕ, List, [], ◌∷◌, arith, length-append, Bool, true, false, not, ◌&&◌, true≢false, length, Option, Some, None, Ok, Err, inl}
-use Rattle.std.proofs.Common.{inr, refl, ◌∙◌, ap, sym, subst}
+use Rattle.std.proofs.Common.{inr, ⊎_elim, refl, ◌∙◌, ap, sym, subst}
 use Rattle.std.specs.Prelude.{Result}
 use Rattle.repo_api.specs.Accepted.{Accepted, changed, IsAccepted, IsJudged, refusal_of}
 use Rattle.repo_api.specs.{Accepted.Accepted.{ChangesProperty, Commits, Locks, Releases, Unlocks}, Commits.{committed, next_tree}}
@@ -8,13 +8,20 @@ use Rattle.repo_api.specs.{Locking.{HandedTokens, releases}, Soundness.AreSound,
 use Rattle.repo_api.specs.declared.fault.ChangeFault.{ChangeFault}
 use Rattle.repo_api.specs.declared.fault.ChangeFault.TheVariants as faults
 use Rattle.refusals.specs.declared.Refusal.{Refusal}
-use Rattle.access.specs.{Changing.{ChangesAt, IsFailure, IsHalt, ReleasesAfter, ReplacesAt, wants_release}, Handed.IsHandedIn, Points.{content_of, Point}}
+use Rattle.access.specs.{Changing.{ChangesAt, IsHalt, ReleasesAfter, ReplacesAt, wants_release}, Handed.IsHandedIn, Points.{content_of, Point}}
 use Rattle.access.specs.{declared.access.Released.Released, declared.access.Released.TheVariants.{Settled, NoMemory, StoreFailed}}
 use Rattle.access.specs.declared.handed.Handed.{Handed}
 use Rattle.published.specs.{Changes.IsRight, Moments.{added, shared_rules}}
-use Rattle.sharedrepo.specs.{Archives.{Kept, IsMade, IsNext, is_commit}, Settling.{SettlesTo, ReleasesTo, ReleasesHanded}}
+use Rattle.sharedrepo.specs.{Archives.{Kept, IsMade, IsNext}, Settling.{SettlesTo, ReleasesTo, ReleasesHanded}}
 use Rattle.sharedrepo.specs.Standing.{Standing, IsSteady, now_of, NotBegun}
 use Rattle.sharedrepo.proofs.Keeping.{files_now, sound_now}
+
+abbrev is_commit : Accepted → Bool
+is_commit (Commits ask t) = true
+is_commit (Locks ask) = false
+is_commit (Unlocks ask) = false
+is_commit (Releases user tokens) = false
+is_commit (ChangesProperty ask) = false
 
 -- a change of locks or of a property is right wherever the rules accept it
 pub quiet_right : (c : RepoState) (e : Accepted) → is_commit e ≡ false → AreSound c.revisions → IsAccepted c e → IsRight c e
@@ -26,40 +33,40 @@ quiet_right c (ChangesProperty ask) quiet s a = record { accepted = a; meets = �
 
 -- what a change that was asked for has led to, if it was no commit
 pub settled_all : (p q : Point) (refusal : Option Refusal) (e : Accepted) (r : Result (Unit {0}) ChangeFault)
-    → p.halted ≡ false → refusal ≡ None → is_commit e ≡ false → SettlesTo e p r q → ReplacesAt shared_rules refusal e p r q
-settled_all p q refusal e (Ok x) running none quiet s = (running, none, s)
-settled_all p q refusal e (Err (faults.Refused r)) running none quiet s = absurd s
-settled_all p q refusal e (Err faults.StoreFailed) running none quiet s = absurd (true≢false (sym s.0 ∙ quiet))
-settled_all p q refusal e (Err faults.Halted) running none quiet s = inr (running, none, s)
-settled_all p q refusal e (Err faults.NoMemory) running none quiet s = s
+    → p.halted ≡ false → refusal ≡ None → SettlesTo e p r q → ReplacesAt shared_rules refusal e p r q
+settled_all p q refusal e (Ok x) running none s = (running, none, s)
+settled_all p q refusal e (Err (faults.Refused r)) running none s = absurd s
+settled_all p q refusal e (Err faults.StoreFailed) running none s = (running, none, s)
+settled_all p q refusal e (Err faults.Halted) running none s = inr (running, none, s)
+settled_all p q refusal e (Err faults.NoMemory) running none s = s
 
 -- and a commit that was not saved
 pub commit_fails : {T : Type 0} (p q : Point) (refusal : Option Refusal) (e : Accepted) (Made : T → Point → Type 0) (fault : ChangeFault)
-    → p.halted ≡ false → refusal ≡ None → SettlesTo e p (Err fault) q → ChangesAt refusal e (IsFailure p) Made p (Err fault) q
+    → p.halted ≡ false → refusal ≡ None → SettlesTo e p (Err fault) q → ChangesAt refusal e Made p (Err fault) q
 commit_fails p q refusal e Made (faults.Refused r) running none s = absurd s
-commit_fails p q refusal e Made faults.StoreFailed running none s = (running, none, s.1)
+commit_fails p q refusal e Made faults.StoreFailed running none s = (running, none, s)
 commit_fails p q refusal e Made faults.Halted running none s = inr (running, none, s)
 commit_fails p q refusal e Made faults.NoMemory running none s = s
 
 module _ {S : Type 0} (kept : S → Kept) (stands : S → List RepoState → Type 0) (k : Standing S) where
   -- a change that was not begun
-  pub not_begun : {T : Type 0} (refusal : Option Refusal) (e : Accepted) (Fails : Point → Type 0) (Made : T → Point → Type 0) (fault : ChangeFault)
-      → NotBegun kept fault k → ChangesAt refusal e Fails Made (now_of kept k) (Err fault) (now_of kept k)
-  not_begun refusal e Fails Made (faults.Refused r) why = absurd why
-  not_begun refusal e Fails Made faults.StoreFailed why = absurd why
-  not_begun refusal e Fails Made faults.Halted why = inl (why, refl)
-  not_begun refusal e Fails Made faults.NoMemory why = refl
+  pub not_begun : {T : Type 0} (refusal : Option Refusal) (e : Accepted) (Made : T → Point → Type 0) (fault : ChangeFault)
+      → NotBegun kept fault k → ChangesAt refusal e Made (now_of kept k) (Err fault) (now_of kept k)
+  not_begun refusal e Made (faults.Refused r) why = absurd why
+  not_begun refusal e Made faults.StoreFailed why = absurd why
+  not_begun refusal e Made faults.Halted why = inl (why, refl)
+  not_begun refusal e Made faults.NoMemory why = refl
 
   module _ (steady : IsSteady kept stands k) (running : (kept k.archive).halted ≡ false) where
     -- a change that was refused, or lacked memory, before it was saved
-    pub refused : (U : Type 0) {T : Type 0} (e : Accepted) (Fails : Point → Type 0) (Made : T → Point → Type 0) (fault : ChangeFault)
+    pub refused : (U : Type 0) {T : Type 0} (e : Accepted) (Made : T → Point → Type 0) (fault : ChangeFault)
         → IsJudged {T = U} (Err fault) (refusal_of (kept k.archive).content e)
-        → ChangesAt (refusal_of (content_of (now_of kept k)) e) e Fails Made (now_of kept k) (Err fault) (now_of kept k)
-    refused U e Fails Made (faults.Refused r) why =
+        → ChangesAt (refusal_of (content_of (now_of kept k)) e) e Made (now_of kept k) (Err fault) (now_of kept k)
+    refused U e Made (faults.Refused r) why =
         (running, subst (λ (c : RepoState). refusal_of c e ≡ Some r) (files_now kept stands k steady running) why.1, refl)
-    refused U e Fails Made faults.StoreFailed why = absurd why.2
-    refused U e Fails Made faults.Halted why = absurd why.2
-    refused U e Fails Made faults.NoMemory why = refl
+    refused U e Made faults.StoreFailed why = absurd why.2
+    refused U e Made faults.Halted why = absurd why.2
+    refused U e Made faults.NoMemory why = refl
 
     -- what the archive has made is accepted where the keeper stands
     pub accepted_now : (e : Accepted) (d : RepoState) → IsMade (kept k.archive).content e d → IsAccepted (content_of (now_of kept k)) e
@@ -78,10 +85,10 @@ module _ {S : Type 0} (kept : S → Kept) (stands : S → List RepoState → Typ
 
     -- what it has led to, if it was no commit
     pub settled_by : (q : Point) (e asked : Accepted) (d : RepoState) (refusal : Option Refusal) (r : Result (Unit {0}) ChangeFault)
-        → IsMade (kept k.archive).content e d → asked ≡ e → is_commit e ≡ false → (IsAccepted (content_of (now_of kept k)) e → refusal ≡ None)
+        → IsMade (kept k.archive).content e d → asked ≡ e → (IsAccepted (content_of (now_of kept k)) e → refusal ≡ None)
         → SettlesTo asked (now_of kept k) r q → ReplacesAt shared_rules refusal e (now_of kept k) r q
-    settled_by q e asked d refusal r made is quiet accepts s =
-        settled_all (now_of kept k) q refusal e r running (accepts (accepted_now e d made)) quiet
+    settled_by q e asked d refusal r made is accepts s =
+        settled_all (now_of kept k) q refusal e r running (accepts (accepted_now e d made))
         (subst (λ (x : Accepted). SettlesTo x (now_of kept k) r q) is s)
 
 -- the youngest revision behind a commit is the one that it has made
@@ -108,7 +115,7 @@ released_some ask handed mid q Settled gone user tokens (inr s) = inr (wanted as
 released_some ask handed mid q NoMemory gone user tokens s = (wanted ask handed (content_of mid) gone user tokens ∙ s.0, s.1)
 released_some ask handed mid q StoreFailed gone user tokens s = (
   wanted ask handed (content_of mid) gone user tokens ∙ s.0,
-  subst (λ (e : Accepted). IsHalt e mid q) (λ i. Releases (user i) (tokens i)) s.1,
+  ⊎_elim inl (λ halt. inr (subst (λ (e : Accepted). IsHalt e mid q) (λ i. Releases (user i) (tokens i)) halt)) s.1,
 )
 
 -- the release behind a commit

@@ -1,7 +1,7 @@
 -- What a save leaves.
 use Rattle.published.specs.{Edition.{Edition, edition_after}, Events.Event.Opened, Events.IsHistory}
-use Rattle.std.proofs.Common.{lit<, None, ◌≡◌, ◌⊎◌, ◌<◌, Bool, List, [], ◌∷◌, ◌++◌, false, length, Option, Err, inl, inr, ◌∙◌, refl, sym, ap, subst}
-use Rattle.repo_api.specs.{Accepted.{Accepted, changed, IsAccepted}, Soundness.AreSound, States.{RepoState, TxnState}, declared.fault.ChangeFault.ChangeFault}
+use Rattle.std.proofs.Common.{lit<, None, ◌≡◌, ◌<◌, Bool, List, [], ◌∷◌, ◌++◌, false, length, Option, Err, ◌∙◌, refl, sym, ap, subst}
+use Rattle.repo_api.specs.{Accepted.{Accepted, IsAccepted}, Soundness.AreSound, States.{RepoState, TxnState}, declared.fault.ChangeFault.ChangeFault}
 use Rattle.repo_api.specs.declared.fault.ChangeFault.TheVariants as faults
 use Rattle.published.specs.{Events.{Event, accepted_by, state_of, point_of}, Events.Event.Makes, Moments.added, declared.event.AskedChange.AskedChange}
 use Rattle.published.proofs.Histories.{point_more, history_sound}
@@ -23,7 +23,7 @@ module _ {S : Type 0} (kept : S → Kept) (stands : S → List RepoState → Typ
       → stands b (through (kept a).content (e ∷ [])) → FilesFor stands (kept b) b (kept b).halted pending list
   files_after a e (faults.Refused r) before pending list running stood accepted is left behind = absurd left
   files_after a e faults.StoreFailed before pending list running stood accepted is left behind =
-      stand_still list pending (left.2 ∙ running) (left.1 ∙ stood)
+      stand_still list pending (left.1 ∙ running) (left.0 ∙ stood)
   files_after a e faults.NoMemory before pending list running stood accepted is left behind =
       stand_still list pending (ap (λ (k : Kept). k.halted) left ∙ running) (ap (λ (k : Kept). k.content) left ∙ stood)
   files_after a e faults.Halted before pending list running stood accepted is left behind =
@@ -36,7 +36,7 @@ pub not_saved : (e : Accepted) (fault : ChangeFault) (list : List Event) (old ne
     → SettlesTo e (point_of list old.halted old.failures a) (Err fault) (point_of list new.halted new.failures b)
 not_saved e (faults.Refused r) list old new a b is left = absurd left
 not_saved e faults.StoreFailed list old new a b is left =
-    (left.0, record { same = refl; halted = left.2; pending = is; risen = left.3 })
+    record { same = refl; halted = left.1; pending = is; risen = left.2 }
 not_saved e faults.NoMemory list old new a b is left = λ i. point_of list (left i).halted (left i).failures (is i)
 not_saved e faults.Halted list old new a b is left = record { same = refl; halted = left.1; pending = is; risen = left.2 }
 

@@ -3,7 +3,7 @@ use Rattle.std.proofs.Common.{◌≡◌, Bool, List, [], ◌∷◌, ◌++◌, fa
 use mathlib.Core.List.{IsPrefix}
 use Rattle.repo_api.specs.{Accepted.{Accepted, changed, changed_all, IsAccepted}, Accepted.Accepted.{Commits, Releases}, States.{RepoState, TxnState}, declared.ask.CommitAsk.CommitAsk}
 use Rattle.access.specs.{declared.handed.Handed.Handed, Handed.IsHandedIn}
-use Rattle.published.specs.Events.{Event, state_of}
+use Rattle.published.specs.Events.{state_of}
 use Rattle.stops.specs.Beginnings.{AreAmong, through}
 use Rattle.stops.proofs.First as first
 use Rattle.sharedrepo.specs.{Archives.{Kept, FilesFor}, Settling.releases_of, Standing.{Standing, IsSteady, StopLeaves}}

@@ -1,7 +1,7 @@
 -- What keeps the files of a repository, and what a save leaves.
 use Rattle.std.specs.Prelude.{◌≡◌, ◌⊎◌, ℕ, Bool, true, false, List, [], ◌∷◌, Option, Some, Result, Ok, Err, IfOk}
 use Rattle.repo_api.specs.{Accepted.{Accepted, changed, IsAccepted, IsJudged, refusal_of}, Soundness.AreSound, States.RepoState}
-use Rattle.repo_api.specs.{Accepted.Accepted.{ChangesProperty, Commits, Locks, Releases, Unlocks}, declared.fault.ChangeFault.ChangeFault}
+use Rattle.repo_api.specs.{declared.fault.ChangeFault.ChangeFault}
 use Rattle.repo_api.specs.declared.fault.ChangeFault.TheVariants as faults
 use Rattle.access.specs.Points.{HasRisen}
 use Rattle.published.specs.{Changes.IsRight, Events.{Event, state_of}}
@@ -29,22 +29,14 @@ pub record IsNext (c : RepoState) (e : Accepted) (d : RepoState) : Type 0 where
   pub right : IsRight c e
   pub made : d ≡ changed c e
 
-abbrev pub is_commit : Accepted → Bool
-is_commit (Commits ask t) = true
-is_commit (Locks ask) = false
-is_commit (Unlocks ask) = false
-is_commit (Releases user tokens) = false
-is_commit (ChangesProperty ask) = false
-
--- what the save of a change leaves. The files of a revision are written before the one replacement
--- that makes it the youngest, so the device may fail before it; every other change is one replacement.
--- Where that fails, the files are the old ones or the new
+-- what the save of a change leaves. The device may fail before anything was changed; or so that
+-- nobody knows whether the files are the old ones or the new
 abbrev pub SaveLeaves : Accepted → Kept → Result (Unit {0}) SaveFault → Kept → Type 0
 SaveLeaves e old (Ok _) new =
     (new.content ≡ changed old.content e) × (new.halted ≡ old.halted)
     × (new.failures ≡ old.failures)
 SaveLeaves e old (Err Device) new =
-    (is_commit e ≡ true) × (new.content ≡ old.content) × (new.halted ≡ old.halted)
+    (new.content ≡ old.content) × (new.halted ≡ old.halted)
     × HasRisen old.failures new.failures
 SaveLeaves e old (Err NoMemory) new = new ≡ old
 SaveLeaves e old (Err Halted) new =

@@ -6,24 +6,24 @@ use Rattle.repo_api.specs.declared.fault.ChangeFault.TheVariants as faults
 use Rattle.access.specs.{Changing.{ChangesAt, IsFailure, IsHalt}, Points.{content_of, Point}, declared.access.Released.Released}
 use Rattle.access.specs.{declared.access.Released.TheVariants.{Settled, NoMemory, StoreFailed}, declared.handed.Handed.Handed}
 use Rattle.published.specs.Moments.{added}
-use Rattle.sharedrepo.specs.{Archives.is_commit, declared.settling.Ready.Ready}
+use Rattle.sharedrepo.specs.declared.settling.Ready.{Ready}
 
 -- it is made; or the store failed, and goes on or not; or memory was refused
 abbrev pub SettlesTo : Accepted → Point → Result (Unit {0}) ChangeFault → Point → Type 0
 SettlesTo e p (Ok _) q = q ≡ added p e
 SettlesTo e p (Err (faults.Refused r)) q = ⊥
-SettlesTo e p (Err faults.StoreFailed) q = (is_commit e ≡ true) × IsFailure p q
+SettlesTo e p (Err faults.StoreFailed) q = IsFailure p q
 SettlesTo e p (Err faults.Halted) q = IsHalt e p q
 SettlesTo e p (Err faults.NoMemory) q = q ≡ p
 
 -- a commit without its release, which answers the number of its revision
 abbrev pub Revises : CommitAsk → TxnState → Point → Result ℕ ChangeFault → Point → Type 0
 Revises ask t p =
-    ChangesAt (commit_refusal (content_of p) ask t) (Commits ask t) (IsFailure p)
+    ChangesAt (commit_refusal (content_of p) ask t) (Commits ask t)
     (λ n q. (n ≡ length (content_of p).revisions) × (q ≡ added p (Commits ask t))) p
 
 -- what a release leads to: it is made where there is one; or memory is refused for it; or the store
--- fails at it, and changes have come to a halt
+-- fails at it, and goes on or not
 abbrev pub ReleasesTo : Handed → Point → Released → Point → Type 0
 ReleasesTo handed p Settled q =
     ((releases handed.user handed.tokens (content_of p).locks ≡ true)
@@ -33,7 +33,7 @@ ReleasesTo handed p NoMemory q =
     (releases handed.user handed.tokens (content_of p).locks ≡ true) × (q ≡ p)
 ReleasesTo handed p StoreFailed q =
     (releases handed.user handed.tokens (content_of p).locks ≡ true)
-    × IsHalt (Releases handed.user handed.tokens) p q
+    × (IsFailure p q ⊎ IsHalt (Releases handed.user handed.tokens) p q)
 
 -- how the save of a release is told
 abbrev pub released_as : Result (Unit {0}) ChangeFault → Released

@@ -10,6 +10,7 @@ use std::alloc::AllocError;
 use std::sync::{Arc, Wait};
 
 /// A repository that others change too, as one session reaches it.
+#[derive(Drop)]
 pub struct SeatAccess<
     R: Repository,
     S: Archive<R>,
@@ -21,23 +22,6 @@ pub struct SeatAccess<
     pub repository: Arc<Locked<R, S, J, T, O>>,
     pub seat: Seat<R, J, T>,
     pub rt: W,
-}
-
-impl<
-    R: Repository,
-    S: Archive<R>,
-    J: Naming,
-    T: Absorb<O> + Carries<Published<R, J>> + Drop,
-    O: Sets<Published<R, J>> + Drop,
-    W: Wait + Drop,
-> Drop for SeatAccess<R, S, J, T, O, W> {
-    fn drop(self) {
-        let SeatAccess {
-            repository: _,
-            seat: _,
-            rt: _,
-        } = self;
-    }
 }
 
 impl<

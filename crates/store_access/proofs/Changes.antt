@@ -13,7 +13,7 @@ use Rattle.access.specs.declared.access.Released.TheVariants as releases_so
 use Rattle.store_access.specs.Stored.{stored_at, SavesTo, ReleasesBy, ReleasesKept, released_as}
 
 -- a save that failed, as it is told
-pub save_failed : (Fails : Point → Type 0) (e : Accepted) (content next : RepoState) (was now : Bool) (before after : ℕ)
+pub save_failed : (e : Accepted) (content next : RepoState) (was now : Bool) (before after : ℕ)
     (old new : Option Accepted) (fault : StoreFault) (told : ChangeFault) → was ≡ false
     → (now ≡ true → (was ≡ true) ⊎ (fault ≡ store.Device))
     → (fault ≡ store.Device → HasRisen before after)
@@ -23,16 +23,15 @@ pub save_failed : (Fails : Point → Type 0) (e : Accepted) (content next : Repo
     → (fault ≡ store.NoMemory → (told ≡ change.NoMemory) × (new ≡ old))
     → ((fault ≡ store.NoMemory → ⊥) → now ≡ true → (told ≡ change.Halted) × (new ≡ Some e))
     → ((fault ≡ store.NoMemory → ⊥) → now ≡ false → (told ≡ change.StoreFailed) × (new ≡ old))
-    → (fault ≡ store.Device → now ≡ false → new ≡ old → Fails (stored_at content now after new))
-    → SavesTo Fails e (stored_at content was before old) next (Err told) (stored_at content now after new)
-save_failed Fails e content next was now before after old new fault told goes_on by_device device steady halted only memory stops fails failing = elim only [
+    → SavesTo e (stored_at content was before old) next (Err told) (stored_at content now after new)
+save_failed e content next was now before after old new fault told goes_on by_device device steady halted only memory stops fails = elim only [
   | inl by ↦ of_device now refl by
   | inr (inl lacks) ↦ of_memory now refl lacks
   | inr (inr stopped) ↦ absurd (false≢true (sym goes_on ∙ halted stopped))
 ]
   where
     Goal : ChangeFault → Type 0
-    Goal a = SavesTo Fails e (stored_at content was before old) next (Err a) (stored_at content now after new)
+    Goal a = SavesTo e (stored_at content was before old) next (Err a) (stored_at content now after new)
 
     of_device : (b : Bool) → now ≡ b → fault ≡ store.Device → Goal told
     of_device true is by =
@@ -40,7 +39,7 @@ save_failed Fails e content next was now before after old new fault told goes_on
         subst Goal (sym as_told.0) (record { same = refl; halted = is; pending = as_told.1; risen = device by })
     of_device false is by =
         let as_told = fails (λ x. cc) is in
-        subst Goal (sym as_told.0) (failing by is as_told.1)
+        subst Goal (sym as_told.0) (record { same = refl; halted = is ∙ sym goes_on; pending = as_told.1; risen = device by })
 
     of_memory : (b : Bool) → now ≡ b → fault ≡ store.NoMemory → Goal told
     of_memory true is lacks = ⊎_elim (λ was_so. absurd (false≢true (sym goes_on ∙ was_so))) (λ by. absurd (cc)) (by_device is)
@@ -51,30 +50,30 @@ save_failed Fails e content next was now before after old new fault told goes_on
         subst Goal (sym as_told.0) (λ i. stored_at content (halts i) (same i) (as_told.1 i))
 
 -- a change that the rules refuse, or that lacks memory
-pub refused : {T : Type 0} (at : Point) (refusal : Option Refusal) (e : Accepted) (Fails : Point → Type 0) (Made : T → Point → Type 0) (fault : ChangeFault) → at.halted ≡ false
+pub refused : {T : Type 0} (at : Point) (refusal : Option Refusal) (e : Accepted) (Made : T → Point → Type 0) (fault : ChangeFault) → at.halted ≡ false
     → IfRefused {T = Unit {0}} (Err fault) (λ r. refusal ≡ Some r) → IsOfMemory {T = Unit {0}} (Err fault)
-    → ChangesAt refusal e Fails Made at (Err fault) at
-refused at refusal e Fails Made (change.Refused r) goes_on why memory = (goes_on, why, refl)
-refused at refusal e Fails Made change.StoreFailed goes_on why memory = absurd memory
-refused at refusal e Fails Made change.Halted goes_on why memory = absurd memory
-refused at refusal e Fails Made change.NoMemory goes_on why memory = refl
+    → ChangesAt refusal e Made at (Err fault) at
+refused at refusal e Made (change.Refused r) goes_on why memory = (goes_on, why, refl)
+refused at refusal e Made change.StoreFailed goes_on why memory = absurd memory
+refused at refusal e Made change.Halted goes_on why memory = absurd memory
+refused at refusal e Made change.NoMemory goes_on why memory = refl
 
 -- a change whose save failed
-pub not_saved : {T : Type 0} (at : Point) (next : RepoState) (refusal : Option Refusal) (e : Accepted) (Fails : Point → Type 0) (Made : T → Point → Type 0) (fault : ChangeFault) (q : Point) → at.halted ≡ false
-    → refusal ≡ None → SavesTo Fails e at next (Err fault) q → ChangesAt refusal e Fails Made at (Err fault) q
-not_saved at next refusal e Fails Made (change.Refused r) q goes_on accepted saved = absurd saved
-not_saved at next refusal e Fails Made change.StoreFailed q goes_on accepted saved = (goes_on, accepted, saved)
-not_saved at next refusal e Fails Made change.Halted q goes_on accepted saved = inr (goes_on, accepted, saved)
-not_saved at next refusal e Fails Made change.NoMemory q goes_on accepted saved = saved
+pub not_saved : {T : Type 0} (at : Point) (next : RepoState) (refusal : Option Refusal) (e : Accepted) (Made : T → Point → Type 0) (fault : ChangeFault) (q : Point) → at.halted ≡ false
+    → refusal ≡ None → SavesTo e at next (Err fault) q → ChangesAt refusal e Made at (Err fault) q
+not_saved at next refusal e Made (change.Refused r) q goes_on accepted saved = absurd saved
+not_saved at next refusal e Made change.StoreFailed q goes_on accepted saved = (goes_on, accepted, saved)
+not_saved at next refusal e Made change.Halted q goes_on accepted saved = inr (goes_on, accepted, saved)
+not_saved at next refusal e Made change.NoMemory q goes_on accepted saved = saved
 
 -- a change that was saved or not
 pub settled : (at : Point) (next : RepoState) (refusal : Option Refusal) (e : Accepted) (r : Result (Unit {0}) ChangeFault) (q : Point) → at.halted ≡ false
-    → refusal ≡ None → next ≡ changed (content_of at) e → SavesTo (λ p. ⊥) e at next r q
-    → ChangesAt refusal e (λ p. ⊥) (λ _ p. sole_rules.adds at e p) at r q
+    → refusal ≡ None → next ≡ changed (content_of at) e → SavesTo e at next r q
+    → ChangesAt refusal e (λ _ p. sole_rules.adds at e p) at r q
 settled at next refusal e (Ok x) q goes_on accepted is saved =
     (goes_on, accepted, saved ∙ ap (λ (c : RepoState). stored_at c at.halted at.failures at.pending) is)
 settled at next refusal e (Err fault) q goes_on accepted is saved =
-    not_saved {T = Unit {0}} at next refusal e (λ p. ⊥) (λ _ p. sole_rules.adds at e p) fault q goes_on accepted saved
+    not_saved {T = Unit {0}} at next refusal e (λ _ p. sole_rules.adds at e p) fault q goes_on accepted saved
 
 wanted : (ask : CommitAsk) (handed : Handed) (c : RepoState) → ask.keep_locks ≡ false
     → handed.user ≡ ask.author → handed.tokens ≡ ask.tokens
@@ -105,21 +104,21 @@ released ask (Some handed) at releases_so.Settled q kept (inr none) = inr (wante
 released ask (Some handed) at releases_so.NoMemory q kept lacks = (wanted ask handed (content_of at) kept.0 kept.1 kept.2 ∙ lacks.0, lacks.1)
 released ask (Some handed) at releases_so.StoreFailed q kept failed = (
   wanted ask handed (content_of at) kept.0 kept.1 kept.2 ∙ failed.0,
-  record {
-    same = failed.1.same;
-    halted = failed.1.halted;
-    pending = failed.1.pending ∙ ap (λ (e : Accepted). Some e) (λ i. Releases (kept.1 i) (kept.2 i));
-    risen = failed.1.risen;
-  },
+  ⊎_elim inl (λ halt. inr (record {
+    same = halt.same;
+    halted = halt.halted;
+    pending = halt.pending ∙ ap (λ (e : Accepted). Some e) (λ i. Releases (kept.1 i) (kept.2 i));
+    risen = halt.risen;
+  })) failed.1,
 )
 
 -- a release that was saved or not
 pub release_saved : (user : Option (List ℕ)) (tokens : HandedTokens) (at : Point) (next : RepoState) (r : Result (Unit {0}) ChangeFault) (q : Point)
     → releases user tokens (content_of at).locks ≡ true → next ≡ without_released (content_of at) user tokens
-    → SavesTo (λ p. ⊥) (Releases user tokens) at next r q → ReleasesBy user tokens at (released_as r) q
+    → SavesTo (Releases user tokens) at next r q → ReleasesBy user tokens at (released_as r) q
 release_saved user tokens at next (Ok x) q wants is saved =
     inl (wants, saved ∙ ap (λ (c : RepoState). stored_at c at.halted at.failures at.pending) is)
 release_saved user tokens at next (Err (change.Refused r)) q wants is saved = absurd saved
-release_saved user tokens at next (Err change.StoreFailed) q wants is saved = absurd saved
-release_saved user tokens at next (Err change.Halted) q wants is saved = (wants, saved)
+release_saved user tokens at next (Err change.StoreFailed) q wants is saved = (wants, inl saved)
+release_saved user tokens at next (Err change.Halted) q wants is saved = (wants, inr saved)
 release_saved user tokens at next (Err change.NoMemory) q wants is saved = (wants, saved)

@@ -1,6 +1,6 @@
 -- Why saves have come to a halt.
 use Rattle.std.proofs.Common.{◌≡◌, ◌⊎◌, ⊎_elim, Bool, true, false, true≢false, Ok, Err, refl, sym, ◌∙◌}
-use Rattle.std.specs.Prelude.{IsErrOf, Result}
+use Rattle.std.specs.Prelude.{IsErrOf}
 use Rattle.store_files.specs.declared.fault.StoreFault.{StoreFault}
 use Rattle.store_files.specs.declared.fault.StoreFault.TheVariants.{Device, NoMemory}
 

@@ -3,8 +3,8 @@ use Rattle.std.proofs.{Common.{◌≡◌, ◌⊎◌, inl, inr, ⊎_elim, false, 
 use Rattle.std.specs.Prelude.{◌↔◌, Result}
 use Rattle.repo_api.specs.{Accepted.{Accepted, changed, IsAccepted}, Accepted.Accepted.{Commits, Releases}, States.{RepoState, TxnState}, declared.ask.CommitAsk.CommitAsk}
 use Rattle.access.specs.{declared.handed.Handed.Handed, Handed.IsHandedIn}
-use Rattle.store_files.specs.{Folders.Folder, Stops.LeavesOnly, declared.store.Store.Ghosts, declared.fault.StoreFault.StoreFault}
-use Rattle.repostore.specs.{Files.{Files, HasEither, HasFiles}, Saving.{IsSaved, SaveMakes, Stands}, declared.saves.Saves.Saves}
+use Rattle.store_files.specs.{Folders.Folder, declared.store.Store.Ghosts, declared.fault.StoreFault.StoreFault}
+use Rattle.repostore.specs.{Files.{Files, HasEither}, Saving.{IsSaved, SaveMakes}, declared.saves.Saves.Saves}
 use Rattle.repostore.proofs.{Joining.join, Steps.{begun, stands_too, weaker}}
 use Rattle.stops.specs.Beginnings.{AreAmong, IsAmong, through}
 use Rattle.stops.proofs.First as first

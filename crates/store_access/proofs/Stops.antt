@@ -1,12 +1,10 @@
 -- Whose files a folder has while a change is saved.
-use Rattle.std.proofs.{Common.{◌≡◌, ◌⊎◌, inl, inr, ⊎_elim, true, false, true≢false, sym, ◌∙◌, Option, Some, None, refl, subst}, Math.Logic.{∥∥₁_map, ∥∥₁_map₂}}
-use Rattle.repo_api.specs.{Accepted.{Accepted, changed}, Locking.without_released, States.RepoState, declared.ask.CommitAsk.CommitAsk}
-use Rattle.access.specs.{declared.handed.Handed.Handed, Handed.IsHandedIn}
+use Rattle.std.proofs.{Common.{◌≡◌, inl, inr, ⊎_elim, true, false, true≢false, sym, ◌∙◌, Option, Some, refl}, Math.Logic.{∥∥₁_map}}
+use Rattle.repo_api.specs.{Accepted.{Accepted, changed}, States.RepoState}
 use Rattle.store_access.specs.{Keeping.{HaltKeeps, Keeps, HasRepository, HasEitherRepository}}
-use Rattle.store_access.proofs.Changes.{without}
-use Rattle.store_files.specs.{Folders.Folder, Stops.LeavesOnly, declared.store.Store.Ghosts}
+use Rattle.store_files.specs.{Folders.Folder, declared.store.Store.Ghosts}
 use Rattle.repostore.specs.{Files.{Files, HasEither, HasFiles}, Saving.{IsSaved, Stands}, declared.saves.Saves.Saves}
-use Rattle.repostore.proofs.{Steps.{begun, stands_too, weaker}, Joining.join}
+use Rattle.repostore.proofs.{Steps.{stands_too}}
 
 module _ {S F : Type 0} (s : Ghosts S) (content : F → RepoState) (is_of : F → Files → Type 0) where
   abbrev pub Kept : Saves S → F → Type 0

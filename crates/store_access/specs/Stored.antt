@@ -3,7 +3,7 @@ use Rattle.std.specs.Prelude.{◌≡◌, ◌⊎◌, ℕ, Bool, true, false, [], 
 use Rattle.repo_api.specs.{Accepted.{Accepted, changed, IsAccepted}, Accepted.Accepted.{Releases}}
 use Rattle.repo_api.specs.{Locking.{HandedTokens, releases, without_released}, States.{RepoState, TxnState}}
 use Rattle.repo_api.specs.{declared.fault.ChangeFault.ChangeFault, declared.fault.ChangeFault.TheVariants.{Refused, StoreFailed, Halted, NoMemory}}
-use Rattle.access.specs.{declared.access.Released.Released, declared.handed.Handed.Handed, Changing.IsHalt, Points.{content_of, Point}}
+use Rattle.access.specs.{declared.access.Released.Released, declared.handed.Handed.Handed, Changing.{IsFailure, IsHalt}, Points.{content_of, Point}}
 use Rattle.access.specs.declared.access.Released.TheVariants as releases_so
 use Rattle.repostore.specs.declared.saves.Saves.{Saves}
 use Rattle.repo_api.specs.declared.repository.Repository as Repository
@@ -29,18 +29,17 @@ abbrev pub point_in : {F S T : Type 0} → (F → RepoState) → (S → ℕ) →
 point_in content failed txn_state repository saves pending =
     stored_at (content repository) saves.is_halted (failed saves.store) (pending_in txn_state pending)
 
--- what the save of a change leads to, where a failure that does not halt leads to this: the change is
--- made; or the store failed, and goes on or not; or memory was refused
-abbrev pub SavesTo : (Point → Type 0) → Accepted → Point → RepoState → Result (Unit {0}) ChangeFault
-    → Point → Type 0
-SavesTo Fails e at next (Ok x) q = q ≡ stored_at next at.halted at.failures at.pending
-SavesTo Fails e at next (Err (Refused r)) q = ⊥
-SavesTo Fails e at next (Err StoreFailed) q = Fails q
-SavesTo Fails e at next (Err Halted) q = IsHalt e at q
-SavesTo Fails e at next (Err NoMemory) q = q ≡ at
+-- what the save of a change leads to: the change is made; or the store failed, and goes on or not; or
+-- memory was refused
+abbrev pub SavesTo : Accepted → Point → RepoState → Result (Unit {0}) ChangeFault → Point → Type 0
+SavesTo e at next (Ok x) q = q ≡ stored_at next at.halted at.failures at.pending
+SavesTo e at next (Err (Refused r)) q = ⊥
+SavesTo e at next (Err StoreFailed) q = IsFailure at q
+SavesTo e at next (Err Halted) q = IsHalt e at q
+SavesTo e at next (Err NoMemory) q = q ≡ at
 
 -- what a release leads to: it is made where there is one; or memory is refused for it; or the store
--- fails at it, and changes have come to a halt
+-- fails at it, and goes on or not
 abbrev pub ReleasesBy : Option (List ℕ) → HandedTokens → Point → Released → Point → Type 0
 ReleasesBy user tokens at releases_so.Settled q =
     ((releases user tokens (content_of at).locks ≡ true)
@@ -49,7 +48,8 @@ ReleasesBy user tokens at releases_so.Settled q =
 ReleasesBy user tokens at releases_so.NoMemory q =
     (releases user tokens (content_of at).locks ≡ true) × (q ≡ at)
 ReleasesBy user tokens at releases_so.StoreFailed q =
-    (releases user tokens (content_of at).locks ≡ true) × IsHalt (Releases user tokens) at q
+    (releases user tokens (content_of at).locks ≡ true)
+    × (IsFailure at q ⊎ IsHalt (Releases user tokens) at q)
 
 -- how the save of a release is told
 abbrev pub released_as : Result (Unit {0}) ChangeFault → Released
@@ -83,10 +83,10 @@ module _ {F S T : Type 0} {f : Filed.Ghosts F T} {r : Repository.Ghosts F T} {s 
   IsAcceptedBy d change = IsAccepted (r.content d.repository) (accepted_by r.txn_state change)
 
   -- the save of a change leads so from here to there: this is the repository once it is saved
-  abbrev pub Settles : (Point → Type 0) → SavedChange T → F → StoredRepository F S T f r s
+  abbrev pub Settles : SavedChange T → F → StoredRepository F S T f r s
       → Result (Unit {0}) ChangeFault → StoredRepository F S T f r s → Type 0
-  Settles Fails change next old result new = SavesTo Fails (accepted_by r.txn_state change)
-      (point_of old) (r.content next) result (point_of new)
+  Settles change next old result new = SavesTo (accepted_by r.txn_state change) (point_of old)
+      (r.content next) result (point_of new)
 
   -- what was opened of a store that is honest: the store's files stand for it, and where they are
   -- those of a repository, it contains what that one does

@@ -1,6 +1,5 @@
 //! Changes saved, and then made.
 ghost use Rattle.std.specs.Prelude.{◌≡◌, [], ◌∷◌, Some, false, true};
-ghost use Rattle.access.specs.Changing.{IsFailure};
 ghost use Rattle.repo_api.specs.Accepted.Accepted.{Releases};
 ghost use Rattle.store_access.specs.Filing.{WritesLocks, WritesProperties, WritesRevision};
 ghost use Rattle.store_access.specs.{Pending.accepted_by, Stored.{IsAcceptedBy, IsMadeBy, Settles, StopLeaves, point_of, ReleasesBy, ReleasesKept, released_as, releases_of}};
@@ -62,7 +61,7 @@ impl<F: Filed, S: Store> StoredRepository<F, S> {
         requires accepted { IsAcceptedBy self.old change }
         requires made { IsMadeBy self.old change next }
         requires files { WritesLocks F.is_of self.old.repository file.now next }
-        ensures point { Settles (λ q. ⊥) change next self.old result self.new }
+        ensures point { Settles change next self.old result self.new }
         ensures stop { StopLeaves (accepted_by F.txn_state change ∷ []) self.old self.new }
     {
         match self.saves.save_locks(file) {
@@ -90,7 +89,7 @@ impl<F: Filed, S: Store> StoredRepository<F, S> {
         requires made { IsMadeBy self.old change next }
         requires files { WritesProperties F.is_of self.old.repository new.now.revision
             new.now.file.items next }
-        ensures point { Settles (λ q. ⊥) change next self.old result self.new }
+        ensures point { Settles change next self.old result self.new }
         ensures stop { StopLeaves (accepted_by F.txn_state change ∷ []) self.old self.new }
     {
         match self.saves.save_rev_prop(new.revision, &new.file) {
@@ -117,7 +116,7 @@ impl<F: Filed, S: Store> StoredRepository<F, S> {
         requires accepted { IsAcceptedBy self.old change }
         requires made { IsMadeBy self.old change next }
         requires files { WritesRevision F.is_of self.old.repository new.now next }
-        ensures point { Settles (IsFailure (point_of self.old)) change next self.old result self.new }
+        ensures point { Settles change next self.old result self.new }
         ensures stop { StopLeaves (accepted_by F.txn_state change ∷ []) self.old self.new }
     {
         match self

@@ -6,7 +6,7 @@ use Rattle.store_files.specs.declared.name.FileName.{FileName}
 use Rattle.store_files.specs.{Names.named, Note.Event}
 
 -- calls: 0 reads, 1 writes anew, 2 replaces; answers: 0 it is done, 1 the device failed, 2 memory was
--- refused, 3 there is no such file
+-- refused, 3 there is no such file, 4 the device failed before a replacement had changed anything
 
 abbrev pub name_of : Event → FileName
 name_of e = named e.1 e.2
@@ -63,7 +63,10 @@ IsHonest start (e ∷ es) = IsHonest start es × Agrees e.0 e.3 e.4 (held start 
 abbrev pub count_after : ℕ → ℕ → ℕ
 count_after zero n = n
 count_after (suc zero) n = min (n + 1) last_count
-count_after (suc (suc a)) n = n
+count_after (suc (suc zero)) n = n
+count_after (suc (suc (suc zero))) n = n
+count_after (suc (suc (suc (suc zero)))) n = min (n + 1) last_count
+count_after (suc (suc (suc (suc (suc a))))) n = n
 
 abbrev pub failed_in : List Event → ℕ
 failed_in [] = 0
@@ -95,7 +98,10 @@ left_now start (e ∷ es) f (inr now) = now
 count_is : (a n : ℕ) → n ≤ last_count → count_after a n ≤ last_count
 count_is zero n le = le
 count_is (suc zero) n le = omega arith
-count_is (suc (suc a)) n le = le
+count_is (suc (suc zero)) n le = le
+count_is (suc (suc (suc zero))) n le = le
+count_is (suc (suc (suc (suc zero)))) n le = omega arith
+count_is (suc (suc (suc (suc (suc a))))) n le = le
 
 pub failed_is : (es : List Event) → failed_in es ≤ last_count
 failed_is [] = omega arith

@@ -1,4 +1,4 @@
-//! Why the files of a repository were not read or written.
+//! Why the files of a repository were not read, written or replaced.
 use fsfs_lines::FileFault;
 use std::alloc::{AllocError, AllocFailed};
 use thiserror::Error;
@@ -12,7 +12,7 @@ pub enum StoreFault {
     /// A file is faulty.
     #[error("{0}")]
     File(FileFault),
-    /// A replacement failed before: nothing is written any more.
+    /// A replacement was left in doubt before: nothing is written any more.
     #[error("changes have come to a halt")]
     Halted,
     /// Memory was refused.
@@ -55,6 +55,42 @@ impl From<FileFault> for StoreFault {
         match fault {
             FileFault::NoMemory => StoreFault::NoMemory,
             fault => StoreFault::File(fault),
+        }
+    }
+}
+
+/// Why a file of a repository was not replaced.
+#[derive(Clone, Copy, Debug, PartialEq, Eq)]
+pub enum ReplaceFault {
+    /// The device failed, and nobody knows whether the old bytes are there or the new.
+    InDoubt,
+    /// The device failed before anything was changed.
+    Unchanged,
+    /// Memory was refused before anything was changed.
+    NoMemory,
+}
+
+impl From<AllocError> for ReplaceFault {
+    ghost use Rattle.std.specs.Prelude.{◌≡◌};
+    ghost use Rattle.store_files.specs.declared.fault.ReplaceFault.TheVariants.{NoMemory};
+
+    ghost from_gives = { λ _ fault. fault ≡ NoMemory };
+
+    fn from(_error: AllocError) -> Self {
+        ReplaceFault::NoMemory
+    }
+}
+
+impl From<ReplaceFault> for StoreFault {
+    ghost use Rattle.std.specs.Prelude.{◌≡◌};
+    ghost use Rattle.store_files.specs.Faults.{told_of};
+
+    ghost from_gives = { λ fault told. told ≡ told_of fault };
+
+    fn from(fault: ReplaceFault) -> Self {
+        match fault {
+            ReplaceFault::InDoubt | ReplaceFault::Unchanged => StoreFault::Device,
+            ReplaceFault::NoMemory => StoreFault::NoMemory,
         }
     }
 }

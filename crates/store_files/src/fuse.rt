@@ -2,7 +2,7 @@
 ghost use Rattle.std.specs.Prelude.{◌≡◌, ◌⊎◌, ◌≤◌, ◌↔◌, Some};
 ghost use Rattle.store_files.specs.{Folders.{Folder, SameBut, Scribbled, Swapped}, Moments.Elapses, Fuses.{Burns, is_blown}};
 
-use crate::fault::StoreFault;
+use crate::fault::{ReplaceFault, StoreFault};
 use crate::name::FileName;
 use crate::store::Store;
 use std::alloc::Global;
@@ -193,10 +193,10 @@ impl<S: Store> Store for FuseStore<S> {
         self.inner.write_new(name, bytes)
     }
 
-    fn replace(&mut self, name: FileName, bytes: &[u8]) -> Result<(), StoreFault> {
+    fn replace(&mut self, name: FileName, bytes: &[u8]) -> Result<(), ReplaceFault> {
         if self.fuse.burn(true) {
             leave_replaced(&mut self.inner, self.left, name, bytes);
-            return Err(StoreFault::Device);
+            return Err(ReplaceFault::InDoubt);
         }
         self.inner.replace(name, bytes)
     }

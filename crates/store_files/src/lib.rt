@@ -9,7 +9,7 @@ mod name;
 mod record;
 mod store;
 
-pub use fault::StoreFault;
+pub use fault::{ReplaceFault, StoreFault};
 pub use fuse::{FuseStore, Left};
 pub use memory::MemoryStore;
 pub use name::FileName;

@@ -2,7 +2,7 @@
 ghost use Rattle.std.specs.Prelude.{◌≡◌, ◌<◌, [], ◌∷◌, None, OnOk, OnErr, IsErrOf, IsErr, option_copied};
 ghost use Rattle.store_files.specs.{Folders.{Folder, IsSame, nothing, with_file}, Memory.{files_of, put_events}, Names.{kind_of, number_of}, Note.event_of, Replay.{held, Leaves}};
 
-use crate::fault::StoreFault;
+use crate::fault::{ReplaceFault, StoreFault};
 use crate::name::FileName;
 use crate::record::Record;
 use crate::store::Store;
@@ -123,7 +123,7 @@ impl Store for MemoryStore {
         Ok(self.put(WRITTEN, name, bytes)?)
     }
 
-    fn replace(&mut self, name: FileName, bytes: &[u8]) -> Result<(), StoreFault> {
+    fn replace(&mut self, name: FileName, bytes: &[u8]) -> Result<(), ReplaceFault> {
         Ok(self.put(REPLACED, name, bytes)?)
     }
 

@@ -1,8 +1,8 @@
 //! The files of a repository, by their names.
 ghost use Rattle.std.specs.Prelude.{◌≡◌, ◌⊎◌, ◌≤◌, ◌<◌, ◌↔◌, ℕ, Some, IfOk, OnOk, IsErrOf};
-ghost use Rattle.store_files.specs.{Folders.{Folder, IsSame, SameBut, Scribbled, Swapped, bytes_of}, Moments.{Elapses, HasCause, last_count}};
+ghost use Rattle.store_files.specs.{Faults.{IsRefused, as_told}, Folders.{Folder, IsSame, SameBut, Scribbled, Swapped, bytes_of}, Moments.{Elapses, HasCause, last_count}};
 
-use crate::fault::StoreFault;
+use crate::fault::{ReplaceFault, StoreFault};
 use crate::name::FileName;
 use std::alloc::Global;
 
@@ -56,12 +56,12 @@ pub trait Store: Drop {
         ensures doubt { in_doubt self.new ≡ in_doubt self.old }
         ensures cause { HasCause (failed self.old) (failed self.new) result };
 
-    /// Puts other bytes in the place of a file's, at once.
-    fn replace(&mut self, name: FileName, bytes: &[u8]) -> Result<(), StoreFault>
+    /// Puts other bytes in the place of a file's, at once. Unless it is in doubt, one that fails has changed nothing.
+    fn replace(&mut self, name: FileName, bytes: &[u8]) -> Result<(), ReplaceFault>
         ensures honest { is_honest self.old ↔ is_honest self.new }
         ensures others { is_honest self.old → SameBut name (holds self.old) (holds self.new) }
         ensures written { is_honest self.old → OnOk result (holds self.new name ≡ Some bytes.now) }
-        ensures refused { is_honest self.old → IsErrOf result StoreFault.NoMemory
+        ensures refused { is_honest self.old → IsRefused result
             → IsSame (holds self.old) (holds self.new) }
         ensures either { is_honest self.old → (holds self.new name ≡ holds self.old name)
             ⊎ (holds self.new name ≡ Some bytes.now) }
@@ -69,14 +69,14 @@ pub trait Store: Drop {
             → Swapped (may_leave self.old) name bytes.now f }
         ensures kept { is_honest self.old → OnOk result ((f : Folder) → may_leave self.new f
             → f name ≡ Some bytes.now) }
-        ensures unchanged { is_honest self.old → IsErrOf result StoreFault.NoMemory
+        ensures unchanged { is_honest self.old → IsRefused result
             → (f : Folder) → may_leave self.new f → may_leave self.old f }
         ensures time { is_honest self.old → Elapses (moment self.old) (moment self.new)
             (left_since self.old) (left_since self.new)
             (Swapped (may_leave self.old) name bytes.now) }
-        ensures doubt { (IsErrOf result StoreFault.Device
+        ensures doubt { (IsErrOf result ReplaceFault.InDoubt
             ↔ in_doubt self.old < in_doubt self.new) × (in_doubt self.old ≤ in_doubt self.new) }
-        ensures cause { HasCause (failed self.old) (failed self.new) result };
+        ensures cause { HasCause (failed self.old) (failed self.new) (as_told result) };
 
     /// Says how often the device has failed, up to the greatest number.
     fn failures(&self) -> u64

@@ -3,9 +3,11 @@ use Rattle.std.proofs.{Common.{◌≡◌, inl, inr, ℕ, List, ◌∷◌, Result
 use Rattle.std.specs.Prelude.{◌+◌, ◌≤◌, min}
 use Rattle.store_files.specs.{Moments.{HasCause, HasRisen, last_count}, declared.fault.StoreFault.StoreFault}
 use Rattle.store_files.specs.declared.fault.StoreFault.TheVariants as faults
+use Rattle.store_files.specs.{Faults.as_told, declared.fault.ReplaceFault.ReplaceFault}
+use Rattle.store_files.specs.declared.fault.ReplaceFault.TheVariants as replace
 use Rattle.store_files.specs.{Note.Event, Replay.{failed_in, count_after, failed_is}}
-use Rattle.store_folder.specs.Answers.{fault_of, trouble_number, done_number, done_result}
-use Rattle.store_folder.specs.{declared.folder.Trouble.Trouble, declared.folder.Trouble.TheVariants.{Device, NoMemory}}
+use Rattle.store_folder.specs.Answers.{fault_of, trouble_number, done_number, done_result, replaced_number}
+use Rattle.store_folder.specs.{declared.fault.Trouble.Trouble, declared.fault.Trouble.TheVariants.{Device, NoMemory}}
 
 rises : (x : ℕ) → x ≤ last_count → HasRisen x (min (x + 1) last_count)
 rises x few = elim (cases_lt x last_count) [
@@ -42,6 +44,16 @@ done x (Ok u) few = record {
 }
 done x (Err a) few = failed (Unit {0}) x a few
 
+by_device : (x : ℕ) → x ≤ last_count → HasCause {T = Unit {0}} x (min (x + 1) last_count) (Err faults.Device)
+by_device x few = failed (Unit {0}) x Device few
+
+replaced : (x : ℕ) (answer : Result (Unit {0}) ReplaceFault) → x ≤ last_count
+    → HasCause x (count_after (replaced_number answer) x) (as_told answer)
+replaced x (Ok u) few = done x (Ok u) few
+replaced x (Err replace.InDoubt) few = by_device x few
+replaced x (Err replace.NoMemory) few = failed (Unit {0}) x NoMemory few
+replaced x (Err replace.Unchanged) few = by_device x few
+
 -- so it is of the record
 pub failed_call : (T : Type 0) (old new : List Event) (k n m : ℕ) (bytes : List ℕ) (a : Trouble) → new ≡ (k, n, m, trouble_number a, bytes) ∷ old
     → HasCause {T = T} (failed_in old) (failed_in new) (Err (fault_of a))
@@ -52,3 +64,8 @@ pub done_call : (old new : List Event) (k n m : ℕ) (bytes : List ℕ) (answer 
     → HasCause (failed_in old) (failed_in new) (done_result answer)
 done_call old new k n m bytes answer is =
     subst (λ (es : List Event). HasCause (failed_in old) (failed_in es) (done_result answer)) (sym is) (done (failed_in old) answer (failed_is old))
+
+pub replaced_call : (old new : List Event) (k n m : ℕ) (bytes : List ℕ) (answer : Result (Unit {0}) ReplaceFault)
+    → new ≡ (k, n, m, replaced_number answer, bytes) ∷ old → HasCause (failed_in old) (failed_in new) (as_told answer)
+replaced_call old new k n m bytes answer is =
+    subst (λ (es : List Event). HasCause (failed_in old) (failed_in es) (as_told answer)) (sym is) (replaced (failed_in old) answer (failed_is old))

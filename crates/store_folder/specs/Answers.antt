@@ -2,7 +2,9 @@
 use Rattle.std.specs.Prelude.{ℕ, Result, Ok, Err}
 use Rattle.store_files.specs.declared.fault.StoreFault.{StoreFault}
 use Rattle.store_files.specs.declared.fault.StoreFault.TheVariants as faults
-use Rattle.store_folder.specs.{declared.folder.Trouble.Trouble, declared.folder.Trouble.TheVariants.{Device, NoMemory}}
+use Rattle.store_files.specs.declared.fault.ReplaceFault.{ReplaceFault}
+use Rattle.store_files.specs.declared.fault.ReplaceFault.TheVariants as replace
+use Rattle.store_folder.specs.{declared.fault.Trouble.Trouble, declared.fault.Trouble.TheVariants.{Device, NoMemory}}
 
 abbrev pub fault_of : Trouble → StoreFault
 fault_of Device = faults.Device
@@ -19,3 +21,9 @@ done_number (Err trouble) = trouble_number trouble
 abbrev pub done_result : Result (Unit {0}) Trouble → Result (Unit {0}) StoreFault
 done_result (Ok x) = Ok x
 done_result (Err trouble) = Err (fault_of trouble)
+
+abbrev pub replaced_number : Result (Unit {0}) ReplaceFault → ℕ
+replaced_number (Ok _) = 0
+replaced_number (Err replace.InDoubt) = 1
+replaced_number (Err replace.NoMemory) = 2
+replaced_number (Err replace.Unchanged) = 4

@@ -2,9 +2,9 @@
 
 use fsfs_lines::FileFault;
 use hub::HubFault;
-use serving::ServingFault;
+use serving::{Reason, ServingFault};
 use std::alloc::{AllocError, AllocFailed};
-use std::{fmt, io};
+use std::fmt;
 use store_files::StoreFault;
 use store_folder::FolderFault;
 use streams::ServeFault;
@@ -16,12 +16,14 @@ pub enum ProgramFault {
     CommandLine(String),
     /// No repository may have the name.
     Name,
-    /// A standard stream failed, or the system gives no random bytes.
-    Io,
+    /// The system gives no random bytes.
+    Random,
+    /// Standard input failed.
+    Input(Reason),
+    /// Standard output failed.
+    Output(Reason),
     /// The hub failed, or memory was refused.
     Hub(HubFault),
-    /// There is no folder of a repository.
-    Missing,
     /// The repository's folder is not opened.
     Folder(FolderFault),
     /// No sessions are served over TCP.
@@ -68,7 +70,10 @@ fn store_text(fault: StoreFault) -> &'static str {
 /// Gives what is said where a folder is not opened.
 fn folder_text(fault: FolderFault) -> &'static str {
     match fault {
+        FolderFault::Missing => "X6: there is no repository",
         FolderFault::InUse => "the folder is in use",
+        FolderFault::NotPlain => "a file or folder of the repository is a link, or of another kind",
+        FolderFault::Unwritable => "O1: the folder cannot be written",
         FolderFault::Device => "O1: the folder cannot be opened",
         FolderFault::NoMemory => "no memory",
     }
@@ -86,18 +91,13 @@ impl fmt::Display for ProgramFault {
                 f,
                 "error: a name is 1 to 64 of A-Z, a-z, 0-9, `-`, `_` and `.`, and not `.` or `..`"
             ),
-            ProgramFault::Io => writeln!(f, "svnserved: io"),
+            ProgramFault::Random | ProgramFault::Input(_) | ProgramFault::Output(_) => {
+                writeln!(f, "svnserved: io")
+            }
             ProgramFault::Hub(fault) => writeln!(f, "svnserved: {fault}"),
-            ProgramFault::Missing => writeln!(f, "svnserved: X6: there is no repository"),
             ProgramFault::Folder(fault) => writeln!(f, "svnserved: {}", folder_text(*fault)),
             ProgramFault::Store(fault) => writeln!(f, "svnserved: {}", store_text(*fault)),
         }
-    }
-}
-
-impl From<io::Error> for ProgramFault {
-    fn from(_fault: io::Error) -> Self {
-        ProgramFault::Io
     }
 }
 
@@ -122,7 +122,8 @@ impl From<StoreFault> for ProgramFault {
 impl From<ServeFault> for ProgramFault {
     fn from(fault: ServeFault) -> Self {
         match fault {
-            ServeFault::Read(_) | ServeFault::Write(_) => ProgramFault::Io,
+            ServeFault::Read(error) => ProgramFault::Input(Reason::of(&error)),
+            ServeFault::Write(error) => ProgramFault::Output(Reason::of(&error)),
             ServeFault::Hub(fault) => ProgramFault::Hub(fault),
         }
     }

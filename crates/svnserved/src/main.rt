@@ -4,6 +4,8 @@
 mod fault;
 mod repositories;
 mod sharing;
+mod told;
+mod version;
 
 use command_line::{CommandLineFault, Location, Order, Service, read_command_line};
 use fault::ProgramFault;
@@ -12,15 +14,18 @@ use folder_hub::{FolderHub, hub_over};
 use hub::{HubFault, Options, is_repository_name};
 use published::NewHistory;
 use repositories::{DiskStore, create_in_folder, empty_hub, open_folder};
-use serving::{Settings, SystemEnvs, read_settings};
+use serving::{Reason, Settings, SystemEnvs, read_settings};
 use sharing::serve_shared;
 use std::alloc::Global;
 use std::env;
 use std::io::ErrorKind;
 use std::marker::Brand;
+use std::mem::drop;
 use std::process::ExitCode;
 use store_files::Store;
 use streams::run_stdio;
+use told::{Named, Told};
+use version::tell_version;
 
 /// Reads the words of the command line.
 fn words(rt: &HostRuntime) -> Result<Vec<String>, ProgramFault> {
@@ -41,8 +46,10 @@ fn order(rt: &HostRuntime) -> Result<Option<Order>, ProgramFault> {
     match read_command_line(rt.alloc(), words(rt)?.as_slice()) {
         Ok(order) => Ok(Some(order)),
         Err(CommandLineFault::Help(text)) => {
-            print!(rt; "{text}")?;
-            Ok(None)
+            match print!(rt; "{text}") {
+                Ok(()) => Ok(None),
+                Err(error) => Err(ProgramFault::Output(Reason::of(&error))),
+            }
         }
         Err(CommandLineFault::Bad(text)) => Err(ProgramFault::CommandLine(text)),
         Err(CommandLineFault::NoMemory) => Err(ProgramFault::Hub(HubFault::NoMemory)),
@@ -64,7 +71,9 @@ fn options(alloc: Global, name: &str, revprops: bool) -> Result<Options, Program
 
 /// Serves one session over the standard streams.
 fn serve<S: Store>(rt: &HostRuntime, mut hub: FolderHub<S>) -> Result<(), ProgramFault> {
-    let mut envs = SystemEnvs::new(rt)?;
+    let Ok(mut envs) = SystemEnvs::new(rt) else {
+        return Err(ProgramFault::Random);
+    };
     run_stdio(&mut hub, &mut rt.stdin(), &mut rt.stdout(), &mut envs)?;
     Ok(())
 }
@@ -103,6 +112,21 @@ fn serve_one(
     serve_stdio(rt, location, options)
 }
 
+/// Opens the repository in a folder, into which files can be written.
+fn open_to_write(
+    rt: &HostRuntime,
+    folder: &String,
+) -> Result<FolderRepository<DiskStore>, ProgramFault> {
+    let stored = open_folder(rt, folder)?;
+    match stored.store().is_writable() {
+        Ok(()) => Ok(stored),
+        Err(fault) => {
+            drop(stored);
+            Err(ProgramFault::Folder(fault))
+        }
+    }
+}
+
 /// Reads what sessions over TCP are served by, and opens the repository in a folder that they are served at.
 fn prepare(
     rt: &HostRuntime,
@@ -110,38 +134,42 @@ fn prepare(
 ) -> Result<(Settings, FolderRepository<DiskStore>), ProgramFault> {
     let settings = read_settings(rt, rt.alloc(), service)?;
     match &service.location {
-        Location::Folder(folder) => Ok((settings, open_folder(rt, folder)?)),
+        Location::Folder(folder) => Ok((settings, open_to_write(rt, folder)?)),
         Location::Memory => Err(not_served(rt.alloc(), "error: DIR of `serve` is a folder\n")),
     }
 }
 
-/// Gives the status to end with; a fault is printed before.
-fn status_of(rt: &HostRuntime, done: Result<(), ProgramFault>) -> ExitCode {
+/// Gives the status to end with; a fault is printed before, with where it was met.
+fn status_of(rt: &HostRuntime, done: Result<(), ProgramFault>, named: Named<'_>) -> ExitCode {
     match done {
         Ok(()) => ExitCode::SUCCESS,
         Err(fault) => {
+            let told = Told {
+                fault: &fault,
+                named,
+            };
             // where standard error fails too, the status alone tells
-            let _ = eprint!(rt; "{fault}");
+            let _ = eprint!(rt; "{told}");
             ExitCode::from(fault.status())
         }
     }
 }
 
 fn main(rt: HostRuntime) -> ExitCode {
-    let done = match order(&rt) {
-        Ok(None) => Ok(()),
-        Ok(Some(Order::Create { folder })) => create_in_folder(&rt, folder.as_str()),
-        Ok(
-            Some(
-                Order::Stdio {
-                    location,
-                    name,
-                    revprops,
-                },
-            ),
-        ) => { serve_one(&rt, &location, name.as_str(), revprops) }
+    let order = match order(&rt) {
+        Ok(Some(order)) => order,
+        Ok(None) => return ExitCode::SUCCESS,
+        Err(fault) => return status_of(&rt, Err(fault), Named::nothing()),
+    };
+    let done = match &order {
+        Order::Create { folder } => create_in_folder(&rt, folder.as_str()),
+        Order::Stdio {
+            location,
+            name,
+            revprops,
+        } => serve_one(&rt, location, name.as_str(), *revprops),
         // threads are started by who has the runtime of `main`
-        Ok(Some(Order::Serve(service))) => match prepare(&rt, &service) {
+        Order::Serve(service) => match prepare(&rt, service) {
             Ok((settings, stored)) => serve_shared::<Brand, HostRuntime>(
                 &rt,
                 rt.alloc(),
@@ -151,7 +179,7 @@ fn main(rt: HostRuntime) -> ExitCode {
             ),
             Err(fault) => Err(fault),
         },
-        Err(fault) => Err(fault),
+        Order::Version => tell_version(&rt),
     };
-    status_of(&rt, done)
+    status_of(&rt, done, Named::of(&order))
 }

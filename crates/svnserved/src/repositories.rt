@@ -12,9 +12,7 @@ use hub::Options;
 use rand::rngs::StdRng;
 use serving::moment_now;
 use std::alloc::{AllocError, Global};
-use std::fs;
-use std::io::ErrorKind;
-use store_files::{MemoryStore, Store, StoreFault};
+use store_files::{MemoryStore, Store};
 use store_folder::FolderStore;
 use uuid::Uuid;
 
@@ -31,7 +29,9 @@ fn files_folder(alloc: Global, folder: &str) -> Result<String, AllocError> {
 
 /// Makes a UUID of the system's random bytes.
 fn new_uuid(rt: &HostRuntime) -> Result<u128, ProgramFault> {
-    let mut words: StdRng = rand::make_rng(rt)?;
+    let Ok(mut words) = rand::make_rng::<StdRng, HostRuntime>(rt) else {
+        return Err(ProgramFault::Random);
+    };
     Ok(Uuid::new_v4(&mut words).as_u128())
 }
 
@@ -41,17 +41,6 @@ pub fn create_in_folder(rt: &HostRuntime, folder: &str) -> Result<(), ProgramFau
     let mut store: DiskStore = FolderStore::make(*rt, files_folder(rt.alloc(), folder)?)?;
     create(rt.alloc(), &mut store, uuid, moment_now(rt))?;
     Ok(())
-}
-
-/// Says whether a folder exists.
-fn is_there(rt: &HostRuntime, folder: &str) -> Result<bool, ProgramFault> {
-    match fs::exists(rt, folder) {
-        Ok(is_there) => Ok(is_there),
-        Err(error) if error.kind() == ErrorKind::OutOfMemory => Err(ProgramFault::Store(
-            StoreFault::NoMemory,
-        )),
-        Err(_) => Err(ProgramFault::Store(StoreFault::Device)),
-    }
 }
 
 /// Opens a repository, which nobody else has.
@@ -75,11 +64,7 @@ pub fn open_folder(
     ensures { IfOk result (λ stored. ⟦<DiskStore as Store>⟧.is_honest stored.saves.store
         → IsFoundIn (folder_of was) (filed_content stored.repository)) }
 {
-    let files = files_folder(rt.alloc(), folder)?;
-    if !is_there(rt, files.as_str())? {
-        return Err(ProgramFault::Missing);
-    }
-    let store = FolderStore::open(*rt, files)?;
+    let store = FolderStore::open(*rt, files_folder(rt.alloc(), folder)?)?;
     opened(rt.alloc(), store)
 }
 

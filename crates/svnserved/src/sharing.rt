@@ -8,6 +8,7 @@ use filed_world::FiledWorld;
 use published::{Naming, NewHistory};
 use serving::{Server, Settings, desks_of, serve};
 use std::alloc::Global;
+use std::fs::Files;
 use std::io::{Eprint, Print};
 use std::net::{Net, TcpListener, TcpStream};
 use std::random::RandomSource;
@@ -28,6 +29,7 @@ where
     R: Net<Listener = TcpListener, Stream = TcpStream>
         + Clock
         + Eprint
+        + Files
         + Print
         + RandomSource
         + Threads

@@ -20,4 +20,4 @@ returns-in-Err-lock g c =
     let ask = c.args.ask in
     let env = c.args.turn.now.env in
     not_made (λ x. lock_refusal x ask) (Locks ask) env c.args.client (told_before c.args.preface) (lock_answer env c.args.client ask) _ _ _
-    _ c.tell_fault.result _ _ refl c.in-Err-lock.ensures c.tell_fault.ensures
+    _ c.tell_fault.result _ _ refl refl c.in-Err-lock.ensures c.tell_fault.ensures

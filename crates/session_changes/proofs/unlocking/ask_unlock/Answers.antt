@@ -21,4 +21,4 @@ returns-in-Err g c =
     let env = c.args.turn.now.env in
     let client = c.args.client in
     not_made (λ x. unlock_refusal x ask) (Unlocks ask) env client (told_before c.args.preface) (change_answer env client (Unlocks ask) (replies.Success ∷ [])) _ _ _
-    _ c.tell_fault.result _ _ refl c.in-Err.ensures c.tell_fault.ensures
+    _ c.tell_fault.result _ _ refl refl c.in-Err.ensures c.tell_fault.ensures

@@ -1,4 +1,4 @@
-use Rattle.std.proofs.{Common.{List, subst, sym}, Math.Logic.{∥∥₁_elim, ∥∥₁_map, ∥∥₁_prop}}
+use Rattle.std.proofs.{Common.{subst, sym}, Math.Logic.{∥∥₁_elim, ∥∥₁_map, ∥∥₁_prop}}
 use Rattle.repo_api.specs.States.{RepoState}
 use Rattle.stops.specs.Beginnings.{IsAmong}
 use Rattle.store_access.proofs.Alone.{alone}

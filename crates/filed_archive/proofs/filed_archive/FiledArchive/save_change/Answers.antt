@@ -1,4 +1,4 @@
-use Rattle.std.proofs.Common.{◌∙◌, ap, refl, sym, Bool}
+use Rattle.std.proofs.Common.{◌∙◌, ap, refl, Bool}
 use Rattle.store_access.proofs.Stops.{kept_next, kept_still}
 use Rattle.filed_archive.specs.Writing.{told_as, written}
 use Rattle.filed_archive.proofs.Leaving.{save_done, save_failed, leaves}
@@ -43,7 +43,6 @@ returns-in-Err g c = λ e writes.
     let old = c.args.self.now in
     let ends = c.in-Err.ensures.1 in (
       save_failed s e (g.F.Repository.content old.repository) old.saves c.save_files.new.saves c.requires.0 c.in-Err.fault c.told.result ends
-          (c.told.ensures ∙ ap (λ (b : Bool). told_as b c.in-Err.fault) c.is_halted.ensures)
-          (λ by goes. sym writes.kind ∙ c.in-Err.ensures.2 by goes),
+          (c.told.ensures ∙ ap (λ (b : Bool). told_as b c.in-Err.fault) c.is_halted.ensures),
       leaves old c.args.unsaved e c.save_files.result c.save_files.new.saves c.requires.0 writes c.save_files.ensures,
     )

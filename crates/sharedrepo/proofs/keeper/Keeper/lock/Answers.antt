@@ -1,7 +1,7 @@
 use Rattle.std.proofs.Common.{[], ◌∷◌, inl, refl, sym, ◌∙◌}
 use Rattle.access.specs.Changing.{LocksAt}
 use Rattle.published.specs.Moments.{shared_rules}
-use Rattle.repo_api.specs.Accepted.Accepted.{ChangesProperty, Commits, Locks, Releases, Unlocks}
+use Rattle.repo_api.specs.Accepted.Accepted.{Locks}
 use Rattle.sharedrepo.proofs.Stopping.{still}
 use Rattle.sharedrepo.proofs.Calling.{called, turned_away}
 use Rattle.sharedrepo.proofs.keeper.Keeper.lock.Goals as goal

@@ -22,18 +22,18 @@ pub returns-in-Ok-locked-clause-point : goal.returns-in-Ok-locked-clause-point
 returns-in-Ok-locked-clause-point g c =
     let kept = g.S.Archive.kept in
     let made = subst (λ (k : Standing g.row.S.Denot). IsMade (kept k.archive).content (Locks c.args.ask) (g.R.Repository.content c.in-Ok-locked.next)) c.self.view_is c.in-Ok-locked.ensures.1.0 in
-    settled_by kept g.S.Archive.stands c.args.self.now c.readiness.ensures.0 c.in-Ok.ensures.1.0 (now_of kept c.settle.new.self) (Locks c.args.ask) _ (g.R.Repository.content c.in-Ok-locked.next) (lock_refusal (content_of (now_of kept c.args.self.now)) c.args.ask) c.settle.result made (ap (λ a. Locks a) c.of.ensures) refl (λ a. a) c.settle.ensures.point
+    settled_by kept g.S.Archive.stands c.args.self.now c.readiness.ensures.0 c.in-Ok.ensures.1.0 (now_of kept c.settle.new.self) (Locks c.args.ask) _ (g.R.Repository.content c.in-Ok-locked.next) (lock_refusal (content_of (now_of kept c.args.self.now)) c.args.ask) c.settle.result made (ap (λ a. Locks a) c.of.ensures) (λ a. a) c.settle.ensures.point
 
 pub returns-in-Err-clause-point : goal.returns-in-Err-clause-point
 returns-in-Err-clause-point g c =
     let p = now_of g.S.Archive.kept c.args.self.now in
-    not_begun g.S.Archive.kept g.S.Archive.stands c.args.self.now {T = Unit {0}} (lock_refusal (content_of p) c.args.ask) (Locks c.args.ask) (λ q. ⊥) (λ (_ : Unit {0}) q. q ≡ added p (Locks c.args.ask)) c.in-Err.fault c.in-Err.ensures.1
+    not_begun g.S.Archive.kept g.S.Archive.stands c.args.self.now {T = Unit {0}} (lock_refusal (content_of p) c.args.ask) (Locks c.args.ask) (λ (_ : Unit {0}) q. q ≡ added p (Locks c.args.ask)) c.in-Err.fault c.in-Err.ensures.1
 
 pub returns-in-Err-locked-clause-point : goal.returns-in-Err-locked-clause-point
 returns-in-Err-locked-clause-point g c =
     let kept = g.S.Archive.kept in
     let p = now_of kept c.args.self.now in
-    refused kept g.S.Archive.stands c.args.self.now c.readiness.ensures.0 c.in-Ok.ensures.1.0 (Unit {0}) {T = Unit {0}} (Locks c.args.ask) (λ q. ⊥) (λ (_ : Unit {0}) q. q ≡ added p (Locks c.args.ask)) c.in-Err-locked.fault
+    refused kept g.S.Archive.stands c.args.self.now c.readiness.ensures.0 c.in-Ok.ensures.1.0 (Unit {0}) {T = Unit {0}} (Locks c.args.ask) (λ (_ : Unit {0}) q. q ≡ added p (Locks c.args.ask)) c.in-Err-locked.fault
     (subst (λ (k : Standing g.row.S.Denot). IsJudged {T = Unit {0}} (Err c.in-Err-locked.fault) (refusal_of (kept k.archive).content (Locks c.args.ask))) c.self.view_is c.in-Err-locked.ensures.0)
 
 pub returns-in-Ok-locked-clause-stop : goal.returns-in-Ok-locked-clause-stop

@@ -1,6 +1,6 @@
 use Rattle.sharedrepo.proofs.Stopping.{still}
 use Rattle.std.proofs.Common.{◌≡◌, [], ◌∷◌, ◌∙◌, sym, subst, Err}
-use Rattle.access.specs.{Changing.IsFailure, Points.content_of}
+use Rattle.access.specs.Points.{content_of}
 use Rattle.published.specs.Moments.{added}
 use Rattle.repo_api.specs.{Transactions.MayCommit, Accepted.{Accepted, IsJudged, refusal_of}, Accepted.Accepted.Commits, Commits.commit_refusal}
 use Rattle.repo_api.specs.States.{RepoState}
@@ -58,13 +58,13 @@ pub returns-in-Err-clause-point : goal.returns-in-Err-clause-point
 returns-in-Err-clause-point g c =
     let p = now_of g.S.Archive.kept c.args.self.now in
     let t = g.R.Repository.txn_state c.args.txn in
-    not_begun g.S.Archive.kept g.S.Archive.stands c.args.self.now {T = Unit {0}} (commit_refusal (content_of p) c.args.ask t) (Commits c.args.ask t) (IsFailure p) (λ x q. Unit {0}) c.in-Err.fault c.in-Err.ensures.1
+    not_begun g.S.Archive.kept g.S.Archive.stands c.args.self.now {T = Unit {0}} (commit_refusal (content_of p) c.args.ask t) (Commits c.args.ask t) (λ x q. Unit {0}) c.in-Err.fault c.in-Err.ensures.1
 
 pub returns-in-Err-committed-clause-point : goal.returns-in-Err-committed-clause-point
 returns-in-Err-committed-clause-point g c =
     let kept = g.S.Archive.kept in
     let t = g.R.Repository.txn_state c.args.txn in
-    refused kept g.S.Archive.stands c.args.self.now c.readiness.ensures.0 c.in-Ok.ensures.1.0 (Unit {0}) {T = Unit {0}} (Commits c.args.ask t) (IsFailure (now_of kept c.args.self.now)) (λ x q. Unit {0}) c.in-Err-committed.fault
+    refused kept g.S.Archive.stands c.args.self.now c.readiness.ensures.0 c.in-Ok.ensures.1.0 (Unit {0}) {T = Unit {0}} (Commits c.args.ask t) (λ x q. Unit {0}) c.in-Err-committed.fault
     (subst (λ (k : Standing g.row.S.Denot). IsJudged {T = Unit {0}} (Err c.in-Err-committed.fault) (refusal_of (kept k.archive).content (Commits c.args.ask t))) c.self.view_is c.in-Err-committed.ensures.0)
 
 pub committed-requires : goal.committed-requires

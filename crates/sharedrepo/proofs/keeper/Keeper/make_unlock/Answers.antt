@@ -22,18 +22,18 @@ pub returns-in-Ok-unlocked-clause-point : goal.returns-in-Ok-unlocked-clause-poi
 returns-in-Ok-unlocked-clause-point g c =
     let kept = g.S.Archive.kept in
     let made = subst (λ (k : Standing g.row.S.Denot). IsMade (kept k.archive).content (Unlocks c.args.ask.now) (g.R.Repository.content c.in-Ok-unlocked.next)) c.self.view_is c.in-Ok-unlocked.ensures.1.0 in
-    settled_by kept g.S.Archive.stands c.args.self.now c.readiness.ensures.0 c.in-Ok.ensures.1.0 (now_of kept c.settle.new.self) (Unlocks c.args.ask.now) _ (g.R.Repository.content c.in-Ok-unlocked.next) (unlock_refusal (content_of (now_of kept c.args.self.now)) c.args.ask.now) c.settle.result made (ap (λ a. Unlocks a) c.of.ensures) refl (λ a. a) c.settle.ensures.point
+    settled_by kept g.S.Archive.stands c.args.self.now c.readiness.ensures.0 c.in-Ok.ensures.1.0 (now_of kept c.settle.new.self) (Unlocks c.args.ask.now) _ (g.R.Repository.content c.in-Ok-unlocked.next) (unlock_refusal (content_of (now_of kept c.args.self.now)) c.args.ask.now) c.settle.result made (ap (λ a. Unlocks a) c.of.ensures) (λ a. a) c.settle.ensures.point
 
 pub returns-in-Err-clause-point : goal.returns-in-Err-clause-point
 returns-in-Err-clause-point g c =
     let p = now_of g.S.Archive.kept c.args.self.now in
-    not_begun g.S.Archive.kept g.S.Archive.stands c.args.self.now {T = Unit {0}} (unlock_refusal (content_of p) c.args.ask.now) (Unlocks c.args.ask.now) (λ q. ⊥) (λ (_ : Unit {0}) q. q ≡ added p (Unlocks c.args.ask.now)) c.in-Err.fault c.in-Err.ensures.1
+    not_begun g.S.Archive.kept g.S.Archive.stands c.args.self.now {T = Unit {0}} (unlock_refusal (content_of p) c.args.ask.now) (Unlocks c.args.ask.now) (λ (_ : Unit {0}) q. q ≡ added p (Unlocks c.args.ask.now)) c.in-Err.fault c.in-Err.ensures.1
 
 pub returns-in-Err-unlocked-clause-point : goal.returns-in-Err-unlocked-clause-point
 returns-in-Err-unlocked-clause-point g c =
     let kept = g.S.Archive.kept in
     let p = now_of kept c.args.self.now in
-    refused kept g.S.Archive.stands c.args.self.now c.readiness.ensures.0 c.in-Ok.ensures.1.0 (Unit {0}) {T = Unit {0}} (Unlocks c.args.ask.now) (λ q. ⊥) (λ (_ : Unit {0}) q. q ≡ added p (Unlocks c.args.ask.now)) c.in-Err-unlocked.fault
+    refused kept g.S.Archive.stands c.args.self.now c.readiness.ensures.0 c.in-Ok.ensures.1.0 (Unit {0}) {T = Unit {0}} (Unlocks c.args.ask.now) (λ (_ : Unit {0}) q. q ≡ added p (Unlocks c.args.ask.now)) c.in-Err-unlocked.fault
     (subst (λ (k : Standing g.row.S.Denot). IsJudged {T = Unit {0}} (Err c.in-Err-unlocked.fault) (refusal_of (kept k.archive).content (Unlocks c.args.ask.now))) c.self.view_is c.in-Err-unlocked.ensures.0)
 
 pub returns-in-Ok-unlocked-clause-stop : goal.returns-in-Ok-unlocked-clause-stop

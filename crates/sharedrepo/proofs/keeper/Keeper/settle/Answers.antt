@@ -1,4 +1,4 @@
-use Rattle.std.proofs.Common.{◌≡◌, ◌<◌, ◌∷◌, [], length, refl, sym, ap, subst, ◌∙◌, List, Bool, true, false, Ok, Err}
+use Rattle.std.proofs.Common.{◌≡◌, ◌<◌, ◌∷◌, [], length, refl, sym, ap, subst, ◌∙◌, List, false, Ok, Err}
 use Rattle.published.specs.{Edition.Edition, Events.{Event, state_of, point_of, accepted_by}, Events.Event.Makes}
 use Rattle.published.proofs.Histories.{longer_yet, next_may, next_state, state_more}
 use Rattle.repo_api.specs.{Accepted.{changed, IsAccepted}, States.RepoState}

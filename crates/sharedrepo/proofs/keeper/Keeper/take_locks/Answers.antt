@@ -22,18 +22,18 @@ pub returns-in-Ok-released-clause-point : goal.returns-in-Ok-released-clause-poi
 returns-in-Ok-released-clause-point g c =
     let kept = g.S.Archive.kept in
     let made = subst (λ (k : Standing g.row.S.Denot). IsMade (kept k.archive).content (Releases c.args.handed.now.user c.args.handed.now.tokens) (g.R.Repository.content c.in-Ok-released.next)) c.self.view_is c.in-Ok-released.ensures.1.0 in
-    settled_by kept g.S.Archive.stands c.args.self.now c.readiness.ensures.0 c.in-Ok.ensures.1.0 (now_of kept c.settle.new.self) (Releases c.args.handed.now.user c.args.handed.now.tokens) _ (g.R.Repository.content c.in-Ok-released.next) (None) c.settle.result made (ap (λ h. Releases h.user h.tokens) c.of.ensures) refl (λ a. refl) c.settle.ensures.point
+    settled_by kept g.S.Archive.stands c.args.self.now c.readiness.ensures.0 c.in-Ok.ensures.1.0 (now_of kept c.settle.new.self) (Releases c.args.handed.now.user c.args.handed.now.tokens) _ (g.R.Repository.content c.in-Ok-released.next) (None) c.settle.result made (ap (λ h. Releases h.user h.tokens) c.of.ensures) (λ a. refl) c.settle.ensures.point
 
 pub returns-in-Err-clause-point : goal.returns-in-Err-clause-point
 returns-in-Err-clause-point g c =
     let p = now_of g.S.Archive.kept c.args.self.now in
-    not_begun g.S.Archive.kept g.S.Archive.stands c.args.self.now {T = Unit {0}} (None) (Releases c.args.handed.now.user c.args.handed.now.tokens) (λ q. ⊥) (λ (_ : Unit {0}) q. q ≡ added p (Releases c.args.handed.now.user c.args.handed.now.tokens)) c.in-Err.fault c.in-Err.ensures.1
+    not_begun g.S.Archive.kept g.S.Archive.stands c.args.self.now {T = Unit {0}} (None) (Releases c.args.handed.now.user c.args.handed.now.tokens) (λ (_ : Unit {0}) q. q ≡ added p (Releases c.args.handed.now.user c.args.handed.now.tokens)) c.in-Err.fault c.in-Err.ensures.1
 
 pub returns-in-Err-released-clause-point : goal.returns-in-Err-released-clause-point
 returns-in-Err-released-clause-point g c =
     let kept = g.S.Archive.kept in
     let p = now_of kept c.args.self.now in
-    refused kept g.S.Archive.stands c.args.self.now c.readiness.ensures.0 c.in-Ok.ensures.1.0 (Unit {0}) {T = Unit {0}} (Releases c.args.handed.now.user c.args.handed.now.tokens) (λ q. ⊥) (λ (_ : Unit {0}) q. q ≡ added p (Releases c.args.handed.now.user c.args.handed.now.tokens)) c.in-Err-released.fault
+    refused kept g.S.Archive.stands c.args.self.now c.readiness.ensures.0 c.in-Ok.ensures.1.0 (Unit {0}) {T = Unit {0}} (Releases c.args.handed.now.user c.args.handed.now.tokens) (λ (_ : Unit {0}) q. q ≡ added p (Releases c.args.handed.now.user c.args.handed.now.tokens)) c.in-Err-released.fault
     (subst (λ (k : Standing g.row.S.Denot). IsJudged {T = Unit {0}} (Err c.in-Err-released.fault) (refusal_of (kept k.archive).content (Releases c.args.handed.now.user c.args.handed.now.tokens))) c.self.view_is c.in-Err-released.ensures.0)
 
 pub released-requires : goal.released-requires

@@ -2,7 +2,7 @@ use Rattle.std.proofs.Common.{refl}
 use Rattle.repostore.specs.Files.{with_locks}
 use Rattle.store_access.proofs.Leaving.{call_failed, call_made, save_leaves}
 use Rattle.store_access.proofs.{Halting.{by_device_then, not_memory, runs}, Stops.{halt_next, kept_next, kept_still, no_halt}}
-use Rattle.std.proofs.Common.{ap, sym, ◌∙◌, Option}
+use Rattle.std.proofs.Common.{ap, ◌∙◌, Option}
 use Rattle.store_access.specs.{Pending.{accepted_by, pending_in}, declared.change.SavedChange.SavedChange}
 use Rattle.store_access.proofs.stored.StoredRepository.settle_locks.Goals as goal
 

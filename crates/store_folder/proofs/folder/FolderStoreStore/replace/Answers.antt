@@ -1,10 +1,9 @@
-use Rattle.std.proofs.Common.{Result, sym, subst}
-use Rattle.store_files.specs.{Moments.HasCause, Names.{kind_of, number_of}, declared.fault.StoreFault.StoreFault}
-use Rattle.store_files.specs.Replay.{failed_in}
-use Rattle.store_folder.proofs.Counting.{done_call}
+use Rattle.std.proofs.Common.{◌∷◌, ap, ◌∙◌}
+use Rattle.store_files.specs.{Names.{kind_of, number_of}}
+use Rattle.store_folder.proofs.Counting.{replaced_call}
 use Rattle.store_folder.proofs.folder.FolderStoreStore.replace.Goals as goal
 
 pub returns-clause-cause : goal.returns-clause-cause
 returns-clause-cause g c =
-    subst (λ (r : Result (Unit {0}) StoreFault). HasCause (failed_in c.args.self.now.log.events) (failed_in c.settle.new.self.log.events) r) (sym c.settle.ensures.result)
-    (done_call c.args.self.now.log.events c.settle.new.self.log.events 2 (kind_of c.args.name) (number_of c.args.name) c.args.bytes.now c.replace-answer.result c.settle.ensures.log)
+    replaced_call c.args.self.now.log.events c.count.new.self.log.events 2 (kind_of c.args.name) (number_of c.args.name) c.args.bytes.now c.replaced-answer.result
+    (c.count.ensures.log ∙ ap (λ n. (2, kind_of c.args.name, number_of c.args.name, n, c.args.bytes.now) ∷ c.args.self.now.log.events) c.replaced_number.ensures)

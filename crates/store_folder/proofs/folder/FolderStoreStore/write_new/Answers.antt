@@ -7,4 +7,4 @@ use Rattle.store_folder.proofs.folder.FolderStoreStore.write_new.Goals as goal
 pub returns-clause-cause : goal.returns-clause-cause
 returns-clause-cause g c =
     subst (λ (r : Result (Unit {0}) StoreFault). HasCause (failed_in c.args.self.now.log.events) (failed_in c.settle.new.self.log.events) r) (sym c.settle.ensures.result)
-    (done_call c.args.self.now.log.events c.settle.new.self.log.events 1 (kind_of c.args.name) (number_of c.args.name) c.args.bytes.now c.write_new-answer.result c.settle.ensures.log)
+    (done_call c.args.self.now.log.events c.settle.new.self.log.events 1 (kind_of c.args.name) (number_of c.args.name) c.args.bytes.now c.written-answer.result c.settle.ensures.log)

@@ -1,0 +1,21 @@
+//! Tests of what seats see and are answered that share a repository in files in memory.
+#![tactic(auto)]
+
+#[cfg(test)]
+mod commits;
+#[cfg(test)]
+mod files;
+#[cfg(test)]
+mod halts;
+#[cfg(test)]
+mod looks;
+#[cfg(test)]
+mod properties;
+#[cfg(test)]
+mod releases;
+#[cfg(test)]
+mod saves;
+#[cfg(test)]
+mod seats;
+#[cfg(test)]
+mod sixteen;
